@@ -1,0 +1,77 @@
+-- The grammar of traces. Each call and each pool has one text; a trace is lines of such texts, among lines that are
+-- passed over.
+use Rattle.std.specs.Prelude.{◌≡◌, ◌==◌, ◌⊎◌, ℕ, zero, suc, ◌+◌, ◌<◌, ◌≤◌, ◌^◌, List, [], ◌∷◌, ◌++◌, length, decimal, codes, if◌then◌else◌}
+use Rattle.std.specs.List.{slice_split}
+use Rattle.heap_model.specs.declared.call.Call.{Call}
+use Rattle.heap_model.specs.declared.call.Call.TheVariants.{Malloc, Free, Write, Read}
+use Rattle.trace_text.specs.declared.call.TraceCall.{TraceCall}
+use Rattle.trace_text.specs.Words.{call_text}
+
+-- the pieces of a text without an empty last one
+abbrev pub without_empty_end : List (List ℕ) → List (List ℕ)
+without_empty_end [] = []
+without_empty_end (piece ∷ []) = if length piece == 0 then [] else piece ∷ []
+without_empty_end (piece ∷ next ∷ pieces) = piece ∷ without_empty_end (next ∷ pieces)
+
+-- the lines of a text: each ends with a line feed, which the last one may lack
+abbrev pub lines_of : List ℕ → List (List ℕ)
+lines_of text = without_empty_end (slice_split (λ byte. byte == 10) text)
+
+-- a line that is passed over: it is empty, or begins with `#`
+abbrev pub IsPassedOver : List ℕ → Type 0
+IsPassedOver [] = Unit {0}
+IsPassedOver (byte ∷ line) = byte ≡ 35
+
+-- the line says that the pool has one arena of this many granules
+pub record IsPoolLine (line : List ℕ) (granules : ℕ) : Type 0 where
+  pub text : line ≡ codes "pool 1 " ++ decimal granules
+  pub least : 16 ≤ granules
+  pub most : granules ≤ 1024
+
+-- the calls that a trace may ask for, with numbers that fit
+abbrev pub IsAsked : Call → Type 0
+IsAsked (Malloc root size) = (root < 2 ^ 32) × (size ≤ 64)
+IsAsked (Free root) = root < 2 ^ 32
+IsAsked (Write root index value) = ⊥
+IsAsked (Read root index) = ⊥
+
+-- the line makes this call: the thread, the arena and what is asked, with one space between them
+pub record IsCallLine (line : List ℕ) (call : TraceCall) : Type 0 where
+  pub text : line ≡ decimal call.thread ++ 32 ∷ decimal call.arena ++ 32 ∷ call_text call.call
+  pub thread : call.thread < 64
+  pub arena : call.arena ≡ 0
+  pub asked : IsAsked call.call
+
+-- the lines make these calls, in order, and say nothing else
+abbrev pub AreCalls : List (List ℕ) → List TraceCall → Type 0
+AreCalls [] calls = calls ≡ []
+AreCalls (line ∷ lines) [] = IsPassedOver line × AreCalls lines []
+AreCalls (line ∷ lines) (call ∷ calls) = (IsPassedOver line × AreCalls lines (call ∷ calls)) ⊎ (IsCallLine line call × AreCalls lines calls)
+
+-- the first line that isn't passed over says the pool, and the lines after it make the calls
+abbrev pub AreTrace : List (List ℕ) → ℕ → List TraceCall → Type 0
+AreTrace [] granules calls = ⊥
+AreTrace (line ∷ lines) granules calls = (IsPassedOver line × AreTrace lines granules calls) ⊎ (IsPoolLine line granules × AreCalls lines calls)
+
+-- behind n lines of calls there is one that is no call
+abbrev pub IsNoCallAt : List (List ℕ) → ℕ → Type 0
+IsNoCallAt [] n = ⊥
+IsNoCallAt (line ∷ lines) zero = ¬ (IsPassedOver line) × ((call : TraceCall) → ¬ (IsCallLine line call))
+IsNoCallAt (line ∷ lines) (suc n) = (IsPassedOver line ⊎ ((call : TraceCall) × IsCallLine line call)) × IsNoCallAt lines n
+
+-- behind n lines in the grammar there is one that isn't, or the text ends with no pool
+abbrev pub IsNoTraceAt : List (List ℕ) → ℕ → Type 0
+IsNoTraceAt [] n = n ≡ 0
+IsNoTraceAt (line ∷ lines) zero = ¬ (IsPassedOver line) × ((granules : ℕ) → ¬ (IsPoolLine line granules))
+IsNoTraceAt (line ∷ lines) (suc n) = (IsPassedOver line × IsNoTraceAt lines n) ⊎ (((granules : ℕ) × IsPoolLine line granules) × IsNoCallAt lines n)
+
+-- the text is a trace of this pool and these calls
+pub record IsTrace (text : List ℕ) (granules : ℕ) (calls : List TraceCall) : Type 0 where
+  pub lines : AreTrace (lines_of text) granules calls
+
+-- the line of this number, counted from 1, is the first outside the grammar; a text that ends with no pool is refused
+-- just behind its last line
+pub record IsRefusedLine (text : List ℕ) (number : ℕ) : Type 0 where
+  pub before : ℕ
+  pub is_next : number ≡ before + 1
+  pub lines : IsNoTraceAt (lines_of text) before

@@ -1,0 +1,10 @@
+// The text of the program: traces are read, and reports, crash reports and refusals are written, as bytes.
+//
+// What the text of a trace means stands in `specs/Grammar.antt`, what is printed in `specs/Report.antt`: definitions on
+// lists of bytes that share the text of a call. The layers above know `read_trace` (the grammar, with the first line
+// outside it) and the writers (exactly the text, behind what stood there).
+#![tactic(auto)]
+
+mod call;
+
+pub use call::{CrashSide, Refusal, TraceCall};
