@@ -1,6 +1,6 @@
 -- The plain machine: an arena of blocks of 64 bytes, of which each of 4096 roots names one or none. Its heap is a
 -- list that has for each root the address of its block, or 0 where it names none.
-use Rattle.std.specs.Prelude.{◌≡◌, ◌==◌, ℕ, zero, suc, ◌+◌, ◌*◌, Bool, not, List, [], ◌∷◌, replicate, slice_index, slice_set, nat_lt, nat_le, if◌then◌else◌}
+use Rattle.std.specs.Prelude.{◌≡◌, ◌≢◌, ◌==◌, ℕ, zero, suc, ◌+◌, ◌-◌, ◌*◌, ◌/◌, ◌%◌, ◌<◌, ◌≤◌, length, Bool, not, List, [], ◌∷◌, replicate, slice_index, slice_set, nat_lt, nat_le, if◌then◌else◌}
 use Rattle.std.specs.List.{list_any}
 use Rattle.heap_model.specs.declared.block.Block.{Block}
 use Rattle.heap_model.specs.declared.call.Call.{Call}
@@ -20,6 +20,18 @@ block_at i = 65536 + 64 * i
 -- some root names block i
 abbrev pub is_taken : List ℕ → ℕ → Bool
 is_taken heap i = list_any (λ at. at == block_at i) heap
+
+-- the address of one of this many blocks
+pub record IsBlockAt (blocks at : ℕ) : Type 0 where
+  pub low : 65536 ≤ at
+  pub whole : (at - 65536) % 64 ≡ 0
+  pub within : (at - 65536) / 64 < blocks
+
+-- Live blocks never overlap: each root names a block or none, and two roots never the same.
+pub record IsOverlapFree (blocks : ℕ) (heap : List ℕ) : Type 0 where
+  pub roots : length heap ≡ 4096
+  pub named : (root : ℕ) → slice_index heap root ≢ 0 → IsBlockAt blocks (slice_index heap root)
+  pub apart : (root other : ℕ) → root ≢ other → slice_index heap root ≢ 0 → slice_index heap root ≢ slice_index heap other
 
 -- the first block from i on, among n, that no root names; i + n where there is none
 abbrev pub lowest_free : List ℕ → ℕ → ℕ → ℕ
