@@ -6,7 +6,7 @@ ghost use Rattle.pmem_lines.specs.Words.{AreZeros};
 ghost use Rattle.pmem_lines.specs.Events.{CrashOnly, IsQuiet};
 ghost use Rattle.durable_steps.specs.Steps.{word_events};
 ghost use Rattle.heap_model.specs.declared.call.Call.TheVariants as calls;
-ghost use Rattle.heap_model.specs.Plain.{lowest_free, malloc_reply, free_reply, heap_after, IsOverlapFree, IsPlainReply};
+ghost use Rattle.heap_model.specs.Plain.{lowest_free, malloc_reply, free_reply, heap_after, IsOverlapFree, plain_reply};
 ghost use Rattle.arena_core.specs.Plain.{plain_heap, block_count, malloc_answer, free_answer, call_events, IsEitherHeap};
 ghost use Rattle.arena_core.specs.Arena.{IsPlain, IsReady, IsArena, IsNewBlock, IsNamed, AreMarks};
 
@@ -79,7 +79,7 @@ impl<P: Pmem> PlainArena<P> {
     /// takes no memory.
     pub fn malloc_to(&mut self, root: u32, size: u64) -> Result<Placed, MallocRefusal>
         requires { size ≤ 64 }
-        ensures reply { IsPlainReply (block_count (words_of self.old)) (plain_heap (words_of self.old)) (calls.Malloc root size) (malloc_answer result) }
+        ensures reply { malloc_answer result ≡ plain_reply (block_count (words_of self.old)) (plain_heap (words_of self.old)) (calls.Malloc root size) }
         ensures device { self.new ≡ appended (began self.old) (call_events root (malloc_answer result)) }
         ensures heap { plain_heap (words_of self.new) ≡ heap_after (plain_heap (words_of self.old)) root (malloc_answer result) }
         ensures size { length (words_of self.new) ≡ length (words_of self.old) }
@@ -97,7 +97,7 @@ impl<P: Pmem> PlainArena<P> {
     /// names no block. It begins one call, ahead of its events, also where it refuses; a refusal has no event and
     /// changes no word. It takes no memory.
     pub fn free_from(&mut self, root: u32) -> Result<Freed, FreeRefusal>
-        ensures reply { IsPlainReply (block_count (words_of self.old)) (plain_heap (words_of self.old)) (calls.Free root) (free_answer result) }
+        ensures reply { free_answer result ≡ plain_reply (block_count (words_of self.old)) (plain_heap (words_of self.old)) (calls.Free root) }
         ensures device { self.new ≡ appended (began self.old) (call_events root (free_answer result)) }
         ensures heap { plain_heap (words_of self.new) ≡ heap_after (plain_heap (words_of self.old)) root (free_answer result) }
         ensures size { length (words_of self.new) ≡ length (words_of self.old) }

@@ -56,12 +56,12 @@ free_reply heap root =
     if nat_le 4096 root then NoRoot
     else (if slice_index heap root == 0 then Empty else Freed (slice_index heap root) 64)
 
--- the machine answers the call so; it knows no other calls than malloc and free
-abbrev pub IsPlainReply : ℕ → List ℕ → Call → Reply → Type 0
-IsPlainReply blocks heap (Malloc root size) reply = reply ≡ malloc_reply blocks heap root size
-IsPlainReply blocks heap (Free root) reply = reply ≡ free_reply heap root
-IsPlainReply blocks heap (Write root index value) reply = ⊥
-IsPlainReply blocks heap (Read root index) reply = ⊥
+-- The answer to a call. The blocks of this machine have no words, so that each write and each read is out of range.
+abbrev pub plain_reply : ℕ → List ℕ → Call → Reply
+plain_reply blocks heap (Malloc root size) = malloc_reply blocks heap root size
+plain_reply blocks heap (Free root) = free_reply heap root
+plain_reply blocks heap (Write root index value) = OutOfRange
+plain_reply blocks heap (Read root index) = OutOfRange
 
 -- the root that a call speaks of
 abbrev pub root_of : Call → ℕ
@@ -93,7 +93,7 @@ heap_behind heap (entry ∷ entries) = heap_behind (heap_after heap (root_of ent
 abbrev pub IsPlainJournal : ℕ → List ℕ → List Entry → Type 0
 IsPlainJournal blocks heap [] = Unit {0}
 IsPlainJournal blocks heap (entry ∷ entries) =
-    IsPlainReply blocks heap entry.call entry.reply × IsPlainJournal blocks (heap_after heap (root_of entry.call) entry.reply) entries
+    (entry.reply ≡ plain_reply blocks heap entry.call) × IsPlainJournal blocks (heap_after heap (root_of entry.call) entry.reply) entries
 
 -- the blocks of a heap by rising root, of which the first is this one
 abbrev pub blocks_from : ℕ → List ℕ → List Block
