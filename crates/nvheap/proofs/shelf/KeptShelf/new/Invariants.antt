@@ -1,0 +1,5 @@
+use Rattle.std.proofs.Common.{◌≡◌, None, replicate, vec_len}
+use Rattle.nvheap.proofs.shelf.KeptShelf.new.Given as goal
+
+abbrev pub invariant-loop-place : goal.invariant-loop-place
+invariant-loop-place l = record { items : l.kept.items ≡ replicate l.place None; len : vec_len l.kept ≡ l.place }

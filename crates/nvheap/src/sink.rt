@@ -1,0 +1,148 @@
+// Where bytes go.
+ghost use Rattle.std.specs.Prelude.{◌≡◌, ℕ, ◌<◌, ◌≤◌, List, [], ◌++◌, Option, Some, None, length, take, IfOk, OnErr, OnOk, IfSome};
+ghost use Rattle.nvheap.specs.Outside.{Rose, Takes};
+
+use crate::source::Failed;
+use std::alloc::Global;
+use std::io::Write;
+
+/// Where bytes go.
+pub trait Sink {
+    /// The bytes taken so far, where the sink tells them.
+    ghost taken: { Self → Option (List ℕ) };
+
+    /// How often it failed. The count never falls, and stands still at `2^64 - 1`.
+    ghost faults: { Self → ℕ };
+
+    /// Takes the first `Ok(n)` bytes of the piece, at least one of a piece that is not empty. `Failed` comes only
+    /// where the count of faults rose, and then the bytes taken stay as they were.
+    fn write(&mut self, piece: &[u8]) -> Result<usize, Failed>
+        ensures count { IfOk result (λ n. n ≤ length piece.now) }
+        ensures some { IfOk result (λ n. 0 < length piece.now → 0 < n) }
+        ensures bytes { IfOk result (λ n. Takes (taken self.old) (taken self.new) (take n piece.now)) }
+        ensures err { OnErr result (taken self.new ≡ taken self.old) }
+        ensures cause { OnErr result (Rose (faults self.old) (faults self.new)) }
+        ensures later { faults self.old ≤ faults self.new };
+}
+
+/// Takes bytes into memory. The calls fail whose numbers, counted from 0, are listed, and each call takes at most
+/// `most` bytes, of which there is at least one.
+#[derive(Drop)]
+pub struct MemSink<'a> {
+    bytes: Vec<u8>,
+    failing: &'a [u64],
+    most: usize,
+    calls: u64,
+    failed: u64,
+    ghost some: { 0 < most },
+}
+
+impl<'a> MemSink<'a> {
+    /// An empty sink, with the numbers of the calls that are to fail.
+    pub fn new(alloc: Global, failing: &'a [u64], most: usize) -> Self
+        requires { 0 < most }
+        ensures bytes { result.bytes.items ≡ [] }
+        ensures failed { result.failed ≡ 0 }
+    {
+        MemSink {
+            bytes: Vec::new(alloc),
+            failing,
+            most,
+            calls: 0,
+            failed: 0,
+        }
+    }
+
+    /// The bytes taken.
+    pub fn bytes(&self) -> &[u8]
+        ensures { result.now ≡ self.now.bytes.items }
+    {
+        &self.bytes
+    }
+
+    // Counts a failure, at which no byte was taken.
+    fn fail(&mut self) -> Failed
+        ensures bytes { self.new.bytes ≡ self.old.bytes }
+        ensures cause { Rose self.old.failed self.new.failed }
+        ensures later { self.old.failed ≤ self.new.failed }
+    {
+        self.failed = self.failed.saturating_add(1);
+        Failed
+    }
+}
+
+impl Sink for MemSink<'_> {
+    ghost taken = { λ s. Some s.bytes.items };
+
+    ghost faults = { λ s. s.failed };
+
+    fn write(&mut self, piece: &[u8]) -> Result<usize, Failed> {
+        let fails = self.failing.contains(&self.calls);
+        self.calls = self.calls.saturating_add(1);
+        if fails {
+            return Err(self.fail());
+        }
+        let n = piece.len().min(self.most);
+        match self.bytes.extend_from_slice(&piece[..n]) {
+            Ok(()) => Ok(n),
+            Err(_) => Err(self.fail()),
+        }
+    }
+}
+
+/// Takes bytes to a writer of the system. It counts the failures, among them a write of no bytes, and tells nothing
+/// of the bytes.
+#[derive(Drop)]
+pub struct WriteSink<W: Write + Drop> {
+    writer: W,
+    failed: u64,
+}
+
+impl<W: Write + Drop> WriteSink<W> {
+    /// A sink over this writer.
+    pub fn new(writer: W) -> Self {
+        WriteSink { writer, failed: 0 }
+    }
+}
+
+impl<W: Write + Drop> Sink for WriteSink<W> {
+    ghost taken = { λ _. None };
+
+    ghost faults = { λ s. s.failed };
+
+    fn write(&mut self, piece: &[u8]) -> Result<usize, Failed> {
+        match self.writer.write(piece) {
+            Ok(n) if n > 0 || piece.is_empty() => Ok(n),
+            _ => {
+                self.failed = self.failed.saturating_add(1);
+                Err(Failed)
+            }
+        }
+    }
+}
+
+/// Takes all bytes, forgets them and never fails; it knows how many they were, up to `2^64 - 1`.
+#[derive(Drop)]
+pub struct SureSink {
+    pub count: u64,
+}
+
+impl SureSink {
+    /// A sink that took nothing.
+    pub fn new() -> Self
+        ensures { result.count ≡ 0 }
+    {
+        SureSink { count: 0 }
+    }
+}
+
+impl Sink for SureSink {
+    ghost taken = { λ _. None };
+
+    ghost faults = { λ _. 0 };
+
+    fn write(&mut self, piece: &[u8]) -> Result<usize, Failed> {
+        self.count = self.count.saturating_add(piece.len() as u64);
+        Ok(piece.len())
+    }
+}

@@ -1,0 +1,134 @@
+// Where bytes come from.
+ghost use Rattle.std.specs.Prelude.{◌≡◌, ℕ, ◌<◌, ◌≤◌, List, [], Option, Some, None, length, take, drop, IfOk, OnErr, OnOk};
+ghost use Rattle.nvheap.specs.Outside.{Rose, Gives, IsAtEnd};
+
+use std::io::Read;
+
+/// A source or a sink failed.
+#[derive(Debug, Drop)]
+pub struct Failed;
+
+/// What bytes come from.
+pub trait Source {
+    /// The bytes left, where the source tells them.
+    ghost left: { Self → Option (List ℕ) };
+
+    /// How often it failed. The count never falls, and stands still at `2^64 - 1`.
+    ghost faults: { Self → ℕ };
+
+    /// Puts `Ok(n)` bytes at the front of `into`. `Ok(0)` on a buffer that is not empty is the end. `Failed` comes
+    /// only where the count of faults rose.
+    fn read(&mut self, into: &mut [u8]) -> Result<usize, Failed>
+        ensures count { IfOk result (λ n. n ≤ length into.old) }
+        ensures bytes { IfOk result (λ n. Gives (left self.old) (left self.new) (take n into.new)) }
+        ensures end { IfOk result (λ n. n ≡ 0 → 0 < length into.old → IsAtEnd (left self.new)) }
+        ensures cause { OnErr result (Rose (faults self.old) (faults self.new)) }
+        ensures later { faults self.old ≤ faults self.new };
+}
+
+/// Bytes in memory, of which no read fails.
+#[derive(Drop)]
+pub struct SureSource<'a> {
+    bytes: &'a [u8],
+}
+
+impl<'a> SureSource<'a> {
+    /// A source of these bytes.
+    pub fn new(bytes: &'a [u8]) -> Self
+        ensures { result.bytes.now ≡ bytes.now }
+    {
+        SureSource { bytes }
+    }
+}
+
+impl Source for SureSource<'_> {
+    ghost left = { λ s. Some s.bytes.now };
+
+    ghost faults = { λ _. 0 };
+
+    fn read(&mut self, into: &mut [u8]) -> Result<usize, Failed> {
+        Ok(give(&mut self.bytes, into))
+    }
+}
+
+/// Bytes in memory, of which the calls fail whose numbers, counted from 0, are listed.
+#[derive(Drop)]
+pub struct MemSource<'a> {
+    bytes: &'a [u8],
+    failing: &'a [u64],
+    calls: u64,
+    failed: u64,
+}
+
+impl<'a> MemSource<'a> {
+    /// A source of these bytes, with the numbers of the calls that are to fail.
+    pub fn new(bytes: &'a [u8], failing: &'a [u64]) -> Self
+        ensures bytes { result.bytes.now ≡ bytes.now }
+        ensures failed { result.failed ≡ 0 }
+    {
+        MemSource {
+            bytes,
+            failing,
+            calls: 0,
+            failed: 0,
+        }
+    }
+}
+
+impl Source for MemSource<'_> {
+    ghost left = { λ s. Some s.bytes.now };
+
+    ghost faults = { λ s. s.failed };
+
+    fn read(&mut self, into: &mut [u8]) -> Result<usize, Failed> {
+        let fails = self.failing.contains(&self.calls);
+        self.calls = self.calls.saturating_add(1);
+        if fails {
+            self.failed = self.failed.saturating_add(1);
+            return Err(Failed);
+        }
+        Ok(give(&mut self.bytes, into))
+    }
+}
+
+// Moves as many bytes as there are and as fit.
+fn give(bytes: &mut &[u8], into: &mut [u8]) -> usize
+    ensures count { result ≤ length into.old }
+    ensures gives { Gives (Some bytes.old.now) (Some bytes.new.now) (take result into.new) }
+    ensures end { result ≡ 0 → 0 < length into.old → bytes.new.now ≡ [] }
+{
+    let n = into.len().min(bytes.len());
+    into[..n].copy_from_slice(&bytes[..n]);
+    *bytes = &bytes[n..];
+    n
+}
+
+/// Bytes from a reader of the system. It counts the failures, and tells nothing of the bytes.
+#[derive(Drop)]
+pub struct ReadSource<R: Read + Drop> {
+    reader: R,
+    failed: u64,
+}
+
+impl<R: Read + Drop> ReadSource<R> {
+    /// A source over this reader.
+    pub fn new(reader: R) -> Self {
+        ReadSource { reader, failed: 0 }
+    }
+}
+
+impl<R: Read + Drop> Source for ReadSource<R> {
+    ghost left = { λ _. None };
+
+    ghost faults = { λ s. s.failed };
+
+    fn read(&mut self, into: &mut [u8]) -> Result<usize, Failed> {
+        match self.reader.read(into) {
+            Ok(n) => Ok(n),
+            Err(_) => {
+                self.failed = self.failed.saturating_add(1);
+                Err(Failed)
+            }
+        }
+    }
+}
