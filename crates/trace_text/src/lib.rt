@@ -6,5 +6,7 @@
 #![tactic(auto)]
 
 mod call;
+mod line;
+mod number;
 
 pub use call::{CrashSide, Refusal, TraceCall};

@@ -1,0 +1,92 @@
+// One line of a trace.
+ghost use Rattle.std.specs.Prelude.{◌≡◌, ◌≢◌, ◌↔◌, ℕ, ◌<◌, ◌≤◌, ◌^◌, ◌∷◌, ◌++◌, decimal, IsTrue, MatchOption};
+ghost use Rattle.heap_model.specs.declared.call.Call.{Call};
+ghost use Rattle.trace_text.specs.declared.call.TraceCall.{TraceCall};
+ghost use Rattle.trace_text.specs.Words.{call_text};
+ghost use Rattle.trace_text.specs.Grammar.{IsPassedOver, IsAsked, IsCallLine, IsPoolLine};
+
+use heap_model::Call;
+
+use crate::TraceCall;
+use crate::number::{after, read_field, read_last};
+
+/// The greatest thread number.
+const LAST_THREAD: u64 = 63;
+
+/// The one arena.
+const LAST_ARENA: u64 = 0;
+
+/// The greatest root number.
+const LAST_ROOT: u64 = 0xFFFF_FFFF;
+
+/// The greatest size of a block, in bytes.
+const LARGEST_SIZE: u64 = 64;
+
+/// The fewest granules of an arena, and the most.
+const FEWEST_GRANULES: u64 = 16;
+const MOST_GRANULES: u64 = 1024;
+
+/// Whether a line is empty or begins with `#`.
+pub(crate) fn is_passed_over(line: &[u8]) -> bool
+    ensures { IsTrue result ↔ IsPassedOver line.now }
+{
+    line.is_empty() || line[0] == b'#'
+}
+
+/// The granules of the pool that a line says; none where it says no pool.
+pub(crate) fn read_pool_line(line: &[u8]) -> Option<u32>
+    ensures { MatchOption result ((granules : ℕ) → ¬ (IsPoolLine line.now granules)) (λ granules. IsPoolLine line.now granules) }
+{
+    let granules = read_last(after(line, b"pool 1 ")?, MOST_GRANULES)?;
+    if granules < FEWEST_GRANULES {
+        return None;
+    }
+    Some(granules as u32)
+}
+
+/// A root and a size with a space between; none where the words are something else.
+fn read_root_and_size(words: &[u8]) -> Option<(u32, u64)>
+    ensures { MatchOption result ((root size : ℕ) → root < 2 ^ 32 → size ≤ 64 → words.now ≢ decimal root ++ 32 ∷ decimal size) (λ found. (found.1 ≤ 64) × (words.now ≡ decimal found.0 ++ 32 ∷ decimal found.1)) }
+{
+    let (root, rest) = read_field(words, LAST_ROOT)?;
+    let size = read_last(rest, LARGEST_SIZE)?;
+    Some((root as u32, size))
+}
+
+/// A root; none where the words are something else.
+fn read_root(words: &[u8]) -> Option<u32>
+    ensures { MatchOption result ((root : ℕ) → root < 2 ^ 32 → words.now ≢ decimal root) (λ root. words.now ≡ decimal root) }
+{
+    let root = read_last(words, LAST_ROOT)?;
+    Some(root as u32)
+}
+
+/// What a call line asks behind its thread and arena; none where that is no call of a trace.
+fn read_asked(words: &[u8]) -> Option<Call>
+    ensures { MatchOption result ((call : Call) → IsAsked call → words.now ≢ call_text call) (λ call. IsAsked call × (words.now ≡ call_text call)) }
+{
+    match after(words, b"m ") {
+        Some(rest) => {
+            let (root, size) = read_root_and_size(rest)?;
+            Some(Call::Malloc { root, size })
+        }
+        None => {
+            let root = read_root(after(words, b"f ")?)?;
+            Some(Call::Free { root })
+        }
+    }
+}
+
+/// The call that a line makes; none where it makes no call.
+pub(crate) fn read_call_line(line: &[u8]) -> Option<TraceCall>
+    ensures { MatchOption result ((call : TraceCall) → ¬ (IsCallLine line.now call)) (λ call. IsCallLine line.now call) }
+{
+    let (thread, rest) = read_field(line, LAST_THREAD)?;
+    let (arena, words) = read_field(rest, LAST_ARENA)?;
+    let call = read_asked(words)?;
+    Some(TraceCall {
+        thread: thread as u32,
+        arena: arena as u32,
+        call,
+    })
+}

@@ -1,0 +1,75 @@
+// Numbers in a line: decimal, without a sign and without leading zeros.
+ghost use Rattle.std.specs.Prelude.{◌≡◌, ◌≢◌, ℕ, List, ◌+◌, ◌*◌, ◌^◌, ◌<◌, ◌≤◌, ◌∷◌, ◌++◌, decimal, MatchOption, SomeIff};
+ghost use Rattle.trace_text.specs.Numbers.{HasDigits, HasTooManyDigits, IsNumberThen};
+
+/// A number with one more digit; none where 64 bits are too few.
+fn with_digit(value: u64, digit: u8) -> Option<u64>
+    requires { digit < 10 }
+    ensures { SomeIff result (value * 10 + digit < 2 ^ 64) (value * 10 + digit) }
+{
+    value.checked_mul(10)?.checked_add(u64::from(digit))
+}
+
+/// The value of the digits at the front of a text, and how many they are; none where 64 bits are too few.
+fn read_digits(text: &[u8]) -> Option<(u64, usize)>
+    ensures { MatchOption result (HasTooManyDigits text.now) (λ found. HasDigits text.now found.0 found.1) }
+{
+    let mut value: u64 = 0;
+    for (i, byte) in text.iter().enumerate() {
+        if !byte.is_ascii_digit() {
+            return Some((value, i));
+        }
+        match with_digit(value, *byte - b'0') {
+            Some(further) => value = further,
+            None => return None,
+        }
+    }
+    Some((value, text.len()))
+}
+
+/// The number of 64 bits at the front of a text, and what follows it; none where there is no such number.
+fn read_number(text: &[u8]) -> Option<(u64, &[u8])>
+    ensures { MatchOption result ((number : ℕ) (rest : List ℕ) → ¬ (IsNumberThen text.now number rest)) (λ found. IsNumberThen text.now found.0 found.1.now) }
+{
+    let (number, many) = read_digits(text)?;
+    if many == 0 {
+        return None;
+    }
+    if many > 1 && text[0] == b'0' {
+        return None;
+    }
+    Some((number, &text[many..]))
+}
+
+/// What follows these bytes in a text; none where the text does not begin with them.
+pub(crate) fn after<'a>(text: &'a [u8], front: &[u8]) -> Option<&'a [u8]>
+    ensures { MatchOption result ((rest : List ℕ) → text.now ≢ front.now ++ rest) (λ rest. text.now ≡ front.now ++ rest.now) }
+{
+    text.strip_prefix(front)
+}
+
+/// The number up to the first space of a line, and what follows the space; none where that is no number of at most
+/// `most`.
+pub(crate) fn read_field(line: &[u8], most: u64) -> Option<(u64, &[u8])>
+    ensures { MatchOption result ((number : ℕ) (rest : List ℕ) → number ≤ most → line.now ≢ decimal number ++ 32 ∷ rest) (λ found. (found.0 ≤ most) × (line.now ≡ decimal found.0 ++ 32 ∷ found.1.now)) }
+{
+    let (number, rest) = read_number(line)?;
+    if number > most {
+        return None;
+    }
+    match after(rest, b" ") {
+        Some(rest) => Some((number, rest)),
+        None => None,
+    }
+}
+
+/// The number that a line is as a whole; none where it is no number of at most `most`.
+pub(crate) fn read_last(line: &[u8], most: u64) -> Option<u64>
+    ensures { MatchOption result ((number : ℕ) → number ≤ most → line.now ≢ decimal number) (λ number. (number ≤ most) × (line.now ≡ decimal number)) }
+{
+    let (number, rest) = read_number(line)?;
+    if number > most || rest.len() > 0 {
+        return None;
+    }
+    Some(number)
+}
