@@ -1,12 +1,10 @@
 -- The words of a call line, one by one.
-use Rattle.std.proofs.Common.{◌≡◌, ◌≢◌, ℕ, ◌<◌, ◌≤◌, ◌^◌, List, [], ◌∷◌, ◌++◌, sym, ◌∙◌, ap, arith}
+use Rattle.std.proofs.Common.{◌≡◌, ℕ, ◌<◌, ◌≤◌, ◌^◌, List, ◌∷◌, ◌++◌, ◌∙◌, arith}
 use Rattle.std.specs.Prelude.{decimal}
 use Rattle.std.proofs.lemmas.List.{append_assoc}
-use Rattle.heap_model.specs.declared.call.Call.{Call}
-use Rattle.heap_model.specs.declared.call.Call.TheVariants.{Malloc, Free, Write, Read}
 use Rattle.trace_text.specs.declared.call.TraceCall.{TraceCall}
 use Rattle.trace_text.specs.Words.{call_text}
-use Rattle.trace_text.specs.Grammar.{IsAsked, IsCallLine}
+use Rattle.trace_text.specs.Grammar.{IsCallLine}
 use Rattle.trace_text.proofs.Numbers.{as_field, other_field}
 
 -- one number before a space, and one rest
@@ -27,10 +25,3 @@ behind_thread line thread rest call le e is =
 pub behind_arena : (line : List ℕ) (thread arena : ℕ) (rest words : List ℕ) (call : TraceCall) → thread ≤ 63 → arena ≤ 0 → line ≡ decimal thread ++ 32 ∷ rest → rest ≡ decimal arena ++ 32 ∷ words → IsCallLine line call → words ≡ call_text call.call
 behind_arena line thread arena rest words call le none d e is =
     (same_field rest arena call.arena words _ (omega arith) (omega (arith, is.arena)) e (behind_thread line thread rest call le d is)).1
-
--- a call of a trace is a malloc or a free
-pub no_asked : (words : List ℕ) → ((root size : ℕ) → root < 2 ^ 32 → size ≤ 64 → words ≢ 109 ∷ 32 ∷ (decimal root ++ 32 ∷ decimal size)) → ((root : ℕ) → root < 2 ^ 32 → words ≢ 102 ∷ 32 ∷ decimal root) → (call : Call) → IsAsked call → words ≢ call_text call
-no_asked words mallocs frees (Malloc root size) asked is = mallocs root size asked.0 asked.1 is
-no_asked words mallocs frees (Free root) asked is = frees root asked is
-no_asked words mallocs frees (Write root index value) asked is = asked
-no_asked words mallocs frees (Read root index) asked is = asked

@@ -5,6 +5,8 @@ use Rattle.std.specs.List.{slice_split}
 use Rattle.heap_model.specs.declared.call.Call.{Call}
 use Rattle.heap_model.specs.declared.call.Call.TheVariants.{Malloc, Free, Write, Read}
 use Rattle.trace_text.specs.declared.call.TraceCall.{TraceCall}
+use Rattle.trace_text.specs.declared.trace.TraceFault.{TraceFault}
+use Rattle.trace_text.specs.declared.trace.TraceFault.TheVariants.{Memory, BadLine}
 use Rattle.trace_text.specs.Words.{call_text}
 
 -- the pieces of a text without an empty last one
@@ -75,3 +77,8 @@ pub record IsRefusedLine (text : List ℕ) (number : ℕ) : Type 0 where
   pub before : ℕ
   pub is_next : number ≡ before + 1
   pub lines : IsNoTraceAt (lines_of text) before
+
+-- what a fault of reading says of the text, where it is a bad line
+abbrev pub IfBadLine : TraceFault → (ℕ → Type 0) → Type 0
+IfBadLine (Memory error) IsLine = Unit {0}
+IfBadLine (BadLine line) IsLine = IsLine line

@@ -8,5 +8,7 @@
 mod call;
 mod line;
 mod number;
+mod trace;
 
 pub use call::{CrashSide, Refusal, TraceCall};
+pub use trace::{Trace, TraceFault, read_trace};

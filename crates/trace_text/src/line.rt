@@ -5,10 +5,9 @@ ghost use Rattle.trace_text.specs.declared.call.TraceCall.{TraceCall};
 ghost use Rattle.trace_text.specs.Words.{call_text};
 ghost use Rattle.trace_text.specs.Grammar.{IsPassedOver, IsAsked, IsCallLine, IsPoolLine};
 
-use heap_model::Call;
-
 use crate::TraceCall;
 use crate::number::{after, read_field, read_last};
+use heap_model::Call;
 
 /// The greatest thread number.
 const LAST_THREAD: u64 = 63;
@@ -24,6 +23,7 @@ const LARGEST_SIZE: u64 = 64;
 
 /// The fewest granules of an arena, and the most.
 const FEWEST_GRANULES: u64 = 16;
+
 const MOST_GRANULES: u64 = 1024;
 
 /// Whether a line is empty or begins with `#`.

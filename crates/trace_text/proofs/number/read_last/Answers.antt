@@ -12,6 +12,6 @@ returns-then-number-most c number le is =
     let h = other_last c.args.line.now _ number _ c.in_ok-number.ensures (omega arith) is in
     let e = ap length h.1 in
     elim c.then-number-most.branch [
-      then-number-most-via-then-number-most w ↦ omega (arith, h.0)
-    | then-number-most-via-else-number-most+then-rest-gt0 w ↦ omega (arith, e)
+      | then-number-most-via-then-number-most w ↦ omega (arith, h.0)
+      | then-number-most-via-else-number-most+then-rest-gt0 w ↦ omega (arith, e)
     ]

@@ -1,0 +1,14 @@
+use Rattle.std.proofs.Common.{◌+◌, ◌≤◌, length}
+use Rattle.trace_text.specs.Grammar.{lines_of}
+use Rattle.trace_text.proofs.Lines.{CallsSoFar}
+use Rattle.trace_text.proofs.trace.read_calls.Given as goal
+
+abbrev pub invariant-loop-rest : goal.invariant-loop-rest
+invariant-loop-rest l = record {
+  so_far : CallsSoFar (lines_of l.text) (lines_of l.rest) l.calls.items l.many;
+  within : l.many + length l.rest ≤ length l.text;
+  few : length l.calls.items + length l.rest ≤ length l.text;
+}
+
+abbrev pub decreases-loop-rest : goal.decreases-loop-rest
+decreases-loop-rest l = length l.rest

@@ -1,0 +1,132 @@
+// Traces, read from their text.
+ghost use Rattle.std.specs.Prelude.{◌≡◌, ◌+◌, ◌<◌, ◌≤◌, ◌^◌, ◌∷◌, length, vec_len, IfOk, IfErr, MatchResult};
+ghost use Rattle.trace_text.specs.Grammar.{lines_of, AreCalls, IsTrace, IsRefusedLine, IfBadLine};
+ghost use Rattle.trace_text.specs.Lines.{IsBehindPool, IsRefusedCall};
+
+use crate::TraceCall;
+use crate::line::{is_passed_over, read_call_line, read_pool_line};
+use pmem_lines::OutOfMemory;
+use std::alloc::Global;
+use thiserror::Error;
+
+/// What a trace says: how many arenas the pool has, how many granules each arena has, and the calls in order.
+#[derive(Debug, Drop)]
+pub struct Trace {
+    pub arenas: u32,
+    pub granules: u32,
+    pub calls: Vec<TraceCall>,
+}
+
+/// Why a text gives no trace.
+#[derive(Debug, Drop, Error)]
+pub enum TraceFault {
+    /// There was no memory.
+    #[error("Memory")]
+    Memory(OutOfMemory),
+    /// This line, counted from 1, is the first outside the grammar.
+    #[error("BadLine")]
+    BadLine { line: u64 },
+}
+
+/// What stands behind the pool's line: the granules that it says, the number of lines up to it, and the rest.
+#[derive(Clone, Copy)]
+struct BehindPool<'a> {
+    granules: u32,
+    many: u64,
+    rest: &'a [u8],
+}
+
+/// The first line of a text that has one, and what follows its line feed.
+fn next_line(text: &[u8]) -> (&[u8], &[u8])
+    requires { 0 < length text.now }
+    ensures lines { lines_of text.now ≡ result.0.now ∷ lines_of result.1.now }
+    ensures shorter { length result.1.now < length text.now }
+{
+    for (i, byte) in text.iter().enumerate() {
+        if *byte == b'\n' {
+            return (&text[..i], &text[i + 1..]);
+        }
+    }
+    (text, &text[text.len()..])
+}
+
+/// The pool that a text begins with, behind lines that are passed over; the number of the line that says none where
+/// it doesn't.
+fn read_pool(text: &[u8]) -> Result<BehindPool<'_>, u64>
+    ensures { MatchResult result (λ pool. IsBehindPool text.now pool.rest.now pool.granules pool.many) (IsRefusedLine text.now) }
+{
+    let mut rest = text;
+    let mut many: u64 = 0;
+    while !rest.is_empty() {
+        let (line, after) = next_line(rest);
+        if !is_passed_over(line) {
+            return match read_pool_line(line) {
+                Some(granules) => Ok(BehindPool {
+                    granules,
+                    many: many + 1,
+                    rest: after,
+                }),
+                None => Err(many + 1),
+            };
+        }
+        rest = after;
+        many += 1;
+    }
+    Err(many + 1)
+}
+
+/// The calls that a text makes, of which as many lines stand before it.
+fn read_calls(alloc: Global, text: &[u8], before: u64) -> Result<Vec<TraceCall>, TraceFault>
+    requires { before + length text.now < 2 ^ 64 }
+    ensures calls { IfOk result (λ calls. AreCalls (lines_of text.now) calls.items) }
+    ensures few { IfOk result (λ calls. length calls.items ≤ length text.now) }
+    ensures refused { IfErr result (λ fault. IfBadLine fault (IsRefusedCall text.now before)) }
+{
+    let mut calls = Vec::new(alloc);
+    let mut rest = text;
+    let mut many: u64 = 0;
+    while !rest.is_empty() {
+        let (line, after) = next_line(rest);
+        rest = after;
+        many += 1;
+        if !is_passed_over(line) {
+            match read_call_line(line) {
+                Some(call) => {
+                    if calls.push(call).is_err() {
+                        return Err(TraceFault::Memory(OutOfMemory));
+                    }
+                }
+                None => {
+                    return Err(TraceFault::BadLine {
+                        line: before + many,
+                    });
+                }
+            }
+        }
+    }
+    Ok(calls)
+}
+
+/// Reads the text of a trace: lines, each ended by a line feed that the last one may lack, of which those that are empty
+/// or begin with `#` are passed over. The first of the others is `pool 1 G` with G from 16 to 1024 granules, and each
+/// after it is `T 0 m R S` or `T 0 f R`: thread T, from 0 to 63, asks arena 0 for a block of S bytes, from 0 to 64, for
+/// root R, or to free the block of root R, a number of 32 bits. A text that is no trace is refused with the number of
+/// its first line outside this grammar, or, where it ends with no pool, with the number behind its last line.
+pub fn read_trace(alloc: Global, bytes: &[u8]) -> Result<Trace, TraceFault>
+    ensures trace { IfOk result (λ trace. IsTrace bytes.now trace.granules trace.calls.items) }
+    ensures arenas { IfOk result (λ trace. trace.arenas ≡ 1) }
+    ensures few { IfOk result (λ trace. length trace.calls.items ≤ length bytes.now) }
+    ensures refused { IfErr result (λ fault. IfBadLine fault (IsRefusedLine bytes.now)) }
+{
+    match read_pool(bytes) {
+        Err(line) => Err(TraceFault::BadLine { line }),
+        Ok(pool) => {
+            let calls = read_calls(alloc, pool.rest, pool.many)?;
+            Ok(Trace {
+                arenas: 1,
+                granules: pool.granules,
+                calls,
+            })
+        }
+    }
+}
