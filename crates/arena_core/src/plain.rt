@@ -1,5 +1,5 @@
 // An arena of blocks of 64 bytes.
-ghost use Rattle.std.specs.Prelude.{◌≡◌, ◌==◌, ℕ, ◌+◌, ◌-◌, ◌*◌, ◌/◌, ◌%◌, ◌^◌, ◌<◌, ◌≤◌, IfOk, length, slice_index, slice_set};
+ghost use Rattle.std.specs.Prelude.{◌≡◌, ◌≢◌, ◌==◌, ℕ, ◌+◌, ◌-◌, ◌*◌, ◌/◌, ◌%◌, ◌^◌, ◌<◌, ◌≤◌, IfOk, OnOk, length, slice_index, slice_set};
 ghost use Rattle.std.specs.List.{list_any};
 ghost use Rattle.pmem_lines.specs.Pmem.{words_of, began, appended, Appends};
 ghost use Rattle.pmem_lines.specs.Words.{AreZeros};
@@ -82,6 +82,7 @@ impl<P: Pmem> PlainArena<P> {
         ensures reply { malloc_answer result ≡ plain_reply (block_count (words_of self.old)) (plain_heap (words_of self.old)) (calls.Malloc root size) }
         ensures device { self.new ≡ appended (began self.old) (call_events root (malloc_answer result)) }
         ensures heap { plain_heap (words_of self.new) ≡ heap_after (plain_heap (words_of self.old)) root (malloc_answer result) }
+        ensures changed { OnOk result (plain_heap (words_of self.new) ≢ plain_heap (words_of self.old)) }
         ensures size { length (words_of self.new) ≡ length (words_of self.old) }
         ensures ready { IsReady self.new }
         ensures apart { IsOverlapFree (block_count (words_of self.new)) (plain_heap (words_of self.new)) }
@@ -100,6 +101,7 @@ impl<P: Pmem> PlainArena<P> {
         ensures reply { free_answer result ≡ plain_reply (block_count (words_of self.old)) (plain_heap (words_of self.old)) (calls.Free root) }
         ensures device { self.new ≡ appended (began self.old) (call_events root (free_answer result)) }
         ensures heap { plain_heap (words_of self.new) ≡ heap_after (plain_heap (words_of self.old)) root (free_answer result) }
+        ensures changed { OnOk result (plain_heap (words_of self.new) ≢ plain_heap (words_of self.old)) }
         ensures size { length (words_of self.new) ≡ length (words_of self.old) }
         ensures ready { IsReady self.new }
         ensures apart { IsOverlapFree (block_count (words_of self.new)) (plain_heap (words_of self.new)) }

@@ -1,2 +1,5 @@
 pub mod Outside
+pub mod Command
+pub mod Replay
+pub mod Crash
 pub mod Ends

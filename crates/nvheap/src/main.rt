@@ -1,14 +1,17 @@
 // The program.
 #![tactic(auto)]
 
+mod command;
 mod gate;
 mod input;
+mod journal;
 mod output;
 mod shelf;
 mod sink;
 mod source;
 mod status;
 
+pub use command::Command;
 pub use gate::{Gate, OpenGate};
 pub use shelf::{DropShelf, KeptShelf, Shelf};
 pub use sink::{MemSink, Sink, SureSink, WriteSink};
