@@ -1,3 +1,4 @@
 pub mod Numbers
 pub mod CallLines
 pub mod Lines
+pub mod Fronts

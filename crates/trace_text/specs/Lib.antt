@@ -2,4 +2,5 @@ pub mod Words
 pub mod Grammar
 pub mod Numbers
 pub mod Lines
+pub mod Fronts
 pub mod Report

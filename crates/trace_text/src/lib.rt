@@ -8,7 +8,10 @@
 mod call;
 mod line;
 mod number;
+mod report;
 mod trace;
+mod writing;
 
 pub use call::{CrashSide, Refusal, TraceCall};
+pub use report::{write_crash, write_refusal, write_report};
 pub use trace::{Trace, TraceFault, read_trace};

@@ -1,0 +1,179 @@
+// What is printed: reports of arenas and of crashes, and refusals.
+ghost use Rattle.std.specs.Prelude.{◌≡◌, ◌∷◌, ◌++◌, decimal, flat_map, OnOk, OnErr};
+ghost use Rattle.trace_text.specs.Words.{call_text};
+ghost use Rattle.trace_text.specs.Fronts.{BeginsWith};
+ghost use Rattle.trace_text.specs.Report.{reply_text, entry_line, block_line, heap_text, arena_text, side_text, crash_text, refusal_text};
+
+use crate::writing::{write_bytes, write_number, write_pair, write_word};
+use crate::{CrashSide, Refusal};
+use heap_model::{Block, Call, Entry, Reply};
+use pmem_lines::OutOfMemory;
+
+/// Writes what a call asks.
+fn write_call(out: &mut Vec<u8>, call: Call) -> Result<(), OutOfMemory>
+    ensures text { OnOk result (out.new.items ≡ out.old.items ++ call_text call) }
+    ensures kept { OnErr result (BeginsWith out.new.items out.old.items) }
+{
+    match call {
+        Call::Malloc { root, size } => write_pair(out, b"m ", u64::from(root), size),
+        Call::Free { root } => write_word(out, b"f ", u64::from(root)),
+        Call::Write { root, index, value } => {
+            write_pair(out, b"w ", u64::from(root), u64::from(index))?;
+            write_word(out, b" ", value)
+        }
+        Call::Read { root, index } => write_pair(out, b"r ", u64::from(root), u64::from(index)),
+    }
+}
+
+/// Writes an answer.
+fn write_reply(out: &mut Vec<u8>, reply: Reply) -> Result<(), OutOfMemory>
+    ensures text { OnOk result (out.new.items ≡ out.old.items ++ reply_text reply) }
+    ensures kept { OnErr result (BeginsWith out.new.items out.old.items) }
+{
+    match reply {
+        Reply::Placed { at, size } => write_pair(out, b"placed ", u64::from(at), u64::from(size)),
+        Reply::Freed { at, size } => write_pair(out, b"freed ", u64::from(at), u64::from(size)),
+        Reply::Wrote => write_bytes(out, b"wrote"),
+        Reply::Value { word } => write_word(out, b"value ", word),
+        Reply::NoRoot => write_bytes(out, b"no root"),
+        Reply::Occupied { at } => write_word(out, b"occupied ", u64::from(at)),
+        Reply::Empty => write_bytes(out, b"empty"),
+        Reply::ZeroSize => write_bytes(out, b"zero size"),
+        Reply::TooLarge => write_bytes(out, b"too large"),
+        Reply::OutOfRange => write_bytes(out, b"out of range"),
+        Reply::NoSpace => write_bytes(out, b"no space"),
+    }
+}
+
+/// Writes who asked, and what.
+fn write_asked(out: &mut Vec<u8>, seat: u32, call: Call) -> Result<(), OutOfMemory>
+    ensures text { OnOk result (out.new.items ≡ out.old.items ++ (decimal seat ++ 32 ∷ call_text call)) }
+    ensures kept { OnErr result (BeginsWith out.new.items out.old.items) }
+{
+    write_number(out, u64::from(seat))?;
+    write_bytes(out, b" ")?;
+    write_call(out, call)
+}
+
+/// Writes an entry of a journal.
+fn write_entry(out: &mut Vec<u8>, entry: Entry) -> Result<(), OutOfMemory>
+    ensures text { OnOk result (out.new.items ≡ out.old.items ++ entry_line entry) }
+    ensures kept { OnErr result (BeginsWith out.new.items out.old.items) }
+{
+    write_asked(out, entry.seat, entry.call)?;
+    write_bytes(out, b" ")?;
+    write_reply(out, entry.reply)?;
+    write_bytes(out, b"\n")
+}
+
+/// Writes a block of a heap.
+fn write_block(out: &mut Vec<u8>, block: Block) -> Result<(), OutOfMemory>
+    ensures text { OnOk result (out.new.items ≡ out.old.items ++ block_line block) }
+    ensures kept { OnErr result (BeginsWith out.new.items out.old.items) }
+{
+    write_number(out, u64::from(block.root))?;
+    write_word(out, b" ", u64::from(block.at))?;
+    write_word(out, b" ", u64::from(block.size))?;
+    write_bytes(out, b"\n")
+}
+
+/// Writes the entries of a journal.
+fn write_entries(out: &mut Vec<u8>, journal: &[Entry]) -> Result<(), OutOfMemory>
+    ensures text { OnOk result (out.new.items ≡ out.old.items ++ flat_map entry_line journal.now) }
+    ensures kept { OnErr result (BeginsWith out.new.items out.old.items) }
+{
+    for entry in journal {
+        write_entry(out, *entry)?;
+    }
+    Ok(())
+}
+
+/// Writes the blocks of a heap.
+fn write_blocks(out: &mut Vec<u8>, blocks: &[Block]) -> Result<(), OutOfMemory>
+    ensures text { OnOk result (out.new.items ≡ out.old.items ++ flat_map block_line blocks.now) }
+    ensures kept { OnErr result (BeginsWith out.new.items out.old.items) }
+{
+    for block in blocks {
+        write_block(out, *block)?;
+    }
+    Ok(())
+}
+
+/// Writes a heap: how many blocks, and each of them.
+fn write_heap(out: &mut Vec<u8>, blocks: &[Block]) -> Result<(), OutOfMemory>
+    ensures text { OnOk result (out.new.items ≡ out.old.items ++ heap_text blocks.now) }
+    ensures kept { OnErr result (BeginsWith out.new.items out.old.items) }
+{
+    write_word(out, b"heap ", blocks.len() as u64)?;
+    write_bytes(out, b"\n")?;
+    write_blocks(out, blocks)
+}
+
+/// Writes the report of an arena behind what stands in `out`: its number, its journal and the blocks of its heap. Where
+/// memory runs out, what stood there still stands at the front.
+pub fn write_report(
+    out: &mut Vec<u8>,
+    arena: u32,
+    journal: &[Entry],
+    blocks: &[Block],
+) -> Result<(), OutOfMemory>
+    ensures text { OnOk result (out.new.items ≡ out.old.items ++ arena_text arena journal.now blocks.now) }
+    ensures kept { OnErr result (BeginsWith out.new.items out.old.items) }
+{
+    write_word(out, b"arena ", u64::from(arena))?;
+    write_word(out, b" calls ", journal.len() as u64)?;
+    write_bytes(out, b"\n")?;
+    write_entries(out, journal)?;
+    write_heap(out, blocks)
+}
+
+/// Writes the name of a side.
+fn write_side(out: &mut Vec<u8>, side: CrashSide) -> Result<(), OutOfMemory>
+    ensures text { OnOk result (out.new.items ≡ out.old.items ++ side_text side) }
+    ensures kept { OnErr result (BeginsWith out.new.items out.old.items) }
+{
+    match side {
+        CrashSide::Same => write_bytes(out, b"same"),
+        CrashSide::Before => write_bytes(out, b"before"),
+        CrashSide::After => write_bytes(out, b"after"),
+    }
+}
+
+/// Writes the report of a crash behind what stands in `out`: the number of the call under way, counted from 1, on which
+/// side of it the heap stands, and the blocks of that heap. Where memory runs out, what stood there still stands at the
+/// front.
+pub fn write_crash(
+    out: &mut Vec<u8>,
+    call: u64,
+    side: CrashSide,
+    blocks: &[Block],
+) -> Result<(), OutOfMemory>
+    ensures text { OnOk result (out.new.items ≡ out.old.items ++ crash_text call side blocks.now) }
+    ensures kept { OnErr result (BeginsWith out.new.items out.old.items) }
+{
+    write_word(out, b"call ", call)?;
+    write_bytes(out, b" ")?;
+    write_side(out, side)?;
+    write_bytes(out, b"\n")?;
+    write_heap(out, blocks)
+}
+
+/// Writes the line of a refusal behind what stands in `out`. Where memory runs out, what stood there still stands at
+/// the front.
+pub fn write_refusal(out: &mut Vec<u8>, refusal: Refusal) -> Result<(), OutOfMemory>
+    ensures text { OnOk result (out.new.items ≡ out.old.items ++ refusal_text refusal) }
+    ensures kept { OnErr result (BeginsWith out.new.items out.old.items) }
+{
+    match refusal {
+        Refusal::BadLine { line } => write_word(out, b"bad line ", line)?,
+        Refusal::NoArena { arena, arenas } => {
+            write_word(out, b"no arena ", arena)?;
+            write_word(out, b" of ", arenas)?;
+        }
+        Refusal::NoEvent { event, events } => {
+            write_word(out, b"no event ", event)?;
+            write_word(out, b" of ", events)?;
+        }
+    }
+    write_bytes(out, b"\n")
+}
