@@ -2,3 +2,4 @@ pub mod Numbers
 pub mod CallLines
 pub mod Lines
 pub mod Fronts
+pub mod OneMeaning

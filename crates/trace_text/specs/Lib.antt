@@ -4,3 +4,4 @@ pub mod Numbers
 pub mod Lines
 pub mod Fronts
 pub mod Report
+pub mod Laws

@@ -6,6 +6,7 @@
 #![tactic(auto)]
 
 mod call;
+mod laws;
 mod line;
 mod number;
 mod report;
@@ -13,5 +14,6 @@ mod trace;
 mod writing;
 
 pub use call::{CrashSide, Refusal, TraceCall};
+pub use laws::{law_of_no_refusal, law_of_one_refusal, law_of_one_trace};
 pub use report::{write_crash, write_refusal, write_report};
 pub use trace::{Trace, TraceFault, read_trace};

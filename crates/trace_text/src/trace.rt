@@ -130,3 +130,6 @@ pub fn read_trace(alloc: Global, bytes: &[u8]) -> Result<Trace, TraceFault>
         }
     }
 }
+
+#[cfg(test)]
+mod tests;

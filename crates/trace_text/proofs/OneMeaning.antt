@@ -1,0 +1,156 @@
+-- A line says one thing, so a text says one trace, or has one refused line.
+use Rattle.std.proofs.Common.{◌≡◌, ◌⊎◌, ℕ, zero, suc, ◌+◌, ◌<◌, List, [], ◌∷◌, ◌++◌, length, refl, sym, ◌∙◌, ap, inl, inr, arith}
+use Rattle.std.specs.Prelude.{decimal}
+use Rattle.std.specs.Str.Parse.{AllDigits}
+use Rattle.std.proofs.lemmas.Str.Parse.{digit_from_value}
+use Rattle.std.proofs.lemmas.Fmt.{decimal_is_IsNumeral, decimal_injective}
+use Rattle.heap_model.specs.declared.call.Call.{Call}
+use Rattle.heap_model.specs.declared.call.Call.TheVariants.{Malloc, Free, Write, Read}
+use Rattle.trace_text.specs.declared.call.TraceCall.{TraceCall}
+use Rattle.trace_text.specs.Words.{call_text}
+use Rattle.trace_text.specs.Grammar.{lines_of, IsPassedOver, IsAsked, IsPoolLine, IsCallLine, AreCalls, AreTrace, IsNoCallAt, IsNoTraceAt}
+use Rattle.trace_text.specs.Laws.{LawOfOneTrace, LawOfNoRefusal, LawOfOneRefusal}
+use Rattle.trace_text.proofs.CallLines.{same_field, call_words, behind_arena}
+
+-- a line that is passed over says no pool
+no_pool_passed : (line : List ℕ) (granules : ℕ) → IsPassedOver line → ¬ (IsPoolLine line granules)
+no_pool_passed [] granules passed pool = let e = pool.text in cc
+no_pool_passed (byte ∷ line) granules passed pool = let e = pool.text in let same : byte ≡ 112 = cc in omega (arith, same, passed)
+
+-- numerals do not begin with `#`
+no_digit_passed : (digits rest line : List ℕ) → 0 < length digits → AllDigits 10 digits → line ≡ digits ++ rest → ¬ (IsPassedOver line)
+no_digit_passed [] rest line some digits is passed = absurd (omega arith)
+no_digit_passed (d ∷ ds) rest [] some digits is passed = cc
+no_digit_passed (d ∷ ds) rest (byte ∷ line) some digits is passed = let same : byte ≡ d = cc in let r = digit_from_value d digits.0 in omega (arith, same, passed, r.0)
+
+-- a line that is passed over makes no call
+no_call_passed : (line : List ℕ) (call : TraceCall) → IsPassedOver line → ¬ (IsCallLine line call)
+no_call_passed line call passed makes =
+    let numeral = decimal_is_IsNumeral call.thread (omega (arith, makes.thread)) in
+    no_digit_passed (decimal call.thread) _ line numeral.0.0 numeral.0.1 (call_words line call makes) passed
+
+-- a line says one pool
+one_pool : (line : List ℕ) (m n : ℕ) → IsPoolLine line m → IsPoolLine line n → m ≡ n
+one_pool line m n p q =
+    let e = sym p.text ∙ q.text in
+    let same : decimal m ≡ decimal n = cc in
+    decimal_injective m n (omega (arith, p.most)) (omega (arith, q.most)) same
+
+-- texts that are the same begin with the same byte
+same_letter : (a b : ℕ) (x y : List ℕ) → a ∷ x ≡ b ∷ y → a ≡ b
+same_letter a b x y e = cc
+
+-- two calls of traces with one text are one
+one_asked : (a b : Call) → IsAsked a → IsAsked b → call_text a ≡ call_text b → a ≡ b
+one_asked (Malloc r s) (Malloc t u) p q e =
+    let words : decimal r ++ 32 ∷ decimal s ≡ decimal t ++ 32 ∷ decimal u = cc in
+    let h = same_field (decimal t ++ 32 ∷ decimal u) r t (decimal s) (decimal u) (omega (arith, p.0)) (omega (arith, q.0)) (sym words) refl in
+    let root : r ≡ t = h.0 in
+    let size : s ≡ u = decimal_injective s u (omega (arith, p.1)) (omega (arith, q.1)) h.1 in
+    cc
+one_asked (Malloc r s) (Free t) p q e = absurd (omega (arith, same_letter 109 102 _ _ e))
+one_asked (Free r) (Malloc t u) p q e = absurd (omega (arith, same_letter 102 109 _ _ e))
+one_asked (Free r) (Free t) p q e =
+    let words : decimal r ≡ decimal t = cc in
+    let root : r ≡ t = decimal_injective r t (omega (arith, p)) (omega (arith, q)) words in
+    cc
+one_asked (Malloc r s) (Write t i v) p q e = absurd q
+one_asked (Malloc r s) (Read t i) p q e = absurd q
+one_asked (Free r) (Write t i v) p q e = absurd q
+one_asked (Free r) (Read t i) p q e = absurd q
+one_asked (Write r i v) b p q e = absurd p
+one_asked (Read r i) b p q e = absurd p
+
+-- calls that agree in all parts are one
+same_call : (a b : TraceCall) → a.thread ≡ b.thread → a.arena ≡ b.arena → a.call ≡ b.call → a ≡ b
+same_call a b thread arena call = λ i. record { thread = thread i; arena = arena i; call = call i }
+
+-- a line makes one call
+one_call : (line : List ℕ) (a b : TraceCall) → IsCallLine line a → IsCallLine line b → a ≡ b
+one_call line a b p q =
+    let first = call_words line a p in
+    let thread = (same_field line a.thread b.thread _ _ (omega (arith, p.thread)) (omega (arith, q.thread)) first (call_words line b q)).0 in
+    let words = behind_arena line a.thread a.arena _ (call_text a.call) b (omega (arith, p.thread)) (omega (arith, p.arena)) first refl q in
+    same_call a b thread (p.arena ∙ sym q.arena) (one_asked a.call b.call p.asked q.asked words)
+
+-- lines make one list of calls
+one_list : (lines : List (List ℕ)) (a b : List TraceCall) → AreCalls lines a → AreCalls lines b → a ≡ b
+one_list [] a b p q = p ∙ sym q
+one_list (line ∷ lines) [] [] p q = refl
+one_list (line ∷ lines) [] (d ∷ ds) p (inl q) = one_list lines [] (d ∷ ds) p.1 q.1
+one_list (line ∷ lines) [] (d ∷ ds) p (inr q) = absurd (no_call_passed line d p.0 q.0)
+one_list (line ∷ lines) (c ∷ cs) [] (inl p) q = one_list lines (c ∷ cs) [] p.1 q.1
+one_list (line ∷ lines) (c ∷ cs) [] (inr p) q = absurd (no_call_passed line c q.0 p.0)
+one_list (line ∷ lines) (c ∷ cs) (d ∷ ds) (inl p) (inl q) = one_list lines (c ∷ cs) (d ∷ ds) p.1 q.1
+one_list (line ∷ lines) (c ∷ cs) (d ∷ ds) (inl p) (inr q) = absurd (no_call_passed line d p.0 q.0)
+one_list (line ∷ lines) (c ∷ cs) (d ∷ ds) (inr p) (inl q) = absurd (no_call_passed line c q.0 p.0)
+one_list (line ∷ lines) (c ∷ cs) (d ∷ ds) (inr p) (inr q) =
+    let call : c ≡ d = one_call line c d p.0 q.0 in
+    let rest : cs ≡ ds = one_list lines cs ds p.1 q.1 in
+    cc
+
+-- lines say one trace
+one_trace : (lines : List (List ℕ)) (m n : ℕ) (a b : List TraceCall) → AreTrace lines m a → AreTrace lines n b → (m ≡ n) × (a ≡ b)
+one_trace [] m n a b p q = absurd p
+one_trace (line ∷ lines) m n a b (inl p) (inl q) = one_trace lines m n a b p.1 q.1
+one_trace (line ∷ lines) m n a b (inl p) (inr q) = absurd (no_pool_passed line n p.0 q.0)
+one_trace (line ∷ lines) m n a b (inr p) (inl q) = absurd (no_pool_passed line m q.0 p.0)
+one_trace (line ∷ lines) m n a b (inr p) (inr q) = (one_pool line m n p.0 q.0, one_list lines a b p.1 q.1)
+
+-- lines that make calls have none that is no call
+calls_not_refused : (lines : List (List ℕ)) (calls : List TraceCall) (n : ℕ) → AreCalls lines calls → ¬ (IsNoCallAt lines n)
+calls_not_refused [] calls n are refused = refused
+calls_not_refused (line ∷ lines) [] zero are refused = refused.0 are.0
+calls_not_refused (line ∷ lines) [] (suc n) are refused = calls_not_refused lines [] n are.1 refused.1
+calls_not_refused (line ∷ lines) (c ∷ cs) zero (inl are) refused = refused.0 are.0
+calls_not_refused (line ∷ lines) (c ∷ cs) zero (inr are) refused = refused.1 c are.0
+calls_not_refused (line ∷ lines) (c ∷ cs) (suc n) (inl are) refused = calls_not_refused lines (c ∷ cs) n are.1 refused.1
+calls_not_refused (line ∷ lines) (c ∷ cs) (suc n) (inr are) refused = calls_not_refused lines cs n are.1 refused.1
+
+-- lines that say a trace have none outside it
+trace_not_refused : (lines : List (List ℕ)) (granules : ℕ) (calls : List TraceCall) (n : ℕ) → AreTrace lines granules calls → ¬ (IsNoTraceAt lines n)
+trace_not_refused [] granules calls n are refused = are
+trace_not_refused (line ∷ lines) granules calls zero (inl are) refused = refused.0 are.0
+trace_not_refused (line ∷ lines) granules calls zero (inr are) refused = refused.1 granules are.0
+trace_not_refused (line ∷ lines) granules calls (suc n) (inl are) (inl refused) = trace_not_refused lines granules calls n are.1 refused.1
+trace_not_refused (line ∷ lines) granules calls (suc n) (inl are) (inr refused) = no_pool_passed line refused.0.0 are.0 refused.0.1
+trace_not_refused (line ∷ lines) granules calls (suc n) (inr are) (inl refused) = no_pool_passed line granules refused.0 are.0
+trace_not_refused (line ∷ lines) granules calls (suc n) (inr are) (inr refused) = calls_not_refused lines calls n are.1 refused.1
+
+-- a line that is no call is not one that was read
+no_call_read : (line : List ℕ) → ¬ (IsPassedOver line) → ((call : TraceCall) → ¬ (IsCallLine line call)) → ¬ (IsPassedOver line ⊎ ((call : TraceCall) × IsCallLine line call))
+no_call_read line kept none (inl passed) = kept passed
+no_call_read line kept none (inr makes) = none makes.0 makes.1
+
+-- one line is the first that is no call
+one_no_call : (lines : List (List ℕ)) (m n : ℕ) → IsNoCallAt lines m → IsNoCallAt lines n → m ≡ n
+one_no_call [] m n p q = absurd p
+one_no_call (line ∷ lines) zero zero p q = refl
+one_no_call (line ∷ lines) zero (suc n) p q = absurd (no_call_read line p.0 p.1 q.0)
+one_no_call (line ∷ lines) (suc m) zero p q = absurd (no_call_read line q.0 q.1 p.0)
+one_no_call (line ∷ lines) (suc m) (suc n) p q = ap suc (one_no_call lines m n p.1 q.1)
+
+-- one line is the first outside a trace
+one_refusal : (lines : List (List ℕ)) (m n : ℕ) → IsNoTraceAt lines m → IsNoTraceAt lines n → m ≡ n
+one_refusal [] m n p q = p ∙ sym q
+one_refusal (line ∷ lines) zero zero p q = refl
+one_refusal (line ∷ lines) zero (suc n) p (inl q) = absurd (p.0 q.0)
+one_refusal (line ∷ lines) zero (suc n) p (inr q) = absurd (p.1 q.0.0 q.0.1)
+one_refusal (line ∷ lines) (suc m) zero (inl p) q = absurd (q.0 p.0)
+one_refusal (line ∷ lines) (suc m) zero (inr p) q = absurd (q.1 p.0.0 p.0.1)
+one_refusal (line ∷ lines) (suc m) (suc n) (inl p) (inl q) = ap suc (one_refusal lines m n p.1 q.1)
+one_refusal (line ∷ lines) (suc m) (suc n) (inl p) (inr q) = absurd (no_pool_passed line q.0.0 p.0 q.0.1)
+one_refusal (line ∷ lines) (suc m) (suc n) (inr p) (inl q) = absurd (no_pool_passed line p.0.0 q.0 p.0.1)
+one_refusal (line ∷ lines) (suc m) (suc n) (inr p) (inr q) = ap suc (one_no_call lines m n p.1 q.1)
+
+-- a text says one trace at most
+pub law_of_one_trace : LawOfOneTrace
+law_of_one_trace text granules others calls more p q = one_trace (lines_of text) granules others calls more p.lines q.lines
+
+-- a trace has no refused line
+pub law_of_no_refusal : LawOfNoRefusal
+law_of_no_refusal text granules calls number is refused = trace_not_refused (lines_of text) granules calls refused.before is.lines refused.lines
+
+-- a text has one refused line at most
+pub law_of_one_refusal : LawOfOneRefusal
+law_of_one_refusal text number other p q = p.is_next ∙ ap (λ n. n + 1) (one_refusal (lines_of text) p.before q.before p.lines q.lines) ∙ sym q.is_next
