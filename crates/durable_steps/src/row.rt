@@ -1,4 +1,4 @@
-// Rows of words.
+// Rows of words, stored and flushed by loops.
 
 ghost use Rattle.std.specs.Prelude.{◌≡◌, ◌+◌, ◌*◌, ◌/◌, ◌%◌, ◌^◌, ◌<◌, ◌≤◌, [], ◌∷◌, ◌++◌, length};
 ghost use Rattle.pmem_lines.specs.Pmem.{words_of, HasRoom, Appends};
@@ -7,34 +7,37 @@ ghost use Rattle.durable_steps.specs.Rows.{IsOldOrNewRow, stores_at, flushes_of,
 
 use pmem_lines::Pmem;
 
-/// Stores words in a row.
+/// Stores words one after another from an address on, an event for each. None of them is durable by that.
 pub fn store_words<P: Pmem>(device: &mut P, from: u32, words: &[u64])
     requires aligned { from % 8 ≡ 0 }
     requires inside { from + 8 * length words.now ≤ 8 * length (words_of (P.state device.old)) }
     requires fits { from + 8 * length words.now < 2 ^ 32 }
     requires room { HasRoom (P.state device.old) (length words.now) }
     ensures appends { Appends (P.state device.old) (P.state device.new) (stores_at from words.now) }
-    ensures count { length (P.state device.new).events ≡ length (P.state device.old).events + (length words.now) }
+    ensures count { length (P.state device.new).events ≡ length (P.state device.old).events + length words.now }
 {
     for (i, word) in words.iter().enumerate() {
         device.store(from + 8 * i as u32, *word);
     }
 }
 
-/// Flushes lines in a row.
+/// Flushes `count` lines from `first` on, an event for each. What was stored to them before is durable once a fence
+/// follows.
 pub fn flush_lines<P: Pmem>(device: &mut P, first: u32, count: u32)
     requires inside { 8 * (first + count) ≤ length (words_of (P.state device.old)) }
     requires fits { first + count < 2 ^ 32 }
     requires room { HasRoom (P.state device.old) count }
     ensures appends { Appends (P.state device.old) (P.state device.new) (flushes_of first count) }
-    ensures count { length (P.state device.new).events ≡ length (P.state device.old).events + (count) }
+    ensures count { length (P.state device.new).events ≡ length (P.state device.old).events + count }
 {
     for i in 0..count {
         device.flush(first + i);
     }
 }
 
-/// Writes words in a row and makes them durable.
+/// Stores words one after another from an address on and makes them durable under one fence: an event for each word, one
+/// for each line that they touch, and the fence. After a crash within them each word of the row is old or new, in any
+/// combination, and every other word is as before.
 pub fn write_row<P: Pmem>(device: &mut P, from: u32, words: &[u64])
     requires aligned { from % 8 ≡ 0 }
     requires inside { from + 8 * length words.now ≤ 8 * length (words_of (P.state device.old)) }

@@ -1,28 +1,38 @@
-// Steps of persistent memory that begin and end quiet.
+// One word, or two, made durable.
 
 ghost use Rattle.std.specs.Prelude.{◌≡◌};
-ghost use Rattle.pmem_lines.specs.Pmem.{HasRoom, Appends, IsPlace};
-ghost use Rattle.durable_steps.specs.Steps.{word_events, pair_events};
+ghost use Rattle.pmem_lines.specs.Pmem.{words_of, HasRoom, Appends, IsPlace};
+ghost use Rattle.pmem_lines.specs.Events.{IsQuiet, CrashOnly};
+ghost use Rattle.durable_steps.specs.Steps.{word_events, pair_events, IsOldOrNewWord, IsOldOrNewPair};
 
 use pmem_lines::Pmem;
 
-/// Stores a word and makes it durable.
+/// Stores a word and makes it durable, in three events: store, flush, fence. After a crash within them the word is old
+/// or new, and every other word is as before.
 pub fn write_word<P: Pmem>(device: &mut P, at: u32, value: u64)
     requires place { IsPlace (P.state device.old) at }
+    requires quiet { IsQuiet (P.state device.old).events }
     requires room { HasRoom (P.state device.old) 3 }
-    ensures { Appends (P.state device.old) (P.state device.new) (word_events at value) }
+    ensures appends { Appends (P.state device.old) (P.state device.new) (word_events at value) }
+    ensures quiet { IsQuiet (P.state device.new).events }
+    ensures crash { CrashOnly (words_of (P.state device.old)) (word_events at value) (IsOldOrNewWord (words_of (P.state device.old)) at value) }
 {
     device.store(at, value);
     device.flush(at / 64);
     device.fence();
 }
 
-/// Stores a word and then another, and makes both durable.
+/// Stores a word and then another, and makes both durable under one fence, in five events: store and flush of the
+/// first, store and flush of the second, fence. After a crash within them each of the two is old or new, in any
+/// combination, and every other word is as before. Where both are one word, the second value stays.
 pub fn write_pair<P: Pmem>(device: &mut P, first: u32, a: u64, second: u32, b: u64)
     requires first { IsPlace (P.state device.old) first }
     requires second { IsPlace (P.state device.old) second }
+    requires quiet { IsQuiet (P.state device.old).events }
     requires room { HasRoom (P.state device.old) 5 }
-    ensures { Appends (P.state device.old) (P.state device.new) (pair_events first a second b) }
+    ensures appends { Appends (P.state device.old) (P.state device.new) (pair_events first a second b) }
+    ensures quiet { IsQuiet (P.state device.new).events }
+    ensures crash { CrashOnly (words_of (P.state device.old)) (pair_events first a second b) (IsOldOrNewPair (words_of (P.state device.old)) first a second b) }
 {
     device.store(first, a);
     device.flush(first / 64);

@@ -1,4 +1,4 @@
-use Rattle.std.proofs.Common.{◌≡◌, ◌+◌, ◌-◌, ◌*◌, length, drop}
+use Rattle.std.proofs.Common.{◌≡◌, ◌+◌, ◌-◌, length}
 use Rattle.pmem_lines.specs.Pmem.{words_of, appended}
 use Rattle.durable_steps.specs.Rows.{flushes_of}
 use Rattle.durable_steps.proofs.row.flush_lines.Given as goal

@@ -1,6 +1,6 @@
 use Rattle.std.proofs.Common.{arith}
 use Rattle.std.proofs.lemmas.Grind.{common_steps}
-use Rattle.pmem_lines.proofs.States.{Appends-state, appended_none}
+use Rattle.pmem_lines.proofs.States.{Appends-state}
 use Rattle.durable_steps.specs.Rows.{stores_at}
 use Rattle.durable_steps.proofs.row.store_words.Goals as goal
 

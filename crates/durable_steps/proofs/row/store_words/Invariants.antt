@@ -1,4 +1,4 @@
-use Rattle.std.proofs.Common.{◌≡◌, ◌+◌, ◌-◌, ◌*◌, length, drop}
+use Rattle.std.proofs.Common.{◌≡◌, ◌+◌, ◌*◌, length, drop}
 use Rattle.pmem_lines.specs.Pmem.{words_of, appended}
 use Rattle.durable_steps.specs.Rows.{stores_at}
 use Rattle.durable_steps.proofs.row.store_words.Given as goal

@@ -1,0 +1,13 @@
+use Rattle.pmem_lines.specs.Pmem.{words_of}
+use Rattle.pmem_lines.proofs.States.{quiet_after, then_step}
+use Rattle.durable_steps.proofs.Steps.{IsQuiet-word, word_crash}
+use Rattle.durable_steps.proofs.step.write_word.Goals as goal
+
+pub returns-clause-appends : goal.returns-clause-appends
+returns-clause-appends g c = then_step (then_step c.store.ensures c.flush.ensures) c.fence.ensures
+
+pub returns-clause-quiet : goal.returns-clause-quiet
+returns-clause-quiet g c = quiet_after (returns-clause-appends g c) (IsQuiet-word c.args.at c.args.value) c.requires.quiet
+
+pub returns-clause-crash : goal.returns-clause-crash
+returns-clause-crash g c = word_crash (words_of (g.P.Pmem.state c.args.device.now)) c.args.at c.args.value
