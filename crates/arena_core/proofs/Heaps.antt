@@ -1,5 +1,5 @@
 -- The heap in the words of a plain arena, before and after a store of a root's word.
-use Rattle.std.proofs.Common.{◌≡◌, ◌≢◌, ℕ, ◌+◌, ◌-◌, ◌*◌, ◌/◌, ◌^◌, ◌<◌, ◌≤◌, Bool, true, false, List, [], length, set, get_or, sym, ap, ◌∙◌, refl, arith, subst, inl, inr, ⊎_elim}
+use Rattle.std.proofs.Common.{replicate, suc, ◌∷◌, ◌≡◌, ◌≢◌, ℕ, ◌+◌, ◌-◌, ◌*◌, ◌/◌, ◌^◌, ◌<◌, ◌≤◌, Bool, true, false, List, [], length, set, get_or, sym, ap, ◌∙◌, refl, arith, subst, inl, inr, ⊎_elim}
 use Rattle.std.proofs.lemmas.Bool.{cases_lt, cases_eq}
 use Rattle.std.proofs.lemmas.List.{get_or_past, get_or-set_same}
 use Rattle.pmem_lines.specs.Words.{AreZeros, word_at, put_word}
@@ -9,7 +9,7 @@ use Rattle.pmem_lines.proofs.Images.{by_stores, by_none}
 use Rattle.durable_steps.specs.Steps.{word_events}
 use Rattle.heap_model.specs.declared.call.Reply.{Reply}
 use Rattle.heap_model.specs.declared.call.Reply.TheVariants.{Placed, Freed, Wrote, Value, NoRoot, Occupied, Empty, ZeroSize, TooLarge, OutOfRange, NoSpace}
-use Rattle.heap_model.specs.Plain.{is_taken, IsBlockAt, IsOverlapFree}
+use Rattle.heap_model.specs.Plain.{no_blocks, is_taken, IsBlockAt, IsOverlapFree}
 use Rattle.heap_model.proofs.Taken.{is_taken-named, is_taken-other, not_named}
 use Rattle.heap_model.proofs.Overlap.{block_at-of, IsOverlapFree-set, is_taken-freed}
 use Rattle.arena_core.specs.Plain.{plain_heap, block_count, call_events, IsEitherHeap}
@@ -30,6 +30,18 @@ plain_heap-zeros words long are root = ⊎_elim
     (λ (below : root < 4096). get_or-plain_heap words root below ∙ are.each (2048 + root))
     (λ (past : 4096 ≤ root). get_or_past (plain_heap words) root 0 (omega (arith, length-plain_heap words long)))
     (cases_lt root 4096)
+
+-- a list of zeros is no blocks
+zeros_only : (heap : List ℕ) (n : ℕ) → length heap ≡ n → ((root : ℕ) → get_or heap root 0 ≡ 0) → heap ≡ replicate n 0
+zeros_only [] n all none = let zero' : n ≡ 0 = omega (arith, all) in rw zero' refl
+zeros_only (x ∷ heap) n all none =
+    let next : n ≡ suc (length heap) = omega (arith, all) in
+    rw next (ap (λ y. y ∷ heap) (none 0) ∙ ap (λ (ys : List ℕ). 0 ∷ ys) (zeros_only heap (length heap) refl (λ root. none (suc root))))
+
+-- the heap of zeros has no blocks
+pub plain_heap-none : (words : List ℕ) → 6144 ≤ length words → AreZeros words → plain_heap words ≡ no_blocks
+unfolding no_blocks
+plain_heap-none words long are = zeros_only (plain_heap words) 4096 (length-plain_heap words long) (plain_heap-zeros words long are)
 
 -- no root names a block, and so none overlap
 pub IsOverlapFree-none : (blocks : ℕ) (heap : List ℕ) → length heap ≡ 4096 → ((root : ℕ) → get_or heap root 0 ≡ 0) → IsOverlapFree blocks heap

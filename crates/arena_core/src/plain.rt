@@ -6,7 +6,7 @@ ghost use Rattle.pmem_lines.specs.Words.{AreZeros};
 ghost use Rattle.pmem_lines.specs.Events.{CrashOnly, IsQuiet};
 ghost use Rattle.durable_steps.specs.Steps.{word_events};
 ghost use Rattle.heap_model.specs.declared.call.Call.TheVariants as calls;
-ghost use Rattle.heap_model.specs.Plain.{lowest_free, malloc_reply, free_reply, heap_after, IsOverlapFree, plain_reply};
+ghost use Rattle.heap_model.specs.Plain.{lowest_free, no_blocks, malloc_reply, free_reply, heap_after, IsOverlapFree, plain_reply};
 ghost use Rattle.arena_core.specs.Plain.{plain_heap, block_count, malloc_answer, free_answer, call_events, IsEitherHeap};
 ghost use Rattle.arena_core.specs.Arena.{IsPlain, IsReady, IsArena, IsNewBlock, IsNamed, AreMarks};
 
@@ -53,7 +53,8 @@ impl<P: Pmem> PlainArena<P> {
         requires least { 16 * 2048 ≤ length (words_of (P.state device)) }
         requires most { length (words_of (P.state device)) ≤ 1024 * 2048 }
         requires zero { AreZeros (words_of (P.state device)) }
-        ensures { result ≡ P.state device }
+        ensures device { result ≡ P.state device }
+        ensures none { plain_heap (words_of result) ≡ no_blocks }
     {
         PlainArena {
             device,

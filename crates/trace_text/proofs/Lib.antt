@@ -3,3 +3,4 @@ pub mod CallLines
 pub mod Lines
 pub mod Fronts
 pub mod OneMeaning
+pub mod Asked

@@ -15,5 +15,6 @@ mod writing;
 
 pub use call::{CrashSide, Refusal, TraceCall};
 pub use laws::{law_of_no_refusal, law_of_one_refusal, law_of_one_trace};
+pub use number::whole_number;
 pub use report::{write_crash, write_refusal, write_report};
 pub use trace::{Trace, TraceFault, read_trace};

@@ -6,7 +6,7 @@ ghost use Rattle.trace_text.specs.Words.{call_text};
 ghost use Rattle.trace_text.specs.Grammar.{IsPassedOver, IsAsked, IsCallLine, IsPoolLine};
 
 use crate::TraceCall;
-use crate::number::{after, read_field, read_last};
+use crate::number::{after, read_field, whole_number};
 use heap_model::Call;
 
 /// The greatest thread number.
@@ -37,7 +37,7 @@ pub(crate) fn is_passed_over(line: &[u8]) -> bool
 pub(crate) fn read_pool_line(line: &[u8]) -> Option<u32>
     ensures { MatchOption result ((granules : ℕ) → ¬ (IsPoolLine line.now granules)) (λ granules. IsPoolLine line.now granules) }
 {
-    let granules = read_last(after(line, b"pool 1 ")?, MOST_GRANULES)?;
+    let granules = whole_number(after(line, b"pool 1 ")?, MOST_GRANULES)?;
     if granules < FEWEST_GRANULES {
         return None;
     }
@@ -49,7 +49,7 @@ fn read_root_and_size(words: &[u8]) -> Option<(u32, u64)>
     ensures { MatchOption result ((root size : ℕ) → root < 2 ^ 32 → size ≤ 64 → words.now ≢ decimal root ++ 32 ∷ decimal size) (λ found. (found.1 ≤ 64) × (words.now ≡ decimal found.0 ++ 32 ∷ decimal found.1)) }
 {
     let (root, rest) = read_field(words, LAST_ROOT)?;
-    let size = read_last(rest, LARGEST_SIZE)?;
+    let size = whole_number(rest, LARGEST_SIZE)?;
     Some((root as u32, size))
 }
 
@@ -57,7 +57,7 @@ fn read_root_and_size(words: &[u8]) -> Option<(u32, u64)>
 fn read_root(words: &[u8]) -> Option<u32>
     ensures { MatchOption result ((root : ℕ) → root < 2 ^ 32 → words.now ≢ decimal root) (λ root. words.now ≡ decimal root) }
 {
-    let root = read_last(words, LAST_ROOT)?;
+    let root = whole_number(words, LAST_ROOT)?;
     Some(root as u32)
 }
 

@@ -63,11 +63,12 @@ pub(crate) fn read_field(line: &[u8], most: u64) -> Option<(u64, &[u8])>
     }
 }
 
-/// The number that a line is as a whole; none where it is no number of at most `most`.
-pub(crate) fn read_last(line: &[u8], most: u64) -> Option<u64>
-    ensures { MatchOption result ((number : ℕ) → number ≤ most → line.now ≢ decimal number) (λ number. (number ≤ most) × (line.now ≡ decimal number)) }
+/// The number that a text is as a whole, in decimal, without a sign and without leading zeros; none where it is no
+/// number of at most `most`.
+pub fn whole_number(text: &[u8], most: u64) -> Option<u64>
+    ensures { MatchOption result ((number : ℕ) → number ≤ most → text.now ≢ decimal number) (λ number. (number ≤ most) × (text.now ≡ decimal number)) }
 {
-    let (number, rest) = read_number(line)?;
+    let (number, rest) = read_number(text)?;
     if number > most || rest.len() > 0 {
         return None;
     }

@@ -1,6 +1,7 @@
 // Traces, read from their text.
 ghost use Rattle.std.specs.Prelude.{◌≡◌, ◌+◌, ◌<◌, ◌≤◌, ◌^◌, ◌∷◌, length, vec_len, IfOk, IfErr, MatchResult};
-ghost use Rattle.trace_text.specs.Grammar.{lines_of, AreCalls, IsTrace, IsRefusedLine, IfBadLine};
+ghost use Rattle.std.specs.List.{All};
+ghost use Rattle.trace_text.specs.Grammar.{lines_of, AreCalls, IsAsked, IsTrace, IsRefusedLine, IfBadLine};
 ghost use Rattle.trace_text.specs.Lines.{IsBehindPool, IsRefusedCall};
 
 use crate::TraceCall;
@@ -115,6 +116,8 @@ fn read_calls(alloc: Global, text: &[u8], before: u64) -> Result<Vec<TraceCall>,
 pub fn read_trace(alloc: Global, bytes: &[u8]) -> Result<Trace, TraceFault>
     ensures trace { IfOk result (λ trace. IsTrace bytes.now trace.granules trace.calls.items) }
     ensures arenas { IfOk result (λ trace. trace.arenas ≡ 1) }
+    ensures granules { IfOk result (λ trace. (16 ≤ trace.granules) × (trace.granules ≤ 1024)) }
+    ensures asked { IfOk result (λ trace. All (λ call. IsAsked call.call) trace.calls.items) }
     ensures few { IfOk result (λ trace. length trace.calls.items ≤ length bytes.now) }
     ensures refused { IfErr result (λ fault. IfBadLine fault (IsRefusedLine bytes.now)) }
 {

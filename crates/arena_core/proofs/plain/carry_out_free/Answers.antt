@@ -12,7 +12,7 @@ returns-in-Ok-clause-heap g c =
     let words = words_of (g.P.Pmem.state c.args.device.now) in
     let at = c.in-Ok.freed.at in
     let read : words_of (g.P.Pmem.state c.write_word.new.device) ≡ put_word words (2048 + c.args.root) 0 =
-    c.write_word.ensures.words ∙ reading-root words c.args.root 0 in
+    c.write_word.ensures.appends.words ∙ reading-root words c.args.root 0 in
     let named : IsNamed (plain_heap words) c.args.root at = rw c.in-Ok.is at c.requires.freed in
     rw (read, c.in-Ok.is) (plain_heap-put words c.args.root 0 named.below)
 
@@ -21,13 +21,13 @@ returns-in-Ok-clause-arena g c =
     let words = words_of (g.P.Pmem.state c.args.device.now) in
     let at = c.in-Ok.freed.at in
     let read : words_of (g.P.Pmem.state c.write_word.new.device) ≡ put_word words (2048 + c.args.root) 0 =
-    c.write_word.ensures.words ∙ reading-root words c.args.root 0 in
+    c.write_word.ensures.appends.words ∙ reading-root words c.args.root 0 in
     let named : IsNamed (plain_heap words) c.args.root at = rw c.in-Ok.is at c.requires.freed in
     let plain = c.requires.arena.plain in
     record {
       ready = record {
-        quiet = quiet_after c.write_word.ensures (search rules) c.requires.arena.ready.quiet;
-        room = omega (arith, c.write_word.ensures.room, c.requires.arena.ready.room);
+        quiet = quiet_after c.write_word.ensures.appends (search rules) c.requires.arena.ready.quiet;
+        room = omega (arith, c.write_word.ensures.appends.room, c.requires.arena.ready.room);
       };
       plain = rw read (IsPlain-freed words c.args.root at plain named);
       marked = rw (read, c.mark.ensures) (AreMarks-freed words c.args.root at plain named c.args.marks.now c.requires.arena.marked);

@@ -2,7 +2,7 @@ use Rattle.std.proofs.Common.{sym, ◌∙◌, arith}
 use Rattle.pmem_lines.specs.Pmem.{words_of}
 use Rattle.heap_model.proofs.Taken.{is_taken-free}
 use Rattle.arena_core.specs.Plain.{plain_heap, block_count}
-use Rattle.arena_core.proofs.Heaps.{length-plain_heap, plain_heap-zeros, IsOverlapFree-none}
+use Rattle.arena_core.proofs.Heaps.{length-plain_heap, plain_heap-zeros, plain_heap-none, IsOverlapFree-none}
 use Rattle.arena_core.proofs.plain.PlainArena.new.Goals as goal
 
 pub invariant_of-result : goal.invariant_of-result
@@ -22,3 +22,6 @@ invariant_of-result g c =
         each = λ i _. c.no_marks.ensures.clear i ∙ sym (is_taken-free (plain_heap words) i (λ root same. absurd (omega (arith, none root))));
       };
     }
+
+pub returns-clause-none : goal.returns-clause-none
+returns-clause-none g c = plain_heap-none (words_of (g.P.Pmem.state c.args.device)) (omega (arith, c.requires.least)) c.requires.zero
