@@ -6,7 +6,7 @@ ghost use Rattle.pmem_lines.specs.Words.{AreZeros};
 ghost use Rattle.pmem_lines.specs.Events.{CrashOnly, IsQuiet};
 ghost use Rattle.durable_steps.specs.Steps.{word_events};
 ghost use Rattle.heap_model.specs.declared.call.Call.TheVariants as calls;
-ghost use Rattle.heap_model.specs.Plain.{lowest_free, no_blocks, malloc_reply, free_reply, heap_after, IsOverlapFree, plain_reply};
+ghost use Rattle.heap_model.specs.Plain.{lowest_free, no_blocks, malloc_reply, free_reply, heap_after, plain_reply};
 ghost use Rattle.arena_core.specs.Plain.{plain_heap, block_count, malloc_answer, free_answer, call_events, IsEitherHeap};
 ghost use Rattle.arena_core.specs.Arena.{IsPlain, IsReady, IsArena, IsNewBlock, IsNamed, AreMarks};
 
@@ -86,7 +86,8 @@ impl<P: Pmem> PlainArena<P> {
         ensures changed { OnOk result (plain_heap (words_of self.new) ≢ plain_heap (words_of self.old)) }
         ensures size { length (words_of self.new) ≡ length (words_of self.old) }
         ensures ready { IsReady self.new }
-        ensures apart { IsOverlapFree (block_count (words_of self.new)) (plain_heap (words_of self.new)) }
+        ensures was_plain { IsPlain (words_of self.old) }
+        ensures plain { IsPlain (words_of self.new) }
         ensures crash { CrashOnly self.new.base self.new.events (IsEitherHeap (plain_heap (words_of self.old)) (plain_heap (words_of self.new))) }
     {
         let reply = plan_malloc(&self.device, &self.marks, root, size);
@@ -105,7 +106,8 @@ impl<P: Pmem> PlainArena<P> {
         ensures changed { OnOk result (plain_heap (words_of self.new) ≢ plain_heap (words_of self.old)) }
         ensures size { length (words_of self.new) ≡ length (words_of self.old) }
         ensures ready { IsReady self.new }
-        ensures apart { IsOverlapFree (block_count (words_of self.new)) (plain_heap (words_of self.new)) }
+        ensures was_plain { IsPlain (words_of self.old) }
+        ensures plain { IsPlain (words_of self.new) }
         ensures crash { CrashOnly self.new.base self.new.events (IsEitherHeap (plain_heap (words_of self.old)) (plain_heap (words_of self.new))) }
     {
         let reply = plan_free(&self.device, root);

@@ -34,6 +34,12 @@ IsSide before after heap Same = (before ≡ after) × (heap ≡ after)
 IsSide before after heap Before = (before ≢ after) × (heap ≡ before)
 IsSide before after heap After = (before ≢ after) × (heap ≡ after)
 
+-- the side that the heap after a call alone tells, where the call changes the heap
+abbrev pub IsSideBy : List ℕ → List ℕ → CrashSide → Type 0
+IsSideBy heap after Same = ⊥
+IsSideBy heap after Before = heap ≢ after
+IsSideBy heap after After = heap ≡ after
+
 -- what a crash left: the number of the call under way, counted from 1, on which side of it the heap stands, and the heap
 pub record CrashLeft : Type 0 where
   pub call : ℕ
@@ -69,16 +75,21 @@ pub record IsEitherSide (blocks : ℕ) (calls : List TraceCall) (left : CrashLef
   pub one : (left.heap ≡ heap_behind no_blocks (journal_of blocks no_blocks (take (left.call - 1) calls)))
       ⊎ (left.heap ≡ heap_behind no_blocks (journal_of blocks no_blocks (take left.call calls)))
 
--- The output is the report of what the crash left, and that is a heap from before the call under way or after it.
-pub record AnswersCrash (input output : List ℕ) (event seed : ℕ) : Type 0 where
-  pub granules : ℕ
-  pub calls : List TraceCall
-  pub trace : IsTrace input granules calls
+-- The text is the report of what a crash leaves after this event of the calls, and that is a heap from before the call
+-- under way or after it.
+pub record IsCrashReport (granules : ℕ) (calls : List TraceCall) (event seed : ℕ) (text : List ℕ) : Type 0 where
   pub left : CrashLeft
   pub within : event ≤ total_events (blocks_in granules) no_blocks calls
   pub leaves : IsLeft (blocks_in granules) (zeros (2048 * granules)) no_blocks 0 calls event seed left
   pub either : IsEitherSide (blocks_in granules) calls left
-  pub report : output ≡ crash_text left.call left.side (blocks_of left.heap)
+  pub report : text ≡ crash_text left.call left.side (blocks_of left.heap)
+
+-- The output is the report of a crash of the trace's calls.
+pub record AnswersCrash (input output : List ℕ) (event seed : ℕ) : Type 0 where
+  pub granules : ℕ
+  pub calls : List TraceCall
+  pub trace : IsTrace input granules calls
+  pub report : IsCrashReport granules calls event seed output
 
 -- the trace has one arena, and not the one that is asked for
 pub record LacksArena (input : List ℕ) (asked arena arenas : ℕ) : Type 0 where

@@ -1,18 +1,22 @@
 -- How a run ends: what each status says of the words, the input, the output and the shelf.
-use Rattle.std.specs.Prelude.{◌≡◌, ◌⊎◌, ℕ, List, Option}
+use Rattle.std.specs.Prelude.{◌≡◌, ◌⊎◌, ◌<◌, ℕ, List, Option}
 use Rattle.pmem_lines.specs.Pmem.{PmemState}
+use Rattle.heap_model.specs.Plain.{no_blocks}
+use Rattle.trace_text.specs.declared.call.TraceCall.{TraceCall}
 use Rattle.trace_text.specs.declared.call.Refusal.{Refusal}
 use Rattle.trace_text.specs.declared.call.Refusal.TheVariants.{BadLine, NoArena, NoEvent}
 use Rattle.trace_text.specs.Grammar.{IsRefusedLine}
 use Rattle.trace_text.specs.Report.{refusal_text}
 use Rattle.nvheap.specs.declared.command.Command.{Command}
 use Rattle.nvheap.specs.declared.command.Command.TheVariants as commands
+use Rattle.nvheap.specs.declared.answers.Answer.{Answer}
+use Rattle.nvheap.specs.declared.answers.Answer.TheVariants.{Output, FaultLine}
 use Rattle.nvheap.specs.declared.status.Status.{Status}
 use Rattle.nvheap.specs.declared.status.Status.TheVariants.{Done, Usage, Refused, ReadFault, WriteFault, Memory, TooLong}
 use Rattle.nvheap.specs.Outside.{GivesAll, Takes, TakesFront}
 use Rattle.nvheap.specs.Command.{IsCommand}
-use Rattle.nvheap.specs.Replay.{AnswersReplay}
-use Rattle.nvheap.specs.Crash.{AnswersCrash, LacksArena, LacksEvent}
+use Rattle.nvheap.specs.Replay.{AnswersReplay, blocks_in}
+use Rattle.nvheap.specs.Crash.{AnswersCrash, IsCrashReport, LacksArena, LacksEvent, total_events}
 
 -- the exit code
 abbrev pub code_of : Status → ℕ
@@ -36,6 +40,22 @@ Refuses commands.Replay input (NoArena arena arenas) = ⊥
 Refuses commands.Replay input (NoEvent event events) = ⊥
 Refuses (commands.Crash asked event seed) input (NoArena arena arenas) = LacksArena input asked arena arenas
 Refuses (commands.Crash arena asked seed) input (NoEvent event events) = (arena ≡ 0) × LacksEvent input asked event events
+
+-- what a command has to say of an input: its output, or the line that says why it refuses, at which the shelf stays
+abbrev pub IsAnswer : Command → List ℕ → Option (List (Option PmemState)) → Option (List (Option PmemState)) → Answer → Type 0
+IsAnswer command input old new (Output text) = Answers command input text.items old new
+IsAnswer command input old new (FaultLine text) = (refusal : Refusal) × Refuses command input refusal × (text.items ≡ refusal_text refusal) × (new ≡ old)
+
+-- the line that says why
+abbrev pub IsFaultLine : Refusal → Answer → Type 0
+IsFaultLine refusal (Output text) = ⊥
+IsFaultLine refusal (FaultLine text) = text.items ≡ refusal_text refusal
+
+-- what `crash` has to say of a trace
+abbrev pub IsCrashAnswer : ℕ → List TraceCall → ℕ → ℕ → Answer → Type 0
+IsCrashAnswer granules calls event seed (Output text) = IsCrashReport granules calls event seed text.items
+IsCrashAnswer granules calls event seed (FaultLine text) =
+    let total = total_events (blocks_in granules) no_blocks calls in (total < event) × (text.items ≡ refusal_text (NoEvent event total))
 
 -- Done: the input was read to its end, and the whole output was taken
 pub record IsDone (words : List (List ℕ)) (left left_after taken taken_after : Option (List ℕ)) (places places_after : Option (List (Option PmemState))) : Type 0 where
@@ -86,3 +106,15 @@ IsAside ReadFault = Unit {0}
 IsAside WriteFault = ⊥
 IsAside Memory = Unit {0}
 IsAside TooLong = Unit {0}
+
+-- how a command ends on an input that was read, by what was taken and what stands on the shelf
+abbrev pub RunsOn : Command → List ℕ → Option (List ℕ) → Option (List ℕ) → Option (List (Option PmemState)) → Option (List (Option PmemState)) → Status → Type 0
+RunsOn command input taken taken_after places places_after Done = (output : List ℕ) × Answers command input output places places_after × Takes taken taken_after output
+RunsOn command input taken taken_after places places_after Usage = ⊥
+RunsOn command input taken taken_after places places_after Refused =
+    (refusal : Refusal) × Refuses command input refusal × Takes taken taken_after (refusal_text refusal) × (places_after ≡ places)
+RunsOn command input taken taken_after places places_after ReadFault = ⊥
+RunsOn command input taken taken_after places places_after WriteFault =
+    (text : List ℕ) × (Answers command input text places places_after ⊎ ((refusal : Refusal) × Refuses command input refusal × (text ≡ refusal_text refusal))) × TakesFront taken taken_after text
+RunsOn command input taken taken_after places places_after Memory = (taken_after ≡ taken) × (places_after ≡ places)
+RunsOn command input taken taken_after places places_after TooLong = ⊥

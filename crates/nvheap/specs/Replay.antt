@@ -36,14 +36,17 @@ journal_of blocks heap (call ∷ calls) = entry_of blocks heap call ∷ journal_
 abbrev pub report_text : List Entry → List ℕ
 report_text journal = arena_text 0 journal (blocks_of (heap_behind no_blocks journal))
 
--- place 0 of the shelf has a device that went through the journal: it is quiet, has its heap, and each call began
--- once; the other places stay
-pub record HasReplayed (old new : Option (List (Option PmemState))) (journal : List Entry) : Type 0 where
-  pub device : PmemState
-  pub put : new ≡ put_at old 0 device
+-- a device went through the journal: it is quiet, has its heap, and each call began once
+pub record HasRun (device : PmemState) (journal : List Entry) : Type 0 where
   pub quiet : IsQuiet device.events
   pub heap : plain_heap (words_of device) ≡ heap_behind no_blocks journal
   pub begins : device.begins ≡ length journal
+
+-- place 0 of the shelf has a device that went through the journal; the other places stay
+pub record KeepsRun (old new : Option (List (Option PmemState))) (journal : List Entry) : Type 0 where
+  pub device : PmemState
+  pub put : new ≡ put_at old 0 device
+  pub run : HasRun device journal
 
 -- The output is the report of the trace's journal, and the shelf has its device.
 pub record AnswersReplay (input output : List ℕ) (old new : Option (List (Option PmemState))) : Type 0 where
@@ -51,4 +54,4 @@ pub record AnswersReplay (input output : List ℕ) (old new : Option (List (Opti
   pub calls : List TraceCall
   pub trace : IsTrace input granules calls
   pub report : output ≡ report_text (journal_of (blocks_in granules) no_blocks calls)
-  pub shelf : HasReplayed old new (journal_of (blocks_in granules) no_blocks calls)
+  pub shelf : KeepsRun old new (journal_of (blocks_in granules) no_blocks calls)

@@ -1,6 +1,8 @@
 // The words of the program.
-ghost use Rattle.std.specs.Prelude.{◌≡◌, map, string_bytes, MatchOption};
-ghost use Rattle.nvheap.specs.Command.{IsCommand, IsNoCommand};
+ghost use Rattle.std.specs.Prelude.{◌≡◌, ◌↔◌, IsTrue, map, string_bytes, MatchOption};
+ghost use Rattle.nvheap.specs.Command.{IsCommand, IsNoCommand, IsCrashOf, IsNoCrash};
+
+use trace_text::whole_number;
 
 /// What the words after the program's name ask for.
 #[derive(Clone, Copy, Debug, PartialEq, Eq)]
@@ -9,4 +11,38 @@ pub enum Command {
     Replay,
     /// Run a trace on one arena, from 0 to 15, up to an event, and print the heap that a crash leaves there.
     Crash { arena: u32, event: u64, seed: u64 },
+}
+
+/// The command that the words say, if they say one.
+pub(crate) fn command_of(words: &[String]) -> Option<Command>
+    ensures { MatchOption result (IsNoCommand (map string_bytes words.now)) (IsCommand (map string_bytes words.now)) }
+{
+    if words.len() == 1 && is_word(&words[0], "replay") {
+        return Some(Command::Replay);
+    }
+    if words.len() == 4 && is_word(&words[0], "crash") {
+        return crash_of(words[1].as_bytes(), words[2].as_bytes(), words[3].as_bytes());
+    }
+    None
+}
+
+// The word is this text.
+fn is_word(word: &String, text: &str) -> bool
+    ensures { IsTrue result ↔ (string_bytes word.now ≡ text.now) }
+{
+    word.as_str() == text
+}
+
+// The crash that these three numbers ask for, if they are numbers.
+fn crash_of(arena: &[u8], event: &[u8], seed: &[u8]) -> Option<Command>
+    ensures { MatchOption result (IsNoCrash arena.now event.now seed.now) (IsCrashOf arena.now event.now seed.now) }
+{
+    let arena = whole_number(arena, 15)?;
+    let event = whole_number(event, u64::MAX)?;
+    let seed = whole_number(seed, u64::MAX)?;
+    Some(Command::Crash {
+        arena: arena as u32,
+        event,
+        seed,
+    })
 }

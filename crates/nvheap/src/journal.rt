@@ -5,6 +5,7 @@ ghost use Rattle.pmem_lines.specs.Events.{CrashOnly, IsQuiet};
 ghost use Rattle.pmem_lines.specs.Pmem.{words_of, began, appended, IsZeroed};
 ghost use Rattle.heap_model.specs.Plain.{no_blocks, blocks_of, heap_behind, IsOverlapFree};
 ghost use Rattle.arena_core.specs.Plain.{plain_heap, block_count, malloc_answer, free_answer, IsEitherHeap};
+ghost use Rattle.arena_core.specs.Arena.{IsPlain};
 ghost use Rattle.trace_text.specs.Grammar.{IsAsked};
 ghost use Rattle.nvheap.specs.Replay.{blocks_in, entry_of, events_of, heap_past, journal_of};
 
@@ -13,6 +14,12 @@ use heap_model::{Block, Call, Entry, Reply};
 use pmem_lines::{OutOfMemory, Pmem};
 use std::alloc::Global;
 use trace_text::TraceCall;
+
+/// How many root words there are.
+pub(crate) const ROOTS: u32 = 4096;
+
+/// The byte at which they begin.
+pub(crate) const ROOTS_AT: u32 = 16384;
 
 /// Makes one call of a trace on an arena, and gives its entry.
 #[tactic(auto, unfolding(crate::specs::Replay::entry_of))]
@@ -23,6 +30,8 @@ pub(crate) fn answer<P: Pmem>(arena: &mut PlainArena<P>, call: &TraceCall) -> En
     ensures heap { plain_heap (words_of arena.new) ≡ heap_past (plain_heap (words_of arena.old)) result }
     ensures changed { 0 < length (events_of result) → plain_heap (words_of arena.new) ≢ plain_heap (words_of arena.old) }
     ensures size { length (words_of arena.new) ≡ length (words_of arena.old) }
+    ensures was_plain { IsPlain (words_of arena.old) }
+    ensures plain { IsPlain (words_of arena.new) }
     ensures crash { CrashOnly arena.new.base arena.new.events (IsEitherHeap (plain_heap (words_of arena.old)) (plain_heap (words_of arena.new))) }
 {
     match call.call {

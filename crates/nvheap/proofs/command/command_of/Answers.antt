@@ -1,0 +1,20 @@
+use Rattle.std.proofs.Common.{◌≡◌, ◌∷◌, [], ap, List, ℕ, ◌∙◌, map, codes}
+use Rattle.std.specs.String.{string_bytes}
+use Rattle.nvheap.proofs.Commands.{one_word, four_words, crash_words}
+use Rattle.nvheap.proofs.command.command_of.Goals as goal
+
+pub returns-then-is_word : goal.returns-then-is_word
+returns-then-is_word c =
+    one_word string_bytes c.args.words.now c.index-words-0.result c.if-words-eq1.true c.index-words-0.is
+    ∙ ap (λ (word : List ℕ). word ∷ []) (c.is_word.ensures.0 c.if-is_word.true)
+
+pub returns-then-is_word-2 : goal.returns-then-is_word-2
+returns-then-is_word-2 c =
+    let first = c.as_bytes.ensures.value in
+    let second = c.as_bytes-then-is_word-2.ensures.value in
+    let third = c.as_bytes-then-is_word-2-2.ensures.value in
+    let whole = four_words string_bytes c.args.words.now c.index-words-0-then-words-eq4.result c.index-words-1.result c.index-words-2.result c.index-words-3.result
+    c.if-words-eq4.true c.index-words-0-then-words-eq4.is c.index-words-1.is c.index-words-2.is c.index-words-3.is in
+    let said : string_bytes c.index-words-0-then-words-eq4.result ≡ codes "crash" = c.is_word-then-words-eq4.ensures.0 c.if-is_word-2.true in
+    crash_words (map string_bytes c.args.words.now) c.as_bytes.result.now c.as_bytes-then-is_word-2.result.now c.as_bytes-then-is_word-2-2.result.now c.crash_of.result
+    (cc (whole, said, first, second, third)) c.crash_of.ensures
