@@ -7,7 +7,8 @@ ghost use Rattle.durable_steps.specs.Rows.{IsOldOrNewRow, stores_at, flushes_of,
 
 use pmem_lines::Pmem;
 
-/// Stores words one after another from an address on, an event for each. None of them is durable by that.
+/// Stores words one after another from an address on, an event for each. None of them is durable by that. The words end
+/// below 2^32 bytes.
 pub fn store_words<P: Pmem>(device: &mut P, from: u32, words: &[u64])
     requires aligned { from % 8 ≡ 0 }
     requires inside { from + 8 * length words.now ≤ 8 * length (words_of (P.state device.old)) }
@@ -35,9 +36,9 @@ pub fn flush_lines<P: Pmem>(device: &mut P, first: u32, count: u32)
     }
 }
 
-/// Stores words one after another from an address on and makes them durable under one fence: an event for each word, one
-/// for each line that they touch, and the fence. After a crash within them each word of the row is old or new, in any
-/// combination, and every other word is as before.
+/// Stores words one after another from an address on, at least one, and makes them durable under one fence: an event for
+/// each word, one for each line that they touch, and the fence. The words end below 2^32 bytes. After a crash within
+/// them each word of the row is old or new, and every other word is as before.
 pub fn write_row<P: Pmem>(device: &mut P, from: u32, words: &[u64])
     requires aligned { from % 8 ≡ 0 }
     requires inside { from + 8 * length words.now ≤ 8 * length (words_of (P.state device.old)) }
