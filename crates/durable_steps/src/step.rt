@@ -23,8 +23,8 @@ pub fn write_word<P: Pmem>(device: &mut P, at: u32, value: u64)
 }
 
 /// Stores a word and then another, and makes both durable under one fence, in five events: store and flush of the
-/// first, store and flush of the second, fence. After a crash within them each of the two is old or new, also the
-/// second alone, and every other word is as before. Where both are one word, it ends with the second value.
+/// first, store and flush of the second, fence. After a crash within them each of the two is old or new, and every other
+/// word is as before: the second may be new without the first. Where both are one word, it ends with the second value.
 pub fn write_pair<P: Pmem>(device: &mut P, first: u32, a: u64, second: u32, b: u64)
     requires first { IsPlace (P.state device.old) first }
     requires second { IsPlace (P.state device.old) second }
