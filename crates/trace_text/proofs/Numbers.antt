@@ -1,5 +1,5 @@
 -- Numbers at the front of a text, and that a text has one at most.
-use Rattle.std.proofs.Common.{◌≡◌, ◌≢◌, ℕ, zero, suc, ◌+◌, ◌*◌, ◌-◌, ◌<◌, ◌≤◌, ◌^◌, List, [], ◌∷◌, ◌++◌, length, take, drop, get_or, refl, sym, ◌∙◌, ap, subst, arith}
+use Rattle.std.proofs.Common.{◌≡◌, ℕ, zero, suc, ◌+◌, ◌*◌, ◌-◌, ◌<◌, ◌≤◌, ◌^◌, List, [], ◌∷◌, ◌++◌, length, take, drop, get_or, refl, sym, ◌∙◌, ap, subst, arith}
 use Rattle.std.specs.Prelude.{decimal}
 use Rattle.std.specs.Char.{digit_value}
 use Rattle.std.specs.Int.{IsInRange}
@@ -107,12 +107,12 @@ no_number_padded text value many has long padded (suc n) rest is =
     omega (arith, first, first_decimal (suc n) (omega arith) is.fits)
 
 -- other digits are the number that they write
-pub number_from_digits : (text : List ℕ) (value many : ℕ) → HasDigits text value many → value < 2 ^ 64 → 0 < many → (1 < many → get_or text 0 0 ≢ 48) → IsNumberThen text value (take (length text - many) (drop many text))
+pub number_from_digits : (text : List ℕ) (value many : ℕ) → HasDigits text value many → value < 2 ^ 64 → 0 < many → ¬ ((1 < many) × (get_or text 0 0 ≡ 48)) → IsNumberThen text value (take (length text - many) (drop many text))
 number_from_digits text value many has fits some plain =
     let ds = take many text in
     let long = length-take-le many text has.within in
     let first = get_or-take many text 0 0 some in
-    let alone : get_or ds 0 0 ≡ 48 → length ds ≡ 1 = λ z. let not_long : ¬ (1 < many) = λ more. plain more (sym first ∙ z) in omega (arith, long, not_long) in
+    let alone : get_or ds 0 0 ≡ 48 → length ds ≡ 1 = λ z. let not_long : ¬ (1 < many) = λ more. plain (more, sym first ∙ z) in omega (arith, long, not_long) in
     let is = decimal-digits_value (numerals_by_value (AllDigits 10) tells_digits) ds has.digits (omega (arith, long)) alone (omega (arith, has.writes)) in
     let rest : take (length text - many) (drop many text) ≡ drop many text = take_rest text many in
     record {

@@ -2,7 +2,8 @@
 //
 // What the text of a trace means stands in `specs/Grammar.antt`, what is printed in `specs/Report.antt`: definitions on
 // lists of bytes that share the text of a call. The layers above know `read_trace` (the grammar, with the first line
-// outside it) and the writers (exactly the text, behind what stood there).
+// outside it), the writers (exactly the text, behind what stood there) and the laws of the grammar: a text says one
+// trace, or has one refused line, and never both. Both directions are one pass, with no memory taken for a line.
 #![tactic(auto)]
 
 mod call;

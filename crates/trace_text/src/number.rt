@@ -1,5 +1,5 @@
 // Numbers in a line: decimal, without a sign and without leading zeros.
-ghost use Rattle.std.specs.Prelude.{◌≡◌, ◌≢◌, ℕ, List, ◌+◌, ◌*◌, ◌^◌, ◌<◌, ◌≤◌, ◌∷◌, ◌++◌, decimal, MatchOption, SomeIff};
+ghost use Rattle.std.specs.Prelude.{◌≡◌, ◌≢◌, ◌↔◌, ℕ, List, ◌+◌, ◌*◌, ◌^◌, ◌<◌, ◌≤◌, ◌∷◌, ◌++◌, length, slice_index, decimal, IsTrue, MatchOption, SomeIff};
 ghost use Rattle.trace_text.specs.Numbers.{HasDigits, HasTooManyDigits, IsNumberThen};
 
 /// A number with one more digit; none where 64 bits are too few.
@@ -27,6 +27,14 @@ fn read_digits(text: &[u8]) -> Option<(u64, usize)>
     Some((value, text.len()))
 }
 
+/// Whether these many digits at the front of a text begin with a zero that a number does without.
+fn is_padded(text: &[u8], many: usize) -> bool
+    requires { many ≤ length text.now }
+    ensures { IsTrue result ↔ ((1 < many) × (slice_index text.now 0 ≡ 48)) }
+{
+    many > 1 && text[0] == b'0'
+}
+
 /// The number of 64 bits at the front of a text, and what follows it; none where there is no such number.
 fn read_number(text: &[u8]) -> Option<(u64, &[u8])>
     ensures { MatchOption result ((number : ℕ) (rest : List ℕ) → ¬ (IsNumberThen text.now number rest)) (λ found. IsNumberThen text.now found.0 found.1.now) }
@@ -35,7 +43,7 @@ fn read_number(text: &[u8]) -> Option<(u64, &[u8])>
     if many == 0 {
         return None;
     }
-    if many > 1 && text[0] == b'0' {
+    if is_padded(text, many) {
         return None;
     }
     Some((number, &text[many..]))

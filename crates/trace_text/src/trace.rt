@@ -1,5 +1,5 @@
 // Traces, read from their text.
-ghost use Rattle.std.specs.Prelude.{◌≡◌, ◌+◌, ◌<◌, ◌≤◌, ◌^◌, ◌∷◌, length, vec_len, IfOk, IfErr, MatchResult};
+ghost use Rattle.std.specs.Prelude.{◌≡◌, ◌+◌, ◌<◌, ◌≤◌, ◌^◌, ◌∷◌, length, IfOk, IfErr, MatchResult};
 ghost use Rattle.std.specs.List.{All};
 ghost use Rattle.trace_text.specs.Grammar.{lines_of, AreCalls, IsAsked, IsTrace, IsRefusedLine, IfBadLine};
 ghost use Rattle.trace_text.specs.Lines.{IsBehindPool, IsRefusedCall};

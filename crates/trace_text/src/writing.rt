@@ -5,7 +5,7 @@ ghost use Rattle.trace_text.specs.Fronts.{BeginsWith};
 use itoa::Buffer;
 use pmem_lines::OutOfMemory;
 
-/// Writes these bytes. What stood there stays, and on an error nothing changes.
+/// Writes these bytes. What stood there stays.
 pub(crate) fn write_bytes(out: &mut Vec<u8>, bytes: &[u8]) -> Result<(), OutOfMemory>
     ensures text { OnOk result (out.new.items ≡ out.old.items ++ bytes.now) }
     ensures kept { OnErr result (BeginsWith out.new.items out.old.items) }
