@@ -4,6 +4,7 @@ use Rattle.std.specs.Bool.{MatchBool}
 use Rattle.pmem_lines.specs.declared.event.Event.{Event}
 use Rattle.pmem_lines.specs.Events.{reading}
 use Rattle.pmem_lines.specs.Picks.{picked_image}
+use Rattle.pmem_lines.specs.Pmem.{PmemState, words_of}
 use Rattle.pmem_lines.specs.Words.{zeros}
 use Rattle.heap_model.specs.Plain.{heap_behind, no_blocks, blocks_of}
 use Rattle.arena_core.specs.Plain.{plain_heap}
@@ -51,6 +52,12 @@ pub record IsLeftWithin (words before after : List ℕ) (events : List Event) (n
   pub call : left.call ≡ number
   pub heap : left.heap ≡ plain_heap (crash_image words events event seed)
   pub side : IsSide before after left.heap left.side
+
+-- the text reports a crash within the call that a device went through last
+pub record IsReportWithin (device : PmemState) (number done seed : ℕ) (text : List ℕ) : Type 0 where
+  pub left : CrashLeft
+  pub within : IsLeftWithin device.base (plain_heap device.base) (plain_heap (words_of device)) device.events number done seed left
+  pub report : text ≡ crash_text left.call left.side (blocks_of left.heap)
 
 -- with no call under way, no event is done
 pub record IsLeftIdle (heap : List ℕ) (event : ℕ) (left : CrashLeft) : Type 0 where

@@ -7,14 +7,13 @@ ghost use Rattle.nvheap.specs.declared.command.Command.TheVariants as commands;
 ghost use Rattle.nvheap.specs.Ends.{IsAnswer, IsCrashAnswer, IsFaultLine};
 
 use crate::command::Command;
-use crate::crash::{Sought, crash_within, seek};
-use crate::journal::{ROOTS, ROOTS_AT, blocks_of_roots};
+use crate::crash::{Sought, report_idle, report_within, seek};
 use crate::replay::replay;
 use crate::shelf::Shelf;
 use arena_core::PlainArena;
-use pmem_lines::{OutOfMemory, Pmem, SimPmem};
+use pmem_lines::{OutOfMemory, SimPmem};
 use std::alloc::Global;
-use trace_text::{CrashSide, Refusal, Trace, TraceFault, read_trace, write_crash, write_refusal};
+use trace_text::{Refusal, Trace, TraceFault, read_trace, write_refusal};
 
 const GRANULE_LINES: u32 = 256;
 const ROOM: u32 = 2048;
@@ -105,21 +104,19 @@ fn crash_of_trace(
 {
     let device = SimPmem::zeroed(alloc, GRANULE_LINES * trace.granules, ROOM)?;
     let mut arena = PlainArena::new(device);
-    let mut text = Vec::new(alloc);
     match seek(&mut arena, &trace.calls, event) {
         Sought::UnderWay { number, done } => {
-            let left = crash_within(alloc, arena.pmem(), done, seed)?;
-            write_crash(&mut text, number, left.side, &left.blocks)?;
+            let text = report_within(alloc, arena.pmem(), number, done, seed)?;
+            Ok(Answer::Output(text))
         }
         Sought::Past { events } => {
             if event > events {
                 return fault_line(alloc, Refusal::NoEvent { event, events });
             }
-            let blocks = blocks_of_roots(alloc, arena.pmem().words(ROOTS_AT, ROOTS))?;
-            write_crash(&mut text, 0, CrashSide::Same, &blocks)?;
+            let text = report_idle(alloc, arena.pmem())?;
+            Ok(Answer::Output(text))
         }
     }
-    Ok(Answer::Output(text))
 }
 
 // One line that says why an input is refused.

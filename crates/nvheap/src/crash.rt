@@ -7,7 +7,8 @@ ghost use Rattle.heap_model.specs.Plain.{blocks_of, no_blocks};
 ghost use Rattle.arena_core.specs.Plain.{plain_heap, block_count, IsEitherHeap};
 ghost use Rattle.arena_core.specs.Arena.{IsPlain};
 ghost use Rattle.trace_text.specs.Grammar.{IsAsked};
-ghost use Rattle.nvheap.specs.Crash.{crash_image, IsSide, IsSideBy};
+ghost use Rattle.trace_text.specs.Report.{crash_text};
+ghost use Rattle.nvheap.specs.Crash.{crash_image, IsSide, IsSideBy, IsReportWithin};
 ghost use Rattle.nvheap.specs.Seek.{IsSought};
 
 use crate::journal::{ROOTS, ROOTS_AT, answer, blocks_of_roots};
@@ -17,7 +18,7 @@ use pmem_lines::{OutOfMemory, Pmem, SimPmem};
 use rand_core::SeedableRng;
 use rand_xoshiro::SplitMix64;
 use std::alloc::Global;
-use trace_text::{CrashSide, TraceCall};
+use trace_text::{CrashSide, TraceCall, write_crash};
 
 /// Where an event of the calls lies.
 #[derive(Drop)]
@@ -28,11 +29,11 @@ pub(crate) enum Sought {
     Past { events: u64 },
 }
 
-/// What a crash within a call left: on which side of the call the heap stands, and its blocks.
+// What a crash within a call left: on which side of the call the heap stands, and its blocks.
 #[derive(Drop)]
-pub(crate) struct Left {
-    pub(crate) side: CrashSide,
-    pub(crate) blocks: Vec<Block>,
+struct Left {
+    side: CrashSide,
+    blocks: Vec<Block>,
 }
 
 /// Makes calls in order up to and with the one that is under way at an event, counted over all calls.
@@ -57,9 +58,42 @@ pub(crate) fn seek(arena: &mut PlainArena<SimPmem>, calls: &[TraceCall], event: 
     Sought::Past { events }
 }
 
-/// What a crash leaves after the first events of the call that a device went through last, as a generator from the
-/// seed picks.
-pub(crate) fn crash_within(
+/// The report of a crash after the first events of the call that a device went through last, as a generator from the
+/// seed picks; the call has this number.
+pub(crate) fn report_within(
+    alloc: Global,
+    device: &SimPmem,
+    number: u64,
+    done: u32,
+    seed: u64,
+) -> Result<Vec<u8>, OutOfMemory>
+    requires within { done ≤ length device.now.events }
+    requires before { IsPlain device.now.base }
+    requires after { IsPlain (words_of device.now) }
+    requires changed { plain_heap (words_of device.now) ≢ plain_heap device.now.base }
+    requires crash { CrashOnly device.now.base device.now.events (IsEitherHeap (plain_heap device.now.base) (plain_heap (words_of device.now))) }
+    ensures { IfOk result (λ text. IsReportWithin device.now number done seed text.items) }
+{
+    let left = crash_within(alloc, device, done, seed)?;
+    let mut text = Vec::new(alloc);
+    write_crash(&mut text, number, left.side, &left.blocks)?;
+    Ok(text)
+}
+
+/// The report of a crash with no call under way: the heap is the device's.
+pub(crate) fn report_idle(alloc: Global, device: &SimPmem) -> Result<Vec<u8>, OutOfMemory>
+    requires { IsPlain (words_of device.now) }
+    ensures { IfOk result (λ text. text.items ≡ crash_text 0 CrashSide.Same (blocks_of (plain_heap (words_of device.now)))) }
+{
+    let blocks = blocks_of_roots(alloc, device.words(ROOTS_AT, ROOTS))?;
+    let mut text = Vec::new(alloc);
+    write_crash(&mut text, 0, CrashSide::Same, &blocks)?;
+    Ok(text)
+}
+
+// What a crash leaves after the first events of the call that a device went through last, as a generator from the
+// seed picks.
+fn crash_within(
     alloc: Global,
     device: &SimPmem,
     done: u32,

@@ -1,0 +1,32 @@
+use Rattle.std.proofs.Common.{List, Option, ℕ, subst, sym, arith, refl, ◌≡◌}
+use Rattle.pmem_lines.specs.Pmem.{PmemState}
+use Rattle.trace_text.specs.declared.call.Refusal.TheVariants.{BadLine, NoArena}
+use Rattle.nvheap.specs.declared.command.Command.TheVariants.{Crash}
+use Rattle.nvheap.specs.declared.answers.Answer.{Answer}
+use Rattle.nvheap.specs.Ends.{IsAnswer, IsFaultLine, IsCrashAnswer}
+use Rattle.nvheap.proofs.Answering.{IfOk-more, IsAnswer-refused, IsAnswer-crash}
+use Rattle.nvheap.proofs.answers.crash_answer.Goals as goal
+
+pub returns-in-Err-BadLine : goal.returns-in-Err-BadLine
+returns-in-Err-BadLine c =
+    let command = Crash c.args.arena c.args.event c.args.seed in
+    IfOk-more c.fault_line.result (IsFaultLine (BadLine c.in-Err-BadLine.line)) (λ answer. (places : Option (List (Option PmemState))) → IsAnswer command c.args.input.now places places answer)
+    (λ answer line places. IsAnswer-refused command c.args.input.now places (BadLine c.in-Err-BadLine.line) answer (rw c.in-Err-BadLine.field-0-is at c.in-Err-BadLine.ensures.refused) line) c.fault_line.ensures
+
+pub returns-then-arena-gt0 : goal.returns-then-arena-gt0
+returns-then-arena-gt0 c =
+    let command = Crash c.args.arena c.args.event c.args.seed in
+    let refusal = NoArena c.from.result 1 in
+    IfOk-more c.fault_line-then-arena-gt0.result (IsFaultLine refusal) (λ answer. (places : Option (List (Option PmemState))) → IsAnswer command c.args.input.now places places answer)
+    (λ answer line places. IsAnswer-refused command c.args.input.now places refusal answer
+    (record { granules = c.in-Ok.trace.granules; calls = c.in-Ok.trace.calls.items; trace = c.in-Ok.ensures.trace; is_asked = c.from.ensures; is_all = refl; lacks = c.if-arena-gt0.true }) line)
+    c.fault_line-then-arena-gt0.ensures
+
+pub returns : goal.returns
+returns c =
+    let first : 0 ≡ c.args.arena = omega arith in
+    IfOk-more c.crash_of_trace.result (IsCrashAnswer c.in-Ok.trace.granules c.in-Ok.trace.calls.items c.args.event c.args.seed)
+    (λ answer. (places : Option (List (Option PmemState))) → IsAnswer (Crash c.args.arena c.args.event c.args.seed) c.args.input.now places places answer)
+    (λ answer says places. subst (λ (arena : ℕ). IsAnswer (Crash arena c.args.event c.args.seed) c.args.input.now places places answer) first
+    (IsAnswer-crash c.args.input.now places c.in-Ok.trace.granules c.in-Ok.trace.calls.items c.args.event c.args.seed answer c.in-Ok.ensures.trace says))
+    c.crash_of_trace.ensures
