@@ -1,0 +1,26 @@
+-- What every row of the table of versions keeps.
+use Rattle.std.proofs.Common.{◌≡◌, ◌+◌, ◌*◌, ◌/◌, ℕ, refl, ap, arith}
+use Rattle.pool_layout.specs.declared.layout.Layout.{Layout}
+use Rattle.pool_layout.specs.Layout.{layout_of, IsLayout}
+
+pub layout_rules : (version : ℕ) → IsLayout (layout_of version)
+unfolding layout_of
+layout_rules version = record {
+  some_root = omega arith;
+  roots = omega arith;
+  log = refl;
+  chunk = refl;
+  some_entry = omega arith;
+  lines = refl;
+  heap = refl;
+  some_granule = omega arith;
+  range = omega arith;
+  most = omega arith;
+}
+
+-- the first byte of a chunk, of any row
+pub chunk_byte : (layout : Layout) (chunk : ℕ) → IsLayout layout → layout.log_at + layout.chunk_bytes * chunk ≡ 8 * (layout.log_at / 8 + layout.chunk_bytes / 8 * chunk)
+chunk_byte layout chunk rules =
+    let words : layout.chunk_bytes ≡ 8 * (layout.chunk_bytes / 8) = omega (arith, rules.chunk) in
+    let log : layout.log_at ≡ 8 * (layout.log_at / 8) = omega (arith, rules.log) in
+    omega (arith, log, ap (λ n. n * chunk) words)

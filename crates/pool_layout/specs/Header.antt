@@ -1,0 +1,72 @@
+-- The header line of an arena.
+use Rattle.std.specs.Prelude.{◌≡◌, ◌≢◌, ◌⊎◌, ℕ, ◌+◌, ◌*◌, ◌/◌, ◌%◌, ◌^◌, ◌<◌, ◌≤◌, List, length, codes}
+use Rattle.std.specs.Int.{from_le_bytes, w64}
+use Rattle.pmem_lines.specs.Words.{word_at}
+use Rattle.pool_layout.specs.declared.header.PoolHeader.{PoolHeader}
+use Rattle.pool_layout.specs.declared.defect.Defect.{Defect}
+use Rattle.pool_layout.specs.declared.defect.Defect.TheVariants.{BadLength, BadHeader}
+use Rattle.pool_layout.specs.Layout.{layout_of, IsVersion}
+use Rattle.pool_layout.specs.Places.{text_word, fields_word}
+
+-- the word that stands in the image as this text
+unfoldable pub header_text : ℕ
+header_text = from_le_bytes w64 (codes "NVALLOG1")
+
+-- the fields of the second word
+abbrev pub version_of : ℕ → ℕ
+version_of word = word % 2 ^ 16
+
+abbrev pub number_of : ℕ → ℕ
+number_of word = word / 2 ^ 16 % 2 ^ 16
+
+abbrev pub granules_of : ℕ → ℕ
+granules_of word = word / 2 ^ 32 % 2 ^ 16
+
+abbrev pub arenas_of : ℕ → ℕ
+arenas_of word = word / 2 ^ 48 % 2 ^ 16
+
+-- the version and the granules of the arena whose words these are
+abbrev pub version_in : List ℕ → ℕ
+version_in words = version_of (word_at words fields_word)
+
+abbrev pub granules_in : List ℕ → ℕ
+granules_in words = granules_of (word_at words fields_word)
+
+-- what the second word says
+abbrev pub fields_of : ℕ → PoolHeader
+fields_of word = record { version = version_of word; number = number_of word; arenas = arenas_of word; granules = granules_of word }
+
+-- the second word that says it
+abbrev pub header_word : PoolHeader → ℕ
+header_word header = header.version + 2 ^ 16 * header.number + 2 ^ 32 * header.granules + 2 ^ 48 * header.arenas
+
+-- the fields fit the word
+pub record FitsWord (header : PoolHeader) : Type 0 where
+  pub version : header.version < 2 ^ 16
+  pub number : header.number < 2 ^ 16
+  pub arenas : header.arenas < 2 ^ 16
+  pub granules : header.granules < 2 ^ 16
+
+-- a pool may have this header
+pub record IsPoolHeader (header : PoolHeader) : Type 0 where
+  pub version : IsVersion header.version
+  pub some : 1 ≤ header.arenas
+  pub most : header.arenas ≤ 16
+  pub number : header.number < header.arenas
+  pub least : (layout_of header.version).least_granules ≤ header.granules
+  pub greatest : header.granules ≤ (layout_of header.version).most_granules
+
+-- the words begin with the header line that says it
+pub record IsHeader (words : List ℕ) (header : PoolHeader) : Type 0 where
+  pub whole : 8 ≤ length words
+  pub text : word_at words text_word ≡ header_text
+  pub word : word_at words fields_word ≡ header_word header
+  pub valid : IsPoolHeader header
+
+-- the words do not begin with a header line, and this is the first defect
+abbrev pub IsHeaderDefect : List ℕ → Defect → Type 0
+IsHeaderDefect words defect =
+    ((length words < 8) × (defect ≡ BadLength (8 * length words) 64))
+    ⊎ (((8 ≤ length words) × (word_at words text_word ≢ header_text) × (defect ≡ BadHeader text_word (word_at words text_word)))
+    ⊎ ((8 ≤ length words) × (word_at words text_word ≡ header_text) × ((header : PoolHeader) → word_at words fields_word ≡ header_word header → ¬ (IsPoolHeader header))
+    × (defect ≡ BadHeader fields_word (word_at words fields_word))))

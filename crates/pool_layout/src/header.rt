@@ -1,0 +1,126 @@
+// The header line of an arena.
+
+ghost use Rattle.std.specs.Prelude.{◌≡◌, ◌↔◌, IsTrue, IfOk, IfErr};
+ghost use Rattle.pool_layout.specs.Header.{header_text, header_word, fields_of, FitsWord, IsPoolHeader, IsHeader, IsHeaderDefect};
+
+use crate::{Defect, is_version, layout_of};
+
+/// What the header line of an arena says: the version of the layout, the arena's number, how many arenas the pool has,
+/// and how many granules of 16384 bytes this one has.
+#[derive(Clone, Copy, Debug, PartialEq, Eq)]
+pub struct PoolHeader {
+    pub version: u32,
+    pub number: u32,
+    pub arenas: u32,
+    pub granules: u32,
+}
+
+/// The first word of the header line: the text `NVALLOG1`, as it stands in the image.
+pub fn header_text() -> u64
+    ensures { result ≡ header_text }
+{
+    u64::from_le_bytes(*b"NVALLOG1")
+}
+
+/// The second word of the header line.
+pub fn header_word(header: &PoolHeader) -> u64
+    requires { FitsWord header.now }
+    ensures word { result ≡ header_word header.now }
+    ensures inverse { fields_of result ≡ header.now }
+{
+    let low = u64::from(header.version) + (u64::from(header.number) << 16);
+    low + (u64::from(header.granules) << 32) + (u64::from(header.arenas) << 48)
+}
+
+// What the second word of a header line says.
+fn fields_of(word: u64) -> PoolHeader
+    ensures fields { result ≡ fields_of word }
+    ensures inverse { header_word result ≡ word }
+{
+    PoolHeader {
+        version: (word % 65536) as u32,
+        number: ((word >> 16) % 65536) as u32,
+        arenas: ((word >> 48) % 65536) as u32,
+        granules: ((word >> 32) % 65536) as u32,
+    }
+}
+
+// A pool may have this header.
+fn is_pool_header(header: &PoolHeader) -> bool
+    ensures { IsTrue result ↔ IsPoolHeader header.now }
+{
+    if !is_version(header.version)
+        || header.arenas < 1
+        || header.arenas > 16
+        || header.number >= header.arenas
+    {
+        return false;
+    }
+    let layout = layout_of(header.version);
+    layout.least_granules <= header.granules && header.granules <= layout.most_granules
+}
+
+/// Reads the header line that the words of an arena or a pool begin with. BadLength comes exactly where there are fewer
+/// than eight words; then BadHeader names the first word of the line that is not of the format, and the word.
+pub fn header_of(words: &[u64]) -> Result<PoolHeader, Defect>
+    ensures header { IfOk result (IsHeader words.now) }
+    ensures defect { IfErr result (IsHeaderDefect words.now) }
+{
+    if words.len() < 8 {
+        return Err(Defect::BadLength {
+            have: 8 * words.len() as u64,
+            need: 64,
+        });
+    }
+    if words[0] != header_text() {
+        return Err(Defect::BadHeader {
+            word: 0,
+            value: words[0],
+        });
+    }
+    let header = fields_of(words[1]);
+    if !is_pool_header(&header) {
+        return Err(Defect::BadHeader {
+            word: 1,
+            value: words[1],
+        });
+    }
+    Ok(header)
+}
+
+#[cfg(test)]
+mod tests {
+    use super::*;
+
+    #[test]
+    fn headers_of_images(rt: HostRuntime) {
+        let mut words = [0; 8];
+        assert_eq!(rt;
+            header_of(&words[..0]),
+            Err(Defect::BadLength { have: 0, need: 64 })
+        );
+        assert_eq!(rt;
+            header_of(&words),
+            Err(Defect::BadHeader { word: 0, value: 0 })
+        );
+        words[0] = 3550894020320384590;
+        words[1] = 281543696187393;
+        assert_eq!(rt;
+            header_of(&words),
+            Ok(PoolHeader {
+                version: 1,
+                number: 0,
+                arenas: 1,
+                granules: 16
+            })
+        );
+        words[1] = 281543696187395;
+        assert_eq!(rt;
+            header_of(&words),
+            Err(Defect::BadHeader {
+                word: 1,
+                value: 281543696187395
+            })
+        );
+    }
+}

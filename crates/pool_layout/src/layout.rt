@@ -1,0 +1,51 @@
+// The numbers that depend on the version of a pool.
+
+ghost use Rattle.std.specs.Prelude.{◌≡◌, ◌↔◌, IsTrue};
+ghost use Rattle.pool_layout.specs.Layout.{layout_of, IsVersion, IsLayout};
+
+/// The numbers of one version of the layout. Places are in bytes from the arena's first one.
+#[derive(Clone, Copy, Debug, PartialEq, Eq)]
+pub struct Layout {
+    /// How many root words there are.
+    pub roots: u32,
+    /// Where the log begins.
+    pub log_at: u32,
+    /// The bytes of a chunk of the log, of which there are 16.
+    pub chunk_bytes: u32,
+    /// The entries of a chunk.
+    pub chunk_entries: u32,
+    /// The granule that the heap begins with.
+    pub first_granule: u32,
+    /// The least number of granules of an arena.
+    pub least_granules: u32,
+    /// The greatest number of granules of an arena.
+    pub most_granules: u32,
+    /// How many events a device must have room for.
+    pub room: u32,
+}
+
+const VERSION_1: Layout = Layout {
+    roots: 4096,
+    log_at: 49152,
+    chunk_bytes: 1024,
+    chunk_entries: 120,
+    first_granule: 4,
+    least_granules: 16,
+    most_granules: 1024,
+    room: 2048,
+};
+
+/// A pool may have this version.
+pub fn is_version(version: u32) -> bool
+    ensures { IsTrue result ↔ IsVersion version }
+{
+    version == 1
+}
+
+/// The row of the table for this version. A version that no pool has is read as the first.
+pub fn layout_of(_version: u32) -> Layout
+    ensures row { result ≡ layout_of _version }
+    ensures rules { IsLayout result }
+{
+    VERSION_1
+}
