@@ -24,9 +24,13 @@ wal_word line = 64 + 8 * line
 abbrev pub entry_lines : ℕ → ℕ
 entry_lines version = (layout_of version).chunk_entries / 8
 
+-- the first word of the log
+abbrev pub log_word : ℕ → ℕ
+log_word version = (layout_of version).log_at / 8
+
 -- the first word of a chunk of the log
 abbrev pub chunk_word : ℕ → ℕ → ℕ
-chunk_word version chunk = (layout_of version).log_at / 8 + (layout_of version).chunk_bytes / 8 * chunk
+chunk_word version chunk = log_word version + (layout_of version).chunk_bytes / 8 * chunk
 
 -- the word of an entry in its chunk: entries that are neighbours lie in different lines
 abbrev pub entry_place : ℕ → ℕ → ℕ
