@@ -1,7 +1,9 @@
 // The bookkeeping log: entries that say which extents live.
 //
-// An entry is one word. `specs/Entry.antt` has the words of entries and which entries a heap may have; what an entry
-// says of the table of live extents is in the words of `image_tables`.
+// An entry is one word. `specs/Entry.antt` has the words of entries and which entries a heap may have;
+// `specs/Log.antt` has when the log of an arena is well formed, where its next entry goes, and what an entry changes
+// of the table of live extents of `image_tables`. The layers above use the entry of a word, and live extents before
+// and after an append.
 #![tactic(auto)]
 
 mod entry;

@@ -7,7 +7,7 @@ use Rattle.pmem_lines.specs.Words.{word_at, put_word}
 use Rattle.pmem_lines.proofs.Words.{word_at-put_same, word_at-put_other}
 use Rattle.pool_layout.specs.Layout.{layout_of}
 use Rattle.pool_layout.specs.Places.{fields_word, directory_word, log_word, entry_word, heap_word}
-use Rattle.pool_layout.specs.Header.{version_of, version_in}
+use Rattle.pool_layout.specs.Header.{version_field, version_in}
 use Rattle.image_tables.specs.Log.{active_chunks, chunk_log, log_of}
 use Rattle.image_tables.proofs.Chunks.{entries_below-same, entries_below-put, few_chunks, flat_map-same}
 use Rattle.image_tables.proofs.Places.{log_word-low, entry_word-low, entry_word-high, entry_word-same}
@@ -30,7 +30,7 @@ pub record SameLog (words new : List ℕ) : Type 0 where
 pub log_of-same : (words new : List ℕ) → SameLog words new → log_of new ≡ log_of words
 unfolding log_of
 log_of-same words new same =
-    ap (λ w. flat_map (chunk_log (version_of w) new) (active_chunks (word_at new directory_word))) same.fields
+    ap (λ w. flat_map (chunk_log (version_field w) new) (active_chunks (word_at new directory_word))) same.fields
     ∙ ap (λ w. flat_map (chunk_log (version_in words) new) (active_chunks w)) same.directory
     ∙ flat_map-same (chunk_log (version_in words) words) (chunk_log (version_in words) new) (active_chunks (word_at words directory_word))
     (All-weaker (SameChunk (version_in words) words new) (λ c. chunk_log (version_in words) new c ≡ chunk_log (version_in words) words c)
@@ -104,7 +104,7 @@ log_of-appended words before chunk entry v front some =
     (word_at-put_same words k k v refl front.inside)
     (λ e below apart. other (entry_word version chunk e) (λ same. apart (entry_word-same version chunk chunk e entry below front.below same).1))
     front.free in
-    ap (λ w. flat_map (chunk_log (version_of w) new) (active_chunks (word_at new directory_word))) fields
+    ap (λ w. flat_map (chunk_log (version_field w) new) (active_chunks (word_at new directory_word))) fields
     ∙ ap (λ w. flat_map (chunk_log version new) (active_chunks w)) directory
     ∙ ap (flat_map (chunk_log version new)) front.chunks
     ∙ flat_map-append (chunk_log version new) before (chunk ∷ [])

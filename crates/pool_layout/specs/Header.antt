@@ -13,28 +13,28 @@ unfoldable pub header_text : ℕ
 header_text = from_le_bytes w64 (codes "NVALLOG1")
 
 -- the fields of the second word
-abbrev pub version_of : ℕ → ℕ
-version_of word = word % 2 ^ 16
+abbrev pub version_field : ℕ → ℕ
+version_field word = word % 2 ^ 16
 
-abbrev pub number_of : ℕ → ℕ
-number_of word = word / 2 ^ 16 % 2 ^ 16
+abbrev pub number_field : ℕ → ℕ
+number_field word = word / 2 ^ 16 % 2 ^ 16
 
-abbrev pub granules_of : ℕ → ℕ
-granules_of word = word / 2 ^ 32 % 2 ^ 16
+abbrev pub granules_field : ℕ → ℕ
+granules_field word = word / 2 ^ 32 % 2 ^ 16
 
-abbrev pub arenas_of : ℕ → ℕ
-arenas_of word = word / 2 ^ 48 % 2 ^ 16
+abbrev pub arenas_field : ℕ → ℕ
+arenas_field word = word / 2 ^ 48 % 2 ^ 16
 
 -- the version and the granules of the arena whose words these are
 abbrev pub version_in : List ℕ → ℕ
-version_in words = version_of (word_at words fields_word)
+version_in words = version_field (word_at words fields_word)
 
 abbrev pub granules_in : List ℕ → ℕ
-granules_in words = granules_of (word_at words fields_word)
+granules_in words = granules_field (word_at words fields_word)
 
 -- what the second word says
 abbrev pub fields_of : ℕ → PoolHeader
-fields_of word = record { version = version_of word; number = number_of word; arenas = arenas_of word; granules = granules_of word }
+fields_of word = record { version = version_field word; number = number_field word; arenas = arenas_field word; granules = granules_field word }
 
 -- the second word that says it
 abbrev pub header_word : PoolHeader → ℕ

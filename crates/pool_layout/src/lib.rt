@@ -19,5 +19,5 @@ pub use header::{PoolHeader, header_of, header_text, header_word};
 pub use layout::{Layout, is_version, layout_of};
 pub use place::{
     GRANULE_BYTES, SLAB_GRANULES, blocks_at, chunk_at, directory_at, entry_at, fields_at,
-    granule_at, header_word_at, heap_at, index_at, root_at, text_at, wal_at,
+    granule_at, heap_at, index_at, root_at, slab_header_at, text_at, wal_at,
 };

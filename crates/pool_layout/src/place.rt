@@ -83,7 +83,7 @@ pub fn heap_at(version: u32) -> u32
 }
 
 /// A word of a line of the header of the slab that begins at this byte.
-pub fn header_word_at(slab: u32, line: u32, word: u32) -> u32
+pub fn slab_header_at(slab: u32, line: u32, word: u32) -> u32
     requires slab { slab + 2048 < 2 ^ 32 }
     requires line { line < 32 }
     requires word { word < 8 }
@@ -98,7 +98,7 @@ pub fn index_at(slab: u32, place: u32) -> u32
     requires place { place < 64 }
     ensures { result ≡ slab + 8 * index_place place }
 {
-    header_word_at(slab, 9 + place % 8, place / 8)
+    slab_header_at(slab, 9 + place % 8, place / 8)
 }
 
 /// The first block of the slab that begins at this byte.

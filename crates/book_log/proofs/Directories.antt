@@ -1,0 +1,34 @@
+-- A directory's word names the chunks that it was made of.
+use Rattle.std.proofs.Common.{◌≡◌, ◌<◌, ◌≤◌, ◌+◌, ◌-◌, ◌/◌, ◌%◌, ◌&&◌, ℕ, zero, suc, true, cond, leb, List, [], ◌∷◌, length, refl, ap, ◌∙◌, arith}
+use Rattle.std.specs.List.{All}
+use Rattle.std.proofs.lemmas.Bool.{lt-ltb, le-leb, cond-true}
+use Rattle.std.proofs.lemmas.List.Elements.{All-head, All-tail}
+use Rattle.image_tables.specs.Log.{most_chunks, is_chunk_byte, chunks_named, active_chunks}
+use Rattle.book_log.specs.Log.{directory_of, IsDirectory}
+
+chunk_byte : (chunk : ℕ) → chunk < 16 → is_chunk_byte (chunk + 1) ≡ true
+chunk_byte chunk few = ap (λ b. b && leb (chunk + 1) 16) (lt-ltb 0 (chunk + 1) (omega arith)) ∙ le-leb (chunk + 1) 16 (omega arith)
+
+chunks_named-directory_of : (n : ℕ) (chunks : List ℕ) → length chunks ≤ n → All (λ chunk. chunk < 16) chunks → chunks_named n (directory_of chunks) ≡ chunks
+chunks_named-directory_of zero [] fits small = refl
+chunks_named-directory_of zero (chunk ∷ chunks) fits small = absurd (omega arith)
+chunks_named-directory_of (suc n) [] fits small = refl
+chunks_named-directory_of (suc n) (chunk ∷ chunks) fits small =
+    let word = directory_of (chunk ∷ chunks) in
+    let byte : word % 256 ≡ chunk + 1 = omega (arith, All-head (λ chunk. chunk < 16) chunk chunks small) in
+    let rest : word / 256 ≡ directory_of chunks = omega (arith, All-head (λ chunk. chunk < 16) chunk chunks small) in
+    let number : chunk + 1 - 1 ≡ chunk = omega arith in
+    ap (λ b. cond (is_chunk_byte b) ((b - 1) ∷ chunks_named n (word / 256)) []) byte
+    ∙ cond-true (is_chunk_byte (chunk + 1)) ((chunk + 1 - 1) ∷ chunks_named n (word / 256)) [] (chunk_byte chunk (All-head (λ chunk. chunk < 16) chunk chunks small))
+    ∙ ap (λ c. c ∷ chunks_named n (word / 256)) number
+    ∙ ap (λ w. chunk ∷ chunks_named n w) rest
+    ∙ ap (λ cs. chunk ∷ cs) (chunks_named-directory_of n chunks (omega arith) (All-tail (λ chunk. chunk < 16) chunk chunks small))
+
+eight : most_chunks ≡ 8
+unfolding most_chunks
+eight = refl
+
+pub active_chunks-directory : (directory : ℕ) (chunks : List ℕ) → IsDirectory directory chunks → active_chunks directory ≡ chunks
+unfolding active_chunks
+active_chunks-directory directory chunks is =
+    ap (chunks_named most_chunks) is.word ∙ chunks_named-directory_of most_chunks chunks (omega (arith, eight, is.most)) is.small
