@@ -1,14 +1,14 @@
 -- The live extents after a store.
-use Rattle.std.proofs.Common.{◌≡◌, ◌≢◌, ◌++◌, ℕ, List, [], ◌∷◌, Option, None, eqb, refl, ap, ◌∙◌}
+use Rattle.std.proofs.Common.{◌≡◌, ◌≢◌, ◌++◌, ℕ, List, [], ◌∷◌, Option, None, eqb, refl, ap, ◌∙◌, ◌<◌, length, flat_map}
 use Rattle.std.specs.List.{All}
 use Rattle.std.proofs.lemmas.Bool.{eq-eqb, ne_eqb, cond-true, cond-false}
 use Rattle.pmem_lines.specs.Words.{word_at, put_word}
 use Rattle.pool_layout.specs.Places.{directory_word, entry_word}
 use Rattle.pool_layout.specs.Header.{version_in}
 use Rattle.image_tables.specs.declared.extent.Extent.{Extent}
-use Rattle.image_tables.specs.Log.{active_chunks, log_of}
+use Rattle.image_tables.specs.Log.{active_chunks, chunk_log, log_of}
 use Rattle.image_tables.specs.Extents.{start_of_entry, extent_of_entry, extent_after, extent_behind, extent_at}
-use Rattle.image_tables.proofs.Logs.{SameLog, IsOffLog, IsFront, SameButChunk, log_of-same, log_of-inactive, log_of-elsewhere, log_of-appended}
+use Rattle.image_tables.proofs.Logs.{SameLog, IsOffLog, IsFront, SameButChunk, log_of-same, log_of-inactive, log_of-directory, log_of-elsewhere, log_of-appended}
 
 pub extent_behind-append : (xs ys : List ℕ) (start : ℕ) (before : Option Extent) → extent_behind (xs ++ ys) start before ≡ extent_behind ys start (extent_behind xs start before)
 extent_behind-append [] ys start before = refl
@@ -44,3 +44,9 @@ unfolding extent_at
 extent_at-appended words before chunk entry v start front some =
     ap (λ log. extent_behind log start None) (log_of-appended words before chunk entry v front some)
     ∙ extent_behind-append (log_of words) (v ∷ []) start None
+
+-- a store of the directory
+pub extent_at-directory : (words : List ℕ) (directory start : ℕ) → directory_word < length words →
+    extent_at (put_word words directory_word directory) start ≡ extent_behind (flat_map (chunk_log (version_in words) words) (active_chunks directory)) start None
+unfolding extent_at
+extent_at-directory words directory start inside = ap (λ log. extent_behind log start None) (log_of-directory words directory inside)

@@ -1,5 +1,5 @@
 -- The log after a store.
-use Rattle.std.proofs.Common.{◌≡◌, ◌≢◌, ◌<◌, ◌≤◌, ◌⊎◌, ⊎_elim, ℕ, List, [], ◌∷◌, ◌++◌, length, refl, sym, ap, ◌∙◌, arith, append_assoc, append-nil, flat_map}
+use Rattle.std.proofs.Common.{◌≡◌, ◌≢◌, ◌<◌, ◌≤◌, ◌⊎◌, ⊎_elim, ℕ, List, [], ◌∷◌, ◌++◌, length, get_or, refl, sym, ap, ◌∙◌, arith, append_assoc, append-nil, flat_map}
 use Rattle.std.specs.List.{All}
 use Rattle.std.proofs.lemmas.List.Elements.{All-weaker}
 use Rattle.std.proofs.lemmas.List.Concat.{flat_map-append}
@@ -115,3 +115,16 @@ log_of-appended words before chunk entry v front some =
     ap (λ xs. flat_map (chunk_log version words) before ++ xs) (sym (append-nil (chunk_log version words chunk)))
     ∙ sym (flat_map-append (chunk_log version words) before (chunk ∷ []))
     ∙ ap (flat_map (chunk_log version words)) (sym front.chunks))
+
+-- a store of the directory: the log is read off the chunks that it names now
+pub log_of-directory : (words : List ℕ) (directory : ℕ) → directory_word < length words →
+    log_of (put_word words directory_word directory) ≡ flat_map (chunk_log (version_in words) words) (active_chunks directory)
+unfolding log_of
+log_of-directory words directory inside =
+    let new = put_word words directory_word directory in
+    let version = version_in words in
+    let behind = log_word-low version in
+    ap (λ w. flat_map (chunk_log (version_field w) new) (active_chunks (word_at new directory_word))) (word_at-put_other words directory_word fields_word directory (λ e. omega arith))
+    ∙ ap (λ w. flat_map (chunk_log version new) (active_chunks w)) (word_at-put_same words directory_word directory_word directory refl inside)
+    ∙ flat_map-same (chunk_log version words) (chunk_log version new) (active_chunks directory) (λ k d below. let c = get_or (active_chunks directory) k d in
+    chunk_log-same version words new c (record { each = λ e under. word_at-put_other words directory_word (entry_word version c e) directory (λ is. omega (arith, is, behind, entry_word-low version c e)) }))
