@@ -16,6 +16,7 @@ use std::alloc::Global;
 use trace_text::{Refusal, Trace, TraceFault, read_trace, write_refusal};
 
 const GRANULE_LINES: u32 = 256;
+
 const ROOM: u32 = 2048;
 
 /// What a command has to say of its input.

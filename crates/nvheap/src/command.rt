@@ -21,7 +21,11 @@ pub(crate) fn command_of(words: &[String]) -> Option<Command>
         return Some(Command::Replay);
     }
     if words.len() == 4 && is_word(&words[0], "crash") {
-        return crash_of(words[1].as_bytes(), words[2].as_bytes(), words[3].as_bytes());
+        return crash_of(
+            words[1].as_bytes(),
+            words[2].as_bytes(),
+            words[3].as_bytes(),
+        );
     }
     None
 }

@@ -93,19 +93,14 @@ pub(crate) fn report_idle(alloc: Global, device: &SimPmem) -> Result<Vec<u8>, Ou
 
 // What a crash leaves after the first events of the call that a device went through last, as a generator from the
 // seed picks.
-fn crash_within(
-    alloc: Global,
-    device: &SimPmem,
-    done: u32,
-    seed: u64,
-) -> Result<Left, OutOfMemory>
+fn crash_within(alloc: Global, device: &SimPmem, done: u32, seed: u64) -> Result<Left, OutOfMemory>
     requires within { done ≤ length device.now.events }
     requires before { IsPlain device.now.base }
     requires after { IsPlain (words_of device.now) }
     requires changed { plain_heap (words_of device.now) ≢ plain_heap device.now.base }
     requires crash { CrashOnly device.now.base device.now.events (IsEitherHeap (plain_heap device.now.base) (plain_heap (words_of device.now))) }
     ensures side { IfOk result (λ left. IsSide (plain_heap device.now.base) (plain_heap (words_of device.now)) (plain_heap (crash_image device.now.base device.now.events done seed)) left.side) }
-    ensures blocks { IfOk result (λ left. left.blocks.items ≡ blocks_of (plain_heap (crash_image device.now.base device.now.events done seed))) }
+    ensures heap { IfOk result (λ left. left.blocks.items ≡ blocks_of (plain_heap (crash_image device.now.base device.now.events done seed))) }
 {
     let image = image_of(alloc, device, done, seed)?;
     let roots = roots_of(&image);
@@ -127,12 +122,7 @@ fn side_of(heap: &[u64], after: &[u64]) -> CrashSide
 
 // The words that a crash leaves.
 #[tactic(auto, unfolding(crate::specs::Crash::crash_image))]
-fn image_of(
-    alloc: Global,
-    device: &SimPmem,
-    done: u32,
-    seed: u64,
-) -> Result<Vec<u64>, OutOfMemory>
+fn image_of(alloc: Global, device: &SimPmem, done: u32, seed: u64) -> Result<Vec<u64>, OutOfMemory>
     requires { done ≤ length device.now.events }
     ensures image { IfOk result (λ image. image.items ≡ crash_image device.now.base device.now.events done seed) }
     ensures size { IfOk result (λ image. length image.items ≡ length (words_of device.now)) }
