@@ -1,4 +1,4 @@
-// What is printed, against texts that were written by hand.
+// What is printed, byte by byte.
 use super::*;
 
 /// The first seat asks for a block.
