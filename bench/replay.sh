@@ -1,0 +1,63 @@
+#!/usr/bin/env bash
+# Times the built program on three made traces, and prints for each the time per call or per byte and the peak memory.
+# It is no test. The inputs are made in a temporary folder, which is removed at the end.
+set -eu
+
+top=$(dirname -- "$(dirname -- "$(readlink -f -- "${BASH_SOURCE[0]}")")")
+room=$(mktemp -d)
+trap 'rm -rf -- "$room"' EXIT
+
+# The launcher builds the program; what it built is timed by itself.
+"$top/nvheap" replay <"$top/examples/plain.trace" >"$room/out"
+program=$top/crates/nvheap/out/launched/nvheap
+
+# A million calls, each of which frees its root's block or gives it one. The draws are by a fixed rule.
+awk 'BEGIN {
+    print "pool 1 256"
+    state = 1
+    for (i = 0; i < 1000000; i++) {
+        state = state * 16807 % 2147483647
+        root = state % 1000
+        if (held[root]) { print "0 0 f " root; held[root] = 0 }
+        else { print "0 0 m " root " " (1 + i % 64); held[root] = 1 }
+    }
+}' >"$room/mixed"
+
+# 64 MiB of comments behind a pool.
+awk 'BEGIN {
+    printf "pool 1 16\n"
+    line = "#"
+    while (length(line) < 79) line = line "-"
+    for (left = 67108864 - 10; left >= 80; left -= 80) print line
+    for (; left > 0; left--) printf "\n"
+}' >"$room/comments"
+
+# A million calls, all but the first refused, since the root names a block.
+awk 'BEGIN {
+    print "pool 1 16"
+    for (i = 0; i < 1000000; i++) print "0 0 m 7 64"
+}' >"$room/occupied"
+
+measure() {
+    local name=$1 count=$2 unit=$3
+    python3 - "$program" "$room/$name" "$room/out" "$name" "$count" "$unit" <<'PYTHON'
+import resource, subprocess, sys, time
+
+program, trace, out, name, count, unit = sys.argv[1:]
+best = None
+for _ in range(3):
+    with open(trace, "rb") as source, open(out, "wb") as sink:
+        begun = time.monotonic()
+        ran = subprocess.run([program, "replay"], stdin=source, stdout=sink)
+        took = time.monotonic() - begun
+    if ran.returncode:
+        sys.exit(f"{name}: the program ended with status {ran.returncode}")
+    best = took if best is None else min(best, took)
+peak = resource.getrusage(resource.RUSAGE_CHILDREN).ru_maxrss / 1024
+print(f"{name}: {best:.2f} s, {best * 1e9 / int(count):.1f} ns per {unit}, peak {peak:.0f} MiB")
+PYTHON
+}
+
+measure mixed 1000000 call
+measure comments 67108864 byte
+measure occupied 1000000 call
