@@ -20,6 +20,8 @@ mod shelf;
 mod sink;
 mod source;
 mod status;
+#[cfg(test)]
+mod tests;
 
 pub use command::Command;
 pub use gate::{Gate, OpenGate};
