@@ -164,7 +164,7 @@ fn scan<P: Pmem>(device: &P, first: u32, blocks: u32) -> u32
     i
 }
 
-// The first block that no root names, by the marks, and by the roots past them.
+// The first block that no root names, by the marks, and by the roots for the blocks past them.
 fn find_block<P: Pmem>(device: &P, marks: &[bool], blocks: u32) -> u32
     requires plain { IsPlain (words_of (P.state device.now)) }
     requires marked { AreMarks (plain_heap (words_of (P.state device.now))) marks.now }
@@ -174,6 +174,8 @@ fn find_block<P: Pmem>(device: &P, marks: &[bool], blocks: u32) -> u32
     let clear = first_clear(marks) as u32;
     if clear >= blocks {
         blocks
+    } else if clear < MARKS as u32 {
+        clear
     } else {
         scan(device, clear, blocks)
     }

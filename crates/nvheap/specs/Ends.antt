@@ -1,5 +1,5 @@
 -- How a run ends: what each status says of the words, the input, the output and the shelf.
-use Rattle.std.specs.Prelude.{◌≡◌, ◌⊎◌, ◌<◌, ℕ, List, Option}
+use Rattle.std.specs.Prelude.{◌≡◌, ◌⊎◌, ◌<◌, ◌≤◌, ℕ, List, length, Option}
 use Rattle.pmem_lines.specs.Pmem.{PmemState}
 use Rattle.heap_model.specs.Plain.{no_blocks}
 use Rattle.trace_text.specs.declared.call.TraceCall.{TraceCall}
@@ -17,6 +17,10 @@ use Rattle.nvheap.specs.Outside.{GivesAll, Takes, TakesFront}
 use Rattle.nvheap.specs.Command.{IsCommand}
 use Rattle.nvheap.specs.Replay.{AnswersReplay, blocks_in}
 use Rattle.nvheap.specs.Crash.{AnswersCrash, IsCrashReport, LacksArena, LacksEvent, total_events}
+
+-- the most bytes that a trace may have
+unfoldable pub longest_trace : ℕ
+longest_trace = 67108864
 
 -- the exit code
 abbrev pub code_of : Status → ℕ
@@ -63,6 +67,7 @@ pub record IsDone (words : List (List ℕ)) (left left_after taken taken_after :
   pub said : IsCommand words command
   pub input : List ℕ
   pub gives : GivesAll left left_after input
+  pub short : length input ≤ longest_trace
   pub output : List ℕ
   pub answer : Answers command input output places places_after
   pub takes : Takes taken taken_after output
@@ -73,6 +78,7 @@ pub record IsRefused (words : List (List ℕ)) (left left_after taken taken_afte
   pub said : IsCommand words command
   pub input : List ℕ
   pub gives : GivesAll left left_after input
+  pub short : length input ≤ longest_trace
   pub refusal : Refusal
   pub cause : Refuses command input refusal
   pub takes : Takes taken taken_after (refusal_text refusal)
@@ -83,6 +89,7 @@ pub record IsCutShort (words : List (List ℕ)) (left left_after taken taken_aft
   pub said : IsCommand words command
   pub input : List ℕ
   pub gives : GivesAll left left_after input
+  pub short : length input ≤ longest_trace
   pub text : List ℕ
   pub whole : Answers command input text places places_after ⊎ ((refusal : Refusal) × Refuses command input refusal × (text ≡ refusal_text refusal))
   pub takes : TakesFront taken taken_after text

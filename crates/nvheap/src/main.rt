@@ -30,7 +30,6 @@ pub use shelf::{DropShelf, KeptShelf, Shelf};
 pub use sink::{MemSink, Sink, SureSink, WriteSink};
 pub use source::{Failed, MemSource, ReadSource, Source, SureSource};
 pub use status::Status;
-use std::alloc::{AllocError, Global};
 use std::process::ExitCode;
 use std::{env, io};
 
@@ -41,6 +40,14 @@ fn words_of_program(rt: &HostRuntime) -> io::Result<Vec<String>> {
         words.push(word)?;
     }
     Ok(words)
+}
+
+/// How the program ends where its words can't be had. Words that are no text are none of the program's.
+fn without_words(fault: io::Error) -> Status {
+    match fault.kind() {
+        io::ErrorKind::OutOfMemory => Status::Memory,
+        _ => Status::Usage,
+    }
 }
 
 /// What is said on standard error.
@@ -56,20 +63,23 @@ fn complaint(status: Status) -> Option<&'static str> {
 }
 
 fn main(rt: HostRuntime) -> ExitCode {
-    let Ok(words) = words_of_program(&rt) else {
-        return ExitCode::from(Status::Memory.code());
+    let status = match words_of_program(&rt) {
+        Ok(words) => {
+            let mut source = ReadSource::new(rt.stdin());
+            let mut sink = WriteSink::new(rt.stdout());
+            let mut shelf = DropShelf;
+            run(
+                &rt,
+                rt.alloc(),
+                &words,
+                &mut source,
+                &mut sink,
+                &OpenGate,
+                &mut shelf,
+            )
+        }
+        Err(fault) => without_words(fault),
     };
-    let mut source = ReadSource::new(rt.stdin());
-    let mut sink = WriteSink::new(rt.stdout());
-    let status = run(
-        &rt,
-        rt.alloc(),
-        &words,
-        &mut source,
-        &mut sink,
-        &OpenGate,
-        &mut DropShelf,
-    );
     if let Some(line) = complaint(status) {
         let _ = eprintln!(rt; "{line}");
     }

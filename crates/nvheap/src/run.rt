@@ -2,7 +2,7 @@
 ghost use Rattle.std.specs.Prelude.{◌≡◌, ◌≢◌, ◌↔◌, ℕ, map, string_bytes};
 ghost use Rattle.nvheap.specs.Outside.{Rose, GivesMore};
 ghost use Rattle.nvheap.specs.Command.{IsNoCommand};
-ghost use Rattle.nvheap.specs.Ends.{IsDone, IsRefused, IsCutShort, IsSilent, IsAside, RunsOn};
+ghost use Rattle.nvheap.specs.Ends.{longest_trace, IsDone, IsRefused, IsCutShort, IsSilent, IsAside, RunsOn};
 
 use crate::answers::{Answer, answer_to};
 use crate::command::{Command, command_of};
@@ -25,6 +25,7 @@ const LONGEST_TRACE: usize = 67_108_864;
 ///
 /// `Usage` comes exactly where the words say no command. The other answers come in the order `ReadFault`, `TooLong`,
 /// `Refused`, `WriteFault`, `Done`, each where no earlier one came; `Memory` may stand in the place of any of them.
+#[tactic(auto, unfolding(crate::specs::Ends::longest_trace))]
 pub fn run<R: Threads + Wait + Sync, S: Source, K: Sink, G: Gate + Sync, H: Shelf>(
     _rt: &R,
     alloc: Global,
@@ -40,7 +41,7 @@ pub fn run<R: Threads + Wait + Sync, S: Source, K: Sink, G: Gate + Sync, H: Shel
     ensures read_fault { result ≡ Status.ReadFault → Rose (S.faults source.old) (S.faults source.new) }
     ensures write_fault { result ≡ Status.WriteFault → Rose (K.faults sink.old) (K.faults sink.new) }
     ensures cut_short { result ≡ Status.WriteFault → IsCutShort (map string_bytes words.now) (S.left source.old) (S.left source.new) (K.taken sink.old) (K.taken sink.new) (H.places shelf.old) (H.places shelf.new) }
-    ensures too_long { result ≡ Status.TooLong → GivesMore (S.left source.old) (S.left source.new) 67108864 }
+    ensures too_long { result ≡ Status.TooLong → GivesMore (S.left source.old) (S.left source.new) longest_trace }
     ensures silent { IsSilent result → K.taken sink.new ≡ K.taken sink.old }
     ensures aside { IsAside result → H.places shelf.new ≡ H.places shelf.old }
 {

@@ -1,5 +1,5 @@
 // Where devices come from, and where they stay.
-ghost use Rattle.std.specs.Prelude.{◌≡◌, ℕ, ◌<◌, ◌≤◌, List, Option, Some, None, vec_len, IfOk, replicate};
+ghost use Rattle.std.specs.Prelude.{◌≡◌, ℕ, ◌<◌, ◌≤◌, List, Option, Some, None, vec_len, IfOk, option_copied, replicate, slice_index_or};
 ghost use Rattle.pmem_lines.specs.Pmem.{PmemState, IsZeroed};
 ghost use Rattle.nvheap.specs.Outside.{put_at};
 
@@ -51,6 +51,7 @@ impl KeptShelf {
     /// The device at a place, if there is one.
     pub fn device(&self, arena: u32) -> Option<&SimPmem>
         requires { arena < 16 }
+        ensures { option_copied result ≡ slice_index_or self.now.kept.items arena None }
     {
         self.kept[arena as usize].as_ref()
     }
