@@ -1,0 +1,24 @@
+-- Legal journals: each entry is a step from the state that the entries before it lead to.
+use Rattle.std.specs.Prelude.{◌≡◌, ℕ, List, [], ◌∷◌}
+use Rattle.heap_model.specs.declared.call.Call.{Call}
+use Rattle.heap_model.specs.declared.call.Reply.{Reply}
+use Rattle.heap_model.specs.declared.call.Entry.{Entry}
+use Rattle.heap_model.specs.Machine.{Bounds, Machine, IsOverlapFree}
+use Rattle.heap_model.specs.Step.{IsStep, IsLargeStep}
+
+-- the entries lead from a state to another, by this kind of steps
+abbrev pub Leads : (Machine → Call → Reply → Machine → Type 0) → Machine → List Entry → Machine → Type 0
+Leads Steps m [] last = last ≡ m
+Leads Steps m (entry ∷ entries) last = (next : Machine) × Steps m entry.call entry.reply next × Leads Steps next entries last
+
+-- a legal journal from a state: it leads somewhere
+abbrev pub IsLegal : Bounds → Machine → List Entry → Type 0
+IsLegal b m entries = (last : Machine) × Leads (IsStep b) m entries last
+
+-- every state that is reached from an overlap-free one is overlap-free
+abbrev pub LawOfOverlap : Type 0
+LawOfOverlap = (b : Bounds) (m last : Machine) (entries : List Entry) → IsOverlapFree b m → Leads (IsStep b) m entries last → IsOverlapFree b last
+
+-- the same of the machine without slabs
+abbrev pub LawOfLargeOverlap : Type 0
+LawOfLargeOverlap = (b : Bounds) (m last : Machine) (entries : List Entry) → IsOverlapFree b m → Leads (IsLargeStep b) m entries last → IsOverlapFree b last
