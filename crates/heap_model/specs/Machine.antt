@@ -1,7 +1,7 @@
 -- The heap machine: what an arena is for its users. Its state has three maps: the block of each root, the class of each
 -- slab by the granule that it begins at, and the words that were written into the blocks. It knows no memory, bitmap,
 -- log or list of free space.
-use Rattle.std.specs.Prelude.{◌≡◌, ◌≢◌, ◌⊎◌, ◌==◌, ◌&&◌, ℕ, zero, suc, ◌+◌, ◌*◌, ◌<◌, ◌≤◌, nat_lt, nat_le, Bool, Option, Some, None, if◌then◌else◌}
+use Rattle.std.specs.Prelude.{◌≡◌, ◌≢◌, ◌⊎◌, ◌==◌, ℕ, ◌+◌, ◌*◌, ◌<◌, ◌≤◌, Option, Some, None, if◌then◌else◌}
 use Rattle.size_classes.specs.Classes.{class_size, class_capacity}
 
 -- the numbers of an arena: how many root words there are, where its heap begins and where it ends, in granules
@@ -87,6 +87,7 @@ pub record IsWholeGranules (b : Bounds) (range : Range) : Type 0 where
 pub record IsOverlapFree (b : Bounds) (m : Machine) : Type 0 where
   pub apart : (root other : ℕ) (range another : Range) → root ≢ other → m.block root ≡ Some range → m.block other ≡ Some another → AreApart range another
   pub rooted : (root : ℕ) (range : Range) → m.block root ≡ Some range → root < b.roots
+  pub sized : (root : ℕ) (range : Range) → m.block root ≡ Some range → 0 < range.size
   pub slabs : (s c : ℕ) → m.slab s ≡ Some c → (b.first ≤ s) × (s + 4 ≤ b.granules)
   pub slabs_apart : (s t c d : ℕ) → s ≢ t → m.slab s ≡ Some c → m.slab t ≡ Some d → (s + 4 ≤ t) ⊎ (t + 4 ≤ s)
   pub small : (root : ℕ) (range : Range) → m.block root ≡ Some range → ¬ (IsLarge range) → (s : ℕ) × (c : ℕ) × (m.slab s ≡ Some c) × LiesIn s range

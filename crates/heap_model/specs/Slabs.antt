@@ -1,5 +1,5 @@
 -- When a slab may take another class.
-use Rattle.std.specs.Prelude.{◌≡◌, ◌≢◌, ◌&&◌, ℕ, zero, suc, ◌+◌, ◌*◌, ◌<◌, ◌≤◌, nat_lt, nat_le, Bool, true, false, Option, Some, None, if◌then◌else◌}
+use Rattle.std.specs.Prelude.{◌≡◌, ◌≢◌, ◌&&◌, ℕ, zero, suc, ◌+◌, ◌*◌, ◌≤◌, nat_lt, nat_le, Bool, false, Option, Some, None, if◌then◌else◌}
 use Rattle.size_classes.specs.Classes.{class_size, class_capacity}
 use Rattle.heap_model.specs.Machine.{Bounds, Range, Machine, LiesIn, IsBlockOf, IsUnused}
 

@@ -4,13 +4,13 @@
 -- Two machines share all but the rows of a malloc that is granted or finds no space. `IsStep` is the machine with slabs:
 -- a small request is served from a slab of its class, from a slab that takes the class, or from a new slab. In
 -- `IsLargeStep` there are no slabs: each request takes whole granules, two at least.
-use Rattle.std.specs.Prelude.{◌≡◌, ◌≢◌, ◌⊎◌, ◌==◌, ◌&&◌, ℕ, ◌+◌, ◌-◌, ◌*◌, ◌/◌, ◌<◌, ◌≤◌, nat_lt, nat_le, max, Option, Some, None, if◌then◌else◌}
+use Rattle.std.specs.Prelude.{◌≡◌, ◌≢◌, ◌⊎◌, ◌==◌, ◌&&◌, ℕ, ◌-◌, ◌*◌, ◌/◌, ◌<◌, ◌≤◌, max, Option, Some, None, if◌then◌else◌}
 use Rattle.size_classes.specs.Classes.{IsClassOf, granules_of}
 use Rattle.heap_model.specs.declared.call.Call.{Call}
 use Rattle.heap_model.specs.declared.call.Call.TheVariants.{Malloc, Free, Write, Read}
 use Rattle.heap_model.specs.declared.call.Reply.{Reply}
 use Rattle.heap_model.specs.declared.call.Reply.TheVariants.{Placed, Freed, Wrote, Value, NoRoot, Occupied, Empty, ZeroSize, TooLarge, OutOfRange, NoSpace}
-use Rattle.heap_model.specs.Machine.{Bounds, Range, Machine, with_key, IsBlockOf, IsUnused, IsFreeGranule}
+use Rattle.heap_model.specs.Machine.{Bounds, Range, Machine, with_key, IsBlockOf, IsFreeGranule}
 use Rattle.heap_model.specs.Runs.{IsBestFit, HasNoFit}
 use Rattle.heap_model.specs.Slabs.{begins_in, live_below, IsFreeBlock, HasFreeBlock, IsBestSlab, HasNoFitSlab}
 

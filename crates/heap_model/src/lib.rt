@@ -1,10 +1,16 @@
 // The machine that an allocator must be, seen from its users: blocks, slabs, calls, replies and journals. It knows no
-// bitmap, log or list of free space, and no persistent memory. The crate has types and definitions, and no call: the
-// layers above state their contracts in its words (`specs/Plain.antt`, the machine of blocks of 64 bytes).
+// bitmap, log or list of free space, and no persistent memory.
+//
+// The crate has types, definitions and laws, and no call of the allocator: the layers above state their contracts in its
+// words. `specs/Machine.antt` has the state, `specs/Step.antt` the steps with slabs and without, `specs/Journal.antt`
+// the legal journals, and `specs/Runs.antt` what the best fit is. `specs/Plain.antt` is the machine of blocks of 64
+// bytes.
 #![tactic(auto)]
 
 mod block;
 mod call;
+mod laws;
 
 pub use block::{Block, Slab};
 pub use call::{Call, Entry, Reply};
+pub use laws::{law_of_large_overlap, law_of_overlap};

@@ -1,0 +1,19 @@
+-- Maps with one key changed.
+use Rattle.std.proofs.Common.{◌≡◌, ◌≢◌, ◌⊎◌, ◌==◌, ℕ, true, false, sym, ap, ◌∙◌, refl, inl, inr, ⊎_elim, Option}
+use Rattle.std.proofs.lemmas.Bool.{cases_eq, eq-eqb, ne_eqb}
+use Rattle.heap_model.specs.Machine.{with_key}
+
+-- the key itself
+pub with_key-here : {X : Type 0} (map : ℕ → Option X) (key : ℕ) (new : Option X) → with_key map key new key ≡ new
+with_key-here map key new = let same : (key == key) ≡ true = eq-eqb key key refl in rw same refl
+
+-- another key
+pub with_key-other : {X : Type 0} (map : ℕ → Option X) (key other : ℕ) (new : Option X) → other ≢ key → with_key map key new other ≡ map other
+with_key-other map key other new apart = let test : (other == key) ≡ false = ne_eqb other key apart in rw test refl
+
+-- what a key leads to: it is the changed one and the new value, or another and the old one
+pub with_key-cases : {X : Type 0} (map : ℕ → Option X) (key other : ℕ) (new value : Option X) → with_key map key new other ≡ value → ((other ≡ key) × (new ≡ value)) ⊎ ((other ≢ key) × (map other ≡ value))
+with_key-cases map key other new value is = ⊎_elim
+    (λ (same : other ≡ key). inl (same, sym (with_key-here map key new) ∙ ap (λ k. with_key map key new k) (sym same) ∙ is))
+    (λ (apart : other ≢ key). inr (apart, sym (with_key-other map key other new apart) ∙ is))
+    (cases_eq other key)
