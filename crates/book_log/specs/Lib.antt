@@ -1,2 +1,4 @@
+pub mod Book
 pub mod Entry
 pub mod Log
+pub mod Table

@@ -1,7 +1,9 @@
 // Entries of the log, as words.
 
 ghost use Rattle.std.specs.Prelude.{◌≡◌, ◌↔◌, IsTrue, Some, IfSome, MatchOption};
-ghost use Rattle.book_log.specs.Entry.{log_word, read_entry, FitsWord, IsInHeap, IsEntryWord, IsNoEntryWord, SaysOf};
+ghost use Rattle.book_log.specs.Entry.{log_word, read_entry, FitsWord, IsInHeap, IsEntryWord, IsNoEntryWord, SaysOf, start_of, extent_of};
+
+use image_tables::Extent;
 
 /// An entry of the log. A start is the number of a granule.
 #[derive(Clone, Copy, Debug, PartialEq, Eq)]
@@ -12,6 +14,29 @@ pub enum LogEntry {
     Slab { start: u32 },
     /// Nothing starts there.
     Tomb { start: u32 },
+}
+
+impl LogEntry {
+    /// The granule that the entry names.
+    pub fn start(self) -> u32
+        ensures { result ≡ start_of self }
+    {
+        match self {
+            LogEntry::Large { start, .. } | LogEntry::Slab { start } | LogEntry::Tomb { start } =>
+                start,
+        }
+    }
+
+    /// What starts there.
+    pub fn extent(self) -> Option<Extent>
+        ensures { result ≡ extent_of self }
+    {
+        match self {
+            LogEntry::Large { granules, .. } => Some(Extent::Large { granules }),
+            LogEntry::Slab { .. } => Some(Extent::Slab),
+            LogEntry::Tomb { .. } => None,
+        }
+    }
 }
 
 /// The entry of a word, in an arena of so many granules whose heap begins with the granule `first`. There is none
@@ -43,8 +68,8 @@ pub fn log_word(entry: LogEntry) -> u64
     }
 }
 
-// What the fields of a word say, whatever the rest of the word is.
-fn read_entry(word: u64) -> Option<LogEntry>
+/// What the fields of a word say, whatever the rest of the word is.
+pub(crate) fn read_entry(word: u64) -> Option<LogEntry>
     ensures entry { result ≡ read_entry word }
     ensures fits { IfSome result FitsWord }
 {

@@ -7,5 +7,10 @@
 #![tactic(auto)]
 
 mod entry;
+mod live;
+mod log;
+mod place;
 
 pub use entry::{LogEntry, log_entry_of, log_word};
+pub use log::BookLog;
+pub use place::EntryPlace;
