@@ -24,7 +24,7 @@ chunks_named-directory_of (suc n) (chunk ∷ chunks) fits small =
     ∙ ap (λ w. chunk ∷ chunks_named n w) rest
     ∙ ap (λ cs. chunk ∷ cs) (chunks_named-directory_of n chunks (omega arith) (All-tail (λ chunk. chunk < 16) chunk chunks small))
 
-eight : most_chunks ≡ 8
+pub eight : most_chunks ≡ 8
 unfolding most_chunks
 eight = refl
 
@@ -32,3 +32,21 @@ pub active_chunks-directory : (directory : ℕ) (chunks : List ℕ) → IsDirect
 unfolding active_chunks
 active_chunks-directory directory chunks is =
     ap (chunks_named most_chunks) is.word ∙ chunks_named-directory_of most_chunks chunks (omega (arith, eight, is.most)) is.small
+
+-- all of a directory's bytes
+pub named_first : (directory : ℕ) → chunks_named (most_chunks - 0) directory ≡ active_chunks directory
+unfolding active_chunks
+named_first directory = let e : most_chunks - 0 ≡ most_chunks = omega arith in ap (λ n. chunks_named n directory) e
+
+-- none of them is left
+pub named_last : (n word : ℕ) → 8 ≤ n → chunks_named (most_chunks - n) word ≡ []
+named_last n word over = let e : most_chunks - n ≡ 0 = omega (arith, eight) in ap (λ m. chunks_named m word) e
+
+-- a byte that names a chunk
+pub named_more : (i word : ℕ) → i < 8 → 1 ≤ word % 256 → word % 256 ≤ 16 →
+    chunks_named (most_chunks - i) word ≡ (word % 256 - 1) ∷ chunks_named (most_chunks - (i + 1)) (word / 256)
+named_more i word below low high =
+    let e : most_chunks - i ≡ suc (most_chunks - (i + 1)) = omega (arith, eight) in
+    let is : is_chunk_byte (word % 256) ≡ true = ap (λ b. b && leb (word % 256) 16) (lt-ltb 0 (word % 256) (omega arith)) ∙ le-leb (word % 256) 16 high in
+    let rest = chunks_named (most_chunks - (i + 1)) (word / 256) in
+    ap (λ m. chunks_named m word) e ∙ cond-true (is_chunk_byte (word % 256)) ((word % 256 - 1) ∷ rest) [] is

@@ -1,2 +1,4 @@
 pub mod Directories
 pub mod Appending
+pub mod Places
+pub mod Takings

@@ -1,5 +1,5 @@
 -- What a bookkeeping log means to its callers, and when that is what the words of an arena say.
-use Rattle.std.specs.Prelude.{◌≡◌, ◌≢◌, ◌⊎◌, ℕ, ◌+◌, ◌-◌, ◌*◌, ◌<◌, ◌≤◌, List, length, slice_index, Option, Some, None}
+use Rattle.std.specs.Prelude.{◌≡◌, ◌≢◌, ◌⊎◌, ℕ, ◌+◌, ◌-◌, ◌<◌, ◌≤◌, List, length, slice_index, Option, Some, None}
 use Rattle.std.specs.List.{All}
 use Rattle.pmem_lines.specs.Words.{word_at, put_word}
 use Rattle.pool_layout.specs.Layout.{layout_of}
@@ -10,7 +10,7 @@ use Rattle.image_tables.specs.Log.{active_chunks}
 use Rattle.image_tables.specs.Extents.{extent_at}
 use Rattle.book_log.specs.declared.entry.LogEntry.{LogEntry}
 use Rattle.book_log.specs.declared.place.EntryPlace.{EntryPlace}
-use Rattle.book_log.specs.Entry.{log_word, start_of, extent_of}
+use Rattle.book_log.specs.Entry.{log_word}
 use Rattle.book_log.specs.Log.{IsLog, IsNext, logged, with_entry}
 use Rattle.book_log.specs.Table.{extent_in}
 

@@ -1,5 +1,5 @@
 -- The words of the log's entries.
-use Rattle.std.specs.Prelude.{◌≡◌, ◌==◌, ℕ, ◌+◌, ◌*◌, ◌/◌, ◌%◌, ◌^◌, ◌<◌, ◌≤◌, Option, Some, None, if◌then◌else◌}
+use Rattle.std.specs.Prelude.{◌≡◌, ◌≢◌, ◌==◌, ℕ, ◌+◌, ◌*◌, ◌/◌, ◌%◌, ◌^◌, ◌<◌, ◌≤◌, Option, Some, None, if◌then◌else◌}
 use Rattle.image_tables.specs.declared.extent.Extent.{Extent}
 use Rattle.image_tables.specs.declared.extent.Extent.TheVariants as extent
 use Rattle.image_tables.specs.Extents.{start_of_entry, extent_of_entry}
@@ -57,3 +57,7 @@ extent_of (Tomb start) = None
 pub record SaysOf (word : ℕ) (entry : LogEntry) : Type 0 where
   pub start : start_of_entry word ≡ start_of entry
   pub says : extent_of_entry word ≡ extent_of entry
+
+-- the word is 0, or that of an entry that names one of so many granules
+pub record IsEmptyOrEntry (granules word : ℕ) : Type 0 where
+  pub named : word ≢ 0 → (entry : LogEntry) × (word ≡ log_word entry) × FitsWord entry × (start_of entry < granules)

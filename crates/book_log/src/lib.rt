@@ -6,11 +6,14 @@
 // and after an append.
 #![tactic(auto)]
 
+mod directory;
 mod entry;
 mod live;
 mod log;
 mod place;
+mod taking;
 
+pub use directory::active_chunks;
 pub use entry::{LogEntry, log_entry_of, log_word};
 pub use log::BookLog;
 pub use place::EntryPlace;

@@ -1,13 +1,15 @@
 // The bookkeeping log of an arena.
 
-ghost use Rattle.std.specs.Prelude.{◌≡◌, ◌↔◌, ℕ, ◌<◌, ◌≤◌, IsTrue, IsSome, IfOk, MatchOption};
-ghost use Rattle.book_log.specs.Book.{live_at, IsBlank, Reads, HasFreeEntry};
+ghost use Rattle.std.specs.Prelude.{◌≡◌, ◌↔◌, ℕ, ◌≤◌, List, IsTrue, IsSome, IfOk, MatchOption};
+ghost use Rattle.pmem_lines.specs.Pmem.{words_of};
+ghost use Rattle.book_log.specs.Book.{live_at, IsBlank, HasLog, AreWithin, Reads, HasFreeEntry};
 ghost use Rattle.book_log.specs.Table.{IsNextLive, IsNoneLive};
 
 use crate::live::{next_in, no_extents};
+use crate::taking::take_log;
 use crate::{EntryPlace, LogEntry};
 use image_tables::Extent;
-use pmem_lines::OutOfMemory;
+use pmem_lines::{OutOfMemory, Pmem};
 use std::alloc::Global;
 use std::marker::Model;
 
@@ -43,9 +45,21 @@ impl BookLog {
         Ok(BookLog { live, next: None })
     }
 
+    /// Takes over the log that the device has. Its log is well formed for the granules that were given to `new`, and
+    /// its active chunks lie inside. It walks the log once.
+    pub fn load<P: Pmem>(&mut self, p: &P)
+        requires log { HasLog self.old.granules (words_of (P.state p.now)) }
+        requires inside { AreWithin (words_of (P.state p.now)) }
+        ensures reads { Reads self.new (words_of (P.state p.now)) }
+        ensures granules { self.new.granules ≡ self.old.granules }
+    {
+        self.next = take_log(&mut self.live, p);
+    }
+
     /// There is room for an entry. In an arena that the log reads, the last active chunk has an entry that is 0.
     pub fn has_room(&self) -> bool
         ensures room { IsTrue result ↔ IsSome self.now.next }
+        ensures reads { (words : List ℕ) → Reads self.now words → (IsTrue result ↔ HasFreeEntry words) }
     {
         self.next.is_some()
     }

@@ -1,0 +1,50 @@
+-- Where the chunks of a well-formed log lie among the words.
+use Rattle.std.proofs.Common.{◌≡◌, ◌<◌, ◌≤◌, ◌+◌, ◌-◌, ◌*◌, ◌/◌, ℕ, List, length, get_or, ap, arith}
+use Rattle.std.proofs.Math.Nat.{mul-le-mul_left}
+use Rattle.std.specs.List.{All}
+use Rattle.pmem_lines.specs.Words.{word_at}
+use Rattle.pmem_lines.specs.Pmem.{PmemState, words_of, IsPlace}
+use Rattle.pool_layout.specs.Layout.{layout_of}
+use Rattle.pool_layout.specs.Places.{directory_word, chunk_word, entry_word, heap_word}
+use Rattle.pool_layout.specs.Header.{version_in}
+use Rattle.pool_layout.proofs.Layouts.{layout_rules}
+use Rattle.image_tables.proofs.Chunks.{few_chunks}
+use Rattle.image_tables.proofs.Places.{entry_place-within, log_word-low}
+use Rattle.book_log.specs.Book.{HasLog, IsWithin, AreWithin, chunks_of, last_chunk}
+
+-- a word of so many has an address
+pub place_at : (s : PmemState) (at k : ℕ) → at ≡ 8 * k → k < length (words_of s) → IsPlace s at
+place_at s at k is inside = record { aligned = omega arith; inside = omega arith }
+
+-- the word at that address
+pub word_of_place : (words : List ℕ) (at k : ℕ) → at ≡ 8 * k → word_at words (at / 8) ≡ word_at words k
+word_of_place words at k is = let e : at / 8 ≡ k = omega arith in ap (word_at words) e
+
+-- an entry lies in its chunk
+pub entry_word-within : (version chunk entry : ℕ) → entry < (layout_of version).chunk_entries → entry_word version chunk entry < chunk_word version (chunk + 1)
+entry_word-within version chunk entry below = omega (arith, entry_place-within version entry below)
+
+-- what holds of each active chunk holds of the last one
+pub of_last : (P : ℕ → Type 0) (words : List ℕ) → 1 ≤ length (chunks_of words) → All P (chunks_of words) → P (last_chunk words)
+of_last P words some all = all (length (chunks_of words) - 1) 0 (omega arith)
+
+-- there are sixteen chunks
+pub last_chunk-few : (words : List ℕ) → 1 ≤ length (chunks_of words) → last_chunk words < 16
+last_chunk-few words some = of_last (λ chunk. chunk < 16) words some (few_chunks (word_at words directory_word))
+
+-- header line and roots lie before the log
+pub header_within : (granules : ℕ) (words : List ℕ) → HasLog granules words → AreWithin words → 2048 < length words
+header_within granules words log inside =
+    let version = version_in words in
+    omega (arith, of_last (IsWithin words) words log.directory.some inside, log_word-low version)
+
+-- where the heap begins inside, each active chunk lies inside
+pub within_heap : (words : List ℕ) → heap_word (version_in words) ≤ length words → AreWithin words
+within_heap words heap i d below =
+    let version = version_in words in
+    let rules = layout_rules version in
+    let chunk = get_or (chunks_of words) i d in
+    let few : chunk + 1 ≤ 16 = omega (arith, few_chunks (word_at words directory_word) i d below) in
+    let size = (layout_of version).chunk_bytes / 8 in
+    let grows : size * (chunk + 1) ≤ size * 16 = mul-le-mul_left size few in
+    omega (arith, grows, rules.heap, rules.chunk, rules.log)
