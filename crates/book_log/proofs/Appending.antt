@@ -1,5 +1,5 @@
 -- An entry put at the next place of the log.
-use Rattle.std.proofs.Common.{◌≡◌, ◌≢◌, ◌<◌, ◌≤◌, ⊎_elim, ℕ, eqb, List, [], ◌∷◌, ◌++◌, length, get_or, refl, sym, ap, ◌∙◌, subst, arith, length-append}
+use Rattle.std.proofs.Common.{◌≡◌, ◌≢◌, ◌<◌, ◌≤◌, ⊎_elim, ℕ, eqb, cond, Option, List, [], ◌∷◌, ◌++◌, length, get_or, refl, sym, ap, ◌∙◌, subst, arith, length-append}
 use Rattle.std.specs.List.{All, AllPairs}
 use Rattle.std.proofs.lemmas.Bool.{cases_eq, cases_lt, eq-eqb, ne_eqb, cond-true, cond-false}
 use Rattle.std.proofs.lemmas.List.Elements.{All-push}
@@ -10,6 +10,7 @@ use Rattle.pmem_lines.proofs.Words.{word_at-put_same, word_at-put_other}
 use Rattle.pool_layout.specs.Layout.{layout_of}
 use Rattle.pool_layout.specs.Places.{fields_word, directory_word, entry_word}
 use Rattle.pool_layout.specs.Header.{version_field, version_in}
+use Rattle.image_tables.specs.declared.extent.Extent.{Extent}
 use Rattle.image_tables.specs.Extents.{extent_at}
 use Rattle.image_tables.proofs.Places.{log_word-low, entry_word-low, entry_word-same}
 use Rattle.image_tables.proofs.Logs.{IsFront}
@@ -69,6 +70,10 @@ extent_at-entry words before chunk place v entry start front some says =
     extent_after-other v start (extent_at words start) (λ e. other (sym e ∙ says.start))
     ∙ sym (cond-false (eqb start (start_of entry)) (extent_of entry) (extent_at words start) (ne_eqb start (start_of entry) other)))
     (cases_eq start (start_of entry))
+
+-- an entry done in tables that agree there
+pub with_entry-same : (old new : ℕ → Option Extent) (entry : LogEntry) (start : ℕ) → old start ≡ new start → with_entry old entry start ≡ with_entry new entry start
+with_entry-same old new entry start same = ap (λ x. cond (eqb start (start_of entry)) (extent_of entry) x) same
 
 -- a chunk whose words are the same
 chunk_same : (version granules : ℕ) (words new : List ℕ) (chunk : ℕ) → ((place : ℕ) → place < (layout_of version).chunk_entries → logged version new chunk place ≡ logged version words chunk place) →

@@ -2,3 +2,4 @@ pub mod Directories
 pub mod Appending
 pub mod Places
 pub mod Takings
+pub mod Puts

@@ -1,5 +1,5 @@
 -- Where the chunks of a well-formed log lie among the words.
-use Rattle.std.proofs.Common.{◌≡◌, ◌<◌, ◌≤◌, ◌+◌, ◌-◌, ◌*◌, ◌/◌, ℕ, List, length, get_or, ap, arith}
+use Rattle.std.proofs.Common.{◌≡◌, ◌<◌, ◌≤◌, ◌+◌, ◌-◌, ◌*◌, ◌/◌, ℕ, List, length, get_or, ap, arith, subst, sym}
 use Rattle.std.proofs.Math.Nat.{mul-le-mul_left}
 use Rattle.std.specs.List.{All}
 use Rattle.pmem_lines.specs.Words.{word_at}
@@ -48,3 +48,14 @@ within_heap words heap i d below =
     let size = (layout_of version).chunk_bytes / 8 in
     let grows : size * (chunk + 1) ≤ size * 16 = mul-le-mul_left size few in
     omega (arith, grows, rules.heap, rules.chunk, rules.log)
+
+-- words of the same directory, version and number have the chunks inside too
+pub within_same : (words new : List ℕ) → version_in new ≡ version_in words → chunks_of new ≡ chunks_of words → length new ≡ length words → AreWithin words → AreWithin new
+within_same words new version chunks size inside =
+    let old : All (IsWithin new) (chunks_of words) = λ i d below.
+        let last = get_or (chunks_of words) i d + 1 in
+        subst (λ v. chunk_word v last ≤ length new) (sym version) (subst (λ n. chunk_word (version_in words) last ≤ n) (sym size) (inside i d below)) in
+    subst (All (IsWithin new)) (sym chunks) old
+
+pub last_chunk-same : (words new : List ℕ) → chunks_of new ≡ chunks_of words → last_chunk new ≡ last_chunk words
+last_chunk-same words new chunks = ap (λ cs. get_or cs (length cs - 1) 0) chunks

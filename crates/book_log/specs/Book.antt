@@ -1,7 +1,9 @@
 -- What a bookkeeping log means to its callers, and when that is what the words of an arena say.
-use Rattle.std.specs.Prelude.{◌≡◌, ◌≢◌, ◌⊎◌, ℕ, ◌+◌, ◌-◌, ◌<◌, ◌≤◌, List, length, slice_index, Option, Some, None}
+use Rattle.std.specs.Prelude.{◌≡◌, ◌≢◌, ◌⊎◌, ℕ, ◌+◌, ◌-◌, ◌*◌, ◌<◌, ◌≤◌, List, length, slice_index, Option, Some, None}
 use Rattle.std.specs.List.{All}
 use Rattle.pmem_lines.specs.Words.{word_at, put_word}
+use Rattle.pmem_lines.specs.declared.event.Event.{Event}
+use Rattle.durable_steps.specs.Steps.{word_events}
 use Rattle.pool_layout.specs.Layout.{layout_of}
 use Rattle.pool_layout.specs.Places.{directory_word, chunk_word, entry_word}
 use Rattle.pool_layout.specs.Header.{version_in}
@@ -10,7 +12,7 @@ use Rattle.image_tables.specs.Log.{active_chunks}
 use Rattle.image_tables.specs.Extents.{extent_at}
 use Rattle.book_log.specs.declared.entry.LogEntry.{LogEntry}
 use Rattle.book_log.specs.declared.place.EntryPlace.{EntryPlace}
-use Rattle.book_log.specs.Entry.{log_word}
+use Rattle.book_log.specs.Entry.{log_word, IsInHeap}
 use Rattle.book_log.specs.Log.{IsLog, IsNext, logged, with_entry}
 use Rattle.book_log.specs.Table.{extent_in}
 
@@ -80,10 +82,31 @@ pub record Reads (book : Book) (words : List ℕ) : Type 0 where
   pub live : (start : ℕ) → live_at book start ≡ extent_at words start
   pub next : IsNextOf words book.next
 
--- the word that the next entry goes to
-abbrev pub next_word : ℕ → Option EntryPlace → ℕ
-next_word version None = 0
-next_word version (Some place) = entry_word version place.chunk place.entry
+-- the word of a place, if there is one
+abbrev pub place_word : ℕ → Option EntryPlace → ℕ
+place_word version None = 0
+place_word version (Some place) = entry_word version place.chunk place.entry
+
+-- the word that the next entry goes to, where there is room
+abbrev pub next_word : Book → List ℕ → ℕ
+next_word book words = place_word (version_in words) book.next
+
+-- an entry is put there and made durable
+abbrev pub append_events : Book → List ℕ → LogEntry → List Event
+append_events book words entry = word_events (8 * next_word book words) (log_word entry)
+
+-- an entry may go to this place of the log
+pub record CanTake (granules : ℕ) (words : List ℕ) (place : EntryPlace) (entry : LogEntry) : Type 0 where
+  pub small : granules ≤ 1024
+  pub log : HasLog granules words
+  pub inside : AreWithin words
+  pub next : IsNextOf words (Some place)
+  pub valid : IsInHeap (layout_of (version_in words)).first_granule granules entry
+
+-- the place behind a place of a chunk of so many entries, if there is one
+abbrev pub IsPlaceAfter : ℕ → EntryPlace → Option EntryPlace → Type 0
+IsPlaceAfter entries place None = entries ≤ place.entry + 1
+IsPlaceAfter entries place (Some next) = (next.chunk ≡ place.chunk) × (next.entry ≡ place.entry + 1) × (next.entry < entries)
 
 -- what a crash leaves of an entry that is put into this word: all words but one are as they were, the log is well
 -- formed, and the live extents are those before the entry or those after it

@@ -6,6 +6,7 @@
 // and after an append.
 #![tactic(auto)]
 
+mod append;
 mod directory;
 mod entry;
 mod live;

@@ -31,12 +31,12 @@ pub returns-clause-live : goal.returns-clause-live
 returns-clause-live g c start =
     let words = words_of (g.P.Pmem.state c.args.device.now) in
     let chunks : c.as_slice-chunks.result.now ≡ chunks_of words =
-        c.as_slice-chunks.ensures.value ∙ c.active_chunks-directory.ensures ∙ ap active_chunks (c.load.ensures ∙ word_of_place words c.directory_at.result directory_word c.directory_at.ensures) in
+    c.as_slice-chunks.ensures.value ∙ c.active_chunks-directory.ensures ∙ ap active_chunks (c.load.ensures ∙ word_of_place words c.directory_at.result directory_word c.directory_at.ensures) in
     c.loop-chunk.invariant start ∙ behind_all words c.version_of-version.result c.as_slice-chunks.result.now c.loop-chunk.chunk-index start c.version_of-version.ensures chunks c.loop-chunk-test.false
 
 pub returns-in_err-entry-clause-live : goal.returns-in_err-entry-clause-live
 returns-in_err-entry-clause-live g c start =
     let words = words_of (g.P.Pmem.state c.args.device.now) in
     let chunks : c.as_slice-chunks.result.now ≡ chunks_of words =
-        c.as_slice-chunks.ensures.value ∙ c.active_chunks-directory.ensures ∙ ap active_chunks (c.load.ensures ∙ word_of_place words c.directory_at.result directory_word c.directory_at.ensures) in
+    c.as_slice-chunks.ensures.value ∙ c.active_chunks-directory.ensures ∙ ap active_chunks (c.load.ensures ∙ word_of_place words c.directory_at.result directory_word c.directory_at.ensures) in
     c.loop-chunk.invariant start ∙ behind_all words c.version_of-version.result c.as_slice-chunks.result.now c.loop-chunk.chunk-index start c.version_of-version.ensures chunks c.loop-chunk-test.false
