@@ -76,7 +76,7 @@ pub with_entry-same : (old new : ℕ → Option Extent) (entry : LogEntry) (star
 with_entry-same old new entry start same = ap (λ x. cond (eqb start (start_of entry)) (extent_of entry) x) same
 
 -- a chunk whose words are the same
-chunk_same : (version granules : ℕ) (words new : List ℕ) (chunk : ℕ) → ((place : ℕ) → place < (layout_of version).chunk_entries → logged version new chunk place ≡ logged version words chunk place) →
+pub chunk_same : (version granules : ℕ) (words new : List ℕ) (chunk : ℕ) → ((place : ℕ) → place < (layout_of version).chunk_entries → logged version new chunk place ≡ logged version words chunk place) →
     IsChunk version granules words chunk → IsChunk version granules new chunk
 chunk_same version granules words new chunk same is = record {
   entries = λ place below some.

@@ -3,3 +3,4 @@ pub mod Appending
 pub mod Places
 pub mod Takings
 pub mod Puts
+pub mod Books

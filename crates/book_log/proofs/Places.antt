@@ -53,8 +53,8 @@ within_heap words heap i d below =
 pub within_same : (words new : List ℕ) → version_in new ≡ version_in words → chunks_of new ≡ chunks_of words → length new ≡ length words → AreWithin words → AreWithin new
 within_same words new version chunks size inside =
     let old : All (IsWithin new) (chunks_of words) = λ i d below.
-        let last = get_or (chunks_of words) i d + 1 in
-        subst (λ v. chunk_word v last ≤ length new) (sym version) (subst (λ n. chunk_word (version_in words) last ≤ n) (sym size) (inside i d below)) in
+    let last = get_or (chunks_of words) i d + 1 in
+    subst (λ v. chunk_word v last ≤ length new) (sym version) (subst (λ n. chunk_word (version_in words) last ≤ n) (sym size) (inside i d below)) in
     subst (All (IsWithin new)) (sym chunks) old
 
 pub last_chunk-same : (words new : List ℕ) → chunks_of new ≡ chunks_of words → last_chunk new ≡ last_chunk words

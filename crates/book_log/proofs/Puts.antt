@@ -13,14 +13,14 @@ use Rattle.pool_layout.specs.Places.{fields_word, directory_word, entry_word}
 use Rattle.pool_layout.specs.Header.{version_field, version_in}
 use Rattle.image_tables.specs.Log.{active_chunks}
 use Rattle.image_tables.specs.Extents.{extent_at}
-use Rattle.image_tables.proofs.Places.{log_word-low, entry_word-low, entry_word-same}
+use Rattle.image_tables.proofs.Places.{log_word-low, entry_word-low, entry_word-high, entry_word-same}
 use Rattle.book_log.specs.declared.entry.LogEntry.{LogEntry}
 use Rattle.book_log.specs.declared.entry.LogEntry.TheVariants.{Large, Slab, Tomb}
 use Rattle.book_log.specs.declared.place.EntryPlace.{EntryPlace}
 use Rattle.book_log.specs.Entry.{log_word, FitsWord, IsInHeap, IsEntryWord, SaysOf, start_of}
 use Rattle.book_log.specs.Log.{IsLog, IsChunk, IsNext, logged, with_entry}
-use Rattle.book_log.specs.Book.{HasLog, AreWithin, IsWithin, IsFull, IsNextOf, CanTake, IsPlaceAfter, IsEntryOrNot, chunks_of, last_chunk}
-use Rattle.book_log.proofs.Places.{of_last, entry_word-within, within_same, last_chunk-same}
+use Rattle.book_log.specs.Book.{HasLog, AreWithin, IsWithin, IsFull, IsNextOf, CanTake, IsPlaceAfter, IsEntryOrNot, IsInLog, chunks_of, last_chunk}
+use Rattle.book_log.proofs.Places.{of_last, last_chunk-few, entry_word-within, within_same, last_chunk-same}
 use Rattle.book_log.proofs.Appending.{IsAppend, front_of, log_word-some, extent_at-entry, log_appended}
 
 -- an entry in the heap of a small arena fits the word
@@ -65,6 +65,16 @@ append_of {granules} {words} {place} {entry} can = record {
       let same : IsWithin words place.chunk = subst (IsWithin words) (sym can.next.0) last in
       omega (arith, entry_word-within (version_in words) place.chunk place.entry can.next.1.below, same);
 }
+
+-- the place lies in the log
+pub place_in_log : {granules : ℕ} {words : List ℕ} {place : EntryPlace} {entry : LogEntry} → CanTake granules words place entry →
+    IsInLog (version_in words) (entry_word (version_in words) place.chunk place.entry)
+place_in_log {granules} {words} {place} {entry} can =
+    let few : place.chunk < 16 = subst (λ c. c < 16) (sym can.next.0) (last_chunk-few words can.log.directory.some) in
+    record {
+      low = entry_word-low (version_in words) place.chunk place.entry;
+      high = entry_word-high (version_in words) place.chunk place.entry few can.next.1.below;
+    }
 
 -- the words with the entry at its place
 abbrev pub put_at : List ℕ → EntryPlace → LogEntry → List ℕ

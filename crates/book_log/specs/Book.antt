@@ -5,7 +5,7 @@ use Rattle.pmem_lines.specs.Words.{word_at, put_word}
 use Rattle.pmem_lines.specs.declared.event.Event.{Event}
 use Rattle.durable_steps.specs.Steps.{word_events}
 use Rattle.pool_layout.specs.Layout.{layout_of}
-use Rattle.pool_layout.specs.Places.{directory_word, chunk_word, entry_word}
+use Rattle.pool_layout.specs.Places.{directory_word, log_word as log_begin, chunk_word, entry_word, heap_word}
 use Rattle.pool_layout.specs.Header.{version_in}
 use Rattle.image_tables.specs.declared.extent.Extent.{Extent}
 use Rattle.image_tables.specs.Log.{active_chunks}
@@ -90,6 +90,11 @@ place_word version (Some place) = entry_word version place.chunk place.entry
 -- the word that the next entry goes to, where there is room
 abbrev pub next_word : Book → List ℕ → ℕ
 next_word book words = place_word (version_in words) book.next
+
+-- a word of the log's chunks
+pub record IsInLog (version word : ℕ) : Type 0 where
+  pub low : log_begin version < word
+  pub high : word < heap_word version
 
 -- an entry is put there and made durable
 abbrev pub append_events : Book → List ℕ → LogEntry → List Event

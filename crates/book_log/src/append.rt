@@ -12,7 +12,7 @@ ghost use Rattle.image_tables.specs.Extents.{extent_at};
 ghost use Rattle.book_log.specs.Entry.{log_word};
 ghost use Rattle.book_log.specs.Log.{with_entry};
 ghost use Rattle.book_log.specs.Table.{extent_in};
-ghost use Rattle.book_log.specs.Book.{HasLog, AreWithin, IsNextOf, CanTake, IsPlaceAfter, IsEntryOrNot};
+ghost use Rattle.book_log.specs.Book.{HasLog, AreWithin, IsNextOf, CanTake, IsPlaceAfter, IsEntryOrNot, IsInLog, chunks_of};
 
 use crate::live::put_entry;
 use crate::taking::version_of;
@@ -51,6 +51,9 @@ pub(crate) fn append_at<P: Pmem>(
     requires room { HasRoom (P.state device.old) 3 }
     ensures appends { Appends (P.state device.old) (P.state device.new) (word_events (8 * entry_word (version_in (words_of (P.state device.old))) place.chunk place.entry) (log_word entry)) }
     ensures words { words_of (P.state device.new) ≡ put_word (words_of (P.state device.old)) (entry_word (version_in (words_of (P.state device.old))) place.chunk place.entry) (log_word entry) }
+    ensures place { IsInLog (version_in (words_of (P.state device.old))) (entry_word (version_in (words_of (P.state device.old))) place.chunk place.entry) }
+    ensures version { version_in (words_of (P.state device.new)) ≡ version_in (words_of (P.state device.old)) }
+    ensures chunks { chunks_of (words_of (P.state device.new)) ≡ chunks_of (words_of (P.state device.old)) }
     ensures quiet { IsQuiet (P.state device.new).events }
     ensures extents { (start : ℕ) → extent_at (words_of (P.state device.new)) start ≡ with_entry (extent_at (words_of (P.state device.old))) entry start }
     ensures live { (start : ℕ) → extent_in live.new start ≡ extent_at (words_of (P.state device.new)) start }

@@ -1,10 +1,18 @@
 // The bookkeeping log of an arena.
 
 ghost use Rattle.std.specs.Prelude.{◌≡◌, ◌↔◌, ℕ, ◌≤◌, List, IsTrue, IsSome, IfOk, MatchOption};
-ghost use Rattle.pmem_lines.specs.Pmem.{words_of};
-ghost use Rattle.book_log.specs.Book.{live_at, IsBlank, HasLog, AreWithin, Reads, HasFreeEntry};
+ghost use Rattle.pmem_lines.specs.Words.{put_word};
+ghost use Rattle.pmem_lines.specs.Events.{IsQuiet, CrashOnly};
+ghost use Rattle.pmem_lines.specs.Pmem.{words_of, HasRoom, Appends};
+ghost use Rattle.pool_layout.specs.Layout.{layout_of};
+ghost use Rattle.pool_layout.specs.Header.{version_in};
+ghost use Rattle.image_tables.specs.Extents.{extent_at};
+ghost use Rattle.book_log.specs.Entry.{log_word, IsInHeap};
+ghost use Rattle.book_log.specs.Log.{with_entry};
 ghost use Rattle.book_log.specs.Table.{IsNextLive, IsNoneLive};
+ghost use Rattle.book_log.specs.Book.{live_at, IsBlank, HasLog, AreWithin, Reads, HasFreeEntry, chunks_of, next_word, append_events, IsEntryOrNot, IsInLog};
 
+use crate::append::append_at;
 use crate::live::{next_in, no_extents};
 use crate::taking::take_log;
 use crate::{EntryPlace, LogEntry};
@@ -64,9 +72,34 @@ impl BookLog {
         self.next.is_some()
     }
 
+    /// Puts an entry at the end of the log and makes it durable, in three events: the log has room, and the entry is
+    /// one that its arena may have. One word changes, and the live extents are as before with the entry done. After a
+    /// crash within it that word is old or new, and so are the live extents.
+    pub fn append<P: Pmem>(&mut self, p: &mut P, e: LogEntry)
+        requires reads { Reads self.old (words_of (P.state p.old)) }
+        requires room { IsSome self.old.next }
+        requires valid { IsInHeap (layout_of (version_in (words_of (P.state p.old)))).first_granule self.old.granules e }
+        requires quiet { IsQuiet (P.state p.old).events }
+        requires left { HasRoom (P.state p.old) 3 }
+        ensures appends { Appends (P.state p.old) (P.state p.new) (append_events self.old (words_of (P.state p.old)) e) }
+        ensures words { words_of (P.state p.new) ≡ put_word (words_of (P.state p.old)) (next_word self.old (words_of (P.state p.old))) (log_word e) }
+        ensures extents { (start : ℕ) → extent_at (words_of (P.state p.new)) start ≡ with_entry (extent_at (words_of (P.state p.old))) e start }
+        ensures reads { Reads self.new (words_of (P.state p.new)) }
+        ensures granules { self.new.granules ≡ self.old.granules }
+        ensures place { IsInLog (version_in (words_of (P.state p.old))) (next_word self.old (words_of (P.state p.old))) }
+        ensures version { version_in (words_of (P.state p.new)) ≡ version_in (words_of (P.state p.old)) }
+        ensures chunks { chunks_of (words_of (P.state p.new)) ≡ chunks_of (words_of (P.state p.old)) }
+        ensures quiet { IsQuiet (P.state p.new).events }
+        ensures crash { CrashOnly (words_of (P.state p.old)) (append_events self.old (words_of (P.state p.old)) e) (IsEntryOrNot self.old.granules (words_of (P.state p.old)) (next_word self.old (words_of (P.state p.old))) e) }
+    {
+        let place = self.next.unwrap();
+        self.next = append_at(&mut self.live, p, place, e);
+    }
+
     /// The entry of the live extent with the least start that is at least `from`; None exactly where there is none.
     pub fn next_live(&self, from: u32) -> Option<LogEntry>
-        ensures { MatchOption result (IsNoneLive (live_at self.now) from) (IsNextLive (live_at self.now) from) }
+        ensures live { MatchOption result (IsNoneLive (live_at self.now) from) (IsNextLive (live_at self.now) from) }
+        ensures reads { (words : List ℕ) → Reads self.now words → MatchOption result (IsNoneLive (extent_at words) from) (IsNextLive (extent_at words) from) }
     {
         next_in(&self.live, from)
     }

@@ -43,8 +43,8 @@ pub record IsOffLog (words : List ℕ) (k : ℕ) : Type 0 where
   pub place : (k < log_word (version_in words)) ⊎ (heap_word (version_in words) ≤ k)
 
 -- a store to such a word
-pub log_of-elsewhere : (words : List ℕ) (k v : ℕ) → IsOffLog words k → log_of (put_word words k v) ≡ log_of words
-log_of-elsewhere words k v off = log_of-same words (put_word words k v) (record {
+pub SameLog-elsewhere : (words : List ℕ) (k v : ℕ) → IsOffLog words k → SameLog words (put_word words k v)
+SameLog-elsewhere words k v off = record {
   fields = word_at-put_other words k fields_word v (λ e. off.fields (sym e));
   directory = word_at-put_other words k directory_word v (λ e. off.directory (sym e));
   chunks = All-weaker (λ c. c < 16) (SameChunk (version_in words) words (put_word words k v))
@@ -55,7 +55,10 @@ log_of-elsewhere words k v off = log_of-same words (put_word words k v) (record 
             off.place);
       })
       (active_chunks (word_at words directory_word)) (few_chunks (word_at words directory_word));
-})
+}
+
+pub log_of-elsewhere : (words : List ℕ) (k v : ℕ) → IsOffLog words k → log_of (put_word words k v) ≡ log_of words
+log_of-elsewhere words k v off = log_of-same words (put_word words k v) (SameLog-elsewhere words k v off)
 
 -- words that differ in the entries of one chunk alone
 pub record SameButChunk (words new : List ℕ) (chunk : ℕ) : Type 0 where

@@ -8,10 +8,10 @@ use Rattle.pool_layout.specs.Header.{version_in}
 use Rattle.image_tables.specs.Extents.{extent_at}
 use Rattle.book_log.specs.Log.{with_entry}
 use Rattle.book_log.specs.Table.{extent_in}
-use Rattle.book_log.specs.Book.{HasLog, AreWithin, IsNextOf, IsPlaceAfter}
+use Rattle.book_log.specs.Book.{HasLog, AreWithin, IsNextOf, IsPlaceAfter, chunks_of}
 use Rattle.book_log.proofs.Places.{header_within, place_at}
 use Rattle.book_log.proofs.Appending.{with_entry-same}
-use Rattle.book_log.proofs.Puts.{append_of, put_at, log_put, within_put, extents_put, next_put, IsStep, says_step, words_step, crash_step}
+use Rattle.book_log.proofs.Puts.{append_of, put_at, version_put, chunks_put, place_in_log, log_put, within_put, extents_put, next_put, IsStep, says_step, words_step, crash_step}
 use Rattle.book_log.proofs.append.append_at.Given as given
 use Rattle.book_log.proofs.append.append_at.Goals as goal
 
@@ -63,9 +63,18 @@ pub returns-clause-next : goal.returns-clause-next
 returns-clause-next g c =
     let words = words_of (g.P.Pmem.state c.args.device.now) in
     let entries : c.layout_of.result.chunk_entries ≡ (layout_of (version_in words)).chunk_entries =
-        ap (λ (row : Layout). row.chunk_entries) (c.layout_of.ensures.row ∙ ap layout_of c.version_of-version.ensures) in
+    ap (λ (row : Layout). row.chunk_entries) (c.layout_of.ensures.row ∙ ap layout_of c.version_of-version.ensures) in
     subst (λ (ws : List ℕ). IsNextOf ws c.place_after.result) (left g c)
     (next_put c.place_after.result c.requires.place (subst (λ n. IsPlaceAfter n c.args.place c.place_after.result) entries c.place_after.ensures))
 
 pub returns-clause-crash : goal.returns-clause-crash
 returns-clause-crash g c = crash_step c.requires.place (step g c) c.write_word.ensures.crash
+
+pub returns-clause-place : goal.returns-clause-place
+returns-clause-place g c = place_in_log c.requires.place
+
+pub returns-clause-version : goal.returns-clause-version
+returns-clause-version g c = ap (λ (ws : List ℕ). version_in ws) (sym (left g c)) ∙ version_put (words_of (g.P.Pmem.state c.args.device.now)) c.args.place c.args.entry
+
+pub returns-clause-chunks : goal.returns-clause-chunks
+returns-clause-chunks g c = ap chunks_of (sym (left g c)) ∙ chunks_put (words_of (g.P.Pmem.state c.args.device.now)) c.args.place c.args.entry
