@@ -4,3 +4,4 @@ pub mod Places
 pub mod Takings
 pub mod Puts
 pub mod Books
+pub mod Fresh

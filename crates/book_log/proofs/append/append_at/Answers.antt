@@ -1,12 +1,10 @@
-use Rattle.std.proofs.Common.{◌≡◌, ◌*◌, ◌/◌, ◌∙◌, ap, sym, subst, length, List, ℕ, arith}
-use Rattle.pmem_lines.specs.Words.{put_word}
+use Rattle.std.proofs.Common.{◌≡◌, ◌*◌, ◌∙◌, ap, sym, subst, length, List, ℕ, arith}
 use Rattle.pmem_lines.specs.Pmem.{words_of}
 use Rattle.pool_layout.specs.Layout.{layout_of}
 use Rattle.pool_layout.specs.declared.layout.Layout.{Layout}
 use Rattle.pool_layout.specs.Places.{entry_word}
 use Rattle.pool_layout.specs.Header.{version_in}
 use Rattle.image_tables.specs.Extents.{extent_at}
-use Rattle.book_log.specs.Log.{with_entry}
 use Rattle.book_log.specs.Table.{extent_in}
 use Rattle.book_log.specs.Book.{HasLog, AreWithin, IsNextOf, IsPlaceAfter, chunks_of}
 use Rattle.book_log.proofs.Places.{header_within, place_at}
