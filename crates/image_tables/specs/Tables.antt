@@ -1,0 +1,122 @@
+-- What the words of an arena say, table by table. Nothing here knows what follows from it: whether an image is sound is
+-- stated over the tables alone. Each table has exactly what is read: nothing of a granule at which no slab begins, bits
+-- and places of the index table below what the header of a slab can hold.
+use Rattle.std.specs.Prelude.{◌==◌, ◌&&◌, nat_lt, ℕ, zero, suc, ◌+◌, ◌*◌, ◌/◌, ◌%◌, ◌^◌, Bool, true, false, List, Option, Some, None, if◌then◌else◌}
+use Rattle.pmem_lines.specs.Words.{word_at}
+use Rattle.pool_layout.specs.Layout.{layout_of}
+use Rattle.pool_layout.specs.Places.{root_word, wal_word, granule_word, line_place, index_place}
+use Rattle.pool_layout.specs.Header.{version_in}
+use Rattle.image_tables.specs.declared.extent.Extent.{Extent}
+use Rattle.image_tables.specs.declared.extent.Extent.TheVariants.{Large, Slab}
+use Rattle.image_tables.specs.Extents.{extent_at}
+
+-- an open write-ahead entry: the root and the address of its block, whether that is an old block of its slab, and then
+-- its place in the index table
+pub record OpenEntry : Type 0 where
+  pub root : ℕ
+  pub at : ℕ
+  pub old : Bool
+  pub place : ℕ
+
+pub record Tables : Type 0 where
+  -- the root words
+  pub root : ℕ → ℕ
+  -- the open write-ahead entry
+  pub entry : Option OpenEntry
+  -- how many granules the live large extent has that starts at a granule, 0 where none starts
+  pub large : ℕ → ℕ
+  -- a live slab starts at the granule
+  pub slab : ℕ → Bool
+  -- the state word of the slab that starts at a granule: 1 Normal, 2 Morphing, 3 Morphed
+  pub kind : ℕ → ℕ
+  -- its class, its old class and the number of its index entries
+  pub class : ℕ → ℕ
+  pub old : ℕ → ℕ
+  pub entries : ℕ → ℕ
+  -- the bit of block i of the slab that starts at a granule
+  pub bit : ℕ → ℕ → Bool
+  -- the index table of that slab, by place: whether the old block lives, and its number
+  pub live : ℕ → ℕ → Bool
+  pub number : ℕ → ℕ → ℕ
+
+-- extents
+
+abbrev pub large_of : Option Extent → ℕ
+large_of None = 0
+large_of (Some (Large granules)) = granules
+large_of (Some Slab) = 0
+
+abbrev pub is_slab_of : Option Extent → Bool
+is_slab_of None = false
+is_slab_of (Some (Large granules)) = false
+is_slab_of (Some Slab) = true
+
+-- a slab begins at the granule
+abbrev pub is_slab : List ℕ → ℕ → Bool
+is_slab words start = is_slab_of (extent_at words start)
+
+-- the open entry
+
+-- the entry of a word that is not 0
+unfoldable pub entry_of_word : ℕ → OpenEntry
+entry_of_word word = record { root = word / 2 ^ 16 % 2 ^ 16; at = word / 2 ^ 32; old = word / 2 % 2 == 1; place = word / 2 ^ 8 % 2 ^ 8 }
+
+-- how many write-ahead lines there are
+unfoldable pub wal_lines : ℕ
+wal_lines = 8
+
+-- the entry among the first n write-ahead lines, of which one at most has one
+abbrev pub entry_among : (ℕ → ℕ) → ℕ → Option OpenEntry
+entry_among row zero = None
+entry_among row (suc n) = if row n == 0 then entry_among row n else Some (entry_of_word (row n))
+
+-- slabs
+
+-- a number, where there is a slab, and 0 else
+abbrev pub where_slab : Bool → ℕ → ℕ
+where_slab slab number = if slab then number else 0
+
+-- bit k of a word
+unfoldable pub bit_of_word : ℕ → ℕ → Bool
+bit_of_word word k = word / 2 ^ k % 2 == 1
+
+-- the state word of the slab at a granule
+abbrev pub state_word : ℕ → ℕ
+state_word start = granule_word start + line_place 0 0
+
+-- the word that has the bit of block i: lines 1 to 8 of the header take the blocks in turn
+abbrev pub bitmap_word : ℕ → ℕ → ℕ
+bitmap_word start i = granule_word start + line_place (1 + i % 8) (i / 8 / 64)
+
+-- the word of a place of the index table
+abbrev pub index_word : ℕ → ℕ → ℕ
+index_word start place = granule_word start + index_place place
+
+abbrev pub bit_at : List ℕ → ℕ → ℕ → Bool
+bit_at words start i = is_slab words start && (nat_lt i 4096 && bit_of_word (word_at words (bitmap_word start i)) (i / 8 % 64))
+
+abbrev pub live_at : List ℕ → ℕ → ℕ → Bool
+live_at words start place = is_slab words start && (nat_lt place 64 && bit_of_word (word_at words (index_word start place)) 0)
+
+abbrev pub number_at : List ℕ → ℕ → ℕ → ℕ
+number_at words start place = where_slab (is_slab words start && nat_lt place 64) (word_at words (index_word start place) / 2 ^ 16 % 2 ^ 16)
+
+-- a field of the state word, of eight bits from this one on
+abbrev pub state_field : List ℕ → ℕ → ℕ → ℕ
+state_field words start bits = where_slab (is_slab words start) (word_at words (state_word start) / 2 ^ bits % 2 ^ 8)
+
+-- what the words of an arena say
+unfoldable pub tables_of : List ℕ → Tables
+tables_of words = record {
+  root = λ r. if nat_lt r (layout_of (version_in words)).roots then word_at words (root_word r) else 0;
+  entry = entry_among (λ line. word_at words (wal_word line)) wal_lines;
+  large = λ start. large_of (extent_at words start);
+  slab = is_slab words;
+  kind = λ start. state_field words start 0;
+  class = λ start. state_field words start 8;
+  old = λ start. state_field words start 16;
+  entries = λ start. state_field words start 24;
+  bit = bit_at words;
+  live = live_at words;
+  number = number_at words;
+}
