@@ -1,0 +1,91 @@
+-- The heap that an image has: the block of each root, with its size. All of it is read off the tables of the image.
+use Rattle.std.specs.Prelude.{◌≡◌, ◌≢◌, ◌⊎◌, ◌==◌, ◌&&◌, ◌||◌, nat_lt, ℕ, zero, suc, ◌*◌, ◌/◌, ◌%◌, ◌-◌, ◌<◌, Bool, true, false, Option, Some, None, if◌then◌else◌}
+use Rattle.size_classes.specs.Classes.{class_size, class_capacity}
+use Rattle.image_tables.specs.Tables.{OpenEntry, Tables}
+use Rattle.heap_model.specs.Machine.{Range, slab_block}
+
+-- the start of the slab that has a granule, where one has it
+unfoldable pub slab_of : (ℕ → Bool) → ℕ → ℕ
+slab_of slab k = if slab k then k else if slab (k - 1) then k - 1 else if slab (k - 2) then k - 2 else k - 3
+
+-- some number below n passes the test
+abbrev pub any_below : (ℕ → Bool) → ℕ → Bool
+any_below test zero = false
+any_below test (suc n) = test n || any_below test n
+
+-- a live place of a slab's index table, of which n are read, has its block of class c at this address
+unfoldable pub is_old_of : ℕ → ℕ → (ℕ → Bool) → (ℕ → ℕ) → ℕ → ℕ → Bool
+is_old_of start c live number n at = any_below (λ place. live place && ((slab_block start c (number place)).at == at)) n
+
+-- a live index entry of the slab has its block there
+abbrev pub is_old : Tables → ℕ → ℕ → Bool
+is_old t start at = is_old_of start (t.old start) (t.live start) (t.number start) (t.entries start) at
+
+-- a live large extent starts at the address
+unfoldable pub is_large : (ℕ → ℕ) → ℕ → Bool
+is_large large at = (at % 16384 == 0) && nat_lt 0 (large (at / 16384))
+
+-- the address that the open entry has for a root, 0 where it names another
+abbrev pub entry_at : Option OpenEntry → ℕ → ℕ
+entry_at None root = 0
+entry_at (Some e) root = if root == e.root then e.at else 0
+
+-- the open entry is one of an old block
+abbrev pub entry_old : Option OpenEntry → Bool
+entry_old None = false
+entry_old (Some e) = e.old
+
+-- the size of the old class, or of the class, of the slab that has an address
+abbrev pub size_by : Tables → ℕ → Bool → ℕ
+size_by t at of_old = class_size (if of_old then t.old (slab_of t.slab (at / 16384)) else t.class (slab_of t.slab (at / 16384)))
+
+-- The size of the block of a root at an address: that of the live large extent that starts there; else, where the open
+-- entry names this root and address, the size of the old class or of the class, as the entry says; else that of the
+-- live index entry's block there; else that of the block of the slab's class.
+abbrev pub size_at : Tables → ℕ → ℕ → ℕ
+size_at t root at =
+    if is_large t.large at then 16384 * t.large (at / 16384)
+    else (if (entry_at t.entry root == at) && nat_lt 0 at then size_by t at (entry_old t.entry)
+    else size_by t at (is_old t (slab_of t.slab (at / 16384)) at))
+
+-- the heap of an image: each root whose word is not 0 has the block there
+abbrev pub heap : Tables → ℕ → Option Range
+heap t root = if t.root root == 0 then None else Some (record { at = t.root root; size = size_at t root (t.root root) })
+
+-- the slabs of an image, each with its class
+abbrev pub slabs : Tables → ℕ → Option ℕ
+slabs t start = if t.slab start then Some (t.class start) else None
+
+-- claims: the open entry's block counts as its root's
+
+-- the address of a root's block, 0 where it has none
+abbrev pub claim_at : Tables → ℕ → ℕ
+claim_at t root = if t.root root == 0 then entry_at t.entry root else t.root root
+
+-- a root has this block
+pub record IsClaim (t : Tables) (root : ℕ) (range : Range) : Type 0 where
+  pub some : range.at ≢ 0
+  pub place : claim_at t root ≡ range.at
+  pub wide : size_at t root (claim_at t root) ≡ range.size
+
+-- what a slab holds
+
+-- the block of a bit that is set, which is not read while the slab takes another class
+pub record HoldsBit (t : Tables) (start : ℕ) (range : Range) : Type 0 where
+  pub number : ℕ
+  pub below : number < class_capacity (t.class start)
+  pub read : t.kind start ≢ 2
+  pub set : t.bit start number ≡ true
+  pub is : range ≡ slab_block start (t.class start) number
+
+-- the block of a live index entry, of the old class
+pub record HoldsOld (t : Tables) (start : ℕ) (range : Range) : Type 0 where
+  pub place : ℕ
+  pub below : place < t.entries start
+  pub live : t.live start place ≡ true
+  pub is : range ≡ slab_block start (t.old start) (t.number start place)
+
+-- a slab holds a block
+pub record Holds (t : Tables) (start : ℕ) (range : Range) : Type 0 where
+  pub slab : t.slab start ≡ true
+  pub block : HoldsBit t start range ⊎ HoldsOld t start range

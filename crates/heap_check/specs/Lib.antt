@@ -1,0 +1,3 @@
+pub mod Heap
+pub mod Sound
+pub mod Laws

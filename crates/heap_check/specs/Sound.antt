@@ -1,0 +1,142 @@
+-- When an image is sound, part by part, over its tables; when nothing in it is loose; and what every crash of a call
+-- leaves.
+use Rattle.std.specs.Prelude.{◌≡◌, ◌≢◌, ◌⊎◌, ℕ, ◌+◌, ◌*◌, ◌<◌, ◌≤◌, true, false, Some, None, if◌then◌else◌}
+use Rattle.size_classes.specs.Classes.{class_capacity}
+use Rattle.image_tables.specs.Tables.{OpenEntry, Tables}
+use Rattle.heap_model.specs.Machine.{Bounds, Range, AreApart, slab_block}
+use Rattle.heap_check.specs.Heap.{is_large, entry_at, IsClaim, Holds}
+
+-- extents
+
+-- how many granules the live extent has that starts at a granule: a slab has four
+abbrev pub granules_at : Tables → ℕ → ℕ
+granules_at t start = if t.slab start then 4 else t.large start
+
+-- a granule lies in the live extent that starts at another
+pub record Covers (t : Tables) (start k : ℕ) : Type 0 where
+  pub low : start ≤ k
+  pub high : k < start + granules_at t start
+
+-- an address lies in the slab at a start
+pub record IsInSlab (t : Tables) (start at : ℕ) : Type 0 where
+  pub slab : t.slab start ≡ true
+  pub low : 16384 * start ≤ at
+  pub high : at < 16384 * start + 65536
+
+-- slabs
+
+-- state word and index entries of a slab are valid
+pub record IsSlab (t : Tables) (start : ℕ) : Type 0 where
+  pub state : (t.kind start ≡ 1) ⊎ ((t.kind start ≡ 2) ⊎ (t.kind start ≡ 3))
+  pub class : t.class start < 36
+  pub old_class : t.old start < 36
+  pub none : t.kind start ≡ 1 → (t.old start ≡ 0) × (t.entries start ≡ 0)
+  pub differ : t.kind start ≢ 1 → t.old start ≢ t.class start
+  pub number : t.kind start ≢ 1 → (1 ≤ t.entries start) × (t.entries start ≤ 64)
+  pub small : (place : ℕ) → place < t.entries start → t.number start place < class_capacity (t.old start)
+  pub once : (place other : ℕ) → place < t.entries start → other < t.entries start → t.number start place ≡ t.number start other → place ≡ other
+
+-- the open entry
+
+-- its block is one of its slab's class
+pub record IsNewEntry (t : Tables) (e : OpenEntry) : Type 0 where
+  pub start : ℕ
+  pub number : ℕ
+  pub slab : t.slab start ≡ true
+  pub below : number < class_capacity (t.class start)
+  pub at : e.at ≡ (slab_block start (t.class start) number).at
+
+-- its block is one that its slab's index table has
+pub record IsOldEntry (t : Tables) (e : OpenEntry) : Type 0 where
+  pub start : ℕ
+  pub slab : t.slab start ≡ true
+  pub kind : t.kind start ≡ 3
+  pub below : e.place < t.entries start
+  pub at : e.at ≡ (slab_block start (t.old start) (t.number start e.place)).at
+
+-- an entry may be open: its root's word is 0 or its address, it names a block, and no slab takes another class
+pub record IsOpen (b : Bounds) (t : Tables) (e : OpenEntry) : Type 0 where
+  pub root : e.root < b.roots
+  pub word : (t.root e.root ≡ 0) ⊎ (t.root e.root ≡ e.at)
+  pub block : ((e.old ≡ false) × IsNewEntry t e) ⊎ ((e.old ≡ true) × IsOldEntry t e)
+  pub calm : (start : ℕ) → t.slab start ≡ true → t.kind start ≢ 2
+
+-- roots
+
+-- some slab holds a block at the address
+pub record IsHeld (t : Tables) (at : ℕ) : Type 0 where
+  pub start : ℕ
+  pub range : Range
+  pub holds : Holds t start range
+  pub here : range.at ≡ at
+
+-- a root's block may stand at the address: a live large extent starts there, a slab holds a block there, or the open
+-- entry names this root and the address
+abbrev pub IsStanding : Tables → ℕ → ℕ → Type 0
+IsStanding t root at = (is_large t.large at ≡ true) ⊎ (IsHeld t at ⊎ (entry_at t.entry root ≡ at))
+
+-- loose things
+
+-- at most one number has it
+pub record AtMostOne (P : ℕ → Type 0) : Type 0 where
+  pub same : (one other : ℕ) → P one → P other → one ≡ other
+
+-- a large extent that no root names
+pub record IsLooseLarge (t : Tables) (start : ℕ) : Type 0 where
+  pub live : 0 < t.large start
+  pub unnamed : (root : ℕ) → t.root root ≢ 16384 * start
+
+-- a slab in which no root's block lies
+pub record IsEmptySlab (t : Tables) (start : ℕ) : Type 0 where
+  pub slab : t.slab start ≡ true
+  pub none : (root : ℕ) → t.root root ≢ 0 → ¬ (IsInSlab t start (t.root root))
+
+-- a slab that takes another class
+pub record IsMorphing (t : Tables) (start : ℕ) : Type 0 where
+  pub slab : t.slab start ≡ true
+  pub kind : t.kind start ≡ 2
+
+-- a slab that took another class and has no live index entry left
+pub record IsDoneSlab (t : Tables) (start : ℕ) : Type 0 where
+  pub slab : t.slab start ≡ true
+  pub kind : t.kind start ≡ 3
+  pub none : (place : ℕ) → place < t.entries start → t.live start place ≡ false
+
+-- The image is sound: its live extents are disjoint and lie in the heap; slabs and the open entry are valid; each root
+-- stands where a block may, no two roots' blocks overlap, and each block that a slab holds is a root's; and of each of
+-- the four loose things there is one at most.
+pub record IsSound (b : Bounds) (t : Tables) : Type 0 where
+  pub disjoint : (start other k : ℕ) → Covers t start k → Covers t other k → start ≡ other
+  pub starts : (start : ℕ) → 0 < granules_at t start → (b.first ≤ start) × (start + granules_at t start ≤ b.granules)
+  pub one_kind : (start : ℕ) → t.slab start ≡ true → t.large start ≡ 0
+  pub slabs : (start : ℕ) → t.slab start ≡ true → IsSlab t start
+  pub open_entry : (e : OpenEntry) → t.entry ≡ Some e → IsOpen b t e
+  pub rooted : (root : ℕ) → t.root root ≢ 0 → IsStanding t root (t.root root)
+  pub apart : (root other : ℕ) (range another : Range) → root ≢ other → IsClaim t root range → IsClaim t other another → AreApart range another
+  pub claimed : (start : ℕ) (range : Range) → Holds t start range → (root : ℕ) × IsClaim t root range
+  pub loose_large : AtMostOne (IsLooseLarge t)
+  pub empty_slab : AtMostOne (IsEmptySlab t)
+  pub morphing : AtMostOne (IsMorphing t)
+  pub done : AtMostOne (IsDoneSlab t)
+
+-- The image is exact: sound with nothing loose.
+pub record IsExact (b : Bounds) (t : Tables) : Type 0 where
+  pub sound : IsSound b t
+  pub closed : t.entry ≡ None
+  pub all_named : (start : ℕ) → 0 < t.large start → (root : ℕ) × (t.root root ≡ 16384 * start)
+  pub all_live : (start : ℕ) → t.slab start ≡ true → (root : ℕ) × (t.root root ≢ 0) × IsInSlab t start (t.root root)
+  pub calm : (start : ℕ) → ¬ (IsMorphing t start)
+  pub none_done : (start : ℕ) → ¬ (IsDoneSlab t start)
+
+-- a slab that takes or took another class has no live index entry, but for the one of an open old entry whose root's
+-- word is 0
+pub record IsNearlyDone (t : Tables) (start : ℕ) : Type 0 where
+  pub slab : t.slab start ≡ true
+  pub kind : t.kind start ≢ 1
+  pub none : (place : ℕ) → place < t.entries start → t.live start place ≡ true →
+      (e : OpenEntry) × (t.entry ≡ Some e) × (e.old ≡ true) × (e.place ≡ place) × (e.at ≡ (slab_block start (t.old start) (t.number start place)).at) × (t.root e.root ≡ 0)
+
+-- The image is steady, as every crash within a call leaves it: sound, and one slab at most is nearly done.
+pub record IsSteady (b : Bounds) (t : Tables) : Type 0 where
+  pub sound : IsSound b t
+  pub one_done : AtMostOne (IsNearlyDone t)

@@ -1,0 +1,12 @@
+// Laws of images, over their tables.
+ghost use Rattle.heap_check.specs.Laws.{LawOfEmptyHeap, LawOfSteady};
+
+/// Tables with nothing in them are those of an exact image, and its heap is empty.
+pub fn law_of_empty_heap()
+    ensures { LawOfEmptyHeap }
+{}
+
+/// An exact image is steady.
+pub fn law_of_steady()
+    ensures { LawOfSteady }
+{}
