@@ -1,3 +1,4 @@
 pub mod Heap
 pub mod Sound
 pub mod Laws
+pub mod Formatted

@@ -1,4 +1,5 @@
 // Laws of images, over their tables.
+ghost use Rattle.heap_check.specs.Formatted.{LawOfFormatted};
 ghost use Rattle.heap_check.specs.Laws.{LawOfEmptyHeap, LawOfSteady};
 
 /// Tables with nothing in them are those of an exact image, and its heap is empty.
@@ -9,4 +10,9 @@ pub fn law_of_empty_heap()
 /// An exact image is steady.
 pub fn law_of_steady()
     ensures { LawOfSteady }
+{}
+
+/// The image of an arena in which nothing was allocated yet is exact and has no block.
+pub fn law_of_formatted()
+    ensures { LawOfFormatted }
 {}

@@ -1,0 +1,58 @@
+-- The words of an arena in which nothing was allocated yet say nothing.
+use Rattle.std.proofs.Common.{◌≡◌, ℕ, zero, suc, List, [], ◌∷◌, Bool, true, false, None, ap, ◌∙◌, refl, arith, nat_lt, cond}
+use Rattle.std.specs.List.{flat_map}
+use Rattle.std.proofs.lemmas.List.{append-nil}
+use Rattle.pmem_lines.specs.Words.{word_at}
+use Rattle.pool_layout.specs.Layout.{layout_of}
+use Rattle.pool_layout.specs.Places.{entry_word, root_word, wal_word}
+use Rattle.pool_layout.specs.Header.{version_in}
+use Rattle.image_tables.specs.Log.{log_of, active_chunks, most_chunks, chunk_log, entries_below}
+use Rattle.image_tables.specs.Extents.{extent_at, extent_behind}
+use Rattle.image_tables.specs.Tables.{tables_of, entry_among, wal_lines, large_of, is_slab_of}
+use Rattle.heap_check.specs.Laws.{AreBlank}
+use Rattle.heap_check.specs.Formatted.{IsFormatted, LawOfFormatted}
+use Rattle.heap_check.proofs.Blank.{law_of_empty_heap}
+
+-- a row of zeros has no entry
+entries_below-none : (row : ℕ → ℕ) (n : ℕ) → ((entry : ℕ) → row entry ≡ 0) → entries_below row n ≡ []
+entries_below-none row zero none = refl
+entries_below-none row (suc n) none = rw (none n, entries_below-none row n none) refl
+
+entry_among-none : (row : ℕ → ℕ) (n : ℕ) → ((line : ℕ) → row line ≡ 0) → entry_among row n ≡ None
+entry_among-none row zero none = refl
+entry_among-none row (suc n) none = rw (none n) (entry_among-none row n none)
+
+-- the directory word 1 makes chunk 0 active
+first_chunk : active_chunks 1 ≡ 0 ∷ []
+unfolding active_chunks most_chunks
+first_chunk = refl
+
+module _ (words : List ℕ) (formatted : IsFormatted words) where
+  no_log : log_of words ≡ []
+  unfolding log_of chunk_log
+  no_log =
+      ap (λ (directory : ℕ). flat_map (chunk_log (version_in words) words) (active_chunks directory)) formatted.directory
+      ∙ ap (λ (chunks : List ℕ). flat_map (chunk_log (version_in words) words) chunks) first_chunk
+      ∙ append-nil (chunk_log (version_in words) words 0)
+      ∙ entries_below-none (λ entry. word_at words (entry_word (version_in words) 0 entry)) (layout_of (version_in words)).chunk_entries
+      (λ entry. formatted.rest (entry_word (version_in words) 0 entry) (omega arith))
+
+  no_extent : (start : ℕ) → extent_at words start ≡ None
+  unfolding extent_at
+  no_extent start = ap (λ (entries : List ℕ). extent_behind entries start None) no_log
+
+  pub AreBlank-formatted : AreBlank (tables_of words)
+  unfolding tables_of wal_lines
+  AreBlank-formatted = record {
+    roots = λ root. go (nat_lt root (layout_of (version_in words)).roots) root;
+    closed = entry_among-none (λ line. word_at words (wal_word line)) 8 (λ line. formatted.rest (wal_word line) (omega arith));
+    no_large = λ start. ap large_of (no_extent start);
+    no_slab = λ start. ap is_slab_of (no_extent start);
+  }
+    where
+      go : (b : Bool) (root : ℕ) → cond b (word_at words (root_word root)) 0 ≡ 0
+      go true root = formatted.rest (root_word root) (omega arith)
+      go false root = refl
+
+pub law_of_formatted : LawOfFormatted
+law_of_formatted b words formatted = law_of_empty_heap b (tables_of words) (AreBlank-formatted words formatted)
