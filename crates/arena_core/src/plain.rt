@@ -128,6 +128,7 @@ impl<P: Pmem> PlainArena<P> {
     pub fn into_pmem(self) -> P
         ensures device { P.state result ≡ self }
         ensures ready { IsReady self }
+        ensures plain { IsPlain (words_of self) }
     {
         let PlainArena { device, marks: _ } = self;
         device

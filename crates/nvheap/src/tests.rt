@@ -4,7 +4,8 @@ ghost use Rattle.std.specs.Prelude.{None};
 use crate::{
     Failed, KeptShelf, MemSink, MemSource, OpenGate, Sink, Source, Status, SureSource, run,
 };
-use pmem_lines::Pmem;
+use arena_core::{Freed, MallocRefusal, Placed, PlainArena};
+use pmem_lines::{Pmem, SimPmem};
 use std::alloc::Global;
 use std::str;
 use std::sync::Wait;
@@ -172,6 +173,54 @@ fn keeps_the_device(rt: HostRuntime) -> Result<(), Fail> {
     assert!(rt; device.size_words() == 32768);
     assert_eq!(rt; device.load(16384 + 8 * 5), 65536);
     assert!(rt; shelf.device(1).is_none());
+    Ok(())
+}
+
+// An arena goes on with the heap of the memory that it takes.
+#[test]
+fn adopts_a_memory(rt: HostRuntime) -> Result<(), Fail> {
+    let device = SimPmem::zeroed(rt.alloc(), 4096, 2048)?;
+    let mut first = PlainArena::new(device);
+    assert_eq!(rt;
+        first.malloc_to(5, 1),
+        Ok(Placed {
+            at: 65536,
+            size: 64
+        })
+    );
+    assert_eq!(rt;
+        first.malloc_to(7, 64),
+        Ok(Placed {
+            at: 65600,
+            size: 64
+        })
+    );
+    let mut second = PlainArena::adopt(first.into_pmem());
+    assert_eq!(rt;
+        second.malloc_to(7, 64),
+        Err(MallocRefusal::Occupied { at: 65600 })
+    );
+    assert_eq!(rt;
+        second.free_from(5),
+        Ok(Freed {
+            at: 65536,
+            size: 64
+        })
+    );
+    assert_eq!(rt;
+        second.malloc_to(9, 2),
+        Ok(Placed {
+            at: 65536,
+            size: 64
+        })
+    );
+    assert_eq!(rt;
+        second.malloc_to(5, 2),
+        Ok(Placed {
+            at: 65664,
+            size: 64
+        })
+    );
     Ok(())
 }
 
