@@ -2,8 +2,12 @@
 //
 // An entry is one word. `specs/Entry.antt` has the words of entries and which entries a heap may have;
 // `specs/Log.antt` has when the log of an arena is well formed, where its next entry goes, and what an entry changes
-// of the table of live extents of `image_tables`. The layers above use the entry of a word, and live extents before
-// and after an append.
+// of the table of live extents of `image_tables`.
+//
+// `BookLog` keeps that table and the place of the next entry beside the words. It means a `Book`, and `Reads` of
+// `specs/Book.antt` says that this is what the words of an arena say: `load` makes it so, `append` keeps it so, and it
+// stays where no word of the log changes (`proofs/Books.antt`). The layers above use the entry of a word, the live
+// extents before and after an append and at each crash within it, and `load` once they have changed the log themselves.
 #![tactic(auto)]
 
 mod append;

@@ -10,7 +10,7 @@ ghost use Rattle.image_tables.specs.Extents.{extent_at};
 ghost use Rattle.book_log.specs.Entry.{log_word, IsInHeap};
 ghost use Rattle.book_log.specs.Log.{with_entry};
 ghost use Rattle.book_log.specs.Table.{IsNextLive, IsNoneLive};
-ghost use Rattle.book_log.specs.Book.{live_at, IsBlank, HasLog, AreWithin, Reads, HasFreeEntry, chunks_of, next_word, append_events, IsEntryOrNot, IsInLog};
+ghost use Rattle.book_log.specs.Book.{live_at, IsArenaSize, IsBlank, HasLog, AreWithin, Reads, HasFreeEntry, chunks_of, next_word, append_events, IsEntryOrNot, IsInLog};
 
 use crate::append::append_at;
 use crate::live::{next_in, no_extents};
@@ -51,6 +51,14 @@ impl BookLog {
     {
         let live = no_extents(alloc, granules)?;
         Ok(BookLog { live, next: None })
+    }
+
+    /// How many granules the arena has: 16 to 1024.
+    pub fn granules(&self) -> u32
+        ensures granules { result ≡ self.now.granules }
+        ensures size { IsArenaSize result }
+    {
+        self.live.len() as u32
     }
 
     /// Takes over the log that the device has. Its log is well formed for the granules that were given to `new`, and
