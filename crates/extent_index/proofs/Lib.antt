@@ -1,0 +1,9 @@
+pub mod Best
+pub mod Bounds
+pub mod Cuts
+pub mod Fits
+pub mod Joins
+pub mod Members
+pub mod Puts
+pub mod Steps
+pub mod Views

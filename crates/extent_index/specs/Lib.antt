@@ -1,0 +1,2 @@
+pub mod FreeSet
+pub mod Runs

@@ -1,0 +1,94 @@
+-- A book that reads an arena: what it knows of the live extents, and how many events a way has.
+use Rattle.std.proofs.Common.{◌≡◌, ◌+◌, ◌/◌, ◌<◌, ◌≤◌, ⊎_elim, ℕ, true, false, List, [], ◌++◌, length, take, refl, sym, ap, ◌∙◌, subst, arith, Option, Some, None}
+use Rattle.std.proofs.lemmas.Bool.{cases_Bool}
+use Rattle.pmem_lines.specs.declared.event.Event.{Event}
+use Rattle.pmem_lines.specs.Pmem.{PmemState, Appends}
+use Rattle.pmem_lines.specs.Events.{CrashOnly}
+use Rattle.pmem_lines.proofs.States.{appended_none, Appends-state}
+use Rattle.pmem_lines.proofs.Images.{by_none}
+use Rattle.pool_layout.specs.Layout.{layout_of}
+use Rattle.pool_layout.specs.Header.{version_in}
+use Rattle.image_tables.specs.Extents.{extent_at}
+use Rattle.book_log.specs.Book.{Book, HasLog, HasFreeEntry, Reads, live_at, chunks_of}
+use Rattle.log_gc.specs.declared.room.Rolled.TheVariants as rolled
+use Rattle.log_gc.specs.Chunks.{has_space, spare_chunks}
+use Rattle.log_gc.specs.Live.{AreDisjoint, AreLive, live_words}
+use Rattle.log_gc.specs.Needless.{is_needless}
+use Rattle.log_gc.specs.Copies.{switch_count}
+use Rattle.log_gc.specs.Room.{live_log, chunks_for, kept_chunks, way_of, room_events, KeepsLog}
+use Rattle.log_gc.proofs.Choices.{length-spare, length-without_one}
+use Rattle.log_gc.proofs.Live.{live_extents}
+use Rattle.log_gc.proofs.Next.{same_words}
+use Rattle.log_gc.proofs.Flushes.{length-switch}
+use Rattle.log_gc.proofs.Ways.{IsArenaLog, first_passes, rewrite_most}
+use Rattle.log_gc.proofs.Making.{IsRoll, roll_is, rewrite_is, events_of, free_space, way_nothing}
+
+-- what the book says is live is in the heap
+pub book_live : (book : Book) (words : List ℕ) → book.granules ≤ 1024 → Reads book words → AreLive 0 book.granules (live_at book)
+book_live book words few reads = record {
+  each = λ start x is.
+      let live = (live_extents book.granules words (chunks_of words) (omega arith) reads.log).each start x (sym (reads.live start) ∙ is) in
+      record { low = omega arith; some = live.some; high = live.high; fits = live.fits };
+}
+
+-- and its entries are those of the arena
+pub book_words : (book : Book) (words : List ℕ) → Reads book words → live_words (live_at book) 0 book.granules ≡ live_log book.granules words
+unfolding live_log
+book_words book words reads = same_words (live_at book) (extent_at words) 0 book.granules reads.live
+
+-- how many chunks a rewrite needs
+pub book_chunks : (book : Book) (words : List ℕ) (version count n : ℕ) → Reads book words → version ≡ version_in words → count ≡ length (live_words (live_at book) 0 book.granules) → n ≡ (layout_of version).chunk_entries →
+    count / n + 1 ≡ chunks_for (version_in words) (length (live_log book.granules words))
+book_chunks book words version count n reads is counted row =
+    ap (λ k. count / k + 1) row
+    ∙ ap (λ v. count / (layout_of v).chunk_entries + 1) is
+    ∙ ap (λ k. k / (layout_of (version_in words)).chunk_entries + 1) (counted ∙ ap length (book_words book words reads))
+
+-- a roll leaves room in the directory
+pub roll_kept : (granules : ℕ) (words : List ℕ) (dropped : Option ℕ) → HasLog granules words → way_of granules words ≡ rolled.Rolled dropped → length (kept_chunks dropped (chunks_of words)) < 8
+roll_kept granules words dropped log is = kept dropped (roll_is granules words dropped is)
+  where
+    kept : (dropped : Option ℕ) → IsRoll granules words dropped → length (kept_chunks dropped (chunks_of words)) < 8
+    kept None roll = roll.few refl
+    kept (Some chunk) roll =
+        let passes = first_passes (is_needless granules words (chunks_of words)) (chunks_of words) chunk roll.first in
+        omega (arith, length-without_one chunk (chunks_of words) passes.1, log.directory.most)
+
+-- how many events a roll has
+pub roll_count : (granules : ℕ) (words : List ℕ) (dropped : Option ℕ) → HasLog granules words → way_of granules words ≡ rolled.Rolled dropped → length (room_events granules words) ≡ switch_count (version_in words) 1
+roll_count granules words dropped log is =
+    let active = chunks_of words in
+    let fresh = take 1 (spare_chunks active) in
+    let one = length-spare active 1 (omega (arith, log.directory.most)) in
+    ap length (events_of granules words (rolled.Rolled dropped) is) ∙ length-switch (version_in words) fresh [] (kept_chunks dropped active ++ fresh) ∙ ap (switch_count (version_in words)) one
+
+-- how many chunks a rewrite writes, and events it has
+pub rewrite_few : (granules : ℕ) (words : List ℕ) (chunks : ℕ) → IsArenaLog granules words (chunks_of words) → AreDisjoint (extent_at words) → way_of granules words ≡ rolled.Rewritten chunks → chunks ≤ 5
+rewrite_few granules words chunks arena disjoint is = omega (arith, rewrite_is granules words chunks is, rewrite_most granules words (chunks_of words) arena disjoint)
+
+pub rewrite_count : (granules : ℕ) (words : List ℕ) (chunks : ℕ) → IsArenaLog granules words (chunks_of words) → AreDisjoint (extent_at words) → way_of granules words ≡ rolled.Rewritten chunks →
+    length (room_events granules words) ≡ switch_count (version_in words) chunks
+rewrite_count granules words chunks arena disjoint is =
+    let active = chunks_of words in
+    let fresh = take chunks (spare_chunks active) in
+    let size = length-spare active chunks (omega (arith, arena.log.directory.most, rewrite_few granules words chunks arena disjoint is)) in
+    ap length (events_of granules words (rolled.Rewritten chunks) is) ∙ length-switch (version_in words) fresh (live_log granules words) fresh ∙ ap (switch_count (version_in words)) size
+
+-- where there is room, nothing is done
+pub none_made : (granules : ℕ) (words : List ℕ) → has_space (version_in words) words (chunks_of words) ≡ true → room_events granules words ≡ []
+none_made granules words space = events_of granules words rolled.Nothing (way_nothing granules words space)
+
+pub none_appends : (s : PmemState) (events : List Event) → events ≡ [] → Appends s s events
+none_appends s events none = subst (Appends s s) (sym none) (Appends-state s s [] (sym (appended_none s)))
+
+pub none_crash : (granules : ℕ) (words : List ℕ) → HasLog granules words → has_space (version_in words) words (chunks_of words) ≡ true → CrashOnly words (room_events granules words) (KeepsLog granules words)
+none_crash granules words log space =
+    let keeps : KeepsLog granules words words = record { same_length = refl; log = log; extents = λ start. refl; others = λ k other outside. refl } in
+    subst (λ es. CrashOnly words es (KeepsLog granules words)) (sym (none_made granules words space)) (by_none words (KeepsLog granules words) keeps)
+
+-- where no entry is free, there is no space
+pub no_space : (granules : ℕ) (words : List ℕ) → HasLog granules words → (HasFreeEntry words → ⊥) → has_space (version_in words) words (chunks_of words) ≡ false
+no_space granules words log none = ⊎_elim
+    (λ (space : has_space (version_in words) words (chunks_of words) ≡ true). absurd (none (free_space granules words log space)))
+    (λ full. full)
+    (cases_Bool (has_space (version_in words) words (chunks_of words)))

@@ -1,0 +1,18 @@
+use Rattle.std.proofs.Common.{◌∙◌, ap, sym, take, get_or, ◌∷◌, []}
+use Rattle.std.proofs.lemmas.List.{take_more}
+use Rattle.pmem_lines.specs.Pmem.{words_of}
+use Rattle.image_tables.specs.Log.{chunk_log}
+use Rattle.log_gc.specs.Census.{slot_at, slot_behind, slot_over}
+use Rattle.log_gc.proofs.Telling.{slot_over-append}
+use Rattle.log_gc.proofs.census.note_log.Goals as goal
+
+pub loop-chunk-preserved : goal.loop-chunk-preserved
+loop-chunk-preserved g c = λ start.
+    let log = chunk_log c.args.version (words_of (g.P.Pmem.state c.args.device.now)) in
+    let active = c.args.active.now in
+    let i = c.loop-chunk.chunk-index in
+    let chunk = get_or active i 0 in
+    let slot = slot_at c.args.slots.now start in
+    c.note_chunk.ensures start
+    ∙ ap (slot_behind chunk (log chunk) start) (c.loop-chunk.invariant start)
+    ∙ sym (ap (λ cs. slot_over log cs start slot) (take_more active i 0 c.loop-chunk-test.true) ∙ slot_over-append log (take i active) (chunk ∷ []) start slot)

@@ -1,0 +1,57 @@
+use Rattle.std.proofs.Common.{◌≡◌, ◌≤◌, ◌/◌, ◌∙◌, inl, inr, ap, sym, arith, length}
+use Rattle.pmem_lines.specs.Words.{word_at}
+use Rattle.pmem_lines.specs.Pmem.{words_of}
+use Rattle.pool_layout.specs.declared.layout.Layout.{Layout}
+use Rattle.image_tables.specs.Log.{active_chunks}
+use Rattle.book_log.specs.Book.{chunks_of}
+use Rattle.log_gc.specs.declared.room.Rolled.TheVariants as rolled
+use Rattle.log_gc.specs.Needless.{first_needless}
+use Rattle.log_gc.proofs.Flushes.{directory_inside}
+use Rattle.log_gc.proofs.Ways.{IsArenaLog, rewrite_most}
+use Rattle.log_gc.proofs.Making.{way_roll, way_rewrite}
+use Rattle.log_gc.proofs.Booked.{book_live, book_chunks}
+use Rattle.log_gc.proofs.room.choose_way.Goals as goal
+use Rattle.log_gc.proofs.room.choose_way.Goals.{then-len-lt-MOST_ACTIVE-via-then-len-lt-MOST_ACTIVE, then-len-lt-MOST_ACTIVE-via-else-len-lt-MOST_ACTIVE+then-is_some}
+
+pub version_of-version-requires : goal.version_of-version-requires
+version_of-version-requires g c = directory_inside _ _ c.requires.inside
+
+pub load-requires : goal.load-requires
+load-requires g c =
+    let inside = directory_inside _ _ c.requires.inside in
+    record { aligned = omega (arith, c.directory_at.ensures); inside = omega (arith, c.directory_at.ensures, inside) }
+
+pub returns-then-len-lt-MOST_ACTIVE-clause-way : goal.returns-then-len-lt-MOST_ACTIVE-clause-way
+returns-then-len-lt-MOST_ACTIVE-clause-way g c =
+    let words = words_of (g.P.Pmem.state c.args.p.now) in
+    let granules = c.args.log.now.granules in
+    let items : c.active_chunks-active.result.items ≡ chunks_of words = c.active_chunks-active.ensures ∙ ap active_chunks (c.load.ensures ∙ ap (λ a. word_at words (a / 8)) c.directory_at.ensures) in
+    let first = c.first_needless-dropped.ensures ∙ ap (λ n. first_needless n words c.as_slice.result.now) c.granules.ensures.granules ∙ ap (first_needless granules words) (c.as_slice.ensures.value ∙ items) in
+    sym (way_roll granules words c.first_needless-dropped.result c.requires.full first
+    (elim c.then-len-lt-MOST_ACTIVE.branch [
+      | then-len-lt-MOST_ACTIVE-via-then-len-lt-MOST_ACTIVE w ↦ inl (omega (arith, w.if-len-lt-MOST_ACTIVE.true, c.len.ensures.value, ap length items))
+      | then-len-lt-MOST_ACTIVE-via-else-len-lt-MOST_ACTIVE+then-is_some w ↦ inr (sym w.is_some.ensures ∙ w.if-is_some.true)
+    ]))
+
+pub count_live-requires : goal.count_live-requires
+count_live-requires g c = book_live c.args.log.now (words_of (g.P.Pmem.state c.args.p.now)) (omega (arith, c.granules.ensures.granules, c.granules.ensures.size.most)) c.requires.reads
+
+pub overflow_cast-result : goal.overflow_cast-result
+overflow_cast-result g c =
+    let words = words_of (g.P.Pmem.state c.args.p.now) in
+    let few : c.args.log.now.granules ≤ 1024 = omega (arith, c.granules.ensures.granules, c.granules.ensures.size.most) in
+    let row = ap (λ (l : Layout). l.chunk_entries) c.layout_of.ensures.row in
+    let chunks = book_chunks c.args.log.now words c.version_of-version.result c.count_live.result c.layout_of.result.chunk_entries c.requires.reads c.version_of-version.ensures c.count_live.ensures row in
+    let arena : IsArenaLog c.args.log.now.granules words (chunks_of words) = record { log = c.requires.reads.log; inside = c.requires.inside; few = few } in
+    omega (arith, chunks, rewrite_most c.args.log.now.granules words (chunks_of words) arena c.requires.disjoint)
+
+pub returns-clause-way : goal.returns-clause-way
+returns-clause-way g c =
+    let words = words_of (g.P.Pmem.state c.args.p.now) in
+    let granules = c.args.log.now.granules in
+    let items : c.active_chunks-active.result.items ≡ chunks_of words = c.active_chunks-active.ensures ∙ ap active_chunks (c.load.ensures ∙ ap (λ a. word_at words (a / 8)) c.directory_at.ensures) in
+    let first = c.first_needless-dropped.ensures ∙ ap (λ n. first_needless n words c.as_slice.result.now) c.granules.ensures.granules ∙ ap (first_needless granules words) (c.as_slice.ensures.value ∙ items) in
+    let row = ap (λ (l : Layout). l.chunk_entries) c.layout_of.ensures.row in
+    let chunks = book_chunks c.args.log.now words c.version_of-version.result c.count_live.result c.layout_of.result.chunk_entries c.requires.reads c.version_of-version.ensures c.count_live.ensures row in
+    ap rolled.Rewritten chunks
+    ∙ sym (way_rewrite granules words c.first_needless-dropped.result c.requires.full first (omega (arith, c.if-len-lt-MOST_ACTIVE.false, c.len.ensures.value, ap length items)) (sym c.is_some.ensures ∙ c.if-is_some.false))

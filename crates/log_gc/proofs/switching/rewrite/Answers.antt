@@ -1,0 +1,38 @@
+use Rattle.std.proofs.Common.{◌≡◌, ◌<◌, ◌∙◌, ◌++◌, List, ℕ, sym, subst, take, arith, length}
+use Rattle.std.specs.List.{All}
+use Rattle.pmem_lines.specs.Pmem.{words_of, Appends}
+use Rattle.pmem_lines.proofs.States.{then_step}
+use Rattle.book_log.specs.Book.{live_at}
+use Rattle.log_gc.specs.Chunks.{spare_chunks}
+use Rattle.log_gc.specs.Live.{live_words}
+use Rattle.log_gc.specs.Copies.{copy_events, directory_events}
+use Rattle.log_gc.proofs.Choices.{spare_taken}
+use Rattle.log_gc.proofs.Flushes.{flushed_copy, directory_inside}
+use Rattle.log_gc.proofs.switching.rewrite.Goals as goal
+
+pub copy_live-requires-clause-chunks : goal.copy_live-requires-clause-chunks
+copy_live-requires-clause-chunks g c = subst (All (λ chunk. chunk < 16)) (sym (c.as_slice.ensures.value ∙ c.spare_chunks-fresh.ensures)) (spare_taken c.args.active.now c.args.count).small
+
+pub switch_directory-requires-clause-small : goal.switch_directory-requires-clause-small
+switch_directory-requires-clause-small g c = subst (All (λ chunk. chunk < 16)) (sym (c.as_slice-2.ensures.value ∙ c.spare_chunks-fresh.ensures)) (spare_taken c.args.active.now c.args.count).small
+
+pub switch_directory-requires-clause-inside : goal.switch_directory-requires-clause-inside
+switch_directory-requires-clause-inside g c =
+    directory_inside c.args.version (length (words_of (g.P.Pmem.state c.copy_live.new.device))) (omega (arith, c.requires.inside, c.copy_live.ensures.appends.size))
+
+pub switch_directory-requires-clause-flushed : goal.switch_directory-requires-clause-flushed
+switch_directory-requires-clause-flushed g c =
+    flushed_copy c.args.version c.as_slice.result.now (live_words (live_at c.args.log.now) 0 c.args.log.now.granules) c.copy_live.ensures.appends c.requires.quiet
+
+pub returns : goal.returns
+returns g c =
+    let state = g.P.Pmem.state in
+    let s = state c.args.device.now in
+    let u = state c.switch_directory.new.device in
+    let version = c.args.version in
+    let live = live_words (live_at c.args.log.now) 0 c.args.log.now.granules in
+    let fresh = take c.args.count (spare_chunks c.args.active.now) in
+    let first : c.as_slice.result.now ≡ fresh = c.as_slice.ensures.value ∙ c.spare_chunks-fresh.ensures in
+    let second : c.as_slice-2.result.now ≡ fresh = c.as_slice-2.ensures.value ∙ c.spare_chunks-fresh.ensures in
+    subst (λ (cs : List ℕ). Appends s u (copy_events version cs live ++ directory_events fresh)) first
+    (subst (λ (cs : List ℕ). Appends s u (copy_events version c.as_slice.result.now live ++ directory_events cs)) second (then_step c.copy_live.ensures.appends c.switch_directory.ensures))
