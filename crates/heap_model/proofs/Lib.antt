@@ -6,3 +6,4 @@ pub mod Placing
 pub mod Freeing
 pub mod Slabbing
 pub mod Steps
+pub mod Rows
