@@ -7,9 +7,11 @@ use Rattle.pmem_lines.specs.Events.{CrashOnly}
 use Rattle.pmem_lines.proofs.States.{appended_none, Appends-state}
 use Rattle.pmem_lines.proofs.Images.{by_none}
 use Rattle.pool_layout.specs.Layout.{layout_of}
+use Rattle.pool_layout.specs.Places.{heap_word}
 use Rattle.pool_layout.specs.Header.{version_in}
 use Rattle.image_tables.specs.Extents.{extent_at}
 use Rattle.book_log.specs.Book.{Book, HasLog, HasFreeEntry, Reads, live_at, chunks_of}
+use Rattle.log_gc.specs.declared.room.Rolled.{Rolled}
 use Rattle.log_gc.specs.declared.room.Rolled.TheVariants as rolled
 use Rattle.log_gc.specs.Chunks.{has_space, spare_chunks}
 use Rattle.log_gc.specs.Live.{AreDisjoint, AreLive, live_words}
@@ -92,3 +94,16 @@ no_space granules words log none = ⊎_elim
     (λ (space : has_space (version_in words) words (chunks_of words) ≡ true). absurd (none (free_space granules words log space)))
     (λ full. full)
     (cases_Bool (has_space (version_in words) words (chunks_of words)))
+
+-- how many events make room at most: those of a rewrite into five chunks
+pub room_most : (granules : ℕ) (words : List ℕ) → HasLog granules words → heap_word (version_in words) ≤ length words → granules ≤ 1024 → AreDisjoint (extent_at words) → length (room_events granules words) ≤ 679
+unfolding layout_of
+room_most granules words log inside few disjoint = by_way (way_of granules words) refl
+  where
+    arena : IsArenaLog granules words (chunks_of words)
+    arena = record { log = log; inside = inside; few = few }
+
+    by_way : (way : Rolled) → way_of granules words ≡ way → length (room_events granules words) ≤ 679
+    by_way rolled.Nothing is = omega (arith, ap length (events_of granules words rolled.Nothing is))
+    by_way (rolled.Rolled dropped) is = omega (arith, roll_count granules words dropped log is)
+    by_way (rolled.Rewritten chunks) is = omega (arith, rewrite_count granules words chunks arena disjoint is, rewrite_few granules words chunks arena disjoint is)

@@ -13,3 +13,4 @@ pub mod Next
 pub mod Telling
 pub mod Making
 pub mod Booked
+pub mod Evens

@@ -208,7 +208,8 @@ pub record IsMade (granules : ℕ) (words : List ℕ) : Type 0 where
   pub free : HasFreeEntry (reading words (room_events granules words))
   pub within : AreWithin (reading words (room_events granules words))
 
-same_version : (granules : ℕ) (words new : List ℕ) → KeepsLog granules words new → version_in new ≡ version_in words
+-- the version is kept too
+pub same_version : (granules : ℕ) (words new : List ℕ) → KeepsLog granules words new → version_in new ≡ version_in words
 same_version granules words new keeps =
     ap version_field (keeps.others fields_word (λ e. omega arith) (inl (omega (arith, log_word-low (version_in words)))))
 

@@ -53,6 +53,7 @@ pub fn make_room<P: Pmem>(log: &mut BookLog, p: &mut P) -> Rolled
     ensures room { IsSome log.new.next }
     ensures reads { Reads log.new (words_of (P.state p.new)) }
     ensures granules { log.new.granules ≡ log.old.granules }
+    ensures version { version_in (words_of (P.state p.new)) ≡ version_in (words_of (P.state p.old)) }
     ensures keeps { KeepsLog log.old.granules (words_of (P.state p.old)) (words_of (P.state p.new)) }
     ensures quiet { IsQuiet (P.state p.new).events }
     ensures crash { CrashOnly (words_of (P.state p.old)) (room_events log.old.granules (words_of (P.state p.old))) (KeepsLog log.old.granules (words_of (P.state p.old))) }

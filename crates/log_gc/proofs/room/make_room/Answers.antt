@@ -4,7 +4,7 @@ use Rattle.pmem_lines.proofs.States.{quiet_after}
 use Rattle.book_log.specs.Book.{HasLog, HasFreeEntry, AreWithin, chunks_of}
 use Rattle.log_gc.specs.Room.{room_events, KeepsLog}
 use Rattle.log_gc.proofs.Ways.{IsArenaLog}
-use Rattle.log_gc.proofs.Making.{made, space_free, next_some, way_nothing}
+use Rattle.log_gc.proofs.Making.{same_version, made, space_free, next_some, way_nothing}
 use Rattle.log_gc.proofs.Booked.{none_made, none_appends, none_crash, no_space}
 use Rattle.log_gc.proofs.room.make_room.Goals as goal
 
@@ -61,6 +61,10 @@ returns-clause-keeps g c =
     let granules = c.args.log.now.granules in
     let arena : IsArenaLog granules words (chunks_of words) = record { log = c.requires.reads.log; inside = c.requires.inside; few = c.choose_way-way.ensures.few } in
     subst (KeepsLog granules words) (sym c.take_way.ensures.words) (made granules words arena c.requires.disjoint).keeps
+
+pub returns-clause-version : goal.returns-clause-version
+returns-clause-version g c =
+    same_version c.args.log.now.granules (words_of (g.P.Pmem.state c.args.p.now)) (words_of (g.P.Pmem.state c.take_way.new.p)) (returns-clause-keeps g c)
 
 pub returns-clause-quiet : goal.returns-clause-quiet
 returns-clause-quiet g c =
