@@ -1,5 +1,5 @@
 #!/usr/bin/env bash
-# Times the built program on three made traces, and prints for each the time per call or per byte and the peak memory.
+# Times the built program on four made traces, and prints for each the time per call or per byte and the peak memory.
 # It is no test. The inputs are made in a temporary folder, which is removed at the end.
 set -eu
 
@@ -38,6 +38,12 @@ awk 'BEGIN {
     for (i = 0; i < 1000000; i++) print "0 0 m 7 64"
 }' >"$room/occupied"
 
+# As many calls as a trace can have: the shortest lines, in 64 MiB.
+awk 'BEGIN {
+    print "pool 1 16"
+    for (i = 0; i < 8388606; i++) print "0 0 f 5"
+}' >"$room/longest"
+
 measure() {
     local name=$1 count=$2 unit=$3
     python3 - "$program" "$room/$name" "$room/out" "$name" "$count" "$unit" <<'PYTHON'
@@ -61,3 +67,4 @@ PYTHON
 measure mixed 1000000 call
 measure comments 67108864 byte
 measure occupied 1000000 call
+measure longest 8388606 call

@@ -1,4 +1,5 @@
-// Whole runs over memory, against statuses and texts that were worked by hand.
+// Whole runs over memory, against statuses and texts that were worked by hand; and the tests of `trace_text`, which
+// stand here so that its proofs are not made twice.
 ghost use Rattle.std.specs.Prelude.{None};
 
 use crate::{
@@ -11,6 +12,9 @@ use std::str;
 use std::sync::Wait;
 use std::test::Fail;
 use std::thread::Threads;
+
+mod reports;
+mod traces;
 
 // Two blocks, and a root that has one already.
 const PLAIN: &str = "pool 1 16\n0 0 m 5 1\n0 0 m 7 64\n0 0 m 5 3\n";

@@ -177,6 +177,3 @@ pub fn write_refusal(out: &mut Vec<u8>, refusal: Refusal) -> Result<(), OutOfMem
     }
     write_bytes(out, b"\n")
 }
-
-#[cfg(test)]
-mod tests;

@@ -133,6 +133,3 @@ pub fn read_trace(alloc: Global, bytes: &[u8]) -> Result<Trace, TraceFault>
         }
     }
 }
-
-#[cfg(test)]
-mod tests;

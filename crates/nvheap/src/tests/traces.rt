@@ -1,8 +1,9 @@
 // Texts in and outside the grammar.
-use super::*;
 use heap_model::Call;
+use std::alloc::Global;
+use trace_text::{TraceCall, TraceFault, read_trace};
 
-/// The refused line, 0 of a trace, and the greatest number where there was no memory.
+// The refused line, 0 of a trace, and the greatest number where there was no memory.
 fn refused_line(alloc: Global, text: &str) -> u64 {
     match read_trace(alloc, text.as_bytes()) {
         Ok(_) => 0,

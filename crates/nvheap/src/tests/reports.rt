@@ -1,7 +1,8 @@
 // What is printed, byte by byte.
-use super::*;
+use heap_model::{Block, Call, Entry, Reply};
+use trace_text::{CrashSide, Refusal, write_crash, write_refusal, write_report};
 
-/// The first seat asks for a block.
+// The first seat asks for a block.
 fn asked(root: u32, size: u64, reply: Reply) -> Entry {
     Entry {
         seat: 0,
@@ -10,7 +11,7 @@ fn asked(root: u32, size: u64, reply: Reply) -> Entry {
     }
 }
 
-/// A block of 64 bytes.
+// A block of 64 bytes.
 fn block(root: u32, at: u32) -> Block {
     Block { root, at, size: 64 }
 }
