@@ -2,3 +2,5 @@ pub mod Heap
 pub mod Sound
 pub mod Laws
 pub mod Formatted
+pub mod Image
+pub mod State

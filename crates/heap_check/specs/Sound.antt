@@ -17,6 +17,12 @@ pub record Covers (t : Tables) (start k : ℕ) : Type 0 where
   pub low : start ≤ k
   pub high : k < start + granules_at t start
 
+-- a granule is vacant: it lies in the heap, and in no live extent
+pub record IsVacant (b : Bounds) (t : Tables) (k : ℕ) : Type 0 where
+  pub low : b.first ≤ k
+  pub high : k < b.granules
+  pub none : (start : ℕ) → ¬ (Covers t start k)
+
 -- an address lies in the slab at a start
 pub record IsInSlab (t : Tables) (start at : ℕ) : Type 0 where
   pub slab : t.slab start ≡ true

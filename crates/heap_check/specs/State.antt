@@ -1,0 +1,32 @@
+-- The state of the heap machine that an image has, and what stays the same of its blocks.
+use Rattle.std.specs.Prelude.{◌≡◌, ℕ, ◌+◌, ◌/◌, ◌<◌, ◌≤◌, List, Some}
+use Rattle.pmem_lines.specs.Words.{word_at}
+use Rattle.image_tables.specs.Tables.{tables_of}
+use Rattle.heap_model.specs.Machine.{Range, Machine}
+use Rattle.heap_check.specs.Heap.{heap, slabs}
+
+-- word k lies in the range
+pub record IsWordOf (range : Range) (k : ℕ) : Type 0 where
+  pub low : range.at / 8 ≤ k
+  pub high : k < range.at / 8 + range.size / 8
+
+-- the block of a root has this word at an index
+pub record HasValue (words : List ℕ) (m : Machine) (root index word : ℕ) : Type 0 where
+  pub range : Range
+  pub named : m.block root ≡ Some range
+  pub within : index < range.size / 8
+  pub here : word_at words (range.at / 8 + index) ≡ word
+
+-- The image has this state: its blocks, its slabs, and the words that were written into its blocks.
+pub record HasState (words : List ℕ) (m : Machine) : Type 0 where
+  pub blocks : (root : ℕ) → heap (tables_of words) root ≡ m.block root
+  pub slabs : (start : ℕ) → slabs (tables_of words) start ≡ m.slab start
+  pub values : (root index word : ℕ) → m.value root index ≡ Some word → HasValue words m root index word
+
+-- two images have the same heap
+pub record HaveSameHeap (words image : List ℕ) : Type 0 where
+  pub each : (root : ℕ) → heap (tables_of image) root ≡ heap (tables_of words) root
+
+-- each block that both the old heap and the new one have has its old words in the image
+pub record KeepsBlocks (old new image : List ℕ) : Type 0 where
+  pub each : (root : ℕ) (range : Range) (k : ℕ) → heap (tables_of old) root ≡ Some range → heap (tables_of new) root ≡ Some range → IsWordOf range k → word_at image k ≡ word_at old k
