@@ -2,3 +2,4 @@ pub mod Chunks
 pub mod Places
 pub mod Logs
 pub mod Extents
+pub mod Stores

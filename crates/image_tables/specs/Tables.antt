@@ -1,7 +1,7 @@
 -- What the words of an arena say, table by table. Nothing here knows what follows from it: whether an image is sound is
 -- stated over the tables alone. Each table has exactly what is read: nothing of a granule at which no slab begins, bits
 -- and places of the index table below what the header of a slab can hold.
-use Rattle.std.specs.Prelude.{◌==◌, ◌&&◌, nat_lt, ℕ, zero, suc, ◌+◌, ◌*◌, ◌/◌, ◌%◌, ◌^◌, Bool, true, false, List, Option, Some, None, if◌then◌else◌}
+use Rattle.std.specs.Prelude.{◌==◌, ◌&&◌, nat_lt, ℕ, zero, suc, ◌+◌, ◌/◌, ◌%◌, ◌^◌, Bool, true, false, List, Option, Some, None, if◌then◌else◌}
 use Rattle.pmem_lines.specs.Words.{word_at}
 use Rattle.pool_layout.specs.Layout.{layout_of}
 use Rattle.pool_layout.specs.Places.{root_word, wal_word, granule_word, line_place, index_place}
