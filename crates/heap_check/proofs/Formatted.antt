@@ -1,15 +1,22 @@
--- The words of an arena in which nothing was allocated yet say nothing.
-use Rattle.std.proofs.Common.{◌≡◌, ℕ, zero, suc, List, [], ◌∷◌, Bool, true, false, None, ap, ◌∙◌, refl, arith, nat_lt, cond}
+-- The words of an arena in which nothing was allocated yet have the form of an arena, and say nothing.
+use Rattle.std.proofs.Common.{◌≡◌, ℕ, zero, suc, ◌*◌, List, [], ◌∷◌, Bool, true, false, Some, None, sym, subst, ap, ◌∙◌, refl, arith, nat_lt, cond}
 use Rattle.std.specs.List.{flat_map}
 use Rattle.std.proofs.lemmas.List.{append-nil}
+use Rattle.std.proofs.lemmas.Bool.{false≢true, cond-false}
 use Rattle.pmem_lines.specs.Words.{word_at}
+use Rattle.pool_layout.specs.declared.header.PoolHeader.{PoolHeader}
 use Rattle.pool_layout.specs.Layout.{layout_of}
 use Rattle.pool_layout.specs.Places.{entry_word, root_word, wal_word}
-use Rattle.pool_layout.specs.Header.{version_in}
+use Rattle.pool_layout.specs.Header.{version_in, granules_in, fields_of, IsHeader}
+use Rattle.pool_layout.proofs.Headers.{fields_of-header_word, header_fits}
 use Rattle.image_tables.specs.Log.{log_of, active_chunks, most_chunks, chunk_log, entries_below}
 use Rattle.image_tables.specs.Extents.{extent_at, extent_behind}
 use Rattle.image_tables.specs.Tables.{tables_of, entry_among, wal_lines, large_of, is_slab_of}
+use Rattle.book_log.proofs.Fresh.{HasLog-fresh}
+use Rattle.heap_model.specs.Machine.{no_heap}
 use Rattle.heap_check.specs.Laws.{AreBlank}
+use Rattle.heap_check.specs.Image.{bounds_of, header_in, IsFormed}
+use Rattle.heap_check.specs.State.{HasState}
 use Rattle.heap_check.specs.Formatted.{IsFormatted, LawOfFormatted}
 use Rattle.heap_check.proofs.Blank.{law_of_empty_heap}
 
@@ -27,7 +34,7 @@ first_chunk : active_chunks 1 ≡ 0 ∷ []
 unfolding active_chunks most_chunks
 first_chunk = refl
 
-module _ (words : List ℕ) (formatted : IsFormatted words) where
+module _ (words : List ℕ) (fields : PoolHeader) (formatted : IsFormatted words fields) where
   no_log : log_of words ≡ []
   unfolding log_of chunk_log
   no_log =
@@ -54,5 +61,37 @@ module _ (words : List ℕ) (formatted : IsFormatted words) where
       go true root = formatted.rest (root_word root) (omega arith)
       go false root = refl
 
+  -- its header line says what it was made of
+  pub header_in-formatted : header_in words ≡ fields
+  header_in-formatted = ap fields_of formatted.header.word ∙ fields_of-header_word fields (header_fits fields formatted.header.valid)
+
+  pub IsFormed-formatted : IsFormed words
+  IsFormed-formatted = record {
+    header = subst (IsHeader words) (sym header_in-formatted) formatted.header;
+    size = formatted.size ∙ sym (ap (λ (header : PoolHeader). 2048 * header.granules) header_in-formatted);
+    log = HasLog-fresh (granules_in words) words (record {
+      directory = formatted.directory;
+      empty = λ entry. formatted.rest (entry_word (version_in words) 0 entry) (omega arith);
+    });
+    wal = record {
+      entry = λ line below some. absurd (some (formatted.rest (wal_word line) (omega arith)));
+      one = λ line other below under some another. absurd (some (formatted.rest (wal_word line) (omega arith)));
+    };
+    slabs = λ start slab. absurd (false≢true (sym (ap is_slab_of (no_extent start)) ∙ slab));
+  }
+
+  pub HasState-formatted : HasState words no_heap
+  HasState-formatted = record {
+    blocks = (law_of_empty_heap (bounds_of words) (tables_of words) AreBlank-formatted).1;
+    slabs = λ start. cond-false ((tables_of words).slab start) (Some ((tables_of words).class start)) None (AreBlank-formatted.no_slab start);
+    values = λ root index word is. absurd (cc);
+  }
+
 pub law_of_formatted : LawOfFormatted
-law_of_formatted b words formatted = law_of_empty_heap b (tables_of words) (AreBlank-formatted words formatted)
+law_of_formatted words header formatted = (
+  record {
+    formed = IsFormed-formatted words header formatted;
+    exact = (law_of_empty_heap (bounds_of words) (tables_of words) (AreBlank-formatted words header formatted)).0;
+  },
+  HasState-formatted words header formatted,
+)

@@ -1,3 +1,4 @@
 pub mod Blank
+pub mod Forms
 pub mod Formatted
 pub mod HandMade

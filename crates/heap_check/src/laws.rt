@@ -12,7 +12,7 @@ pub fn law_of_steady()
     ensures { LawOfSteady }
 {}
 
-/// The image of an arena in which nothing was allocated yet is exact and has no block.
+/// The image of an arena in which nothing was allocated yet is exact as a whole, and has no block and no slab.
 pub fn law_of_formatted()
     ensures { LawOfFormatted }
 {}
