@@ -1,5 +1,5 @@
 #!/usr/bin/env bash
-# Times the built program on four made traces, and prints for each the time per call or per byte and the peak memory.
+# Times the built program on five made traces, and prints for each the time per call or per byte and the peak memory.
 # It is no test. The inputs are made in a temporary folder, which is removed at the end.
 set -eu
 
@@ -8,20 +8,25 @@ room=$(mktemp -d)
 trap 'rm -rf -- "$room"' EXIT
 
 # The launcher builds the program; what it built is timed by itself.
-"$top/nvheap" replay <"$top/examples/plain.trace" >"$room/out"
-program=$top/crates/nvheap/out/launched/nvheap
+"$top/nvheap" replay <"$top/examples/large.trace" >"$room/out"
+program=$top/crates/program/out/launched/nvheap
 
-# A million calls, each of which frees its root's block or gives it one. The draws are by a fixed rule.
-awk 'BEGIN {
-    print "pool 1 256"
-    state = 1
-    for (i = 0; i < 1000000; i++) {
-        state = state * 16807 % 2147483647
-        root = state % 1000
-        if (held[root]) { print "0 0 f " root; held[root] = 0 }
-        else { print "0 0 m " root " " (1 + i % 64); held[root] = 1 }
-    }
-}' >"$room/mixed"
+# A million mallocs and frees of large blocks: a call frees its root's block or gives it one. The draws are by a fixed
+# rule. Over a few roots the log rolls, since its old chunks are soon needless; over many it is rewritten.
+large() {
+    awk -v roots="$1" 'BEGIN {
+        print "pool 1 1024"
+        state = 1
+        for (i = 0; i < 1000000; i++) {
+            state = state * 16807 % 2147483647
+            root = state % roots
+            if (held[root]) { print "0 0 f " root; held[root] = 0 }
+            else { print "0 0 m " root " " (1 + state % 40000); held[root] = 1 }
+        }
+    }'
+}
+large 20 >"$room/rolls"
+large 600 >"$room/rewrites"
 
 # 64 MiB of comments behind a pool.
 awk 'BEGIN {
@@ -64,7 +69,8 @@ print(f"{name}: {best:.2f} s, {best * 1e9 / int(count):.1f} ns per {unit}, peak 
 PYTHON
 }
 
-measure mixed 1000000 call
+measure rolls 1000000 call
+measure rewrites 1000000 call
 measure comments 67108864 byte
 measure occupied 1000000 call
 measure longest 8388606 call

@@ -1,2 +1,12 @@
-pub mod Marking
-pub mod Heaps
+pub mod Sizes
+pub mod Entries
+pub mod Stages
+pub mod Disjoint
+pub mod Blocks
+pub mod Fits
+pub mod Giving
+pub mod Taking
+pub mod Arenas
+pub mod Formats
+pub mod Machines
+pub mod Given

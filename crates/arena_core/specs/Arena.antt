@@ -1,47 +1,47 @@
--- What a plain arena keeps between its calls.
-use Rattle.std.specs.Prelude.{◌≡◌, ◌≢◌, ℕ, ◌-◌, ◌*◌, ◌/◌, ◌%◌, ◌^◌, ◌<◌, ◌≤◌, nat_lt, Bool, false, List, length, slice_index, slice_index_or, slice_set, if◌then◌else◌}
-use Rattle.pmem_lines.specs.Events.{IsQuiet}
+-- What an arena keeps between its calls, and the memory that it is made of.
+use Rattle.std.specs.Prelude.{◌≡◌, ◌↔◌, ℕ, ◌<◌, ◌≤◌, false, List, Option, Some, None}
 use Rattle.pmem_lines.specs.Pmem.{PmemState, words_of}
-use Rattle.heap_model.specs.Plain.{is_taken, IsOverlapFree, IsBlockAt}
-use Rattle.arena_core.specs.Plain.{plain_heap, block_count}
+use Rattle.pool_layout.specs.Header.{granules_in}
+use Rattle.image_tables.specs.Tables.{tables_of}
+use Rattle.book_log.specs.Book.{Book, Reads, IsBlank}
+use Rattle.heap_model.specs.declared.block.Block.{Block}
+use Rattle.extent_index.specs.FreeSet.{FreeSet, IsFree}
+use Rattle.heap_check.specs.Heap.{heap}
+use Rattle.heap_check.specs.Sound.{IsVacant}
+use Rattle.heap_check.specs.Image.{bounds_of, IsExactImage}
+use Rattle.arena_core.specs.Call.{IsReady}
 
--- the words are those of a plain arena: 16 to 1024 granules of 2048 words, and roots that name different blocks
-pub record IsPlain (words : List ℕ) : Type 0 where
-  pub whole : length words % 2048 ≡ 0
-  pub least : 16 * 2048 ≤ length words
-  pub most : length words ≤ 1024 * 2048
-  pub heap : IsOverlapFree (block_count words) (plain_heap words)
+-- no slab lives: each block is whole granules
+pub record HasNoSlab (words : List ℕ) : Type 0 where
+  pub none : (start : ℕ) → (tables_of words).slab start ≡ false
 
--- the memory may begin a call, and has room for its events
-pub record IsReady (device : PmemState) : Type 0 where
-  pub quiet : IsQuiet device.events
-  pub room : 2048 ≤ device.room
+-- the log is that of these words
+pub record IsBookOf (book : Book) (words : List ℕ) : Type 0 where
+  pub reads : Reads book words
+  pub granules : book.granules ≡ granules_in words
 
--- the marks say which of the first 4096 blocks some root names
-pub record AreMarks (heap : List ℕ) (marks : List Bool) : Type 0 where
-  pub all : length marks ≡ 4096
-  pub each : (i : ℕ) → i < 4096 → slice_index_or marks i false ≡ is_taken heap i
+-- the set has the vacant granules of these words
+pub record IsIndexOf (set : FreeSet) (words : List ℕ) : Type 0 where
+  pub granules : set.granules ≡ granules_in words
+  pub each : (k : ℕ) → IsFree set k ↔ IsVacant (bounds_of words) (tables_of words) k
 
--- the marks once a block is named, or is no more; a block past them has none
-abbrev pub marks_after : List Bool → ℕ → Bool → List Bool
-marks_after marks block named = if nat_lt block 4096 then slice_set marks block named else marks
-
--- what a plain arena keeps
-pub record IsArena (device : PmemState) (marks : List Bool) : Type 0 where
+-- what an arena keeps: its memory is ready and its image exact, and log and index are those of the image
+pub record IsArena (device : PmemState) (book : Book) (set : FreeSet) : Type 0 where
   pub ready : IsReady device
-  pub plain : IsPlain (words_of device)
-  pub marked : AreMarks (plain_heap (words_of device)) marks
+  pub exact : IsExactImage (words_of device)
+  pub no_slab : HasNoSlab (words_of device)
+  pub log : IsBookOf book (words_of device)
+  pub index : IsIndexOf set (words_of device)
 
--- a root that names no block may be given this one, which no root names
-pub record IsNewBlock (blocks : ℕ) (heap : List ℕ) (root at : ℕ) : Type 0 where
-  pub below : root < 4096
-  pub none : slice_index heap root ≡ 0
-  pub block : IsBlockAt blocks at
-  pub free : is_taken heap ((at - 65536) / 64) ≡ false
-  pub small : at < 2 ^ 32
+-- memory for an arena of so many granules: an empty log, and an index in which all of the heap is free
+pub record IsRoom (granules : ℕ) (book : Book) (set : FreeSet) : Type 0 where
+  pub least : 16 ≤ granules
+  pub most : granules ≤ 1024
+  pub log : IsBlank granules book
+  pub index : set.granules ≡ granules
+  pub each : (k : ℕ) → IsFree set k ↔ ((4 ≤ k) × (k < granules))
 
--- a root names the block at this address
-pub record IsNamed (heap : List ℕ) (root at : ℕ) : Type 0 where
-  pub below : root < 4096
-  pub here : slice_index heap root ≡ at
-  pub some : at ≢ 0
+-- the block of a root, where it has one
+abbrev pub IsBlockOfRoot : List ℕ → ℕ → Option Block → Type 0
+IsBlockOfRoot words root None = heap (tables_of words) root ≡ None
+IsBlockOfRoot words root (Some block) = (block.root ≡ root) × (heap (tables_of words) root ≡ Some (record { at = block.at; size = block.size }))

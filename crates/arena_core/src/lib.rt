@@ -1,15 +1,24 @@
 // One arena over persistent memory, used by one caller at a time.
 //
-// `PlainArena` has blocks of 64 bytes and 4096 root words. Its contracts speak of the heap that the root words spell
-// (`specs/Plain.antt`) and of the machine in `heap_model`: each call gives the machine's answer, leaves the machine's
-// heap, and appends exactly the events that the answer calls for. A crash at any of them leaves the heap from before
-// the call or from after it. The layer above knows these contracts and nothing of the marks that the arena keeps
-// beside the words.
-#![tactic(auto)]
+// `Arena` gives large blocks, of whole granules, to the roots of an arena. Its contracts speak of what the words of its
+// memory say, by the definitions of `heap_check`: the heap, the state of the machine in `heap_model`, and when an image
+// is exact or steady. Each call is a step of the machine (`IsStepOf`), begins once and then has exactly the events of
+// `specs/Events.antt`, and leaves an exact image; a crash at any of its events leaves a steady image with the heap from
+// before the call or from after it (`IsEitherHeap`).
+//
+// A call plans, begins, and carries out: `specs/Plan.antt` has what a plan decides. `ArenaRoom` takes the memory that an
+// arena needs, and no call of `Arena` takes any. The layer above knows these contracts, and nothing of the log's table
+// and the index of free granules that an arena keeps beside the words (`specs/Arena.antt`).
+#![tactic(auto, using(std::proofs::lemmas::Grind::common_steps))]
 
 mod answer;
-mod marks;
-mod plain;
+mod arena;
+mod carrying;
+mod formatting;
+mod logging;
+mod plan;
+mod room;
 
 pub use answer::{FreeRefusal, Freed, MallocRefusal, Placed};
-pub use plain::PlainArena;
+pub use arena::Arena;
+pub use room::ArenaRoom;

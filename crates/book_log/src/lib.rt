@@ -22,6 +22,3 @@ pub use directory::active_chunks;
 pub use entry::{LogEntry, log_entry_of, log_word};
 pub use log::BookLog;
 pub use place::EntryPlace;
-
-#[cfg(test)]
-mod tests;

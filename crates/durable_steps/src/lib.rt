@@ -13,6 +13,3 @@ mod step;
 
 pub use row::{flush_lines, store_words, write_row};
 pub use step::{write_pair, write_word};
-
-#[cfg(test)]
-mod tests;

@@ -106,6 +106,3 @@ impl ExtentIndex {
         put(&mut self.runs, at, merged);
     }
 }
-
-#[cfg(test)]
-mod tests;

@@ -2,3 +2,13 @@ pub mod Blank
 pub mod Forms
 pub mod Formatted
 pub mod HandMade
+pub mod Claims
+pub mod Touch
+pub mod Geometry
+pub mod Within
+pub mod Loose
+pub mod Large
+pub mod LargeSound
+pub mod Heaps
+pub mod LargePlaces
+pub mod LargeHeaps

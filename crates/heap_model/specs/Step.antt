@@ -211,6 +211,13 @@ IsRead b m root index reply next =
     ((word : ℕ) × (reply ≡ Value word) × IsWithinBlock b m root index × IsValueOf (m.value root index) word × (next ≡ m))
     ⊎ IsRefusedWord b m root index reply next
 
+-- the root that a call speaks of
+abbrev pub root_of : Call → ℕ
+root_of (Malloc root size) = root
+root_of (Free root) = root
+root_of (Write root index value) = root
+root_of (Read root index) = root
+
 -- a call, its reply and the state after it
 abbrev pub IsStepBy : (Bounds → Machine → ℕ → ℕ → Range → Machine → Type 0) → (Bounds → Machine → ℕ → Type 0) → Bounds → Machine → Call → Reply → Machine → Type 0
 IsStepBy Grants Lacks b m (Malloc root size) reply next = IsMalloc Grants Lacks b m root size reply next

@@ -3,8 +3,7 @@
 //
 // The crate has types, definitions and laws, and no call of the allocator: the layers above state their contracts in its
 // words. `specs/Machine.antt` has the state, `specs/Step.antt` the steps with slabs and without, `specs/Journal.antt`
-// the legal journals, and `specs/Runs.antt` what the best fit is. `specs/Plain.antt` is the machine of blocks of 64
-// bytes.
+// the legal journals, and `specs/Runs.antt` what the best fit is.
 #![tactic(auto)]
 
 mod block;
@@ -13,4 +12,4 @@ mod laws;
 
 pub use block::{Block, Slab};
 pub use call::{Call, Entry, Reply};
-pub use laws::{law_of_large_overlap, law_of_overlap};
+pub use laws::{law_of_large_overlap, law_of_one_journal, law_of_overlap};

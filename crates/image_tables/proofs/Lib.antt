@@ -3,3 +3,4 @@ pub mod Places
 pub mod Logs
 pub mod Extents
 pub mod Stores
+pub mod Tables

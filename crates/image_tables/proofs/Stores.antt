@@ -17,11 +17,11 @@ use Rattle.image_tables.proofs.Extents.{extent_at-elsewhere}
 abbrev pub put_at : {X : Type 0} → (ℕ → X) → ℕ → X → ℕ → X
 put_at table key new other = if other == key then new else table other
 
-pub put_at-here : {X : Type 0} (table : ℕ → X) (key : ℕ) (new : X) → put_at table key new key ≡ new
-put_at-here table key new = cond-true (eqb key key) new (table key) (eq-eqb key key refl)
+pub put_at-same : {X : Type 0} (table : ℕ → X) (key : ℕ) (new : X) → put_at table key new key ≡ new
+put_at-same table key new = cond-true (eqb key key) new (table key) (eq-eqb key key refl)
 
-pub put_at-other : {X : Type 0} (table : ℕ → X) (key : ℕ) (new : X) (other : ℕ) → other ≢ key → put_at table key new other ≡ table other
-put_at-other table key new other apart = cond-false (eqb other key) new (table other) (ne_eqb other key apart)
+pub put_at-other : {X : Type 0} (table : ℕ → X) (key other : ℕ) (new : X) → other ≢ key → put_at table key new other ≡ table other
+put_at-other table key other new apart = cond-false (eqb other key) new (table other) (ne_eqb other key apart)
 
 -- how many write-ahead lines there are
 pub few_lines : wal_lines ≡ 8
@@ -229,11 +229,11 @@ tables_put_root words root value below inside slabs =
     ap (λ r. cond (ltb r roots) (word_at new (root_word r)) 0) here
     ∙ cond-true (ltb root roots) (word_at new (root_word root)) 0 (lt-ltb root roots below)
     ∙ word_at-put_same words (root_word root) (root_word root) value refl inside
-    ∙ sym (put_at-here table root value)
+    ∙ sym (put_at-same table root value)
     ∙ ap (put_at table root value) (sym here))
     (λ (other : r ≢ root).
     ap (λ w. cond (ltb r roots) w 0) (word_at-put_other words (root_word root) (root_word r) value (λ e. other (omega arith)))
-    ∙ sym (put_at-other table root value r other))
+    ∙ sym (put_at-other table root r value other))
     (cases_eq r root))
     (entry_among-same (λ line. word_at words (wal_word line)) (λ line. word_at new (wal_word line)) wal_lines (λ line less. wal_word-put_root words root value line less))
     (λ start. ap large_of (extent_at-put_root words root value start below))

@@ -12,15 +12,3 @@ pub fn bit_place(i: u32) -> (u32, u32)
 {
     (1 + i % 8, i / 8)
 }
-
-#[cfg(test)]
-mod tests {
-    use super::*;
-
-    #[test]
-    fn places_of_blocks(rt: HostRuntime) {
-        for (i, place) in [(0, (1, 0)), (8, (1, 1)), (15, (8, 1)), (3967, (8, 495))] {
-            assert_eq!(rt; bit_place(i), place, "of block {i}");
-        }
-    }
-}

@@ -13,4 +13,3 @@ pub mod Next
 pub mod Telling
 pub mod Making
 pub mod Booked
-pub mod Evens

@@ -16,6 +16,3 @@ mod room;
 mod switching;
 
 pub use room::{Rolled, make_room};
-
-#[cfg(test)]
-mod tests;

@@ -1,5 +1,5 @@
 -- Lists of one word and of four, word by word.
-use Rattle.std.proofs.Common.{◌≡◌, ℕ, suc, zero, List, [], ◌∷◌, length, map, get_or, sym, ap, ◌∙◌, refl, arith, ◌≢◌, ◌<◌, ◌^◌, codes, decimal, Option, Some, None}
+use Rattle.std.proofs.Common.{◌≡◌, ℕ, List, [], ◌∷◌, length, map, get_or, sym, ap, arith, codes, Option, Some, None}
 use Rattle.std.specs.Option.{MatchOption}
 use Rattle.nvheap.specs.declared.command.Command.{Command}
 use Rattle.nvheap.specs.declared.command.Command.TheVariants.{Replay, Crash}

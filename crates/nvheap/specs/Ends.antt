@@ -1,8 +1,6 @@
 -- How a run ends: what each status says of the words, the input, the output and the shelf.
-use Rattle.std.specs.Prelude.{◌≡◌, ◌⊎◌, ◌<◌, ◌≤◌, ℕ, List, length, Option}
+use Rattle.std.specs.Prelude.{◌≡◌, ◌⊎◌, ◌≤◌, ℕ, List, length, Option}
 use Rattle.pmem_lines.specs.Pmem.{PmemState}
-use Rattle.heap_model.specs.Plain.{no_blocks}
-use Rattle.trace_text.specs.declared.call.TraceCall.{TraceCall}
 use Rattle.trace_text.specs.declared.call.Refusal.{Refusal}
 use Rattle.trace_text.specs.declared.call.Refusal.TheVariants.{BadLine, NoArena, NoEvent}
 use Rattle.trace_text.specs.Grammar.{IsRefusedLine}
@@ -15,8 +13,7 @@ use Rattle.nvheap.specs.declared.status.Status.{Status}
 use Rattle.nvheap.specs.declared.status.Status.TheVariants.{Done, Usage, Refused, ReadFault, WriteFault, Memory, TooLong}
 use Rattle.nvheap.specs.Outside.{GivesAll, Takes, TakesFront}
 use Rattle.nvheap.specs.Command.{IsCommand}
-use Rattle.nvheap.specs.Replay.{AnswersReplay, blocks_in}
-use Rattle.nvheap.specs.Crash.{AnswersCrash, IsCrashReport, LacksArena, LacksEvent, total_events}
+use Rattle.nvheap.specs.Answers.{AnswersReplay, AnswersCrash, LacksArena, LacksEvent}
 
 -- the most bytes that a trace may have
 unfoldable pub longest_trace : ℕ
@@ -54,12 +51,6 @@ IsAnswer command input old new (FaultLine text) = (refusal : Refusal) × Refuses
 abbrev pub IsFaultLine : Refusal → Answer → Type 0
 IsFaultLine refusal (Output text) = ⊥
 IsFaultLine refusal (FaultLine text) = text.items ≡ refusal_text refusal
-
--- what `crash` has to say of a trace
-abbrev pub IsCrashAnswer : ℕ → List TraceCall → ℕ → ℕ → Answer → Type 0
-IsCrashAnswer granules calls event seed (Output text) = IsCrashReport granules calls event seed text.items
-IsCrashAnswer granules calls event seed (FaultLine text) =
-    let total = total_events (blocks_in granules) no_blocks calls in (total < event) × (text.items ≡ refusal_text (NoEvent event total))
 
 -- Done: the input was read to its end, and the whole output was taken
 pub record IsDone (words : List (List ℕ)) (left left_after taken taken_after : Option (List ℕ)) (places places_after : Option (List (Option PmemState))) : Type 0 where

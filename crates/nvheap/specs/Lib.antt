@@ -1,6 +1,4 @@
 pub mod Outside
 pub mod Command
-pub mod Replay
-pub mod Crash
-pub mod Seek
+pub mod Answers
 pub mod Ends

@@ -1,19 +1,15 @@
 // What each command has to say of its input.
-ghost use Rattle.std.specs.Prelude.{◌≡◌, ◌≤◌, ◌<◌, ◌^◌, List, Option, IfOk, OnErr};
-ghost use Rattle.std.specs.List.{All};
+ghost use Rattle.std.specs.Prelude.{◌≡◌, List, Option, IfOk, OnErr};
 ghost use Rattle.pmem_lines.specs.Pmem.{PmemState};
-ghost use Rattle.trace_text.specs.Grammar.{IsAsked};
 ghost use Rattle.nvheap.specs.declared.command.Command.TheVariants as commands;
-ghost use Rattle.nvheap.specs.Ends.{IsAnswer, IsCrashAnswer, IsFaultLine};
+ghost use Rattle.nvheap.specs.Ends.{IsAnswer, IsFaultLine};
 
 use crate::command::Command;
-use crate::crash::{Sought, report_idle, report_within, seek};
-use crate::replay::replay;
 use crate::shelf::Shelf;
-use arena_core::PlainArena;
-use pmem_lines::{OutOfMemory, SimPmem};
+use pmem_lines::OutOfMemory;
 use std::alloc::Global;
-use trace_text::{Refusal, Trace, TraceFault, read_trace, write_refusal};
+use trace_runs::{CrashFault, crash, replay};
+use trace_text::{Refusal, TraceFault, read_trace, write_refusal};
 
 const GRANULE_LINES: u32 = 256;
 
@@ -88,35 +84,13 @@ fn crash_answer(
             },
         );
     }
-    crash_of_trace(alloc, &trace, event, seed)
-}
-
-// The same, of a trace with one arena.
-fn crash_of_trace(
-    alloc: Global,
-    trace: &Trace,
-    event: u64,
-    seed: u64,
-) -> Result<Answer, OutOfMemory>
-    requires least { 16 ≤ trace.now.granules }
-    requires most { trace.now.granules ≤ 1024 }
-    requires asked { All (λ call. IsAsked call.call) trace.now.calls.items }
-    ensures { IfOk result (IsCrashAnswer trace.now.granules trace.now.calls.items event seed) }
-{
-    let device = SimPmem::zeroed(alloc, GRANULE_LINES * trace.granules, ROOM)?;
-    let mut arena = PlainArena::new(device);
-    match seek(&mut arena, &trace.calls, event) {
-        Sought::UnderWay { number, done } => {
-            let text = report_within(alloc, arena.pmem(), number, done, seed)?;
-            Ok(Answer::Output(text))
-        }
-        Sought::Past { events } => {
-            if event > events {
-                return fault_line(alloc, Refusal::NoEvent { event, events });
-            }
-            let text = report_idle(alloc, arena.pmem())?;
-            Ok(Answer::Output(text))
-        }
+    match crash(alloc, &trace, event, seed) {
+        Ok(text) => Ok(Answer::Output(text)),
+        Err(CrashFault::NoEvent { events }) => fault_line(
+            alloc,
+            Refusal::NoEvent { event, events },
+        ),
+        Err(CrashFault::Memory(fault)) => Err(fault),
     }
 }
 

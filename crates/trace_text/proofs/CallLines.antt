@@ -19,9 +19,9 @@ call_words line call is = is.text ∙ append_assoc (decimal call.thread) (32 ∷
 -- behind the thread
 pub behind_thread : (line : List ℕ) (thread : ℕ) (rest : List ℕ) (call : TraceCall) → thread ≤ 63 → line ≡ decimal thread ++ 32 ∷ rest → IsCallLine line call → rest ≡ decimal call.arena ++ 32 ∷ call_text call.call
 behind_thread line thread rest call le e is =
-    (same_field line thread call.thread rest _ (omega arith) (omega (arith, is.thread)) e (call_words line call is)).1
+    (same_field line thread call.thread rest _ (omega arith) (omega (arith, is.valid.thread)) e (call_words line call is)).1
 
 -- behind the arena
 pub behind_arena : (line : List ℕ) (thread arena : ℕ) (rest words : List ℕ) (call : TraceCall) → thread ≤ 63 → arena ≤ 0 → line ≡ decimal thread ++ 32 ∷ rest → rest ≡ decimal arena ++ 32 ∷ words → IsCallLine line call → words ≡ call_text call.call
 behind_arena line thread arena rest words call le none d e is =
-    (same_field rest arena call.arena words _ (omega arith) (omega (arith, is.arena)) e (behind_thread line thread rest call le d is)).1
+    (same_field rest arena call.arena words _ (omega arith) (omega (arith, is.valid.arena)) e (behind_thread line thread rest call le d is)).1

@@ -1,6 +1,6 @@
+pub mod Fronts
 pub mod Numbers
 pub mod CallLines
 pub mod Lines
-pub mod Fronts
 pub mod OneMeaning
-pub mod Asked
+pub mod Calls

@@ -26,7 +26,7 @@ no_digit_passed (d ∷ ds) rest (byte ∷ line) some digits is passed = let same
 -- a line that is passed over makes no call
 no_call_passed : (line : List ℕ) (call : TraceCall) → IsPassedOver line → ¬ (IsCallLine line call)
 no_call_passed line call passed makes =
-    let numeral = decimal_is_IsNumeral call.thread (omega (arith, makes.thread)) in
+    let numeral = decimal_is_IsNumeral call.thread (omega (arith, makes.valid.thread)) in
     no_digit_passed (decimal call.thread) _ line numeral.0.0 numeral.0.1 (call_words line call makes) passed
 
 -- a line says one pool
@@ -69,9 +69,9 @@ same_call a b thread arena call = λ i. record { thread = thread i; arena = aren
 one_call : (line : List ℕ) (a b : TraceCall) → IsCallLine line a → IsCallLine line b → a ≡ b
 one_call line a b p q =
     let first = call_words line a p in
-    let thread = (same_field line a.thread b.thread _ _ (omega (arith, p.thread)) (omega (arith, q.thread)) first (call_words line b q)).0 in
-    let words = behind_arena line a.thread a.arena _ (call_text a.call) b (omega (arith, p.thread)) (omega (arith, p.arena)) first refl q in
-    same_call a b thread (p.arena ∙ sym q.arena) (one_asked a.call b.call p.asked q.asked words)
+    let thread = (same_field line a.thread b.thread _ _ (omega (arith, p.valid.thread)) (omega (arith, q.valid.thread)) first (call_words line b q)).0 in
+    let words = behind_arena line a.thread a.arena _ (call_text a.call) b (omega (arith, p.valid.thread)) (omega (arith, p.valid.arena)) first refl q in
+    same_call a b thread (p.valid.arena ∙ sym q.valid.arena) (one_asked a.call b.call p.valid.asked q.valid.asked words)
 
 -- lines make one list of calls
 one_list : (lines : List (List ℕ)) (a b : List TraceCall) → AreCalls lines a → AreCalls lines b → a ≡ b

@@ -32,17 +32,21 @@ pub record IsPoolLine (line : List ℕ) (granules : ℕ) : Type 0 where
 
 -- the calls that a trace may ask for, with numbers that fit
 abbrev pub IsAsked : Call → Type 0
-IsAsked (Malloc root size) = (root < 2 ^ 32) × (size ≤ 64)
+IsAsked (Malloc root size) = (root < 2 ^ 32) × (size < 2 ^ 64)
 IsAsked (Free root) = root < 2 ^ 32
 IsAsked (Write root index value) = ⊥
 IsAsked (Read root index) = ⊥
 
--- the line makes this call: the thread, the arena and what is asked, with one space between them
-pub record IsCallLine (line : List ℕ) (call : TraceCall) : Type 0 where
-  pub text : line ≡ decimal call.thread ++ 32 ∷ decimal call.arena ++ 32 ∷ call_text call.call
+-- a call that a trace may have
+pub record IsTraceCall (call : TraceCall) : Type 0 where
   pub thread : call.thread < 64
   pub arena : call.arena ≡ 0
   pub asked : IsAsked call.call
+
+-- the line makes this call: the thread, the arena and what is asked, with one space between them
+pub record IsCallLine (line : List ℕ) (call : TraceCall) : Type 0 where
+  pub text : line ≡ decimal call.thread ++ 32 ∷ decimal call.arena ++ 32 ∷ call_text call.call
+  pub valid : IsTraceCall call
 
 -- the lines make these calls, in order, and say nothing else
 abbrev pub AreCalls : List (List ℕ) → List TraceCall → Type 0

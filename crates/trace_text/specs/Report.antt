@@ -36,10 +36,13 @@ block_line block = decimal block.root ++ 32 ∷ decimal block.at ++ 32 ∷ decim
 abbrev pub heap_text : List Block → List ℕ
 heap_text blocks = codes "heap " ++ decimal (length blocks) ++ 10 ∷ flat_map block_line blocks
 
+-- an arena, and how many calls its journal has
+abbrev pub arena_line : ℕ → ℕ → List ℕ
+arena_line arena calls = codes "arena " ++ decimal arena ++ codes " calls " ++ decimal calls ++ 10 ∷ []
+
 -- the report of an arena: its journal and its heap
 abbrev pub arena_text : ℕ → List Entry → List Block → List ℕ
-arena_text arena journal blocks =
-    codes "arena " ++ decimal arena ++ codes " calls " ++ decimal (length journal) ++ 10 ∷ flat_map entry_line journal ++ heap_text blocks
+arena_text arena journal blocks = arena_line arena (length journal) ++ flat_map entry_line journal ++ heap_text blocks
 
 -- on which side of the call a heap stands
 abbrev pub side_text : CrashSide → List ℕ

@@ -3,8 +3,9 @@
 // What the text of a trace means stands in `specs/Grammar.antt`, what is printed in `specs/Report.antt`: definitions on
 // lists of bytes that share the text of a call. The layers above know `read_trace` (the grammar, with the first line
 // outside it), the writers (exactly the text, behind what stood there) and the laws of the grammar: a text says one
-// trace, or has one refused line, and never both. Both directions are one pass, with no memory taken for a line.
-#![tactic(auto)]
+// trace, or has one refused line, and never both. Both directions are one pass, with no memory taken for a line: a report
+// is written line by line, `write_arena`, `write_entry` for each call as it is answered, and `write_heap`.
+#![tactic(auto, using(crate::proofs::Fronts::kept_further))]
 
 mod call;
 mod laws;
@@ -17,5 +18,5 @@ mod writing;
 pub use call::{CrashSide, Refusal, TraceCall};
 pub use laws::{law_of_no_refusal, law_of_one_refusal, law_of_one_trace};
 pub use number::whole_number;
-pub use report::{write_crash, write_refusal, write_report};
+pub use report::{write_arena, write_crash, write_entry, write_heap, write_refusal};
 pub use trace::{Trace, TraceFault, read_trace};

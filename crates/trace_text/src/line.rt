@@ -18,9 +18,6 @@ const LAST_ARENA: u64 = 0;
 /// The greatest root number.
 const LAST_ROOT: u64 = 0xFFFF_FFFF;
 
-/// The greatest size of a block, in bytes.
-const LARGEST_SIZE: u64 = 64;
-
 /// The fewest granules of an arena, and the most.
 const FEWEST_GRANULES: u64 = 16;
 
@@ -46,10 +43,10 @@ pub(crate) fn read_pool_line(line: &[u8]) -> Option<u32>
 
 /// A root and a size with a space between; none where the words are something else.
 fn read_root_and_size(words: &[u8]) -> Option<(u32, u64)>
-    ensures { MatchOption result ((root size : ℕ) → root < 2 ^ 32 → size ≤ 64 → words.now ≢ decimal root ++ 32 ∷ decimal size) (λ found. (found.1 ≤ 64) × (words.now ≡ decimal found.0 ++ 32 ∷ decimal found.1)) }
+    ensures { MatchOption result ((root size : ℕ) → root < 2 ^ 32 → size < 2 ^ 64 → words.now ≢ decimal root ++ 32 ∷ decimal size) (λ found. words.now ≡ decimal found.0 ++ 32 ∷ decimal found.1) }
 {
     let (root, rest) = read_field(words, LAST_ROOT)?;
-    let size = whole_number(rest, LARGEST_SIZE)?;
+    let size = whole_number(rest, u64::MAX)?;
     Some((root as u32, size))
 }
 

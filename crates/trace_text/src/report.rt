@@ -1,13 +1,24 @@
 // What is printed: reports of arenas and of crashes, and refusals.
-ghost use Rattle.std.specs.Prelude.{◌≡◌, ◌∷◌, ◌++◌, decimal, flat_map, OnOk, OnErr};
+ghost use Rattle.std.specs.Prelude.{◌≡◌, [], ◌∷◌, ◌++◌, codes, decimal, flat_map, OnOk, OnErr};
 ghost use Rattle.trace_text.specs.Words.{call_text};
 ghost use Rattle.trace_text.specs.Fronts.{BeginsWith};
-ghost use Rattle.trace_text.specs.Report.{reply_text, entry_line, block_line, heap_text, arena_text, side_text, crash_text, refusal_text};
+ghost use Rattle.trace_text.specs.Report.{reply_text, arena_line, entry_line, block_line, heap_text, side_text, crash_text, refusal_text};
 
 use crate::writing::{write_bytes, write_number, write_pair, write_word};
 use crate::{CrashSide, Refusal};
 use heap_model::{Block, Call, Entry, Reply};
 use pmem_lines::OutOfMemory;
+
+/// Writes the line that a report begins with behind what stands in `out`: the arena, and how many calls its journal has.
+/// The entries and the heap follow it. Where memory runs out, what stood there still stands at the front.
+pub fn write_arena(out: &mut Vec<u8>, arena: u32, calls: u64) -> Result<(), OutOfMemory>
+    ensures text { OnOk result (out.new.items ≡ out.old.items ++ arena_line arena calls) }
+    ensures kept { OnErr result (BeginsWith out.new.items out.old.items) }
+{
+    write_word(out, b"arena ", u64::from(arena))?;
+    write_word(out, b" calls ", calls)?;
+    write_bytes(out, b"\n")
+}
 
 /// Writes what a call asks.
 fn write_call(out: &mut Vec<u8>, call: Call) -> Result<(), OutOfMemory>
@@ -55,8 +66,9 @@ fn write_asked(out: &mut Vec<u8>, seat: u32, call: Call) -> Result<(), OutOfMemo
     write_call(out, call)
 }
 
-/// Writes an entry of a journal.
-fn write_entry(out: &mut Vec<u8>, entry: Entry) -> Result<(), OutOfMemory>
+/// Writes the line of an entry of a journal behind what stands in `out`. Where memory runs out, what stood there still
+/// stands at the front.
+pub fn write_entry(out: &mut Vec<u8>, entry: Entry) -> Result<(), OutOfMemory>
     ensures text { OnOk result (out.new.items ≡ out.old.items ++ entry_line entry) }
     ensures kept { OnErr result (BeginsWith out.new.items out.old.items) }
 {
@@ -72,20 +84,8 @@ fn write_block(out: &mut Vec<u8>, block: Block) -> Result<(), OutOfMemory>
     ensures kept { OnErr result (BeginsWith out.new.items out.old.items) }
 {
     write_number(out, u64::from(block.root))?;
-    write_word(out, b" ", u64::from(block.at))?;
-    write_word(out, b" ", u64::from(block.size))?;
+    write_pair(out, b" ", u64::from(block.at), u64::from(block.size))?;
     write_bytes(out, b"\n")
-}
-
-/// Writes the entries of a journal.
-fn write_entries(out: &mut Vec<u8>, journal: &[Entry]) -> Result<(), OutOfMemory>
-    ensures text { OnOk result (out.new.items ≡ out.old.items ++ flat_map entry_line journal.now) }
-    ensures kept { OnErr result (BeginsWith out.new.items out.old.items) }
-{
-    for entry in journal {
-        write_entry(out, *entry)?;
-    }
-    Ok(())
 }
 
 /// Writes the blocks of a heap.
@@ -99,8 +99,9 @@ fn write_blocks(out: &mut Vec<u8>, blocks: &[Block]) -> Result<(), OutOfMemory>
     Ok(())
 }
 
-/// Writes a heap: how many blocks, and each of them.
-fn write_heap(out: &mut Vec<u8>, blocks: &[Block]) -> Result<(), OutOfMemory>
+/// Writes a heap behind what stands in `out`: how many blocks, and each of them. Where memory runs out, what stood there
+/// still stands at the front.
+pub fn write_heap(out: &mut Vec<u8>, blocks: &[Block]) -> Result<(), OutOfMemory>
     ensures text { OnOk result (out.new.items ≡ out.old.items ++ heap_text blocks.now) }
     ensures kept { OnErr result (BeginsWith out.new.items out.old.items) }
 {
@@ -109,33 +110,15 @@ fn write_heap(out: &mut Vec<u8>, blocks: &[Block]) -> Result<(), OutOfMemory>
     write_blocks(out, blocks)
 }
 
-/// Writes the report of an arena behind what stands in `out`: its number, its journal and the blocks of its heap. Where
-/// memory runs out, what stood there still stands at the front.
-pub fn write_report(
-    out: &mut Vec<u8>,
-    arena: u32,
-    journal: &[Entry],
-    blocks: &[Block],
-) -> Result<(), OutOfMemory>
-    ensures text { OnOk result (out.new.items ≡ out.old.items ++ arena_text arena journal.now blocks.now) }
-    ensures kept { OnErr result (BeginsWith out.new.items out.old.items) }
-{
-    write_word(out, b"arena ", u64::from(arena))?;
-    write_word(out, b" calls ", journal.len() as u64)?;
-    write_bytes(out, b"\n")?;
-    write_entries(out, journal)?;
-    write_heap(out, blocks)
-}
-
-/// Writes the name of a side.
+/// Writes a space, the name of a side, and the end of the line.
 fn write_side(out: &mut Vec<u8>, side: CrashSide) -> Result<(), OutOfMemory>
-    ensures text { OnOk result (out.new.items ≡ out.old.items ++ side_text side) }
+    ensures text { OnOk result (out.new.items ≡ out.old.items ++ (32 ∷ side_text side ++ 10 ∷ [])) }
     ensures kept { OnErr result (BeginsWith out.new.items out.old.items) }
 {
     match side {
-        CrashSide::Same => write_bytes(out, b"same"),
-        CrashSide::Before => write_bytes(out, b"before"),
-        CrashSide::After => write_bytes(out, b"after"),
+        CrashSide::Same => write_bytes(out, b" same\n"),
+        CrashSide::Before => write_bytes(out, b" before\n"),
+        CrashSide::After => write_bytes(out, b" after\n"),
     }
 }
 
@@ -152,10 +135,17 @@ pub fn write_crash(
     ensures kept { OnErr result (BeginsWith out.new.items out.old.items) }
 {
     write_word(out, b"call ", call)?;
-    write_bytes(out, b" ")?;
     write_side(out, side)?;
-    write_bytes(out, b"\n")?;
     write_heap(out, blocks)
+}
+
+/// Writes these bytes, a number, and of how many it is.
+fn write_share(out: &mut Vec<u8>, bytes: &[u8], number: u64, all: u64) -> Result<(), OutOfMemory>
+    ensures text { OnOk result (out.new.items ≡ out.old.items ++ (bytes.now ++ decimal number ++ codes " of " ++ decimal all)) }
+    ensures kept { OnErr result (BeginsWith out.new.items out.old.items) }
+{
+    write_word(out, bytes, number)?;
+    write_word(out, b" of ", all)
 }
 
 /// Writes the line of a refusal behind what stands in `out`. Where memory runs out, what stood there still stands at
@@ -166,14 +156,8 @@ pub fn write_refusal(out: &mut Vec<u8>, refusal: Refusal) -> Result<(), OutOfMem
 {
     match refusal {
         Refusal::BadLine { line } => write_word(out, b"bad line ", line)?,
-        Refusal::NoArena { arena, arenas } => {
-            write_word(out, b"no arena ", arena)?;
-            write_word(out, b" of ", arenas)?;
-        }
-        Refusal::NoEvent { event, events } => {
-            write_word(out, b"no event ", event)?;
-            write_word(out, b" of ", events)?;
-        }
+        Refusal::NoArena { arena, arenas } => write_share(out, b"no arena ", arena, arenas)?,
+        Refusal::NoEvent { event, events } => write_share(out, b"no event ", event, events)?,
     }
     write_bytes(out, b"\n")
 }

@@ -1,7 +1,7 @@
 // Traces, read from their text.
 ghost use Rattle.std.specs.Prelude.{◌≡◌, ◌+◌, ◌<◌, ◌≤◌, ◌^◌, ◌∷◌, length, IfOk, IfErr, MatchResult};
 ghost use Rattle.std.specs.List.{All};
-ghost use Rattle.trace_text.specs.Grammar.{lines_of, AreCalls, IsAsked, IsTrace, IsRefusedLine, IfBadLine};
+ghost use Rattle.trace_text.specs.Grammar.{lines_of, AreCalls, IsTraceCall, IsTrace, IsRefusedLine, IfBadLine};
 ghost use Rattle.trace_text.specs.Lines.{IsBehindPool, IsRefusedCall};
 
 use crate::TraceCall;
@@ -110,14 +110,14 @@ fn read_calls(alloc: Global, text: &[u8], before: u64) -> Result<Vec<TraceCall>,
 
 /// Reads the text of a trace: lines, each ended by a line feed that the last one may lack, of which those that are empty
 /// or begin with `#` are passed over. The first of the others is `pool 1 G` with G from 16 to 1024 granules, and each
-/// after it is `T 0 m R S` or `T 0 f R`: thread T, from 0 to 63, asks arena 0 for a block of S bytes, from 0 to 64, for
-/// root R, or to free the block of root R, a number of 32 bits. A text that is no trace is refused with the number of
-/// its first line outside this grammar, or, where it ends with no pool, with the number behind its last line.
+/// after it is `T 0 m R S` or `T 0 f R`: thread T, from 0 to 63, asks arena 0 for a block of S bytes, a number of 64
+/// bits, for root R, or to free the block of root R, a number of 32 bits. A text that is no trace is refused with the
+/// number of its first line outside this grammar, or, where it ends with no pool, with the number behind its last line.
 pub fn read_trace(alloc: Global, bytes: &[u8]) -> Result<Trace, TraceFault>
     ensures trace { IfOk result (λ trace. IsTrace bytes.now trace.granules trace.calls.items) }
     ensures arenas { IfOk result (λ trace. trace.arenas ≡ 1) }
     ensures granules { IfOk result (λ trace. (16 ≤ trace.granules) × (trace.granules ≤ 1024)) }
-    ensures asked { IfOk result (λ trace. All (λ call. IsAsked call.call) trace.calls.items) }
+    ensures each { IfOk result (λ trace. All IsTraceCall trace.calls.items) }
     ensures few { IfOk result (λ trace. length trace.calls.items ≤ length bytes.now) }
     ensures refused { IfErr result (λ fault. IfBadLine fault (IsRefusedLine bytes.now)) }
 {

@@ -1,10 +1,9 @@
-use Rattle.std.proofs.Common.{List, Option, ℕ, subst, sym, arith, refl, ◌≡◌}
+use Rattle.std.proofs.Common.{List, Option, arith, refl}
 use Rattle.pmem_lines.specs.Pmem.{PmemState}
-use Rattle.trace_text.specs.declared.call.Refusal.TheVariants.{BadLine, NoArena}
+use Rattle.trace_text.specs.declared.call.Refusal.TheVariants.{BadLine, NoArena, NoEvent}
 use Rattle.nvheap.specs.declared.command.Command.TheVariants.{Crash}
-use Rattle.nvheap.specs.declared.answers.Answer.{Answer}
-use Rattle.nvheap.specs.Ends.{IsAnswer, IsFaultLine, IsCrashAnswer}
-use Rattle.nvheap.proofs.Answering.{IfOk-more, IsAnswer-refused, IsAnswer-crash}
+use Rattle.nvheap.specs.Ends.{IsAnswer, IsFaultLine}
+use Rattle.nvheap.proofs.Answering.{IfOk-more, IsAnswer-refused}
 use Rattle.nvheap.proofs.answers.crash_answer.Goals as goal
 
 pub returns-in-Err-BadLine : goal.returns-in-Err-BadLine
@@ -22,11 +21,18 @@ returns-then-arena-gt0 c =
     (record { granules = c.in-Ok.trace.granules; calls = c.in-Ok.trace.calls.items; trace = c.in-Ok.ensures.trace; is_asked = c.from.ensures; is_all = refl; lacks = c.if-arena-gt0.true }) line)
     c.fault_line-then-arena-gt0.ensures
 
-pub returns : goal.returns
-returns c =
-    let first : 0 ≡ c.args.arena = omega arith in
-    IfOk-more c.crash_of_trace.result (IsCrashAnswer c.in-Ok.trace.granules c.in-Ok.trace.calls.items c.args.event c.args.seed)
-    (λ answer. (places : Option (List (Option PmemState))) → IsAnswer (Crash c.args.arena c.args.event c.args.seed) c.args.input.now places places answer)
-    (λ answer says places. subst (λ (arena : ℕ). IsAnswer (Crash arena c.args.event c.args.seed) c.args.input.now places places answer) first
-    (IsAnswer-crash c.args.input.now places c.in-Ok.trace.granules c.in-Ok.trace.calls.items c.args.event c.args.seed answer c.in-Ok.ensures.trace says))
-    c.crash_of_trace.ensures
+pub returns-in-Ok-crash : goal.returns-in-Ok-crash
+returns-in-Ok-crash c places = (
+  omega (arith, c.if-arena-gt0.false),
+  record { granules = c.in-Ok.trace.granules; calls = c.in-Ok.trace.calls.items; trace = c.in-Ok.ensures.trace; report = c.in-Ok-crash.ensures.report },
+  refl,
+)
+
+pub returns-in-Err-NoEvent : goal.returns-in-Err-NoEvent
+returns-in-Err-NoEvent c =
+    let command = Crash c.args.arena c.args.event c.args.seed in
+    let refusal = NoEvent c.args.event c.in-Err-NoEvent.events in
+    IfOk-more c.fault_line-in-Err-NoEvent.result (IsFaultLine refusal) (λ answer. (places : Option (List (Option PmemState))) → IsAnswer command c.args.input.now places places answer)
+    (λ answer line places. IsAnswer-refused command c.args.input.now places refusal answer
+    (omega (arith, c.if-arena-gt0.false), record { granules = c.in-Ok.trace.granules; calls = c.in-Ok.trace.calls.items; trace = c.in-Ok.ensures.trace; is_asked = refl; fewer = rw c.in-Err-NoEvent.field-0-is at c.in-Err-NoEvent.ensures.fault }) line)
+    c.fault_line-in-Err-NoEvent.ensures

@@ -1,5 +1,5 @@
 use Rattle.trace_text.specs.Grammar.{IsTrace}
-use Rattle.trace_text.proofs.Asked.{IsTrace-asked, IsTrace-granules}
+use Rattle.trace_text.proofs.Calls.{IsTrace-calls, IsTrace-granules}
 use Rattle.trace_text.proofs.trace.read_trace.Goals as goal
 
 is_trace : (c : goal.In_ok-calls-in-Ok) → IsTrace c.args.bytes.now c.in-Ok.pool.granules c.in_ok-calls-in-Ok.calls.items
@@ -8,5 +8,5 @@ is_trace c = record { lines = c.in-Ok.ensures.made c.in_ok-calls-in-Ok.calls.ite
 pub returns-in_ok-calls-in-Ok-clause-granules : goal.returns-in_ok-calls-in-Ok-clause-granules
 returns-in_ok-calls-in-Ok-clause-granules c = IsTrace-granules c.args.bytes.now c.in-Ok.pool.granules c.in_ok-calls-in-Ok.calls.items (is_trace c)
 
-pub returns-in_ok-calls-in-Ok-clause-asked : goal.returns-in_ok-calls-in-Ok-clause-asked
-returns-in_ok-calls-in-Ok-clause-asked c = IsTrace-asked c.args.bytes.now c.in-Ok.pool.granules c.in_ok-calls-in-Ok.calls.items (is_trace c)
+pub returns-in_ok-calls-in-Ok-clause-each : goal.returns-in_ok-calls-in-Ok-clause-each
+returns-in_ok-calls-in-Ok-clause-each c = IsTrace-calls c.args.bytes.now c.in-Ok.pool.granules c.in_ok-calls-in-Ok.calls.items (is_trace c)

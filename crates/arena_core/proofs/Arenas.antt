@@ -1,0 +1,55 @@
+-- What an arena keeps holds again once a block was given or taken.
+use Rattle.std.proofs.Common.{◌≡◌, ◌↔◌, ◌⊎◌, ℕ, ◌+◌, ◌<◌, ◌≤◌, List, sym, ap, subst, ◌∙◌, inl, inr, ⊎_elim}
+use Rattle.pmem_lines.specs.Words.{put_word}
+use Rattle.pool_layout.specs.Layout.{layout_of}
+use Rattle.pool_layout.specs.Places.{root_word}
+use Rattle.pool_layout.specs.Header.{version_in, granules_in}
+use Rattle.image_tables.specs.Tables.{Tables, tables_of}
+use Rattle.image_tables.proofs.Stores.{IsOffLog-root, granules_in-put_root}
+use Rattle.book_log.specs.Book.{Book}
+use Rattle.book_log.proofs.Books.{Reads-elsewhere}
+use Rattle.extent_index.specs.FreeSet.{FreeSet, IsFree}
+use Rattle.heap_model.specs.Machine.{Bounds}
+use Rattle.heap_check.specs.Sound.{IsVacant}
+use Rattle.heap_check.specs.Image.{bounds_of}
+use Rattle.heap_check.proofs.Large.{with_large}
+use Rattle.arena_core.specs.Arena.{HasNoSlab, IsBookOf, IsIndexOf}
+use Rattle.arena_core.proofs.Stages.{IsStageOf}
+
+-- a log reads the same where a root's word is stored
+pub book_root : (book : Book) (words : List ℕ) (root value : ℕ) → root < (layout_of (version_in words)).roots → IsBookOf book words → IsBookOf book (put_word words (root_word root) value)
+book_root book words root value below log = record {
+  reads = Reads-elsewhere book words (root_word root) value (IsOffLog-root words root below) log.reads;
+  granules = log.granules ∙ sym (granules_in-put_root words root value);
+}
+
+-- at each stage there are as many slabs as before
+pub no_slab_stage : {words : List ℕ} {root start here word : ℕ} {image : List ℕ} → IsStageOf words root start here word image → HasNoSlab words → HasNoSlab image
+no_slab_stage {words} {root} {start} {here} {word} {image} stage none = record { none = λ other. ap (λ (t : Tables). t.slab other) stage.tables ∙ none.none other }
+
+-- the index of a stage, by what is vacant there
+pub index_stage : {words : List ℕ} {root start here word : ℕ} {image : List ℕ} (set : FreeSet) → IsStageOf words root start here word image → set.granules ≡ granules_in words →
+    ((k : ℕ) → IsFree set k ↔ IsVacant (bounds_of words) (with_large (tables_of words) start here root word) k) → IsIndexOf set image
+index_stage {words} {root} {start} {here} {word} {image} set stage granules each = record {
+  granules = granules ∙ ap (λ (b : Bounds). b.granules) (sym stage.bounds);
+  each = λ k. subst (λ b. IsFree set k ↔ IsVacant b (tables_of image) k) (sym stage.bounds)
+      (subst (λ t. IsFree set k ↔ IsVacant (bounds_of words) t k) (sym stage.tables) (each k));
+}
+
+-- granules are taken out of the set
+pub index_less : (set new : FreeSet) (b : Bounds) (t after : Tables) (start count : ℕ) →
+    ((k : ℕ) → IsFree set k ↔ IsVacant b t k) → ((k : ℕ) → IsFree new k ↔ (IsFree set k × ((k < start) ⊎ (start + count ≤ k)))) →
+    ((k : ℕ) → IsVacant b after k ↔ (IsVacant b t k × ((k < start) ⊎ (start + count ≤ k)))) → (k : ℕ) → IsFree new k ↔ IsVacant b after k
+index_less set new b t after start count was taken vacant k = (
+  λ free. let both = (taken k).0 free in (vacant k).1 ((was k).0 both.0, both.1),
+  λ is. let both = (vacant k).0 is in (taken k).1 ((was k).1 both.0, both.1),
+)
+
+-- granules are put into it
+pub index_more : (set new : FreeSet) (b : Bounds) (t after : Tables) (start count : ℕ) →
+    ((k : ℕ) → IsFree set k ↔ IsVacant b t k) → ((k : ℕ) → IsFree new k ↔ (IsFree set k ⊎ ((start ≤ k) × (k < start + count)))) →
+    ((k : ℕ) → IsVacant b after k ↔ (IsVacant b t k ⊎ ((start ≤ k) × (k < start + count)))) → (k : ℕ) → IsFree new k ↔ IsVacant b after k
+index_more set new b t after start count was given vacant k = (
+  λ free. ⊎_elim (λ old. (vacant k).1 (inl ((was k).0 old))) (λ more. (vacant k).1 (inr more)) ((given k).0 free),
+  λ is. ⊎_elim (λ old. (given k).1 (inl ((was k).1 old))) (λ more. (given k).1 (inr more)) ((vacant k).0 is),
+)

@@ -1,0 +1,143 @@
+-- What the roots of an exact image without slabs name: large extents, each of two granules at least, in the heap.
+use Rattle.std.proofs.Common.{MatchOption, ◌≡◌, ◌≢◌, ◌*◌, ◌/◌, ◌<◌, ◌≤◌, ℕ, true, false, List, Option, Some, None, refl, sym, ap, ◌∙◌, subst, arith, ⊎_elim}
+use Rattle.std.proofs.lemmas.Bool.{ne_eqb, cond-false, cases_eq, cases_lt}
+use Rattle.pool_layout.specs.Header.{granules_in}
+use Rattle.image_tables.specs.declared.extent.Extent.{Extent}
+use Rattle.image_tables.specs.declared.extent.Extent.TheVariants as extent
+use Rattle.image_tables.specs.Extents.{extent_at}
+use Rattle.image_tables.specs.Tables.{Tables, large_of, tables_of}
+use Rattle.image_tables.proofs.Tables.{root_table-past, large_table}
+use Rattle.book_log.specs.declared.entry.LogEntry.{LogEntry}
+use Rattle.book_log.specs.declared.entry.LogEntry.TheVariants as entry
+use Rattle.book_log.specs.Book.{chunks_of}
+use Rattle.book_log.specs.Entry.{start_of, extent_of}
+use Rattle.book_log.specs.Table.{IsNextLive, IsNoneLive}
+use Rattle.log_gc.proofs.Live.{live_extents}
+use Rattle.heap_model.specs.Machine.{Bounds, Range}
+use Rattle.heap_check.specs.Heap.{is_large, heap, slabs}
+use Rattle.heap_check.specs.Sound.{granules_at, IsExact}
+use Rattle.heap_check.specs.Image.{bounds_of, IsExactImage}
+use Rattle.heap_check.proofs.Geometry.{granules_at-large, is_large-parts, is_large-start}
+use Rattle.heap_check.proofs.Heaps.{heap-none, is_large-rooted}
+use Rattle.arena_core.specs.Arena.{HasNoSlab}
+use Rattle.arena_core.specs.Plan.{IsTakable}
+use Rattle.arena_core.proofs.Sizes.{sizes_of}
+
+-- what is live and large is an extent of so many granules
+some_large : (x : Option Extent) → 0 < large_of x → x ≡ Some (extent.Large (large_of x))
+some_large None some = absurd (omega arith)
+some_large (Some (extent.Large granules)) some = refl
+some_large (Some extent.Slab) some = absurd (omega arith)
+
+pub live_large : (words : List ℕ) (start : ℕ) → 0 < (tables_of words).large start → extent_at words start ≡ Some (extent.Large ((tables_of words).large start))
+live_large words start some =
+    let is : (tables_of words).large start ≡ large_of (extent_at words start) = large_table words start in
+    some_large (extent_at words start) (omega (arith, is, some)) ∙ ap (λ n. Some (extent.Large n)) (sym is)
+
+-- the entry of the next live extent, where one starts right here
+next_here : (table : ℕ → Option Extent) (start : ℕ) (extent : Extent) (next : LogEntry) → table start ≡ Some extent → IsNextLive table start next → extent_of next ≡ Some extent
+next_here table start extent next is live = ⊎_elim
+    (λ (here : start ≡ start_of next). live.says ∙ sym live.live ∙ ap table (sym here) ∙ is)
+    (λ (apart : start ≢ start_of next). absurd (let none : table start ≡ None = live.least start (omega arith) (omega (arith, apart, live.at_least)) in cc))
+    (cases_eq start (start_of next))
+
+large_entry : (next : LogEntry) (granules : ℕ) → extent_of next ≡ Some (extent.Large granules) → (start : ℕ) × (next ≡ entry.Large start granules)
+large_entry (entry.Large start size) granules is = (start, let same : size ≡ granules = cc in ap (entry.Large start) same)
+large_entry (entry.Slab start) granules is = absurd (cc)
+large_entry (entry.Tomb start) granules is = absurd (cc)
+
+-- where a large extent starts right here, the next live one found from here on is an entry of as many granules
+pub next_large : (words : List ℕ) (start : ℕ) (found : Option LogEntry) → 0 < (tables_of words).large start → MatchOption found (IsNoneLive (extent_at words) start) (IsNextLive (extent_at words) start) →
+    (from : ℕ) × (found ≡ Some (entry.Large from ((tables_of words).large start)))
+next_large words start None some none = absurd (let is = live_large words start some in let no : extent_at words start ≡ None = none.none start (omega arith) in cc)
+next_large words start (Some next) some live =
+    let granules = (tables_of words).large start in
+    let is = large_entry next granules (next_here (extent_at words) start (extent.Large granules) next (live_large words start some) live) in
+    (is.0, ap (λ (e : LogEntry). Some e) is.1)
+
+-- Each root that is not 0 names a live large extent, of two granules at least, in the heap; each such extent is named;
+-- and no slab lives.
+pub record HasLargeBlocks (b : Bounds) (t : Tables) : Type 0 where
+  pub first : 0 < b.first
+  pub no_slab : (start : ℕ) → t.slab start ≡ false
+  pub named : (root : ℕ) → t.root root ≢ 0 → IsTakable b t root (t.root root / 16384) (t.large (t.root root / 16384))
+  pub rooted : (start : ℕ) → 0 < t.large start → (root : ℕ) × (t.root root ≡ 16384 * start)
+  pub low : (start : ℕ) → 0 < t.large start → b.first ≤ start
+
+pub large_blocks : (words : List ℕ) → IsExactImage words → HasNoSlab words → HasLargeBlocks (bounds_of words) (tables_of words)
+large_blocks words image no_slab =
+    let b = bounds_of words in
+    let t = tables_of words in
+    let exact : IsExact b t = image.exact in
+    let sizes = sizes_of words image.formed in
+    let live = live_extents (granules_in words) words (chunks_of words) (omega (arith, sizes.most)) image.formed.log in
+    record {
+      first = omega (arith, sizes.first);
+      no_slab = no_slab.none;
+      named = λ root some.
+          let at = t.root root in
+          let start = at / 16384 in
+          let large = is_large-parts t.large at (is_large-rooted exact.sound exact.closed no_slab.none root some) in
+          let count : granules_at t start ≡ t.large start = granules_at-large t start (no_slab.none start) in
+          let lies = exact.sound.starts start (omega (arith, count, large.1)) in
+          let is_live = live.each start (extent.Large (t.large start)) (live_large words start large.1) in
+          record {
+            below = ⊎_elim (λ less. less) (λ past. absurd (some (root_table-past words root past))) (cases_lt root b.roots);
+            named = large.0;
+            live = refl;
+            many = is_live.some;
+            low = lies.0;
+            high = omega (arith, lies.1, count);
+          };
+      rooted = exact.all_named;
+      low = λ start some. (exact.sound.starts start (omega (arith, granules_at-large t start (no_slab.none start), some))).0;
+    }
+
+-- a root's word is below that of the largest arena's end
+pub root-small : (words : List ℕ) (root : ℕ) → IsExactImage words → HasNoSlab words → (tables_of words).root root < 16777216
+root-small words root image no_slab = ⊎_elim
+    (λ (none : (tables_of words).root root ≡ 0). omega (arith, none))
+    (λ (some : (tables_of words).root root ≢ 0).
+    let takable = (large_blocks words image no_slab).named root some in
+    omega (arith, takable.named, takable.many, takable.high, (sizes_of words image.formed).most))
+    (cases_eq ((tables_of words).root root) 0)
+
+-- the heap of such tables
+
+-- the block of a root that names a large extent
+pub heap-takable : (b : Bounds) (t : Tables) (root start count : ℕ) → 0 < b.first → IsTakable b t root start count → heap t root ≡ Some (record { at = 16384 * start; size = 16384 * count })
+heap-takable b t root start count first takable =
+    let some : t.root root ≢ 0 = λ none. omega (arith, none, first, takable.named, takable.low) in
+    let large : is_large t.large (t.root root) ≡ true = subst (λ at. is_large t.large at ≡ true) (sym takable.named) (is_large-start t.large start (omega (arith, takable.live, takable.many))) in
+    let here : t.root root / 16384 ≡ start = omega (arith, takable.named) in
+    let size : 16384 * t.large (t.root root / 16384) ≡ 16384 * count = ap (λ k. 16384 * t.large k) here ∙ ap (λ n. 16384 * n) takable.live in
+    rw (ne_eqb (t.root root) 0 some, large, size, takable.named) refl
+
+-- a block is that of a root's extent
+pub record IsBlockAt (b : Bounds) (t : Tables) (root : ℕ) (range : Range) : Type 0 where
+  pub start : ℕ
+  pub count : ℕ
+  pub takable : IsTakable b t root start count
+  pub is : range ≡ record { at = 16384 * start; size = 16384 * count }
+
+pub block_at : (b : Bounds) (t : Tables) (root : ℕ) (range : Range) → HasLargeBlocks b t → heap t root ≡ Some range → IsBlockAt b t root range
+block_at b t root range blocks named = ⊎_elim
+    (λ (none : t.root root ≡ 0). absurd (let no = heap-none t root none in cc))
+    (λ (some : t.root root ≢ 0).
+    let takable = blocks.named root some in
+    let start = t.root root / 16384 in
+    record { start = start; count = t.large start; takable = takable; is = some_same range (record { at = 16384 * start; size = 16384 * t.large start }) (sym named ∙ heap-takable b t root start (t.large start) blocks.first takable) })
+    (cases_eq (t.root root) 0)
+  where
+    some_same : (one other : Range) → Some one ≡ Some other → one ≡ other
+    some_same one other same = cc
+
+-- a root that names the start of a live large extent names the extent
+pub live_takable : (b : Bounds) (t : Tables) (root start : ℕ) → HasLargeBlocks b t → 0 < t.large start → t.root root ≡ 16384 * start → IsTakable b t root start (t.large start)
+live_takable b t root start blocks live named =
+    let some : t.root root ≢ 0 = λ none. omega (arith, none, named, blocks.first, blocks.low start live) in
+    let here : t.root root / 16384 ≡ start = omega (arith, named) in
+    subst (λ (k : ℕ). IsTakable b t root k (t.large k)) here (blocks.named root some)
+
+pub slabs-none : (t : Tables) (start : ℕ) → t.slab start ≡ false → slabs t start ≡ None
+slabs-none t start none = cond-false (t.slab start) (Some (t.class start)) None none

@@ -1,0 +1,152 @@
+-- An entry is put into the log behind the events that make room for it.
+use Rattle.std.proofs.Common.{◌≡◌, ◌≢◌, ◌<◌, ◌≤◌, ◌*◌, ⊎_elim, inl, inr, ℕ, zero, suc, true≢false, cond, eqb, ltb, List, [], ◌∷◌, ◌++◌, length, refl, sym, ap, subst, ◌∙◌, arith, Option, Some, None, IsSome}
+use Rattle.std.proofs.lemmas.Bool.{cases_eq, cond-true, cond-false, eq-eqb, ne_eqb, lt-ltb, le-ltb}
+use Rattle.pmem_lines.specs.Words.{word_at, put_word}
+use Rattle.pmem_lines.specs.declared.event.Event.{Event}
+use Rattle.pmem_lines.specs.declared.event.Event.TheVariants.{Store, Flush, Fence}
+use Rattle.pmem_lines.specs.Pmem.{PmemState, Appends}
+use Rattle.pmem_lines.specs.Events.{reading, CrashOnly, IsQuiet}
+use Rattle.pmem_lines.proofs.Words.{word_at-put_other, length-put_word}
+use Rattle.pmem_lines.proofs.Images.{then, weaker}
+use Rattle.durable_steps.specs.Steps.{word_events}
+use Rattle.pool_layout.specs.Layout.{layout_of}
+use Rattle.pool_layout.specs.Places.{log_word, entry_word, heap_word}
+use Rattle.pool_layout.specs.Header.{version_in, granules_in}
+use Rattle.image_tables.specs.Extents.{extent_at}
+use Rattle.image_tables.proofs.Stores.{IsSameOffLog, version_in-off_log}
+use Rattle.book_log.specs.declared.entry.LogEntry.{LogEntry}
+use Rattle.book_log.specs.declared.place.EntryPlace.{EntryPlace}
+use Rattle.book_log.specs.Entry.{log_word as word_of_entry}
+use Rattle.book_log.specs.Log.{logged, with_entry}
+use Rattle.book_log.specs.Book.{Book, HasLog, Reads, IsNextOf, IsInLog, IsEntryOrNot, last_chunk, place_word, append_events}
+use Rattle.log_gc.specs.Live.{AreDisjoint}
+use Rattle.log_gc.specs.Room.{room_events, KeepsLog}
+use Rattle.log_gc.proofs.Booked.{room_most}
+use Rattle.heap_check.specs.Image.{IsFormed}
+use Rattle.arena_core.specs.Arena.{IsBookOf}
+use Rattle.arena_core.specs.Events.{first_zero, next_entry_word, log_events}
+use Rattle.arena_core.specs.Log.{KeepsRest, IsLogged, IsLoggedOrNot}
+use Rattle.arena_core.proofs.Sizes.{sizes_of, heap_inside}
+
+-- where the next entry goes
+
+-- a row without a 0
+first_zero-none : (row : ℕ → ℕ) (n : ℕ) → ((i : ℕ) → i < n → row i ≢ 0) → first_zero row n ≡ n
+first_zero-none row zero none = refl
+first_zero-none row (suc n) none =
+    let before : first_zero row n ≡ n = first_zero-none row n (λ i below. none i (omega arith)) in
+    cond-false (ltb (first_zero row n) n) (first_zero row n) (cond (eqb (row n) 0) n (suc n)) (le-ltb (first_zero row n) n (omega (arith, before)))
+    ∙ cond-false (eqb (row n) 0) n (suc n) (ne_eqb (row n) 0 (none n (omega arith)))
+
+-- the first 0 of a row
+first_zero-is : (row : ℕ → ℕ) (n i : ℕ) → i < n → row i ≡ 0 → ((earlier : ℕ) → earlier < i → row earlier ≢ 0) → first_zero row n ≡ i
+first_zero-is row zero i below here first = absurd (omega arith)
+first_zero-is row (suc n) i below here first = ⊎_elim
+    (λ (last : i ≡ n).
+    let before : first_zero row n ≡ n = first_zero-none row n (λ k less. first k (omega (arith, last))) in
+    cond-false (ltb (first_zero row n) n) (first_zero row n) (cond (eqb (row n) 0) n (suc n)) (le-ltb (first_zero row n) n (omega (arith, before)))
+    ∙ cond-true (eqb (row n) 0) n (suc n) (eq-eqb (row n) 0 (ap row (sym last) ∙ here)) ∙ sym last)
+    (λ (other : i ≢ n).
+    let before : first_zero row n ≡ i = first_zero-is row n i (omega (arith, other)) here first in
+    cond-true (ltb (first_zero row n) n) (first_zero row n) (cond (eqb (row n) 0) n (suc n)) (lt-ltb (first_zero row n) n (omega (arith, before, other))) ∙ before)
+    (cases_eq i n)
+
+next_of : (words : List ℕ) (next : Option EntryPlace) → IsSome next → IsNextOf words next → place_word (version_in words) next ≡ next_entry_word words
+unfolding next_entry_word
+next_of words None some is = absurd (true≢false (sym some))
+next_of words (Some place) some is =
+    ap (λ chunk. entry_word (version_in words) chunk place.entry) is.0
+    ∙ ap (entry_word (version_in words) (last_chunk words))
+    (sym (first_zero-is (logged (version_in words) words (last_chunk words)) (layout_of (version_in words)).chunk_entries place.entry is.1.below
+    (ap (λ chunk. logged (version_in words) words chunk place.entry) (sym is.0) ∙ is.1.free)
+    (λ earlier before. subst (λ chunk. logged (version_in words) words chunk earlier ≢ 0) is.0 (is.1.first earlier before))))
+
+-- the events
+
+-- those of a log that reads the words, behind the events that made room
+pub events_of_entry : (book made_book : Book) (words made : List ℕ) (entry : LogEntry) → book.granules ≡ granules_in words → made ≡ reading words (room_events book.granules words) →
+    Reads made_book made → IsSome made_book.next → room_events book.granules words ++ append_events made_book made entry ≡ log_events words entry
+unfolding log_events
+events_of_entry book made_book words made entry granules is reads some =
+    ap (λ k. room_events book.granules words ++ word_events (8 * k) (word_of_entry entry)) (next_of made made_book.next some reads.next ∙ ap next_entry_word is)
+    ∙ ap (λ n. room_events n words ++ word_events (8 * next_entry_word (reading words (room_events n words))) (word_of_entry entry)) granules
+
+-- what stays
+
+pub off_log : (words image : List ℕ) → KeepsRest words image → IsSameOffLog words image
+off_log words image rest = record { same_length = rest.same_length; others = rest.others }
+
+pub rest_made : (granules : ℕ) (words image : List ℕ) → granules ≡ granules_in words → KeepsLog granules words image → KeepsRest words image
+rest_made granules words image same keeps = record {
+  same_length = keeps.same_length;
+  others = keeps.others;
+  log = subst (λ n. HasLog n image) same keeps.log;
+}
+
+-- one more word of the log is changed
+rest_then : (words made image : List ℕ) (k : ℕ) → KeepsRest words made → IsInLog (version_in made) k → length image ≡ length made →
+    ((other : ℕ) → other ≢ k → word_at image other ≡ word_at made other) → HasLog (granules_in words) image → KeepsRest words image
+rest_then words made image k rest place size others log =
+    let version = version_in-off_log words made (off_log words made rest) in
+    let low : log_word (version_in words) < k = subst (λ v. log_word v < k) version place.low in
+    let high : k < heap_word (version_in words) = subst (λ v. k < heap_word v) version place.high in
+    record {
+      same_length = size ∙ rest.same_length;
+      others = λ other apart outside.
+          others other (λ same. ⊎_elim (λ before. omega (arith, before, same, low)) (λ behind. omega (arith, behind, same, high)) outside) ∙ rest.others other apart outside;
+      log = log;
+    }
+
+-- room was made, and then the entry was put
+module _ (granules : ℕ) (words made : List ℕ) (k : ℕ) (entry : LogEntry) (same : granules ≡ granules_in words) (keeps : KeepsLog granules words made) (place : IsInLog (version_in made) k) where
+  pub logged_then : (new : List ℕ) → new ≡ put_word made k (word_of_entry entry) → HasLog granules new → ((start : ℕ) → extent_at new start ≡ with_entry (extent_at made) entry start) → IsLogged words entry new
+  logged_then new is log extents = record {
+    rest = rest_then words made new k (rest_made granules words made same keeps) place (ap length is ∙ length-put_word made k (word_of_entry entry))
+        (λ other apart. ap (λ (ws : List ℕ). word_at ws other) is ∙ word_at-put_other made k other (word_of_entry entry) apart)
+        (subst (λ n. HasLog n new) same log);
+    extents = λ start. extents start ∙ with_same start;
+  }
+    where
+      with_same : (start : ℕ) → with_entry (extent_at made) entry start ≡ with_entry (extent_at words) entry start
+      with_same start = ap (λ f. with_entry f entry start) (λ i s. keeps.extents s i)
+
+  pub logged_or_not : (image : List ℕ) → IsEntryOrNot granules made k entry image → IsLoggedOrNot words entry image
+  logged_or_not image either = record {
+    rest = rest_then words made image k (rest_made granules words made same keeps) place
+        (⊎_elim (λ old. ap length old) (λ new. ap length new ∙ length-put_word made k (word_of_entry entry)) either.is)
+        either.others (subst (λ n. HasLog n image) same either.log);
+    extents = ⊎_elim
+        (λ old. inl (λ start. old start ∙ keeps.extents start))
+        (λ new. inr (λ start. new start ∙ ap (λ f. with_entry f entry start) (λ i s. keeps.extents s i)))
+        either.extents;
+  }
+
+pub made_or_not : (granules : ℕ) (words : List ℕ) (entry : LogEntry) → granules ≡ granules_in words → (image : List ℕ) → KeepsLog granules words image → IsLoggedOrNot words entry image
+made_or_not granules words entry same image keeps = record { rest = rest_made granules words image same keeps; extents = inl keeps.extents }
+
+-- a crash while room is made or the entry is put
+pub log_crash : (granules : ℕ) (words made : List ℕ) (k : ℕ) (entry : LogEntry) (events : List Event) → granules ≡ granules_in words → KeepsLog granules words made → IsInLog (version_in made) k →
+    made ≡ reading words (room_events granules words) → IsQuiet (room_events granules words) →
+    CrashOnly words (room_events granules words) (KeepsLog granules words) → CrashOnly made events (IsEntryOrNot granules made k entry) →
+    CrashOnly words (room_events granules words ++ events) (IsLoggedOrNot words entry)
+log_crash granules words made k entry events same keeps place is quiet first second =
+    let P : List ℕ → Type 0 = IsLoggedOrNot words entry in
+    then words (room_events granules words) events P quiet
+    (weaker words (room_events granules words) (KeepsLog granules words) P (made_or_not granules words entry same) first)
+    (subst (λ (ws : List ℕ). CrashOnly ws events P) is
+    (weaker made events (IsEntryOrNot granules made k entry) P (logged_or_not granules words made k entry same keeps place) second))
+
+-- the events of a step are quiet where all events behind it are
+quiet_behind : (e f : List Event) → IsQuiet (e ++ f) → IsQuiet f
+quiet_behind [] f quiet = quiet
+quiet_behind (Store at value ∷ e) f quiet = quiet_behind e f quiet.1
+quiet_behind (Flush line ∷ e) f quiet = quiet_behind e f quiet
+quiet_behind (Fence ∷ e) f quiet = quiet_behind e f quiet
+
+pub quiet_step : {s t : PmemState} {events : List Event} → Appends s t events → IsQuiet t.events → IsQuiet events
+quiet_step {s} {t} {events} step quiet = quiet_behind s.events events (subst (λ (p : PmemState). IsQuiet p.events) step.state quiet)
+
+-- how many events make room at most
+pub room_few : (book : Book) (words : List ℕ) → IsFormed words → IsBookOf book words → AreDisjoint (extent_at words) → length (room_events book.granules words) ≤ 679
+room_few book words formed log disjoint =
+    room_most book.granules words log.reads.log (heap_inside words formed) (omega (arith, log.granules, (sizes_of words formed).most)) disjoint

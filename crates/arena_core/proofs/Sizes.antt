@@ -1,0 +1,26 @@
+-- The numbers of an arena of well-formed words, and where its words lie.
+use Rattle.std.proofs.Common.{◌≡◌, ◌*◌, ◌<◌, ◌≤◌, ℕ, List, length, refl, arith}
+use Rattle.pool_layout.specs.Layout.{layout_of}
+use Rattle.pool_layout.specs.Places.{root_word, heap_word}
+use Rattle.pool_layout.specs.Header.{version_in, granules_in}
+use Rattle.heap_check.specs.Image.{bounds_of, IsFormed}
+
+-- how many roots and granules there are, where the heap begins, and how many words
+pub record HasSizes (words : List ℕ) : Type 0 where
+  pub roots : (layout_of (version_in words)).roots ≡ 4096
+  pub first : (layout_of (version_in words)).first_granule ≡ 4
+  pub least : 16 ≤ granules_in words
+  pub most : granules_in words ≤ 1024
+  pub size : length words ≡ 2048 * granules_in words
+
+pub sizes_of : (words : List ℕ) → IsFormed words → HasSizes words
+unfolding layout_of
+sizes_of words formed = record { roots = refl; first = refl; least = formed.header.valid.least; most = formed.header.valid.greatest; size = formed.size }
+
+-- the heap begins inside
+pub heap_inside : (words : List ℕ) → IsFormed words → heap_word (version_in words) ≤ length words
+heap_inside words formed = let sizes = sizes_of words formed in omega (arith, sizes.size, sizes.first, sizes.least)
+
+-- the words of the roots lie inside
+pub root_inside : (words : List ℕ) (root : ℕ) → IsFormed words → root < (bounds_of words).roots → root_word root < length words
+root_inside words root formed below = let sizes = sizes_of words formed in omega (arith, sizes.roots, sizes.least, sizes.size, below)

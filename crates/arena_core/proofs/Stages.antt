@@ -1,0 +1,240 @@
+-- A large extent and its root come and go: the words of the image at each stage.
+use Rattle.std.proofs.Common.{◌≡◌, ◌≢◌, ℕ, ◌*◌, ◌<◌, ◌≤◌, false, eqb, List, length, refl, sym, ap, subst, ◌∙◌, arith, ⊎_elim, Some, None}
+use Rattle.std.proofs.lemmas.Bool.{cases_eq, cond-true, cond-false, eq-eqb, ne_eqb}
+use Rattle.pmem_lines.specs.Words.{word_at, put_word}
+use Rattle.pmem_lines.proofs.Words.{length-put_word}
+use Rattle.pool_layout.specs.Layout.{layout_of}
+use Rattle.pool_layout.specs.Places.{root_word, heap_word}
+use Rattle.pool_layout.specs.Header.{version_in}
+use Rattle.image_tables.specs.Extents.{extent_at}
+use Rattle.image_tables.specs.Tables.{Tables, large_of, is_slab_of, is_slab, tables_of}
+use Rattle.image_tables.proofs.Stores.{put_at, put_at-same, put_at-other, AreSlabsInHeap, version_in-off_log, heap_word-off_log, tables_off_log, version_in-put_root, heap_word-put_root, extent_at-put_root, tables_put_root}
+use Rattle.image_tables.proofs.Tables.{large_table, slab_table}
+use Rattle.book_log.specs.declared.entry.LogEntry.{LogEntry}
+use Rattle.book_log.specs.Entry.{start_of, extent_of}
+use Rattle.book_log.specs.Log.{with_entry}
+use Rattle.heap_model.specs.Machine.{Bounds, Range}
+use Rattle.heap_check.specs.Heap.{heap, slabs}
+use Rattle.heap_check.specs.Sound.{IsExact, IsSteady}
+use Rattle.heap_check.specs.Image.{bounds_of, IsFormed, IsExactImage, IsSteadyImage}
+use Rattle.heap_check.specs.State.{IsWordOf, HaveSameHeap, KeepsBlocks}
+use Rattle.heap_check.proofs.Forms.{bounds_of-off_log, IsFormed-off_log, bounds_of-put_root, IsFormed-put_root}
+use Rattle.heap_check.proofs.Blank.{law_of_steady}
+use Rattle.heap_check.proofs.Heaps.{IsClaim-heap}
+use Rattle.heap_check.proofs.Within.{IsWithin-claim}
+use Rattle.heap_check.proofs.Large.{with_large, large_block, IsLargePlace, IsLargeStage, entry_at-none}
+use Rattle.heap_check.proofs.LargeSound.{IsLargeEnd, IsSteady-large, IsExact-large}
+use Rattle.heap_check.proofs.LargeHeaps.{heap-large_other, heap-large_none, heap-large_some}
+use Rattle.arena_core.specs.Effect.{GivesRoot}
+use Rattle.arena_core.specs.Log.{KeepsRest, HasSameExtents, HasExtentsWith}
+use Rattle.arena_core.proofs.Entries.{off_log}
+
+-- a table with the entry changed that it has
+put_at-own : {X : Type 0} (table : ℕ → X) (key : ℕ) → put_at table key (table key) ≡ table
+put_at-own {X} table key = λ i other. each other i
+  where
+    each : (other : ℕ) → put_at table key (table key) other ≡ table other
+    each other = ⊎_elim
+        (λ (same : other ≡ key). ap (put_at table key (table key)) same ∙ put_at-same table key (table key) ∙ ap table (sym same))
+        (λ (differ : other ≢ key). put_at-other table key other (table key) differ)
+        (cases_eq other key)
+
+-- an entry changed twice
+put_at-twice : {X : Type 0} (table : ℕ → X) (key : ℕ) (old new : X) → put_at (put_at table key old) key new ≡ put_at table key new
+put_at-twice {X} table key old new = λ i other. each other i
+  where
+    each : (other : ℕ) → put_at (put_at table key old) key new other ≡ put_at table key new other
+    each other = ⊎_elim
+        (λ (same : other ≡ key). ap (put_at (put_at table key old) key new) same ∙ put_at-same (put_at table key old) key new ∙ sym (put_at-same table key new) ∙ ap (put_at table key new) (sym same))
+        (λ (differ : other ≢ key). put_at-other (put_at table key old) key other new differ ∙ put_at-other table key other old differ ∙ sym (put_at-other table key other new differ))
+        (cases_eq other key)
+
+-- The image is as the words are, but that the extent at a start has so many granules, and a root this word.
+pub record IsStageOf (words : List ℕ) (root start here word : ℕ) (image : List ℕ) : Type 0 where
+  pub formed : IsFormed image
+  pub bounds : bounds_of image ≡ bounds_of words
+  pub slabs : AreSlabsInHeap image
+  pub size : length image ≡ length words
+  pub tables : tables_of image ≡ with_large (tables_of words) start here root word
+  pub heap : (k : ℕ) → heap_word (version_in words) ≤ k → word_at image k ≡ word_at words k
+
+-- the words as they are
+pub stage_none : (words : List ℕ) (root start : ℕ) → IsFormed words → AreSlabsInHeap words → IsStageOf words root start ((tables_of words).large start) ((tables_of words).root root) words
+stage_none words root start formed slabs =
+    let t = tables_of words in
+    record {
+      formed = formed;
+      bounds = refl;
+      slabs = slabs;
+      size = refl;
+      tables = sym (λ i. record t { large = put_at-own t.large start i; root = put_at-own t.root root i });
+      heap = λ k high. refl;
+    }
+
+-- the heap begins at the same word
+same_heap_word : (words made : List ℕ) → bounds_of made ≡ bounds_of words → heap_word (version_in made) ≡ heap_word (version_in words)
+same_heap_word words made same = ap (λ (b : Bounds). 2048 * b.first) same
+
+-- a root's word is stored
+pub stage_root : (words : List ℕ) (root start here word : ℕ) (made : List ℕ) (value : ℕ) → IsStageOf words root start here word made → root < (bounds_of words).roots → root_word root < length words →
+    IsStageOf words root start here value (put_word made (root_word root) value)
+stage_root words root start here word made value stage below inside =
+    let t = tables_of words in
+    let new = put_word made (root_word root) value in
+    let among : root < (layout_of (version_in made)).roots = subst (λ (b : Bounds). root < b.roots) (sym stage.bounds) below in
+    let within : root_word root < length made = omega (arith, inside, stage.size) in
+    record {
+      formed = IsFormed-put_root made root value stage.formed among within stage.slabs;
+      bounds = bounds_of-put_root made root value ∙ stage.bounds;
+      slabs = record {
+        low = λ other is. subst (λ v. (layout_of v).first_granule ≤ other) (sym (version_in-put_root made root value))
+            (stage.slabs.low other (sym (ap is_slab_of (extent_at-put_root made root value other among)) ∙ is));
+      };
+      size = length-put_word made (root_word root) value ∙ stage.size;
+      tables = tables_put_root made root value among within stage.slabs
+          ∙ ap (λ (s : Tables). record s { root = put_at s.root root value }) stage.tables
+          ∙ ap (λ (roots : ℕ → ℕ). record t { large = put_at t.large start here; root = roots }) (put_at-twice t.root root word value);
+      heap = λ k high. heap_word-put_root made root value k among (omega (arith, high, same_heap_word words made stage.bounds)) ∙ stage.heap k high;
+    }
+
+-- the log is changed, and so is what starts at the start
+stage_log : (words : List ℕ) (root start here word : ℕ) (made image : List ℕ) (after : ℕ) → IsStageOf words root start here word made → KeepsRest made image →
+    ((other : ℕ) → is_slab image other ≡ is_slab made other) → ((other : ℕ) → large_of (extent_at image other) ≡ put_at (tables_of made).large start after other) →
+    IsStageOf words root start after word image
+stage_log words root start here word made image after stage rest slab large =
+    let t = tables_of words in
+    let off = off_log made image rest in
+    record {
+      formed = IsFormed-off_log made image stage.formed off stage.slabs rest.log slab;
+      bounds = bounds_of-off_log made image off ∙ stage.bounds;
+      slabs = record {
+        low = λ other is. subst (λ v. (layout_of v).first_granule ≤ other) (sym (version_in-off_log made image off)) (stage.slabs.low other (sym (slab other) ∙ is));
+      };
+      size = rest.same_length ∙ stage.size;
+      tables = tables_off_log made image (put_at (tables_of made).large start after) off stage.slabs slab large
+          ∙ ap (λ (s : Tables). record s { large = put_at s.large start after }) stage.tables
+          ∙ ap (λ (larges : ℕ → ℕ). record t { large = larges; root = put_at t.root root word }) (put_at-twice t.large start here after);
+      heap = λ k high. heap_word-off_log made image k off (omega (arith, high, same_heap_word words made stage.bounds)) ∙ stage.heap k high;
+    }
+
+-- with the same extents
+pub stage_same : (words : List ℕ) (root start here word : ℕ) (made image : List ℕ) → IsStageOf words root start here word made → KeepsRest made image → HasSameExtents made image → IsStageOf words root start here word image
+stage_same words root start here word made image stage rest same =
+    let here_is : (tables_of made).large start ≡ here = ap (λ (s : Tables). s.large start) stage.tables ∙ put_at-same (tables_of words).large start here in
+    stage_log words root start here word made image here stage rest
+    (λ other. ap is_slab_of (same other))
+    (λ other. ap large_of (same other) ∙ sym (large_table made other)
+    ∙ ap (λ (larges : ℕ → ℕ). larges other) (sym (put_at-own (tables_of made).large start)) ∙ ap (λ n. put_at (tables_of made).large start n other) here_is)
+
+-- with an entry done that names the start, where no slab does
+pub stage_entry : (words : List ℕ) (root start here word : ℕ) (made image : List ℕ) (entry : LogEntry) (after : ℕ) → IsStageOf words root start here word made → KeepsRest made image → HasExtentsWith made entry image →
+    start_of entry ≡ start → large_of (extent_of entry) ≡ after → is_slab_of (extent_of entry) ≡ false → (tables_of words).slab start ≡ false →
+    IsStageOf words root start after word image
+stage_entry words root start here word made image entry after stage rest extents names large no_slab none =
+    let made_none : is_slab made start ≡ false = sym (slab_table made start) ∙ ap (λ (s : Tables). s.slab start) stage.tables ∙ none in
+    stage_log words root start here word made image after stage rest
+    (λ other. ap is_slab_of (extents other) ∙ slab other made_none)
+    (λ other. ap large_of (extents other) ∙ larges other)
+  where
+    slab : (other : ℕ) → is_slab made start ≡ false → is_slab_of (with_entry (extent_at made) entry other) ≡ is_slab made other
+    slab other made_none = ⊎_elim
+        (λ (same : other ≡ start_of entry).
+        ap is_slab_of (with_here other same) ∙ no_slab ∙ sym (ap (is_slab made) (same ∙ names) ∙ made_none))
+        (λ (differ : other ≢ start_of entry). ap is_slab_of (with_there other differ))
+        (cases_eq other (start_of entry))
+      where
+        with_here : (other : ℕ) → other ≡ start_of entry → with_entry (extent_at made) entry other ≡ extent_of entry
+        with_here other same = cond-true (eqb other (start_of entry)) (extent_of entry) (extent_at made other) (eq-eqb other (start_of entry) same)
+
+        with_there : (other : ℕ) → other ≢ start_of entry → with_entry (extent_at made) entry other ≡ extent_at made other
+        with_there other differ = cond-false (eqb other (start_of entry)) (extent_of entry) (extent_at made other) (ne_eqb other (start_of entry) differ)
+
+    larges : (other : ℕ) → large_of (with_entry (extent_at made) entry other) ≡ put_at (tables_of made).large start after other
+    larges other = ⊎_elim
+        (λ (same : other ≡ start_of entry).
+        ap large_of (cond-true (eqb other (start_of entry)) (extent_of entry) (extent_at made other) (eq-eqb other (start_of entry) same)) ∙ large
+        ∙ sym (put_at-same (tables_of made).large start after) ∙ ap (put_at (tables_of made).large start after) (sym (same ∙ names)))
+        (λ (differ : other ≢ start_of entry).
+        ap large_of (cond-false (eqb other (start_of entry)) (extent_of entry) (extent_at made other) (ne_eqb other (start_of entry) differ)) ∙ sym (large_table made other)
+        ∙ sym (put_at-other (tables_of made).large start other after (λ same. differ (same ∙ sym names))))
+        (cases_eq other (start_of entry))
+
+-- what a stage has
+
+module _ {words : List ℕ} {root start count : ℕ} (exact : IsExactImage words) (place : IsLargePlace (bounds_of words) (tables_of words) root start count) where
+  pub steady_stage : (here word : ℕ) (image : List ℕ) → IsLargeStage start count here word → IsStageOf words root start here word image → IsSteadyImage image
+  steady_stage here word image is stage = record {
+    formed = stage.formed;
+    steady = subst (λ b. IsSteady b (tables_of image)) (sym stage.bounds)
+        (subst (λ t. IsSteady (bounds_of words) t) (sym stage.tables) (IsSteady-large place here word is (law_of_steady (bounds_of words) (tables_of words) exact.exact)));
+  }
+
+  pub exact_stage : (here word : ℕ) (image : List ℕ) → IsLargeEnd start count here word → IsStageOf words root start here word image → IsExactImage image
+  exact_stage here word image is stage = record {
+    formed = stage.formed;
+    exact = subst (λ b. IsExact b (tables_of image)) (sym stage.bounds)
+        (subst (λ t. IsExact (bounds_of words) t) (sym stage.tables) (IsExact-large place here word is exact.exact));
+  }
+
+  -- the heap
+
+  others_stage : (here word : ℕ) (image : List ℕ) → IsStageOf words root start here word image → (other : ℕ) → other ≢ root → heap (tables_of image) other ≡ heap (tables_of words) other
+  others_stage here word image stage other differ = ap (λ (t : Tables). heap t other) stage.tables ∙ heap-large_other place here word other differ
+
+  none_stage : (here : ℕ) (image : List ℕ) → IsStageOf words root start here 0 image → heap (tables_of image) root ≡ None
+  none_stage here image stage = ap (λ (t : Tables). heap t root) stage.tables ∙ heap-large_none place here
+
+  some_stage : (image : List ℕ) → IsStageOf words root start count (16384 * start) image → heap (tables_of image) root ≡ Some (large_block start count)
+  some_stage image stage = ap (λ (t : Tables). heap t root) stage.tables ∙ heap-large_some place
+
+  slabs_stage : (here word : ℕ) (image : List ℕ) → IsStageOf words root start here word image → (other : ℕ) → slabs (tables_of image) other ≡ slabs (tables_of words) other
+  slabs_stage here word image stage other = ap (λ (t : Tables). slabs t other) stage.tables
+
+  -- two images in which the root has no block
+  pub same_none : (here there : ℕ) (one other : List ℕ) → IsStageOf words root start here 0 one → IsStageOf words root start there 0 other → HaveSameHeap one other
+  same_none here there one other first second = record {
+    each = λ r. ⊎_elim
+        (λ (same : r ≡ root). ap (heap (tables_of other)) same ∙ none_stage there other second ∙ sym (none_stage here one first) ∙ ap (heap (tables_of one)) (sym same))
+        (λ (differ : r ≢ root). others_stage there 0 other second r differ ∙ sym (others_stage here 0 one first r differ))
+        (cases_eq r root);
+  }
+
+  -- two images in which it has the block
+  pub same_some : (one other : List ℕ) → IsStageOf words root start count (16384 * start) one → IsStageOf words root start count (16384 * start) other → HaveSameHeap one other
+  same_some one other first second = record {
+    each = λ r. ⊎_elim
+        (λ (same : r ≡ root). ap (heap (tables_of other)) same ∙ some_stage other second ∙ sym (some_stage one first) ∙ ap (heap (tables_of one)) (sym same))
+        (λ (differ : r ≢ root). others_stage count (16384 * start) other second r differ ∙ sym (others_stage count (16384 * start) one first r differ))
+        (cases_eq r root);
+  }
+
+  -- the effect
+
+  pub gives_none : (here : ℕ) (image : List ℕ) → IsStageOf words root start here 0 image → GivesRoot words root None image
+  gives_none here image stage = record {
+    here = none_stage here image stage;
+    others = others_stage here 0 image stage;
+    slabs = slabs_stage here 0 image stage;
+    words = stage.heap;
+    bounds = stage.bounds;
+  }
+
+  pub gives_some : (image : List ℕ) → IsStageOf words root start count (16384 * start) image → GivesRoot words root (Some (large_block start count)) image
+  gives_some image stage = record {
+    here = some_stage image stage;
+    others = others_stage count (16384 * start) image stage;
+    slabs = slabs_stage count (16384 * start) image stage;
+    words = stage.heap;
+    bounds = stage.bounds;
+  }
+
+  -- a block of the words keeps its words
+  pub keeps_stage : (here word : ℕ) (new image : List ℕ) → IsStageOf words root start here word image → KeepsBlocks words new image
+  keeps_stage here word new image stage = record { each = λ r range k was _ lies. stage.heap k (block_in_heap r range k was lies) }
+    where
+      block_in_heap : (r : ℕ) (range : Range) (k : ℕ) → heap (tables_of words) r ≡ Some range → IsWordOf range k → heap_word (version_in words) ≤ k
+      block_in_heap r range k was lies =
+          let within = IsWithin-claim place.sound r range (entry_at-none place r) (IsClaim-heap (tables_of words) r range (entry_at-none place r) was) in
+          let range_within = within.1 in
+          let starts = place.sound.starts within.0 (omega (arith, range_within.low, range_within.high, range_within.some)) in
+          omega (arith, range_within.low, starts.0, lies.low)

@@ -1,0 +1,33 @@
+-- What a call of an arena is: a step of the heap machine, and what a crash within it leaves.
+use Rattle.std.specs.Prelude.{◌≡◌, ◌⊎◌, ℕ, ◌≤◌, List}
+use Rattle.pmem_lines.specs.Events.{IsQuiet}
+use Rattle.pmem_lines.specs.Pmem.{PmemState}
+use Rattle.pool_layout.specs.Header.{IsHeaderDefect}
+use Rattle.pool_layout.specs.declared.defect.Defect.TheVariants.{BadHeader}
+use Rattle.heap_model.specs.declared.call.Call.{Call}
+use Rattle.heap_model.specs.declared.call.Reply.{Reply}
+use Rattle.heap_model.specs.Machine.{Machine, no_heap}
+use Rattle.heap_model.specs.Step.{IsLargeStep}
+use Rattle.heap_check.specs.Image.{bounds_of, IsExactImage, IsSteadyImage}
+use Rattle.heap_check.specs.State.{HasState, HaveSameHeap, KeepsBlocks}
+
+-- the memory may begin a call, and has room for the events of any
+pub record IsReady (device : PmemState) : Type 0 where
+  pub quiet : IsQuiet device.events
+  pub room : 2048 ≤ device.room
+
+-- each state that the old words have leads, by a step of the machine without slabs, to one that the new words have
+pub record IsStepOf (old new : List ℕ) (call : Call) (reply : Reply) : Type 0 where
+  pub bounds : bounds_of new ≡ bounds_of old
+  pub each : (m : Machine) → HasState old m → (next : Machine) × IsLargeStep (bounds_of old) m call reply next × HasState new next
+
+-- A crash within a call from the old words to the new ones leaves a steady image with the heap of the one or of the
+-- other, and each block of both has its words.
+pub record IsEitherHeap (old new image : List ℕ) : Type 0 where
+  pub steady : IsSteadyImage image
+  pub heap : HaveSameHeap old image ⊎ HaveSameHeap new image
+  pub words : KeepsBlocks old new image
+
+-- a crash while an arena is formatted leaves an image that is refused for its first word, or an exact one with no block
+abbrev pub IsFormattedOrNot : List ℕ → Type 0
+IsFormattedOrNot image = IsHeaderDefect image (BadHeader 0 0) ⊎ (IsExactImage image × HasState image no_heap)

@@ -1,0 +1,166 @@
+// An arena of large blocks.
+ghost use Rattle.std.specs.Prelude.{◌≡◌, ◌*◌, ◌<◌, ◌≤◌, length};
+ghost use Rattle.pmem_lines.specs.Words.{AreZeros};
+ghost use Rattle.pmem_lines.specs.Events.{CrashOnly, IsQuiet};
+ghost use Rattle.pmem_lines.specs.Pmem.{words_of, began, appended};
+ghost use Rattle.pool_layout.specs.Header.{granules_in};
+ghost use Rattle.heap_model.specs.declared.call.Call.TheVariants as calls;
+ghost use Rattle.heap_model.specs.Machine.{no_heap};
+ghost use Rattle.heap_check.specs.Image.{IsExactImage};
+ghost use Rattle.heap_check.specs.State.{HasState, KeepsBlocks};
+ghost use Rattle.arena_core.specs.Answer.{malloc_reply, free_reply};
+ghost use Rattle.arena_core.specs.Arena.{IsBlockOfRoot};
+ghost use Rattle.arena_core.specs.Call.{IsReady, IsStepOf, IsEitherHeap, IsFormattedOrNot};
+ghost use Rattle.arena_core.specs.Events.{call_events, format_events};
+
+use crate::carrying::{carry_out_free, carry_out_malloc};
+use crate::formatting::write_header;
+use crate::plan::{granules_in, layout_in, named_block, plan_free, plan_malloc};
+use crate::{ArenaRoom, FreeRefusal, Freed, MallocRefusal, Placed};
+use book_log::BookLog;
+use extent_index::ExtentIndex;
+use heap_model::Block;
+use pmem_lines::Pmem;
+use pool_layout::{GRANULE_BYTES, PoolHeader, granule_at};
+use std::marker::Model;
+
+/// The version of the layout in which an arena is formatted.
+const VERSION: u32 = 1;
+
+/// An arena over a memory of 16 to 1024 granules of 16384 bytes: 4096 roots, of which each names a block or none. Each
+/// block is whole granules, two at least. In contracts it is what its memory means.
+#[derive(Drop)]
+pub struct Arena<P: Pmem> {
+    device: P,
+    log: BookLog,
+    free: ExtentIndex,
+}
+
+impl<P: Pmem> Model for Arena<P> {
+    ghost use Rattle.pmem_lines.specs.Pmem.{PmemState};
+    ghost use Rattle.arena_core.specs.Arena.{IsArena};
+
+    ghost Value = { PmemState };
+
+    ghost view = { λ a. P.state a.device };
+
+    ghost invariant = { λ a. IsArena (P.state a.device) a.log a.free };
+}
+
+impl<P: Pmem> Arena<P> {
+    /// Makes an arena anew over a memory of zeros, as number `number` of a pool of `arenas`: at most 16. It begins one
+    /// call, and has five events. Afterwards no root names a block. After a crash within it the image is refused for its
+    /// first word, or it is exact and has no block. It takes no memory.
+    pub fn format(room: ArenaRoom, mut device: P, number: u32, arenas: u32) -> Arena<P>
+        requires quiet { IsQuiet (P.state device).events }
+        requires room { 2048 ≤ (P.state device).room }
+        requires size { length (words_of (P.state device)) ≡ 2048 * room }
+        requires zero { AreZeros (words_of (P.state device)) }
+        requires number { number < arenas }
+        requires few { arenas ≤ 16 }
+        ensures device { result ≡ appended (began (P.state device)) (format_events (record { version = 1; number = number; arenas = arenas; granules = room })) }
+        ensures ready { IsReady result }
+        ensures exact { IsExactImage (words_of result) }
+        ensures empty { HasState (words_of result) no_heap }
+        ensures crash { CrashOnly result.base result.events IsFormattedOrNot }
+    {
+        let ArenaRoom { mut log, free } = room;
+        let header = PoolHeader {
+            version: VERSION,
+            number,
+            arenas,
+            granules: log.granules(),
+        };
+        device.begin();
+        write_header(&mut device, &header);
+        log.load(&device);
+        Arena { device, log, free }
+    }
+
+    /// Gives a root a block of at least `size` bytes: the whole granules at their best fit. The answer is the machine's:
+    /// `NoRoot` where there is no such root word, `Occupied` where the root names a block, `ZeroSize`, `TooLarge` above
+    /// the bytes of the whole heap, `NoSpace`. It begins one call, ahead of its events, also where it refuses; a refusal
+    /// has no event and changes no word. Every other block keeps its words. After a crash within it the heap is the one
+    /// before the call or the one after it. It takes no memory. `seat` is the caller's, below 64.
+    pub fn malloc_to(&mut self, seat: u32, root: u32, size: u64) -> Result<Placed, MallocRefusal>
+        requires { seat < 64 }
+        ensures step { IsStepOf (words_of self.old) (words_of self.new) (calls.Malloc root size) (malloc_reply result) }
+        ensures device { self.new ≡ appended (began self.old) (call_events (words_of self.old) root (malloc_reply result)) }
+        ensures keeps { KeepsBlocks (words_of self.old) (words_of self.new) (words_of self.new) }
+        ensures was_exact { IsExactImage (words_of self.old) }
+        ensures exact { IsExactImage (words_of self.new) }
+        ensures ready { IsReady self.new }
+        ensures crash { CrashOnly self.new.base self.new.events (IsEitherHeap (words_of self.old) (words_of self.new)) }
+    {
+        let reply = plan_malloc(&self.device, &self.free, root, size);
+        self.device.begin();
+        carry_out_malloc(&mut self.device, &mut self.log, &mut self.free, root, reply);
+        reply
+    }
+
+    /// Takes a root its block. The answer is the machine's: `NoRoot` where there is no such root word, then `Empty` where
+    /// the root names no block. It begins one call, ahead of its events, also where it refuses; a refusal has no event
+    /// and changes no word. Every other block keeps its words. After a crash within it the heap is the one before the
+    /// call or the one after it. It takes no memory. `seat` is the caller's, below 64.
+    pub fn free_from(&mut self, seat: u32, root: u32) -> Result<Freed, FreeRefusal>
+        requires { seat < 64 }
+        ensures step { IsStepOf (words_of self.old) (words_of self.new) (calls.Free root) (free_reply result) }
+        ensures device { self.new ≡ appended (began self.old) (call_events (words_of self.old) root (free_reply result)) }
+        ensures keeps { KeepsBlocks (words_of self.old) (words_of self.new) (words_of self.new) }
+        ensures was_exact { IsExactImage (words_of self.old) }
+        ensures exact { IsExactImage (words_of self.new) }
+        ensures ready { IsReady self.new }
+        ensures crash { CrashOnly self.new.base self.new.events (IsEitherHeap (words_of self.old) (words_of self.new)) }
+    {
+        let reply = plan_free(&self.device, &self.log, root);
+        self.device.begin();
+        carry_out_free(&mut self.device, &mut self.log, &mut self.free, root, reply);
+        reply
+    }
+
+    /// The block that a root names. `None` exactly where there is no such root word, or it names no block.
+    pub fn block(&self, root: u32) -> Option<Block>
+        ensures { IsBlockOfRoot (words_of self.now) root result }
+    {
+        if root >= layout_in(&self.device).roots {
+            return None;
+        }
+        match named_block(&self.device, &self.log, root) {
+            Some(block) => Some(Block {
+                root,
+                at: granule_at(block.start),
+                size: GRANULE_BYTES * block.granules,
+            }),
+            None => None,
+        }
+    }
+
+    /// Lends the memory.
+    pub fn pmem(&self) -> &P
+        ensures device { P.state result.now ≡ self.now }
+        ensures exact { IsExactImage (words_of self.now) }
+    {
+        &self.device
+    }
+
+    /// Gives the memory back.
+    pub fn into_pmem(self) -> P
+        ensures device { P.state result ≡ self }
+        ensures ready { IsReady self }
+        ensures exact { IsExactImage (words_of self) }
+    {
+        let Arena {
+            device,
+            log: _,
+            free: _,
+        } = self;
+        device
+    }
+
+    /// How many granules the arena has.
+    pub fn granules(&self) -> u32
+        ensures { result ≡ granules_in (words_of self.now) }
+    {
+        granules_in(&self.device)
+    }
+}

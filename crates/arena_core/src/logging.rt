@@ -1,0 +1,38 @@
+// An entry is put into the log, where room is made for it first.
+ghost use Rattle.std.specs.Prelude.{◌≡◌, ◌≤◌, ◌+◌, length};
+ghost use Rattle.pmem_lines.specs.Events.{IsQuiet, CrashOnly};
+ghost use Rattle.pmem_lines.specs.Pmem.{words_of, HasRoom, Appends};
+ghost use Rattle.pool_layout.specs.Layout.{layout_of};
+ghost use Rattle.pool_layout.specs.Header.{version_in, granules_in};
+ghost use Rattle.image_tables.specs.Extents.{extent_at};
+ghost use Rattle.book_log.specs.Entry.{IsInHeap};
+ghost use Rattle.log_gc.specs.Live.{AreDisjoint};
+ghost use Rattle.heap_check.specs.Image.{IsFormed};
+ghost use Rattle.arena_core.specs.Arena.{IsBookOf};
+ghost use Rattle.arena_core.specs.Events.{log_events};
+ghost use Rattle.arena_core.specs.Log.{IsLogged, IsLoggedOrNot};
+
+use book_log::{BookLog, LogEntry};
+use log_gc::make_room;
+use pmem_lines::Pmem;
+
+/// Puts an entry into the log and makes it durable, behind the events that make room for it where the last active chunk
+/// is full: at most 682 events. Every word outside the log and its directory is as before, and the live extents are those
+/// with the entry done. After a crash within it they are that or as before.
+pub(crate) fn log_entry<P: Pmem>(log: &mut BookLog, device: &mut P, entry: LogEntry)
+    requires formed { IsFormed (words_of (P.state device.old)) }
+    requires disjoint { AreDisjoint (extent_at (words_of (P.state device.old))) }
+    requires book { IsBookOf log.old (words_of (P.state device.old)) }
+    requires valid { IsInHeap (layout_of (version_in (words_of (P.state device.old)))).first_granule (granules_in (words_of (P.state device.old))) entry }
+    requires quiet { IsQuiet (P.state device.old).events }
+    requires room { HasRoom (P.state device.old) 682 }
+    ensures appends { Appends (P.state device.old) (P.state device.new) (log_events (words_of (P.state device.old)) entry) }
+    ensures few { length (P.state device.new).events ≤ length (P.state device.old).events + 682 }
+    ensures logged { IsLogged (words_of (P.state device.old)) entry (words_of (P.state device.new)) }
+    ensures book { IsBookOf log.new (words_of (P.state device.new)) }
+    ensures quiet { IsQuiet (P.state device.new).events }
+    ensures crash { CrashOnly (words_of (P.state device.old)) (log_events (words_of (P.state device.old)) entry) (IsLoggedOrNot (words_of (P.state device.old)) entry) }
+{
+    make_room(log, device);
+    log.append(device, entry);
+}

@@ -1,0 +1,40 @@
+// The memory that an arena needs beside the words.
+ghost use Rattle.std.specs.Prelude.{◌≡◌, ◌≤◌, IfOk};
+
+use book_log::BookLog;
+use extent_index::ExtentIndex;
+use pmem_lines::OutOfMemory;
+use std::alloc::Global;
+use std::marker::Model;
+
+/// All the memory that an arena ever takes beside its device. In contracts it is the number of granules that the arena
+/// may have.
+#[derive(Drop)]
+pub struct ArenaRoom {
+    pub(crate) log: BookLog,
+    pub(crate) free: ExtentIndex,
+}
+
+impl Model for ArenaRoom {
+    ghost use Rattle.std.specs.Prelude.{ℕ};
+    ghost use Rattle.arena_core.specs.Arena.{IsRoom};
+
+    ghost Value = { ℕ };
+
+    ghost view = { λ a. a.log.granules };
+
+    ghost invariant = { λ a. IsRoom a.log.granules a.log a.free };
+}
+
+impl ArenaRoom {
+    /// Room for an arena of 16 to 1024 granules.
+    pub fn new(alloc: Global, granules: u32) -> Result<ArenaRoom, OutOfMemory>
+        requires least { 16 ≤ granules }
+        requires most { granules ≤ 1024 }
+        ensures { IfOk result (λ room. room ≡ granules) }
+    {
+        let log = BookLog::new(alloc, granules)?;
+        let free = ExtentIndex::new(alloc, granules)?;
+        Ok(ArenaRoom { log, free })
+    }
+}

@@ -1,0 +1,47 @@
+// Write-ahead entries, as words and on a device.
+use attach_wal::{WalEntry, close_entry, entry_of, entry_word, write_entry};
+use pmem_lines::{Pmem, SimPmem};
+use std::test::Fail;
+
+const ATTACHED: WalEntry = WalEntry {
+    root: 5,
+    at: 67584,
+    old: false,
+    place: 0,
+};
+
+const OLD: WalEntry = WalEntry {
+    root: 65535,
+    at: 67584,
+    old: true,
+    place: 63,
+};
+
+#[test]
+fn words_of_entries(rt: HostRuntime) {
+    let rows = [
+        (0x0001_0800_0005_0001, Some(ATTACHED)),
+        (0x0001_0800_ffff_3f03, Some(OLD)),
+        (0, None),
+        (0x0001_0800_0005_0000, None),
+        (0x0001_0800_0005_0005, None),
+        (0x0001_0800_0005_0101, None),
+        (0x0001_0800_0005_4003, None),
+    ];
+    for (word, entry) in rows {
+        assert_eq!(rt; entry_of(word), entry, "at {word}");
+    }
+    assert_eq!(rt; entry_word(ATTACHED), 0x0001_0800_0005_0001);
+    assert_eq!(rt; entry_word(OLD), 0x0001_0800_ffff_3f03);
+}
+
+#[test]
+fn opens_and_closes(rt: HostRuntime) -> Result<(), Fail> {
+    let mut device = SimPmem::zeroed(rt.alloc(), 4096, 6)?;
+    write_entry(&mut device, 3, ATTACHED);
+    assert_eq!(rt; device.load(704), 0x0001_0800_0005_0001);
+    close_entry(&mut device, 3);
+    assert_eq!(rt; device.load(704), 0);
+    assert_eq!(rt; device.event_count(), 6);
+    Ok(())
+}

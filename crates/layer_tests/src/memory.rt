@@ -1,0 +1,121 @@
+// Images of a short list of events, by hand and by counting.
+
+use pmem_lines::{Event, Pmem, SimPmem};
+use rand_core::SeedableRng;
+use rand_core::utils::NextWord;
+use rand_xoshiro::SplitMix64;
+use std::test::Fail;
+
+// A line's stores: how many there are, and how many stand before the last flush of it that a fence follows.
+fn counts(events: &[Event], line: u32) -> (u32, u32) {
+    let mut all = 0u32;
+    let mut done = 0u32;
+    for (i, event) in events.iter().enumerate() {
+        match *event {
+            Event::Store { at, value: _ } => {
+                if at / 64 == line {
+                    all = all.saturating_add(1);
+                }
+            }
+            Event::Flush { line: flushed } => {
+                if flushed == line && events[i..].contains(&Event::Fence) {
+                    done = all;
+                }
+            }
+            Event::Fence => {}
+        }
+    }
+    (all, done)
+}
+
+// The first so many stores of a line are done.
+fn store_first(words: &mut [u64], events: &[Event], line: u32, mut kept: u64) {
+    for event in events {
+        if let Event::Store { at, value } = *event {
+            if at / 64 == line && kept > 0 {
+                kept -= 1;
+                if let Some(word) = words.get_mut(at as usize / 8) {
+                    *word = value;
+                }
+            }
+        }
+    }
+}
+
+// For each number of events: words 0 and 1 of line 0, and word 8 of line 1. From seed 0 the first word that is drawn
+// leaves 1 at a division by 2 and by 3, and the second leaves 0 by 2.
+#[test]
+fn images_by_hand(rt: HostRuntime) -> Result<(), Fail> {
+    let mut device = SimPmem::zeroed(rt.alloc(), 3, 6)?;
+    device.begin();
+    device.store(0, 1);
+    device.store(8, 2);
+    device.flush(0);
+    device.store(64, 3);
+    device.fence();
+    device.store(0, 4);
+    assert_eq!(rt;
+        (device.load(0), device.load(8), device.load(64)),
+        (4, 2, 3)
+    );
+    let table = [
+        (0, 0, 0, 0),
+        (1, 1, 0, 0),
+        (2, 1, 0, 0),
+        (3, 1, 0, 0),
+        (4, 1, 0, 0),
+        (5, 1, 2, 3),
+        (6, 4, 2, 0),
+    ];
+    for (k, first, second, eighth) in table {
+        let mut picks = SplitMix64::from_seed([0; 8]);
+        let words = device.image(rt.alloc(), k, &mut picks)?;
+        assert_eq!(rt;
+            (words[0], words[1], words[8]),
+            (first, second, eighth),
+            "after {k}"
+        );
+    }
+    Ok(())
+}
+
+// Each line is counted by a search of its own, and is written in a pass of its own.
+#[test]
+fn images_by_counting(rt: HostRuntime) -> Result<(), Fail> {
+    let base = [9u64; 24];
+    let mut device = SimPmem::from_image(rt.alloc(), &base, 12)?;
+    device.store(0, 1);
+    device.store(8, 2);
+    device.flush(0);
+    device.store(64, 3);
+    device.fence();
+    device.store(0, 4);
+    device.flush(1);
+    device.store(64, 5);
+    device.store(128, 6);
+    device.flush(2);
+    device.fence();
+    device.flush(0);
+    for k in 0..=device.event_count() {
+        let mut first = Vec::new(rt.alloc());
+        for i in 0..k {
+            first.push(device.event(i))?;
+        }
+        for seed in 0..6u64 {
+            let mut picks = SplitMix64::from_seed(seed.to_le_bytes());
+            let words = device.image(rt.alloc(), k, &mut picks)?;
+            let mut drawn = SplitMix64::from_seed(seed.to_le_bytes());
+            let mut want = base;
+            for line in 0..3 {
+                let (all, done) = counts(&first, line);
+                let mut kept = u64::from(done);
+                if done < all {
+                    kept += drawn.next_word() % (u64::from(all - done) + 1);
+                }
+                store_first(&mut want, &first, line, kept);
+            }
+            assert_eq!(rt; words.as_slice(), want.as_slice(), "seed {seed}, after {k}");
+        }
+    }
+    Ok(())
+}

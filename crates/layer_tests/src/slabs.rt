@@ -1,0 +1,120 @@
+// Words of a slab's header, and a slab that is made on a simulated memory of 16 granules.
+use durable_steps::write_word;
+use pmem_lines::{Event, Pmem, SimPmem};
+use slab_header::{
+    IndexEntry, SlabState, index_of, index_word, make_slab, put_bit, put_index, state_of,
+    state_word,
+};
+use std::test::Fail;
+
+#[test]
+fn state_words(rt: HostRuntime) {
+    let morphing = SlabState::Morphing {
+        class: 6,
+        old: 7,
+        entries: 1,
+    };
+    let morphed = SlabState::Morphed {
+        class: 0,
+        old: 35,
+        entries: 64,
+    };
+    let table = [
+        (0x0601, Some(SlabState::Normal { class: 6 })),
+        (0x0107_0602, Some(morphing)),
+        (0x4023_0003, Some(morphed)),
+        (0x0600, None),
+        (0x0604, None),
+        (0x2401, None),
+        (0x0106_0602, None),
+        (0x0124_0602, None),
+        (0x0007_0602, None),
+        (0x4107_0603, None),
+        (0x0001_0000_0601, None),
+        (0x0007_0601, None),
+        (0x0100_0601, None),
+    ];
+    for (word, expected) in table {
+        let state = state_of(word);
+        assert_eq!(rt; state, expected, "of {word}");
+        if let Some(s) = state {
+            assert_eq!(rt; state_word(s), word);
+        }
+    }
+}
+
+#[test]
+fn index_words(rt: HostRuntime) {
+    let table = [
+        (0, Some((false, 0))),
+        (0x0005_0001, Some((true, 5))),
+        (0xffff_0000, Some((false, 65535))),
+        (0x0005_0002, None),
+        (0x0005_8001, None),
+        (0x0001_0005_0001, None),
+        (0x8000_0000_0005_0001, None),
+    ];
+    for (word, expected) in table {
+        let entry = index_of(word);
+        assert_eq!(rt; entry.map(|e| (e.live, e.number)), expected, "of {word}");
+        if let Some(e) = entry {
+            assert_eq!(rt; index_word(e), word);
+        }
+    }
+}
+
+#[test]
+fn slab_of_class_6(rt: HostRuntime) -> Result<(), Fail> {
+    let mut device = SimPmem::zeroed(rt.alloc(), 4096, 85)?;
+    write_word(&mut device, 65664, 7);
+    device.begin();
+    make_slab(&mut device, 65536, 6);
+    assert_eq!(rt; device.event_count(), 75);
+    let events = [
+        (
+            0,
+            Event::Store {
+                at: 65600,
+                value: 0,
+            },
+        ),
+        (
+            63,
+            Event::Store {
+                at: 66104,
+                value: 0,
+            },
+        ),
+        (
+            64,
+            Event::Store {
+                at: 65536,
+                value: 0x0601,
+            },
+        ),
+        (65, Event::Flush { line: 1024 }),
+        (73, Event::Flush { line: 1032 }),
+        (74, Event::Fence),
+    ];
+    for (i, event) in events {
+        if i < device.event_count() {
+            assert_eq!(rt; device.event(i), event, "event {i}");
+        }
+    }
+    assert_eq!(rt; device.words(65536, 1), [0x0601].as_slice());
+    assert_eq!(rt; device.words(65664, 1), [0].as_slice());
+    put_bit(&mut device, 65536, 0, true);
+    put_bit(&mut device, 65536, 1, true);
+    put_bit(&mut device, 65536, 8, true);
+    put_bit(&mut device, 65536, 0, false);
+    assert_eq!(rt; device.words(65600, 1), [2].as_slice());
+    assert_eq!(rt; device.words(65664, 1), [1].as_slice());
+    let entry = IndexEntry {
+        live: true,
+        number: 5,
+    };
+    put_index(&mut device, 65536, 9, entry);
+    assert_eq!(rt; device.words(66184, 1), [0x0005_0001].as_slice());
+    assert_eq!(rt; device.left(), 0);
+    Ok(())
+}

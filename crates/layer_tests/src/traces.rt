@@ -1,0 +1,72 @@
+// Texts in and outside the grammar.
+use heap_model::Call;
+use std::alloc::Global;
+use trace_text::{TraceCall, TraceFault, read_trace};
+
+// The refused line, 0 of a trace, and the greatest number where there was no memory.
+fn refused_line(alloc: Global, text: &str) -> u64 {
+    match read_trace(alloc, text.as_bytes()) {
+        Ok(_) => 0,
+        Err(TraceFault::BadLine { line }) => line,
+        Err(TraceFault::Memory(_)) => u64::MAX,
+    }
+}
+
+#[test]
+fn first_line_outside_the_grammar(rt: HostRuntime) {
+    let rows = [
+        ("", 1),
+        ("# a", 2),
+        ("\n\n# a\n", 4),
+        ("pool 1 16\n00 0 m 5 1\n", 2),
+        ("pool 1 16\n64 0 f 1\n", 2),
+        ("pool 2 16\n", 1),
+        ("pool 1 15\n", 1),
+        ("pool 1 1025\n", 1),
+        ("pool 1 016\n", 1),
+        ("pool 1 16 \n", 1),
+        ("pool 1 16\npool 1 16\n", 2),
+        ("pool 1 16\n0 0 m 1 18446744073709551616\n", 2),
+        ("pool 1 16\n0 0 m 1 18446744073709551615\n", 0),
+        ("pool 1 16\n0 1 m 1 1\n", 2),
+        ("pool 1 16\n0 0 m 1 1 \n", 2),
+        ("pool 1 16\n0 0 m  1 1\n", 2),
+        ("pool 1 16\n0 0 m +5 1\n", 2),
+        ("pool 1 16\n0 0 f 4294967296\n", 2),
+        ("pool 1 16\n0 0 f 18446744073709551616\n", 2),
+        ("pool 1 16\n0 0 f\n", 2),
+        ("pool 1 16\n\n# b\n0 0 f 1\n0 0 w 1 0 5\n", 5),
+        ("pool 1 16\n0 0 f 4294967295\n", 0),
+        ("# a\n\npool 1 1024\n\n# b\n63 0 m 0 0\n\n0 0 f 10", 0),
+        ("pool 1 16", 0),
+    ];
+    for (text, want) in rows {
+        assert_eq!(rt; refused_line(rt.alloc(), text), want, "at {text}");
+    }
+}
+
+#[test]
+fn says_its_calls(rt: HostRuntime) {
+    let text = b"\npool 1 960\n63 0 m 4294967295 64\n# a\n5 0 f 7";
+    let Ok(trace) = read_trace(rt.alloc(), text) else {
+        panic!(rt; "no trace");
+    };
+    assert_eq!(rt; trace.arenas, 1);
+    assert_eq!(rt; trace.granules, 960);
+    let calls = [
+        TraceCall {
+            thread: 63,
+            arena: 0,
+            call: Call::Malloc {
+                root: 4294967295,
+                size: 64,
+            },
+        },
+        TraceCall {
+            thread: 5,
+            arena: 0,
+            call: Call::Free { root: 7 },
+        },
+    ];
+    assert_eq!(rt; trace.calls.as_slice(), &calls[..]);
+}

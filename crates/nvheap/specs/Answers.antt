@@ -1,0 +1,50 @@
+-- What each command has to say of an input, and what it leaves on the shelf.
+use Rattle.std.specs.Prelude.{◌≡◌, ℕ, ◌≤◌, List, Option}
+use Rattle.pmem_lines.specs.Pmem.{PmemState}
+use Rattle.heap_model.specs.declared.call.Entry.{Entry}
+use Rattle.heap_model.specs.Machine.{Machine}
+use Rattle.trace_text.specs.declared.call.TraceCall.{TraceCall}
+use Rattle.trace_text.specs.Grammar.{IsTrace}
+use Rattle.trace_runs.specs.Replay.{HasRun, IsReport}
+use Rattle.trace_runs.specs.Crash.{IsCrashReport, HasFewer}
+use Rattle.nvheap.specs.Outside.{put_at}
+
+-- place 0 of the shelf has a device that went through the journal; the other places stay
+pub record KeepsRun (old new : Option (List (Option PmemState))) (granules : ℕ) (journal : List Entry) (machine : Machine) : Type 0 where
+  pub device : PmemState
+  pub put : new ≡ put_at old 0 device
+  pub run : HasRun granules device journal machine
+
+-- The output is the report of a legal journal of the trace's calls, and the shelf has the device that went through it.
+pub record AnswersReplay (input output : List ℕ) (old new : Option (List (Option PmemState))) : Type 0 where
+  pub granules : ℕ
+  pub calls : List TraceCall
+  pub trace : IsTrace input granules calls
+  pub journal : List Entry
+  pub machine : Machine
+  pub report : IsReport granules calls journal machine output
+  pub shelf : KeepsRun old new granules journal machine
+
+-- The output is the report of a crash of the trace's calls.
+pub record AnswersCrash (input output : List ℕ) (event seed : ℕ) : Type 0 where
+  pub granules : ℕ
+  pub calls : List TraceCall
+  pub trace : IsTrace input granules calls
+  pub report : IsCrashReport granules calls event seed output
+
+-- the trace has one arena, and not the one that is asked for
+pub record LacksArena (input : List ℕ) (asked arena arenas : ℕ) : Type 0 where
+  pub granules : ℕ
+  pub calls : List TraceCall
+  pub trace : IsTrace input granules calls
+  pub is_asked : arena ≡ asked
+  pub is_all : arenas ≡ 1
+  pub lacks : 1 ≤ asked
+
+-- the calls of the trace have fewer events than are asked for
+pub record LacksEvent (input : List ℕ) (asked event events : ℕ) : Type 0 where
+  pub granules : ℕ
+  pub calls : List TraceCall
+  pub trace : IsTrace input granules calls
+  pub is_asked : event ≡ asked
+  pub fewer : HasFewer granules calls asked events

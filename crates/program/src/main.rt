@@ -1,0 +1,60 @@
+// The program `nvheap`: `main` makes the real source, sink, gate and shelf, calls `run` of the crate `nvheap`, prints
+// the line on standard error for the answer, and ends with the answer's code. What the program does is `run`'s contract.
+#![tactic(auto)]
+
+use nvheap::{DropShelf, OpenGate, ReadSource, Status, WriteSink, run};
+use std::process::ExitCode;
+use std::{env, io};
+
+/// The words after the program's name.
+fn words_of_program(rt: &HostRuntime) -> io::Result<Vec<String>> {
+    let mut words = Vec::new(rt.alloc());
+    for word in env::args(rt)?.skip(1) {
+        words.push(word)?;
+    }
+    Ok(words)
+}
+
+/// How the program ends where its words can't be had. Words that are no text are none of the program's.
+fn without_words(fault: io::Error) -> Status {
+    match fault.kind() {
+        io::ErrorKind::OutOfMemory => Status::Memory,
+        _ => Status::Usage,
+    }
+}
+
+/// What is said on standard error.
+fn complaint(status: Status) -> Option<&'static str> {
+    match status {
+        Status::Done | Status::Refused => None,
+        Status::Usage => Some("usage: nvheap replay, crash A K SEED"),
+        Status::ReadFault => Some("read fault"),
+        Status::WriteFault => Some("write fault"),
+        Status::Memory => Some("out of memory"),
+        Status::TooLong => Some("input too long"),
+    }
+}
+
+fn main(rt: HostRuntime) -> ExitCode {
+    let status = match words_of_program(&rt) {
+        Ok(words) => {
+            let mut source = ReadSource::new(rt.stdin());
+            let mut sink = WriteSink::new(rt.stdout());
+            let mut shelf = DropShelf;
+            run(
+                &rt,
+                rt.alloc(),
+                &words,
+                &mut source,
+                &mut sink,
+                &OpenGate,
+                &mut shelf,
+            )
+        }
+        Err(fault) => without_words(fault),
+    };
+    if let Some(line) = complaint(status) {
+        let _ = eprintln!(rt; "{line}");
+    }
+    ExitCode::from(status.code())
+}

@@ -1,0 +1,15 @@
+// Tests of whole runs, over memory: each row has words and a trace, and how the run ends and what it writes, worked by
+// hand.
+//
+// The crate has no code. It stands apart from `nvheap`, since a crate with tests is proved twice. `rows` has the rows,
+// `faults` sources and sinks that fail, `logs` traces that fill an arena's log, and `runs` how they all run.
+#![tactic(auto)]
+
+#[cfg(test)]
+mod faults;
+#[cfg(test)]
+mod logs;
+#[cfg(test)]
+mod rows;
+#[cfg(test)]
+mod runs;

@@ -1,0 +1,42 @@
+// How a run over memory ends, and what it writes.
+use nvheap::{KeptShelf, MemSink, OpenGate, Sink, Source, Status, SureSource, run};
+use std::alloc::{AllocError, Global};
+use std::sync::Wait;
+use std::test::Fail;
+use std::thread::Threads;
+
+/// The words of a line, as the program gets them.
+pub(crate) fn words_of(alloc: Global, line: &str) -> Result<Vec<String>, AllocError> {
+    let mut words = Vec::new(alloc);
+    for word in line.split_whitespace() {
+        words.push(word.to_string(alloc)?)?;
+    }
+    Ok(words)
+}
+
+/// How a run from a source to a sink ends, with the words of a line.
+pub(crate) fn ends<R: Threads + Wait + Sync, S: Source, K: Sink>(
+    rt: &R,
+    alloc: Global,
+    line: &str,
+    source: &mut S,
+    sink: &mut K,
+) -> Result<Status, Fail> {
+    let words = words_of(alloc, line)?;
+    let mut shelf = KeptShelf::new(alloc)?;
+    Ok(run(rt, alloc, &words, source, sink, &OpenGate, &mut shelf))
+}
+
+/// How a run over a trace ends, and what it writes.
+pub(crate) fn ends_and_writes<R: Threads + Wait + Sync>(
+    rt: &R,
+    alloc: Global,
+    line: &str,
+    trace: &str,
+) -> Result<(Status, Vec<u8>), Fail> {
+    let mut source = SureSource::new(trace.as_bytes());
+    let mut sink = MemSink::new(alloc, &[], usize::MAX);
+    let status = ends(rt, alloc, line, &mut source, &mut sink)?;
+    let taken = sink.bytes().to_vec(alloc)?;
+    Ok((status, taken))
+}

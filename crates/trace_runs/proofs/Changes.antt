@@ -1,0 +1,201 @@
+-- What a call changes of the heap, and how an image that a crash within it leaves is read.
+use Rattle.std.proofs.Common.{◌≡◌, ◌≢◌, ◌⊎◌, ℕ, ◌<◌, ◌≤◌, ◌^◌, Bool, true, false, IsTrue, List, length, Option, Some, None, if◌then◌else◌, sym, ap, ◌∙◌, refl, arith, subst, ⊎_elim}
+use Rattle.std.proofs.lemmas.Bool.{cond-true, cond-false, eq-eqb, ne_eqb, lt-ltb, cases_eq}
+use Rattle.pmem_lines.specs.Words.{word_at}
+use Rattle.pool_layout.specs.Layout.{layout_of, IsLayout}
+use Rattle.pool_layout.specs.Places.{root_word}
+use Rattle.pool_layout.specs.Header.{version_in, granules_in}
+use Rattle.pool_layout.proofs.Layouts.{layout_rules}
+use Rattle.image_tables.specs.Tables.{tables_of}
+use Rattle.heap_model.specs.declared.block.Block.{Block}
+use Rattle.heap_model.specs.declared.call.Call.{Call}
+use Rattle.heap_model.specs.declared.call.Call.TheVariants.{Malloc, Free, Write, Read}
+use Rattle.heap_model.specs.declared.call.Reply.{Reply}
+use Rattle.heap_model.specs.declared.call.Reply.TheVariants.{Placed, Freed, Wrote, Value, NoRoot, Occupied, Empty, ZeroSize, TooLarge, OutOfRange, NoSpace}
+use Rattle.heap_model.specs.Machine.{Bounds, Range, Machine, with_key}
+use Rattle.heap_model.specs.Step.{IsLargeStep, root_of}
+use Rattle.heap_model.proofs.Maps.{with_key-here, with_key-other}
+use Rattle.heap_check.specs.Heap.{heap, slabs, size_at}
+use Rattle.heap_check.specs.Image.{bounds_of, IsFormed, IsExactImage}
+use Rattle.heap_check.specs.State.{HasState, HaveSameHeap}
+use Rattle.arena_core.specs.Call.{IsStepOf}
+use Rattle.trace_runs.specs.Crash.{IsSide}
+use Rattle.trace_runs.specs.Blocks.{range_of, range_if, IsChangeBy, IsHeapBut, side_of}
+
+-- A call gave the block to its root, or took it from that root. Every other root has the same block as before.
+pub record IsChange (old new : List ℕ) (block : Block) (given : Bool) : Type 0 where
+  pub below : block.root < (layout_of 1).roots
+  pub before : heap (tables_of old) block.root ≡ (if given then None else Some (range_of block))
+  pub after : heap (tables_of new) block.root ≡ range_if block given
+  pub others : (root : ℕ) → root ≢ block.root → heap (tables_of new) root ≡ heap (tables_of old) root
+
+-- a formed image has version 1
+pub version-formed : (words : List ℕ) → IsFormed words → version_in words ≡ 1
+version-formed words formed = formed.header.valid.version
+
+-- the state that an image has, where nothing is known of the words of its blocks
+machine_of : List ℕ → Machine
+machine_of words = record { block = heap (tables_of words); slab = slabs (tables_of words); value = λ _ _. None }
+
+HasState-machine_of : (words : List ℕ) → HasState words (machine_of words)
+unfolding machine_of
+HasState-machine_of words = record { blocks = λ root. refl; slabs = λ start. refl; values = λ root index word is. absurd (cc) }
+
+-- a block is given to a root that has none
+pub record IsGift (b : Bounds) (m : Machine) (root : ℕ) (range : Range) (next : Machine) : Type 0 where
+  pub below : root < b.roots
+  pub none : m.block root ≡ None
+  pub after : next.block ≡ with_key m.block root (Some range)
+
+placed : (b : Bounds) (m next : Machine) (call : Call) (at size : ℕ) → IsLargeStep b m call (Placed at size) next → IsGift b m (root_of call) (record { at = at; size = size }) next
+placed b m next (Malloc root asked) at size step = record { below = step.0.below; none = step.0.none; after = ap (λ (n : Machine). n.block) step.1.after }
+placed b m next (Free root) at size step = absurd step
+placed b m next (Write root index word) at size step = ⊎_elim (λ done. let e : Placed at size ≡ Wrote = done.0 in absurd (cc)) (λ refused. absurd refused) step
+placed b m next (Read root index) at size step = ⊎_elim (λ done. let e : Placed at size ≡ Value done.0 = done.1 in absurd (cc)) (λ refused. absurd refused) step
+
+-- a root loses its block
+pub record IsLoss (b : Bounds) (m : Machine) (root : ℕ) (range : Range) (next : Machine) : Type 0 where
+  pub below : root < b.roots
+  pub named : m.block root ≡ Some range
+  pub after : next.block ≡ with_key m.block root None
+
+freed : (b : Bounds) (m next : Machine) (call : Call) (at size : ℕ) → IsLargeStep b m call (Freed at size) next → IsLoss b m (root_of call) (record { at = at; size = size }) next
+freed b m next (Malloc root asked) at size step = absurd step
+freed b m next (Free root) at size step = record { below = step.0.below; named = step.0.named; after = ap (λ (n : Machine). n.block) step.1 }
+freed b m next (Write root index word) at size step = ⊎_elim (λ done. let e : Freed at size ≡ Wrote = done.0 in absurd (cc)) (λ refused. absurd refused) step
+freed b m next (Read root index) at size step = ⊎_elim (λ done. let e : Freed at size ≡ Value done.0 = done.1 in absurd (cc)) (λ refused. absurd refused) step
+
+-- the heap of words that have a state whose map has one key changed
+heap_with : (new : List ℕ) (next : Machine) (map : ℕ → Option Range) (key : ℕ) (value : Option Range) → HasState new next → next.block ≡ with_key map key value →
+    (root : ℕ) → heap (tables_of new) root ≡ with_key map key value root
+heap_with new next map key value state after root = state.blocks root ∙ ap (λ (f : ℕ → Option Range). f root) after
+
+-- a call whose reply is a block that was given or taken changes the heap at its root alone
+pub IsChange-step : (old new : List ℕ) (call : Call) (reply : Reply) (block : Block) (given : Bool) → IsExactImage old → IsStepOf old new call reply →
+    IsChangeBy (root_of call) reply block given → IsChange old new block given
+unfolding machine_of
+IsChange-step old new call (Placed at size) block given exact steps by =
+    let m = machine_of old in
+    let root = root_of call in
+    let found = steps.each m (HasState-machine_of old) in
+    let gift : IsGift (bounds_of old) m root (record { at = at; size = size }) found.0 = placed (bounds_of old) m found.0 call at size found.1 in
+    let same = heap_with new found.0 m.block root (Some (record { at = at; size = size })) found.2 gift.after in
+    let change : IsChange old new (record { root = root; at = at; size = size }) true = record {
+      below = subst (λ v. root < (layout_of v).roots) (version-formed old exact.formed) gift.below;
+      before = gift.none;
+      after = same root ∙ with_key-here m.block root (Some (record { at = at; size = size }));
+      others = λ other apart. same other ∙ with_key-other m.block root other (Some (record { at = at; size = size })) apart;
+    } in
+    rw (by.0, by.1) change
+IsChange-step old new call (Freed at size) block given exact steps by =
+    let m = machine_of old in
+    let root = root_of call in
+    let found = steps.each m (HasState-machine_of old) in
+    let loss : IsLoss (bounds_of old) m root (record { at = at; size = size }) found.0 = freed (bounds_of old) m found.0 call at size found.1 in
+    let same = heap_with new found.0 m.block root None found.2 loss.after in
+    let change : IsChange old new (record { root = root; at = at; size = size }) false = record {
+      below = subst (λ v. root < (layout_of v).roots) (version-formed old exact.formed) loss.below;
+      before = loss.named;
+      after = same root ∙ with_key-here m.block root None;
+      others = λ other apart. same other ∙ with_key-other m.block root other None apart;
+    } in
+    rw (by.0, by.1) change
+IsChange-step old new call Wrote block given exact steps by = absurd by
+IsChange-step old new call (Value word) block given exact steps by = absurd by
+IsChange-step old new call NoRoot block given exact steps by = absurd by
+IsChange-step old new call (Occupied at) block given exact steps by = absurd by
+IsChange-step old new call Empty block given exact steps by = absurd by
+IsChange-step old new call ZeroSize block given exact steps by = absurd by
+IsChange-step old new call TooLarge block given exact steps by = absurd by
+IsChange-step old new call OutOfRange block given exact steps by = absurd by
+IsChange-step old new call NoSpace block given exact steps by = absurd by
+
+-- a root's word is what the tables say of it
+root_is : (words : List ℕ) (root : ℕ) → IsFormed words → root < (layout_of 1).roots → (tables_of words).root root ≡ word_at words (root_word root)
+unfolding tables_of
+root_is words root formed below =
+    let here : root < (layout_of (version_in words)).roots = subst (λ v. root < (layout_of v).roots) (sym (version-formed words formed)) below in
+    cond-true _ (word_at words (root_word root)) 0 (lt-ltb root (layout_of (version_in words)).roots here)
+
+-- a root whose word is 0 has no block
+pub heap-zero : (words : List ℕ) (root : ℕ) → IsFormed words → root < (layout_of 1).roots → word_at words (root_word root) ≡ 0 → heap (tables_of words) root ≡ None
+heap-zero words root formed below zero' =
+    cond-true _ None (Some (record { at = (tables_of words).root root; size = size_at (tables_of words) root ((tables_of words).root root) }))
+    (eq-eqb ((tables_of words).root root) 0 (root_is words root formed below ∙ zero'))
+
+-- a root whose word is not 0 has one
+pub heap-some : (words : List ℕ) (root : ℕ) → IsFormed words → root < (layout_of 1).roots → word_at words (root_word root) ≢ 0 → heap (tables_of words) root ≢ None
+heap-some words root formed below some none =
+    let range : Range = record { at = (tables_of words).root root; size = size_at (tables_of words) root ((tables_of words).root root) } in
+    let is : heap (tables_of words) root ≡ Some range =
+    cond-false _ None (Some range) (ne_eqb ((tables_of words).root root) 0 (λ e. some (sym (root_is words root formed below) ∙ e))) in
+    absurd (cc)
+
+-- By whether the root of a call has a block in an image, which has the heap before the call or the one after it: the
+-- side of the call, and the heap.
+pub record IsToldBy (old new image : List ℕ) (block : Block) (given has : Bool) : Type 0 where
+  pub side : IsSide old new image (side_of has given)
+  pub but : IsHeapBut new block has (heap (tables_of image))
+
+-- an image with the heap after the call
+told_after : (old new image : List ℕ) (block : Block) (given has : Bool) → IsChange old new block given → HaveSameHeap new image → range_if block has ≡ heap (tables_of new) block.root →
+    IsHeapBut new block has (heap (tables_of image))
+told_after old new image block given has change same is = record { here = same.each block.root ∙ sym is; others = λ root apart. same.each root }
+
+-- an image with the heap before the call
+told_before : (old new image : List ℕ) (block : Block) (given has : Bool) → IsChange old new block given → HaveSameHeap old image → range_if block has ≡ heap (tables_of old) block.root →
+    IsHeapBut new block has (heap (tables_of image))
+told_before old new image block given has change same is = record {
+  here = same.each block.root ∙ sym is;
+  others = λ root apart. same.each root ∙ sym (change.others root apart);
+}
+
+pub IsToldBy-heap : (old new image : List ℕ) (block : Block) (given has : Bool) → IsChange old new block given → HaveSameHeap old image ⊎ HaveSameHeap new image →
+    (has ≡ true → heap (tables_of image) block.root ≢ None) → (has ≡ false → heap (tables_of image) block.root ≡ None) → IsToldBy old new image block given has
+IsToldBy-heap old new image block true true change either some none = ⊎_elim
+    (λ (same : HaveSameHeap old image). absurd (some refl (same.each block.root ∙ change.before)))
+    (λ (same : HaveSameHeap new image). record {
+      side = ((λ alike. let e : None ≡ Some (range_of block) = sym change.before ∙ sym (alike.each block.root) ∙ change.after in absurd (cc)), same);
+      but = told_after old new image block true true change same (sym change.after);
+    })
+    either
+IsToldBy-heap old new image block true false change either some none = ⊎_elim
+    (λ (same : HaveSameHeap old image). record {
+      side = ((λ alike. let e : None ≡ Some (range_of block) = sym change.before ∙ sym (alike.each block.root) ∙ change.after in absurd (cc)), same);
+      but = told_before old new image block true false change same (sym change.before);
+    })
+    (λ (same : HaveSameHeap new image). let e : None ≡ Some (range_of block) = sym (none refl) ∙ same.each block.root ∙ change.after in absurd (cc))
+    either
+IsToldBy-heap old new image block false true change either some none = ⊎_elim
+    (λ (same : HaveSameHeap old image). record {
+      side = ((λ alike. let e : Some (range_of block) ≡ None = sym change.before ∙ sym (alike.each block.root) ∙ change.after in absurd (cc)), same);
+      but = told_before old new image block false true change same (sym change.before);
+    })
+    (λ (same : HaveSameHeap new image). absurd (some refl (same.each block.root ∙ change.after)))
+    either
+IsToldBy-heap old new image block false false change either some none = ⊎_elim
+    (λ (same : HaveSameHeap old image). let e : None ≡ Some (range_of block) = sym (none refl) ∙ same.each block.root ∙ change.before in absurd (cc))
+    (λ (same : HaveSameHeap new image). record {
+      side = ((λ alike. let e : Some (range_of block) ≡ None = sym change.before ∙ sym (alike.each block.root) ∙ change.after in absurd (cc)), same);
+      but = told_after old new image block false false change same (sym change.after);
+    })
+    either
+
+-- a root's number fits sixteen bits
+pub root-fits : (root : ℕ) → root < (layout_of 1).roots → root < 2 ^ 16
+unfolding layout_of
+root-fits root below = omega arith
+
+-- a root's word lies in a formed image
+pub root-inside : (words : List ℕ) (root : ℕ) → IsFormed words → root < (layout_of 1).roots → root_word root < length words
+root-inside words root formed below =
+    let rules : IsLayout (layout_of 1) = layout_rules 1 in
+    let least : (layout_of 1).least_granules ≤ granules_in words = subst (λ v. (layout_of v).least_granules ≤ granules_in words) (version-formed words formed) formed.header.valid.least in
+    omega (arith, formed.size, least, rules)
+
+-- a word of which a test says that it is 0
+pub zero_or : (b : Bool) (word : ℕ) → b ≡ false → (word ≢ 0 → IsTrue b) → word ≡ 0
+zero_or b word is some = ⊎_elim
+    (λ (none : word ≡ 0). none)
+    (λ (other : word ≢ 0). let yes' : b ≡ true = some other in absurd (cc))
+    (cases_eq word 0)

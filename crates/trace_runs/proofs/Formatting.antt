@@ -1,0 +1,46 @@
+-- An arena that was formatted just now.
+use Rattle.std.proofs.Common.{◌≡◌, ℕ, ◌*◌, List, length, ap, ◌∙◌, arith}
+use Rattle.pmem_lines.specs.Words.{zeros}
+use Rattle.pmem_lines.specs.Pmem.{PmemState, words_of, began, appended, fresh, IsZeroed}
+use Rattle.pmem_lines.proofs.Words.{length-zeros}
+use Rattle.pmem_lines.proofs.Reading.{length-reading}
+use Rattle.pool_layout.specs.Layout.{layout_of}
+use Rattle.pool_layout.specs.Header.{granules_in}
+use Rattle.heap_model.specs.Machine.{Bounds, no_heap}
+use Rattle.heap_check.specs.Image.{bounds_of, IsFormed, IsExactImage}
+use Rattle.heap_check.specs.State.{HasState}
+use Rattle.arena_core.specs.Events.{format_events}
+use Rattle.trace_runs.specs.Replay.{header_for, bounds_for, formatted}
+use Rattle.trace_runs.specs.Calls.{IsNewArena}
+use Rattle.trace_runs.proofs.Changes.{version-formed}
+
+-- the numbers of formed words of so many granules
+bounds-formed : (words : List ℕ) (granules : ℕ) → IsFormed words → length words ≡ 2048 * granules → bounds_of words ≡ bounds_for granules
+bounds-formed words granules formed size =
+    let many : granules_in words ≡ granules = omega (arith, formed.size, size) in
+    ap (λ v. let b : Bounds = record { roots = (layout_of v).roots; first = (layout_of v).first_granule; granules = granules_in words } in b) (version-formed words formed)
+    ∙ ap (λ n. let b : Bounds = record { roots = (layout_of 1).roots; first = (layout_of 1).first_granule; granules = n } in b) many
+
+-- over a memory of zeros
+made_new : (granules : ℕ) (arena : PmemState) → arena ≡ appended (began (fresh (zeros (2048 * granules)) 2048)) (format_events (header_for granules)) →
+    IsExactImage (words_of arena) → HasState (words_of arena) no_heap → IsNewArena granules arena
+unfolding formatted
+made_new granules arena made exact empty =
+    let words : words_of arena ≡ formatted granules = ap (λ (s : PmemState). words_of s) made in
+    let size : length (words_of arena) ≡ 2048 * granules =
+    ap length words ∙ length-reading (zeros (2048 * granules)) (format_events (header_for granules)) ∙ length-zeros (2048 * granules) in
+    record {
+      words = words;
+      bounds = bounds-formed (words_of arena) granules exact.formed size;
+      empty = empty;
+      base = ap (λ (s : PmemState). s.base) made;
+      events = ap (λ (s : PmemState). s.events) made;
+      begins = ap (λ (s : PmemState). s.begins) made;
+    }
+
+pub IsNewArena-format : (granules : ℕ) (device arena : PmemState) → IsZeroed device (256 * granules) 2048 → arena ≡ appended (began device) (format_events (header_for granules)) →
+    IsExactImage (words_of arena) → HasState (words_of arena) no_heap → IsNewArena granules arena
+IsNewArena-format granules device arena zeroed made exact empty =
+    let lines : 8 * (256 * granules) ≡ 2048 * granules = omega arith in
+    let first : device ≡ fresh (zeros (2048 * granules)) 2048 = zeroed.state ∙ ap (λ n. fresh (zeros n) 2048) lines in
+    made_new granules arena (made ∙ ap (λ (s : PmemState). appended (began s) (format_events (header_for granules))) first) exact empty

@@ -1,0 +1,161 @@
+-- Journals, one entry further.
+use Rattle.std.proofs.Common.{◌≡◌, ℕ, suc, ◌+◌, ◌<◌, ◌^◌, List, [], ◌∷◌, ◌++◌, length, take, get_or, flat_map, sym, ap, ◌∙◌, refl, arith, subst, inl, inr, length-append}
+use Rattle.std.proofs.lemmas.List.{append-nil, length-take-le, flat_map_more}
+use Rattle.std.proofs.Math.Seq.{take-suc}
+use Rattle.pmem_lines.specs.Pmem.{PmemState, words_of}
+use Rattle.image_tables.specs.Tables.{tables_of}
+use Rattle.heap_model.specs.declared.call.Call.{Call}
+use Rattle.heap_model.specs.declared.call.Entry.{Entry}
+use Rattle.heap_model.specs.Machine.{Bounds, Machine, no_heap, IsOverlapFree}
+use Rattle.heap_model.specs.Step.{IsLargeStep, root_of}
+use Rattle.heap_model.specs.Journal.{Leads}
+use Rattle.heap_model.proofs.Steps.{law_of_large_overlap}
+use Rattle.heap_check.specs.Heap.{heap}
+use Rattle.heap_check.specs.Image.{IsExactImage}
+use Rattle.heap_check.specs.State.{HasState}
+use Rattle.arena_core.specs.Call.{IsReady}
+use Rattle.arena_core.specs.Events.{call_events}
+use Rattle.trace_text.specs.declared.call.TraceCall.{TraceCall}
+use Rattle.trace_text.specs.Report.{arena_line, entry_line, heap_text}
+use Rattle.trace_runs.specs.Replay.{bounds_for, blocks_of, AreAnswers, IsBehindCall}
+use Rattle.trace_runs.specs.Calls.{IsNewArena, HasAnswered, HasAnsweredAll, HasWrittenAll, IsReplayed}
+use Rattle.trace_runs.proofs.Listing.{blocks_of-same}
+
+-- one call more is answered
+AreAnswers-more : (calls : List TraceCall) (journal : List Entry) (call : TraceCall) (entry : Entry) → AreAnswers calls journal → entry.seat ≡ call.thread → entry.call ≡ call.call →
+    AreAnswers (calls ++ call ∷ []) (journal ++ entry ∷ [])
+AreAnswers-more [] [] call entry are seat asked = (seat, asked, tt)
+AreAnswers-more [] (e ∷ journal) call entry are seat asked = absurd are
+AreAnswers-more (c ∷ calls) [] call entry are seat asked = absurd are
+AreAnswers-more (c ∷ calls) (e ∷ journal) call entry are seat asked = (are.0, are.1, AreAnswers-more calls journal call entry are.2 seat asked)
+
+-- one step more
+Leads-more : (b : Bounds) (m middle next : Machine) (journal : List Entry) (entry : Entry) → Leads (IsLargeStep b) m journal middle → IsLargeStep b middle entry.call entry.reply next →
+    Leads (IsLargeStep b) m (journal ++ entry ∷ []) next
+Leads-more b m middle next [] entry leads step = (next, subst (λ (n : Machine). IsLargeStep b n entry.call entry.reply next) leads step, refl)
+Leads-more b m middle next (e ∷ journal) entry leads step = (leads.0, leads.1, Leads-more b leads.0 middle next journal entry leads.2 step)
+
+-- no block overlaps another in a state that the empty heap leads to
+
+IsOverlapFree-none : (b : Bounds) → IsOverlapFree b no_heap
+IsOverlapFree-none b = record {
+  apart = λ root other range another differ one two. absurd (cc);
+  rooted = λ root range named. absurd (cc);
+  sized = λ root range named. absurd (cc);
+  slabs = λ s c named. absurd (cc);
+  slabs_apart = λ s t c d differ one two. absurd (cc);
+  small = λ root range named not_large. absurd (cc);
+  large = λ root range named is_large. absurd (cc);
+  clear = λ root range s c k named is_large slab low high. absurd (cc);
+}
+
+IsOverlapFree-journal : (b : Bounds) (journal : List Entry) (machine : Machine) → Leads (IsLargeStep b) no_heap journal machine → IsOverlapFree b machine
+IsOverlapFree-journal b journal machine leads = law_of_large_overlap b no_heap machine journal (IsOverlapFree-none b) leads
+
+-- nothing was asked yet
+HasAnsweredAll-none : (granules : ℕ) (device : PmemState) → IsNewArena granules device → HasAnsweredAll granules device [] [] no_heap
+HasAnsweredAll-none granules device new = record {
+  answers = tt;
+  leads = refl;
+  apart = IsOverlapFree-none (bounds_for granules);
+  state = new.empty;
+  bounds = new.bounds;
+  begins = new.begins;
+  last = inl (record { none = refl; base = new.base; events = new.events });
+}
+
+-- the device behind a call that was answered
+behind_call : (granules : ℕ) (old new : PmemState) (calls : List TraceCall) (journal : List Entry) (machine : Machine) (entry : Entry) →
+    HasAnsweredAll granules old calls journal machine → HasAnswered old new entry.call entry.reply → IsBehindCall granules new (journal ++ entry ∷ [])
+behind_call granules old new calls journal machine entry all answered =
+    let base : words_of old ≡ new.base = sym (ap (λ (s : PmemState). s.base) answered.device) in
+    let events : new.events ≡ call_events (words_of old) (root_of entry.call) entry.reply = ap (λ (s : PmemState). s.events) answered.device in
+    record {
+      before = journal;
+      entry = entry;
+      last = refl;
+      machine = machine;
+      leads = all.leads;
+      exact = subst IsExactImage base answered.exact;
+      state = subst (λ (words : List ℕ). HasState words machine) base all.state;
+      events = subst (λ (words : List ℕ). new.events ≡ call_events words (root_of entry.call) entry.reply) base events;
+    }
+
+-- one call more
+HasAnsweredAll-entry : (granules : ℕ) (old new : PmemState) (calls : List TraceCall) (journal : List Entry) (machine : Machine) (call : TraceCall) (entry : Entry) →
+    HasAnsweredAll granules old calls journal machine → entry.seat ≡ call.thread → entry.call ≡ call.call → HasAnswered old new entry.call entry.reply → length journal < 2 ^ 63 →
+    (next : Machine) × HasAnsweredAll granules new (calls ++ call ∷ []) (journal ++ entry ∷ []) next
+HasAnsweredAll-entry granules old new calls journal machine call entry all seat asked answered few =
+    let found = answered.step.each machine all.state in
+    let step : IsLargeStep (bounds_for granules) machine entry.call entry.reply found.0 = subst (λ (b : Bounds). IsLargeStep b machine entry.call entry.reply found.0) all.bounds found.1 in
+    let one = ap (λ (s : PmemState). s.begins) answered.device in
+    let longer : length (journal ++ entry ∷ []) ≡ length journal + 1 = length-append journal (entry ∷ []) in
+    let leads = Leads-more (bounds_for granules) no_heap machine found.0 journal entry all.leads step in (
+      found.0,
+      record {
+        answers = AreAnswers-more calls journal call entry all.answers seat asked;
+        leads = leads;
+        apart = IsOverlapFree-journal (bounds_for granules) (journal ++ entry ∷ []) found.0 leads;
+        state = found.2;
+        bounds = answered.step.bounds ∙ all.bounds;
+        begins = omega (arith, one, all.begins, longer);
+        last = inr (behind_call granules old new calls journal machine entry all answered);
+      },
+    )
+
+-- calls and answers are as many
+AreAnswers-length : (calls : List TraceCall) (journal : List Entry) → AreAnswers calls journal → length journal ≡ length calls
+AreAnswers-length [] [] are = refl
+AreAnswers-length [] (e ∷ journal) are = absurd are
+AreAnswers-length (c ∷ calls) [] are = absurd are
+AreAnswers-length (c ∷ calls) (e ∷ journal) are = ap suc (AreAnswers-length calls journal are.2)
+
+-- with their lines
+
+pub HasWrittenAll-none : (granules : ℕ) (device : PmemState) (text : List ℕ) → IsNewArena granules device → HasWrittenAll granules device [] text text
+HasWrittenAll-none granules device text new = record {
+  journal = [];
+  machine = no_heap;
+  answered = HasAnsweredAll-none granules device new;
+  is = sym (append-nil text);
+}
+
+-- one call of a list more, and its line
+pub HasWrittenAll-more : (granules : ℕ) (old new : PmemState) (calls : List TraceCall) (i : ℕ) (d : TraceCall) (text more further : List ℕ) (entry : Entry) →
+    HasWrittenAll granules old (take i calls) text more → i < length calls → i < 2 ^ 63 → entry.seat ≡ (get_or calls i d).thread → entry.call ≡ (get_or calls i d).call →
+    HasAnswered old new (get_or calls i d).call entry.reply → further ≡ more ++ entry_line entry → HasWrittenAll granules new (take (i + 1) calls) text further
+HasWrittenAll-more granules old new calls i d text more further entry all here small seat asked answered is =
+    let call = get_or calls i d in
+    let one : suc i ≡ i + 1 = omega arith in
+    let many : length all.journal ≡ i = AreAnswers-length (take i calls) all.journal all.answered.answers ∙ length-take-le i calls (omega (arith, here)) in
+    let next =
+    HasAnsweredAll-entry granules old new (take i calls) all.journal all.machine call entry all.answered seat asked
+    (subst (λ (c : Call). HasAnswered old new c entry.reply) (sym asked) answered) (omega (arith, many, small)) in
+    record {
+      journal = all.journal ++ entry ∷ [];
+      machine = next.0;
+      answered =
+          subst (λ (cs : List TraceCall). HasAnsweredAll granules new cs (all.journal ++ entry ∷ []) next.0) (sym (take-suc calls i d here) ∙ ap (λ n. take n calls) one) next.1;
+      is = is ∙ ap (λ (xs : List ℕ). xs ++ entry_line entry) all.is ∙ flat_map_more entry_line text all.journal entry;
+    }
+
+-- the report of the calls, and the device that went through their journal
+pub IsReplayed-written : (granules : ℕ) (device : PmemState) (calls : List TraceCall) (head text report : List ℕ) → HasWrittenAll granules device calls head text → head ≡ arena_line 0 (length calls) →
+    report ≡ text ++ heap_text (blocks_of (heap (tables_of (words_of device)))) → IsReady device → IsExactImage (words_of device) → IsReplayed granules calls report device
+IsReplayed-written granules device calls head text report all is_head is_report ready exact =
+    let lines = flat_map entry_line all.journal in
+    let blocks = heap_text (blocks_of all.machine.block) in
+    let many : length calls ≡ length all.journal = sym (AreAnswers-length calls all.journal all.answered.answers) in
+    let listed : heap_text (blocks_of (heap (tables_of (words_of device)))) ≡ blocks = ap heap_text (blocks_of-same (heap (tables_of (words_of device))) all.machine.block all.answered.state.blocks) in
+    let first : text ≡ arena_line 0 (length all.journal) ++ lines = all.is ∙ ap (λ xs. xs ++ lines) (is_head ∙ ap (arena_line 0) many) in
+    record {
+      journal = all.journal;
+      machine = all.machine;
+      report = record {
+        legal = all.answered.leads;
+        answers = all.answered.answers;
+        apart = all.answered.apart;
+        is = is_report ∙ ap (λ xs. text ++ xs) listed ∙ ap (λ xs. xs ++ blocks) first;
+      };
+      run = record { quiet = ready.quiet; exact = exact; state = all.answered.state; begins = all.answered.begins; last = all.answered.last };
+    }

@@ -1,0 +1,21 @@
+// The calls of a trace, made on an arena: what `replay` reports, and what a crash at a chosen event leaves.
+//
+// `replay` makes all calls and gives the report and the device that went through them; `crash` makes the calls up to the
+// one under way at an event, takes the image that a seed picks, and reports the heap of the image. What they promise
+// stands in `specs/Replay.antt` (`IsReport`, `HasRun`) and `specs/Crash.antt` (`IsCrashReport`, `HasFewer`), in the words
+// of the heap machine and of images. The calls settle both: `law_of_one_report`, `law_of_one_run`. The rest of `specs/` is
+// for the functions below them.
+//
+// The layer above has a parsed trace and knows where devices come from and where bytes go.
+#![tactic(auto)]
+
+mod blocks;
+mod crashing;
+mod journal;
+mod laws;
+mod opening;
+mod replaying;
+
+pub use crashing::{CrashFault, crash};
+pub use laws::{law_of_one_report, law_of_one_run};
+pub use replaying::{Replayed, replay};
