@@ -12,3 +12,11 @@ pub mod LargeSound
 pub mod Heaps
 pub mod LargePlaces
 pub mod LargeHeaps
+pub mod Small
+pub mod SmallSound
+pub mod SmallPlaces
+pub mod SmallHeaps
+pub mod Slabs
+pub mod SlabSound
+pub mod SlabPlaces
+pub mod SlabHeaps

@@ -1,0 +1,226 @@
+-- A small block and its root come and go, under an entry of the root: what the tables say then of blocks and claims.
+use Rattle.std.proofs.Common.{◌≡◌, ◌≢◌, ◌⊎◌, ◌==◌, ◌&&◌, ◌||◌, ℕ, zero, suc, ◌+◌, ◌*◌, ◌/◌, ◌<◌, ◌≤◌, Bool, true, false, true≢false, refl, sym, ap, subst, ◌∙◌, arith, inl, inr, ⊎_elim, ltb, Option, Some, None}
+use Rattle.std.proofs.lemmas.Bool.{cases_eq, cases_lt, cond-true, eq-eqb, lt-ltb, and_from}
+use native.Mathlib.Nat.{mul-le-mul_right}
+use Rattle.size_classes.specs.Classes.{class_size, class_capacity}
+use Rattle.size_classes.proofs.Spacing.{class_size-least}
+use Rattle.image_tables.specs.Tables.{OpenEntry, Tables}
+use Rattle.heap_model.specs.Machine.{Bounds, Range, AreApart, LiesIn, slab_block}
+use Rattle.heap_model.proofs.Slabbing.{LiesIn-block}
+use Rattle.heap_check.specs.Heap.{slab_of, any_below, is_old_of, is_old, size_at, entry_at, IsClaim, Holds, HoldsBit, HoldsOld}
+use Rattle.heap_check.specs.Sound.{Covers, IsInSlab, IsEmptySlab, IsSound}
+use Rattle.image_tables.proofs.Stores.{put_at, put_at-same, put_at-other}
+use Rattle.heap_check.proofs.Claims.{NamesOnly, NamesOnly-none, NamesOnly-some, plain_size, IsClaim-word}
+use Rattle.heap_check.proofs.Geometry.{Covers-slab, is_large-slab, slab_of-here}
+
+-- one bit of the slabs' bitmaps is this
+
+abbrev pub put_bit : (ℕ → ℕ → Bool) → ℕ → ℕ → Bool → ℕ → ℕ → Bool
+put_bit bit start number on = put_at bit start (put_at (bit start) number on)
+
+pub put_bit-same : (bit : ℕ → ℕ → Bool) (start number : ℕ) (on : Bool) → put_bit bit start number on start number ≡ on
+put_bit-same bit start number on = ap (λ (row : ℕ → Bool). row number) (put_at-same bit start (put_at (bit start) number on)) ∙ put_at-same (bit start) number on
+
+pub put_bit-other : (bit : ℕ → ℕ → Bool) (start number : ℕ) (on : Bool) (s i : ℕ) → (s ≢ start) ⊎ (i ≢ number) → put_bit bit start number on s i ≡ bit s i
+put_bit-other bit start number on s i either = ⊎_elim
+    (λ (differ : s ≢ start). ap (λ (row : ℕ → Bool). row i) (put_at-other bit start s (put_at (bit start) number on) differ))
+    (λ (differ : i ≢ number). ⊎_elim
+    (λ (same : s ≡ start).
+    ap (λ s. put_bit bit start number on s i) same
+    ∙ ap (λ (row : ℕ → Bool). row i) (put_at-same bit start (put_at (bit start) number on))
+    ∙ put_at-other (bit start) number i on differ
+    ∙ ap (λ s. bit s i) (sym same))
+    (λ (other : s ≢ start). ap (λ (row : ℕ → Bool). row i) (put_at-other bit start s (put_at (bit start) number on) other))
+    (cases_eq s start))
+    either
+
+-- a place in the bitmaps is this one, or differs
+pub cases_bit : (start number s i : ℕ) → ((s ≡ start) × (i ≡ number)) ⊎ ((s ≢ start) ⊎ (i ≢ number))
+cases_bit start number s i = ⊎_elim
+    (λ same. ⊎_elim (λ too. inl (same, too)) (λ differ. inr (inr differ)) (cases_eq i number))
+    (λ differ. inr (inl differ))
+    (cases_eq s start)
+
+-- the tables where the block's bit and the root's word are these, and this entry is open
+abbrev pub with_small : Tables → ℕ → ℕ → Bool → ℕ → ℕ → Option OpenEntry → Tables
+with_small t start number on root word entry = record t { bit = put_bit t.bit start number on; root = put_at t.root root word; entry = entry }
+
+-- the entry of a root's block
+abbrev pub small_entry : ℕ → ℕ → OpenEntry
+small_entry root at = record { root = root; at = at; old = false; place = 0 }
+
+-- block `number` of the slab's class
+abbrev pub block_in : Tables → ℕ → ℕ → Range
+block_in t start number = slab_block start (t.class start) number
+
+-- A block of a slab that overlaps no other root's: the root has it, or it is free and the root has none.
+pub record IsSmallPlace (b : Bounds) (t : Tables) (root start number : ℕ) : Type 0 where
+  pub sound : IsSound b t
+  pub closed : t.entry ≡ None
+  pub first : 0 < b.first
+  pub rooted : root < b.roots
+  pub slab : t.slab start ≡ true
+  pub below : number < class_capacity (t.class start)
+  pub calm : (other : ℕ) → t.slab other ≡ true → t.kind other ≢ 2
+  pub no_old : is_old t start (block_in t start number).at ≡ false
+  pub was : ((t.bit start number ≡ false) × (t.root root ≡ 0)) ⊎ ((t.bit start number ≡ true) × (t.root root ≡ (block_in t start number).at))
+  pub apart : (other : ℕ) (range : Range) → other ≢ root → IsClaim t other range → AreApart range (block_in t start number)
+  pub lived : (other : ℕ) → other ≢ start → ¬ (IsEmptySlab t other)
+
+-- with the entry open, bit and word are there or not; with none, both are there or neither
+pub record IsSmallStage (root at : ℕ) (on : Bool) (word : ℕ) (entry : Option OpenEntry) : Type 0 where
+  pub is : ((entry ≡ Some (small_entry root at)) × ((word ≡ 0) ⊎ (word ≡ at))) ⊎ ((entry ≡ None) × (((on ≡ false) × (word ≡ 0)) ⊎ ((on ≡ true) × (word ≡ at))))
+
+-- the root's word is 0 or the address, in each case
+pub stage_word : {root at : ℕ} {on : Bool} {word : ℕ} {entry : Option OpenEntry} → IsSmallStage root at on word entry → (word ≡ 0) ⊎ (word ≡ at)
+stage_word {root} {at} {on} {word} {entry} stage = ⊎_elim (λ open'. open'.1) (λ shut. ⊎_elim (λ none. inl none.1) (λ both. inr both.1) shut.1) stage.is
+
+-- the entry names the root or none
+pub stage_names : {root at : ℕ} {on : Bool} {word : ℕ} {entry : Option OpenEntry} → IsSmallStage root at on word entry → NamesOnly entry root
+stage_names {root} {at} {on} {word} {entry} stage = ⊎_elim
+    (λ open'. subst (λ e. NamesOnly e root) (sym open'.0) (NamesOnly-some (small_entry root at)))
+    (λ shut. NamesOnly-none entry root shut.0)
+    stage.is
+
+-- what the entry says of its root
+pub entry_at-own : (root at : ℕ) → entry_at (Some (small_entry root at)) root ≡ at
+entry_at-own root at = cond-true (root == root) at 0 (eq-eqb root root refl)
+
+-- blocks of one class in a slab are apart
+pub blocks_apart : (s c i j : ℕ) → i ≢ j → AreApart (slab_block s c i) (slab_block s c j)
+blocks_apart s c i j differ = ⊎_elim
+    (λ (before : i < j). inl (omega (arith, rows (class_size c) i j before)))
+    (λ (behind : j ≤ i). inr (omega (arith, rows (class_size c) j i (omega (arith, behind, differ)))))
+    (cases_lt i j)
+  where
+    rows : (size i j : ℕ) → i < j → i * size + size ≤ j * size
+    rows size i j before =
+        let all : (i + 1) * size ≤ j * size = mul-le-mul_right size (omega (arith, before)) in
+        let step : (i + 1) * size ≡ i * size + size = omega arith in
+        omega (arith, all, step)
+
+-- so one that begins where another does is that one
+pub one_number : (s c i j : ℕ) → 0 < class_size c → (slab_block s c i).at ≡ (slab_block s c j).at → i ≡ j
+one_number s c i j some same = ⊎_elim
+    (λ is. is)
+    (λ differ. absurd (⊎_elim (λ x. omega (arith, x, same, some)) (λ x. omega (arith, x, same, some)) (blocks_apart s c i j differ)))
+    (cases_eq i j)
+
+any_below-true : (test : ℕ → Bool) (n k : ℕ) → k < n → test k ≡ true → any_below test n ≡ true
+any_below-true test zero k below passes = absurd (omega arith)
+any_below-true test (suc n) k below passes = ⊎_elim
+    (λ (lower : k < n). ap (λ b. test n || b) (any_below-true test n k lower passes) ∙ or-true (test n))
+    (λ (last : n ≤ k). let same : k ≡ n = omega (arith, below, last) in ap (λ b. b || any_below test n) (ap test (sym same) ∙ passes))
+    (cases_lt k n)
+  where
+    or-true : (b : Bool) → (b || true) ≡ true
+    or-true true = refl
+    or-true false = refl
+
+-- a live old block that a slab holds is seen at its address
+pub is_old-held : (t : Tables) (start at : ℕ) (range : Range) → HoldsOld t start range → range.at ≡ at → is_old t start at ≡ true
+unfolding is_old_of
+is_old-held t start at range old here =
+    any_below-true _ (t.entries start) old.place old.below
+    (and_from (t.live start old.place) _ old.live (eq-eqb _ at (sym (ap (λ (x : Range). x.at) old.is) ∙ here)))
+
+-- what no place is asked for: the blocks that slabs hold are the same but for this one
+
+module _ (t : Tables) (start number : ℕ) (on : Bool) (root word : ℕ) (entry : Option OpenEntry) where
+  abbrev new : Tables
+  new = with_small t start number on root word entry
+
+  same_block : (s i : ℕ) → s ≡ start → i ≡ number → block_in t s i ≡ block_in t start number
+  same_block s i same too = ap (λ s. slab_block s (t.class s) i) same ∙ ap (λ i. block_in t start i) too
+
+  pub Holds-back : (s : ℕ) (range : Range) → Holds (with_small t start number on root word entry) s range → Holds t s range ⊎ (range ≡ block_in t start number)
+  Holds-back s range holds = ⊎_elim
+      (λ (bit : HoldsBit (with_small t start number on root word entry) s range). ⊎_elim
+      (λ here. inr (bit.is ∙ same_block s bit.number here.0 here.1))
+      (λ elsewhere. inl (record {
+        slab = holds.slab;
+        block = inl (record { number = bit.number; below = bit.below; read = bit.read; set = sym (put_bit-other t.bit start number on s bit.number elsewhere) ∙ bit.set; is = bit.is });
+      }))
+      (cases_bit start number s bit.number))
+      (λ (old : HoldsOld (with_small t start number on root word entry) s range).
+      inl (record { slab = holds.slab; block = inr (record { place = old.place; below = old.below; live = old.live; is = old.is }) }))
+      holds.block
+
+  pub Holds-forth : (s : ℕ) (range : Range) → Holds t s range → Holds (with_small t start number on root word entry) s range ⊎ (range ≡ block_in t start number)
+  Holds-forth s range holds = ⊎_elim
+      (λ (bit : HoldsBit t s range). ⊎_elim
+      (λ here. inr (bit.is ∙ same_block s bit.number here.0 here.1))
+      (λ elsewhere. inl (record {
+        slab = holds.slab;
+        block = inl (record { number = bit.number; below = bit.below; read = bit.read; set = put_bit-other t.bit start number on s bit.number elsewhere ∙ bit.set; is = bit.is });
+      }))
+      (cases_bit start number s bit.number))
+      (λ (old : HoldsOld t s range). inl (record { slab = holds.slab; block = inr (record { place = old.place; below = old.below; live = old.live; is = old.is }) }))
+      holds.block
+
+  pub Covers-back : (s k : ℕ) → Covers (with_small t start number on root word entry) s k → Covers t s k
+  Covers-back s k covers = record { low = covers.low; high = covers.high }
+
+module _ {b : Bounds} {t : Tables} {root start number : ℕ} (place : IsSmallPlace b t root start number) where
+  abbrev block : Range
+  block = block_in t start number
+
+  size_some : 16 ≤ class_size (t.class start)
+  size_some = class_size-least (t.class start) (place.sound.slabs start place.slab).class
+
+  -- the block lies in its slab
+  pub IsInSlab-block : IsInSlab t start (block_in t start number).at
+  IsInSlab-block =
+      let inside = LiesIn-block start (t.class start) block (record { number = number; within = place.below; is = refl }) in
+      record { slab = place.slab; low = inside.low; high = omega (arith, inside.high, size_some) }
+
+  pub block_some : (block_in t start number).at ≢ 0
+  block_some none = omega (arith, none)
+
+  pub entry_at-none : (other : ℕ) → entry_at t.entry other ≡ 0
+  entry_at-none other = ap (λ e. entry_at e other) place.closed
+
+  in_here : slab_of t.slab (block.at / 16384) ≡ start
+  in_here = slab_of-here place.sound start (block.at / 16384) place.slab (omega (arith, IsInSlab-block.low)) (omega (arith, IsInSlab-block.high))
+
+  -- its size, by the slab
+  pub plain_size-block : plain_size t (block_in t start number).at ≡ (block_in t start number).size
+  plain_size-block = rw (is_large-slab place.sound start block.at IsInSlab-block, in_here, place.no_old) refl
+
+  -- and by the entry
+  pub size_at-own : (on : Bool) (word : ℕ) →
+      size_at (with_small t start number on root word (Some (small_entry root (block_in t start number).at))) root (block_in t start number).at ≡ (block_in t start number).size
+  size_at-own on word =
+      let own = entry_at-own root block.at in
+      let test : ((entry_at (Some (small_entry root block.at)) root == block.at) && ltb 0 block.at) ≡ true = and_from _ _ (eq-eqb _ _ own) (lt-ltb 0 block.at (omega arith)) in
+      rw (is_large-slab place.sound start block.at IsInSlab-block, test, in_here) refl
+
+  -- no other root's word is its address
+  pub lone : (other : ℕ) → other ≢ root → t.root other ≢ (block_in t start number).at
+  lone other differ is =
+      let claim = IsClaim-word t other (entry_at-none other) (λ none. block_some (sym is ∙ none)) in
+      let wide : plain_size t (t.root other) ≡ block.size = ap (plain_size t) is ∙ plain_size-block in
+      ⊎_elim (λ x. omega (arith, x, is, wide, size_some)) (λ x. omega (arith, x, is, size_some)) (place.apart other _ differ claim)
+
+  -- no other slab has its place
+  pub same_slab : (other : ℕ) → IsInSlab t other (block_in t start number).at → other ≡ start
+  same_slab other inside = place.sound.disjoint other start (block.at / 16384)
+      (Covers-slab t other (block.at / 16384) inside.slab (omega (arith, inside.low)) (omega (arith, inside.high)))
+      (Covers-slab t start (block.at / 16384) place.slab (omega (arith, IsInSlab-block.low)) (omega (arith, IsInSlab-block.high)))
+
+  -- once its bit is clear no slab holds it
+  pub unheld : (other word : ℕ) (entry : Option OpenEntry) → ¬ (Holds (with_small t start number false root word entry) other (block_in t start number))
+  unheld other word entry holds =
+      let state = place.sound.slabs other holds.slab in
+      let inside : LiesIn other block → IsInSlab t other block.at = λ lies. record { slab = holds.slab; low = lies.low; high = omega (arith, lies.high, size_some) } in
+      ⊎_elim
+      (λ (bit : HoldsBit (with_small t start number false root word entry) other block).
+      let same = same_slab other (inside (LiesIn-block other (t.class other) block (record { number = bit.number; within = bit.below; is = bit.is }))) in
+      let here : (block_in t start number).at ≡ (block_in t start bit.number).at = ap (λ (x : Range). x.at) bit.is ∙ ap (λ s. (block_in t s bit.number).at) same in
+      let number_is = one_number start (t.class start) number bit.number (omega (arith, size_some)) here in
+      true≢false (sym bit.set ∙ ap (λ s. put_bit t.bit start number false s bit.number) same ∙ ap (λ i. put_bit t.bit start number false start i) (sym number_is) ∙ put_bit-same t.bit start number false))
+      (λ (old : HoldsOld (with_small t start number false root word entry) other block).
+      let same = same_slab other (inside (LiesIn-block other (t.old other) block (record { number = t.number other old.place; within = state.small old.place old.below; is = old.is }))) in
+      let was : HoldsOld t other block = record { place = old.place; below = old.below; live = old.live; is = old.is } in
+      true≢false (sym (is_old-held t start block.at block (subst (λ s. HoldsOld t s block) same was) refl) ∙ place.no_old))
+      holds.block
