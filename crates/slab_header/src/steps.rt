@@ -6,7 +6,7 @@ ghost use Rattle.pmem_lines.specs.Events.{IsQuiet, CrashOnly};
 ghost use Rattle.pmem_lines.specs.Pmem.{words_of, HasRoom, Appends};
 ghost use Rattle.image_tables.specs.Tables.{bitmap_word, index_word};
 ghost use Rattle.slab_header.specs.Index.{word_of_index};
-ghost use Rattle.slab_header.specs.Steps.{bitmap_words, make_events, put_events, with_bit, IsMade, KeepsOutside, PutsBit};
+ghost use Rattle.slab_header.specs.Steps.{bitmap_words, make_events, put_events, with_bit, IsMade, KeepsOutside, PutsBit, PutsIndex};
 
 use crate::{IndexEntry, SlabState, index_word, state_word};
 use durable_steps::{flush_lines, store_words};
@@ -30,9 +30,10 @@ fn clear_bitmap() -> [u64; BITMAP_WORDS]
 /// Makes a slab of a class, below 36, at this byte, a multiple of 16384: the 64 words of its bitmap are cleared, the state
 /// word says Normal, and both are made durable under one fence, by 75 events.
 ///
-/// Every word outside the first 72 of the slab stays the same, so its index table and its blocks do; that holds after a
-/// crash within the events too. Such a crash may leave any mixture of old and new in the state word and the bitmap, so
-/// nothing may read them as a slab's before the call is over.
+/// Every word outside the first 72 of the slab stays the same, so its index table and its blocks do, and where the log has
+/// no slab at that granule of the heap, so does all that the words of the arena say; that holds after a crash within the
+/// events too. Such a crash may leave any mixture of old and new in the state word and the bitmap, so nothing may read
+/// them as a slab's before the call is over.
 pub fn make_slab<P: Pmem>(p: &mut P, at: u32, class: u8)
     requires aligned { at % 16384 ≡ 0 }
     requires inside { at + 2048 ≤ 8 * length (words_of (P.state p.old)) }
@@ -80,6 +81,7 @@ pub fn put_index<P: Pmem>(p: &mut P, at: u32, place: u32, e: IndexEntry)
     requires number { e.number < 2 ^ 16 }
     requires room { HasRoom (P.state p.old) 2 }
     ensures appends { Appends (P.state p.old) (P.state p.new) (put_events (8 * index_word (at / 16384) place) (word_of_index e)) }
+    ensures entry { PutsIndex (words_of (P.state p.old)) (words_of (P.state p.new)) (at / 16384) place e }
 {
     let entry_at = index_at(at, place);
     p.store(entry_at, index_word(e));
