@@ -1,7 +1,7 @@
 -- The steps on the header of a slab: their events, and what they leave. A slab is named by the granule at which it
 -- begins, `start`, or by its first byte, `at`.
-use Rattle.std.specs.Prelude.{◌≡◌, ◌≢◌, ◌⊎◌, ℕ, ◌+◌, ◌-◌, ◌/◌, ◌^◌, ◌<◌, ◌≤◌, Bool, true, false, List, [], ◌∷◌, ◌++◌, length, if◌then◌else◌}
-use Rattle.pmem_lines.specs.Words.{word_at, zeros}
+use Rattle.std.specs.Prelude.{◌≡◌, ◌≢◌, ◌⊎◌, ℕ, ◌+◌, ◌-◌, ◌/◌, ◌%◌, ◌^◌, ◌<◌, ◌≤◌, Bool, true, false, List, [], ◌∷◌, ◌++◌, length, if◌then◌else◌}
+use Rattle.pmem_lines.specs.Words.{word_at, put_word, zeros}
 use Rattle.pmem_lines.specs.declared.event.Event.{Event}
 use Rattle.pmem_lines.specs.declared.event.Event.TheVariants.{Store, Flush, Fence}
 use Rattle.durable_steps.specs.Rows.{stores_at, flushes_of}
@@ -13,7 +13,7 @@ use Rattle.image_tables.specs.Updates.{put_bit, put_index}
 use Rattle.slab_header.specs.declared.state.SlabState.TheVariants.{Normal}
 use Rattle.slab_header.specs.declared.index.IndexEntry.{IndexEntry}
 use Rattle.slab_header.specs.State.{word_of_state, SaysOfState}
-use Rattle.slab_header.specs.Index.{SaysOfIndex}
+use Rattle.slab_header.specs.Index.{word_of_index, SaysOfIndex}
 
 -- how many lines of a slab's header the making of it writes: that of the state word, and those of the bitmap
 unfoldable pub made_lines : ℕ
@@ -63,7 +63,17 @@ pub record PutsBit (words new : List ℕ) (start i : ℕ) (on : Bool) : Type 0 w
   pub others : (j : ℕ) → j < 4096 → j ≢ i → slab_bit new start j ≡ slab_bit words start j
   pub tables : AreSlabsInHeap words → is_slab words start ≡ true → tables_of new ≡ put_bit (tables_of words) start i on
 
+-- The store puts the bit over any words that have the same word there: so it does where a crash keeps it, and of the
+-- other stores some.
+pub record PutsBitOver (words : List ℕ) (start i : ℕ) (on : Bool) : Type 0 where
+  pub each : (image : List ℕ) → length image ≡ length words → word_at image (bitmap_word start i) ≡ word_at words (bitmap_word start i) →
+      PutsBit image (put_word image (bitmap_word start i) (with_bit (word_at words (bitmap_word start i)) (i / 8 % 64) on)) start i on
+
 -- A place of the index table has the entry. For a slab of an arena that is all that changes of what the words say.
 pub record PutsIndex (words new : List ℕ) (start place : ℕ) (entry : IndexEntry) : Type 0 where
   pub says : SaysOfIndex (word_at new (index_word start place)) entry
   pub tables : AreSlabsInHeap words → is_slab words start ≡ true → tables_of new ≡ put_index (tables_of words) start place entry.live entry.number
+
+-- the store puts the entry over any words
+pub record PutsIndexOver (words : List ℕ) (start place : ℕ) (entry : IndexEntry) : Type 0 where
+  pub each : (image : List ℕ) → length image ≡ length words → PutsIndex image (put_word image (index_word start place) (word_of_index entry)) start place entry
