@@ -7,8 +7,10 @@ use Rattle.pool_layout.specs.Layout.{layout_of}
 use Rattle.pool_layout.specs.Places.{root_word, heap_word}
 use Rattle.pool_layout.specs.Header.{version_in}
 use Rattle.image_tables.specs.Extents.{extent_at}
-use Rattle.image_tables.specs.Tables.{Tables, large_of, is_slab_of, is_slab, tables_of}
-use Rattle.image_tables.proofs.Stores.{put_at, put_at-same, put_at-other, AreSlabsInHeap, version_in-off_log, heap_word-off_log, tables_off_log, version_in-put_root, heap_word-put_root, extent_at-put_root, tables_put_root}
+use Rattle.image_tables.specs.Tables.{Tables, large_of, is_slab_of, is_slab, AreSlabsInHeap, tables_of}
+use Rattle.image_tables.specs.Updates.{put_at}
+use Rattle.image_tables.proofs.Updates.{put_at-same, put_at-other}
+use Rattle.image_tables.proofs.Stores.{version_in-off_log, heap_word-off_log, tables_off_log, version_in-put_root, heap_word-put_root, extent_at-put_root, tables_put_root}
 use Rattle.image_tables.proofs.Tables.{large_table, slab_table}
 use Rattle.book_log.specs.declared.entry.LogEntry.{LogEntry}
 use Rattle.book_log.specs.Entry.{start_of, extent_of}

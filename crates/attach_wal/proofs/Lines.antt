@@ -7,12 +7,12 @@ use Rattle.pool_layout.specs.Layout.{layout_of}
 use Rattle.pool_layout.specs.Places.{fields_word, root_word, wal_word, heap_word}
 use Rattle.pool_layout.specs.Header.{version_field, version_in}
 use Rattle.image_tables.specs.Extents.{extent_at}
-use Rattle.image_tables.specs.Tables.{OpenEntry, entry_of_word, entry_among, wal_lines, large_of, is_slab_of, is_slab, state_word, bitmap_word, index_word, bit_at, tables_of}
+use Rattle.image_tables.specs.Tables.{OpenEntry, entry_of_word, entry_among, wal_lines, large_of, is_slab_of, is_slab, AreSlabsInHeap, state_word, bitmap_word, index_word, bit_at, tables_of}
 use Rattle.image_tables.proofs.Places.{log_word-low}
 use Rattle.image_tables.proofs.Logs.{IsOffLog}
 use Rattle.image_tables.proofs.Extents.{extent_at-elsewhere}
-use Rattle.image_tables.proofs.Stores.{AreSlabsInHeap, tables_but, wal_word-low, log_word-high, state_word-high, bitmap_word-high, index_word-high, bit_at-same}
-use Rattle.attach_wal.specs.Wal.{with_entry, HasSlabsInHeap, HasNoOther}
+use Rattle.image_tables.proofs.Stores.{tables_but, wal_word-low, log_word-high, state_word-high, bitmap_word-high, index_word-high, bit_at-same, slab_bit-same}
+use Rattle.attach_wal.specs.Wal.{with_entry, HasNoOther}
 
 -- the entry of a word, if it is not 0
 abbrev pub entry_or_none : ℕ → Option OpenEntry
@@ -48,14 +48,13 @@ IsOffLog-wal words line below = record {
 }
 
 -- a store to a write-ahead word changes the open entry, and nothing else
-pub tables_put_wal : (words : List ℕ) (line value : ℕ) → line < wal_lines → wal_word line < length words → HasSlabsInHeap words → HasNoOther words line →
+pub tables_put_wal : (words : List ℕ) (line value : ℕ) → line < wal_lines → wal_word line < length words → AreSlabsInHeap words → HasNoOther words line →
     tables_of (put_word words (wal_word line) value) ≡ with_entry (tables_of words) (entry_or_none value)
 unfolding tables_of
-tables_put_wal words line value below inside in_heap alone =
+tables_put_wal words line value below inside slabs alone =
     let at = wal_word line in
     let new = put_word words at value in
     let version = version_in words in
-    let slabs : AreSlabsInHeap words = record { low = in_heap.low } in
     let same_version : version_in new ≡ version = ap version_field (word_at-put_other words at fields_word value (λ e. omega arith)) in
     let extent : (start : ℕ) → extent_at new start ≡ extent_at words start = λ start. extent_at-elsewhere words at value start (IsOffLog-wal words line below) in
     let slab : (start : ℕ) → is_slab new start ≡ is_slab words start = λ start. ap is_slab_of (extent start) in
@@ -74,4 +73,4 @@ tables_put_wal words line value below inside in_heap alone =
     (λ other less apart. word_at-put_other words at (wal_word other) value (λ e. apart (omega (arith, e))) ∙ alone.closed other less apart)
     ∙ ap entry_or_none (word_at-put_same words at at value refl inside))
     (λ start. ap large_of (extent start))
-    (bit_at-same words new slab (λ start i is less. heap (bitmap_word start i) (bitmap_word-high words start i slabs is)))
+    (λ start i. bit_at-same words new start i (slab start) (λ is less. slab_bit-same words new start i (heap (bitmap_word start i) (bitmap_word-high words start i slabs is))))

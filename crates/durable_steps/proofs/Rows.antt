@@ -1,11 +1,12 @@
--- What holds of rows of stores and flushes.
-use Rattle.std.proofs.Common.{◌≡◌, ◌≢◌, ◌⊎◌, ℕ, zero, suc, ◌+◌, ◌-◌, ◌*◌, ◌/◌, ◌%◌, ◌<◌, ◌≤◌, List, [], ◌∷◌, ◌++◌, length, get_or, sym, refl, ◌∙◌, arith, inl, inr, ⊎_elim, subst, append_assoc, true, ◌==◌, ◌&&◌}
-use Rattle.pmem_lines.specs.Words.{word_at}
-use Rattle.pmem_lines.specs.declared.event.Event.{Event}
-use Rattle.pmem_lines.specs.declared.event.Event.TheVariants.{Flush, Fence}
-use Rattle.pmem_lines.specs.Events.{IsStored, IsQuiet, is_flushed, is_fenced, CrashOnly}
-use Rattle.pmem_lines.proofs.Images.{by_blend}
+-- What holds of rows of stores and flushes: what they store, what is read behind them, and when they are quiet.
+use Rattle.std.proofs.Common.{◌≡◌, ◌≢◌, ◌⊎◌, ℕ, zero, suc, ◌+◌, ◌-◌, ◌*◌, ◌/◌, ◌%◌, ◌<◌, ◌≤◌, List, [], ◌∷◌, ◌++◌, length, get_or, sym, refl, ap, ◌∙◌, arith, inl, inr, ⊎_elim, subst, append_assoc, true, ◌==◌, ◌&&◌}
 use Rattle.std.proofs.lemmas.Bool.{eq-eqb, cases_eq, or_left, or_right, and_from}
+use Rattle.pmem_lines.specs.Words.{word_at, put_word}
+use Rattle.pmem_lines.proofs.Words.{word_at-put_same, word_at-put_other, length-put_word}
+use Rattle.pmem_lines.specs.declared.event.Event.{Event}
+use Rattle.pmem_lines.specs.declared.event.Event.TheVariants.{Store, Flush, Fence}
+use Rattle.pmem_lines.specs.Events.{reading, IsStored, IsQuiet, is_flushed, is_fenced, CrashOnly}
+use Rattle.pmem_lines.proofs.Images.{by_blend}
 use Rattle.durable_steps.specs.Rows.{stores_at, flushes_of, lines_of, row_events, IsOldOrNewRow}
 
 -- one flush more
@@ -16,7 +17,7 @@ flushes_more line n i h =
     rw (one, next) refl
 
 -- flushes store nothing
-IsStored-flushes : (line n : ℕ) (events : List Event) (word value : ℕ) → IsStored (flushes_of line n ++ events) word value → IsStored events word value
+pub IsStored-flushes : (line n : ℕ) (events : List Event) (word value : ℕ) → IsStored (flushes_of line n ++ events) word value → IsStored events word value
 IsStored-flushes line zero events word value s = s
 IsStored-flushes line (suc n) events word value s = IsStored-flushes (line + 1) n events word value s
 
@@ -48,45 +49,83 @@ IsStored-row at words word value s =
     (λ rest. absurd (IsStored-flushes (at / 64) (lines_of at (length words)) (Fence ∷ []) word value rest))
     (IsStored-stores at words (flushes_of (at / 64) (lines_of at (length words)) ++ Fence ∷ []) word value (subst (λ es. IsStored es word value) (append_assoc (stores_at at words) (flushes_of (at / 64) (lines_of at (length words))) (Fence ∷ [])) s))
 
--- a line that is flushed is so behind stores too
-is_flushed-stores : (line at : ℕ) (words : List ℕ) (events : List Event) → is_flushed line events ≡ true → is_flushed line (stores_at at words ++ events) ≡ true
-is_flushed-stores line at [] events h = h
-is_flushed-stores line at (w ∷ words) events h = is_flushed-stores line (at + 8) words events h
+-- flushes change no word
+pub reading-flushes : (base : List ℕ) (line n : ℕ) → reading base (flushes_of line n) ≡ base
+reading-flushes base line zero = refl
+reading-flushes base line (suc n) = reading-flushes base (line + 1) n
 
--- a fence stands behind the flushes
-is_fenced-flushes : (first n : ℕ) → is_fenced (flushes_of first n ++ Fence ∷ []) ≡ true
-is_fenced-flushes first zero = refl
-is_fenced-flushes first (suc n) = is_fenced-flushes (first + 1) n
+-- a word before the words that are stored
+before_row : (base : List ℕ) (at : ℕ) (words : List ℕ) (k : ℕ) → k < at / 8 → word_at (reading base (stores_at at words)) k ≡ word_at base k
+before_row base at [] k before = refl
+before_row base at (w ∷ words) k before =
+    before_row (put_word base (at / 8) w) (at + 8) words k (omega arith) ∙ word_at-put_other base (at / 8) k w (λ e. omega (arith, e))
 
--- each of the lines is flushed
-is_flushed-flushes : (line first n : ℕ) → first ≤ line → line < first + n → is_flushed line (flushes_of first n ++ Fence ∷ []) ≡ true
-is_flushed-flushes line first zero low high = absurd (omega arith)
-is_flushed-flushes line first (suc n) low high =
+-- one of the words that are stored
+pub row_word : (base : List ℕ) (at : ℕ) (words : List ℕ) (k : ℕ) → at / 8 ≤ k → k < at / 8 + length words → k < length base →
+    word_at (reading base (stores_at at words)) k ≡ get_or words (k - at / 8) 0
+row_word base at [] k low high inside = absurd (omega arith)
+row_word base at (w ∷ words) k low high inside =
+    let next = put_word base (at / 8) w in
     ⊎_elim
-    (λ (here : line ≡ first). or_left (first == line && is_fenced (flushes_of (first + 1) n ++ Fence ∷ [])) (is_flushed line (flushes_of (first + 1) n ++ Fence ∷ []))
-    (and_from (first == line) (is_fenced (flushes_of (first + 1) n ++ Fence ∷ [])) (eq-eqb first line (sym here)) (is_fenced-flushes (first + 1) n)))
-    (λ (other : line ≢ first). or_right (first == line && is_fenced (flushes_of (first + 1) n ++ Fence ∷ [])) (is_flushed line (flushes_of (first + 1) n ++ Fence ∷ []))
-    (is_flushed-flushes line (first + 1) n (omega (arith, other)) (omega arith)))
+    (λ (here : k ≡ at / 8).
+    let first : k - at / 8 ≡ 0 = omega (arith, here) in
+    before_row next (at + 8) words k (omega (arith, here))
+    ∙ word_at-put_same base (at / 8) k w (sym here) (omega (arith, here))
+    ∙ ap (λ j. get_or (w ∷ words) j 0) (sym first))
+    (λ (later : k ≢ at / 8).
+    let one : k - at / 8 ≡ suc (k - (at + 8) / 8) = omega (arith, later) in
+    row_word next (at + 8) words k (omega (arith, later)) (omega arith) (omega (arith, length-put_word base (at / 8) w))
+    ∙ ap (λ j. get_or (w ∷ words) j 0) (sym one))
+    (cases_eq k (at / 8))
+
+-- a fence stays one behind other events
+pub is_fenced-behind : (e f : List Event) → is_fenced f ≡ true → is_fenced (e ++ f) ≡ true
+is_fenced-behind [] f fenced = fenced
+is_fenced-behind (Store at value ∷ e) f fenced = is_fenced-behind e f fenced
+is_fenced-behind (Flush line ∷ e) f fenced = is_fenced-behind e f fenced
+is_fenced-behind (Fence ∷ e) f fenced = refl
+
+-- a line that is flushed is so behind other events
+pub is_flushed-behind : (line : ℕ) (e f : List Event) → is_flushed line f ≡ true → is_flushed line (e ++ f) ≡ true
+is_flushed-behind line [] f flushed = flushed
+is_flushed-behind line (Store at value ∷ e) f flushed = is_flushed-behind line e f flushed
+is_flushed-behind line (Flush other ∷ e) f flushed = or_right ((other == line) && is_fenced (e ++ f)) (is_flushed line (e ++ f)) (is_flushed-behind line e f flushed)
+is_flushed-behind line (Fence ∷ e) f flushed = is_flushed-behind line e f flushed
+
+-- each of the lines is flushed, where a fence follows
+pub is_flushed-flushes : (line first n : ℕ) (events : List Event) → first ≤ line → line < first + n → is_fenced events ≡ true → is_flushed line (flushes_of first n ++ events) ≡ true
+is_flushed-flushes line first zero events low high fenced = absurd (omega arith)
+is_flushed-flushes line first (suc n) events low high fenced =
+    let rest = flushes_of (first + 1) n ++ events in
+    ⊎_elim
+    (λ (here : line ≡ first). or_left (first == line && is_fenced rest) (is_flushed line rest)
+    (and_from (first == line) (is_fenced rest) (eq-eqb first line (sym here)) (is_fenced-behind (flushes_of (first + 1) n) events fenced)))
+    (λ (other : line ≢ first). or_right (first == line && is_fenced rest) (is_flushed line rest)
+    (is_flushed-flushes line (first + 1) n events (omega (arith, other)) (omega arith) fenced))
     (cases_eq line first)
 
--- flushes and a fence are quiet
-IsQuiet-flushes : (first n : ℕ) → IsQuiet (flushes_of first n ++ Fence ∷ [])
-IsQuiet-flushes first zero = tt
-IsQuiet-flushes first (suc n) = IsQuiet-flushes (first + 1) n
+-- flushes are quiet before quiet events
+pub IsQuiet-flushes : (first n : ℕ) (events : List Event) → IsQuiet events → IsQuiet (flushes_of first n ++ events)
+IsQuiet-flushes first zero events quiet = quiet
+IsQuiet-flushes first (suc n) events quiet = IsQuiet-flushes (first + 1) n events quiet
 
--- stores within the lines that are flushed are quiet
-IsQuiet-stores : (at : ℕ) (words : List ℕ) (first n : ℕ) → first ≤ at / 64 → (at + 8 * length words) ≤ 64 * (first + n) → IsQuiet (stores_at at words ++ (flushes_of first n ++ Fence ∷ []))
-IsQuiet-stores at [] first n low high = IsQuiet-flushes first n
-IsQuiet-stores at (w ∷ words) first n low high = (
-  is_flushed-stores (at / 64) (at + 8) words (flushes_of first n ++ Fence ∷ []) (is_flushed-flushes (at / 64) first n low (omega arith)),
-  IsQuiet-stores (at + 8) words first n (omega arith) (omega arith),
+-- stores to lines that quiet events flush are quiet
+pub IsQuiet-stores : (at : ℕ) (words : List ℕ) (events : List Event) → ((line : ℕ) → at / 64 ≤ line → 64 * line < at + 8 * length words → is_flushed line events ≡ true) → IsQuiet events →
+    IsQuiet (stores_at at words ++ events)
+IsQuiet-stores at [] events flushed quiet = quiet
+IsQuiet-stores at (w ∷ words) events flushed quiet = (
+  is_flushed-behind (at / 64) (stores_at (at + 8) words) events (flushed (at / 64) (omega arith) (omega arith)),
+  IsQuiet-stores (at + 8) words events (λ line low high. flushed line (omega arith) (omega arith)) quiet,
 )
 
 -- a row ends quiet
 pub IsQuiet-row : (at : ℕ) (words : List ℕ) → at % 8 ≡ 0 → 0 < length words → IsQuiet (row_events at words)
 IsQuiet-row at words aligned some =
-    subst IsQuiet (sym (append_assoc (stores_at at words) (flushes_of (at / 64) (lines_of at (length words))) (Fence ∷ [])))
-    (IsQuiet-stores at words (at / 64) (lines_of at (length words)) (omega arith) (omega arith))
+    let lines = lines_of at (length words) in
+    subst IsQuiet (sym (append_assoc (stores_at at words) (flushes_of (at / 64) lines) (Fence ∷ [])))
+    (IsQuiet-stores at words (flushes_of (at / 64) lines ++ Fence ∷ [])
+    (λ line low high. is_flushed-flushes line (at / 64) lines (Fence ∷ []) low (omega arith) refl)
+    (IsQuiet-flushes (at / 64) lines (Fence ∷ []) tt))
 
 -- each word of the row is old or new, and each other one is old
 pub row_crash : (base : List ℕ) (at : ℕ) (words : List ℕ) → CrashOnly base (row_events at words) (IsOldOrNewRow base at words)

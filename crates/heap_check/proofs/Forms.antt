@@ -6,9 +6,9 @@ use Rattle.pmem_lines.proofs.Words.{word_at-put_other, length-put_word}
 use Rattle.pool_layout.specs.Layout.{layout_of}
 use Rattle.pool_layout.specs.Places.{text_word, fields_word, root_word, wal_word}
 use Rattle.pool_layout.specs.Header.{version_field, granules_field, version_in, granules_in, fields_of, IsHeader}
-use Rattle.image_tables.specs.Tables.{is_slab_of, is_slab, where_slab, state_word, index_word, state_field, wal_lines, tables_of}
+use Rattle.image_tables.specs.Tables.{is_slab_of, is_slab, AreSlabsInHeap, where_slab, state_word, index_word, state_field, wal_lines, tables_of}
 use Rattle.image_tables.proofs.Logs.{SameLog-elsewhere}
-use Rattle.image_tables.proofs.Stores.{IsSameOffLog, AreSlabsInHeap, text-off_log, fields-off_log, wal_word-off_log, heap_word-off_log, state_word-high, index_word-high, IsOffLog-root, fields-put_root, wal_word-put_root, heap_word-put_root, extent_at-put_root}
+use Rattle.image_tables.proofs.Stores.{IsSameOffLog, text-off_log, fields-off_log, wal_word-off_log, heap_word-off_log, state_word-high, index_word-high, IsOffLog-root, fields-put_root, wal_word-put_root, heap_word-put_root, extent_at-put_root}
 use Rattle.book_log.specs.Book.{HasLog}
 use Rattle.book_log.proofs.Books.{HasLog-same}
 use Rattle.heap_model.specs.Machine.{Bounds}

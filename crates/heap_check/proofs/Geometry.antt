@@ -7,7 +7,8 @@ use Rattle.image_tables.specs.Tables.{Tables}
 use Rattle.heap_model.specs.Machine.{Bounds}
 use Rattle.heap_check.specs.Heap.{slab_of, is_large, is_old}
 use Rattle.heap_check.specs.Sound.{granules_at, Covers, IsInSlab, IsSound}
-use Rattle.image_tables.proofs.Stores.{put_at, put_at-other}
+use Rattle.image_tables.specs.Updates.{put_at}
+use Rattle.image_tables.proofs.Updates.{put_at-other}
 use Rattle.heap_check.proofs.Claims.{plain_size}
 
 -- extents

@@ -5,7 +5,8 @@ use Rattle.image_tables.specs.Tables.{Tables}
 use Rattle.heap_model.specs.Machine.{Bounds, Range, AreApart}
 use Rattle.heap_check.specs.Heap.{is_large, is_old, size_by, slab_of, entry_at, IsClaim, Holds, HoldsBit, HoldsOld}
 use Rattle.heap_check.specs.Sound.{granules_at, Covers, IsInSlab, IsLooseLarge, IsSound}
-use Rattle.image_tables.proofs.Stores.{put_at, put_at-same, put_at-other}
+use Rattle.image_tables.specs.Updates.{put_at}
+use Rattle.image_tables.proofs.Updates.{put_at-same, put_at-other}
 use Rattle.heap_check.proofs.Claims.{plain_size, IsNamed-claim}
 use Rattle.heap_check.proofs.Geometry.{granules_at-large, Covers-slab, is_large-parts, is_large-put, plain_size-large}
 use Rattle.heap_check.proofs.Within.{IsWithin, IsWithin-claim, IsWithin-start}

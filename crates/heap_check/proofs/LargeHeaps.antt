@@ -5,7 +5,7 @@ use Rattle.image_tables.specs.Tables.{Tables}
 use Rattle.heap_model.specs.Machine.{Bounds}
 use Rattle.heap_check.specs.Heap.{heap}
 use Rattle.heap_check.specs.Sound.{granules_at, Covers, IsVacant}
-use Rattle.image_tables.proofs.Stores.{put_at-same, put_at-other}
+use Rattle.image_tables.proofs.Updates.{put_at-same, put_at-other}
 use Rattle.heap_check.proofs.Claims.{plain_size}
 use Rattle.heap_check.proofs.Geometry.{granules_at-large, plain_size-start}
 use Rattle.heap_check.proofs.Heaps.{heap-none, heap-some, heap-same}

@@ -5,7 +5,7 @@ use Rattle.image_tables.specs.Tables.{Tables}
 use Rattle.heap_model.specs.Machine.{Bounds, Range}
 use Rattle.heap_check.specs.Heap.{is_large, IsClaim}
 use Rattle.heap_check.specs.Sound.{granules_at, Covers, IsInSlab, IsSlab, IsHeld, IsStanding, IsLooseLarge, IsEmptySlab, IsNearlyDone, IsSound, IsExact, IsSteady}
-use Rattle.image_tables.proofs.Stores.{put_at-same, put_at-other}
+use Rattle.image_tables.proofs.Updates.{put_at-same, put_at-other}
 use Rattle.heap_check.proofs.Claims.{NamesOnly-none, plain_size, IsNamed-claim}
 use Rattle.heap_check.proofs.Geometry.{granules_at-live, is_large-start, is_large-put, plain_size-start}
 use Rattle.heap_check.proofs.Within.{IsInSlab-held}

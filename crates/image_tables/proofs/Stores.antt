@@ -1,6 +1,6 @@
 -- What a store changes of the tables of an image.
-use Rattle.std.proofs.Common.{◌≡◌, ◌≢◌, ◌⊎◌, ◌==◌, ◌&&◌, ◌/◌, ◌%◌, ◌^◌, ◌<◌, ◌≤◌, if◌then◌else◌, ⊎_elim, inl, inr, ℕ, zero, suc, Bool, true, false, cond, eqb, ltb, Option, Some, None, List, length, refl, sym, ap, ◌∙◌, arith}
-use Rattle.std.proofs.lemmas.Bool.{cases_Bool, cases_eq, eq-eqb, ne_eqb, eqb-true, cond-true, cond-false, and_parts, ltb-true, lt-ltb}
+use Rattle.std.proofs.Common.{◌≡◌, ◌≢◌, ◌⊎◌, ◌&&◌, ◌/◌, ◌%◌, ◌^◌, ◌<◌, ◌≤◌, ⊎_elim, inl, inr, ℕ, zero, suc, Bool, true, false, cond, eqb, ltb, Option, Some, None, List, length, refl, sym, ap, ◌∙◌, arith}
+use Rattle.std.proofs.lemmas.Bool.{cases_Bool, cases_eq, eqb-true, cond-true, cond-false, and_parts, ltb-true, lt-ltb}
 use Rattle.pmem_lines.specs.Words.{word_at, put_word}
 use Rattle.pmem_lines.proofs.Words.{word_at-put_same, word_at-put_other}
 use Rattle.pool_layout.specs.Layout.{layout_of}
@@ -8,20 +8,12 @@ use Rattle.pool_layout.specs.Places.{text_word, fields_word, directory_word, roo
 use Rattle.pool_layout.specs.Header.{version_field, granules_field, version_in, granules_in}
 use Rattle.pool_layout.proofs.Layouts.{layout_rules}
 use Rattle.image_tables.specs.Extents.{extent_at}
-use Rattle.image_tables.specs.Tables.{OpenEntry, entry_of_word, entry_among, wal_lines, large_of, is_slab_of, is_slab, bit_of_word, state_word, bitmap_word, index_word, bit_at, live_at, number_at, state_field, tables_of}
+use Rattle.image_tables.specs.Tables.{OpenEntry, entry_of_word, entry_among, wal_lines, large_of, is_slab_of, is_slab, AreSlabsInHeap, bit_of_word, state_word, bitmap_word, index_word, slab_bit, bit_at, live_at, number_at, state_field, tables_of}
+use Rattle.image_tables.specs.Updates.{put_at}
+use Rattle.image_tables.proofs.Updates.{put_at-same, put_at-other}
 use Rattle.image_tables.proofs.Places.{log_word-low}
 use Rattle.image_tables.proofs.Logs.{IsOffLog}
 use Rattle.image_tables.proofs.Extents.{extent_at-elsewhere}
-
--- a table with one entry changed
-abbrev pub put_at : {X : Type 0} → (ℕ → X) → ℕ → X → ℕ → X
-put_at table key new other = if other == key then new else table other
-
-pub put_at-same : {X : Type 0} (table : ℕ → X) (key : ℕ) (new : X) → put_at table key new key ≡ new
-put_at-same table key new = cond-true (eqb key key) new (table key) (eq-eqb key key refl)
-
-pub put_at-other : {X : Type 0} (table : ℕ → X) (key other : ℕ) (new : X) → other ≢ key → put_at table key new other ≡ table other
-put_at-other table key other new apart = cond-false (eqb other key) new (table other) (ne_eqb other key apart)
 
 -- how many write-ahead lines there are
 pub few_lines : wal_lines ≡ 8
@@ -72,10 +64,7 @@ heap_word-off_log words new k same high =
     let version = version_in words in
     same.others k (λ e. omega (arith, e, high, log_word-low version, log_word-high version)) (inr high)
 
--- the slabs begin in the heap
-pub record AreSlabsInHeap (words : List ℕ) : Type 0 where
-  pub low : (start : ℕ) → is_slab words start ≡ true → (layout_of (version_in words)).first_granule ≤ start
-
+-- the words of a slab's header lie in the heap
 pub state_word-high : (words : List ℕ) (start : ℕ) → AreSlabsInHeap words → is_slab words start ≡ true → heap_word (version_in words) ≤ state_word start
 state_word-high words start slabs is = omega (arith, slabs.low start is)
 
@@ -104,25 +93,37 @@ pub record SameSlabs (words new : List ℕ) : Type 0 where
   pub state : (start : ℕ) → is_slab words start ≡ true → word_at new (state_word start) ≡ word_at words (state_word start)
   pub index : (start place : ℕ) → is_slab words start ≡ true → place < 64 → word_at new (index_word start place) ≡ word_at words (index_word start place)
 
-pub state_field-same : (words new : List ℕ) (start bits : ℕ) → SameSlabs words new → state_field new start bits ≡ state_field words start bits
-state_field-same words new start bits same = where_same (is_slab new start) (is_slab words start) _ _ 0 (same.slab start) (λ is. ap (λ w. w / 2 ^ bits % 2 ^ 8) (same.state start is))
+-- what is read of the slab at a granule is the same where its words are
+pub state_field-same : (words new : List ℕ) (start bits : ℕ) → is_slab new start ≡ is_slab words start → (is_slab words start ≡ true → word_at new (state_word start) ≡ word_at words (state_word start)) →
+    state_field new start bits ≡ state_field words start bits
+state_field-same words new start bits slab same = where_same (is_slab new start) (is_slab words start) _ _ 0 slab (λ is. ap (λ w. w / 2 ^ bits % 2 ^ 8) (same is))
 
-live_at-same : (words new : List ℕ) (start place : ℕ) → SameSlabs words new → live_at new start place ≡ live_at words start place
-live_at-same words new start place same = and_same (is_slab new start) (is_slab words start) _ _ (same.slab start)
-    (λ is. and_same (ltb place 64) (ltb place 64) _ _ refl (λ below. ap (λ w. bit_of_word w 0) (same.index start place is (ltb-true place 64 below))))
+pub live_at-same : (words new : List ℕ) (start place : ℕ) → is_slab new start ≡ is_slab words start →
+    (is_slab words start ≡ true → place < 64 → word_at new (index_word start place) ≡ word_at words (index_word start place)) → live_at new start place ≡ live_at words start place
+live_at-same words new start place slab same = and_same (is_slab new start) (is_slab words start) _ _ slab
+    (λ is. and_same (ltb place 64) (ltb place 64) _ _ refl (λ below. ap (λ w. bit_of_word w 0) (same is (ltb-true place 64 below))))
 
-number_at-same : (words new : List ℕ) (start place : ℕ) → SameSlabs words new → number_at new start place ≡ number_at words start place
-number_at-same words new start place same = where_same (is_slab new start && ltb place 64) (is_slab words start && ltb place 64) _ _ 0 (ap (λ b. b && ltb place 64) (same.slab start))
+pub number_at-same : (words new : List ℕ) (start place : ℕ) → is_slab new start ≡ is_slab words start →
+    (is_slab words start ≡ true → place < 64 → word_at new (index_word start place) ≡ word_at words (index_word start place)) → number_at new start place ≡ number_at words start place
+number_at-same words new start place slab same = where_same (is_slab new start && ltb place 64) (is_slab words start && ltb place 64) _ _ 0 (ap (λ b. b && ltb place 64) slab)
     (λ is.
     let parts = and_parts (is_slab words start) (ltb place 64) is in
-    ap (λ w. w / 2 ^ 16 % 2 ^ 16) (same.index start place parts.0 (ltb-true place 64 parts.1)))
+    ap (λ w. w / 2 ^ 16 % 2 ^ 16) (same parts.0 (ltb-true place 64 parts.1)))
 
--- the bits are the same where their words are
-pub bit_at-same : (words new : List ℕ) → ((start : ℕ) → is_slab new start ≡ is_slab words start) →
-    ((start i : ℕ) → is_slab words start ≡ true → i < 4096 → word_at new (bitmap_word start i) ≡ word_at words (bitmap_word start i)) →
-    (start i : ℕ) → bit_at new start i ≡ bit_at words start i
-bit_at-same words new slab same start i = and_same (is_slab new start) (is_slab words start) _ _ (slab start)
-    (λ is. and_same (ltb i 4096) (ltb i 4096) _ _ refl (λ below. ap (λ w. bit_of_word w (i / 8 % 64)) (same start i is (ltb-true i 4096 below))))
+pub bit_at-same : (words new : List ℕ) (start i : ℕ) → is_slab new start ≡ is_slab words start → (is_slab words start ≡ true → i < 4096 → slab_bit new start i ≡ slab_bit words start i) →
+    bit_at new start i ≡ bit_at words start i
+bit_at-same words new start i slab same = and_same (is_slab new start) (is_slab words start) _ _ slab (λ is. and_same (ltb i 4096) (ltb i 4096) _ _ refl (λ below. same is (ltb-true i 4096 below)))
+
+pub slab_bit-same : (words new : List ℕ) (start i : ℕ) → word_at new (bitmap_word start i) ≡ word_at words (bitmap_word start i) → slab_bit new start i ≡ slab_bit words start i
+slab_bit-same words new start i same = ap (λ w. bit_of_word w (i / 8 % 64)) same
+
+-- the roots are the same where their words are
+pub roots-same : (words new : List ℕ) → version_in new ≡ version_in words → ((root : ℕ) → root < (layout_of (version_in words)).roots → word_at new (root_word root) ≡ word_at words (root_word root)) →
+    (root : ℕ) → (tables_of new).root root ≡ (tables_of words).root root
+unfolding tables_of
+roots-same words new version same root = where_same (ltb root (layout_of (version_in new)).roots) (ltb root (layout_of (version_in words)).roots) _ _ 0
+    (ap (λ version. ltb root (layout_of version).roots) version)
+    (λ is. same root (ltb-true root (layout_of (version_in words)).roots is))
 
 -- the open entry is the same where the write-ahead words are
 pub entry_among-same : (row new : ℕ → ℕ) (n : ℕ) → ((line : ℕ) → line < n → new line ≡ row line) → entry_among new n ≡ entry_among row n
@@ -130,6 +131,32 @@ entry_among-same row new zero same = refl
 entry_among-same row new (suc n) same =
     ap (λ w. cond (eqb w 0) (entry_among new n) (Some (entry_of_word w))) (same n (omega arith))
     ∙ ap (λ x. cond (eqb (row n) 0) x (Some (entry_of_word (row n)))) (entry_among-same row new n (λ line below. same line (omega arith)))
+
+-- the tables, where the slabs and their state words stay the same
+pub tables_by : (words new : List ℕ) (root : ℕ → ℕ) (entry : Option OpenEntry) (large : ℕ → ℕ) (bit live : ℕ → ℕ → Bool) (number : ℕ → ℕ → ℕ) →
+    ((start : ℕ) → is_slab new start ≡ is_slab words start) →
+    ((start : ℕ) → is_slab words start ≡ true → word_at new (state_word start) ≡ word_at words (state_word start)) →
+    ((r : ℕ) → cond (ltb r (layout_of (version_in new)).roots) (word_at new (root_word r)) 0 ≡ root r) →
+    entry_among (λ line. word_at new (wal_word line)) wal_lines ≡ entry →
+    ((start : ℕ) → large_of (extent_at new start) ≡ large start) →
+    ((start i : ℕ) → bit_at new start i ≡ bit start i) →
+    ((start place : ℕ) → live_at new start place ≡ live start place) →
+    ((start place : ℕ) → number_at new start place ≡ number start place) →
+    tables_of new ≡ record (tables_of words) { root = root; entry = entry; large = large; bit = bit; live = live; number = number }
+unfolding tables_of
+tables_by words new root entry large bit live number slab state roots entries larges bits lives numbers = λ k. record {
+  root = λ r. roots r k;
+  entry = entries k;
+  large = λ start. larges start k;
+  slab = λ start. slab start k;
+  kind = λ start. state_field-same words new start 0 (slab start) (state start) k;
+  class = λ start. state_field-same words new start 8 (slab start) (state start) k;
+  old = λ start. state_field-same words new start 16 (slab start) (state start) k;
+  entries = λ start. state_field-same words new start 24 (slab start) (state start) k;
+  bit = λ start i. bits start i k;
+  live = λ start place. lives start place k;
+  number = λ start place. numbers start place k;
+}
 
 -- the tables, where only the roots, the open entry, the large extents and the bits change
 pub tables_but : (words new : List ℕ) (root : ℕ → ℕ) (entry : Option OpenEntry) (large : ℕ → ℕ) (bit : ℕ → ℕ → Bool) → SameSlabs words new →
@@ -139,19 +166,10 @@ pub tables_but : (words new : List ℕ) (root : ℕ → ℕ) (entry : Option Ope
     ((start i : ℕ) → bit_at new start i ≡ bit start i) →
     tables_of new ≡ record (tables_of words) { root = root; entry = entry; large = large; bit = bit }
 unfolding tables_of
-tables_but words new root entry large bit same roots entries larges bits = λ k. record {
-  root = λ r. roots r k;
-  entry = entries k;
-  large = λ start. larges start k;
-  slab = λ start. same.slab start k;
-  kind = λ start. state_field-same words new start 0 same k;
-  class = λ start. state_field-same words new start 8 same k;
-  old = λ start. state_field-same words new start 16 same k;
-  entries = λ start. state_field-same words new start 24 same k;
-  bit = λ start i. bits start i k;
-  live = λ start place. live_at-same words new start place same k;
-  number = λ start place. number_at-same words new start place same k;
-}
+tables_but words new root entry large bit same roots entries larges bits =
+    tables_by words new root entry large bit (live_at words) (number_at words) same.slab same.state roots entries larges bits
+    (λ start place. live_at-same words new start place (same.slab start) (same.index start place))
+    (λ start place. number_at-same words new start place (same.slab start) (same.index start place))
 
 -- stores to the log and the directory change the live extents alone
 pub tables_off_log : (words new : List ℕ) (large : ℕ → ℕ) → IsSameOffLog words new → AreSlabsInHeap words → ((start : ℕ) → is_slab new start ≡ is_slab words start) →
@@ -165,12 +183,10 @@ tables_off_log words new large same slabs slab larges =
       state = λ start is. heap (state_word start) (state_word-high words start slabs is);
       index = λ start place is below. heap (index_word start place) (index_word-high words start place slabs is);
     })
-    (λ r. where_same (ltb r (layout_of (version_in new)).roots) (ltb r (layout_of (version_in words)).roots) _ _ 0
-    (ap (λ version. ltb r (layout_of version).roots) (version_in-off_log words new same))
-    (λ is. root_word-off_log words new r same (ltb-true r (layout_of (version_in words)).roots is)))
+    (roots-same words new (version_in-off_log words new same) (λ root below. root_word-off_log words new root same below))
     (entry_among-same (λ line. word_at words (wal_word line)) (λ line. word_at new (wal_word line)) wal_lines (λ line below. wal_word-off_log words new line same below))
     larges
-    (bit_at-same words new slab (λ start i is below. heap (bitmap_word start i) (bitmap_word-high words start i slabs is)))
+    (λ start i. bit_at-same words new start i (slab start) (λ is below. slab_bit-same words new start i (heap (bitmap_word start i) (bitmap_word-high words start i slabs is))))
 
 -- where they leave the live extents too, they change nothing
 pub tables_off_log-same : (words new : List ℕ) → IsSameOffLog words new → AreSlabsInHeap words → ((start : ℕ) → extent_at new start ≡ extent_at words start) → tables_of new ≡ tables_of words
@@ -237,7 +253,7 @@ tables_put_root words root value below inside slabs =
     (cases_eq r root))
     (entry_among-same (λ line. word_at words (wal_word line)) (λ line. word_at new (wal_word line)) wal_lines (λ line less. wal_word-put_root words root value line less))
     (λ start. ap large_of (extent_at-put_root words root value start below))
-    (bit_at-same words new slab (λ start i is less. heap (bitmap_word start i) (bitmap_word-high words start i slabs is)))
+    (λ start i. bit_at-same words new start i (slab start) (λ is less. slab_bit-same words new start i (heap (bitmap_word start i) (bitmap_word-high words start i slabs is))))
 
 none_among : (row : ℕ → ℕ) (n : ℕ) → entry_among row n ≡ None → (line : ℕ) → line < n → row line ≡ 0
 none_among row zero closed line below = absurd (omega arith)

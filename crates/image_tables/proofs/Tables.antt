@@ -1,12 +1,12 @@
 -- What the tables of an image read off its words, one by one.
-use Rattle.std.proofs.Common.{◌≡◌, ◌<◌, ◌≤◌, ℕ, List, ltb, refl}
-use Rattle.std.proofs.lemmas.Bool.{cond-true, cond-false, lt-ltb, le-ltb}
+use Rattle.std.proofs.Common.{◌≡◌, ◌&&◌, ◌/◌, ◌%◌, ◌^◌, ◌<◌, ◌≤◌, ℕ, true, List, ltb, refl, ap, ◌∙◌}
+use Rattle.std.proofs.lemmas.Bool.{cond-true, cond-false, lt-ltb, le-ltb, and_from}
 use Rattle.pmem_lines.specs.Words.{word_at}
 use Rattle.pool_layout.specs.Layout.{layout_of}
 use Rattle.pool_layout.specs.Places.{root_word}
 use Rattle.pool_layout.specs.Header.{version_in}
 use Rattle.image_tables.specs.Extents.{extent_at}
-use Rattle.image_tables.specs.Tables.{large_of, is_slab, tables_of}
+use Rattle.image_tables.specs.Tables.{large_of, is_slab, bit_of_word, index_word, slab_bit, tables_of}
 
 -- a root's word
 pub root_table : (words : List ℕ) (root : ℕ) → root < (layout_of (version_in words)).roots → (tables_of words).root root ≡ word_at words (root_word root)
@@ -26,3 +26,18 @@ large_table words start = refl
 pub slab_table : (words : List ℕ) (start : ℕ) → (tables_of words).slab start ≡ is_slab words start
 unfolding tables_of
 slab_table words start = refl
+
+-- the bit of a block of a slab, and a place of its index table
+pub bit_table : (words : List ℕ) (start i : ℕ) → is_slab words start ≡ true → i < 4096 → (tables_of words).bit start i ≡ slab_bit words start i
+unfolding tables_of
+bit_table words start i is below = ap (λ b. b && (ltb i 4096 && slab_bit words start i)) is ∙ ap (λ b. b && slab_bit words start i) (lt-ltb i 4096 below)
+
+pub live_table : (words : List ℕ) (start place : ℕ) → is_slab words start ≡ true → place < 64 → (tables_of words).live start place ≡ bit_of_word (word_at words (index_word start place)) 0
+unfolding tables_of
+live_table words start place is below =
+    let live = bit_of_word (word_at words (index_word start place)) 0 in
+    ap (λ b. b && (ltb place 64 && live)) is ∙ ap (λ b. b && live) (lt-ltb place 64 below)
+
+pub number_table : (words : List ℕ) (start place : ℕ) → is_slab words start ≡ true → place < 64 → (tables_of words).number start place ≡ word_at words (index_word start place) / 2 ^ 16 % 2 ^ 16
+unfolding tables_of
+number_table words start place is below = cond-true (is_slab words start && ltb place 64) _ 0 (and_from (is_slab words start) (ltb place 64) is (lt-ltb place 64 below))

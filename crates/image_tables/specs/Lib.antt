@@ -1,3 +1,4 @@
 pub mod Log
 pub mod Extents
 pub mod Tables
+pub mod Updates

@@ -1,7 +1,7 @@
 -- What the words of an arena say, table by table. Nothing here knows what follows from it: whether an image is sound is
 -- stated over the tables alone. Each table has exactly what is read: nothing of a granule at which no slab begins, bits
 -- and places of the index table below what the header of a slab can hold.
-use Rattle.std.specs.Prelude.{◌==◌, ◌&&◌, nat_lt, ℕ, zero, suc, ◌+◌, ◌/◌, ◌%◌, ◌^◌, Bool, true, false, List, Option, Some, None, if◌then◌else◌}
+use Rattle.std.specs.Prelude.{◌≡◌, ◌==◌, ◌&&◌, nat_lt, ℕ, zero, suc, ◌+◌, ◌/◌, ◌%◌, ◌^◌, ◌≤◌, Bool, true, false, List, Option, Some, None, if◌then◌else◌}
 use Rattle.pmem_lines.specs.Words.{word_at}
 use Rattle.pool_layout.specs.Layout.{layout_of}
 use Rattle.pool_layout.specs.Places.{root_word, wal_word, granule_word, line_place, index_place}
@@ -55,6 +55,10 @@ is_slab_of (Some Slab) = true
 abbrev pub is_slab : List ℕ → ℕ → Bool
 is_slab words start = is_slab_of (extent_at words start)
 
+-- the slabs begin in the heap
+pub record AreSlabsInHeap (words : List ℕ) : Type 0 where
+  pub low : (start : ℕ) → is_slab words start ≡ true → (layout_of (version_in words)).first_granule ≤ start
+
 -- the open entry
 
 -- the entry of a word that is not 0
@@ -92,8 +96,12 @@ bitmap_word start i = granule_word start + line_place (1 + i % 8) (i / 8 / 64)
 abbrev pub index_word : ℕ → ℕ → ℕ
 index_word start place = granule_word start + index_place place
 
+-- the bit of block i in the header at a granule, whether a slab begins there or not
+abbrev pub slab_bit : List ℕ → ℕ → ℕ → Bool
+slab_bit words start i = bit_of_word (word_at words (bitmap_word start i)) (i / 8 % 64)
+
 abbrev pub bit_at : List ℕ → ℕ → ℕ → Bool
-bit_at words start i = is_slab words start && (nat_lt i 4096 && bit_of_word (word_at words (bitmap_word start i)) (i / 8 % 64))
+bit_at words start i = is_slab words start && (nat_lt i 4096 && slab_bit words start i)
 
 abbrev pub live_at : List ℕ → ℕ → ℕ → Bool
 live_at words start place = is_slab words start && (nat_lt place 64 && bit_of_word (word_at words (index_word start place)) 0)

@@ -7,8 +7,9 @@ use Rattle.pool_layout.specs.Layout.{layout_of}
 use Rattle.pool_layout.proofs.Layouts.{layout_rules}
 use Rattle.pool_layout.specs.Places.{chunk_word, entry_lines, entry_word}
 use Rattle.durable_steps.specs.Rows.{flushes_of}
+use Rattle.durable_steps.proofs.Rows.{is_fenced-behind, is_flushed-behind, is_flushed-flushes, IsQuiet-flushes}
 use Rattle.log_gc.specs.Copies.{entry_stores, fill_events, copy_events}
-use Rattle.log_gc.proofs.Events.{IsStored-append, none_stored, is_fenced-behind, is_flushed-behind, is_flushed-among, IsQuiet-behind}
+use Rattle.log_gc.proofs.Events.{IsStored-append, none_stored}
 
 -- a chunk begins with a line
 chunk_whole : (version chunk : ℕ) → chunk_word version chunk ≡ 8 * (chunk_word version chunk / 8)
@@ -46,8 +47,8 @@ quiet_fill version chunk value rest fenced quiet =
     let lines = entry_lines version in
     subst IsQuiet (sym (append_assoc (entry_stores version chunk value 0 n) (flushes_of first lines) rest))
     (quiet_entries version chunk value 0 n (flushes_of first lines ++ rest)
-    (λ e low high. let line = entry_line version chunk e (omega arith) in is_flushed-among (8 * entry_word version chunk e / 64) first lines rest line.0 line.1 fenced)
-    (IsQuiet-behind first lines rest quiet))
+    (λ e low high. let line = entry_line version chunk e (omega arith) in is_flushed-flushes (8 * entry_word version chunk e / 64) first lines rest line.0 line.1 fenced)
+    (IsQuiet-flushes first lines rest quiet))
 
 -- where a fence follows, all of it is durable
 pub quiet_copy : (version : ℕ) (fresh entries : List ℕ) (rest : List Event) → is_fenced rest ≡ true → IsQuiet rest → IsQuiet (copy_events version fresh entries ++ rest)

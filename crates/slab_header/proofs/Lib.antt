@@ -1,5 +1,5 @@
 pub mod Entries
 pub mod Bits
-pub mod Rows
 pub mod Making
 pub mod Putting
+pub mod Tables

@@ -8,12 +8,12 @@ use Rattle.pmem_lines.specs.declared.event.Event.TheVariants.{Store, Fence}
 use Rattle.pmem_lines.specs.Events.{reading, IsQuiet, IsStored, IsImage, CrashOnly}
 use Rattle.pmem_lines.proofs.Images.{reading-append, length-reading, by_blend, quiet_image}
 use Rattle.durable_steps.specs.Rows.{stores_at, flushes_of}
-use Rattle.durable_steps.proofs.Rows.{IsStored-stores}
-use Rattle.image_tables.specs.Tables.{state_word, bitmap_word}
+use Rattle.durable_steps.proofs.Rows.{IsStored-flushes, IsStored-stores, reading-flushes, row_word, is_flushed-flushes, IsQuiet-flushes, IsQuiet-stores}
+use Rattle.image_tables.specs.Tables.{state_word, bitmap_word, bit_of_word}
 use Rattle.slab_header.specs.declared.state.SlabState.TheVariants.{Normal}
-use Rattle.slab_header.specs.State.{word_of_state}
+use Rattle.slab_header.specs.State.{word_of_state, SaysOfState}
 use Rattle.slab_header.specs.Steps.{made_lines, bitmap_words, make_events, IsOutside, IsMade, KeepsOutside}
-use Rattle.slab_header.proofs.Rows.{reading-flushes, none_stored, row_word, is_flushed-flushes, IsQuiet-flushes, IsQuiet-stores}
+use Rattle.slab_header.proofs.Tables.{bit_of_word-zero, KeepsOutside-others}
 
 -- the numbers
 pub made_lines-is : 9 ≡ made_lines
@@ -45,10 +45,10 @@ regrouped at class =
 pub IsQuiet-make : (at class : ℕ) → at % 64 ≡ 0 → IsQuiet (make_events at class)
 IsQuiet-make at class aligned =
     let flushes = flushes_of (at / 64) made_lines ++ Fence ∷ [] in
-    let flushed : (line : ℕ) → at / 64 ≤ line → line < at / 64 + 9 → _ = λ line low high. is_flushed-flushes line (at / 64) made_lines low (omega (arith, made_lines-is)) in
+    let flushed : (line : ℕ) → at / 64 ≤ line → line < at / 64 + 9 → _ = λ line low high. is_flushed-flushes line (at / 64) made_lines (Fence ∷ []) low (omega (arith, made_lines-is)) refl in
     subst IsQuiet (sym (regrouped at class))
     (IsQuiet-stores (at + 64) (zeros bitmap_words) (rest_of at class) (λ line low high. flushed line (omega arith) (omega (arith, length-zeros bitmap_words, bitmap_words-is)))
-    (flushed (at / 64) (omega arith) (omega arith), IsQuiet-flushes (at / 64) made_lines))
+    (flushed (at / 64) (omega arith) (omega arith), IsQuiet-flushes (at / 64) made_lines (Fence ∷ []) tt))
 
 -- they store nothing outside
 stored_inside : (at class k value : ℕ) → at % 16384 ≡ 0 → IsStored (make_events at class) k value → IsOutside (at / 16384) k → ⊥
@@ -57,16 +57,15 @@ stored_inside at class k value aligned stored outside =
     (λ row. absurd (omega (arith, row.0, row.1, length-zeros bitmap_words, bitmap_words-is, outside)))
     (λ rest. ⊎_elim
     (λ here. omega (arith, here.0, outside))
-    (λ later. none_stored (at / 64) made_lines k value later)
+    (λ later. IsStored-flushes (at / 64) made_lines (Fence ∷ []) k value later)
     rest)
     (IsStored-stores (at + 64) (zeros bitmap_words) (rest_of at class) k value (subst (λ es. IsStored es k value) (regrouped at class) stored))
 
 -- so a crash within them leaves all outside as it was
 pub make_crash : (base : List ℕ) (at class : ℕ) → at % 16384 ≡ 0 → CrashOnly base (make_events at class) (KeepsOutside base (at / 16384))
-make_crash base at class aligned = by_blend base (make_events at class) (KeepsOutside base (at / 16384)) (λ image blend. record {
-  same_length = blend.same_length;
-  others = λ k outside. ⊎_elim (λ same. same) (λ stored. absurd (stored_inside at class k (word_at image k) aligned stored outside)) (blend.each k);
-})
+make_crash base at class aligned = by_blend base (make_events at class) (KeepsOutside base (at / 16384)) (λ image blend.
+    KeepsOutside-others base image (at / 16384) blend.same_length
+    (λ k outside. ⊎_elim (λ same. same) (λ stored. absurd (stored_inside at class k (word_at image k) aligned stored outside)) (blend.each k)))
 
 -- and so do all of them
 kept_by_all : (base : List ℕ) (at class : ℕ) → at % 16384 ≡ 0 → KeepsOutside base (at / 16384) (reading base (make_events at class))
@@ -97,15 +96,20 @@ read_clear base at class k aligned inside low high =
     ∙ (AreZeros-zeros bitmap_words).each (k - (at + 64) / 8)
 
 -- a slab is made
-pub made : (base : List ℕ) (at class : ℕ) → at % 16384 ≡ 0 → at + 2048 ≤ 8 * length base → IsMade base (reading base (make_events at class)) (at / 16384) class
-made base at class aligned inside =
+pub made : (base : List ℕ) (at class : ℕ) → at % 16384 ≡ 0 → at + 2048 ≤ 8 * length base → SaysOfState (word_of_state (Normal class)) (Normal class) →
+    IsMade base (reading base (make_events at class)) (at / 16384) class
+made base at class aligned inside says =
+    let start = at / 16384 in
+    let new = reading base (make_events at class) in
     let stores = stores_at (at + 64) (zeros bitmap_words) in
-    let kept = kept_by_all base at class aligned in
+    let state : word_at new (state_word start) ≡ word_of_state (Normal class) =
+    ap (λ (ws : List ℕ). word_at ws (state_word start)) (reading-make base at class)
+    ∙ word_at-put_same (reading base stores) (at / 8) (state_word start) (word_of_state (Normal class)) (omega arith) (omega (arith, length-reading base stores)) in
+    let clear : (i : ℕ) → i < 4096 → word_at new (bitmap_word start i) ≡ 0 = λ i below. read_clear base at class (bitmap_word start i) aligned inside (omega arith) (omega arith) in
     record {
-      same_length = kept.same_length;
-      state =
-          ap (λ (ws : List ℕ). word_at ws (state_word (at / 16384))) (reading-make base at class)
-          ∙ word_at-put_same (reading base stores) (at / 8) (state_word (at / 16384)) (word_of_state (Normal class)) (omega arith) (omega (arith, length-reading base stores));
-      clear = λ i below. read_clear base at class (bitmap_word (at / 16384) i) aligned inside (omega arith) (omega arith);
-      others = kept.others;
+      kept = kept_by_all base at class aligned;
+      state = state;
+      says = subst (λ w. SaysOfState w (Normal class)) (sym state) says;
+      clear = clear;
+      bits = λ i below. ap (λ w. bit_of_word w (i / 8 % 64)) (clear i below) ∙ bit_of_word-zero (i / 8 % 64);
     }

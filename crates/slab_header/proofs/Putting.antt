@@ -1,13 +1,14 @@
 -- One word of a slab's header is put.
-use Rattle.std.proofs.Common.{◌≡◌, ◌+◌, ◌*◌, ◌/◌, ◌%◌, ◌<◌, ◌≤◌, ℕ, Bool, List, length, set, refl, sym, ap, ◌∙◌, arith}
+use Rattle.std.proofs.Common.{◌≡◌, ◌≢◌, ◌+◌, ◌*◌, ◌/◌, ◌%◌, ◌<◌, ◌≤◌, ℕ, Bool, List, length, set, refl, sym, ap, ◌∙◌, arith}
 use Rattle.pmem_lines.specs.Words.{word_at, put_word, words_at}
 use Rattle.pmem_lines.proofs.Words.{length-words_at, get_or-words_at, words_at-put}
 use Rattle.interleaved_bitmap.specs.Bits.{is_set}
 use Rattle.interleaved_bitmap.specs.Places.{word_of_bit, bit_in_word, bit_of_header, IsHeaderWithBit}
 use Rattle.interleaved_bitmap.specs.Places.{PutsBit as PutsWord}
 use Rattle.pool_layout.specs.Places.{granule_word}
-use Rattle.image_tables.specs.Tables.{bitmap_word}
-use Rattle.slab_header.specs.Steps.{slab_bit, PutsBit}
+use Rattle.image_tables.specs.Tables.{bitmap_word, slab_bit}
+use Rattle.image_tables.proofs.Headers.{tables_put_bit}
+use Rattle.slab_header.specs.Steps.{PutsBit}
 use Rattle.slab_header.proofs.Bits.{bit_of_word-is_set}
 
 -- the header of the slab that begins at a granule
@@ -30,13 +31,13 @@ puts_bit words start i on value below inside puts =
     let put : IsHeaderWithBit header i on (set header (word_of_bit i) value) =
     puts.at header i (length-words_at words (granule_word start) 256 inside) below (get_or-words_at words (granule_word start) 256 (word_of_bit i) (omega arith)) refl in
     let after : header_of new start ≡ set header (word_of_bit i) value = words_at-put words (granule_word start) 256 (word_of_bit i) value (omega arith) in
+    let is : slab_bit new start i ≡ on = sym (header_bit new start i below) ∙ ap (λ (h : List ℕ). bit_of_header h i) after ∙ put.here in
+    let rest : (j : ℕ) → j < 4096 → j ≢ i → slab_bit new start j ≡ slab_bit words start j =
+    λ j within apart. sym (header_bit new start j within) ∙ ap (λ (h : List ℕ). bit_of_header h j) after ∙ put.others j within apart ∙ header_bit words start j within in
     record {
-      here = sym (header_bit new start i below) ∙ ap (λ (h : List ℕ). bit_of_header h i) after ∙ put.here;
-      others = λ j within apart.
-          sym (header_bit new start j within)
-          ∙ ap (λ (h : List ℕ). bit_of_header h j) after
-          ∙ put.others j within apart
-          ∙ header_bit words start j within;
+      here = is;
+      others = rest;
+      tables = λ slabs slab. tables_put_bit words start i value on slabs slab below is rest;
     }
 
 -- where the word is

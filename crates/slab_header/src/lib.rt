@@ -2,10 +2,10 @@
 //
 // A slab begins at a multiple of 16384 bytes, and its first 32 lines are its header. `specs/State.antt` has the state
 // word and what it says, `specs/Index.antt` the words of the index table; both have an inverse pair, `state_of` and
-// `state_word`, `index_of` and `index_word`. `specs/Steps.antt` has the events of the three steps and what they leave, in
-// the words that `image_tables` reads. The layers above use those definitions: `make_slab` begins and ends quiet and
-// says what a crash within it leaves, while `put_bit` and `put_index` end without a fence, so that a layer above may put
-// several words under one.
+// `state_word`, `index_of` and `index_word`. `specs/Steps.antt` has the events of the three steps and what they leave: in
+// words, and as an equation on the tables of `image_tables`, so that a layer above need not look into words. The layers
+// above use those definitions: `make_slab` begins and ends quiet and says what a crash within it leaves, while `put_bit`
+// and `put_index` end without a fence, so that a layer above may put several words under one.
 #![tactic(auto)]
 
 mod index;

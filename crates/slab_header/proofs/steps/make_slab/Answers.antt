@@ -2,6 +2,8 @@ use Rattle.std.proofs.Common.{◌/◌, List, ℕ, sym, subst, arith}
 use Rattle.pmem_lines.specs.declared.event.Event.{Event}
 use Rattle.pmem_lines.specs.Pmem.{words_of, Appends}
 use Rattle.pmem_lines.proofs.States.{then_step, quiet_after}
+use Rattle.slab_header.specs.declared.state.SlabState.TheVariants.{Normal}
+use Rattle.slab_header.specs.State.{SaysOfState}
 use Rattle.slab_header.specs.Steps.{IsMade}
 use Rattle.slab_header.proofs.Making.{made_lines-is, make_events-parts, IsQuiet-make, make_crash, made}
 use Rattle.slab_header.proofs.steps.make_slab.Goals as goal
@@ -21,7 +23,7 @@ returns-clause-quiet g c = quiet_after (returns-clause-appends g c) (IsQuiet-mak
 pub returns-clause-made : goal.returns-clause-made
 returns-clause-made g c =
     let words = words_of (g.P.Pmem.state c.args.p.now) in
-    subst (λ (ws : List ℕ). IsMade words ws (c.args.at / 16384) c.args.class) (sym (returns-clause-appends g c).words) (made words c.args.at c.args.class c.requires.aligned c.requires.inside)
+    subst (λ (ws : List ℕ). IsMade words ws (c.args.at / 16384) c.args.class) (sym (returns-clause-appends g c).words) (made words c.args.at c.args.class c.requires.aligned c.requires.inside (subst (λ w. SaysOfState w (Normal c.args.class)) c.state_word-state.ensures.word c.state_word-state.ensures.says))
 
 pub returns-clause-crash : goal.returns-clause-crash
 returns-clause-crash g c = make_crash (words_of (g.P.Pmem.state c.args.p.now)) c.args.at c.args.class c.requires.aligned
