@@ -9,30 +9,10 @@ use Rattle.heap_model.specs.Machine.{Bounds, Range, AreApart, LiesIn, slab_block
 use Rattle.heap_model.proofs.Slabbing.{LiesIn-block}
 use Rattle.heap_check.specs.Heap.{slab_of, any_below, is_old_of, is_old, size_at, entry_at, IsClaim, Holds, HoldsBit, HoldsOld}
 use Rattle.heap_check.specs.Sound.{Covers, IsInSlab, IsEmptySlab, IsSound}
-use Rattle.image_tables.proofs.Stores.{put_at, put_at-same, put_at-other}
+use Rattle.image_tables.specs.Updates.{put_in, with_small}
+use Rattle.image_tables.proofs.Updates.{put_in-same, put_in-other}
 use Rattle.heap_check.proofs.Claims.{NamesOnly, NamesOnly-none, NamesOnly-some, plain_size, IsClaim-word}
 use Rattle.heap_check.proofs.Geometry.{Covers-slab, is_large-slab, slab_of-here}
-
--- one bit of the slabs' bitmaps is this
-
-abbrev pub put_bit : (ℕ → ℕ → Bool) → ℕ → ℕ → Bool → ℕ → ℕ → Bool
-put_bit bit start number on = put_at bit start (put_at (bit start) number on)
-
-pub put_bit-same : (bit : ℕ → ℕ → Bool) (start number : ℕ) (on : Bool) → put_bit bit start number on start number ≡ on
-put_bit-same bit start number on = ap (λ (row : ℕ → Bool). row number) (put_at-same bit start (put_at (bit start) number on)) ∙ put_at-same (bit start) number on
-
-pub put_bit-other : (bit : ℕ → ℕ → Bool) (start number : ℕ) (on : Bool) (s i : ℕ) → (s ≢ start) ⊎ (i ≢ number) → put_bit bit start number on s i ≡ bit s i
-put_bit-other bit start number on s i either = ⊎_elim
-    (λ (differ : s ≢ start). ap (λ (row : ℕ → Bool). row i) (put_at-other bit start s (put_at (bit start) number on) differ))
-    (λ (differ : i ≢ number). ⊎_elim
-    (λ (same : s ≡ start).
-    ap (λ s. put_bit bit start number on s i) same
-    ∙ ap (λ (row : ℕ → Bool). row i) (put_at-same bit start (put_at (bit start) number on))
-    ∙ put_at-other (bit start) number i on differ
-    ∙ ap (λ s. bit s i) (sym same))
-    (λ (other : s ≢ start). ap (λ (row : ℕ → Bool). row i) (put_at-other bit start s (put_at (bit start) number on) other))
-    (cases_eq s start))
-    either
 
 -- a place in the bitmaps is this one, or differs
 pub cases_bit : (start number s i : ℕ) → ((s ≡ start) × (i ≡ number)) ⊎ ((s ≢ start) ⊎ (i ≢ number))
@@ -40,10 +20,6 @@ cases_bit start number s i = ⊎_elim
     (λ same. ⊎_elim (λ too. inl (same, too)) (λ differ. inr (inr differ)) (cases_eq i number))
     (λ differ. inr (inl differ))
     (cases_eq s start)
-
--- the tables where the block's bit and the root's word are these, and this entry is open
-abbrev pub with_small : Tables → ℕ → ℕ → Bool → ℕ → ℕ → Option OpenEntry → Tables
-with_small t start number on root word entry = record t { bit = put_bit t.bit start number on; root = put_at t.root root word; entry = entry }
 
 -- the entry of a root's block
 abbrev pub small_entry : ℕ → ℕ → OpenEntry
@@ -139,7 +115,7 @@ module _ (t : Tables) (start number : ℕ) (on : Bool) (root word : ℕ) (entry 
       (λ here. inr (bit.is ∙ same_block s bit.number here.0 here.1))
       (λ elsewhere. inl (record {
         slab = holds.slab;
-        block = inl (record { number = bit.number; below = bit.below; read = bit.read; set = sym (put_bit-other t.bit start number on s bit.number elsewhere) ∙ bit.set; is = bit.is });
+        block = inl (record { number = bit.number; below = bit.below; read = bit.read; set = sym (put_in-other t.bit start number on s bit.number elsewhere) ∙ bit.set; is = bit.is });
       }))
       (cases_bit start number s bit.number))
       (λ (old : HoldsOld (with_small t start number on root word entry) s range).
@@ -152,7 +128,7 @@ module _ (t : Tables) (start number : ℕ) (on : Bool) (root word : ℕ) (entry 
       (λ here. inr (bit.is ∙ same_block s bit.number here.0 here.1))
       (λ elsewhere. inl (record {
         slab = holds.slab;
-        block = inl (record { number = bit.number; below = bit.below; read = bit.read; set = put_bit-other t.bit start number on s bit.number elsewhere ∙ bit.set; is = bit.is });
+        block = inl (record { number = bit.number; below = bit.below; read = bit.read; set = put_in-other t.bit start number on s bit.number elsewhere ∙ bit.set; is = bit.is });
       }))
       (cases_bit start number s bit.number))
       (λ (old : HoldsOld t s range). inl (record { slab = holds.slab; block = inr (record { place = old.place; below = old.below; live = old.live; is = old.is }) }))
@@ -218,7 +194,7 @@ module _ {b : Bounds} {t : Tables} {root start number : ℕ} (place : IsSmallPla
       let same = same_slab other (inside (LiesIn-block other (t.class other) block (record { number = bit.number; within = bit.below; is = bit.is }))) in
       let here : (block_in t start number).at ≡ (block_in t start bit.number).at = ap (λ (x : Range). x.at) bit.is ∙ ap (λ s. (block_in t s bit.number).at) same in
       let number_is = one_number start (t.class start) number bit.number (omega (arith, size_some)) here in
-      true≢false (sym bit.set ∙ ap (λ s. put_bit t.bit start number false s bit.number) same ∙ ap (λ i. put_bit t.bit start number false start i) (sym number_is) ∙ put_bit-same t.bit start number false))
+      true≢false (sym bit.set ∙ ap (λ s. put_in t.bit start number false s bit.number) same ∙ ap (λ i. put_in t.bit start number false start i) (sym number_is) ∙ put_in-same t.bit start number false))
       (λ (old : HoldsOld (with_small t start number false root word entry) other block).
       let same = same_slab other (inside (LiesIn-block other (t.old other) block (record { number = t.number other old.place; within = state.small old.place old.below; is = old.is }))) in
       let was : HoldsOld t other block = record { place = old.place; below = old.below; live = old.live; is = old.is } in

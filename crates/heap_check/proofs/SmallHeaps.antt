@@ -5,10 +5,11 @@ use Rattle.image_tables.specs.Tables.{OpenEntry, Tables}
 use Rattle.heap_model.specs.Machine.{Bounds}
 use Rattle.heap_check.specs.Heap.{size_at, entry_at, heap}
 use Rattle.heap_check.specs.Sound.{IsVacant}
-use Rattle.image_tables.proofs.Stores.{put_at-same, put_at-other}
+use Rattle.image_tables.specs.Updates.{with_small}
+use Rattle.image_tables.proofs.Updates.{put_at-same, put_at-other}
 use Rattle.heap_check.proofs.Claims.{plain_size}
 use Rattle.heap_check.proofs.Heaps.{heap-none, heap-some, heap-same}
-use Rattle.heap_check.proofs.Small.{with_small, block_in, IsSmallPlace, IsSmallStage, stage_names, block_some, entry_at-none, plain_size-block, size_at-own}
+use Rattle.heap_check.proofs.Small.{block_in, IsSmallPlace, IsSmallStage, stage_names, block_some, entry_at-none, plain_size-block, size_at-own}
 
 module _ {b : Bounds} {t : Tables} {root start number : ℕ} (place : IsSmallPlace b t root start number) where
   pub heap-small_other : (on : Bool) (word : ℕ) (entry : Option OpenEntry) → IsSmallStage root (block_in t start number).at on word entry → (other : ℕ) → other ≢ root →

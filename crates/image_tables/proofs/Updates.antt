@@ -1,5 +1,5 @@
 -- What tables with one entry changed say.
-use Rattle.std.proofs.Common.{◌≡◌, ◌≢◌, ⊎_elim, ℕ, eqb, refl, sym, ap, ◌∙◌}
+use Rattle.std.proofs.Common.{◌≡◌, ◌≢◌, ◌⊎◌, ⊎_elim, ℕ, eqb, refl, sym, ap, ◌∙◌}
 use Rattle.std.proofs.lemmas.Bool.{cases_eq, eq-eqb, ne_eqb, cond-true, cond-false}
 use Rattle.image_tables.specs.Updates.{put_at, put_in}
 
@@ -10,6 +10,51 @@ put_at-same table key new = cond-true (eqb key key) new (table key) (eq-eqb key 
 -- any other
 pub put_at-other : {X : Type 0} (table : ℕ → X) (key other : ℕ) (new : X) → other ≢ key → put_at table key new other ≡ table other
 put_at-other table key other new apart = cond-false (eqb other key) new (table other) (ne_eqb other key apart)
+
+-- changed again
+pub put_at-again : {X : Type 0} (table : ℕ → X) (key : ℕ) (old new : X) → put_at (put_at table key old) key new ≡ put_at table key new
+put_at-again table key old new i other = ⊎_elim
+    (λ (is : other ≡ key). put_at-here other is)
+    (λ (apart : other ≢ key). put_at-other (put_at table key old) key other new apart ∙ put_at-other table key other old apart ∙ sym (put_at-other table key other new apart))
+    (cases_eq other key) i
+  where
+    put_at-here : (other : ℕ) → other ≡ key → put_at (put_at table key old) key new other ≡ put_at table key new other
+    put_at-here other is = ap (put_at (put_at table key old) key new) is ∙ put_at-same (put_at table key old) key new ∙ sym (put_at-same table key new) ∙ ap (put_at table key new) (sym is)
+
+-- changed to what it is
+pub put_at-none : {X : Type 0} (table : ℕ → X) (key : ℕ) (new : X) → table key ≡ new → put_at table key new ≡ table
+put_at-none table key new same i other = ⊎_elim
+    (λ (is : other ≡ key). ap (put_at table key new) is ∙ put_at-same table key new ∙ sym same ∙ ap table (sym is))
+    (λ (apart : other ≢ key). put_at-other table key other new apart)
+    (cases_eq other key) i
+
+-- an entry of a row
+
+pub put_in-same : {X : Type 0} (table : ℕ → ℕ → X) (row key : ℕ) (new : X) → put_in table row key new row key ≡ new
+put_in-same {X} table row key new = ap (λ (f : ℕ → X). f key) (put_at-same table row (put_at (table row) key new)) ∙ put_at-same (table row) key new
+
+pub put_in-other : {X : Type 0} (table : ℕ → ℕ → X) (row key : ℕ) (new : X) (r k : ℕ) → (r ≢ row) ⊎ (k ≢ key) → put_in table row key new r k ≡ table r k
+put_in-other {X} table row key new r k either = ⊎_elim
+    (λ (apart : r ≢ row). ap (λ (f : ℕ → X). f k) (put_at-other table row r (put_at (table row) key new) apart))
+    (λ (apart : k ≢ key). ⊎_elim
+    (λ (is : r ≡ row).
+    ap (λ r. put_in table row key new r k) is
+    ∙ ap (λ (f : ℕ → X). f k) (put_at-same table row (put_at (table row) key new))
+    ∙ put_at-other (table row) key k new apart
+    ∙ ap (λ r. table r k) (sym is))
+    (λ (other : r ≢ row). ap (λ (f : ℕ → X). f k) (put_at-other table row r (put_at (table row) key new) other))
+    (cases_eq r row))
+    either
+
+pub put_in-again : {X : Type 0} (table : ℕ → ℕ → X) (row key : ℕ) (old new : X) → put_in (put_in table row key old) row key new ≡ put_in table row key new
+put_in-again {X} table row key old new =
+    let once : (put_at table row (put_at (table row) key old)) row ≡ put_at (table row) key old = put_at-same table row (put_at (table row) key old) in
+    ap (λ (f : ℕ → X). put_at (put_at table row (put_at (table row) key old)) row (put_at f key new)) once
+    ∙ put_at-again table row (put_at (table row) key old) (put_at (put_at (table row) key old) key new)
+    ∙ ap (put_at table row) (put_at-again (table row) key old new)
+
+pub put_in-none : {X : Type 0} (table : ℕ → ℕ → X) (row key : ℕ) (new : X) → table row key ≡ new → put_in table row key new ≡ table
+put_in-none table row key new same = put_at-none table row (put_at (table row) key new) (sym (put_at-none (table row) key new same))
 
 -- a table that differs in one entry of one row is the one with that entry changed
 pub put_in-is : {X : Type 0} (table new : ℕ → ℕ → X) (row key : ℕ) (value : X) → new row key ≡ value → ((other : ℕ) → other ≢ key → new row other ≡ table row other) →
