@@ -9,7 +9,7 @@ use Rattle.pool_layout.specs.Header.{version_in}
 use Rattle.image_tables.specs.Extents.{extent_at}
 use Rattle.image_tables.specs.Tables.{Tables, large_of, is_slab_of, is_slab, AreSlabsInHeap, tables_of}
 use Rattle.image_tables.specs.Updates.{put_at}
-use Rattle.image_tables.proofs.Updates.{put_at-same, put_at-other}
+use Rattle.image_tables.proofs.Updates.{put_at-same, put_at-other, put_at-twice, put_at-own}
 use Rattle.image_tables.proofs.Stores.{version_in-off_log, heap_word-off_log, tables_off_log, version_in-put_root, heap_word-put_root, extent_at-put_root, tables_put_root}
 use Rattle.image_tables.proofs.Tables.{large_table, slab_table}
 use Rattle.book_log.specs.declared.entry.LogEntry.{LogEntry}
@@ -30,26 +30,6 @@ use Rattle.heap_check.proofs.LargeHeaps.{heap-large_other, heap-large_none, heap
 use Rattle.arena_core.specs.Effect.{GivesRoot}
 use Rattle.arena_core.specs.Log.{KeepsRest, HasSameExtents, HasExtentsWith}
 use Rattle.arena_core.proofs.Entries.{off_log}
-
--- a table with the entry changed that it has
-put_at-own : {X : Type 0} (table : ℕ → X) (key : ℕ) → put_at table key (table key) ≡ table
-put_at-own {X} table key = λ i other. each other i
-  where
-    each : (other : ℕ) → put_at table key (table key) other ≡ table other
-    each other = ⊎_elim
-        (λ (same : other ≡ key). ap (put_at table key (table key)) same ∙ put_at-same table key (table key) ∙ ap table (sym same))
-        (λ (differ : other ≢ key). put_at-other table key other (table key) differ)
-        (cases_eq other key)
-
--- an entry changed twice
-put_at-twice : {X : Type 0} (table : ℕ → X) (key : ℕ) (old new : X) → put_at (put_at table key old) key new ≡ put_at table key new
-put_at-twice {X} table key old new = λ i other. each other i
-  where
-    each : (other : ℕ) → put_at (put_at table key old) key new other ≡ put_at table key new other
-    each other = ⊎_elim
-        (λ (same : other ≡ key). ap (put_at (put_at table key old) key new) same ∙ put_at-same (put_at table key old) key new ∙ sym (put_at-same table key new) ∙ ap (put_at table key new) (sym same))
-        (λ (differ : other ≢ key). put_at-other (put_at table key old) key other new differ ∙ put_at-other table key other old differ ∙ sym (put_at-other table key other new differ))
-        (cases_eq other key)
 
 -- The image is as the words are, but that the extent at a start has so many granules, and a root this word.
 pub record IsStageOf (words : List ℕ) (root start here word : ℕ) (image : List ℕ) : Type 0 where

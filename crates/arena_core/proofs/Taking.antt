@@ -13,7 +13,7 @@ use Rattle.heap_check.proofs.Forms.{AreSlabsInHeap-sound}
 use Rattle.heap_check.proofs.Geometry.{granules_at-large}
 use Rattle.heap_check.proofs.Large.{IsLargePlace}
 use Rattle.heap_check.proofs.LargePlaces.{IsLargePlace-named}
-use Rattle.arena_core.specs.Call.{IsEitherHeap}
+use Rattle.heap_check.specs.State.{IsEitherHeap}
 use Rattle.arena_core.specs.Events.{log_events, root_events, take_events}
 use Rattle.arena_core.specs.Log.{IsLogged, IsLoggedOrNot}
 use Rattle.arena_core.specs.Plan.{IsTakable}

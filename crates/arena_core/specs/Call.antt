@@ -8,8 +8,8 @@ use Rattle.heap_model.specs.declared.call.Call.{Call}
 use Rattle.heap_model.specs.declared.call.Reply.{Reply}
 use Rattle.heap_model.specs.Machine.{Machine, no_heap}
 use Rattle.heap_model.specs.Step.{IsLargeStep}
-use Rattle.heap_check.specs.Image.{bounds_of, IsExactImage, IsSteadyImage}
-use Rattle.heap_check.specs.State.{HasState, HaveSameHeap, KeepsBlocks}
+use Rattle.heap_check.specs.Image.{bounds_of, IsExactImage}
+use Rattle.heap_check.specs.State.{HasState}
 
 -- the memory may begin a call, and has room for the events of any
 pub record IsReady (device : PmemState) : Type 0 where
@@ -20,13 +20,6 @@ pub record IsReady (device : PmemState) : Type 0 where
 pub record IsStepOf (old new : List ℕ) (call : Call) (reply : Reply) : Type 0 where
   pub bounds : bounds_of new ≡ bounds_of old
   pub each : (m : Machine) → HasState old m → (next : Machine) × IsLargeStep (bounds_of old) m call reply next × HasState new next
-
--- A crash within a call from the old words to the new ones leaves a steady image with the heap of the one or of the
--- other, and each block of both has its words.
-pub record IsEitherHeap (old new image : List ℕ) : Type 0 where
-  pub steady : IsSteadyImage image
-  pub heap : HaveSameHeap old image ⊎ HaveSameHeap new image
-  pub words : KeepsBlocks old new image
 
 -- a crash while an arena is formatted leaves an image that is refused for its first word, or an exact one with no block
 abbrev pub IsFormattedOrNot : List ℕ → Type 0

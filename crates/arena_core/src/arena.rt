@@ -7,10 +7,10 @@ ghost use Rattle.pool_layout.specs.Header.{granules_in};
 ghost use Rattle.heap_model.specs.declared.call.Call.TheVariants as calls;
 ghost use Rattle.heap_model.specs.Machine.{no_heap};
 ghost use Rattle.heap_check.specs.Image.{IsExactImage};
-ghost use Rattle.heap_check.specs.State.{HasState, KeepsBlocks};
+ghost use Rattle.heap_check.specs.State.{HasState, KeepsBlocks, IsEitherHeap};
 ghost use Rattle.arena_core.specs.Answer.{malloc_reply, free_reply};
 ghost use Rattle.arena_core.specs.Arena.{IsBlockOfRoot};
-ghost use Rattle.arena_core.specs.Call.{IsReady, IsStepOf, IsEitherHeap, IsFormattedOrNot};
+ghost use Rattle.arena_core.specs.Call.{IsReady, IsStepOf, IsFormattedOrNot};
 ghost use Rattle.arena_core.specs.Events.{call_events, format_events};
 
 use crate::carrying::{carry_out_free, carry_out_malloc};

@@ -9,9 +9,8 @@ use Rattle.pool_layout.specs.Header.{version_field, version_in}
 use Rattle.image_tables.specs.Extents.{extent_at}
 use Rattle.image_tables.specs.Tables.{OpenEntry, entry_of_word, entry_among, wal_lines, large_of, is_slab_of, is_slab, AreSlabsInHeap, state_word, bitmap_word, index_word, bit_at, tables_of}
 use Rattle.image_tables.proofs.Places.{log_word-low}
-use Rattle.image_tables.proofs.Logs.{IsOffLog}
 use Rattle.image_tables.proofs.Extents.{extent_at-elsewhere}
-use Rattle.image_tables.proofs.Stores.{tables_but, wal_word-low, log_word-high, state_word-high, bitmap_word-high, index_word-high, bit_at-same, slab_bit-same}
+use Rattle.image_tables.proofs.Stores.{IsOffLog-wal, tables_but, wal_word-low, log_word-high, state_word-high, bitmap_word-high, index_word-high, bit_at-same, slab_bit-same}
 use Rattle.attach_wal.specs.Wal.{with_entry, HasNoOther}
 
 -- the entry of a word, if it is not 0
@@ -38,14 +37,6 @@ entry_among-one row (suc n) line below closed = ⊎_elim
     cond-true (eqb (row n) 0) (entry_among row n) (Some (entry_of_word (row n))) (eq-eqb (row n) 0 last)
     ∙ entry_among-one row n line less (λ o small apart. closed o (omega (arith, small)) apart))
     (cases_eq n line)
-
--- a write-ahead word is none of the log's
-IsOffLog-wal : (words : List ℕ) (line : ℕ) → line < wal_lines → IsOffLog words (wal_word line)
-IsOffLog-wal words line below = record {
-  fields = λ e. omega arith;
-  directory = λ e. omega arith;
-  place = inl (omega (arith, wal_word-low line below, log_word-low (version_in words)));
-}
 
 -- a store to a write-ahead word changes the open entry, and nothing else
 pub tables_put_wal : (words : List ℕ) (line value : ℕ) → line < wal_lines → wal_word line < length words → AreSlabsInHeap words → HasNoOther words line →

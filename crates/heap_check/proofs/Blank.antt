@@ -4,8 +4,9 @@ use Rattle.std.proofs.lemmas.Bool.{cases_Bool}
 use Rattle.image_tables.specs.Tables.{Tables}
 use Rattle.heap_model.specs.Machine.{Bounds, Range}
 use Rattle.heap_check.specs.Heap.{IsClaim, claim_at}
-use Rattle.heap_check.specs.Sound.{granules_at, IsNearlyDone, IsSound, IsExact}
+use Rattle.heap_check.specs.Sound.{granules_at, IsNearlyDone, IsSound, IsExact, IsExactBut, IsSteady}
 use Rattle.heap_check.specs.Laws.{AreBlank, LawOfEmptyHeap, LawOfSteady}
+use Rattle.heap_check.proofs.Loose.{IsExactBut-exact}
 
 module _ (b : Bounds) (t : Tables) (blank : AreBlank t) where
   no_granules : (start : ℕ) → granules_at t start ≡ 0
@@ -46,25 +47,29 @@ module _ (b : Bounds) (t : Tables) (blank : AreBlank t) where
 pub law_of_empty_heap : LawOfEmptyHeap
 law_of_empty_heap b t blank = (blank_exact b t blank, λ root. rw (blank.roots root) refl)
 
--- in an exact image no slab is nearly done
-pub law_of_steady : LawOfSteady
-law_of_steady b t exact = record {
-  sound = exact.sound;
+-- an image that is exact but for one slab is steady: no slab is nearly done
+pub IsSteady-but : {b : Bounds} {t : Tables} {start : ℕ} → IsExactBut b t start → IsSteady b t
+IsSteady-but {b} {t} {start} but = record {
+  sound = but.sound;
   one_done = record { same = λ one other first second. absurd (nearly_none one first) };
 }
   where
-    nearly_none : (start : ℕ) → ¬ (IsNearlyDone t start)
-    nearly_none start nearly = ⊎_elim
-        (λ (normal : t.kind start ≡ 1). nearly.kind normal)
+    nearly_none : (other : ℕ) → ¬ (IsNearlyDone t other)
+    nearly_none other nearly = ⊎_elim
+        (λ (normal : t.kind other ≡ 1). nearly.kind normal)
         (λ rest. ⊎_elim
-        (λ (morphing : t.kind start ≡ 2). exact.calm start (record { slab = nearly.slab; kind = morphing }))
-        (λ (morphed : t.kind start ≡ 3). exact.none_done start (record {
+        (λ (morphing : t.kind other ≡ 2). but.calm other (record { slab = nearly.slab; kind = morphing }))
+        (λ (morphed : t.kind other ≡ 3). but.none_done other (record {
           slab = nearly.slab;
           kind = morphed;
           none = λ place below. ⊎_elim
-              (λ (live : t.live start place ≡ true). absurd (let found = nearly.none place below live in let open' = found.1 in let none = exact.closed in cc))
+              (λ (live : t.live other place ≡ true). absurd (let found = nearly.none place below live in let open' = found.1 in let none = but.closed in cc))
               (λ dead. dead)
-              (cases_Bool (t.live start place));
+              (cases_Bool (t.live other place));
         }))
         rest)
-        (exact.sound.slabs start nearly.slab).state
+        (but.sound.slabs other nearly.slab).state
+
+-- so is an exact image
+pub law_of_steady : LawOfSteady
+law_of_steady b t exact = IsSteady-but (IsExactBut-exact exact 0)

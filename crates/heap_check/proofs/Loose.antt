@@ -1,9 +1,9 @@
 -- Loose things. At most one number has it: where none has it, where it is a given one, and where it was so of what has
--- more. And an image in which one slab at most is loose, a given one.
-use Rattle.std.proofs.Common.{◌≡◌, ◌≢◌, ℕ, ◌*◌, ◌<◌, true, sym, ◌∙◌, None}
+-- more. And images that are exact but for one slab.
+use Rattle.std.proofs.Common.{◌≡◌, ◌≢◌, ℕ, sym, ◌∙◌}
 use Rattle.image_tables.specs.Tables.{Tables}
 use Rattle.heap_model.specs.Machine.{Bounds}
-use Rattle.heap_check.specs.Sound.{IsInSlab, AtMostOne, IsEmptySlab, IsMorphing, IsDoneSlab, IsSound, IsExact}
+use Rattle.heap_check.specs.Sound.{AtMostOne, IsEmptySlab, IsExact, IsExactBut}
 
 pub AtMostOne-none : {P : ℕ → Type 0} → ((k : ℕ) → ¬ (P k)) → AtMostOne P
 AtMostOne-none {P} none = record { same = λ one other first second. absurd (none one first) }
@@ -13,15 +13,6 @@ AtMostOne-one {P} k only = record { same = λ one other first second. only one f
 
 pub AtMostOne-fewer : {P Q : ℕ → Type 0} → ((k : ℕ) → Q k → P k) → AtMostOne P → AtMostOne Q
 AtMostOne-fewer {P} {Q} was most = record { same = λ one other first second. most.same one other (was one first) (was other second) }
-
--- the image is exact, but that the slab at this start may have no root's block
-pub record IsExactBut (b : Bounds) (t : Tables) (start : ℕ) : Type 0 where
-  pub sound : IsSound b t
-  pub closed : t.entry ≡ None
-  pub all_named : (other : ℕ) → 0 < t.large other → (root : ℕ) × (t.root root ≡ 16384 * other)
-  pub others_live : (other : ℕ) → other ≢ start → t.slab other ≡ true → (root : ℕ) × (t.root root ≢ 0) × IsInSlab t other (t.root root)
-  pub calm : (other : ℕ) → ¬ (IsMorphing t other)
-  pub none_done : (other : ℕ) → ¬ (IsDoneSlab t other)
 
 pub IsExactBut-exact : {b : Bounds} {t : Tables} → IsExact b t → (start : ℕ) → IsExactBut b t start
 IsExactBut-exact {b} {t} exact start = record {

@@ -7,12 +7,12 @@ use Rattle.image_tables.specs.Tables.{Tables}
 use Rattle.heap_model.specs.Machine.{Bounds, Range, AreApart}
 use Rattle.heap_model.proofs.Slabbing.{LiesIn-block}
 use Rattle.heap_check.specs.Heap.{is_old_of, is_large, is_old, entry_at, IsClaim, Holds, HoldsBit, HoldsOld}
-use Rattle.heap_check.specs.Sound.{IsInSlab, IsHeld, IsSound}
+use Rattle.heap_check.specs.Sound.{IsInSlab, IsHeld, IsSound, IsExactBut}
 use Rattle.heap_check.proofs.Claims.{plain_size, IsNamed-claim, IsClaim-word}
 use Rattle.heap_check.proofs.Geometry.{granules_at-slab, Covers-slab, is_large-slab, plain_size-some}
 use Rattle.heap_check.proofs.Within.{IsWithin, IsWithin-held, IsInSlab-held, IsWithin-claim, one_claim, AreApart-within}
 use Rattle.heap_check.proofs.Touch.{Range-same}
-use Rattle.heap_check.proofs.Loose.{IsExactBut, others_lived}
+use Rattle.heap_check.proofs.Loose.{others_lived}
 use Rattle.heap_check.proofs.Small.{block_in, blocks_apart, IsSmallPlace}
 
 -- an address lies in one slab

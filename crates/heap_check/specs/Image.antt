@@ -9,7 +9,7 @@ use Rattle.pool_layout.specs.Header.{version_in, granules_in, fields_of, IsHeade
 use Rattle.image_tables.specs.Tables.{is_slab, state_word, index_word, state_field, wal_lines, tables_of}
 use Rattle.book_log.specs.Book.{HasLog}
 use Rattle.heap_model.specs.Machine.{Bounds}
-use Rattle.heap_check.specs.Sound.{IsSound, IsExact, IsSteady}
+use Rattle.heap_check.specs.Sound.{IsSound, IsExact, IsExactBut, IsSteady}
 
 -- the numbers of an arena of these words, by its header
 abbrev pub bounds_of : List ℕ → Bounds
@@ -60,6 +60,11 @@ pub record IsSoundImage (words : List ℕ) : Type 0 where
 pub record IsExactImage (words : List ℕ) : Type 0 where
   pub formed : IsFormed words
   pub exact : IsExact (bounds_of words) (tables_of words)
+
+-- the image is exact, but that a slab may have no root's block
+pub record IsExactButImage (words : List ℕ) (start : ℕ) : Type 0 where
+  pub formed : IsFormed words
+  pub but : IsExactBut (bounds_of words) (tables_of words) start
 
 -- the image is steady
 pub record IsSteadyImage (words : List ℕ) : Type 0 where

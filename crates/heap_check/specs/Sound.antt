@@ -134,6 +134,15 @@ pub record IsExact (b : Bounds) (t : Tables) : Type 0 where
   pub calm : (start : ℕ) → ¬ (IsMorphing t start)
   pub none_done : (start : ℕ) → ¬ (IsDoneSlab t start)
 
+-- The image is exact, but that the slab at a start may have no root's block.
+pub record IsExactBut (b : Bounds) (t : Tables) (start : ℕ) : Type 0 where
+  pub sound : IsSound b t
+  pub closed : t.entry ≡ None
+  pub all_named : (other : ℕ) → 0 < t.large other → (root : ℕ) × (t.root root ≡ 16384 * other)
+  pub others_live : (other : ℕ) → other ≢ start → t.slab other ≡ true → (root : ℕ) × (t.root root ≢ 0) × IsInSlab t other (t.root root)
+  pub calm : (other : ℕ) → ¬ (IsMorphing t other)
+  pub none_done : (other : ℕ) → ¬ (IsDoneSlab t other)
+
 -- a slab that takes or took another class has no live index entry, but for the one of an open old entry whose root's
 -- word is 0
 pub record IsNearlyDone (t : Tables) (start : ℕ) : Type 0 where

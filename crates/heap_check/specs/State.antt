@@ -1,9 +1,11 @@
--- The state of the heap machine that an image has, and what stays the same of its blocks.
-use Rattle.std.specs.Prelude.{◌≡◌, ℕ, ◌+◌, ◌/◌, ◌<◌, ◌≤◌, List, Some}
+-- The state of the heap machine that an image has, what stays the same of its blocks, and what a crash within a call
+-- leaves.
+use Rattle.std.specs.Prelude.{◌≡◌, ◌⊎◌, ℕ, ◌+◌, ◌/◌, ◌<◌, ◌≤◌, List, Some}
 use Rattle.pmem_lines.specs.Words.{word_at}
 use Rattle.image_tables.specs.Tables.{tables_of}
 use Rattle.heap_model.specs.Machine.{Range, Machine}
 use Rattle.heap_check.specs.Heap.{heap, slabs}
+use Rattle.heap_check.specs.Image.{IsSteadyImage}
 
 -- word k lies in the range
 pub record IsWordOf (range : Range) (k : ℕ) : Type 0 where
@@ -30,3 +32,10 @@ pub record HaveSameHeap (words image : List ℕ) : Type 0 where
 -- each block that both the old heap and the new one have has its old words in the image
 pub record KeepsBlocks (old new image : List ℕ) : Type 0 where
   pub each : (root : ℕ) (range : Range) (k : ℕ) → heap (tables_of old) root ≡ Some range → heap (tables_of new) root ≡ Some range → IsWordOf range k → word_at image k ≡ word_at old k
+
+-- A crash within a call from the old words to the new ones leaves a steady image with the heap of the one or of the
+-- other, and each block of both has its words.
+pub record IsEitherHeap (old new image : List ℕ) : Type 0 where
+  pub steady : IsSteadyImage image
+  pub heap : HaveSameHeap old image ⊎ HaveSameHeap new image
+  pub words : KeepsBlocks old new image

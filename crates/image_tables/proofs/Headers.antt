@@ -47,7 +47,7 @@ heap_word-low : (version : ℕ) → 2048 < heap_word version
 heap_word-low version = omega (arith, log_word-low version, log_word-high version)
 
 -- the log is the same
-SameLog-off_header : (words new : List ℕ) (start : ℕ) → IsSameOffHeader words new start → SameLog words new
+pub SameLog-off_header : (words new : List ℕ) (start : ℕ) → IsSameOffHeader words new start → SameLog words new
 SameLog-off_header words new start same =
     let version = version_in words in
     record {

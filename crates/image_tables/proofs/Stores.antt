@@ -202,6 +202,14 @@ IsOffLog-root words root below = record {
   place = inl (root_word-low (version_in words) root below);
 }
 
+-- a write-ahead word is none of the log's
+pub IsOffLog-wal : (words : List ℕ) (line : ℕ) → line < wal_lines → IsOffLog words (wal_word line)
+IsOffLog-wal words line below = record {
+  fields = λ e. omega arith;
+  directory = λ e. omega arith;
+  place = inl (omega (arith, wal_word-low line below, log_word-low (version_in words)));
+}
+
 pub fields-put_root : (words : List ℕ) (root value : ℕ) → word_at (put_word words (root_word root) value) fields_word ≡ word_at words fields_word
 fields-put_root words root value = word_at-put_other words (root_word root) fields_word value (λ e. omega arith)
 

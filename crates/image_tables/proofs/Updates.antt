@@ -12,8 +12,8 @@ pub put_at-other : {X : Type 0} (table : ℕ → X) (key other : ℕ) (new : X) 
 put_at-other table key other new apart = cond-false (eqb other key) new (table other) (ne_eqb other key apart)
 
 -- changed again
-pub put_at-again : {X : Type 0} (table : ℕ → X) (key : ℕ) (old new : X) → put_at (put_at table key old) key new ≡ put_at table key new
-put_at-again table key old new i other = ⊎_elim
+pub put_at-twice : {X : Type 0} (table : ℕ → X) (key : ℕ) (old new : X) → put_at (put_at table key old) key new ≡ put_at table key new
+put_at-twice table key old new i other = ⊎_elim
     (λ (is : other ≡ key). put_at-here other is)
     (λ (apart : other ≢ key). put_at-other (put_at table key old) key other new apart ∙ put_at-other table key other old apart ∙ sym (put_at-other table key other new apart))
     (cases_eq other key) i
@@ -22,10 +22,10 @@ put_at-again table key old new i other = ⊎_elim
     put_at-here other is = ap (put_at (put_at table key old) key new) is ∙ put_at-same (put_at table key old) key new ∙ sym (put_at-same table key new) ∙ ap (put_at table key new) (sym is)
 
 -- changed to what it is
-pub put_at-none : {X : Type 0} (table : ℕ → X) (key : ℕ) (new : X) → table key ≡ new → put_at table key new ≡ table
-put_at-none table key new same i other = ⊎_elim
-    (λ (is : other ≡ key). ap (put_at table key new) is ∙ put_at-same table key new ∙ sym same ∙ ap table (sym is))
-    (λ (apart : other ≢ key). put_at-other table key other new apart)
+pub put_at-own : {X : Type 0} (table : ℕ → X) (key : ℕ) → put_at table key (table key) ≡ table
+put_at-own table key i other = ⊎_elim
+    (λ (is : other ≡ key). ap (put_at table key (table key)) is ∙ put_at-same table key (table key) ∙ ap table (sym is))
+    (λ (apart : other ≢ key). put_at-other table key other (table key) apart)
     (cases_eq other key) i
 
 -- an entry of a row
@@ -46,15 +46,15 @@ put_in-other {X} table row key new r k either = ⊎_elim
     (cases_eq r row))
     either
 
-pub put_in-again : {X : Type 0} (table : ℕ → ℕ → X) (row key : ℕ) (old new : X) → put_in (put_in table row key old) row key new ≡ put_in table row key new
-put_in-again {X} table row key old new =
+pub put_in-twice : {X : Type 0} (table : ℕ → ℕ → X) (row key : ℕ) (old new : X) → put_in (put_in table row key old) row key new ≡ put_in table row key new
+put_in-twice {X} table row key old new =
     let once : (put_at table row (put_at (table row) key old)) row ≡ put_at (table row) key old = put_at-same table row (put_at (table row) key old) in
     ap (λ (f : ℕ → X). put_at (put_at table row (put_at (table row) key old)) row (put_at f key new)) once
-    ∙ put_at-again table row (put_at (table row) key old) (put_at (put_at (table row) key old) key new)
-    ∙ ap (put_at table row) (put_at-again (table row) key old new)
+    ∙ put_at-twice table row (put_at (table row) key old) (put_at (put_at (table row) key old) key new)
+    ∙ ap (put_at table row) (put_at-twice (table row) key old new)
 
-pub put_in-none : {X : Type 0} (table : ℕ → ℕ → X) (row key : ℕ) (new : X) → table row key ≡ new → put_in table row key new ≡ table
-put_in-none table row key new same = put_at-none table row (put_at (table row) key new) (sym (put_at-none (table row) key new same))
+pub put_in-own : {X : Type 0} (table : ℕ → ℕ → X) (row key : ℕ) → put_in table row key (table row key) ≡ table
+put_in-own table row key = ap (put_at table row) (put_at-own (table row) key) ∙ put_at-own table row
 
 -- a table that differs in one entry of one row is the one with that entry changed
 pub put_in-is : {X : Type 0} (table new : ℕ → ℕ → X) (row key : ℕ) (value : X) → new row key ≡ value → ((other : ℕ) → other ≢ key → new row other ≡ table row other) →

@@ -11,12 +11,11 @@ use Rattle.heap_model.specs.Machine.{Range, no_heap}
 use Rattle.heap_model.specs.Step.{root_of}
 use Rattle.heap_check.specs.Heap.{heap}
 use Rattle.heap_check.specs.Image.{IsSteadyImage}
-use Rattle.arena_core.specs.Call.{IsEitherHeap}
 use Rattle.trace_text.specs.declared.call.CrashSide.{CrashSide}
 use Rattle.trace_text.specs.declared.call.CrashSide.TheVariants.{Same}
 use Rattle.trace_text.specs.declared.call.TraceCall.{TraceCall}
 use Rattle.trace_text.specs.Report.{crash_text}
-use Rattle.heap_check.specs.State.{HasState}
+use Rattle.heap_check.specs.State.{HasState, IsEitherHeap}
 use Rattle.trace_runs.specs.Replay.{blocks_of, formatted}
 use Rattle.trace_runs.specs.Calls.{IsNewArena}
 use Rattle.trace_runs.specs.Crash.{Stage, IsRunOf, calls_up_to, CrashLeft, IsCrashReport, IsSide, crash_image}

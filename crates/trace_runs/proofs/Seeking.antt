@@ -11,7 +11,8 @@ use Rattle.heap_model.specs.Machine.{Machine, no_heap}
 use Rattle.heap_model.specs.Step.{root_of}
 use Rattle.heap_check.specs.Image.{IsExactImage}
 use Rattle.arena_core.specs.Events.{call_events}
-use Rattle.arena_core.specs.Call.{IsStepOf, IsEitherHeap}
+use Rattle.heap_check.specs.State.{IsEitherHeap}
+use Rattle.arena_core.specs.Call.{IsStepOf}
 use Rattle.trace_text.specs.declared.call.TraceCall.{TraceCall}
 use Rattle.trace_runs.specs.Replay.{bounds_for, formatted}
 use Rattle.trace_runs.specs.Crash.{Stage, IsRun, CrashLeft, IsLeft, IsLeftWithin, IsLeftIdle, is_under_way, total_events}

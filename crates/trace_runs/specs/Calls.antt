@@ -10,8 +10,8 @@ use Rattle.heap_model.specs.Machine.{Machine, no_heap, IsOverlapFree}
 use Rattle.heap_model.specs.Step.{IsLargeStep, root_of}
 use Rattle.heap_model.specs.Journal.{Leads}
 use Rattle.heap_check.specs.Image.{bounds_of, IsExactImage}
-use Rattle.heap_check.specs.State.{HasState}
-use Rattle.arena_core.specs.Call.{IsStepOf, IsEitherHeap}
+use Rattle.heap_check.specs.State.{HasState, IsEitherHeap}
+use Rattle.arena_core.specs.Call.{IsStepOf}
 use Rattle.arena_core.specs.Events.{format_events, call_events}
 use Rattle.trace_text.specs.declared.call.TraceCall.{TraceCall}
 use Rattle.trace_text.specs.Report.{entry_line}

@@ -8,7 +8,8 @@ use Rattle.heap_model.specs.declared.call.Entry.{Entry}
 use Rattle.heap_model.specs.Step.{root_of}
 use Rattle.heap_check.specs.Heap.{heap}
 use Rattle.heap_check.specs.Image.{IsExactImage, IsSteadyImage}
-use Rattle.arena_core.specs.Call.{IsStepOf, IsEitherHeap}
+use Rattle.heap_check.specs.State.{IsEitherHeap}
+use Rattle.arena_core.specs.Call.{IsStepOf}
 use Rattle.arena_core.specs.Events.{call_events}
 use Rattle.trace_text.specs.declared.call.CrashSide.{CrashSide}
 use Rattle.trace_text.specs.declared.call.TraceCall.{TraceCall}
