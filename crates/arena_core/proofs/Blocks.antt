@@ -21,7 +21,7 @@ use Rattle.heap_check.proofs.Geometry.{granules_at-large, is_large-parts, is_lar
 use Rattle.heap_check.proofs.Heaps.{heap-none, is_large-rooted}
 use Rattle.arena_core.specs.Arena.{HasNoSlab}
 use Rattle.arena_core.specs.Plan.{IsTakable}
-use Rattle.arena_core.proofs.Sizes.{sizes_of}
+use Rattle.heap_check.proofs.Sizes.{sizes_of}
 
 -- what is live and large is an extent of so many granules
 some_large : (x : Option Extent) → 0 < large_of x → x ≡ Some (extent.Large (large_of x))

@@ -14,7 +14,7 @@ use Rattle.log_gc.proofs.Live.{live_extents}
 use Rattle.heap_check.specs.Sound.{granules_at, IsSound}
 use Rattle.heap_check.specs.Image.{bounds_of, IsFormed}
 use Rattle.heap_check.proofs.Geometry.{granules_at-slab, granules_at-large}
-use Rattle.arena_core.proofs.Sizes.{sizes_of}
+use Rattle.heap_check.proofs.Sizes.{sizes_of}
 
 -- the live extents of a well-formed arena
 pub live_of : (words : List ℕ) → IsFormed words → AreLive (layout_of (version_in words)).first_granule (granules_in words) (extent_at words)

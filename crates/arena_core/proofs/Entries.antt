@@ -26,7 +26,7 @@ use Rattle.heap_check.specs.Image.{IsFormed}
 use Rattle.arena_core.specs.Arena.{IsBookOf}
 use Rattle.arena_core.specs.Events.{first_zero, next_entry_word, log_events}
 use Rattle.arena_core.specs.Log.{KeepsRest, IsLogged, IsLoggedOrNot}
-use Rattle.arena_core.proofs.Sizes.{sizes_of, heap_inside}
+use Rattle.heap_check.proofs.Sizes.{sizes_of, heap_inside}
 
 -- where the next entry goes
 

@@ -25,7 +25,7 @@ use Rattle.heap_check.proofs.Formatted.{AreBlank-formatted, header_in-formatted,
 use Rattle.arena_core.specs.Arena.{IsArena}
 use Rattle.arena_core.specs.Call.{IsReady, IsFormattedOrNot}
 use Rattle.arena_core.specs.Events.{format_events}
-use Rattle.arena_core.proofs.Sizes.{sizes_of, heap_inside}
+use Rattle.heap_check.proofs.Sizes.{sizes_of, heap_inside}
 
 -- the header of an arena of version 1
 pub IsPoolHeader-new : (number arenas granules : ℕ) → number < arenas → arenas ≤ 16 → 16 ≤ granules → granules ≤ 1024 →

@@ -16,7 +16,7 @@ use Rattle.heap_check.specs.State.{IsEitherHeap}
 use Rattle.arena_core.specs.Events.{log_events, root_events, place_events}
 use Rattle.arena_core.specs.Log.{IsLogged, IsLoggedOrNot}
 use Rattle.arena_core.specs.Plan.{IsGivable}
-use Rattle.arena_core.proofs.Sizes.{sizes_of, root_inside}
+use Rattle.heap_check.proofs.Sizes.{sizes_of, root_inside}
 use Rattle.arena_core.proofs.Stages.{IsStageOf, stage_none, stage_root, stage_same, stage_entry, steady_stage, same_none, same_some, keeps_stage}
 
 -- a word at an address

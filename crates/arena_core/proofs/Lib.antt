@@ -1,4 +1,3 @@
-pub mod Sizes
 pub mod Entries
 pub mod Stages
 pub mod Disjoint

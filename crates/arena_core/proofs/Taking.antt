@@ -17,7 +17,7 @@ use Rattle.heap_check.specs.State.{IsEitherHeap}
 use Rattle.arena_core.specs.Events.{log_events, root_events, take_events}
 use Rattle.arena_core.specs.Log.{IsLogged, IsLoggedOrNot}
 use Rattle.arena_core.specs.Plan.{IsTakable}
-use Rattle.arena_core.proofs.Sizes.{sizes_of, root_inside}
+use Rattle.heap_check.proofs.Sizes.{sizes_of, root_inside}
 use Rattle.arena_core.proofs.Giving.{put_byte}
 use Rattle.arena_core.proofs.Stages.{IsStageOf, stage_none, stage_root, stage_same, stage_entry, steady_stage, same_none, same_some, keeps_stage}
 

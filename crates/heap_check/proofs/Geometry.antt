@@ -1,12 +1,12 @@
 -- Where live extents lie, and which one has an address.
-use Rattle.std.proofs.Common.{◌≡◌, ◌≢◌, ◌&&◌, ◌==◌, ℕ, ◌+◌, ◌-◌, ◌*◌, ◌/◌, ◌%◌, ◌<◌, ◌≤◌, Bool, true, false, true≢false, cond, refl, sym, ap, subst, ◌∙◌, arith, ltb}
-use Rattle.std.proofs.lemmas.Bool.{eq-eqb, eqb-true, ltb-true, lt-ltb, cond-true, cond-false, and_parts, and_from, false_from_ne_true}
+use Rattle.std.proofs.Common.{◌≡◌, ◌≢◌, ◌&&◌, ◌==◌, ℕ, ◌+◌, ◌-◌, ◌*◌, ◌/◌, ◌%◌, ◌<◌, ◌≤◌, Bool, true, false, true≢false, cond, refl, sym, ap, subst, ◌∙◌, arith, ⊎_elim, ltb}
+use Rattle.std.proofs.lemmas.Bool.{cases_eq, eq-eqb, eqb-true, ltb-true, lt-ltb, cond-true, cond-false, and_parts, and_from, false_from_ne_true}
 use Rattle.size_classes.specs.Classes.{class_size}
 use Rattle.size_classes.proofs.Spacing.{class_size-least}
 use Rattle.image_tables.specs.Tables.{Tables}
 use Rattle.heap_model.specs.Machine.{Bounds}
 use Rattle.heap_check.specs.Heap.{slab_of, is_large, is_old}
-use Rattle.heap_check.specs.Sound.{granules_at, Covers, IsInSlab, IsSound}
+use Rattle.heap_check.specs.Sound.{granules_at, Covers, IsInSlab, IsSlab, IsSound}
 use Rattle.image_tables.specs.Updates.{put_at}
 use Rattle.image_tables.proofs.Updates.{put_at-other}
 use Rattle.heap_check.proofs.Claims.{plain_size}
@@ -21,6 +21,10 @@ granules_at-large t start no_slab = cond-false (t.slab start) 4 (t.large start) 
 
 pub Covers-slab : (t : Tables) (start k : ℕ) → t.slab start ≡ true → start ≤ k → k < start + 4 → Covers t start k
 Covers-slab t start k slab low high = record { low = low; high = omega (arith, high, granules_at-slab t start slab) }
+
+-- a valid slab has 64 index entries at most
+pub entries_few : {t : Tables} {start : ℕ} → IsSlab t start → t.entries start ≤ 64
+entries_few {t} {start} is = ⊎_elim (λ (normal : t.kind start ≡ 1). omega (arith, (is.none normal).1)) (λ (other : t.kind start ≢ 1). (is.number other).1) (cases_eq (t.kind start) 1)
 
 -- addresses at which a large extent starts
 

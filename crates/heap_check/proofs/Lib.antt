@@ -1,4 +1,5 @@
 pub mod Blank
+pub mod Sizes
 pub mod Forms
 pub mod Formatted
 pub mod HandMade
@@ -20,3 +21,4 @@ pub mod Slabs
 pub mod SlabSound
 pub mod SlabPlaces
 pub mod SlabHeaps
+pub mod BlockWords

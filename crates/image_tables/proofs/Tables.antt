@@ -6,7 +6,7 @@ use Rattle.pool_layout.specs.Layout.{layout_of}
 use Rattle.pool_layout.specs.Places.{root_word}
 use Rattle.pool_layout.specs.Header.{version_in}
 use Rattle.image_tables.specs.Extents.{extent_at}
-use Rattle.image_tables.specs.Tables.{large_of, is_slab, bit_of_word, index_word, slab_bit, tables_of}
+use Rattle.image_tables.specs.Tables.{large_of, is_slab, bit_of_word, index_word, slab_bit, tables_of, state_field}
 
 -- a root's word
 pub root_table : (words : List ℕ) (root : ℕ) → root < (layout_of (version_in words)).roots → (tables_of words).root root ≡ word_at words (root_word root)
@@ -41,3 +41,8 @@ live_table words start place is below =
 pub number_table : (words : List ℕ) (start place : ℕ) → is_slab words start ≡ true → place < 64 → (tables_of words).number start place ≡ word_at words (index_word start place) / 2 ^ 16 % 2 ^ 16
 unfolding tables_of
 number_table words start place is below = cond-true (is_slab words start && ltb place 64) _ 0 (and_from (is_slab words start) (ltb place 64) is (lt-ltb place 64 below))
+
+-- how many index entries a slab has
+pub entries_table : (words : List ℕ) (start : ℕ) → (tables_of words).entries start ≡ state_field words start 24
+unfolding tables_of
+entries_table words start = refl

@@ -13,7 +13,7 @@ use Rattle.arena_core.specs.Arena.{IsBookOf}
 use Rattle.arena_core.proofs.Arenas.{book_root, no_slab_stage, index_stage, index_less}
 use Rattle.arena_core.proofs.Disjoint.{disjoint_of}
 use Rattle.arena_core.proofs.Entries.{quiet_step}
-use Rattle.arena_core.proofs.Sizes.{sizes_of, root_inside}
+use Rattle.heap_check.proofs.Sizes.{sizes_of, root_inside}
 use Rattle.arena_core.proofs.Giving.{word_stored, word_crash, give_place, nothing, given_extent, given, give_crash}
 use Rattle.arena_core.proofs.Stages.{IsStageOf, exact_stage, gives_some}
 use Rattle.arena_core.proofs.carrying.give.Goals as goal

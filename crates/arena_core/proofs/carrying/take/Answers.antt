@@ -9,7 +9,7 @@ use Rattle.heap_check.proofs.LargeHeaps.{IsVacant-freed}
 use Rattle.arena_core.specs.Arena.{IsBookOf}
 use Rattle.arena_core.proofs.Arenas.{book_root, no_slab_stage, index_stage, index_more}
 use Rattle.arena_core.proofs.Disjoint.{disjoint_of}
-use Rattle.arena_core.proofs.Sizes.{sizes_of, root_inside}
+use Rattle.heap_check.proofs.Sizes.{sizes_of, root_inside}
 use Rattle.arena_core.proofs.Giving.{word_stored, word_crash}
 use Rattle.arena_core.proofs.Stages.{IsStageOf, steady_stage, exact_stage, gives_none}
 use Rattle.arena_core.proofs.Taking.{take_place, taken_root, taken_extent, taken_covers, take_crash}

@@ -10,7 +10,7 @@ use Rattle.extent_index.specs.FreeSet.{IsFree}
 use Rattle.heap_check.specs.Sound.{IsVacant}
 use Rattle.heap_check.specs.Image.{bounds_of}
 use Rattle.arena_core.specs.Plan.{IsAskedOf}
-use Rattle.arena_core.proofs.Sizes.{sizes_of}
+use Rattle.heap_check.proofs.Sizes.{sizes_of}
 use Rattle.arena_core.proofs.Fits.{IsBestFit-same, HasNoFit-same, givable}
 use Rattle.arena_core.proofs.plan.plan_malloc.Goals as goal
 

@@ -3,7 +3,7 @@ use Rattle.pmem_lines.specs.Words.{word_at}
 use Rattle.pmem_lines.specs.Pmem.{words_of}
 use Rattle.pool_layout.specs.Places.{root_word}
 use Rattle.image_tables.specs.Tables.{tables_of}
-use Rattle.arena_core.proofs.Sizes.{sizes_of, root_inside}
+use Rattle.heap_check.proofs.Sizes.{sizes_of, root_inside}
 use Rattle.image_tables.proofs.Tables.{root_table}
 use Rattle.arena_core.proofs.Blocks.{root-small}
 use Rattle.arena_core.proofs.plan.root_word.Goals as goal

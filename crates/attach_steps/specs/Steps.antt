@@ -1,0 +1,111 @@
+-- A small block comes to a root, or goes from it: the events, when it may, and what it leaves.
+use Rattle.std.specs.Prelude.{◌≡◌, ◌≢◌, ℕ, ◌*◌, ◌/◌, ◌%◌, ◌<◌, Bool, true, false, List, ◌++◌, length, Option, Some, None}
+use Rattle.pmem_lines.specs.Words.{word_at}
+use Rattle.pmem_lines.specs.declared.event.Event.{Event}
+use Rattle.durable_steps.specs.Steps.{word_events, pair_events}
+use Rattle.size_classes.specs.Classes.{class_capacity}
+use Rattle.pool_layout.specs.Places.{root_word, wal_word}
+use Rattle.image_tables.specs.Tables.{Tables, bitmap_word, tables_of}
+use Rattle.image_tables.specs.Updates.{with_small}
+use Rattle.slab_header.specs.Steps.{with_bit}
+use Rattle.attach_wal.specs.declared.entry.WalEntry.{WalEntry}
+use Rattle.attach_wal.specs.Entry.{entry_word}
+use Rattle.heap_model.specs.Machine.{Range, slab_block}
+use Rattle.heap_check.specs.Heap.{heap}
+use Rattle.heap_check.specs.Sound.{IsInSlab}
+use Rattle.heap_check.specs.Image.{bounds_of, IsExactImage, IsExactButImage}
+use Rattle.attach_steps.specs.declared.block.SmallBlock.{SmallBlock}
+
+-- events
+
+-- the entry of a root's block
+abbrev pub entry_for : ℕ → SmallBlock → WalEntry
+entry_for root block = record { root = root; at = block.at; old = false; place = 0 }
+
+-- the word of the bitmap that has the block's bit
+abbrev pub bit_word : SmallBlock → ℕ
+bit_word block = bitmap_word block.start block.number
+
+-- that word with the bit set or cleared
+abbrev pub bit_put : List ℕ → SmallBlock → Bool → ℕ
+bit_put words block on = with_bit (word_at words (bit_word block)) (block.number / 8 % 64) on
+
+-- the bit is set, then the root gets the address, and both are made durable
+abbrev pub mark_events : List ℕ → ℕ → SmallBlock → List Event
+mark_events words root block = pair_events (8 * bit_word block) (bit_put words block true) (8 * root_word root) block.at
+
+-- the root's word becomes 0, then the bit is cleared, and both are made durable
+abbrev pub unmark_events : List ℕ → ℕ → SmallBlock → List Event
+unmark_events words root block = pair_events (8 * root_word root) 0 (8 * bit_word block) (bit_put words block false)
+
+-- under an entry that is opened before and closed behind
+abbrev pub under_entry : ℕ → ℕ → SmallBlock → List Event → List Event
+under_entry line root block events = word_events (8 * wal_word line) (entry_word (entry_for root block)) ++ events ++ word_events (8 * wal_word line) 0
+
+-- the block comes to the root
+abbrev pub attach_events : List ℕ → ℕ → ℕ → SmallBlock → List Event
+attach_events words line root block = under_entry line root block (mark_events words root block)
+
+-- it goes from the root
+abbrev pub detach_events : List ℕ → ℕ → ℕ → SmallBlock → List Event
+detach_events words line root block = under_entry line root block (unmark_events words root block)
+
+-- when a block may come or go
+
+-- The image is exact, but that the block's slab may have no root's block; the slab is normal, and the block one of its
+-- class.
+pub record IsBlockIn (words : List ℕ) (root : ℕ) (block : SmallBlock) : Type 0 where
+  pub image : IsExactButImage words block.start
+  pub rooted : root < (bounds_of words).roots
+  pub slab : (tables_of words).slab block.start ≡ true
+  pub normal : (tables_of words).kind block.start ≡ 1
+  pub below : block.number < class_capacity ((tables_of words).class block.start)
+  pub at : block.at ≡ (slab_block block.start ((tables_of words).class block.start) block.number).at
+
+-- the block is free, and the root has none
+pub record IsAttachable (words : List ℕ) (root : ℕ) (block : SmallBlock) : Type 0 where
+  pub block_in : IsBlockIn words root block
+  pub clear : (tables_of words).bit block.start block.number ≡ false
+  pub none : (tables_of words).root root ≡ 0
+
+-- the root has the block
+pub record IsDetachable (words : List ℕ) (root : ℕ) (block : SmallBlock) : Type 0 where
+  pub block_in : IsBlockIn words root block
+  pub set : (tables_of words).bit block.start block.number ≡ true
+  pub named : (tables_of words).root root ≡ block.at
+
+-- what is left
+
+-- the words are the same, but for the bit's, the root's and the line's
+pub record KeepsOthers (words : List ℕ) (line root : ℕ) (block : SmallBlock) (image : List ℕ) : Type 0 where
+  pub same_length : length image ≡ length words
+  pub others : (k : ℕ) → k ≢ wal_word line → k ≢ bit_word block → k ≢ root_word root → word_at image k ≡ word_at words k
+
+-- some other root has a block in the slab
+pub record HasOther (t : Tables) (root start : ℕ) : Type 0 where
+  pub other : ℕ
+  pub differ : other ≢ root
+  pub some : t.root other ≢ 0
+  pub inside : IsInSlab t start (t.root other)
+
+-- the heap is the same, but that the root has this block or none
+pub record GivesOne (words : List ℕ) (root : ℕ) (given : Option Range) (new : List ℕ) : Type 0 where
+  pub here : heap (tables_of new) root ≡ given
+  pub others : (other : ℕ) → other ≢ root → heap (tables_of new) other ≡ heap (tables_of words) other
+
+-- the root has the block, and the image is exact
+pub record IsAttached (words : List ℕ) (line root : ℕ) (block : SmallBlock) (new : List ℕ) : Type 0 where
+  pub exact : IsExactImage new
+  pub bounds : bounds_of new ≡ bounds_of words
+  pub tables : tables_of new ≡ with_small (tables_of words) block.start block.number true root block.at None
+  pub gives : GivesOne words root (Some (slab_block block.start ((tables_of words).class block.start) block.number)) new
+  pub rest : KeepsOthers words line root block new
+
+-- the root has no block, and the image is exact, but that the slab may have no other root's block
+pub record IsDetached (words : List ℕ) (line root : ℕ) (block : SmallBlock) (new : List ℕ) : Type 0 where
+  pub image : IsExactButImage new block.start
+  pub exact : HasOther (tables_of words) root block.start → IsExactImage new
+  pub bounds : bounds_of new ≡ bounds_of words
+  pub tables : tables_of new ≡ with_small (tables_of words) block.start block.number false root 0 None
+  pub gives : GivesOne words root None new
+  pub rest : KeepsOthers words line root block new

@@ -1,0 +1,57 @@
+-- The words of a root's block lie in the heap, and in no slab's header.
+use Rattle.std.proofs.Common.{◌≡◌, ◌≢◌, ◌⊎◌, ℕ, ◌+◌, ◌*◌, ◌/◌, ◌<◌, ◌≤◌, true, sym, ap, subst, ◌∙◌, arith, inl, inr, ⊎_elim, Some, None}
+use Rattle.std.proofs.lemmas.Bool.{cases_eq, cases_lt}
+use Rattle.size_classes.specs.Classes.{class_size}
+use Rattle.image_tables.specs.Tables.{Tables}
+use Rattle.heap_model.specs.Machine.{Bounds, Range}
+use Rattle.heap_check.specs.Heap.{entry_at, heap, IsClaim, Holds, HoldsBit, HoldsOld}
+use Rattle.heap_check.specs.Sound.{Covers, IsInSlab, IsSound}
+use Rattle.heap_check.specs.State.{IsWordOf}
+use Rattle.heap_check.proofs.Geometry.{granules_at-slab, Covers-slab}
+use Rattle.heap_check.proofs.Heaps.{IsClaim-heap}
+use Rattle.heap_check.proofs.Within.{IsWithin, IsWithin-claim}
+use Rattle.heap_check.proofs.SmallPlaces.{Holds-claim}
+
+-- a block that a slab holds lies behind the header
+behind_header : (t : Tables) (start : ℕ) (range : Range) → Holds t start range → 16384 * start + 2048 ≤ range.at
+behind_header t start range holds = ⊎_elim
+    (λ (bit : HoldsBit t start range). omega (arith, ap (λ (x : Range). x.at) bit.is))
+    (λ (old : HoldsOld t start range). omega (arith, ap (λ (x : Range). x.at) old.is))
+    holds.block
+
+module _ {b : Bounds} {t : Tables} (sound : IsSound b t) (closed : t.entry ≡ None) (root : ℕ) (range : Range) (named : heap t root ≡ Some range) (k : ℕ) (word : IsWordOf range k) where
+  unnamed : entry_at t.entry root ≡ 0
+  unnamed = ap (λ e. entry_at e root) closed
+
+  claim : IsClaim t root range
+  claim = IsClaim-heap t root range unnamed named
+
+  there : (start : ℕ) × IsWithin t start range
+  there = IsWithin-claim sound root range unnamed claim
+
+  pub block_word-heap : 2048 * b.first ≤ k
+  block_word-heap =
+      let within = there.1 in
+      let low = (sound.starts there.0 (omega (arith, within.low, within.high, within.some))).0 in
+      omega (arith, low, within.low, word.low)
+
+  pub block_word-header : (start : ℕ) → t.slab start ≡ true → (k < 2048 * start) ⊎ (2048 * start + 256 ≤ k)
+  block_word-header start slab =
+      let within = there.1 in
+      ⊎_elim
+      (λ (before : k < 2048 * start). inl before)
+      (λ (from : 2048 * start ≤ k). ⊎_elim
+      (λ (inside : k < 2048 * start + 256).
+      absurd (⊎_elim
+      (λ (same : there.0 ≡ start).
+      let here : IsWithin t start range = subst (λ s. IsWithin t s range) same within in
+      let slab_here : IsInSlab t start range.at = record { slab = slab; low = here.low; high = omega (arith, here.high, here.some, granules_at-slab t start slab) } in
+      omega (arith, behind_header t start range (Holds-claim sound root start range unnamed claim slab_here), word.low, inside))
+      (λ (differ : there.0 ≢ start).
+      differ (sound.disjoint there.0 start start
+      (record { low = omega (arith, within.low, word.low, inside); high = omega (arith, within.high, word.high, from) })
+      (Covers-slab t start start slab (omega arith) (omega arith))))
+      (cases_eq there.0 start)))
+      (λ (behind : 2048 * start + 256 ≤ k). inr behind)
+      (cases_lt k (2048 * start + 256)))
+      (cases_lt k (2048 * start))
