@@ -1,34 +1,39 @@
 -- A small block comes or goes: what each image of a crash is, and what is left in the end.
-use Rattle.std.proofs.Common.{◌≡◌, ◌≢◌, ◌⊎◌, ℕ, ◌+◌, ◌*◌, ◌/◌, ◌%◌, ◌<◌, ◌≤◌, Bool, true, false, List, ◌++◌, length, refl, sym, ap, subst, ◌∙◌, arith, inl, inr, ⊎_elim, Option, Some, None}
+use Rattle.std.proofs.Common.{◌≡◌, ◌≢◌, ◌⊎◌, ℕ, ◌*◌, ◌/◌, ◌%◌, ◌<◌, Bool, true, false, List, ◌++◌, length, refl, sym, ap, subst, ◌∙◌, arith, inl, inr, ⊎_elim, Option, Some, None}
 use Rattle.std.proofs.lemmas.Bool.{cases_eq}
 use Rattle.pmem_lines.specs.Words.{word_at, put_word}
 use Rattle.pmem_lines.proofs.Words.{word_at-put_other, length-put_word}
-use Rattle.pmem_lines.specs.declared.event.Event.{Event}
-use Rattle.pmem_lines.specs.Events.{reading, IsQuiet, CrashOnly}
+use Rattle.pmem_lines.specs.Events.{reading, CrashOnly}
 use Rattle.pmem_lines.proofs.Images.{then, weaker}
 use Rattle.durable_steps.specs.Steps.{word_events, pair_events, IsOldOrNewWord, IsOldOrNewPair}
 use Rattle.durable_steps.proofs.Steps.{IsQuiet-word, IsQuiet-pair}
 use Rattle.pool_layout.specs.Places.{root_word, wal_word}
-use Rattle.image_tables.specs.Tables.{OpenEntry, Tables, tables_of}
+use Rattle.image_tables.specs.Tables.{OpenEntry, Tables, bitmap_word, tables_of}
 use Rattle.image_tables.specs.Updates.{with_small}
 use Rattle.slab_header.specs.Steps.{with_bit, PutsBit, PutsBitOver}
 use Rattle.attach_wal.specs.Entry.{entry_word, open_entry}
 use Rattle.attach_wal.specs.Wal.{OpensOrNot, ClosesOrNot}
 use Rattle.heap_model.specs.Machine.{Bounds, Range, slab_block}
 use Rattle.heap_check.specs.Heap.{heap}
-use Rattle.heap_check.specs.Sound.{IsExact, IsExactBut, IsSteady}
-use Rattle.heap_check.specs.Image.{bounds_of, IsExactImage, IsExactButImage, IsSteadyImage}
+use Rattle.heap_check.specs.Sound.{IsSteady}
+use Rattle.heap_check.specs.Image.{bounds_of, IsSteadyImage}
 use Rattle.heap_check.specs.State.{HaveSameHeap, KeepsBlocks, IsEitherHeap}
 use Rattle.heap_check.proofs.Blank.{IsSteady-but}
 use Rattle.heap_check.proofs.Sizes.{sizes_of}
 use Rattle.heap_check.proofs.BlockWords.{block_word-heap, block_word-header}
 use Rattle.heap_check.proofs.Small.{small_entry, IsSmallPlace, IsSmallStage}
-use Rattle.heap_check.proofs.SmallSound.{IsSteady-small, IsExactBut-small, IsExact-small}
+use Rattle.heap_check.proofs.SmallSound.{IsSteady-small}
 use Rattle.heap_check.proofs.SmallHeaps.{heap-small_other, heap-small_none, heap-small_some}
-use Rattle.heap_check.proofs.SmallPlaces.{IsSmallPlace-free, IsSmallPlace-named}
 use Rattle.attach_steps.specs.declared.block.SmallBlock.{SmallBlock}
-use Rattle.attach_steps.specs.Steps.{entry_for, bit_word, bit_put, mark_events, unmark_events, under_entry, attach_events, detach_events, IsBlockIn, IsAttachable, IsDetachable, KeepsOthers, HasOther, GivesOne, IsAttached, IsDetached}
-use Rattle.attach_steps.proofs.Stages.{IsStageOf, stage_begin, stage_open, stage_close, stage_bit, stage_root, line_one, start_low, number_low, root_low}
+use Rattle.attach_steps.specs.Steps.{entry_for, bit_word, bit_put, under_entry, IsBlockIn}
+use Rattle.attach_steps.proofs.Stages.{IsStageOf, stage_open, stage_close, stage_bit, stage_root, start_low, number_low, root_low}
+
+-- a bit is put over any words that have the same word there
+pub PutsBitOver-same : (words made : List ℕ) (start i : ℕ) (on : Bool) → length made ≡ length words → word_at made (bitmap_word start i) ≡ word_at words (bitmap_word start i) → PutsBitOver made start i on → PutsBitOver words start i on
+PutsBitOver-same words made start i on size word over = record {
+  each = λ image long same.
+      subst (λ w. PutsBit image (put_word image (bitmap_word start i) (with_bit w (i / 8 % 64) on)) start i on) word (over.each image (long ∙ sym size) (same ∙ sym word));
+}
 
 -- what a stage of a sequence on a block says, where the block may come or go
 module _ (words : List ℕ) (line root : ℕ) (block : SmallBlock) (block_in : IsBlockIn words root block) (line_below : line < 8)
@@ -45,13 +50,13 @@ module _ (words : List ℕ) (line root : ℕ) (block : SmallBlock) (block_in : I
 
   -- the stages that may be
 
-  while_open : (on : Bool) (word : ℕ) → (word ≡ 0) ⊎ (word ≡ block.at) → IsSmallStage root range.at on word (Some own)
+  pub while_open : (on : Bool) (word : ℕ) → (word ≡ 0) ⊎ (word ≡ block.at) → IsSmallStage root range.at on word (Some own)
   while_open on word either = record { is = inl (ap (λ a. Some (small_entry root a)) block_in.at, ⊎_elim (λ none. inl none) (λ has. inr (has ∙ block_in.at)) either) }
 
-  with_none : IsSmallStage root range.at false 0 None
+  pub with_none : IsSmallStage root range.at false 0 None
   with_none = record { is = inr (refl, inl (refl, refl)) }
 
-  with_both : IsSmallStage root range.at true block.at None
+  pub with_both : IsSmallStage root range.at true block.at None
   with_both = record { is = inr (refl, inr (refl, block_in.at)) }
 
   -- each is steady
@@ -78,14 +83,14 @@ module _ (words : List ℕ) (line root : ℕ) (block : SmallBlock) (block_in : I
 
   -- heaps
 
-  heap_other : (on : Bool) (word : ℕ) (entry : Option OpenEntry) (image : List ℕ) → IsSmallStage root range.at on word entry → IsStageOf words line root block on word entry image → (r : ℕ) → r ≢ root →
+  pub heap_other : (on : Bool) (word : ℕ) (entry : Option OpenEntry) (image : List ℕ) → IsSmallStage root range.at on word entry → IsStageOf words line root block on word entry image → (r : ℕ) → r ≢ root →
       heap (tables_of image) r ≡ heap t r
   heap_other on word entry image small stage r differ = ap (λ (x : Tables). heap x r) stage.tables ∙ heap-small_other place on word entry small r differ
 
-  heap_none : (on : Bool) (entry : Option OpenEntry) (image : List ℕ) → IsStageOf words line root block on 0 entry image → heap (tables_of image) root ≡ None
+  pub heap_none : (on : Bool) (entry : Option OpenEntry) (image : List ℕ) → IsStageOf words line root block on 0 entry image → heap (tables_of image) root ≡ None
   heap_none on entry image stage = ap (λ (x : Tables). heap x root) stage.tables ∙ heap-small_none place on entry
 
-  heap_some : (on : Bool) (entry : Option OpenEntry) (image : List ℕ) → IsSmallStage root range.at on block.at entry → IsStageOf words line root block on block.at entry image → heap (tables_of image) root ≡ Some range
+  pub heap_some : (on : Bool) (entry : Option OpenEntry) (image : List ℕ) → IsSmallStage root range.at on block.at entry → IsStageOf words line root block on block.at entry image → heap (tables_of image) root ≡ Some range
   heap_some on entry image small stage =
       ap (λ (x : Tables). heap x root) stage.tables
       ∙ ap (λ a. heap (with_small t block.start block.number on root a entry) root) block_in.at
@@ -147,13 +152,13 @@ module _ (words : List ℕ) (line root : ℕ) (block : SmallBlock) (block_in : I
       left
 
   -- bit and then root
-  mark_under : (made : List ℕ) → IsStageOf words line root block false 0 (Some own) made → PutsBitOver made block.start block.number true →
+  pub mark_under : (made : List ℕ) → IsStageOf words line root block false 0 (Some own) made → PutsBitOver made block.start block.number true →
       (image : List ℕ) → IsOldOrNewPair made (8 * bit_word block) (bit_put made block true) (8 * root_word root) block.at image → IsUnderEntry image
   mark_under made stage over image left =
       root_under left.between block.at (inr refl) (bit_under false true 0 made (inl refl) stage over left.between left.first_word) image left.second_word
 
   -- the bit is put over the words that a store of the root leaves
-  over_root : (made between : List ℕ) (on : Bool) (value : ℕ) → PutsBitOver made block.start block.number on → IsOldOrNewWord made (8 * root_word root) value between →
+  pub over_root : (made between : List ℕ) (on : Bool) (value : ℕ) → PutsBitOver made block.start block.number on → IsOldOrNewWord made (8 * root_word root) value between →
       PutsBitOver between block.start block.number on × (bit_put made block on ≡ bit_put between block on)
   over_root made between on value over left =
       let apart : bit_word block ≢ root_word root = λ e. omega (arith, e, start_low words line root block block_in line_below, root_low words line root block block_in line_below) in
@@ -163,17 +168,10 @@ module _ (words : List ℕ) (line root : ℕ) (block : SmallBlock) (block_in : I
       let is : between ≡ put_word made (root_word root) value = put ∙ ap (λ i. put_word made i value) (omega arith) in
       (ap (λ (ws : List ℕ). length ws) is ∙ length-put_word made (root_word root) value, ap (λ (ws : List ℕ). word_at ws (bit_word block)) is ∙ word_at-put_other made (root_word root) (bit_word block) value apart))
       left.is in
-      let same_word = kept.1 in (
-        record {
-          each = λ image size same.
-              subst (λ w. PutsBit image (put_word image (bit_word block) (with_bit w (block.number / 8 % 64) on)) block.start block.number on) (sym same_word)
-              (over.each image (size ∙ kept.0) (same ∙ same_word));
-        },
-        ap (λ w. with_bit w (block.number / 8 % 64) on) (sym same_word),
-      )
+      (PutsBitOver-same between made block.start block.number on (sym kept.0) (sym kept.1) over, ap (λ w. with_bit w (block.number / 8 % 64) on) (sym kept.1))
 
   -- root and then bit
-  unmark_under : (made : List ℕ) → IsStageOf words line root block true block.at (Some own) made → PutsBitOver made block.start block.number false →
+  pub unmark_under : (made : List ℕ) → IsStageOf words line root block true block.at (Some own) made → PutsBitOver made block.start block.number false →
       (image : List ℕ) → IsOldOrNewPair made (8 * root_word root) 0 (8 * bit_word block) (bit_put made block false) image → IsUnderEntry image
   unmark_under made stage over image left =
       let under = root_under made 0 (inl refl) (record { on = true; word = block.at; either = inr refl; stage = stage }) left.between left.first_word in

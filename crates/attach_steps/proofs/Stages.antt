@@ -1,26 +1,26 @@
 -- A small block comes or goes: the image at each of the stores.
-use Rattle.std.proofs.Common.{◌≡◌, ◌≢◌, ◌⊎◌, ℕ, ◌+◌, ◌*◌, ◌/◌, ◌<◌, ◌≤◌, Bool, true, false, List, length, refl, sym, ap, subst, ◌∙◌, arith, inl, inr, ⊎_elim, Option, Some, None}
+use Rattle.std.proofs.Common.{◌≡◌, ◌≢◌, ◌⊎◌, ℕ, ◌+◌, ◌*◌, ◌<◌, ◌≤◌, Bool, true, List, length, refl, sym, ap, subst, ◌∙◌, arith, inl, inr, ⊎_elim, Option, Some, None}
 use Rattle.std.proofs.lemmas.Nat.{mul-le}
-use Rattle.pmem_lines.specs.Words.{word_at, put_word}
+use Rattle.pmem_lines.specs.Words.{put_word}
 use Rattle.pmem_lines.proofs.Words.{word_at-put_other, length-put_word}
-use Rattle.size_classes.specs.Classes.{class_size, class_capacity}
+use Rattle.size_classes.specs.Classes.{class_size}
 use Rattle.size_classes.proofs.Spacing.{class_size-least}
 use Rattle.pool_layout.specs.Layout.{layout_of}
 use Rattle.pool_layout.specs.Places.{fields_word, root_word, wal_word}
 use Rattle.pool_layout.specs.Header.{version_in}
-use Rattle.image_tables.specs.Tables.{OpenEntry, Tables, AreSlabsInHeap, is_slab, is_slab_of, state_field, bitmap_word, wal_lines, tables_of}
+use Rattle.image_tables.specs.Tables.{OpenEntry, Tables, AreSlabsInHeap, is_slab, is_slab_of, state_field, wal_lines, tables_of}
 use Rattle.image_tables.specs.Updates.{put_at, put_in, put_bit, with_small}
 use Rattle.image_tables.proofs.Updates.{put_at-twice, put_at-own, put_in-twice, put_in-own}
 use Rattle.image_tables.proofs.Extents.{extent_at-elsewhere}
 use Rattle.image_tables.proofs.Headers.{IsSameOffHeader-put, is_slab-off_header}
-use Rattle.image_tables.proofs.Stores.{few_lines, closed_words, wal_word-low, version_in-put_root, extent_at-put_root, wal_word-put_root, IsOffLog-wal, tables_put_root}
+use Rattle.image_tables.proofs.Stores.{few_lines, closed_words, extent_at-put_root, wal_word-put_root, IsOffLog-wal, tables_put_root}
 use Rattle.image_tables.proofs.Tables.{slab_table, entries_table}
 use Rattle.slab_header.specs.Steps.{PutsBit}
 use Rattle.attach_wal.specs.Entry.{entry_word, open_entry}
 use Rattle.attach_wal.specs.Wal.{HasNoOther, Opens, Closes}
 use Rattle.heap_model.specs.Machine.{Bounds, LiesIn, slab_block}
 use Rattle.heap_model.proofs.Slabbing.{LiesIn-block}
-use Rattle.heap_check.specs.Sound.{IsSlab, IsSound}
+use Rattle.heap_check.specs.Sound.{IsSound}
 use Rattle.heap_check.specs.Image.{bounds_of, IsWalWord, IsFormed}
 use Rattle.heap_check.proofs.Forms.{AreSlabsInHeap-sound, bounds_of-put_word, IsFormed-put_root, IsFormed-put_wal, IsFormed-put_bitmap}
 use Rattle.heap_check.proofs.Geometry.{granules_at-slab, entries_few}

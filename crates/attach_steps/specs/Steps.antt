@@ -5,14 +5,14 @@ use Rattle.pmem_lines.specs.declared.event.Event.{Event}
 use Rattle.durable_steps.specs.Steps.{word_events, pair_events}
 use Rattle.size_classes.specs.Classes.{class_capacity}
 use Rattle.pool_layout.specs.Places.{root_word, wal_word}
-use Rattle.image_tables.specs.Tables.{Tables, bitmap_word, tables_of}
+use Rattle.image_tables.specs.Tables.{bitmap_word, tables_of}
 use Rattle.image_tables.specs.Updates.{with_small}
 use Rattle.slab_header.specs.Steps.{with_bit}
 use Rattle.attach_wal.specs.declared.entry.WalEntry.{WalEntry}
 use Rattle.attach_wal.specs.Entry.{entry_word}
 use Rattle.heap_model.specs.Machine.{Range, slab_block}
 use Rattle.heap_check.specs.Heap.{heap}
-use Rattle.heap_check.specs.Sound.{IsInSlab}
+use Rattle.heap_check.specs.Sound.{HasOther}
 use Rattle.heap_check.specs.Image.{bounds_of, IsExactImage, IsExactButImage}
 use Rattle.attach_steps.specs.declared.block.SmallBlock.{SmallBlock}
 
@@ -80,13 +80,6 @@ pub record IsDetachable (words : List ℕ) (root : ℕ) (block : SmallBlock) : T
 pub record KeepsOthers (words : List ℕ) (line root : ℕ) (block : SmallBlock) (image : List ℕ) : Type 0 where
   pub same_length : length image ≡ length words
   pub others : (k : ℕ) → k ≢ wal_word line → k ≢ bit_word block → k ≢ root_word root → word_at image k ≡ word_at words k
-
--- some other root has a block in the slab
-pub record HasOther (t : Tables) (root start : ℕ) : Type 0 where
-  pub other : ℕ
-  pub differ : other ≢ root
-  pub some : t.root other ≢ 0
-  pub inside : IsInSlab t start (t.root other)
 
 -- the heap is the same, but that the root has this block or none
 pub record GivesOne (words : List ℕ) (root : ℕ) (given : Option Range) (new : List ℕ) : Type 0 where

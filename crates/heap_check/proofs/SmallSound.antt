@@ -4,7 +4,7 @@ use Rattle.std.proofs.lemmas.Bool.{cases_eq, cond-true, cond-false, eq-eqb, ne_e
 use Rattle.image_tables.specs.Tables.{OpenEntry, Tables}
 use Rattle.heap_model.specs.Machine.{Bounds, Range}
 use Rattle.heap_check.specs.Heap.{entry_at, size_at, claim_at, IsClaim, Holds}
-use Rattle.heap_check.specs.Sound.{IsInSlab, IsSlab, IsOpen, IsHeld, IsStanding, IsLooseLarge, IsEmptySlab, IsNearlyDone, IsSound, IsExact, IsSteady, IsExactBut}
+use Rattle.heap_check.specs.Sound.{IsInSlab, IsSlab, IsOpen, IsHeld, IsStanding, IsLooseLarge, IsEmptySlab, IsNearlyDone, IsSound, IsExact, IsSteady, IsExactBut, HasOther}
 use Rattle.image_tables.specs.Updates.{with_small}
 use Rattle.image_tables.proofs.Updates.{put_at-same, put_at-other, put_in-same}
 use Rattle.heap_check.proofs.Claims.{NamesOnly-none, plain_size, IsNamed-claim, IsClaim-named}
@@ -12,13 +12,6 @@ use Rattle.heap_check.proofs.Geometry.{granules_at-live, Covers-slab}
 use Rattle.heap_check.proofs.Touch.{IsTouch, Range-same, IsSound-touched}
 use Rattle.heap_check.proofs.Loose.{AtMostOne-one, AtMostOne-fewer}
 use Rattle.heap_check.proofs.Small.{small_entry, block_in, IsSmallPlace, IsSmallStage, stage_word, stage_names, entry_at-own, Holds-back, Holds-forth, Covers-back, IsInSlab-block, block_some, entry_at-none, plain_size-block, size_at-own, lone, same_slab, unheld}
-
--- some other root has a block in the slab
-pub record HasOther (t : Tables) (root start : ℕ) : Type 0 where
-  pub other : ℕ
-  pub differ : other ≢ root
-  pub some : t.root other ≢ 0
-  pub inside : IsInSlab t start (t.root other)
 
 module _ {b : Bounds} {t : Tables} {root start number : ℕ} (place : IsSmallPlace b t root start number) where
   abbrev block : Range

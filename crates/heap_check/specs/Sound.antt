@@ -134,6 +134,13 @@ pub record IsExact (b : Bounds) (t : Tables) : Type 0 where
   pub calm : (start : ℕ) → ¬ (IsMorphing t start)
   pub none_done : (start : ℕ) → ¬ (IsDoneSlab t start)
 
+-- some other root has a block in the slab
+pub record HasOther (t : Tables) (root start : ℕ) : Type 0 where
+  pub other : ℕ
+  pub differ : other ≢ root
+  pub some : t.root other ≢ 0
+  pub inside : IsInSlab t start (t.root other)
+
 -- The image is exact, but that the slab at a start may have no root's block.
 pub record IsExactBut (b : Bounds) (t : Tables) (start : ℕ) : Type 0 where
   pub sound : IsSound b t
