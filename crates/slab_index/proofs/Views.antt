@@ -2,7 +2,6 @@
 use Rattle.std.proofs.Common.{◌≡◌, ◌≢◌, ℕ, ◌+◌, ◌*◌, ◌/◌, ◌%◌, ◌<◌, ◌≤◌, ◌⊎◌, ⊎_elim, Bool, true, false, cond, eqb, ltb, ◌&&◌, List, Option, Some, None, get_or, refl, sym, ap, ◌∙◌, arith}
 use Rattle.std.proofs.lemmas.Bool.{both_ways, false_from_ne_true, eqb-true, cases_lt, cases_eq, cases_Bool, eq-eqb, ne_eqb, lt-ltb, le-ltb, ltb-true, cond-true, cond-false, and_parts, and_from, and_left}
 use Rattle.std.proofs.lemmas.List.{get_or_past}
-use Rattle.size_classes.specs.Classes.{class_capacity}
 use Rattle.slab_index.specs.Numbers.{has, IsPut, IsFilled}
 use Rattle.slab_index.specs.SlabSet.{SlabSet, class_in, is_available, IsBlock}
 use Rattle.slab_index.specs.Kept.{set_of, capacity_or_none, capacity_at, IsIndex}
@@ -29,10 +28,13 @@ available_within {granules} {classes} {blocks} is s i below = available_in is s 
 pub available_past : {granules : ℕ} {classes : List (Option ℕ)} {blocks : List ℕ} {set : SlabSet} → set_of granules classes blocks ≡ set → (s i : ℕ) → 4096 ≤ i → is_available set s i ≡ false
 available_past {granules} {classes} {blocks} is s i past = available_in is s i ∙ and_left (ltb i 4096) (has blocks (4096 * s + i)) (le-ltb i 4096 past)
 
--- a slab by its capacity
-pub slab_by_capacity : (slab : Option ℕ) (i : ℕ) → i < capacity_or_none slab → (class : ℕ) × (slab ≡ Some class) × (i < class_capacity class)
-slab_by_capacity None i below = absurd (omega arith)
-slab_by_capacity (Some class) i below = (class, refl, below)
+-- a number below a slab's capacity is one of its blocks
+block_of : {granules : ℕ} {classes : List (Option ℕ)} {blocks : List ℕ} {set : SlabSet} → set_of granules classes blocks ≡ set → (s i : ℕ) (slab : Option ℕ) → get_or classes s None ≡ slab → i < capacity_or_none slab → IsBlock set s i
+block_of is s i None listed below = absurd (omega arith)
+block_of is s i (Some class) listed below = record { class = class; slab = class_of_list is s ∙ listed; below = below }
+
+pub block_by_capacity : {granules : ℕ} {classes : List (Option ℕ)} {blocks : List ℕ} {set : SlabSet} → set_of granules classes blocks ≡ set → (s i : ℕ) → i < capacity_at classes s → IsBlock set s i
+block_by_capacity {granules} {classes} is s i below = block_of is s i (get_or classes s None) refl below
 
 -- an available block is a block of a slab
 pub block_if_available : {granules : ℕ} {classes : List (Option ℕ)} {blocks some short starts : List ℕ} {set : SlabSet} → set_of granules classes blocks ≡ set → IsIndex granules classes blocks some short starts →
@@ -44,8 +46,7 @@ block_if_available {granules} {classes} {blocks} is index s i available =
     let place : (4096 * s + i) / 4096 ≡ s = omega arith in
     let number : (4096 * s + i) % 4096 ≡ i = omega arith in
     let below : i < capacity_at classes s = omega (arith, index.below (4096 * s + i) both.1, ap (capacity_at classes) place) in
-    let slab = slab_by_capacity (get_or classes s None) i below in
-    record { class = slab.0; slab = class_of_list is s ∙ slab.1; below = slab.2 }
+    block_by_capacity is s i below
 
 -- a block of a slab is below the capacity that the lists say
 pub capacity_of_block : {granules : ℕ} {classes : List (Option ℕ)} {blocks : List ℕ} {set : SlabSet} → set_of granules classes blocks ≡ set → (s i : ℕ) → IsBlock set s i → i < capacity_at classes s

@@ -8,7 +8,7 @@ use Rattle.slab_index.specs.Numbers.{has, ones, IsLeastIn}
 use Rattle.slab_index.specs.SlabSet.{SlabSet, IsBlock, IsWhole}
 use Rattle.slab_index.specs.Kept.{set_of, capacity_at, IsIndex}
 use Rattle.slab_index.proofs.Bits.{has_in_word, has-zero, bit_of_ones}
-use Rattle.slab_index.proofs.Views.{class_of_list, available_within, capacity_of_block, slab_by_capacity}
+use Rattle.slab_index.proofs.Views.{available_within, capacity_of_block, block_by_capacity}
 
 -- a bit by its test
 bit_by_test : (a b : ℕ) → a < 2 → b < 2 → eqb a 1 ≡ eqb b 1 → a ≡ b
@@ -61,8 +61,7 @@ full_word {granules} {classes} {blocks} {set = set} is index start i here whole 
     as_kept ∙ ⊎_elim
     (λ (below : b < m).
     let has_slab : number < capacity_at classes start = omega (arith, ap (capacity_at classes) here) in
-    let slab = slab_by_capacity (get_or classes start None) number has_slab in
-    let block : IsBlock set start number = record { class = slab.0; slab = class_of_list is start ∙ slab.1; below = slab.2 } in
+    let block : IsBlock set start number = block_by_capacity is start number has_slab in
     ap (has blocks) (sym at) ∙ sym (available_within is start number (omega (arith, has_slab, index.few start))) ∙ whole.each number block ∙ sym (bit_of_ones m b inside ∙ lt-ltb b m below))
     (λ (past : m ≤ b).
     false_from_ne_true (has blocks k) (λ has_it. absurd (omega (arith, index.below k has_it, ap (capacity_at classes) (let place : k / 4096 ≡ i / 64 = omega arith in place))))

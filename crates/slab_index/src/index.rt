@@ -11,10 +11,15 @@ use size_classes::capacity;
 use std::alloc::Global;
 use std::marker::Model;
 
-// How many words have a number for each granule, and how many have one for each block of a slab.
-const START_WORDS: usize = 16;
+// How many numbers there are for each granule among the blocks, and how many words have them.
+const BLOCKS: u32 = 4096;
 
 const BLOCK_WORDS: usize = 64;
+
+// How many numbers there are for each class among the starts, and how many words have them.
+const STARTS: u32 = 1024;
+
+const START_WORDS: usize = 16;
 
 const CLASSES: usize = 36;
 
@@ -72,7 +77,8 @@ impl SlabIndex {
         })
     }
 
-    /// The class of the slab that begins at a granule. `None` exactly where none does, and so past the arena's end.
+    /// The class of the slab that begins at a granule. `None` exactly where none does, and so past the arena's end. Only
+    /// blocks below the capacity of that class are available.
     pub fn class_at(&self, start: u32) -> Option<u8>
         ensures class { result ≡ class_in self.now start }
         ensures inside { IfSome result (λ _. start < self.now.granules) }
@@ -86,17 +92,18 @@ impl SlabIndex {
         }
     }
 
-    /// Whether block `number` of the slab that begins at a granule is available. No block is where no slab begins.
+    /// Whether block `number` of the slab that begins at a granule is available. None is where no slab begins.
     pub fn is_available(&self, start: u32, number: u32) -> bool
         ensures { result ≡ is_available self.now start number }
     {
-        if start >= self.granules || number >= 4096 {
+        if start >= self.granules || number >= BLOCKS {
             return false;
         }
-        has(&self.blocks, 4096 * start + number)
+        has(&self.blocks, BLOCKS * start + number)
     }
 
-    /// Adds a slab of the class at a granule where none begins. All of its blocks are available.
+    /// Adds a slab of the class at a granule where none begins. All of its blocks are available. The other slabs and their
+    /// blocks stay as they are.
     pub fn add(&mut self, start: u32, class: u8)
         requires inside { start < self.old.granules }
         requires class { class < 36 }
@@ -111,10 +118,11 @@ impl SlabIndex {
         fill(&mut self.blocks, start, blocks);
         self.some[at] = ones(blocks.div_ceil(64));
         self.short[at] = 0;
-        put(&mut self.starts, 1024 * u32::from(class) + start, true);
+        put(&mut self.starts, STARTS * u32::from(class) + start, true);
     }
 
-    /// Takes the slab that begins at a granule out of the set.
+    /// Takes the slab that begins at a granule out of the set, with all of its blocks. The other slabs and their blocks
+    /// stay as they are.
     pub fn remove(&mut self, start: u32)
         requires { IsSlab self.old start }
         ensures granules { self.new.granules ≡ self.old.granules }
@@ -127,7 +135,7 @@ impl SlabIndex {
             fill(&mut self.blocks, start, 0);
             self.some[at] = 0;
             self.short[at] = 0;
-            put(&mut self.starts, 1024 * u32::from(class) + start, false);
+            put(&mut self.starts, STARTS * u32::from(class) + start, false);
         }
     }
 
@@ -138,28 +146,28 @@ impl SlabIndex {
         ensures { MatchOption result (HasNoBlock self.now class) (IsLowest self.now class) }
     {
         let first = START_WORDS * class as usize;
-        let start = least_in(&self.starts, first, START_WORDS)? - 1024 * u32::from(class);
+        let start = least_in(&self.starts, first, START_WORDS)? - STARTS * u32::from(class);
         let word = least_of(&self.some, start as usize)?;
         let block = least_of(&self.blocks, word as usize)?;
         Some(SlabBlock {
             start,
-            number: block - 4096 * start,
+            number: block - BLOCKS * start,
         })
     }
 
-    /// Takes a block that is available: it is not any more.
+    /// Takes a block that is available, so that it is not any more. The slabs and the other blocks stay as they are.
     pub fn take(&mut self, start: u32, number: u32)
         requires { is_available self.old start number ≡ true }
         ensures granules { self.new.granules ≡ self.old.granules }
         ensures classes { (s : ℕ) → class_in self.new s ≡ class_in self.old s }
         ensures blocks { (s i : ℕ) → is_available self.new s i ≡ (if s == start && i == number then false else is_available self.old s i) }
     {
-        // What is known of a block that is available is kept beside these.
+        // That only blocks of slabs are available is known of the fields alone.
         let _ = &self.blocks;
         self.turn(start, number, false);
     }
 
-    /// Makes a block of a slab available, which is not.
+    /// Makes a block of a slab available that is not. The slabs and the other blocks stay as they are.
     pub fn give(&mut self, start: u32, number: u32)
         requires block { IsBlock self.old start number }
         requires taken { is_available self.old start number ≡ false }
@@ -187,13 +195,13 @@ impl SlabIndex {
     {
         if let Some(class) = self.class_at(start) {
             let at = 64 * start + number / 64;
-            put(&mut self.blocks, 4096 * start + number, on);
+            put(&mut self.blocks, BLOCKS * start + number, on);
             let word = self.blocks[at as usize];
             put(&mut self.some, at, word != 0);
             let all = ones(capacity(class).saturating_sub(64 * (number / 64)));
             put(&mut self.short, at, word != all);
-            let has_block = self.some[start as usize] != 0;
-            put(&mut self.starts, 1024 * u32::from(class) + start, has_block);
+            let any = self.some[start as usize] != 0;
+            put(&mut self.starts, STARTS * u32::from(class) + start, any);
         }
     }
 }
