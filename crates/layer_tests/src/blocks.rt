@@ -1,0 +1,169 @@
+// An index of slabs beside a plain list of slabs and of the blocks that were taken.
+ghost use Rattle.std.specs.Prelude.{◌≡◌, ◌<◌, ◌≤◌};
+
+use pmem_lines::OutOfMemory;
+use rand_core::SeedableRng;
+use rand_core::utils::NextWord;
+use rand_xoshiro::SplitMix64;
+use size_classes::capacity;
+use slab_index::{SlabBlock, SlabIndex};
+use std::test::Fail;
+
+const GRANULES: u32 = 24;
+
+// The class of the slab at each granule, and the blocks that were taken.
+#[derive(Drop)]
+struct Plain {
+    classes: [Option<u8>; 24],
+    taken: Vec<SlabBlock>,
+}
+
+impl Plain {
+    fn class_at(&self, start: u32) -> Option<u8> {
+        match self.classes.get(start as usize) {
+            Some(class) => *class,
+            None => None,
+        }
+    }
+
+    fn put(&mut self, start: u32, class: Option<u8>) {
+        if let Some(slab) = self.classes.get_mut(start as usize) {
+            *slab = class;
+        }
+        self.taken.retain(|block| block.start != start);
+    }
+
+    fn is_taken(&self, start: u32, number: u32) -> bool {
+        self.taken.contains(&SlabBlock { start, number })
+    }
+
+    // The lowest block of a slab that was not taken.
+    fn lowest_of(&self, start: u32, class: u8) -> Option<SlabBlock>
+        requires { class < 36 }
+    {
+        for number in 0..capacity(class) {
+            if !self.is_taken(start, number) {
+                return Some(SlabBlock { start, number });
+            }
+        }
+        None
+    }
+
+    fn lowest(&self, class: u8) -> Option<SlabBlock>
+        requires { class < 36 }
+    {
+        for start in 0..GRANULES {
+            if self.class_at(start) == Some(class) {
+                if let Some(block) = self.lowest_of(start, class) {
+                    return Some(block);
+                }
+            }
+        }
+        None
+    }
+
+    fn is_whole(&self, start: u32) -> bool {
+        self.taken.iter().all(|block| block.start != start)
+    }
+}
+
+// Adds or removes the slab at a granule.
+fn change_slab(index: &mut SlabIndex, plain: &mut Plain, start: u32, class: u8)
+    requires inside { start < index.old.granules }
+    requires class { class < 36 }
+    ensures { index.new.granules ≡ index.old.granules }
+{
+    match index.class_at(start) {
+        None => {
+            index.add(start, class);
+            plain.put(start, Some(class));
+        }
+        Some(_) => {
+            index.remove(start);
+            plain.put(start, None);
+        }
+    }
+}
+
+// Takes the lowest block of the class.
+fn take_lowest(index: &mut SlabIndex, plain: &mut Plain, class: u8) -> Result<(), OutOfMemory>
+    requires { class < 36 }
+    ensures { index.new.granules ≡ index.old.granules }
+{
+    if let Some(block) = index.lowest(class) {
+        index.take(block.start, block.number);
+        plain.taken.push(block)?;
+    }
+    Ok(())
+}
+
+// Gives one of the blocks back that were taken.
+fn give_one(index: &mut SlabIndex, plain: &mut Plain, drawn: u64)
+    ensures { index.new.granules ≡ index.old.granules }
+{
+    if plain.taken.is_empty() {
+        return;
+    }
+    let at = drawn as usize % plain.taken.len();
+    let block = plain.taken.swap_remove(at);
+    if let Some(class) = index.class_at(block.start) {
+        if block.number < capacity(class) && !index.is_available(block.start, block.number) {
+            index.give(block.start, block.number);
+        }
+    }
+}
+
+// One of three changes, by a drawn number.
+fn change(
+    index: &mut SlabIndex,
+    plain: &mut Plain,
+    drawn: u64,
+    class: u8,
+) -> Result<(), OutOfMemory>
+    requires granules { index.old.granules ≡ 24 }
+    requires class { class < 36 }
+    ensures { index.new.granules ≡ index.old.granules }
+{
+    match drawn % 16 {
+        0 => change_slab(index, plain, (drawn / 16 % 24) as u32, class),
+        1..=9 => take_lowest(index, plain, class)?,
+        _ => give_one(index, plain, drawn / 16),
+    }
+    Ok(())
+}
+
+// Both say the same of the slab at a granule.
+fn agree(index: &SlabIndex, plain: &Plain, start: u32) -> bool {
+    match index.class_at(start) {
+        None => plain.class_at(start).is_none(),
+        Some(class) => {
+            plain.class_at(start) == Some(class) && index.is_whole(start) == plain.is_whole(start)
+        }
+    }
+}
+
+// Classes 35, 34, 32 and 21 have 3, 4, 6 and 41 blocks a slab, so slabs fill and empty often.
+#[test]
+fn like_a_plain_list(rt: HostRuntime) -> Result<(), Fail> {
+    let mut index = SlabIndex::new(rt.alloc(), GRANULES)?;
+    let mut plain = Plain {
+        classes: [None; 24],
+        taken: Vec::new(rt.alloc()),
+    };
+    let mut picks = SplitMix64::from_seed([7; 8]);
+    for turn in 0..600 {
+        let drawn = picks.next_word();
+        let class = match drawn / 512 % 4 {
+            0 => 35,
+            1 => 34,
+            2 => 32,
+            _ => 21,
+        };
+        change(&mut index, &mut plain, drawn, class)?;
+        assert_eq!(rt; index.lowest(class), plain.lowest(class), "after {turn}");
+        for start in 0..=GRANULES {
+            assert!(rt; agree(&index, &plain, start), "at {start} after {turn}");
+        }
+    }
+    Ok(())
+}

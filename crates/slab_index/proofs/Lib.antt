@@ -1,0 +1,7 @@
+pub mod Bits
+pub mod Fills
+pub mod Fresh
+pub mod Lowest
+pub mod Steps
+pub mod Views
+pub mod Whole

@@ -1,0 +1,207 @@
+-- An index after a step is an index again.
+use Rattle.std.proofs.Common.{◌≡◌, ◌≢◌, ℕ, ◌+◌, ◌-◌, ◌*◌, ◌/◌, ◌%◌, ◌<◌, ◌≤◌, min, ⊎_elim, Bool, true, false, eqb, ltb, not, ◌&&◌, List, Option, Some, None, length, get_or, set, refl, sym, ap, ◌∙◌, subst, arith}
+use Rattle.std.specs.Int.{bit_at}
+use Rattle.std.proofs.lemmas.Bool.{cases_eq, eq-eqb, ne_eqb, lt-ltb, le-ltb, ltb-true, cond-true, cond-false, and_left}
+use Rattle.std.proofs.lemmas.List.{get_or_read, get_or-set_same, get_or-set_other, length-set}
+use Rattle.std.proofs.lemmas.Nat.Bits.{bit_at-zero}
+use Rattle.size_classes.specs.Classes.{class_capacity}
+use Rattle.slab_index.specs.Numbers.{has, ones, IsPut, IsFilled}
+use Rattle.slab_index.specs.Kept.{capacity_or_none, capacity_at, is_class, lacks, has_block, IsIndex}
+use Rattle.slab_index.proofs.Bits.{has-set}
+use Rattle.slab_index.proofs.Fills.{word_filled, word_beside, fits_filled, has_filled, some_filled}
+
+-- a number put into a set, or out of it, at that number and elsewhere
+pub put_here : {old new : List ℕ} {k : ℕ} {on : Bool} → IsPut old k on new → has new k ≡ on
+put_here {old} {new} {k} {on} put = put.each k ∙ cond-true (eqb k k) on (has old k) (eq-eqb k k refl)
+
+pub put_beside : {old new : List ℕ} {k : ℕ} {on : Bool} → IsPut old k on new → (j : ℕ) → j ≢ k → has new j ≡ has old j
+put_beside {old} {new} {k} {on} put j apart = put.each j ∙ cond-false (eqb j k) on (has old j) (ne_eqb j k apart)
+
+-- a set that a test tells, after one number was put in or out
+pub told_after : {old new : List ℕ} {k : ℕ} {on : Bool} (before after : ℕ → Bool) → IsPut old k on new → ((j : ℕ) → has old j ≡ before j) → on ≡ after k → ((j : ℕ) → j ≢ k → before j ≡ after j) →
+    (j : ℕ) → has new j ≡ after j
+told_after {old} {new} {k} {on} before after put told here others j = ⊎_elim
+    (λ (same : j ≡ k). ap (has new) same ∙ put_here put ∙ here ∙ ap after (sym same))
+    (λ (apart : j ≢ k). put_beside put j apart ∙ told j ∙ others j apart)
+    (cases_eq j k)
+
+-- one slab of the list is another
+pub record IsReplaced (old : List (Option ℕ)) (start : ℕ) (slab : Option ℕ) (new : List (Option ℕ)) : Type 0 where
+  pub size : length new ≡ length old
+  pub here : get_or new start None ≡ slab
+  pub others : (other : ℕ) → other ≢ start → get_or new other None ≡ get_or old other None
+
+pub IsReplaced-set : (old : List (Option ℕ)) (start : ℕ) (slab : Option ℕ) → start < length old → IsReplaced old start slab (set old start slab)
+IsReplaced-set old start slab inside = record {
+  size = length-set old start slab;
+  here = get_or-set_same old start slab None inside;
+  others = λ other apart. get_or-set_other old start other slab None apart;
+}
+
+-- a slab has no class but this
+pub record HasOnly (slab : Option ℕ) (class : ℕ) : Type 0 where
+  pub none : (other : ℕ) → other ≢ class → is_class slab other ≡ false
+
+pub HasOnly-some : (slab : Option ℕ) (class : ℕ) → slab ≡ Some class → HasOnly slab class
+HasOnly-some slab class is = record { none = λ other apart. ap (λ s. is_class s other) is ∙ ne_eqb class other (λ e. apart (sym e)) }
+
+pub HasOnly-none : (slab : Option ℕ) (class : ℕ) → slab ≡ None → HasOnly slab class
+HasOnly-none slab class is = record { none = λ other apart. ap (λ s. is_class s other) is }
+
+-- what changes at one granule, and there for one class, changes one number of the sets of starts
+pub starts_beside : (classes later : List (Option ℕ)) (some more : List ℕ) (start class k : ℕ) →
+    ((other : ℕ) → other ≢ start → get_or later other None ≡ get_or classes other None) → ((other : ℕ) → other ≢ start → get_or more other 0 ≡ get_or some other 0) →
+    HasOnly (get_or classes start None) class → HasOnly (get_or later start None) class → k ≢ 1024 * class + start → has_block classes some k ≡ has_block later more k
+starts_beside classes later some more start class k same_classes same_some only only_later apart = ⊎_elim
+    (λ (here : k % 1024 ≡ start).
+    let differ : k / 1024 ≢ class = λ e. apart (omega (arith, e)) in
+    let test = ltb 0 (get_or some (k % 1024) 0) in
+    let test_more = ltb 0 (get_or more (k % 1024) 0) in
+    let before : is_class (get_or classes (k % 1024) None) (k / 1024) ≡ false = ap (λ s. is_class (get_or classes s None) (k / 1024)) here ∙ only.none (k / 1024) differ in
+    let after : is_class (get_or later (k % 1024) None) (k / 1024) ≡ false = ap (λ s. is_class (get_or later s None) (k / 1024)) here ∙ only_later.none (k / 1024) differ in
+    and_left (is_class (get_or classes (k % 1024) None) (k / 1024)) test before ∙ sym (and_left (is_class (get_or later (k % 1024) None) (k / 1024)) test_more after))
+    (λ (there : k % 1024 ≢ start).
+    ap (λ slab. is_class slab (k / 1024) && ltb 0 (get_or some (k % 1024) 0)) (sym (same_classes (k % 1024) there))
+    ∙ ap (λ word. is_class (get_or later (k % 1024) None) (k / 1024) && ltb 0 word) (sym (same_some (k % 1024) there)))
+    (cases_eq (k % 1024) start)
+
+-- a start that joins or leaves its class's set
+pub start_here : (classes : List (Option ℕ)) (some : List ℕ) (start class : ℕ) (slab : Option ℕ) → start < 1024 → get_or classes start None ≡ slab →
+    has_block classes some (1024 * class + start) ≡ (is_class slab class && ltb 0 (get_or some start 0))
+start_here classes some start class slab small is =
+    let place : (1024 * class + start) % 1024 ≡ start = omega arith in
+    let of_class : (1024 * class + start) / 1024 ≡ class = omega arith in
+    ap (λ s. is_class (get_or classes s None) ((1024 * class + start) / 1024) && ltb 0 (get_or some s 0)) place
+    ∙ ap (λ c. is_class (get_or classes start None) c && ltb 0 (get_or some start 0)) of_class
+    ∙ ap (λ s. is_class s class && ltb 0 (get_or some start 0)) is
+
+-- a word that is read is the list's
+pub word_read : (items words : List ℕ) (at word : ℕ) → items ≡ words → at < length words → word ≡ get_or items at word → word ≡ get_or words at 0
+word_read items words at word same inside read = get_or_read words at word inside (read ∙ ap (λ ws. get_or ws at word) same) 0
+
+-- `word != 0`
+pub some_by_word : (word kept : ℕ) → word ≡ kept → not (eqb word 0) ≡ ltb 0 kept
+some_by_word word kept is = ⊎_elim
+    (λ (zero : word ≡ 0). ap not (eq-eqb word 0 zero) ∙ sym (le-ltb 0 kept (omega arith)))
+    (λ (more : word ≢ 0). ap not (ne_eqb word 0 more) ∙ sym (lt-ltb 0 kept (omega arith)))
+    (cases_eq word 0)
+
+-- `word != all`
+pub lacks_by_word : (classes : List (Option ℕ)) (words : List ℕ) (start number class word all : ℕ) → get_or classes start None ≡ Some class → number < 4096 →
+    word ≡ get_or words (64 * start + number / 64) 0 → all ≡ ones (class_capacity class - 64 * (number / 64)) → not (eqb word all) ≡ lacks classes words (64 * start + number / 64)
+lacks_by_word classes words start number class word all slab small word_is all_is =
+    let i = 64 * start + number / 64 in
+    let place : i / 64 ≡ start = omega arith in
+    let rest : i % 64 ≡ number / 64 = omega arith in
+    let full : all ≡ ones (capacity_at classes (i / 64) - 64 * (i % 64)) =
+    all_is
+    ∙ ap (λ s. ones (capacity_or_none s - 64 * (number / 64))) (sym slab)
+    ∙ ap (λ s. ones (capacity_at classes s - 64 * (number / 64))) (sym place)
+    ∙ ap (λ m. ones (capacity_at classes (i / 64) - 64 * m)) (sym rest) in
+    ap (λ w. not (eqb w all)) word_is ∙ ap (λ a. not (eqb (get_or words i 0) a)) full
+
+-- an index after one block was taken or given back
+pub IsIndex-turned : {granules : ℕ} {classes : List (Option ℕ)} {blocks some short starts : List ℕ} {on is_some is_short has_some : Bool} (turned some' short' starts' : List ℕ) (start number class : ℕ) →
+    IsIndex granules classes blocks some short starts → get_or classes start None ≡ Some class → start < granules → number < capacity_at classes start →
+    IsPut blocks (4096 * start + number) on turned →
+    IsPut some (64 * start + number / 64) is_some some' → is_some ≡ ltb 0 (get_or turned (64 * start + number / 64) 0) →
+    IsPut short (64 * start + number / 64) is_short short' → is_short ≡ lacks classes turned (64 * start + number / 64) →
+    IsPut starts (1024 * class + start) has_some starts' → has_some ≡ ltb 0 (get_or some' start 0) →
+    IsIndex granules classes turned some' short' starts'
+IsIndex-turned {granules} {classes} {blocks} {some} {short} {starts} {on} {is_some} {is_short} {has_some} turned some' short' starts' start number class index slab inside below put put_some some_is put_short short_is put_start start_is =
+    let k = 4096 * start + number in
+    let i = 64 * start + number / 64 in
+    let few : number < 4096 = omega (arith, index.few start) in
+    let word : k / 64 ≡ i = omega arith in
+    let same_word : (j : ℕ) → j ≢ i → get_or turned j 0 ≡ get_or blocks j 0 = λ j apart. put.others j (λ e. apart (omega (arith, e))) in
+    record {
+      least = index.least;
+      most = index.most;
+      classes_size = index.classes_size;
+      blocks_size = put.size ∙ index.blocks_size;
+      some_size = put_some.size ∙ index.some_size;
+      short_size = put_short.size ∙ index.short_size;
+      starts_size = put_start.size ∙ index.starts_size;
+      known = index.known;
+      fits = put.fits index.fits;
+      few = index.few;
+      below = λ j is. ⊎_elim
+          (λ (same : j ≡ k).
+          let place : j / 4096 ≡ start = omega arith in
+          subst (λ s. j % 4096 < capacity_at classes s) (sym place) (omega arith))
+          (λ (apart : j ≢ k). index.below j (sym (put_beside put j apart) ∙ is))
+          (cases_eq j k);
+      some_is = told_after (λ j. ltb 0 (get_or blocks j 0)) (λ j. ltb 0 (get_or turned j 0)) put_some index.some_is some_is (λ j apart. ap (ltb 0) (sym (same_word j apart)));
+      short_is = told_after (lacks classes blocks) (lacks classes turned) put_short index.short_is short_is
+          (λ j apart. ap (λ w. not (eqb w (ones (capacity_at classes (j / 64) - 64 * (j % 64))))) (sym (same_word j apart)));
+      starts_is = told_after (has_block classes some) (has_block classes some') put_start index.starts_is
+          (start_is
+          ∙ ap (λ b. b && ltb 0 (get_or some' start 0)) (sym (eq-eqb class class refl))
+          ∙ sym (start_here classes some' start class (Some class) (omega (arith, index.most)) slab))
+          (λ j apart. starts_beside classes classes some some' start class j (λ other differ. refl)
+          (λ other differ. put_some.others other (λ e. differ (omega (arith, e))))
+          (HasOnly-some (get_or classes start None) class slab)
+          (HasOnly-some (get_or classes start None) class slab)
+          apart);
+    }
+
+-- an index after a slab was added or taken out
+pub IsIndex-filled : {granules : ℕ} {classes : List (Option ℕ)} {blocks some short starts : List ℕ} (later : List (Option ℕ)) (filled starts' : List ℕ) (start class n word : ℕ) (slab : Option ℕ) (on : Bool) →
+    IsIndex granules classes blocks some short starts → start < granules → IsReplaced classes start slab later → IsFilled blocks start n filled → n ≡ capacity_or_none slab → n ≤ 4096 → word ≡ ones (n / 64 + min 1 (n % 64)) →
+    HasOnly (get_or classes start None) class → HasOnly slab class → ((other : ℕ) → slab ≡ Some other → other < 36) →
+    IsPut starts (1024 * class + start) on starts' → on ≡ (is_class slab class && ltb 0 word) →
+    IsIndex granules later filled (set some start word) (set short start 0) starts'
+IsIndex-filled {granules} {classes} {blocks} {some} {short} {starts} later filled starts' start class n word slab on index inside replaced fills room small word_is only only_later known put on_is =
+    let more = set some start word in
+    let in_some : start < length some = omega (arith, index.some_size) in
+    let in_short : start < length short = omega (arith, index.short_size) in
+    let here : capacity_at later start ≡ n = ap capacity_or_none replaced.here ∙ sym room in
+    let there : (other : ℕ) → other ≢ start → capacity_at later other ≡ capacity_at classes other = λ other apart. ap capacity_or_none (replaced.others other apart) in
+    record {
+      least = index.least;
+      most = index.most;
+      classes_size = replaced.size ∙ index.classes_size;
+      blocks_size = fills.size ∙ index.blocks_size;
+      some_size = length-set some start word ∙ index.some_size;
+      short_size = length-set short start 0 ∙ index.short_size;
+      starts_size = put.size ∙ index.starts_size;
+      known = λ s c is. ⊎_elim
+          (λ (same : s ≡ start). known c (sym replaced.here ∙ ap (λ t. get_or later t None) (sym same) ∙ is))
+          (λ (apart : s ≢ start). index.known s c (sym (replaced.others s apart) ∙ is))
+          (cases_eq s start);
+      fits = fits_filled fills index.fits;
+      few = λ s. ⊎_elim
+          (λ (same : s ≡ start). omega (arith, ap (capacity_at later) same, here))
+          (λ (apart : s ≢ start). omega (arith, there s apart, index.few s))
+          (cases_eq s start);
+      below = λ k is. ⊎_elim
+          (λ (same : k / 4096 ≡ start).
+          let test : ltb (k % 4096) n ≡ true = sym (cond-true (eqb (k / 4096) start) (ltb (k % 4096) n) (has blocks k) (eq-eqb (k / 4096) start same)) ∙ sym (has_filled fills k) ∙ is in
+          omega (arith, ltb-true (k % 4096) n test, ap (capacity_at later) same, here))
+          (λ (apart : k / 4096 ≢ start).
+          let before : has blocks k ≡ true = sym (cond-false (eqb (k / 4096) start) (ltb (k % 4096) n) (has blocks k) (ne_eqb (k / 4096) start apart)) ∙ sym (has_filled fills k) ∙ is in
+          omega (arith, index.below k before, there (k / 4096) apart))
+          (cases_eq (k / 4096) start);
+      some_is = some_filled some word fills word_is in_some index.some_is;
+      short_is = λ i. has-set short start 0 i in_short ∙ ⊎_elim
+          (λ (same : i / 64 ≡ start).
+          let full : get_or filled i 0 ≡ ones (capacity_at later (i / 64) - 64 * (i % 64)) = word_filled fills i same ∙ ap (λ m. ones (m - 64 * (i % 64))) (sym here ∙ ap (capacity_at later) (sym same)) in
+          cond-true (eqb (i / 64) start) (eqb (bit_at 0 (i % 64)) 1) (has short i) (eq-eqb (i / 64) start same)
+          ∙ ap (λ b. eqb b 1) (bit_at-zero (i % 64))
+          ∙ sym (ap not (eq-eqb (get_or filled i 0) (ones (capacity_at later (i / 64) - 64 * (i % 64))) full)))
+          (λ (apart : i / 64 ≢ start).
+          cond-false (eqb (i / 64) start) (eqb (bit_at 0 (i % 64)) 1) (has short i) (ne_eqb (i / 64) start apart)
+          ∙ index.short_is i
+          ∙ ap (λ w. not (eqb w (ones (capacity_at classes (i / 64) - 64 * (i % 64))))) (sym (word_beside fills i apart))
+          ∙ ap (λ m. not (eqb (get_or filled i 0) (ones (m - 64 * (i % 64))))) (sym (there (i / 64) apart)))
+          (cases_eq (i / 64) start);
+      starts_is = told_after (has_block classes some) (has_block later more) put index.starts_is
+          (on_is
+          ∙ ap (λ w. is_class slab class && ltb 0 w) (sym (get_or-set_same some start word 0 in_some))
+          ∙ sym (start_here later more start class slab (omega (arith, index.most)) replaced.here))
+          (λ j apart. starts_beside classes later some more start class j replaced.others
+          (λ other differ. get_or-set_other some start other word 0 differ)
+          only
+          (subst (λ s. HasOnly s class) (sym replaced.here) only_later)
+          apart);
+    }

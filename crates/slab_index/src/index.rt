@@ -1,0 +1,207 @@
+// The index of slabs.
+ghost use Rattle.std.specs.Prelude.{◌≡◌, ◌==◌, ℕ, ◌<◌, ◌≤◌, ◌↔◌, ◌&&◌, nat_lt, IsTrue, true, false, Some, None, if◌then◌else◌, MatchOption, IfSome, IfOk};
+ghost use Rattle.size_classes.specs.Classes.{class_capacity};
+ghost use Rattle.heap_model.specs.Machine.{with_key};
+ghost use Rattle.slab_index.specs.SlabSet.{class_in, is_available, IsSlab, IsBlock, IsWhole, HasNoBlock, IsLowest};
+
+use crate::SlabBlock;
+use crate::numbers::{fill, has, least_in, least_of, ones, put};
+use pmem_lines::OutOfMemory;
+use size_classes::capacity;
+use std::alloc::Global;
+use std::marker::Model;
+
+// How many numbers there are for each granule among the blocks, and how many words have them.
+const BLOCKS: u32 = 4096;
+
+const BLOCK_WORDS: usize = 64;
+
+// How many numbers there are for each class among the starts, and how many words have them.
+const STARTS: u32 = 1024;
+
+const START_WORDS: usize = 16;
+
+const CLASSES: usize = 36;
+
+/// Which slabs an arena has, and which of their blocks may be given out. A slab is known by the granule that it begins at.
+/// In contracts it is a set of slabs.
+#[derive(Drop)]
+pub struct SlabIndex {
+    granules: u32,
+    classes: Vec<Option<u8>>,
+    // The available blocks, with 4096 numbers for each granule.
+    blocks: Vec<u64>,
+    // The words of `blocks` that are not 0.
+    some: Vec<u64>,
+    // The words of `blocks` that lack a block of their slab.
+    short: Vec<u64>,
+    // The slabs that have an available block, with 1024 numbers for each class.
+    starts: Vec<u64>,
+}
+
+impl Model for SlabIndex {
+    ghost use Rattle.slab_index.specs.SlabSet.{SlabSet};
+
+    ghost Value = { SlabSet };
+
+    ghost use Rattle.slab_index.specs.Kept.{set_of, IsIndex};
+
+    ghost view = { λ a. set_of a.granules a.classes.items a.blocks.items };
+
+    ghost invariant = { λ a. IsIndex a.granules a.classes.items a.blocks.items a.some.items a.short.items a.starts.items };
+}
+
+impl SlabIndex {
+    /// An index of an arena of 16 to 1024 granules, in which no slab begins. It takes 530 bytes for each granule and 4608
+    /// beside, and refuses where there is no memory for them; no later call takes any.
+    pub fn new(alloc: Global, granules: u32) -> Result<SlabIndex, OutOfMemory>
+        requires least { 16 ≤ granules }
+        requires most { granules ≤ 1024 }
+        ensures granules { IfOk result (λ index. index.granules ≡ granules) }
+        ensures classes { IfOk result (λ index. (s : ℕ) → class_in index s ≡ None) }
+        ensures blocks { IfOk result (λ index. (s i : ℕ) → is_available index s i ≡ false) }
+    {
+        let count = granules as usize;
+        let classes = vec![in alloc; None; count]?;
+        let blocks = vec![in alloc; 0; BLOCK_WORDS * count]?;
+        let some = vec![in alloc; 0; count]?;
+        let short = vec![in alloc; 0; count]?;
+        let starts = vec![in alloc; 0; START_WORDS * CLASSES]?;
+        Ok(SlabIndex {
+            granules,
+            classes,
+            blocks,
+            some,
+            short,
+            starts,
+        })
+    }
+
+    /// The class of the slab that begins at a granule. `None` exactly where none does, and so past the arena's end. Only
+    /// blocks below the capacity of that class are available.
+    pub fn class_at(&self, start: u32) -> Option<u8>
+        ensures class { result ≡ class_in self.now start }
+        ensures inside { IfSome result (λ _. start < self.now.granules) }
+        ensures known { IfSome result (λ class. class < 36) }
+        ensures blocks { (i : ℕ) → is_available self.now start i ≡ true → IsBlock self.now start i }
+    {
+        if start < self.granules {
+            self.classes[start as usize]
+        } else {
+            None
+        }
+    }
+
+    /// Whether block `number` of the slab that begins at a granule is available. None is where no slab begins.
+    pub fn is_available(&self, start: u32, number: u32) -> bool
+        ensures { result ≡ is_available self.now start number }
+    {
+        if start >= self.granules || number >= BLOCKS {
+            return false;
+        }
+        has(&self.blocks, BLOCKS * start + number)
+    }
+
+    /// Adds a slab of the class at a granule where none begins. All of its blocks are available. The other slabs and their
+    /// blocks stay as they are.
+    pub fn add(&mut self, start: u32, class: u8)
+        requires inside { start < self.old.granules }
+        requires class { class < 36 }
+        requires fresh { class_in self.old start ≡ None }
+        ensures granules { self.new.granules ≡ self.old.granules }
+        ensures classes { (s : ℕ) → class_in self.new s ≡ with_key (class_in self.old) start (Some class) s }
+        ensures blocks { (s i : ℕ) → is_available self.new s i ≡ (if s == start then nat_lt i (class_capacity class) else is_available self.old s i) }
+    {
+        let at = start as usize;
+        let blocks = capacity(class);
+        self.classes[at] = Some(class);
+        fill(&mut self.blocks, start, blocks);
+        self.some[at] = ones(blocks.div_ceil(64));
+        self.short[at] = 0;
+        put(&mut self.starts, STARTS * u32::from(class) + start, true);
+    }
+
+    /// Takes the slab that begins at a granule out of the set, with all of its blocks. The other slabs and their blocks
+    /// stay as they are.
+    pub fn remove(&mut self, start: u32)
+        requires { IsSlab self.old start }
+        ensures granules { self.new.granules ≡ self.old.granules }
+        ensures classes { (s : ℕ) → class_in self.new s ≡ with_key (class_in self.old) start None s }
+        ensures blocks { (s i : ℕ) → is_available self.new s i ≡ (if s == start then false else is_available self.old s i) }
+    {
+        if let Some(class) = self.class_at(start) {
+            let at = start as usize;
+            self.classes[at] = None;
+            fill(&mut self.blocks, start, 0);
+            self.some[at] = 0;
+            self.short[at] = 0;
+            put(&mut self.starts, STARTS * u32::from(class) + start, false);
+        }
+    }
+
+    /// The lowest available block of the lowest slab of the class that has one. `None` exactly where no slab of the class
+    /// has an available block.
+    pub fn lowest(&self, class: u8) -> Option<SlabBlock>
+        requires { class < 36 }
+        ensures { MatchOption result (HasNoBlock self.now class) (IsLowest self.now class) }
+    {
+        let first = START_WORDS * class as usize;
+        let start = least_in(&self.starts, first, START_WORDS)? - STARTS * u32::from(class);
+        let word = least_of(&self.some, start as usize)?;
+        let block = least_of(&self.blocks, word as usize)?;
+        Some(SlabBlock {
+            start,
+            number: block - BLOCKS * start,
+        })
+    }
+
+    /// Takes a block that is available, so that it is not any more. The slabs and the other blocks stay as they are.
+    pub fn take(&mut self, start: u32, number: u32)
+        requires { is_available self.old start number ≡ true }
+        ensures granules { self.new.granules ≡ self.old.granules }
+        ensures classes { (s : ℕ) → class_in self.new s ≡ class_in self.old s }
+        ensures blocks { (s i : ℕ) → is_available self.new s i ≡ (if s == start && i == number then false else is_available self.old s i) }
+    {
+        // That only blocks of slabs are available is known of the fields alone.
+        let _ = &self.blocks;
+        self.turn(start, number, false);
+    }
+
+    /// Makes a block of a slab available that is not. The slabs and the other blocks stay as they are.
+    pub fn give(&mut self, start: u32, number: u32)
+        requires block { IsBlock self.old start number }
+        requires taken { is_available self.old start number ≡ false }
+        ensures granules { self.new.granules ≡ self.old.granules }
+        ensures classes { (s : ℕ) → class_in self.new s ≡ class_in self.old s }
+        ensures blocks { (s i : ℕ) → is_available self.new s i ≡ (if s == start && i == number then true else is_available self.old s i) }
+    {
+        self.turn(start, number, true);
+    }
+
+    /// Whether every block of the slab is available.
+    pub fn is_whole(&self, start: u32) -> bool
+        requires { IsSlab self.now start }
+        ensures { IsTrue result ↔ IsWhole self.now start }
+    {
+        least_of(&self.short, start as usize).is_none()
+    }
+
+    // Makes a block of a slab available or not.
+    fn turn(&mut self, start: u32, number: u32, on: bool)
+        requires { IsBlock self.old start number }
+        ensures granules { self.new.granules ≡ self.old.granules }
+        ensures classes { (s : ℕ) → class_in self.new s ≡ class_in self.old s }
+        ensures blocks { (s i : ℕ) → is_available self.new s i ≡ (if s == start && i == number then on else is_available self.old s i) }
+    {
+        if let Some(class) = self.class_at(start) {
+            let at = 64 * start + number / 64;
+            put(&mut self.blocks, BLOCKS * start + number, on);
+            let word = self.blocks[at as usize];
+            put(&mut self.some, at, word != 0);
+            let all = ones(capacity(class).saturating_sub(64 * (number / 64)));
+            put(&mut self.short, at, word != all);
+            let any = self.some[start as usize] != 0;
+            put(&mut self.starts, STARTS * u32::from(class) + start, any);
+        }
+    }
+}
