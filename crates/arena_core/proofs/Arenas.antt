@@ -13,7 +13,8 @@ use Rattle.heap_model.specs.Machine.{Bounds}
 use Rattle.heap_check.specs.Sound.{IsVacant}
 use Rattle.heap_check.specs.Image.{bounds_of}
 use Rattle.heap_check.proofs.Large.{with_large}
-use Rattle.arena_core.specs.Arena.{HasNoSlab, IsBookOf, IsIndexOf}
+use Rattle.log_steps.specs.Log.{IsBookOf}
+use Rattle.arena_core.specs.Arena.{HasNoSlab, IsIndexOf}
 use Rattle.arena_core.proofs.Stages.{IsStageOf}
 
 -- a log reads the same where a root's word is stored

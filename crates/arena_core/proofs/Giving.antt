@@ -13,8 +13,9 @@ use Rattle.heap_check.proofs.Geometry.{granules_at-large}
 use Rattle.heap_check.proofs.Large.{IsLargePlace}
 use Rattle.heap_check.proofs.LargePlaces.{IsLargePlace-vacant}
 use Rattle.heap_check.specs.State.{IsEitherHeap}
-use Rattle.arena_core.specs.Events.{log_events, root_events, place_events}
-use Rattle.arena_core.specs.Log.{IsLogged, IsLoggedOrNot}
+use Rattle.log_steps.specs.Events.{log_events}
+use Rattle.arena_core.specs.Events.{root_events, place_events}
+use Rattle.log_steps.specs.Log.{IsLogged, IsLoggedOrNot}
 use Rattle.arena_core.specs.Plan.{IsGivable}
 use Rattle.heap_check.proofs.Sizes.{sizes_of, root_inside}
 use Rattle.arena_core.proofs.Stages.{IsStageOf, stage_none, stage_root, stage_same, stage_entry, steady_stage, same_none, same_some, keeps_stage}

@@ -1,6 +1,4 @@
-pub mod Entries
 pub mod Stages
-pub mod Disjoint
 pub mod Blocks
 pub mod Fits
 pub mod Giving

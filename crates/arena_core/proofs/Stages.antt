@@ -28,8 +28,8 @@ use Rattle.heap_check.proofs.Large.{with_large, large_block, IsLargePlace, IsLar
 use Rattle.heap_check.proofs.LargeSound.{IsLargeEnd, IsSteady-large, IsExact-large}
 use Rattle.heap_check.proofs.LargeHeaps.{heap-large_other, heap-large_none, heap-large_some}
 use Rattle.arena_core.specs.Effect.{GivesRoot}
-use Rattle.arena_core.specs.Log.{KeepsRest, HasSameExtents, HasExtentsWith}
-use Rattle.arena_core.proofs.Entries.{off_log}
+use Rattle.log_steps.specs.Log.{KeepsRest, HasSameExtents, HasExtentsWith}
+use Rattle.log_steps.proofs.Entries.{off_log}
 
 -- The image is as the words are, but that the extent at a start has so many granules, and a root this word.
 pub record IsStageOf (words : List ℕ) (root start here word : ℕ) (image : List ℕ) : Type 0 where

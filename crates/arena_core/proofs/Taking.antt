@@ -14,8 +14,9 @@ use Rattle.heap_check.proofs.Geometry.{granules_at-large}
 use Rattle.heap_check.proofs.Large.{IsLargePlace}
 use Rattle.heap_check.proofs.LargePlaces.{IsLargePlace-named}
 use Rattle.heap_check.specs.State.{IsEitherHeap}
-use Rattle.arena_core.specs.Events.{log_events, root_events, take_events}
-use Rattle.arena_core.specs.Log.{IsLogged, IsLoggedOrNot}
+use Rattle.log_steps.specs.Events.{log_events}
+use Rattle.arena_core.specs.Events.{root_events, take_events}
+use Rattle.log_steps.specs.Log.{IsLogged, IsLoggedOrNot}
 use Rattle.arena_core.specs.Plan.{IsTakable}
 use Rattle.heap_check.proofs.Sizes.{sizes_of, root_inside}
 use Rattle.arena_core.proofs.Giving.{put_byte}

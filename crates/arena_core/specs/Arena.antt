@@ -9,16 +9,12 @@ use Rattle.extent_index.specs.FreeSet.{FreeSet, IsFree}
 use Rattle.heap_check.specs.Heap.{heap}
 use Rattle.heap_check.specs.Sound.{IsVacant}
 use Rattle.heap_check.specs.Image.{bounds_of, IsExactImage}
+use Rattle.log_steps.specs.Log.{IsBookOf}
 use Rattle.arena_core.specs.Call.{IsReady}
 
 -- no slab lives: each block is whole granules
 pub record HasNoSlab (words : List ℕ) : Type 0 where
   pub none : (start : ℕ) → (tables_of words).slab start ≡ false
-
--- the log is that of these words
-pub record IsBookOf (book : Book) (words : List ℕ) : Type 0 where
-  pub reads : Reads book words
-  pub granules : book.granules ≡ granules_in words
 
 -- the set has the vacant granules of these words
 pub record IsIndexOf (set : FreeSet) (words : List ℕ) : Type 0 where

@@ -11,28 +11,9 @@ use Rattle.pool_layout.specs.Places.{text_word, fields_word, directory_word, roo
 use Rattle.pool_layout.specs.Header.{version_in, granules_in, header_text, header_word}
 use Rattle.book_log.specs.declared.entry.LogEntry.{LogEntry}
 use Rattle.book_log.specs.declared.entry.LogEntry.TheVariants.{Large, Tomb}
-use Rattle.book_log.specs.Entry.{log_word}
-use Rattle.book_log.specs.Log.{logged}
-use Rattle.book_log.specs.Book.{last_chunk}
-use Rattle.log_gc.specs.Room.{room_events}
+use Rattle.log_steps.specs.Events.{log_events}
 use Rattle.heap_model.specs.declared.call.Reply.{Reply}
 use Rattle.heap_model.specs.declared.call.Reply.TheVariants as replies
-
--- the first of n words of a row that is 0, n where none is
-abbrev pub first_zero : (ℕ → ℕ) → ℕ → ℕ
-first_zero row zero = 0
-first_zero row (suc n) = if nat_lt (first_zero row n) n then first_zero row n else (if row n == 0 then n else suc n)
-
--- the word that the next entry of the log goes to: the first of the last active chunk that is 0
-unfoldable pub next_entry_word : List ℕ → ℕ
-next_entry_word words =
-    entry_word (version_in words) (last_chunk words) (first_zero (logged (version_in words) words (last_chunk words)) (layout_of (version_in words)).chunk_entries)
-
--- an entry is put into the log and made durable, behind the events that make room for it
-unfoldable pub log_events : List ℕ → LogEntry → List Event
-log_events words entry =
-    room_events (granules_in words) words
-    ++ word_events (8 * next_entry_word (reading words (room_events (granules_in words) words))) (log_word entry)
 
 -- a root's word is stored and made durable
 abbrev pub root_events : ℕ → ℕ → List Event

@@ -13,12 +13,12 @@ ghost use Rattle.arena_core.specs.Effect.{GivesRoot};
 ghost use Rattle.arena_core.specs.Events.{place_events, take_events, call_events};
 ghost use Rattle.arena_core.specs.Plan.{IsGivable, IsTakable, IsMallocPlan, IsFreePlan};
 
-use crate::logging::log_entry;
 use crate::plan::LargeBlock;
 use crate::{FreeRefusal, Freed, MallocRefusal, Placed};
 use book_log::{BookLog, LogEntry};
 use durable_steps::write_word;
 use extent_index::ExtentIndex;
+use log_steps::log_entry;
 use pmem_lines::Pmem;
 use pool_layout::{GRANULE_BYTES, granule_at, root_at};
 

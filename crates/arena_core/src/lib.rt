@@ -15,7 +15,6 @@ mod answer;
 mod arena;
 mod carrying;
 mod formatting;
-mod logging;
 mod plan;
 mod room;
 

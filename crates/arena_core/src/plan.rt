@@ -6,7 +6,8 @@ ghost use Rattle.pool_layout.specs.Header.{version_in};
 ghost use Rattle.image_tables.specs.Tables.{tables_of};
 ghost use Rattle.heap_model.specs.Step.{granules_for};
 ghost use Rattle.heap_check.specs.Image.{bounds_of, IsFormed, IsExactImage};
-ghost use Rattle.arena_core.specs.Arena.{HasNoSlab, IsBookOf, IsIndexOf};
+ghost use Rattle.log_steps.specs.Log.{IsBookOf};
+ghost use Rattle.arena_core.specs.Arena.{HasNoSlab, IsIndexOf};
 ghost use Rattle.arena_core.specs.Plan.{IsMallocPlan, IsFreePlan, IsTakable};
 
 use crate::{FreeRefusal, Freed, MallocRefusal, Placed};

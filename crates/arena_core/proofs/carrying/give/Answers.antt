@@ -9,10 +9,10 @@ use Rattle.heap_model.specs.Machine.{Bounds}
 use Rattle.heap_check.specs.Image.{bounds_of}
 use Rattle.heap_check.proofs.Large.{with_large}
 use Rattle.heap_check.proofs.LargeHeaps.{IsVacant-placed}
-use Rattle.arena_core.specs.Arena.{IsBookOf}
+use Rattle.log_steps.specs.Log.{IsBookOf}
 use Rattle.arena_core.proofs.Arenas.{book_root, no_slab_stage, index_stage, index_less}
-use Rattle.arena_core.proofs.Disjoint.{disjoint_of}
-use Rattle.arena_core.proofs.Entries.{quiet_step}
+use Rattle.log_steps.proofs.Disjoint.{disjoint_of}
+use Rattle.log_steps.proofs.Entries.{quiet_step}
 use Rattle.heap_check.proofs.Sizes.{sizes_of, root_inside}
 use Rattle.arena_core.proofs.Giving.{word_stored, word_crash, give_place, nothing, given_extent, given, give_crash}
 use Rattle.arena_core.proofs.Stages.{IsStageOf, exact_stage, gives_some}

@@ -6,9 +6,9 @@ use Rattle.heap_model.specs.Machine.{Bounds}
 use Rattle.heap_check.specs.Image.{bounds_of, IsSteadyImage}
 use Rattle.heap_check.proofs.Large.{with_large}
 use Rattle.heap_check.proofs.LargeHeaps.{IsVacant-freed}
-use Rattle.arena_core.specs.Arena.{IsBookOf}
+use Rattle.log_steps.specs.Log.{IsBookOf}
 use Rattle.arena_core.proofs.Arenas.{book_root, no_slab_stage, index_stage, index_more}
-use Rattle.arena_core.proofs.Disjoint.{disjoint_of}
+use Rattle.log_steps.proofs.Disjoint.{disjoint_of}
 use Rattle.heap_check.proofs.Sizes.{sizes_of, root_inside}
 use Rattle.arena_core.proofs.Giving.{word_stored, word_crash}
 use Rattle.arena_core.proofs.Stages.{IsStageOf, steady_stage, exact_stage, gives_none}

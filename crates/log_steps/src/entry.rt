@@ -8,9 +8,8 @@ ghost use Rattle.image_tables.specs.Extents.{extent_at};
 ghost use Rattle.book_log.specs.Entry.{IsInHeap};
 ghost use Rattle.log_gc.specs.Live.{AreDisjoint};
 ghost use Rattle.heap_check.specs.Image.{IsFormed};
-ghost use Rattle.arena_core.specs.Arena.{IsBookOf};
-ghost use Rattle.arena_core.specs.Events.{log_events};
-ghost use Rattle.arena_core.specs.Log.{IsLogged, IsLoggedOrNot};
+ghost use Rattle.log_steps.specs.Events.{log_events};
+ghost use Rattle.log_steps.specs.Log.{IsLogged, IsLoggedOrNot, IsBookOf};
 
 use book_log::{BookLog, LogEntry};
 use log_gc::make_room;
@@ -19,7 +18,7 @@ use pmem_lines::Pmem;
 /// Puts an entry into the log and makes it durable, behind the events that make room for it where the last active chunk
 /// is full: at most 682 events. Every word outside the log and its directory is as before, and the live extents are those
 /// with the entry done. After a crash within it they are that or as before.
-pub(crate) fn log_entry<P: Pmem>(log: &mut BookLog, device: &mut P, entry: LogEntry)
+pub fn log_entry<P: Pmem>(log: &mut BookLog, device: &mut P, entry: LogEntry)
     requires formed { IsFormed (words_of (P.state device.old)) }
     requires disjoint { AreDisjoint (extent_at (words_of (P.state device.old))) }
     requires book { IsBookOf log.old (words_of (P.state device.old)) }

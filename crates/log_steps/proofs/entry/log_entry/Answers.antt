@@ -5,9 +5,9 @@ use Rattle.pmem_lines.specs.Pmem.{words_of, Appends}
 use Rattle.pmem_lines.proofs.States.{then_step}
 use Rattle.image_tables.proofs.Stores.{granules_in-off_log}
 use Rattle.book_log.specs.Book.{HasLog, IsEntryOrNot, next_word, append_events}
-use Rattle.arena_core.specs.Log.{IsLogged, IsLoggedOrNot}
-use Rattle.arena_core.proofs.Entries.{events_of_entry, room_few, off_log, logged_then, log_crash, quiet_step}
-use Rattle.arena_core.proofs.logging.log_entry.Goals as goal
+use Rattle.log_steps.specs.Log.{IsLogged, IsLoggedOrNot}
+use Rattle.log_steps.proofs.Entries.{events_of_entry, room_few, off_log, logged_then, log_crash, quiet_step}
+use Rattle.log_steps.proofs.entry.log_entry.Goals as goal
 
 pub make_room-requires-clause-left : goal.make_room-requires-clause-left
 make_room-requires-clause-left g c =

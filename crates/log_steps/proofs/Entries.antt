@@ -23,9 +23,8 @@ use Rattle.log_gc.specs.Live.{AreDisjoint}
 use Rattle.log_gc.specs.Room.{room_events, KeepsLog}
 use Rattle.log_gc.proofs.Booked.{room_most}
 use Rattle.heap_check.specs.Image.{IsFormed}
-use Rattle.arena_core.specs.Arena.{IsBookOf}
-use Rattle.arena_core.specs.Events.{first_zero, next_entry_word, log_events}
-use Rattle.arena_core.specs.Log.{KeepsRest, IsLogged, IsLoggedOrNot}
+use Rattle.log_steps.specs.Events.{first_zero, next_entry_word, log_events}
+use Rattle.log_steps.specs.Log.{KeepsRest, IsLogged, IsLoggedOrNot, IsBookOf}
 use Rattle.heap_check.proofs.Sizes.{sizes_of, heap_inside}
 
 -- where the next entry goes

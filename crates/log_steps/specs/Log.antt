@@ -5,7 +5,7 @@ use Rattle.pool_layout.specs.Places.{directory_word, log_word, heap_word}
 use Rattle.pool_layout.specs.Header.{version_in, granules_in}
 use Rattle.image_tables.specs.Extents.{extent_at}
 use Rattle.book_log.specs.declared.entry.LogEntry.{LogEntry}
-use Rattle.book_log.specs.Book.{HasLog}
+use Rattle.book_log.specs.Book.{Book, HasLog, Reads}
 use Rattle.book_log.specs.Log.{with_entry}
 
 -- the image differs from the words in the log and the directory alone, and its log is well formed
@@ -31,3 +31,8 @@ pub record IsLogged (words : List ℕ) (entry : LogEntry) (image : List ℕ) : T
 pub record IsLoggedOrNot (words : List ℕ) (entry : LogEntry) (image : List ℕ) : Type 0 where
   pub rest : KeepsRest words image
   pub extents : HasSameExtents words image ⊎ HasExtentsWith words entry image
+
+-- the log is that of these words
+pub record IsBookOf (book : Book) (words : List ℕ) : Type 0 where
+  pub reads : Reads book words
+  pub granules : book.granules ≡ granules_in words
