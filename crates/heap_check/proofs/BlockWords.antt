@@ -1,11 +1,11 @@
--- The words of a root's block lie in the heap, and in no slab's header.
+-- The words of a root's block lie in the heap, in no slab's header, and in no vacant granule.
 use Rattle.std.proofs.Common.{◌≡◌, ◌≢◌, ◌⊎◌, ℕ, ◌+◌, ◌*◌, ◌/◌, ◌<◌, ◌≤◌, true, sym, ap, subst, ◌∙◌, arith, inl, inr, ⊎_elim, Some, None}
 use Rattle.std.proofs.lemmas.Bool.{cases_eq, cases_lt}
 use Rattle.size_classes.specs.Classes.{class_size}
 use Rattle.image_tables.specs.Tables.{Tables}
 use Rattle.heap_model.specs.Machine.{Bounds, Range}
 use Rattle.heap_check.specs.Heap.{entry_at, heap, IsClaim, Holds, HoldsBit, HoldsOld}
-use Rattle.heap_check.specs.Sound.{Covers, IsInSlab, IsSound}
+use Rattle.heap_check.specs.Sound.{Covers, IsVacant, IsInSlab, IsSound}
 use Rattle.heap_check.specs.State.{IsWordOf}
 use Rattle.heap_check.proofs.Geometry.{granules_at-slab, Covers-slab}
 use Rattle.heap_check.proofs.Heaps.{IsClaim-heap}
@@ -55,3 +55,16 @@ module _ {b : Bounds} {t : Tables} (sound : IsSound b t) (closed : t.entry ≡ N
       (λ (behind : 2048 * start + 256 ≤ k). inr behind)
       (cases_lt k (2048 * start + 256)))
       (cases_lt k (2048 * start))
+
+  -- nor in a vacant granule
+  pub block_word-vacant : (other : ℕ) → IsVacant b t other → (k < 2048 * other) ⊎ (2048 * other + 2048 ≤ k)
+  block_word-vacant other vacant =
+      let within = there.1 in
+      ⊎_elim
+      (λ (before : k < 2048 * other). inl before)
+      (λ (from : 2048 * other ≤ k). ⊎_elim
+      (λ (inside : k < 2048 * other + 2048).
+      absurd (vacant.none there.0 (record { low = omega (arith, within.low, word.low, inside); high = omega (arith, within.high, word.high, from) })))
+      (λ (behind : 2048 * other + 2048 ≤ k). inr behind)
+      (cases_lt k (2048 * other + 2048)))
+      (cases_lt k (2048 * other))

@@ -1,17 +1,17 @@
 -- When the words of an arena keep their form.
-use Rattle.std.proofs.Common.{◌≡◌, ◌≢◌, ◌≤◌, refl, ⊎_elim, ◌*◌, ◌/◌, ◌%◌, ◌^◌, ◌<◌, ℕ, true, List, length, sym, ap, ◌∙◌, subst, arith}
-use Rattle.std.proofs.lemmas.Bool.{cond-true, cases_eq}
+use Rattle.std.proofs.Common.{◌≡◌, ◌≢◌, ◌≤◌, ◌⊎◌, ◌+◌, inl, inr, true≢false, false, refl, ⊎_elim, ◌*◌, ◌/◌, ◌%◌, ◌^◌, ◌<◌, ℕ, true, List, length, sym, ap, ◌∙◌, subst, arith}
+use Rattle.std.proofs.lemmas.Bool.{cond-true, cases_eq, cases_lt}
 use Rattle.pmem_lines.specs.Words.{word_at, put_word}
 use Rattle.pmem_lines.proofs.Words.{word_at-put_same, word_at-put_other, length-put_word}
 use Rattle.pool_layout.specs.Layout.{layout_of}
-use Rattle.pool_layout.specs.Places.{text_word, fields_word, root_word, wal_word, heap_word}
+use Rattle.pool_layout.specs.Places.{text_word, fields_word, root_word, wal_word, heap_word, granule_word, blocks_place}
 use Rattle.pool_layout.specs.Header.{version_field, granules_field, version_in, granules_in, fields_of, IsHeader}
 use Rattle.image_tables.specs.Tables.{is_slab_of, is_slab, AreSlabsInHeap, where_slab, state_word, bitmap_word, index_word, state_field, wal_lines, tables_of}
 use Rattle.image_tables.proofs.Extents.{extent_at-elsewhere}
-use Rattle.image_tables.proofs.Headers.{IsSameOffHeader-put, SameLog-off_header, is_slab-off_header}
+use Rattle.image_tables.proofs.Headers.{IsSameOffHeader, IsSameOffHeader-put, SameLog-off_header, is_slab-off_header}
 use Rattle.image_tables.proofs.Logs.{SameLog-elsewhere}
 use Rattle.image_tables.proofs.Places.{log_word-low}
-use Rattle.image_tables.proofs.Stores.{IsSameOffLog, text-off_log, fields-off_log, wal_word-off_log, heap_word-off_log, state_word-high, index_word-high, IsOffLog-root, fields-put_root, wal_word-put_root, heap_word-put_root, extent_at-put_root, wal_word-low, log_word-high, IsOffLog-wal}
+use Rattle.image_tables.proofs.Stores.{IsSameOffLog, text-off_log, fields-off_log, wal_word-off_log, heap_word-off_log, state_word-high, index_word-high, IsOffLog-root, fields-put_root, wal_word-put_root, heap_word-put_root, extent_at-put_root, wal_word-low, log_word-high, IsOffLog-wal, state_field-same}
 use Rattle.book_log.specs.Book.{HasLog}
 use Rattle.book_log.proofs.Books.{HasLog-same}
 use Rattle.heap_model.specs.Machine.{Bounds}
@@ -40,11 +40,12 @@ pub record SameForm (words new : List ℕ) : Type 0 where
   pub state : (start : ℕ) → is_slab words start ≡ true → word_at new (state_word start) ≡ word_at words (state_word start)
   pub index : (start place : ℕ) → is_slab words start ≡ true → place < state_field words start 24 → word_at new (index_word start place) ≡ word_at words (index_word start place)
 
-pub IsHeader-same : (words new : List ℕ) → SameForm words new → IsHeader words (header_in words) → IsHeader new (header_in new)
-IsHeader-same words new same header = subst (IsHeader new) (sym (ap fields_of same.fields)) (record {
-  whole = omega (arith, same.same_length, header.whole);
-  text = same.text ∙ header.text;
-  word = same.fields ∙ header.word;
+pub IsHeader-same : (words new : List ℕ) → length new ≡ length words → word_at new text_word ≡ word_at words text_word → word_at new fields_word ≡ word_at words fields_word → IsHeader words (header_in words) →
+    IsHeader new (header_in new)
+IsHeader-same words new size text fields header = subst (IsHeader new) (sym (ap fields_of fields)) (record {
+  whole = omega (arith, size, header.whole);
+  text = text ∙ header.text;
+  word = fields ∙ header.word;
   valid = header.valid;
 })
 
@@ -70,7 +71,7 @@ HasSlabHeader-same words new start same is header =
 -- the form stays where those words do, and the log and the write-ahead words are well formed
 pub IsFormed-same : (words new : List ℕ) → SameForm words new → HasLog (granules_in words) new → HasWal new → IsFormed words → IsFormed new
 IsFormed-same words new same log wal formed = record {
-  header = IsHeader-same words new same formed.header;
+  header = IsHeader-same words new same.same_length same.text same.fields formed.header;
   size = same.same_length ∙ formed.size ∙ sym (ap (λ w. 2048 * granules_field w) same.fields);
   log = subst (λ granules. HasLog granules new) (sym (ap granules_field same.fields)) log;
   wal = wal;
@@ -166,5 +167,52 @@ IsFormed-put_bitmap words start i value formed in_heap below few =
       index = λ other place is under. word_at-put_other words at (index_word other place) value (λ e. omega (arith, e, below, under, few other is));
     })
     (HasLog-same (granules_in words) words new (SameLog-off_header words new start off) formed.log)
+    (HasWal-same words new (λ line under. low (wal_word line) (wal_word-low line under)) formed.wal)
+    formed
+
+-- what is read of a slab's header is the same where the words are
+HasSlabHeader-kept : (words new : List ℕ) (start : ℕ) → is_slab words start ≡ true → is_slab new start ≡ true → word_at new (state_word start) ≡ word_at words (state_word start) →
+    ((place : ℕ) → place < state_field words start 24 → word_at new (index_word start place) ≡ word_at words (index_word start place)) → HasSlabHeader words start → HasSlabHeader new start
+HasSlabHeader-kept words new start was is state index header =
+    let entries : state_field new start 24 ≡ state_field words start 24 = state_field-same words new start 24 (is ∙ sym was) (λ yes. state) in
+    record {
+      state = omega (arith, state, header.state);
+      index = λ place below. let among : place < state_field words start 24 = omega (arith, entries, below) in subst IsIndexWord (sym (index place among)) (header.index place among);
+    }
+
+-- stores to the log and the directory, behind which slabs come and go
+pub IsFormed-logged : (words new : List ℕ) → IsFormed words → IsSameOffLog words new → AreSlabsInHeap words → HasLog (granules_in words) new → ((start : ℕ) → is_slab new start ≡ true → (is_slab words start ≡ true) ⊎ HasSlabHeader new start) → IsFormed new
+IsFormed-logged words new formed same slabs log headers = record {
+  header = IsHeader-same words new same.same_length (text-off_log words new same) (fields-off_log words new same) formed.header;
+  size = same.same_length ∙ formed.size ∙ sym (ap (λ w. 2048 * granules_field w) (fields-off_log words new same));
+  log = subst (λ granules. HasLog granules new) (sym (ap granules_field (fields-off_log words new same))) log;
+  wal = HasWal-same words new (λ line below. wal_word-off_log words new line same below) formed.wal;
+  slabs = λ start is. ⊎_elim
+      (λ was. HasSlabHeader-kept words new start was is (heap_word-off_log words new (state_word start) same (state_word-high words start slabs was))
+      (λ place among. heap_word-off_log words new (index_word start place) same (index_word-high words start place slabs was)) (formed.slabs start was))
+      (λ header. header)
+      (headers start is);
+}
+
+-- stores to the header at a granule at which no slab begins, where no slab has more than 64 index entries
+pub IsFormed-off_header : (words new : List ℕ) (start : ℕ) → IsFormed words → IsSameOffHeader words new start → length new ≡ length words → is_slab words start ≡ false → ((other : ℕ) → is_slab words other ≡ true → state_field words other 24 ≤ 64) →
+    IsFormed new
+IsFormed-off_header words new start formed same size none few =
+    let version = version_in words in
+    let low : (k : ℕ) → k < 2048 → word_at new k ≡ word_at words k = λ k small. same.others k (inl (omega (arith, small, same.in_heap, log_word-low version, log_word-high version))) in
+    let apart : (other : ℕ) → is_slab words other ≡ true → other ≢ start = λ other is e. true≢false (sym is ∙ ap (is_slab words) e ∙ none) in
+    let there : (other k : ℕ) → is_slab words other ≡ true → granule_word other ≤ k → k < granule_word other + blocks_place → word_at new k ≡ word_at words k = λ other k is from to. same.others k (⊎_elim
+    (λ (before : other < start). inl (omega (arith, before, to)))
+    (λ (behind : start ≤ other). inr (omega (arith, behind, apart other is, from)))
+    (cases_lt other start)) in
+    IsFormed-same words new (record {
+      same_length = size;
+      text = low text_word (omega arith);
+      fields = low fields_word (omega arith);
+      slab = λ other. is_slab-off_header words new start other same;
+      state = λ other is. there other (state_word other) is (omega arith) (omega arith);
+      index = λ other place is below. there other (index_word other place) is (omega arith) (omega (arith, below, few other is));
+    })
+    (HasLog-same (granules_in words) words new (SameLog-off_header words new start same) formed.log)
     (HasWal-same words new (λ line under. low (wal_word line) (wal_word-low line under)) formed.wal)
     formed

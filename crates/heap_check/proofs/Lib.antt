@@ -22,3 +22,4 @@ pub mod SlabSound
 pub mod SlabPlaces
 pub mod SlabHeaps
 pub mod BlockWords
+pub mod SlabLogs

@@ -4,12 +4,13 @@ use Rattle.std.proofs.lemmas.Bool.{cases_lt}
 use Rattle.image_tables.specs.Tables.{Tables}
 use Rattle.heap_model.specs.Machine.{Bounds}
 use Rattle.heap_check.specs.Heap.{entry_at}
+use Rattle.heap_check.specs.Slabs.{IsSameSlab, IsWithSlab}
 use Rattle.heap_check.specs.Sound.{granules_at, Covers, IsVacant, IsInSlab, IsSound}
 use Rattle.heap_check.proofs.Claims.{plain_size, IsClaim-word}
 use Rattle.heap_check.proofs.Geometry.{granules_at-slab, granules_at-large, Covers-slab}
 use Rattle.heap_check.proofs.Within.{IsWithin-claim, Covers-within}
 use Rattle.heap_check.proofs.LargePlaces.{cases_run}
-use Rattle.heap_check.proofs.Slabs.{IsWithSlab, IsSlabPlace}
+use Rattle.heap_check.proofs.Slabs.{IsSlabPlace}
 
 -- four vacant granules
 pub IsSlabPlace-vacant : {b : Bounds} {t new : Tables} {start class : ℕ} → IsSound b t → t.entry ≡ None → 0 < b.first → class < 36 → IsWithSlab t new start class →

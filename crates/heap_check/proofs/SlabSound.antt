@@ -4,9 +4,10 @@ use Rattle.std.proofs.lemmas.Bool.{cases_eq}
 use Rattle.size_classes.specs.Classes.{class_capacity}
 use Rattle.image_tables.specs.Tables.{Tables}
 use Rattle.heap_model.specs.Machine.{Bounds}
+use Rattle.heap_check.specs.Slabs.{IsSameSlab, IsWithSlab}
 use Rattle.heap_check.specs.Sound.{granules_at, Covers, IsInSlab, IsSlab, IsStanding, IsLooseLarge, IsEmptySlab, IsMorphing, IsDoneSlab, IsNearlyDone, IsSound, IsExact, IsSteady, IsExactBut}
 use Rattle.heap_check.proofs.Loose.{AtMostOne-one, AtMostOne-fewer}
-use Rattle.heap_check.proofs.Slabs.{IsSameSlab, IsWithSlab, IsSlabPlace, new_closed, word, large, slab-differ, granules_at-other, granules_at-new, granules_at-none, Covers-back, Covers-forth, Holds-back, Holds-forth, claims-forth, claims-back, stands-forth, stands-back, IsInSlab-forth, IsInSlab-back}
+use Rattle.heap_check.proofs.Slabs.{IsSlabPlace, new_closed, word, large, slab-differ, granules_at-other, granules_at-new, granules_at-none, Covers-back, Covers-forth, Holds-back, Holds-forth, claims-forth, claims-back, stands-forth, stands-back, IsInSlab-forth, IsInSlab-back}
 
 -- the state of a slab is valid where another's is of which the tables say the same
 IsSlab-same : (t new : Tables) (start : ℕ) → IsSameSlab t new start → IsSlab t start → IsSlab new start

@@ -5,34 +5,10 @@ use Rattle.size_classes.specs.Classes.{class_capacity}
 use Rattle.image_tables.specs.Tables.{Tables}
 use Rattle.heap_model.specs.Machine.{Bounds, Range, slab_block}
 use Rattle.heap_check.specs.Heap.{slab_of, is_large, entry_at, IsClaim, Holds, HoldsBit, HoldsOld}
+use Rattle.heap_check.specs.Slabs.{IsSameSlab, IsWithSlab}
 use Rattle.heap_check.specs.Sound.{granules_at, Covers, IsInSlab, IsHeld, IsStanding, IsEmptySlab}
 use Rattle.heap_check.proofs.Claims.{plain_size, IsNamed-claim, IsClaim-named}
 use Rattle.heap_check.proofs.Geometry.{granules_at-slab, granules_at-large}
-
--- two tables say the same of a slab
-pub record IsSameSlab (t new : Tables) (start : ℕ) : Type 0 where
-  pub slab : new.slab start ≡ t.slab start
-  pub kind : new.kind start ≡ t.kind start
-  pub class : new.class start ≡ t.class start
-  pub old : new.old start ≡ t.old start
-  pub entries : new.entries start ≡ t.entries start
-  pub bit : new.bit start ≡ t.bit start
-  pub live : new.live start ≡ t.live start
-  pub number : new.number start ≡ t.number start
-
--- the second tables have one slab more, a normal one of this class that holds no block
-pub record IsWithSlab (t new : Tables) (start class : ℕ) : Type 0 where
-  pub root : new.root ≡ t.root
-  pub entry : new.entry ≡ t.entry
-  pub large : new.large ≡ t.large
-  pub none : t.slab start ≡ false
-  pub slab : new.slab start ≡ true
-  pub kind : new.kind start ≡ 1
-  pub class_is : new.class start ≡ class
-  pub old : new.old start ≡ 0
-  pub entries : new.entries start ≡ 0
-  pub clear : (i : ℕ) → i < class_capacity class → new.bit start i ≡ false
-  pub others : (other : ℕ) → other ≢ start → IsSameSlab t new other
 
 -- the slab's granules are no other extent's, and no root's word lies in them
 pub record IsSlabPlace (b : Bounds) (t new : Tables) (start class : ℕ) : Type 0 where

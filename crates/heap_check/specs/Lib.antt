@@ -1,5 +1,6 @@
 pub mod Heap
 pub mod Sound
+pub mod Slabs
 pub mod Laws
 pub mod Image
 pub mod State
