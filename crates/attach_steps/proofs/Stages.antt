@@ -23,7 +23,7 @@ use Rattle.heap_model.proofs.Slabbing.{LiesIn-block}
 use Rattle.heap_check.specs.Sound.{IsSound}
 use Rattle.heap_check.specs.Image.{bounds_of, IsWalWord, IsFormed}
 use Rattle.heap_check.proofs.Forms.{AreSlabsInHeap-sound, bounds_of-put_word, IsFormed-put_root, IsFormed-put_wal, IsFormed-put_bitmap}
-use Rattle.heap_check.proofs.Geometry.{granules_at-slab, entries_few}
+use Rattle.heap_check.proofs.Geometry.{granules_at-slab, entries_few, number_few}
 use Rattle.heap_check.proofs.Sizes.{sizes_of, root_inside}
 use Rattle.attach_steps.specs.declared.block.SmallBlock.{SmallBlock}
 use Rattle.attach_steps.specs.Steps.{entry_for, bit_word, IsBlockIn, KeepsOthers}
@@ -77,18 +77,8 @@ module _ (words : List ℕ) (line root : ℕ) (block : SmallBlock) (block_in : I
       let four = granules_at-slab t block.start block_in.slab in
       omega (arith, sizes.size, (sound.starts block.start (omega (arith, four))).1, four)
 
-  -- its blocks behind its header
-
-  pub size_some : 16 ≤ class_size (t.class block.start)
-  size_some = class_size-least (t.class block.start) (sound.slabs block.start block_in.slab).class
-
-  block_lies : LiesIn block.start (slab_block block.start (t.class block.start) block.number)
-  block_lies = LiesIn-block block.start (t.class block.start) (slab_block block.start (t.class block.start) block.number) (record { number = block.number; within = block_in.below; is = refl })
-
   pub number_low : block.number < 4096
-  number_low =
-      let least : block.number * 16 ≤ block.number * class_size (t.class block.start) = mul-le block.number 16 block.number (class_size (t.class block.start)) (omega arith) size_some in
-      omega (arith, least, block_lies.high)
+  number_low = number_few (t.class block.start) block.number (sound.slabs block.start block_in.slab).class block_in.below
 
   -- the words as they are
   pub stage_begin : IsStageOf words line root block (t.bit block.start block.number) (t.root root) None words

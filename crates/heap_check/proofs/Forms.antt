@@ -92,6 +92,10 @@ IsFormed-off_log words new formed same slabs log slab = IsFormed-same words new 
   index = λ start place is below. heap_word-off_log words new (index_word start place) same (index_word-high words start place slabs is);
 }) log (HasWal-same words new (λ line below. wal_word-off_log words new line same below) formed.wal) formed
 
+-- they are the same where that word is
+pub bounds_of-same : (words new : List ℕ) → word_at new fields_word ≡ word_at words fields_word → bounds_of new ≡ bounds_of words
+bounds_of-same words new same = ap bounds_of_fields same
+
 -- a store elsewhere than to the header line's second word
 pub bounds_of-put_word : (words : List ℕ) (k value : ℕ) → fields_word ≢ k → bounds_of (put_word words k value) ≡ bounds_of words
 bounds_of-put_word words k value apart = ap bounds_of_fields (word_at-put_other words k fields_word value apart)

@@ -1,10 +1,12 @@
 -- Where live extents lie, and which one has an address.
 use Rattle.std.proofs.Common.{◌≡◌, ◌≢◌, ◌&&◌, ◌==◌, ℕ, ◌+◌, ◌-◌, ◌*◌, ◌/◌, ◌%◌, ◌<◌, ◌≤◌, Bool, true, false, true≢false, cond, refl, sym, ap, subst, ◌∙◌, arith, ⊎_elim, ltb}
+use Rattle.std.proofs.lemmas.Nat.{mul-le}
 use Rattle.std.proofs.lemmas.Bool.{cases_eq, eq-eqb, eqb-true, ltb-true, lt-ltb, cond-true, cond-false, and_parts, and_from, false_from_ne_true}
-use Rattle.size_classes.specs.Classes.{class_size}
+use Rattle.size_classes.specs.Classes.{class_size, class_capacity}
 use Rattle.size_classes.proofs.Spacing.{class_size-least}
 use Rattle.image_tables.specs.Tables.{Tables}
-use Rattle.heap_model.specs.Machine.{Bounds}
+use Rattle.heap_model.specs.Machine.{Bounds, slab_block}
+use Rattle.heap_model.proofs.Slabbing.{LiesIn-block}
 use Rattle.heap_check.specs.Heap.{slab_of, is_large, is_old}
 use Rattle.heap_check.specs.Sound.{granules_at, Covers, IsInSlab, IsSlab, IsSound}
 use Rattle.image_tables.specs.Updates.{put_at}
@@ -25,6 +27,14 @@ Covers-slab t start k slab low high = record { low = low; high = omega (arith, h
 -- a valid slab has 64 index entries at most
 pub entries_few : {t : Tables} {start : ℕ} → IsSlab t start → t.entries start ≤ 64
 entries_few {t} {start} is = ⊎_elim (λ (normal : t.kind start ≡ 1). omega (arith, (is.none normal).1)) (λ (other : t.kind start ≢ 1). (is.number other).1) (cases_eq (t.kind start) 1)
+
+-- numbers of blocks are below 4096
+pub number_few : (class i : ℕ) → class < 36 → i < class_capacity class → i < 4096
+number_few class i is_class below =
+    let some = class_size-least class is_class in
+    let lies = LiesIn-block 0 class (slab_block 0 class i) (record { number = i; within = below; is = refl }) in
+    let least : i * 16 ≤ i * class_size class = mul-le i 16 i (class_size class) (omega arith) some in
+    omega (arith, least, lies.high)
 
 -- addresses at which a large extent starts
 

@@ -53,6 +53,15 @@ version_in-off_log words new same = ap version_field (fields-off_log words new s
 pub granules_in-off_log : (words new : List ℕ) → IsSameOffLog words new → granules_in new ≡ granules_in words
 granules_in-off_log words new same = ap granules_field (fields-off_log words new same)
 
+-- the same the other way
+pub IsSameOffLog-back : (words new : List ℕ) → IsSameOffLog words new → IsSameOffLog new words
+IsSameOffLog-back words new same = record {
+  same_length = sym same.same_length;
+  others = λ k apart outside.
+      let version = version_in-off_log words new same in
+      sym (same.others k apart (⊎_elim (λ x. inl (omega (arith, x, ap log_word version))) (λ x. inr (omega (arith, x, ap heap_word version))) outside));
+}
+
 pub root_word-off_log : (words new : List ℕ) (root : ℕ) → IsSameOffLog words new → root < (layout_of (version_in words)).roots → word_at new (root_word root) ≡ word_at words (root_word root)
 root_word-off_log words new root same below = same.others (root_word root) (λ e. omega arith) (inl (root_word-low (version_in words) root below))
 

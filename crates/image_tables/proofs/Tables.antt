@@ -42,7 +42,20 @@ pub number_table : (words : List ℕ) (start place : ℕ) → is_slab words star
 unfolding tables_of
 number_table words start place is below = cond-true (is_slab words start && ltb place 64) _ 0 (and_from (is_slab words start) (ltb place 64) is (lt-ltb place 64 below))
 
--- how many index entries a slab has
+-- the fields of a slab's state word
+
+pub kind_table : (words : List ℕ) (start : ℕ) → (tables_of words).kind start ≡ state_field words start 0
+unfolding tables_of
+kind_table words start = refl
+
+pub class_table : (words : List ℕ) (start : ℕ) → (tables_of words).class start ≡ state_field words start 8
+unfolding tables_of
+class_table words start = refl
+
+pub old_table : (words : List ℕ) (start : ℕ) → (tables_of words).old start ≡ state_field words start 16
+unfolding tables_of
+old_table words start = refl
+
 pub entries_table : (words : List ℕ) (start : ℕ) → (tables_of words).entries start ≡ state_field words start 24
 unfolding tables_of
 entries_table words start = refl

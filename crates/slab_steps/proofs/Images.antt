@@ -1,0 +1,53 @@
+-- Images while a slab comes or goes: what is the same of them.
+use Rattle.std.proofs.Common.{◌≡◌, ◌≢◌, ◌⊎◌, ℕ, ◌+◌, ◌*◌, ◌<◌, ◌≤◌, true, false, List, length, refl, sym, ap, subst, ◌∙◌, arith, inl, inr, Some, None}
+use Rattle.pmem_lines.specs.Words.{word_at}
+use Rattle.pool_layout.specs.Layout.{layout_of}
+use Rattle.pool_layout.specs.Places.{fields_word, directory_word, granule_word, log_word, heap_word}
+use Rattle.pool_layout.specs.Header.{version_in}
+use Rattle.image_tables.specs.Tables.{Tables, is_slab, state_field, tables_of}
+use Rattle.image_tables.proofs.Places.{log_word-low}
+use Rattle.image_tables.proofs.Stores.{log_word-high}
+use Rattle.image_tables.proofs.Tables.{slab_table, entries_table}
+use Rattle.heap_model.specs.Machine.{Bounds, Range}
+use Rattle.heap_check.specs.Heap.{heap}
+use Rattle.heap_check.specs.Sound.{IsSound, IsSteady}
+use Rattle.heap_check.specs.Image.{bounds_of, IsFormed, IsSteadyImage}
+use Rattle.heap_check.specs.State.{IsWordOf, HaveSameHeap, KeepsBlocks, IsEitherHeap}
+use Rattle.heap_check.proofs.Geometry.{entries_few}
+use Rattle.heap_check.proofs.Sizes.{sizes_of}
+use Rattle.heap_check.proofs.BlockWords.{block_word-heap}
+use Rattle.slab_steps.specs.Steps.{KeepsOthers}
+
+-- what an image keeps of the words
+pub record IsNear (words : List ℕ) (start : ℕ) (image : List ℕ) : Type 0 where
+  pub formed : IsFormed image
+  pub bounds : bounds_of image ≡ bounds_of words
+  pub rest : KeepsOthers words start image
+
+-- it says the same
+pub record IsSame (words : List ℕ) (start : ℕ) (image : List ℕ) : Type 0 where
+  pub near : IsNear words start image
+  pub tables : tables_of image ≡ tables_of words
+
+-- no slab of a sound image has more than 64 index entries
+pub few_entries : (words : List ℕ) → IsSound (bounds_of words) (tables_of words) → (other : ℕ) → is_slab words other ≡ true → state_field words other 24 ≤ 64
+few_entries words sound other is = omega (arith, entries_few (sound.slabs other (slab_table words other ∙ is)), entries_table words other)
+
+-- the words of blocks are kept, which lie in no header at the start
+pub keeps_blocks : (words : List ℕ) (start : ℕ) (new image : List ℕ) → IsFormed words → IsSound (bounds_of words) (tables_of words) → (tables_of words).entry ≡ None →
+    ((root : ℕ) (range : Range) (k : ℕ) → heap (tables_of words) root ≡ Some range → IsWordOf range k → (k < granule_word start) ⊎ (granule_word start + 256 ≤ k)) → KeepsOthers words start image → KeepsBlocks words new image
+keeps_blocks words start new image formed sound closed off rest = record {
+  each = λ root range k was is word.
+      let sizes = sizes_of words formed in
+      let high = block_word-heap sound closed root range was k word in
+      rest.others k (λ e. omega (arith, e, high, sizes.first)) (inr (omega (arith, high))) (off root range k was word);
+}
+
+-- an image that has the heap of the words, and is steady, is one that a crash may leave
+pub either : (words : List ℕ) (start : ℕ) (new image : List ℕ) → IsNear words start image → IsSteady (bounds_of words) (tables_of image) → ((root : ℕ) → heap (tables_of image) root ≡ heap (tables_of words) root) → KeepsBlocks words new image →
+    IsEitherHeap words new image
+either words start new image near steady same keeps = record {
+  steady = record { formed = near.formed; steady = subst (λ (b : Bounds). IsSteady b (tables_of image)) (sym near.bounds) steady };
+  heap = inl (record { each = same });
+  words = keeps;
+}

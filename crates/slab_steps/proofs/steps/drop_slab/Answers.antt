@@ -1,0 +1,19 @@
+use Rattle.pmem_lines.specs.Pmem.{words_of}
+use Rattle.slab_steps.proofs.Dropping.{drop_formed, drop_disjoint, drop_low, drop_high, dropped, drop_crash}
+use Rattle.slab_steps.proofs.steps.drop_slab.Goals as goal
+
+pub log_entry-requires-clause-disjoint : goal.log_entry-requires-clause-disjoint
+log_entry-requires-clause-disjoint g c = drop_disjoint (words_of (g.P.Pmem.state c.args.p.now)) c.args.start c.args.class c.requires.droppable
+
+pub log_entry-requires-clause-valid : goal.log_entry-requires-clause-valid
+log_entry-requires-clause-valid g c =
+    let words = words_of (g.P.Pmem.state c.args.p.now) in
+    (drop_low words c.args.start c.args.class c.requires.droppable, drop_high words c.args.start c.args.class c.requires.droppable)
+
+pub returns-clause-dropped : goal.returns-clause-dropped
+returns-clause-dropped g c =
+    dropped (words_of (g.P.Pmem.state c.args.p.now)) c.args.start c.args.class c.requires.droppable (words_of (g.P.Pmem.state c.log_entry.new.device)) c.log_entry.ensures.logged
+
+pub returns-clause-crash : goal.returns-clause-crash
+returns-clause-crash g c =
+    drop_crash (words_of (g.P.Pmem.state c.args.p.now)) c.args.start c.args.class c.requires.droppable (words_of (g.P.Pmem.state c.log_entry.new.device)) c.log_entry.ensures.crash
