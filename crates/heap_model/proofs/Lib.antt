@@ -5,3 +5,4 @@ pub mod Slabbing
 pub mod Steps
 pub mod Rows
 pub mod Settled
+pub mod Placements

@@ -47,6 +47,6 @@ AskTheSame (entry ∷ entries) (other ∷ others) = (entry.seat ≡ other.seat) 
 abbrev pub LawOfOneJournal : Type 0
 LawOfOneJournal = (b : Bounds) (m last other : Machine) (entries others : List Entry) → AskTheSame entries others → Leads (IsLargeStep b) m entries last → Leads (IsLargeStep b) m others other → (entries ≡ others) × (last ≡ other)
 
--- nor does the machine whose slabs keep their class, with the placement
+-- the machine whose slabs keep their class leaves nothing open either, where each block is the one that the placement says
 abbrev pub LawOfOnePlacedJournal : Type 0
 LawOfOnePlacedJournal = (b : Bounds) (m last other : Machine) (entries others : List Entry) → AskTheSame entries others → Leads (IsPlacedStep b) m entries last → Leads (IsPlacedStep b) m others other → (entries ≡ others) × (last ≡ other)
