@@ -4,4 +4,6 @@ pub mod Freeing
 pub mod Slabbing
 pub mod Steps
 pub mod Rows
+pub mod SlabRows
 pub mod Settled
+pub mod Placements

@@ -7,8 +7,8 @@ use Rattle.heap_model.specs.declared.call.Reply.{Reply}
 use Rattle.heap_model.specs.declared.call.Reply.TheVariants.{Placed, Freed, Wrote, Value, NoRoot, Occupied, Empty, ZeroSize, TooLarge, OutOfRange, NoSpace}
 use Rattle.heap_model.specs.Machine.{IsBlockOf, Bounds, Range, Machine, IsLarge, IsFreeGranule, IsOverlapFree}
 use Rattle.heap_model.specs.Runs.{IsFreeRow, IsBestFit}
-use Rattle.heap_model.specs.Step.{IsAsking, IsSmallGrant, IsGrant, HasNoPlace, with_block, IsFromGranules, IsGrantOfGranules, HasNoGranules, IsMalloc, IsFree, IsRefusedWord, IsStepBy, granules_for}
-use Rattle.heap_model.specs.Journal.{LawOfOverlap, LawOfLargeOverlap}
+use Rattle.heap_model.specs.Step.{IsAsking, IsFromSlab, IsSmallGrant, IsGrant, HasNoPlace, IsKeptGrant, HasNoKeptPlace, with_block, with_slab_block, IsFromGranules, IsGrantOfGranules, HasNoGranules, IsMalloc, IsFree, IsRefusedWord, IsStepBy, granules_for}
+use Rattle.heap_model.specs.Journal.{LawOfOverlap, LawOfKeptOverlap, LawOfLargeOverlap}
 use Rattle.heap_model.proofs.Placing.{IsProper, IsOverlapFree-with, IsOverlapFree-value, IsUnused-free}
 use Rattle.size_classes.proofs.Spacing.{class_size-most}
 use Rattle.heap_model.proofs.Maps.{with_key-here}
@@ -121,25 +121,35 @@ block_proper b m s c size range some least slab block =
       clear = λ t d k big. absurd (little big);
     }
 
+-- a block is given in a slab of a small request's class
+given_there : (b : Bounds) (m next : Machine) (root class size : ℕ) (range : Range) → IsOverlapFree b m → root < b.roots → size ≢ 0 → IsClassOf size class → IsFromSlab m root class range next → IsOverlapFree b next
+given_there b m next root class size range was below some least here =
+    same_state b (with_block m root range) next
+    (IsOverlapFree-with b m root range was below here.free.unused (block_proper b m here.start class size range some least here.slab here.free.block)) here.after
+
+-- a block is given in a new slab of the class
+given_anew : (b : Bounds) (m next : Machine) (root class size start : ℕ) (range : Range) → IsOverlapFree b m → root < b.roots → size ≢ 0 → IsClassOf size class → IsBestFit (IsFreeGranule b m) 4 start →
+    IsBlockOf start class range → next ≡ with_slab_block m start class root range → IsOverlapFree b next
+given_anew b m next root class size start range was below some least fit block after =
+    let made : Machine = with_class m start class in
+    let row = row_of_fit (IsFreeGranule b m) 4 start fit in
+    let lies = LiesIn-block start class range block in
+    same_state b (with_block made root range) next
+    (IsOverlapFree-with b made root range (IsOverlapFree-slab b m start class was row) below
+    (record { each = (IsUnused-free b m start 4 range was (omega arith) row lies.low (omega (arith, lies.high))).each })
+    (block_proper b made start class size range some least (with_key-here m.slab start (Some class)) block)) after
+
 -- a small request is granted
 grant_small : (b : Bounds) (m next : Machine) (root size : ℕ) (range : Range) → IsOverlapFree b m → root < b.roots → size ≢ 0 → IsSmallGrant b m root size range next → IsOverlapFree b next
 grant_small b m next root size range was below some grant = ⊎_elim
-    (λ here. same_state b (with_block m root range) next
-    (IsOverlapFree-with b m root range was below here.free.unused (block_proper b m here.start grant.class size range some grant.least here.slab here.free.block)) here.after)
+    (λ here. given_there b m next root grant.class size range was below some grant.least here)
     (λ there. ⊎_elim
     (λ morph.
     let taken : Machine = with_class m morph.start grant.class in
     same_state b (with_block taken root range) next
     (IsOverlapFree-with b taken root range (IsOverlapFree-morph b m morph.start grant.class morph.best.fit.class was morph.best.fit.slab) below (record { each = morph.free.unused.each })
     (block_proper b taken morph.start grant.class size range some grant.least (with_key-here m.slab morph.start (Some grant.class)) morph.free.block)) morph.after)
-    (λ new.
-    let made : Machine = with_class m new.start grant.class in
-    let row = row_of_fit (IsFreeGranule b m) 4 new.start new.fit in
-    let lies = LiesIn-block new.start grant.class range new.block in
-    same_state b (with_block made root range) next
-    (IsOverlapFree-with b made root range (IsOverlapFree-slab b m new.start grant.class was row) below
-    (record { each = (IsUnused-free b m new.start 4 range was (omega arith) row lies.low (omega (arith, lies.high))).each })
-    (block_proper b made new.start grant.class size range some grant.least (with_key-here m.slab new.start (Some grant.class)) new.block)) new.after)
+    (λ new. given_anew b m next root grant.class size new.start range was below some grant.least new.fit new.block new.after)
     there)
     grant.granted
 
@@ -156,4 +166,22 @@ law_of_overlap b m last [] was leads = same_state b m last was leads
 law_of_overlap b m last (entry ∷ entries) was leads =
     law_of_overlap b leads.0 last entries
     (step IsGrant HasNoPlace b m leads.0 entry.call entry.reply was (λ root size range asking is. grant b m leads.0 root size range was asking is) leads.1)
+    leads.2
+
+-- a request is granted by the machine whose slabs keep their class
+grant_kept : (b : Bounds) (m next : Machine) (root size : ℕ) (range : Range) → IsOverlapFree b m → IsAsking b m root size → IsKeptGrant b m root size range next → IsOverlapFree b next
+grant_kept b m next root size range was asking is = ⊎_elim
+    (λ small. ⊎_elim
+    (λ here. given_there b m next root small.class size range was asking.below asking.some small.least here)
+    (λ new. given_anew b m next root small.class size new.start range was asking.below asking.some small.least new.fit new.block new.after)
+    small.granted)
+    (λ large. grant_granules b m next root (granules_of size) range was asking.below (omega (arith, large.large)) large.granted)
+    is
+
+-- every state that the machine whose slabs keep their class reaches from one free of overlaps is free of them
+pub law_of_kept_overlap : LawOfKeptOverlap
+law_of_kept_overlap b m last [] was leads = same_state b m last was leads
+law_of_kept_overlap b m last (entry ∷ entries) was leads =
+    law_of_kept_overlap b leads.0 last entries
+    (step IsKeptGrant HasNoKeptPlace b m leads.0 entry.call entry.reply was (λ root size range asking is. grant_kept b m leads.0 root size range was asking is) leads.1)
     leads.2

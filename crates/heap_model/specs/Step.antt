@@ -1,8 +1,9 @@
 -- The steps of the heap machine: which reply a call may have, and the state after it. The cases of a call stand in the
 -- order in which they are looked at: each holds where none before it does.
 --
--- Two machines share all but the rows of a malloc that is granted or finds no space. `IsStep` is the machine with slabs:
+-- Three machines share all but the rows of a malloc that is granted or finds no space. `IsStep` is the machine with slabs:
 -- a small request is served from a slab of its class, from a slab that takes the class, or from a new slab. In
+-- `IsKeptStep` slabs keep their class: a small request is served from a slab of its class or from a new slab. In
 -- `IsLargeStep` there are no slabs: each request takes whole granules, two at least.
 use Rattle.std.specs.Prelude.{◌≡◌, ◌≢◌, ◌⊎◌, ◌==◌, ◌&&◌, ℕ, ◌-◌, ◌*◌, ◌/◌, ◌<◌, ◌≤◌, max, Option, Some, None, if◌then◌else◌}
 use Rattle.size_classes.specs.Classes.{IsClassOf, granules_of}
@@ -76,6 +77,14 @@ pub record IsFromNewSlab (b : Bounds) (m : Machine) (root class : ℕ) (range : 
   pub block : IsBlockOf start class range
   pub after : next ≡ with_slab_block m start class root range
 
+-- the same where slabs keep their class: whether another slab could take it is not asked
+pub record IsFromFreshSlab (b : Bounds) (m : Machine) (root class : ℕ) (range : Range) (next : Machine) : Type 0 where
+  pub full : ¬ (HasFreeBlock m class)
+  pub start : ℕ
+  pub fit : IsBestFit (IsFreeGranule b m) 4 start
+  pub block : IsBlockOf start class range
+  pub after : next ≡ with_slab_block m start class root range
+
 -- whole granules at their best fit
 pub record IsFromGranules (b : Bounds) (m : Machine) (root count : ℕ) (range : Range) (next : Machine) : Type 0 where
   pub start : ℕ
@@ -88,6 +97,12 @@ pub record IsSmallGrant (b : Bounds) (m : Machine) (root size : ℕ) (range : Ra
   pub class : ℕ
   pub least : IsClassOf size class
   pub granted : IsFromSlab m root class range next ⊎ (IsFromMorph b m root class range next ⊎ IsFromNewSlab b m root class range next)
+
+-- the same where slabs keep their class
+pub record IsKeptSmallGrant (b : Bounds) (m : Machine) (root size : ℕ) (range : Range) (next : Machine) : Type 0 where
+  pub class : ℕ
+  pub least : IsClassOf size class
+  pub granted : IsFromSlab m root class range next ⊎ IsFromFreshSlab b m root class range next
 
 -- a large request: above the largest class
 pub record IsLargeGrant (b : Bounds) (m : Machine) (root size : ℕ) (range : Range) (next : Machine) : Type 0 where
@@ -102,6 +117,13 @@ pub record HasNoSmallPlace (b : Bounds) (m : Machine) (size : ℕ) : Type 0 wher
   pub no_fit : HasNoFitSlab b m class
   pub no_run : HasNoFit (IsFreeGranule b m) 4
 
+-- the same where slabs keep their class
+pub record HasNoKeptSmallPlace (b : Bounds) (m : Machine) (size : ℕ) : Type 0 where
+  pub class : ℕ
+  pub least : IsClassOf size class
+  pub full : ¬ (HasFreeBlock m class)
+  pub no_run : HasNoFit (IsFreeGranule b m) 4
+
 -- no place for a large request
 pub record HasNoLargePlace (b : Bounds) (m : Machine) (size : ℕ) : Type 0 where
   pub large : 16384 < size
@@ -113,6 +135,13 @@ IsGrant b m root size range next = IsSmallGrant b m root size range next ⊎ IsL
 
 abbrev pub HasNoPlace : Bounds → Machine → ℕ → Type 0
 HasNoPlace b m size = HasNoSmallPlace b m size ⊎ HasNoLargePlace b m size
+
+-- the same, by the machine whose slabs keep their class
+abbrev pub IsKeptGrant : Bounds → Machine → ℕ → ℕ → Range → Machine → Type 0
+IsKeptGrant b m root size range next = IsKeptSmallGrant b m root size range next ⊎ IsLargeGrant b m root size range next
+
+abbrev pub HasNoKeptPlace : Bounds → Machine → ℕ → Type 0
+HasNoKeptPlace b m size = HasNoKeptSmallPlace b m size ⊎ HasNoLargePlace b m size
 
 -- how many granules a request takes where there are no slabs
 abbrev pub granules_for : ℕ → ℕ
@@ -228,6 +257,10 @@ IsStepBy Grants Lacks b m (Read root index) reply next = IsRead b m root index r
 -- a step of the machine with slabs
 abbrev pub IsStep : Bounds → Machine → Call → Reply → Machine → Type 0
 IsStep = IsStepBy IsGrant HasNoPlace
+
+-- a step of the machine whose slabs keep their class
+abbrev pub IsKeptStep : Bounds → Machine → Call → Reply → Machine → Type 0
+IsKeptStep = IsStepBy IsKeptGrant HasNoKeptPlace
 
 -- a step of the machine without slabs, in which each request takes whole granules
 abbrev pub IsLargeStep : Bounds → Machine → Call → Reply → Machine → Type 0

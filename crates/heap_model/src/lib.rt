@@ -2,8 +2,9 @@
 // bitmap, log or list of free space, and no persistent memory.
 //
 // The crate has types, definitions and laws, and no call of the allocator: the layers above state their contracts in its
-// words. `specs/Machine.antt` has the state, `specs/Step.antt` the steps with slabs and without, `specs/Journal.antt`
-// the legal journals, and `specs/Runs.antt` what the best fit is.
+// words. `specs/Machine.antt` has the state, `specs/Step.antt` the steps with slabs and without, `specs/Placement.antt`
+// which block is given where several may be, `specs/Journal.antt` the legal journals, and `specs/Runs.antt` what the best
+// fit is.
 #![tactic(auto)]
 
 mod block;
@@ -12,4 +13,7 @@ mod laws;
 
 pub use block::{Block, Slab};
 pub use call::{Call, Entry, Reply};
-pub use laws::{law_of_large_overlap, law_of_one_journal, law_of_overlap};
+pub use laws::{
+    law_of_kept_overlap, law_of_large_overlap, law_of_one_journal, law_of_one_placed_journal,
+    law_of_overlap,
+};
