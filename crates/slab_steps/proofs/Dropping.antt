@@ -1,5 +1,5 @@
 -- A slab is dropped: the image afterwards, and what a crash leaves.
-use Rattle.std.proofs.Common.{◌≡◌, ◌≢◌, ◌⊎◌, ◌==◌, ℕ, ◌+◌, ◌*◌, ◌/◌, ◌<◌, ◌≤◌, true, false, true≢false, List, length, refl, sym, ap, subst, ◌∙◌, arith, inl, inr, ⊎_elim, Option, Some, None}
+use Rattle.std.proofs.Common.{◌≡◌, ◌≢◌, ◌⊎◌, ◌==◌, ℕ, ◌+◌, ◌<◌, ◌≤◌, true, true≢false, List, refl, sym, ap, subst, ◌∙◌, arith, inl, ⊎_elim, Option, Some, None}
 use Rattle.std.proofs.lemmas.Bool.{cases_eq, cond-true, cond-false, eq-eqb, ne_eqb}
 use Rattle.size_classes.specs.Classes.{class_capacity}
 use Rattle.pmem_lines.specs.Events.{CrashOnly}
@@ -20,7 +20,7 @@ use Rattle.log_steps.proofs.Entries.{off_log}
 use Rattle.log_steps.proofs.Disjoint.{disjoint_of}
 use Rattle.heap_model.specs.Machine.{Bounds, Range}
 use Rattle.heap_check.specs.Heap.{entry_at, heap, HoldsBit}
-use Rattle.heap_check.specs.Sound.{IsInSlab, IsSound, IsExact, IsExactBut, IsSteady}
+use Rattle.heap_check.specs.Sound.{IsInSlab, IsExact, IsExactBut, IsSteady}
 use Rattle.heap_check.specs.Slabs.{IsWithSlab}
 use Rattle.heap_check.specs.Image.{bounds_of, IsFormed}
 use Rattle.heap_check.specs.State.{IsWordOf, IsEitherHeap}
@@ -30,7 +30,7 @@ use Rattle.heap_check.proofs.Claims.{plain_size, IsClaim-word}
 use Rattle.heap_check.proofs.Forms.{AreSlabsInHeap-sound, bounds_of-off_log, IsFormed-off_log, IsFormed-logged}
 use Rattle.heap_check.proofs.Geometry.{granules_at-slab}
 use Rattle.heap_check.proofs.Sizes.{sizes_of}
-use Rattle.heap_check.proofs.SmallPlaces.{IsNormal, Holds-normal, Holds-claim}
+use Rattle.heap_check.proofs.SmallPlaces.{Holds-normal, Holds-claim}
 use Rattle.heap_check.proofs.SlabHeaps.{heap-slab}
 use Rattle.heap_check.proofs.SlabLogs.{IsWithSlab-logged}
 use Rattle.heap_check.proofs.SlabPlaces.{IsSlabPlace-empty}

@@ -1,18 +1,13 @@
 -- Images while a slab comes or goes: what is the same of them.
-use Rattle.std.proofs.Common.{◌≡◌, ◌≢◌, ◌⊎◌, ℕ, ◌+◌, ◌*◌, ◌<◌, ◌≤◌, true, false, List, length, refl, sym, ap, subst, ◌∙◌, arith, inl, inr, Some, None}
-use Rattle.pmem_lines.specs.Words.{word_at}
-use Rattle.pool_layout.specs.Layout.{layout_of}
-use Rattle.pool_layout.specs.Places.{fields_word, directory_word, granule_word, log_word, heap_word}
-use Rattle.pool_layout.specs.Header.{version_in}
-use Rattle.image_tables.specs.Tables.{Tables, is_slab, state_field, tables_of}
-use Rattle.image_tables.proofs.Places.{log_word-low}
-use Rattle.image_tables.proofs.Stores.{log_word-high}
+use Rattle.std.proofs.Common.{◌≡◌, ◌⊎◌, ℕ, ◌+◌, ◌<◌, ◌≤◌, true, List, sym, subst, ◌∙◌, arith, inl, inr, Some, None}
+use Rattle.pool_layout.specs.Places.{granule_word}
+use Rattle.image_tables.specs.Tables.{is_slab, state_field, tables_of}
 use Rattle.image_tables.proofs.Tables.{slab_table, entries_table}
 use Rattle.heap_model.specs.Machine.{Bounds, Range}
 use Rattle.heap_check.specs.Heap.{heap}
 use Rattle.heap_check.specs.Sound.{IsSound, IsSteady}
-use Rattle.heap_check.specs.Image.{bounds_of, IsFormed, IsSteadyImage}
-use Rattle.heap_check.specs.State.{IsWordOf, HaveSameHeap, KeepsBlocks, IsEitherHeap}
+use Rattle.heap_check.specs.Image.{bounds_of, IsFormed}
+use Rattle.heap_check.specs.State.{IsWordOf, KeepsBlocks, IsEitherHeap}
 use Rattle.heap_check.proofs.Geometry.{entries_few}
 use Rattle.heap_check.proofs.Sizes.{sizes_of}
 use Rattle.heap_check.proofs.BlockWords.{block_word-heap}

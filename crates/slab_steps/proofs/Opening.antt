@@ -1,27 +1,21 @@
 -- A slab is opened: the image at each of its steps, and what a crash leaves.
-use Rattle.std.proofs.Common.{◌≡◌, ◌≢◌, ◌⊎◌, ◌==◌, ℕ, ◌+◌, ◌*◌, ◌/◌, ◌%◌, ◌^◌, ◌<◌, ◌≤◌, true, false, List, ◌++◌, length, refl, sym, ap, subst, ◌∙◌, arith, inl, inr, ⊎_elim, Some, None}
+use Rattle.std.proofs.Common.{◌≡◌, ◌≢◌, ◌⊎◌, ◌==◌, ℕ, ◌+◌, ◌*◌, ◌/◌, ◌%◌, ◌^◌, ◌<◌, ◌≤◌, true, false, List, refl, sym, ap, subst, ◌∙◌, arith, inl, inr, ⊎_elim, Some}
 use Rattle.std.proofs.lemmas.Bool.{cases_eq, cases_lt, cond-true, cond-false, eq-eqb, ne_eqb, false_from_ne_true}
-use Rattle.size_classes.specs.Classes.{class_capacity}
 use Rattle.pmem_lines.specs.Words.{word_at}
 use Rattle.pmem_lines.specs.Events.{reading, IsQuiet, CrashOnly}
 use Rattle.pmem_lines.proofs.Images.{then, weaker}
 use Rattle.pool_layout.specs.Layout.{layout_of}
-use Rattle.pool_layout.specs.Places.{fields_word, directory_word, granule_word, log_word, heap_word}
+use Rattle.pool_layout.specs.Places.{fields_word, granule_word, log_word, heap_word}
 use Rattle.pool_layout.specs.Header.{version_in, granules_in}
 use Rattle.image_tables.specs.declared.extent.Extent.TheVariants as extent
 use Rattle.image_tables.specs.Extents.{extent_at}
-use Rattle.image_tables.specs.Tables.{Tables, AreSlabsInHeap, large_of, is_slab_of, where_slab, is_slab, state_word, bitmap_word, state_field, slab_bit, tables_of}
-use Rattle.image_tables.proofs.Extents.{extent_at-same}
+use Rattle.image_tables.specs.Tables.{Tables, AreSlabsInHeap, is_slab_of, is_slab, state_word, bitmap_word, state_field, tables_of}
 use Rattle.image_tables.proofs.Headers.{IsSameOffHeader, SameLog-off_header}
-use Rattle.image_tables.proofs.Places.{log_word-low}
-use Rattle.image_tables.proofs.Stores.{IsSameOffLog, log_word-high, version_in-off_log, fields-off_log, heap_word-off_log, state_word-high, bitmap_word-high, slab_bit-same, tables_off_log-same}
+use Rattle.image_tables.proofs.Stores.{IsSameOffLog, heap_word-off_log, slab_bit-same, tables_off_log-same}
 use Rattle.image_tables.proofs.Tables.{slab_table, large_table, bit_table, kind_table, class_table, old_table, entries_table}
-use Rattle.slab_header.specs.State.{SaysOfState}
-use Rattle.slab_header.specs.declared.state.SlabState.TheVariants.{Normal}
 use Rattle.slab_header.specs.Steps.{make_events, KeepsOutside, IsMade}
 use Rattle.book_log.specs.declared.entry.LogEntry.TheVariants.{Slab}
-use Rattle.book_log.specs.Book.{Book, HasLog}
-use Rattle.book_log.specs.Log.{with_entry}
+use Rattle.book_log.specs.Book.{Book}
 use Rattle.book_log.proofs.Books.{Reads-same}
 use Rattle.log_gc.specs.Live.{AreDisjoint}
 use Rattle.log_steps.specs.Events.{log_events}
@@ -32,15 +26,15 @@ use Rattle.heap_model.specs.Machine.{Bounds, Range}
 use Rattle.heap_check.specs.Heap.{heap}
 use Rattle.heap_check.specs.Sound.{IsVacant, IsSound, IsExact, IsExactBut, IsSteady}
 use Rattle.heap_check.specs.Slabs.{IsWithSlab}
-use Rattle.heap_check.specs.Image.{bounds_of, HasSlabHeader, IsFormed, IsExactButImage}
-use Rattle.heap_check.specs.State.{IsWordOf, HaveSameHeap, IsEitherHeap}
+use Rattle.heap_check.specs.Image.{bounds_of, HasSlabHeader, IsFormed}
+use Rattle.heap_check.specs.State.{IsWordOf, IsEitherHeap}
 use Rattle.heap_check.proofs.Blank.{law_of_steady, IsSteady-but}
 use Rattle.heap_check.proofs.BlockWords.{block_word-vacant}
 use Rattle.heap_check.proofs.Forms.{AreSlabsInHeap-sound, bounds_of-same, bounds_of-off_log, IsFormed-off_log, IsFormed-logged, IsFormed-off_header}
 use Rattle.heap_check.proofs.Geometry.{Covers-slab, granules_at-large, number_few}
 use Rattle.heap_check.proofs.Sizes.{sizes_of}
 use Rattle.heap_check.proofs.SlabHeaps.{heap-slab}
-use Rattle.heap_check.proofs.SlabLogs.{AddsSlab, IsWithSlab-logged}
+use Rattle.heap_check.proofs.SlabLogs.{IsWithSlab-logged}
 use Rattle.heap_check.proofs.SlabPlaces.{IsSlabPlace-vacant}
 use Rattle.heap_check.proofs.Slabs.{IsSlabPlace}
 use Rattle.heap_check.proofs.SlabSound.{IsExactBut-slab}

@@ -1,5 +1,5 @@
 use Rattle.pmem_lines.specs.Pmem.{words_of}
-use Rattle.slab_steps.proofs.Dropping.{drop_formed, drop_disjoint, drop_low, drop_high, dropped, drop_crash}
+use Rattle.slab_steps.proofs.Dropping.{drop_disjoint, drop_low, drop_high, dropped, drop_crash}
 use Rattle.slab_steps.proofs.steps.drop_slab.Goals as goal
 
 pub log_entry-requires-clause-disjoint : goal.log_entry-requires-clause-disjoint

@@ -1,9 +1,7 @@
-use Rattle.std.proofs.Common.{◌≡◌, ◌*◌, ◌/◌, ◌<◌, ◌≤◌, ◌+◌, ℕ, List, ◌++◌, sym, ap, subst, ◌∙◌, arith}
-use Rattle.pmem_lines.specs.declared.event.Event.{Event}
-use Rattle.pmem_lines.specs.Events.{reading, IsQuiet, CrashOnly}
+use Rattle.std.proofs.Common.{◌≡◌, ◌*◌, ◌/◌, ℕ, List, ◌++◌, ap, subst, arith}
+use Rattle.pmem_lines.specs.Events.{CrashOnly}
 use Rattle.pmem_lines.specs.Pmem.{PmemState, words_of, Appends}
 use Rattle.pmem_lines.proofs.States.{then_step}
-use Rattle.image_tables.specs.Tables.{Tables}
 use Rattle.pool_layout.specs.Places.{granule_word}
 use Rattle.heap_model.specs.Machine.{Bounds}
 use Rattle.slab_header.specs.Steps.{make_events, KeepsOutside, IsMade}
