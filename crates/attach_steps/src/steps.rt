@@ -27,6 +27,7 @@ pub fn attach<P: Pmem>(p: &mut P, line: u32, root: u32, block: SmallBlock)
     ensures attached { IsAttached (words_of (P.state p.old)) line root block (words_of (P.state p.new)) }
     ensures crash { CrashOnly (words_of (P.state p.old)) (attach_events (words_of (P.state p.old)) line root block) (IsEitherHeap (words_of (P.state p.old)) (words_of (P.state p.new))) }
 {
+    // What a crash leaves of the block and of its root is read by their entry, so that it is durable before they change.
     write_entry(p, line, entry_for(root, block));
     mark(p, root, block);
     close_entry(p, line);

@@ -1,7 +1,7 @@
 -- Numbers in and out of sets that are kept as bits of words.
 use Rattle.std.proofs.Common.{◌≡◌, ◌≢◌, ℕ, ◌+◌, ◌-◌, ◌*◌, ◌/◌, ◌%◌, ◌^◌, ◌<◌, ◌≤◌, min, ⊎_elim, Bool, true, false, cond, eqb, ltb, List, length, get_or, set, replicate, refl, sym, ap, ◌∙◌, arith, bit_and, bit_or, w64}
 use Rattle.std.specs.Int.{bit_at}
-use Rattle.std.proofs.lemmas.Bool.{cases_lt, cases_eq, eq-eqb, ne_eqb, lt-ltb, le-ltb, cond-true, cond-false, false≢true}
+use Rattle.std.proofs.lemmas.Bool.{cases_lt, cases_eq, eq-eqb, ne_eqb, lt-ltb, le-ltb, cond-true, cond-false}
 use Rattle.std.proofs.lemmas.List.{get_or-set_same, get_or-set_other, length-set, get_or-replicate, get_or_past, length-replicate}
 use Rattle.std.proofs.Math.Nat.{pow-le-pow_right}
 use Rattle.std.proofs.lemmas.Nat.{pow_pos}
@@ -22,17 +22,14 @@ has-zero words k is = has_in_word words k 0 is ∙ ap (λ b. eqb b 1) (bit_at-ze
 pub has_same : (old new : List ℕ) (k : ℕ) → get_or new (k / 64) 0 ≡ get_or old (k / 64) 0 → has new k ≡ has old k
 has_same old new k is = has_in_word new k (get_or old (k / 64) 0) is ∙ sym (has_in_word old k (get_or old (k / 64) 0) refl)
 
--- a word that has a number is not 0
-pub word_of_has : (words : List ℕ) (k : ℕ) → has words k ≡ true → get_or words (k / 64) 0 ≢ 0
-word_of_has words k is none = false≢true (sym (has-zero words k none) ∙ is)
-
--- no number is in a set of words that are all 0
+-- a word of words that are all 0
 pub get_or-zeros : (n i : ℕ) → get_or {A = ℕ} (replicate n 0) i 0 ≡ 0
 get_or-zeros n i = ⊎_elim
     (λ (within : i < n). get_or-replicate n i 0 0 within)
     (λ (past : n ≤ i). get_or_past (replicate n 0) i 0 (omega (arith, length-replicate {A = ℕ} n 0)))
     (cases_lt i n)
 
+-- no number is in a set of words that are all 0
 pub has-zeros : (n k : ℕ) → has (replicate n 0) k ≡ false
 has-zeros n k = has-zero (replicate n 0) k (get_or-zeros n (k / 64))
 
@@ -132,18 +129,6 @@ none_more words first i none zero k low high = ⊎_elim
     let place : k / 64 ≡ i = omega arith in
     has-zero words k (ap (λ n. get_or words n 0) place ∙ zero))
     (cases_lt k (64 * i))
-
--- the least number of the first word that is not 0
-pub least_behind : (words : List ℕ) (first n i k : ℕ) → first ≤ i → i < first + n → ((j : ℕ) → 64 * first ≤ j → j < 64 * i → has words j ≡ false) → IsLeastIn words (64 * i) 64 k → IsLeastIn words (64 * first) (64 * n) k
-least_behind words first n i k low high none least = record {
-  low = omega (arith, least.low);
-  high = omega (arith, least.high);
-  is = least.is;
-  least = λ j above before. ⊎_elim
-      (λ (earlier : j < 64 * i). none j above earlier)
-      (λ (here : 64 * i ≤ j). least.least j here before)
-      (cases_lt j (64 * i));
-}
 
 -- `(1 << n) - 1`, and all ones
 pub ones_shifted : (n : ℕ) → n < 64 → 1 * 2 ^ n % 18446744073709551616 - 1 ≡ ones n

@@ -14,78 +14,75 @@ class_by_test None class is = absurd (false≢true is)
 class_by_test (Some other) class is = ap Some (eqb-true other class is)
 
 -- the slab that a number of the sets of starts says
-pub record IsStart (classes : List (Option ℕ)) (some : List ℕ) (class start : ℕ) : Type 0 where
-  pub slab : get_or classes start None ≡ Some class
-  pub word : 0 < get_or some start 0
+record IsStart (classes : List (Option ℕ)) (some : List ℕ) (class start : ℕ) : Type 0 where
+  slab : get_or classes start None ≡ Some class
+  word : 0 < get_or some start 0
 
-pub start_of : {granules : ℕ} {classes : List (Option ℕ)} {blocks some short starts : List ℕ} → IsIndex granules classes blocks some short starts →
-    (class start : ℕ) → start < 1024 → has starts (1024 * class + start) ≡ true → IsStart classes some class start
-start_of {granules} {classes} {blocks} {some} index class start small is =
-    let both = and_parts (is_class (get_or classes start None) class) (ltb 0 (get_or some start 0))
-    (sym (start_here classes some start class (get_or classes start None) small refl) ∙ sym (index.starts_is (1024 * class + start)) ∙ is) in
-    record {
-      slab = class_by_test (get_or classes start None) class both.0;
-      word = ltb-true 0 (get_or some start 0) both.1;
-    }
+module _ {granules : ℕ} {classes : List (Option ℕ)} {blocks some short starts : List ℕ} {set : SlabSet} (is : set_of granules classes blocks ≡ set) (index : IsIndex granules classes blocks some short starts) where
+  -- a number in its class's set is a slab's
+  start_of : (class start : ℕ) → start < 1024 → has starts (1024 * class + start) ≡ true → IsStart classes some class start
+  start_of class start small found =
+      let test : (is_class (get_or classes start None) class && ltb 0 (get_or some start 0)) ≡ true =
+      sym (start_here classes some start class (get_or classes start None) small refl) ∙ sym (index.starts_is (1024 * class + start)) ∙ found in
+      let both = and_parts (is_class (get_or classes start None) class) (ltb 0 (get_or some start 0)) test in
+      record {
+        slab = class_by_test (get_or classes start None) class both.0;
+        word = ltb-true 0 (get_or some start 0) both.1;
+      }
 
--- a slab whose summary is 0 has no available block
-none_of_word : {granules : ℕ} {classes : List (Option ℕ)} {blocks some short starts : List ℕ} {set : SlabSet} → set_of granules classes blocks ≡ set → IsIndex granules classes blocks some short starts →
-    (k : ℕ) → has some (k / 64) ≡ false → has blocks k ≡ false
-none_of_word {granules} {classes} {blocks} is index k none =
-    has-zero blocks k (omega (arith, ltb-false 0 (get_or blocks (k / 64) 0) (sym (index.some_is (k / 64)) ∙ none)))
+  -- a word that is 0 has no available block
+  none_of_word : (k : ℕ) → has some (k / 64) ≡ false → has blocks k ≡ false
+  none_of_word k none = has-zero blocks k (omega (arith, ltb-false 0 (get_or blocks (k / 64) 0) (sym (index.some_is (k / 64)) ∙ none)))
 
-none_of_slab : {granules : ℕ} {classes : List (Option ℕ)} {blocks some short starts : List ℕ} {set : SlabSet} → set_of granules classes blocks ≡ set → IsIndex granules classes blocks some short starts →
-    (start number : ℕ) → get_or some start 0 ≡ 0 → is_available set start number ≡ false
-none_of_slab {granules} {classes} {blocks} {some} is index start number none = ⊎_elim
-    (λ (below : number < 4096).
-    let k = 4096 * start + number in
-    let place : k / 64 / 64 ≡ start = omega arith in
-    available_within is start number below ∙ none_of_word is index k (has-zero some (k / 64) (ap (λ s. get_or some s 0) place ∙ none)))
-    (λ (past : 4096 ≤ number). available_past is start number past)
-    (cases_lt number 4096)
+  -- nor has a slab of which all words are 0
+  none_of_slab : (start number : ℕ) → get_or some start 0 ≡ 0 → is_available set start number ≡ false
+  none_of_slab start number none = ⊎_elim
+      (λ (below : number < 4096).
+      let k = 4096 * start + number in
+      let place : k / 64 / 64 ≡ start = omega arith in
+      available_within is start number below ∙ none_of_word k (has-zero some (k / 64) (ap (λ s. get_or some s 0) place ∙ none)))
+      (λ (past : 4096 ≤ number). available_past is start number past)
+      (cases_lt number 4096)
 
--- a slab of the class that is not in the class's set has no available block
-none_of_start : {granules : ℕ} {classes : List (Option ℕ)} {blocks some short starts : List ℕ} {set : SlabSet} → set_of granules classes blocks ≡ set → IsIndex granules classes blocks some short starts →
-    (class start number : ℕ) → class_in set start ≡ Some class → has starts (1024 * class + start) ≡ false → is_available set start number ≡ false
-none_of_start {granules} {classes} {blocks} {some} is index class start number slab none =
-    let listed : get_or classes start None ≡ Some class = sym (class_of_list is start) ∙ slab in
-    let small : start < 1024 = omega (arith, slab_inside index start class listed, index.most) in
-    let test : ltb 0 (get_or some start 0) ≡ false =
-    ap (λ b. b && ltb 0 (get_or some start 0)) (sym (eq-eqb class class refl))
-    ∙ sym (start_here classes some start class (Some class) small listed)
-    ∙ sym (index.starts_is (1024 * class + start))
-    ∙ none in
-    none_of_slab is index start number (omega (arith, ltb-false 0 (get_or some start 0) test))
+  -- nor has a slab that is not in its class's set
+  none_of_start : (class start number : ℕ) → class_in set start ≡ Some class → has starts (1024 * class + start) ≡ false → is_available set start number ≡ false
+  none_of_start class start number slab none =
+      let listed : get_or classes start None ≡ Some class = sym (class_of_list is start) ∙ slab in
+      let small : start < 1024 = omega (arith, slab_inside index start class listed, index.most) in
+      let test : ltb 0 (get_or some start 0) ≡ false =
+      ap (λ b. b && ltb 0 (get_or some start 0)) (sym (eq-eqb class class refl))
+      ∙ sym (start_here classes some start class (Some class) small listed)
+      ∙ sym (index.starts_is (1024 * class + start))
+      ∙ none in
+      none_of_slab start number (omega (arith, ltb-false 0 (get_or some start 0) test))
 
--- no slab of a class is in the class's set
-pub no_block : {granules : ℕ} {classes : List (Option ℕ)} {blocks some short starts : List ℕ} {set : SlabSet} → set_of granules classes blocks ≡ set → IsIndex granules classes blocks some short starts →
-    (class first : ℕ) → first ≡ 1024 * class → HasNoneIn starts first 1024 → HasNoBlock set class
-no_block {granules} {classes} {blocks} is index class first first_is none = record {
-  none = λ start number slab.
-      let inside = slab_inside index start class (sym (class_of_list is start) ∙ slab) in
-      none_of_start is index class start number slab (none.none (1024 * class + start) (omega arith) (omega (arith, inside, index.most)));
-}
+  -- where no start is in a class's set, no slab of the class has an available block
+  pub no_block : (class first : ℕ) → first ≡ 1024 * class → HasNoneIn starts first 1024 → HasNoBlock set class
+  no_block class first first_is none = record {
+    none = λ start number slab.
+        let inside = slab_inside index start class (sym (class_of_list is start) ∙ slab) in
+        none_of_start class start number slab (none.none (1024 * class + start) (omega arith) (omega (arith, inside, index.most)));
+  }
 
--- the least start of the class, its least word that is not 0, and the least block of that
-pub lowest : {granules : ℕ} {classes : List (Option ℕ)} {blocks some short starts : List ℕ} {set : SlabSet} → set_of granules classes blocks ≡ set → IsIndex granules classes blocks some short starts →
-    (class first found start word block : ℕ) → first ≡ 1024 * class → start ≡ found - 1024 * class → IsLeastIn starts first 1024 found → IsLeastIn some (64 * start) 64 word → IsLeastIn blocks (64 * word) 64 block →
-    IsLowest set class (record { start = start; number = block - 4096 * start })
-lowest {granules} {classes} {blocks} {some} {short} {starts} is index class first found start word block first_is start_is least_start least_word least_block =
-    let there : found ≡ 1024 * class + start = omega (arith, least_start.low) in
-    let small : start < 1024 = omega (arith, least_start.high) in
-    let slab = start_of index class start small (ap (has starts) (sym there) ∙ least_start.is) in
-    let number = block - 4096 * start in
-    let k : 4096 * start + number ≡ block = omega (arith, least_word.low, least_block.low) in
-    let few : number < 4096 = omega (arith, least_word.high, least_block.high) in
-    let place : block / 4096 ≡ start = omega arith in
-    record {
-      slab = class_of_list is start ∙ slab.slab;
-      below = omega (arith, index.below block least_block.is, ap (capacity_at classes) place, ap capacity_or_none slab.slab);
-      available = available_within is start number few ∙ ap (has blocks) k ∙ least_block.is;
-      first = λ i before. available_within is start i (omega arith) ∙ ⊎_elim
-          (λ (earlier : 4096 * start + i < 64 * word).
-          none_of_word is index (4096 * start + i) (least_word.least ((4096 * start + i) / 64) (omega arith) (omega arith)))
-          (λ (here : 64 * word ≤ 4096 * start + i). least_block.least (4096 * start + i) here (omega arith))
-          (cases_lt (4096 * start + i) (64 * word));
-      lower = λ s i before slab. none_of_start is index class s i slab (least_start.least (1024 * class + s) (omega arith) (omega arith));
-    }
+  -- the least start of the class, its least word that is not 0, and the least block of that
+  pub lowest : (class first found start word block : ℕ) → first ≡ 1024 * class → start ≡ found - 1024 * class → IsLeastIn starts first 1024 found → IsLeastIn some (64 * start) 64 word → IsLeastIn blocks (64 * word) 64 block →
+      IsLowest set class (record { start = start; number = block - 4096 * start })
+  lowest class first found start word block first_is start_is least_start least_word least_block =
+      let there : found ≡ 1024 * class + start = omega (arith, least_start.low) in
+      let small : start < 1024 = omega (arith, least_start.high) in
+      let slab = start_of class start small (ap (has starts) (sym there) ∙ least_start.is) in
+      let number = block - 4096 * start in
+      let k : 4096 * start + number ≡ block = omega (arith, least_word.low, least_block.low) in
+      let few : number < 4096 = omega (arith, least_word.high, least_block.high) in
+      let place : block / 4096 ≡ start = omega arith in
+      record {
+        slab = class_of_list is start ∙ slab.slab;
+        below = omega (arith, index.below block least_block.is, ap (capacity_at classes) place, ap capacity_or_none slab.slab);
+        available = available_within is start number few ∙ ap (has blocks) k ∙ least_block.is;
+        first = λ i before. available_within is start i (omega arith) ∙ ⊎_elim
+            (λ (earlier : 4096 * start + i < 64 * word).
+            none_of_word (4096 * start + i) (least_word.least ((4096 * start + i) / 64) (omega arith) (omega arith)))
+            (λ (here : 64 * word ≤ 4096 * start + i). least_block.least (4096 * start + i) here (omega arith))
+            (cases_lt (4096 * start + i) (64 * word));
+        lower = λ s i before slab. none_of_start class s i slab (least_start.least (1024 * class + s) (omega arith) (omega arith));
+      }

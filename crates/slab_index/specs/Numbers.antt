@@ -6,7 +6,7 @@ use Rattle.std.specs.Int.{bit_at}
 unfoldable pub has : List ℕ → ℕ → Bool
 has words k = bit_at (slice_index words (k / 64)) (k % 64) == 1
 
--- the word with the numbers below n
+-- the word with the numbers below n, or all of 64
 unfoldable pub ones : ℕ → ℕ
 ones n = 2 ^ min n 64 - 1
 
