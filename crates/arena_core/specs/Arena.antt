@@ -1,41 +1,63 @@
 -- What an arena keeps between its calls, and the memory that it is made of.
-use Rattle.std.specs.Prelude.{◌≡◌, ◌↔◌, ℕ, ◌<◌, ◌≤◌, false, List, Option, Some, None}
+use Rattle.std.specs.Prelude.{◌≡◌, ◌↔◌, ℕ, ◌<◌, ◌≤◌, true, not, List, Option, Some, None}
 use Rattle.pmem_lines.specs.Pmem.{PmemState, words_of}
 use Rattle.pool_layout.specs.Header.{granules_in}
+use Rattle.size_classes.specs.Classes.{class_capacity}
 use Rattle.image_tables.specs.Tables.{tables_of}
-use Rattle.book_log.specs.Book.{Book, Reads, IsBlank}
+use Rattle.book_log.specs.Book.{Book, IsBlank}
 use Rattle.heap_model.specs.declared.block.Block.{Block}
 use Rattle.extent_index.specs.FreeSet.{FreeSet, IsFree}
-use Rattle.heap_check.specs.Heap.{heap}
+use Rattle.slab_index.specs.SlabSet.{SlabSet, class_in, is_available}
+use Rattle.heap_check.specs.Heap.{heap, slabs}
 use Rattle.heap_check.specs.Sound.{IsVacant}
 use Rattle.heap_check.specs.Image.{bounds_of, IsExactImage}
 use Rattle.log_steps.specs.Log.{IsBookOf}
 use Rattle.arena_core.specs.Call.{IsReady}
 
--- no slab lives: each block is whole granules
-pub record HasNoSlab (words : List ℕ) : Type 0 where
-  pub none : (start : ℕ) → (tables_of words).slab start ≡ false
+-- what an arena means: the state of its memory, and the write-ahead line that its next entry goes to
+pub record ArenaState : Type 0 where
+  pub device : PmemState
+  pub turn : ℕ
+
+-- each slab is normal: it takes no other class
+pub record HasNormalSlabs (words : List ℕ) : Type 0 where
+  pub each : (start : ℕ) → (tables_of words).slab start ≡ true → (tables_of words).kind start ≡ 1
 
 -- the set has the vacant granules of these words
 pub record IsIndexOf (set : FreeSet) (words : List ℕ) : Type 0 where
   pub granules : set.granules ≡ granules_in words
   pub each : (k : ℕ) → IsFree set k ↔ IsVacant (bounds_of words) (tables_of words) k
 
--- what an arena keeps: its memory is ready and its image exact, and log and index are those of the image
-pub record IsArena (device : PmemState) (book : Book) (set : FreeSet) : Type 0 where
+-- the set has the slabs of these words, and of each the blocks whose bits are clear
+pub record IsSlabsOf (set : SlabSet) (words : List ℕ) : Type 0 where
+  pub granules : set.granules ≡ granules_in words
+  pub classes : (start : ℕ) → class_in set start ≡ slabs (tables_of words) start
+  pub blocks : (start i : ℕ) → (tables_of words).slab start ≡ true → i < class_capacity ((tables_of words).class start) → is_available set start i ≡ not ((tables_of words).bit start i)
+
+-- what an arena keeps, whatever slabs there are: its memory is ready and its image exact, and log and index are those of
+-- the image
+pub record IsKept (device : PmemState) (book : Book) (set : FreeSet) : Type 0 where
   pub ready : IsReady device
   pub exact : IsExactImage (words_of device)
-  pub no_slab : HasNoSlab (words_of device)
   pub log : IsBookOf book (words_of device)
   pub index : IsIndexOf set (words_of device)
 
--- memory for an arena of so many granules: an empty log, and an index in which all of the heap is free
-pub record IsRoom (granules : ℕ) (book : Book) (set : FreeSet) : Type 0 where
+-- what an arena keeps
+pub record IsArena (device : PmemState) (turn : ℕ) (book : Book) (set : FreeSet) (parts : SlabSet) : Type 0 where
+  pub kept : IsKept device book set
+  pub normal : HasNormalSlabs (words_of device)
+  pub slabs : IsSlabsOf parts (words_of device)
+  pub turn : turn < 8
+
+-- memory for an arena of so many granules: an empty log, an index in which all of the heap is free, and one without slabs
+pub record IsRoom (granules : ℕ) (book : Book) (set : FreeSet) (parts : SlabSet) : Type 0 where
   pub least : 16 ≤ granules
   pub most : granules ≤ 1024
   pub log : IsBlank granules book
   pub index : set.granules ≡ granules
   pub each : (k : ℕ) → IsFree set k ↔ ((4 ≤ k) × (k < granules))
+  pub slabs : parts.granules ≡ granules
+  pub no_slab : (start : ℕ) → class_in parts start ≡ None
 
 -- the block of a root, where it has one
 abbrev pub IsBlockOfRoot : List ℕ → ℕ → Option Block → Type 0

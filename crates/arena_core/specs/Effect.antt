@@ -1,17 +1,26 @@
--- What a call changes of the words of an arena: one root's block, and nothing that lies in the heap.
-use Rattle.std.specs.Prelude.{◌≡◌, ◌≢◌, ℕ, ◌≤◌, List, Option}
-use Rattle.pmem_lines.specs.Words.{word_at}
-use Rattle.pool_layout.specs.Places.{heap_word}
-use Rattle.pool_layout.specs.Header.{version_in}
+-- What a call changes of the words of an arena: one root's block, and the slabs.
+use Rattle.std.specs.Prelude.{◌≡◌, ◌≢◌, ℕ, Bool, List, Option, None, if◌then◌else◌}
 use Rattle.image_tables.specs.Tables.{tables_of}
-use Rattle.heap_model.specs.Machine.{Range}
+use Rattle.heap_model.specs.Machine.{Range, with_key}
 use Rattle.heap_check.specs.Heap.{heap, slabs}
 use Rattle.heap_check.specs.Image.{bounds_of}
+use Rattle.heap_check.specs.State.{KeepsBlocks}
 
--- the root has this block now, or none, and all else is as before
-pub record GivesRoot (old : List ℕ) (root : ℕ) (block : Option Range) (new : List ℕ) : Type 0 where
+-- the root has this block now, or none, these are the slabs, and all else is as before
+pub record GivesRoot (old : List ℕ) (root : ℕ) (block : Option Range) (slab : ℕ → Option ℕ) (new : List ℕ) : Type 0 where
   pub here : heap (tables_of new) root ≡ block
   pub others : (other : ℕ) → other ≢ root → heap (tables_of new) other ≡ heap (tables_of old) other
-  pub slabs : (start : ℕ) → slabs (tables_of new) start ≡ slabs (tables_of old) start
-  pub words : (k : ℕ) → heap_word (version_in old) ≤ k → word_at new k ≡ word_at old k
+  pub slabs : (start : ℕ) → slabs (tables_of new) start ≡ slab start
+  pub keeps : KeepsBlocks old new new
   pub bounds : bounds_of new ≡ bounds_of old
+
+-- the slabs are the same, and the bits of their blocks
+pub record KeepsSlabs (old new : List ℕ) : Type 0 where
+  pub slab : (tables_of new).slab ≡ (tables_of old).slab
+  pub kind : (tables_of new).kind ≡ (tables_of old).kind
+  pub class : (tables_of new).class ≡ (tables_of old).class
+  pub bit : (tables_of new).bit ≡ (tables_of old).bit
+
+-- the slabs behind a call that leaves the one at a start without a block, or not
+abbrev pub slabs_but : (ℕ → Option ℕ) → ℕ → Bool → ℕ → Option ℕ
+slabs_but slab start gone = if gone then with_key slab start None else slab

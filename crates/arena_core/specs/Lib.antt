@@ -4,3 +4,4 @@ pub mod Call
 pub mod Effect
 pub mod Plan
 pub mod Arena
+pub mod Carried

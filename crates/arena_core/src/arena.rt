@@ -1,4 +1,4 @@
-// An arena of large blocks.
+// An arena.
 ghost use Rattle.std.specs.Prelude.{◌≡◌, ◌*◌, ◌<◌, ◌≤◌, length};
 ghost use Rattle.pmem_lines.specs.Words.{AreZeros};
 ghost use Rattle.pmem_lines.specs.Events.{CrashOnly, IsQuiet};
@@ -11,40 +11,44 @@ ghost use Rattle.heap_check.specs.State.{HasState, KeepsBlocks, IsEitherHeap};
 ghost use Rattle.arena_core.specs.Answer.{malloc_reply, free_reply};
 ghost use Rattle.arena_core.specs.Arena.{IsBlockOfRoot};
 ghost use Rattle.arena_core.specs.Call.{IsReady, IsStepOf, IsFormattedOrNot};
-ghost use Rattle.arena_core.specs.Events.{call_events, format_events};
+ghost use Rattle.arena_core.specs.Events.{call_events, turn_after, format_events};
 
 use crate::carrying::{carry_out_free, carry_out_malloc};
 use crate::formatting::write_header;
-use crate::plan::{granules_in, layout_in, named_block, plan_free, plan_malloc};
+use crate::plan::{freed_of, granules_in, held_by, layout_in, plan_free, plan_malloc};
 use crate::{ArenaRoom, FreeRefusal, Freed, MallocRefusal, Placed};
 use book_log::BookLog;
 use extent_index::ExtentIndex;
 use heap_model::Block;
 use pmem_lines::Pmem;
-use pool_layout::{GRANULE_BYTES, PoolHeader, granule_at};
+use pool_layout::PoolHeader;
+use slab_index::SlabIndex;
 use std::marker::Model;
 
 /// The version of the layout in which an arena is formatted.
 const VERSION: u32 = 1;
 
-/// An arena over a memory of 16 to 1024 granules of 16384 bytes: 4096 roots, of which each names a block or none. Each
-/// block is whole granules, two at least. In contracts it is what its memory means.
+/// An arena over a memory of 16 to 1024 granules of 16384 bytes: 4096 roots, of which each names a block or none. A small
+/// block, of at most 16384 bytes, is one of a slab of its size class; a large one is whole granules. In contracts it is
+/// what its memory means, and the write-ahead line that the next entry goes to.
 #[derive(Drop)]
 pub struct Arena<P: Pmem> {
     device: P,
     log: BookLog,
     free: ExtentIndex,
+    slabs: SlabIndex,
+    // The write-ahead line of the next entry.
+    turn: u32,
 }
 
 impl<P: Pmem> Model for Arena<P> {
-    ghost use Rattle.pmem_lines.specs.Pmem.{PmemState};
-    ghost use Rattle.arena_core.specs.Arena.{IsArena};
+    ghost use Rattle.arena_core.specs.Arena.{ArenaState, IsArena};
 
-    ghost Value = { PmemState };
+    ghost Value = { ArenaState };
 
-    ghost view = { λ a. P.state a.device };
+    ghost view = { λ a. record { device = P.state a.device; turn = a.turn } };
 
-    ghost invariant = { λ a. IsArena (P.state a.device) a.log a.free };
+    ghost invariant = { λ a. IsArena (P.state a.device) a.turn a.log a.free a.slabs };
 }
 
 impl<P: Pmem> Arena<P> {
@@ -58,13 +62,18 @@ impl<P: Pmem> Arena<P> {
         requires zero { AreZeros (words_of (P.state device)) }
         requires number { number < arenas }
         requires few { arenas ≤ 16 }
-        ensures device { result ≡ appended (began (P.state device)) (format_events (record { version = 1; number = number; arenas = arenas; granules = room })) }
-        ensures ready { IsReady result }
-        ensures exact { IsExactImage (words_of result) }
-        ensures empty { HasState (words_of result) no_heap }
-        ensures crash { CrashOnly result.base result.events IsFormattedOrNot }
+        ensures device { result.device ≡ appended (began (P.state device)) (format_events (record { version = 1; number = number; arenas = arenas; granules = room })) }
+        ensures turn { result.turn ≡ 0 }
+        ensures ready { IsReady result.device }
+        ensures exact { IsExactImage (words_of result.device) }
+        ensures empty { HasState (words_of result.device) no_heap }
+        ensures crash { CrashOnly result.device.base result.device.events IsFormattedOrNot }
     {
-        let ArenaRoom { mut log, free } = room;
+        let ArenaRoom {
+            mut log,
+            free,
+            slabs,
+        } = room;
         let header = PoolHeader {
             version: VERSION,
             number,
@@ -74,92 +83,122 @@ impl<P: Pmem> Arena<P> {
         device.begin();
         write_header(&mut device, &header);
         log.load(&device);
-        Arena { device, log, free }
+        Arena {
+            device,
+            log,
+            free,
+            slabs,
+            turn: 0,
+        }
     }
 
-    /// Gives a root a block of at least `size` bytes: the whole granules at their best fit. The answer is the machine's:
-    /// `NoRoot` where there is no such root word, `Occupied` where the root names a block, `ZeroSize`, `TooLarge` above
-    /// the bytes of the whole heap, `NoSpace`. It begins one call, ahead of its events, also where it refuses; a refusal
-    /// has no event and changes no word. Every other block keeps its words. After a crash within it the heap is the one
-    /// before the call or the one after it. It takes no memory. `seat` is the caller's, below 64.
+    /// Gives a root a block of at least `size` bytes. A size of at most 16384 takes the lowest free block of its class: of
+    /// the lowest slab of the class that has one, or the first of a slab that is opened at the best fit of four granules.
+    /// Any other takes whole granules at their best fit. The answer is the machine's: `NoRoot` where there is no such root
+    /// word, `Occupied` where the root names a block, `ZeroSize`, `TooLarge` above the bytes of the whole heap, `NoSpace`.
+    /// It begins one call, ahead of its events, also where it refuses; a refusal has no event and changes no word. Every
+    /// other block keeps its words. After a crash within it the heap is the one before the call or the one after it. It
+    /// takes no memory. `seat` is the caller's, below 64.
     pub fn malloc_to(&mut self, seat: u32, root: u32, size: u64) -> Result<Placed, MallocRefusal>
         requires { seat < 64 }
-        ensures step { IsStepOf (words_of self.old) (words_of self.new) (calls.Malloc root size) (malloc_reply result) }
-        ensures device { self.new ≡ appended (began self.old) (call_events (words_of self.old) root (malloc_reply result)) }
-        ensures keeps { KeepsBlocks (words_of self.old) (words_of self.new) (words_of self.new) }
-        ensures was_exact { IsExactImage (words_of self.old) }
-        ensures exact { IsExactImage (words_of self.new) }
-        ensures ready { IsReady self.new }
-        ensures crash { CrashOnly self.new.base self.new.events (IsEitherHeap (words_of self.old) (words_of self.new)) }
+        ensures step { IsStepOf (words_of self.old.device) (words_of self.new.device) (calls.Malloc root size) (malloc_reply result) }
+        ensures device { self.new.device ≡ appended (began self.old.device) (call_events (words_of self.old.device) self.old.turn root (malloc_reply result)) }
+        ensures turn { self.new.turn ≡ turn_after self.old.turn (malloc_reply result) }
+        ensures keeps { KeepsBlocks (words_of self.old.device) (words_of self.new.device) (words_of self.new.device) }
+        ensures was_exact { IsExactImage (words_of self.old.device) }
+        ensures exact { IsExactImage (words_of self.new.device) }
+        ensures ready { IsReady self.new.device }
+        ensures crash { CrashOnly self.new.device.base self.new.device.events (IsEitherHeap (words_of self.old.device) (words_of self.new.device)) }
     {
-        let reply = plan_malloc(&self.device, &self.free, root, size);
+        let plan = plan_malloc(&self.device, &self.free, &self.slabs, root, size);
         self.device.begin();
-        carry_out_malloc(&mut self.device, &mut self.log, &mut self.free, root, reply);
-        reply
+        carry_out_malloc(
+            &mut self.device,
+            &mut self.log,
+            &mut self.free,
+            &mut self.slabs,
+            &mut self.turn,
+            root,
+            plan,
+        )
     }
 
-    /// Takes a root its block. The answer is the machine's: `NoRoot` where there is no such root word, then `Empty` where
-    /// the root names no block. It begins one call, ahead of its events, also where it refuses; a refusal has no event
-    /// and changes no word. Every other block keeps its words. After a crash within it the heap is the one before the
-    /// call or the one after it. It takes no memory. `seat` is the caller's, below 64.
+    /// Takes a root its block, and the block's slab out of the heap where no other block is left in it. The answer is the
+    /// machine's: `NoRoot` where there is no such root word, then `Empty` where the root names no block. It begins one call,
+    /// ahead of its events, also where it refuses; a refusal has no event and changes no word. Every other block keeps its
+    /// words. After a crash within it the heap is the one before the call or the one after it. It takes no memory. `seat`
+    /// is the caller's, below 64.
     pub fn free_from(&mut self, seat: u32, root: u32) -> Result<Freed, FreeRefusal>
         requires { seat < 64 }
-        ensures step { IsStepOf (words_of self.old) (words_of self.new) (calls.Free root) (free_reply result) }
-        ensures device { self.new ≡ appended (began self.old) (call_events (words_of self.old) root (free_reply result)) }
-        ensures keeps { KeepsBlocks (words_of self.old) (words_of self.new) (words_of self.new) }
-        ensures was_exact { IsExactImage (words_of self.old) }
-        ensures exact { IsExactImage (words_of self.new) }
-        ensures ready { IsReady self.new }
-        ensures crash { CrashOnly self.new.base self.new.events (IsEitherHeap (words_of self.old) (words_of self.new)) }
+        ensures step { IsStepOf (words_of self.old.device) (words_of self.new.device) (calls.Free root) (free_reply result) }
+        ensures device { self.new.device ≡ appended (began self.old.device) (call_events (words_of self.old.device) self.old.turn root (free_reply result)) }
+        ensures turn { self.new.turn ≡ turn_after self.old.turn (free_reply result) }
+        ensures keeps { KeepsBlocks (words_of self.old.device) (words_of self.new.device) (words_of self.new.device) }
+        ensures was_exact { IsExactImage (words_of self.old.device) }
+        ensures exact { IsExactImage (words_of self.new.device) }
+        ensures ready { IsReady self.new.device }
+        ensures crash { CrashOnly self.new.device.base self.new.device.events (IsEitherHeap (words_of self.old.device) (words_of self.new.device)) }
     {
-        let reply = plan_free(&self.device, &self.log, root);
+        let plan = plan_free(&self.device, &self.log, &self.slabs, root);
         self.device.begin();
-        carry_out_free(&mut self.device, &mut self.log, &mut self.free, root, reply);
-        reply
+        carry_out_free(
+            &mut self.device,
+            &mut self.log,
+            &mut self.free,
+            &mut self.slabs,
+            &mut self.turn,
+            root,
+            plan,
+        )
     }
 
     /// The block that a root names. `None` exactly where there is no such root word, or it names no block.
     pub fn block(&self, root: u32) -> Option<Block>
-        ensures { IsBlockOfRoot (words_of self.now) root result }
+        ensures { IsBlockOfRoot (words_of self.now.device) root result }
     {
         if root >= layout_in(&self.device).roots {
             return None;
         }
-        match named_block(&self.device, &self.log, root) {
-            Some(block) => Some(Block {
-                root,
-                at: granule_at(block.start),
-                size: GRANULE_BYTES * block.granules,
-            }),
+        match held_by(&self.device, &self.log, &self.slabs, root) {
+            Some(held) => {
+                let block = freed_of(held);
+                Some(Block {
+                    root,
+                    at: block.at,
+                    size: block.size,
+                })
+            }
             None => None,
         }
     }
 
     /// Lends the memory.
     pub fn pmem(&self) -> &P
-        ensures device { P.state result.now ≡ self.now }
-        ensures exact { IsExactImage (words_of self.now) }
+        ensures device { P.state result.now ≡ self.now.device }
+        ensures exact { IsExactImage (words_of self.now.device) }
     {
         &self.device
     }
 
     /// Gives the memory back.
     pub fn into_pmem(self) -> P
-        ensures device { P.state result ≡ self }
-        ensures ready { IsReady self }
-        ensures exact { IsExactImage (words_of self) }
+        ensures device { P.state result ≡ self.device }
+        ensures ready { IsReady self.device }
+        ensures exact { IsExactImage (words_of self.device) }
     {
         let Arena {
             device,
             log: _,
             free: _,
+            slabs: _,
+            turn: _,
         } = self;
         device
     }
 
     /// How many granules the arena has.
     pub fn granules(&self) -> u32
-        ensures { result ≡ granules_in (words_of self.now) }
+        ensures { result ≡ granules_in (words_of self.now.device) }
     {
         granules_in(&self.device)
     }

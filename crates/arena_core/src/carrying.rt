@@ -1,122 +1,287 @@
 // What a call does, once it has begun.
-ghost use Rattle.std.specs.Prelude.{◌≡◌, ◌*◌, ◌/◌, ℕ, [], Some, None, length};
-ghost use Rattle.pmem_lines.specs.Events.{CrashOnly};
+ghost use Rattle.std.specs.Prelude.{◌≡◌, ◌<◌, ◌≤◌, ◌*◌, ℕ, true, [], Some, None, length};
+ghost use Rattle.pmem_lines.specs.Events.{reading, IsQuiet, CrashOnly};
 ghost use Rattle.pmem_lines.specs.Pmem.{words_of, Appends};
 ghost use Rattle.image_tables.specs.Tables.{tables_of};
 ghost use Rattle.heap_model.specs.declared.call.Call.TheVariants as calls;
-ghost use Rattle.heap_check.specs.Image.{bounds_of};
-ghost use Rattle.heap_check.specs.State.{KeepsBlocks, IsEitherHeap};
+ghost use Rattle.heap_model.specs.Machine.{with_key, slab_block};
+ghost use Rattle.heap_check.specs.Heap.{slabs};
+ghost use Rattle.heap_check.specs.Image.{bounds_of, IsExactButImage};
+ghost use Rattle.heap_check.specs.State.{IsEitherHeap};
+ghost use Rattle.log_steps.specs.Log.{IsBookOf};
+ghost use Rattle.slab_steps.specs.Steps.{open_events, IsOpened};
+ghost use Rattle.attach_steps.specs.Steps.{attach_events, detach_events, IsAttachable, IsDetachable, IsAttached, IsDetached};
 ghost use Rattle.arena_core.specs.Answer.{malloc_reply, free_reply};
-ghost use Rattle.arena_core.specs.Arena.{IsArena};
-ghost use Rattle.arena_core.specs.Call.{IsStepOf};
-ghost use Rattle.arena_core.specs.Effect.{GivesRoot};
-ghost use Rattle.arena_core.specs.Events.{place_events, take_events, call_events};
-ghost use Rattle.arena_core.specs.Plan.{IsGivable, IsTakable, IsMallocPlan, IsFreePlan};
+ghost use Rattle.arena_core.specs.Arena.{HasNormalSlabs, IsIndexOf, IsSlabsOf, IsKept, IsArena};
+ghost use Rattle.arena_core.specs.Call.{IsReady};
+ghost use Rattle.arena_core.specs.Carried.{IsDone, IsTidied, IsCalled};
+ghost use Rattle.arena_core.specs.Effect.{GivesRoot, KeepsSlabs, slabs_but};
+ghost use Rattle.arena_core.specs.Events.{place_events, take_events, fresh_events, unsmall_events, holds_none};
+ghost use Rattle.arena_core.specs.Plan.{IsAskedOf, IsVacantRow, IsGivable, IsTakable, IsNamedSmall, IsMallocPlan, IsFreePlan};
 
-use crate::plan::LargeBlock;
+use crate::plan::{Held, Place, freed_of, placed_at};
 use crate::{FreeRefusal, Freed, MallocRefusal, Placed};
+use attach_steps::{SmallBlock, attach, detach};
 use book_log::{BookLog, LogEntry};
 use durable_steps::write_word;
 use extent_index::ExtentIndex;
 use log_steps::log_entry;
 use pmem_lines::Pmem;
-use pool_layout::{GRANULE_BYTES, granule_at, root_at};
+use pool_layout::{SLAB_GRANULES, blocks_at, granule_at, root_at};
+use slab_index::SlabIndex;
+use slab_steps::{drop_slab, open_slab};
 
-/// Does what the answer to a malloc says.
+/// Does what the plan of a malloc says, and answers the call. `turn` is the write-ahead line of the next entry.
 pub(crate) fn carry_out_malloc<P: Pmem>(
     device: &mut P,
     log: &mut BookLog,
     free: &mut ExtentIndex,
+    slabs: &mut SlabIndex,
+    turn: &mut u32,
     root: u32,
-    reply: Result<Placed, MallocRefusal>,
-)
-    requires arena { IsArena (P.state device.old) log.old free.old }
+    plan: Result<Place, MallocRefusal>,
+) -> Result<Placed, MallocRefusal>
+    requires arena { IsArena (P.state device.old) turn.old log.old free.old slabs.old }
     requires fresh { (P.state device.old).events ≡ [] }
-    requires plan { (size : ℕ) × IsMallocPlan (bounds_of (words_of (P.state device.old))) (tables_of (words_of (P.state device.old))) root size reply }
-    ensures appends { Appends (P.state device.old) (P.state device.new) (call_events (words_of (P.state device.old)) root (malloc_reply reply)) }
-    ensures arena { IsArena (P.state device.new) log.new free.new }
-    ensures step { (size : ℕ) → IsMallocPlan (bounds_of (words_of (P.state device.old))) (tables_of (words_of (P.state device.old))) root size reply → IsStepOf (words_of (P.state device.old)) (words_of (P.state device.new)) (calls.Malloc root size) (malloc_reply reply) }
-    ensures crash { CrashOnly (words_of (P.state device.old)) (call_events (words_of (P.state device.old)) root (malloc_reply reply)) (IsEitherHeap (words_of (P.state device.old)) (words_of (P.state device.new))) }
-    ensures keeps { KeepsBlocks (words_of (P.state device.old)) (words_of (P.state device.new)) (words_of (P.state device.new)) }
+    requires plan { (size : ℕ) × IsMallocPlan (bounds_of (words_of (P.state device.old))) (tables_of (words_of (P.state device.old))) root size plan }
+    ensures { (size : ℕ) → IsMallocPlan (bounds_of (words_of (P.state device.old))) (tables_of (words_of (P.state device.old))) root size plan → IsCalled (P.state device.old) (P.state device.new) turn.old turn.new log.new free.new slabs.new root (calls.Malloc root size) (malloc_reply result) }
 {
-    if let Ok(placed) = reply {
-        let block = LargeBlock {
-            start: placed.at / GRANULE_BYTES,
-            granules: placed.size / GRANULE_BYTES,
-        };
-        give(device, log, free, root, block);
+    let place = plan?;
+    match place {
+        Place::Large { start, granules } => give_large(device, log, free, root, start, granules),
+        Place::Small { block, class: _ } => {
+            give_small(device, slabs, *turn, root, block);
+            *turn = (*turn + 1) % 8;
+        }
+        Place::Fresh { start, class } => {
+            give_fresh(device, log, free, slabs, *turn, root, start, class);
+            *turn = (*turn + 1) % 8;
+        }
     }
+    Ok(placed_at(place))
 }
 
-/// Does what the answer to a free says.
+/// Does what the plan of a free says, and answers the call. `turn` is the write-ahead line of the next entry.
 pub(crate) fn carry_out_free<P: Pmem>(
     device: &mut P,
     log: &mut BookLog,
     free: &mut ExtentIndex,
+    slabs: &mut SlabIndex,
+    turn: &mut u32,
     root: u32,
-    reply: Result<Freed, FreeRefusal>,
-)
-    requires arena { IsArena (P.state device.old) log.old free.old }
+    plan: Result<Held, FreeRefusal>,
+) -> Result<Freed, FreeRefusal>
+    requires arena { IsArena (P.state device.old) turn.old log.old free.old slabs.old }
     requires fresh { (P.state device.old).events ≡ [] }
-    requires plan { IsFreePlan (bounds_of (words_of (P.state device.old))) (tables_of (words_of (P.state device.old))) root reply }
-    ensures appends { Appends (P.state device.old) (P.state device.new) (call_events (words_of (P.state device.old)) root (free_reply reply)) }
-    ensures arena { IsArena (P.state device.new) log.new free.new }
-    ensures step { IsStepOf (words_of (P.state device.old)) (words_of (P.state device.new)) (calls.Free root) (free_reply reply) }
-    ensures crash { CrashOnly (words_of (P.state device.old)) (call_events (words_of (P.state device.old)) root (free_reply reply)) (IsEitherHeap (words_of (P.state device.old)) (words_of (P.state device.new))) }
-    ensures keeps { KeepsBlocks (words_of (P.state device.old)) (words_of (P.state device.new)) (words_of (P.state device.new)) }
+    requires plan { IsFreePlan (bounds_of (words_of (P.state device.old))) (tables_of (words_of (P.state device.old))) root plan }
+    ensures { IsCalled (P.state device.old) (P.state device.new) turn.old turn.new log.new free.new slabs.new root (calls.Free root) (free_reply result) }
 {
-    if let Ok(freed) = reply {
-        let block = LargeBlock {
-            start: freed.at / GRANULE_BYTES,
-            granules: freed.size / GRANULE_BYTES,
-        };
-        take(device, log, free, root, block);
+    let held = plan?;
+    match held {
+        Held::Large { start, granules } => take_large(device, log, free, root, start, granules),
+        Held::Small { block, class } => {
+            take_small(device, log, free, slabs, *turn, root, block, class);
+            *turn = (*turn + 1) % 8;
+        }
     }
+    Ok(freed_of(held))
 }
 
-// Gives a block to a root: its extent goes into the log, and then the root gets its address.
-fn give<P: Pmem>(
+// Gives granules to a root: their extent goes into the log, and then the root gets its address.
+fn give_large<P: Pmem>(
     device: &mut P,
     log: &mut BookLog,
     free: &mut ExtentIndex,
     root: u32,
-    block: LargeBlock,
+    start: u32,
+    granules: u32,
 )
-    requires arena { IsArena (P.state device.old) log.old free.old }
+    requires kept { IsKept (P.state device.old) log.old free.old }
     requires fresh { (P.state device.old).events ≡ [] }
-    requires givable { IsGivable (bounds_of (words_of (P.state device.old))) (tables_of (words_of (P.state device.old))) root block.start block.granules }
-    ensures appends { Appends (P.state device.old) (P.state device.new) (place_events (words_of (P.state device.old)) root block.start block.granules) }
-    ensures arena { IsArena (P.state device.new) log.new free.new }
-    ensures gives { GivesRoot (words_of (P.state device.old)) root (Some (record { at = 16384 * block.start; size = 16384 * block.granules })) (words_of (P.state device.new)) }
-    ensures crash { CrashOnly (words_of (P.state device.old)) (place_events (words_of (P.state device.old)) root block.start block.granules) (IsEitherHeap (words_of (P.state device.old)) (words_of (P.state device.new))) }
+    requires givable { IsGivable (bounds_of (words_of (P.state device.old))) (tables_of (words_of (P.state device.old))) root start granules }
+    ensures appends { Appends (P.state device.old) (P.state device.new) (place_events (words_of (P.state device.old)) root start granules) }
+    ensures kept { IsKept (P.state device.new) log.new free.new }
+    ensures gives { GivesRoot (words_of (P.state device.old)) root (Some (record { at = 16384 * start; size = 16384 * granules })) (slabs (tables_of (words_of (P.state device.old)))) (words_of (P.state device.new)) }
+    ensures slabs { KeepsSlabs (words_of (P.state device.old)) (words_of (P.state device.new)) }
+    ensures crash { CrashOnly (words_of (P.state device.old)) (place_events (words_of (P.state device.old)) root start granules) (IsEitherHeap (words_of (P.state device.old)) (words_of (P.state device.new))) }
 {
-    let entry = LogEntry::Large {
-        start: block.start,
-        granules: block.granules,
-    };
-    log_entry(log, device, entry);
-    write_word(device, root_at(root), u64::from(granule_at(block.start)));
-    free.take(block.start, block.granules);
+    log_entry(log, device, LogEntry::Large { start, granules });
+    write_word(device, root_at(root), u64::from(granule_at(start)));
+    free.take(start, granules);
 }
 
-// Takes a block from a root: the root's word becomes 0, and then a Tomb for its extent goes into the log.
-fn take<P: Pmem>(
+// Takes granules from a root: the root's word becomes 0, and then a Tomb for their extent goes into the log.
+fn take_large<P: Pmem>(
     device: &mut P,
     log: &mut BookLog,
     free: &mut ExtentIndex,
     root: u32,
-    block: LargeBlock,
+    start: u32,
+    granules: u32,
 )
-    requires arena { IsArena (P.state device.old) log.old free.old }
+    requires kept { IsKept (P.state device.old) log.old free.old }
     requires fresh { (P.state device.old).events ≡ [] }
-    requires takable { IsTakable (bounds_of (words_of (P.state device.old))) (tables_of (words_of (P.state device.old))) root block.start block.granules }
-    ensures appends { Appends (P.state device.old) (P.state device.new) (take_events (words_of (P.state device.old)) root block.start) }
-    ensures arena { IsArena (P.state device.new) log.new free.new }
-    ensures gives { GivesRoot (words_of (P.state device.old)) root None (words_of (P.state device.new)) }
-    ensures crash { CrashOnly (words_of (P.state device.old)) (take_events (words_of (P.state device.old)) root block.start) (IsEitherHeap (words_of (P.state device.old)) (words_of (P.state device.new))) }
+    requires takable { IsTakable (bounds_of (words_of (P.state device.old))) (tables_of (words_of (P.state device.old))) root start granules }
+    ensures appends { Appends (P.state device.old) (P.state device.new) (take_events (words_of (P.state device.old)) root start) }
+    ensures kept { IsKept (P.state device.new) log.new free.new }
+    ensures gives { GivesRoot (words_of (P.state device.old)) root None (slabs (tables_of (words_of (P.state device.old)))) (words_of (P.state device.new)) }
+    ensures slabs { KeepsSlabs (words_of (P.state device.old)) (words_of (P.state device.new)) }
+    ensures crash { CrashOnly (words_of (P.state device.old)) (take_events (words_of (P.state device.old)) root start) (IsEitherHeap (words_of (P.state device.old)) (words_of (P.state device.new))) }
 {
     write_word(device, root_at(root), 0);
-    let entry = LogEntry::Tomb { start: block.start };
-    log_entry(log, device, entry);
-    free.give(block.start, block.granules);
+    log_entry(log, device, LogEntry::Tomb { start });
+    free.give(start, granules);
+}
+
+// Gives a free block of a slab to a root.
+fn give_small<P: Pmem>(
+    device: &mut P,
+    slabs: &mut SlabIndex,
+    line: u32,
+    root: u32,
+    block: SmallBlock,
+)
+    requires ready { IsReady (P.state device.old) }
+    requires line { line < 8 }
+    requires attachable { IsAttachable (words_of (P.state device.old)) root block }
+    requires normal { HasNormalSlabs (words_of (P.state device.old)) }
+    requires slabs { IsSlabsOf slabs.old (words_of (P.state device.old)) }
+    ensures appends { Appends (P.state device.old) (P.state device.new) (attach_events (words_of (P.state device.old)) line root block) }
+    ensures quiet { IsQuiet (P.state device.new).events }
+    ensures attached { IsAttached (words_of (P.state device.old)) line root block (words_of (P.state device.new)) }
+    ensures normal { HasNormalSlabs (words_of (P.state device.new)) }
+    ensures slabs { IsSlabsOf slabs.new (words_of (P.state device.new)) }
+    ensures crash { CrashOnly (words_of (P.state device.old)) (attach_events (words_of (P.state device.old)) line root block) (IsEitherHeap (words_of (P.state device.old)) (words_of (P.state device.new))) }
+{
+    attach(device, line, root, block);
+    slabs.take(block.start, block.number);
+}
+
+// Opens a slab on vacant granules.
+fn add_slab<P: Pmem>(
+    device: &mut P,
+    log: &mut BookLog,
+    free: &mut ExtentIndex,
+    slabs: &mut SlabIndex,
+    start: u32,
+    class: u8,
+)
+    requires kept { IsKept (P.state device.old) log.old free.old }
+    requires fresh { (P.state device.old).events ≡ [] }
+    requires row { IsVacantRow (bounds_of (words_of (P.state device.old))) (tables_of (words_of (P.state device.old))) start 4 }
+    requires class { class < 36 }
+    requires normal { HasNormalSlabs (words_of (P.state device.old)) }
+    requires slabs { IsSlabsOf slabs.old (words_of (P.state device.old)) }
+    ensures appends { Appends (P.state device.old) (P.state device.new) (open_events (words_of (P.state device.old)) start class) }
+    ensures quiet { IsQuiet (P.state device.new).events }
+    ensures few { length (P.state device.new).events ≤ 757 }
+    ensures opened { IsOpened (words_of (P.state device.old)) start class (words_of (P.state device.new)) }
+    ensures book { IsBookOf log.new (words_of (P.state device.new)) }
+    ensures index { IsIndexOf free.new (words_of (P.state device.new)) }
+    ensures normal { HasNormalSlabs (words_of (P.state device.new)) }
+    ensures slabs { IsSlabsOf slabs.new (words_of (P.state device.new)) }
+    ensures crash { CrashOnly (words_of (P.state device.old)) (open_events (words_of (P.state device.old)) start class) (IsEitherHeap (words_of (P.state device.old)) (words_of (P.state device.new))) }
+{
+    open_slab(device, log, start, class);
+    free.take(start, SLAB_GRANULES);
+    slabs.add(start, class);
+}
+
+// Opens a slab, and gives its first block to a root.
+fn give_fresh<P: Pmem>(
+    device: &mut P,
+    log: &mut BookLog,
+    free: &mut ExtentIndex,
+    slabs: &mut SlabIndex,
+    line: u32,
+    root: u32,
+    start: u32,
+    class: u8,
+)
+    requires arena { IsArena (P.state device.old) line log.old free.old slabs.old }
+    requires fresh { (P.state device.old).events ≡ [] }
+    requires asked { (size : ℕ) × IsAskedOf (bounds_of (words_of (P.state device.old))) (tables_of (words_of (P.state device.old))) root size }
+    requires row { IsVacantRow (bounds_of (words_of (P.state device.old))) (tables_of (words_of (P.state device.old))) start 4 }
+    requires class { class < 36 }
+    ensures { IsDone (P.state device.old) (P.state device.new) log.new free.new slabs.new root (Some (slab_block start class 0)) (with_key (slabs (tables_of (words_of (P.state device.old)))) start (Some class)) (fresh_events (words_of (P.state device.old)) line root start class) }
+{
+    add_slab(device, log, free, slabs, start, class);
+    let first = SmallBlock {
+        start,
+        number: 0,
+        at: blocks_at(granule_at(start)),
+    };
+    give_small(device, slabs, line, root, first);
+}
+
+// Takes a block of a slab from a root, and drops the slab where it holds no other.
+fn take_small<P: Pmem>(
+    device: &mut P,
+    log: &mut BookLog,
+    free: &mut ExtentIndex,
+    slabs: &mut SlabIndex,
+    line: u32,
+    root: u32,
+    block: SmallBlock,
+    class: u8,
+)
+    requires arena { IsArena (P.state device.old) line log.old free.old slabs.old }
+    requires fresh { (P.state device.old).events ≡ [] }
+    requires named { IsNamedSmall (bounds_of (words_of (P.state device.old))) (tables_of (words_of (P.state device.old))) root block class }
+    ensures { let left = reading (words_of (P.state device.old)) (detach_events (words_of (P.state device.old)) line root block) in IsDone (P.state device.old) (P.state device.new) log.new free.new slabs.new root None (slabs_but (slabs (tables_of (words_of (P.state device.old)))) block.start (holds_none (tables_of left) block.start)) (unsmall_events (words_of (P.state device.old)) line root block) }
+{
+    take_block(device, slabs, line, root, block);
+    drop_if_empty(device, log, free, slabs, block.start, class);
+}
+
+// Takes a block of a slab from a root.
+fn take_block<P: Pmem>(
+    device: &mut P,
+    slabs: &mut SlabIndex,
+    line: u32,
+    root: u32,
+    block: SmallBlock,
+)
+    requires ready { IsReady (P.state device.old) }
+    requires line { line < 8 }
+    requires detachable { IsDetachable (words_of (P.state device.old)) root block }
+    requires normal { HasNormalSlabs (words_of (P.state device.old)) }
+    requires slabs { IsSlabsOf slabs.old (words_of (P.state device.old)) }
+    ensures appends { Appends (P.state device.old) (P.state device.new) (detach_events (words_of (P.state device.old)) line root block) }
+    ensures quiet { IsQuiet (P.state device.new).events }
+    ensures detached { IsDetached (words_of (P.state device.old)) line root block (words_of (P.state device.new)) }
+    ensures normal { HasNormalSlabs (words_of (P.state device.new)) }
+    ensures slabs { IsSlabsOf slabs.new (words_of (P.state device.new)) }
+    ensures crash { CrashOnly (words_of (P.state device.old)) (detach_events (words_of (P.state device.old)) line root block) (IsEitherHeap (words_of (P.state device.old)) (words_of (P.state device.new))) }
+{
+    detach(device, line, root, block);
+    slabs.give(block.start, block.number);
+}
+
+// Drops a slab that holds no block.
+fn drop_if_empty<P: Pmem>(
+    device: &mut P,
+    log: &mut BookLog,
+    free: &mut ExtentIndex,
+    slabs: &mut SlabIndex,
+    start: u32,
+    class: u8,
+)
+    requires image { IsExactButImage (words_of (P.state device.old)) start }
+    requires quiet { IsQuiet (P.state device.old).events }
+    requires few { length (P.state device.old).events ≤ 11 }
+    requires room { 2048 ≤ (P.state device.old).room }
+    requires book { IsBookOf log.old (words_of (P.state device.old)) }
+    requires index { IsIndexOf free.old (words_of (P.state device.old)) }
+    requires normal { HasNormalSlabs (words_of (P.state device.old)) }
+    requires slabs { IsSlabsOf slabs.old (words_of (P.state device.old)) }
+    requires slab { (tables_of (words_of (P.state device.old))).slab start ≡ true }
+    requires class { (tables_of (words_of (P.state device.old))).class start ≡ class }
+    ensures { IsTidied (P.state device.old) (P.state device.new) log.new free.new slabs.new start }
+{
+    if slabs.is_whole(start) {
+        drop_slab(device, log, start, class);
+        free.give(start, SLAB_GRANULES);
+        slabs.remove(start);
+    }
 }

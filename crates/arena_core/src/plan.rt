@@ -1,38 +1,69 @@
 // What a call decides before its first store. It reads and stores nothing.
-ghost use Rattle.std.specs.Prelude.{◌≡◌, ◌<◌, ◌^◌, ℕ, List, MatchOption};
+ghost use Rattle.std.specs.Prelude.{◌≡◌, ◌<◌, ◌≤◌, ◌+◌, ◌^◌, ℕ, List, MatchOption, None, Some};
 ghost use Rattle.pmem_lines.specs.Pmem.{words_of};
 ghost use Rattle.pool_layout.specs.Layout.{layout_of};
 ghost use Rattle.pool_layout.specs.Header.{version_in};
-ghost use Rattle.image_tables.specs.Tables.{tables_of};
-ghost use Rattle.heap_model.specs.Step.{granules_for};
+ghost use Rattle.size_classes.specs.Classes.{class_capacity, IsClassOf, granules_of};
+ghost use Rattle.image_tables.specs.Tables.{Tables, tables_of};
+ghost use Rattle.heap_model.specs.Machine.{Bounds, slab_block};
+ghost use Rattle.heap_model.specs.Runs.{IsBestFit, HasNoFit};
+ghost use Rattle.heap_check.specs.Sound.{IsVacant};
 ghost use Rattle.heap_check.specs.Image.{bounds_of, IsFormed, IsExactImage};
+ghost use Rattle.slab_index.specs.SlabSet.{class_in};
 ghost use Rattle.log_steps.specs.Log.{IsBookOf};
-ghost use Rattle.arena_core.specs.Arena.{HasNoSlab, IsIndexOf};
-ghost use Rattle.arena_core.specs.Plan.{IsMallocPlan, IsFreePlan, IsTakable};
+ghost use Rattle.arena_core.specs.Arena.{HasNormalSlabs, IsIndexOf, IsSlabsOf};
+ghost use Rattle.arena_core.specs.Plan.{IsMallocPlan, IsFreePlan, IsHeldBy, IsSmallPlan, IsLargePlan, IsInSlabOf, IsInNoSlabOf, range_at, range_held};
 
 use crate::{FreeRefusal, Freed, MallocRefusal, Placed};
+use attach_steps::SmallBlock;
 use book_log::{BookLog, LogEntry};
 use extent_index::ExtentIndex;
 use pmem_lines::Pmem;
-use pool_layout::{GRANULE_BYTES, Layout, fields_at, granule_at, layout_of, root_at};
+use pool_layout::{
+    GRANULE_BYTES, Layout, SLAB_GRANULES, blocks_at, fields_at, granule_at, layout_of, root_at,
+};
+use size_classes::{class_of, granules, size_of_class};
+use slab_index::SlabIndex;
 
-/// A large block: its first granule, and how many it has.
+/// Where a malloc places its block.
 #[derive(Clone, Copy)]
-pub(crate) struct LargeBlock {
-    pub(crate) start: u32,
-    pub(crate) granules: u32,
+pub(crate) enum Place {
+    /// Whole granules, from one on.
+    Large { start: u32, granules: u32 },
+    /// A free block of a slab, which has the class.
+    Small { block: SmallBlock, class: u8 },
+    /// The first block of a slab of the class that is opened for it, on four granules from one on.
+    Fresh { start: u32, class: u8 },
 }
 
-/// The answer to a malloc, and the block if there is one.
+/// What a root names.
+#[derive(Clone, Copy)]
+pub(crate) enum Held {
+    /// Whole granules, from one on.
+    Large { start: u32, granules: u32 },
+    /// A block of a slab, which has the class.
+    Small { block: SmallBlock, class: u8 },
+}
+
+/// A slab: its first granule and its class.
+#[derive(Clone, Copy)]
+pub(crate) struct SlabAt {
+    pub(crate) start: u32,
+    pub(crate) class: u8,
+}
+
+/// The place for a malloc, or why there is none.
 pub(crate) fn plan_malloc<P: Pmem>(
     device: &P,
     free: &ExtentIndex,
+    slabs: &SlabIndex,
     root: u32,
     size: u64,
-) -> Result<Placed, MallocRefusal>
+) -> Result<Place, MallocRefusal>
     requires exact { IsExactImage (words_of (P.state device.now)) }
-    requires no_slab { HasNoSlab (words_of (P.state device.now)) }
+    requires normal { HasNormalSlabs (words_of (P.state device.now)) }
     requires index { IsIndexOf free.now (words_of (P.state device.now)) }
+    requires slabs { IsSlabsOf slabs.now (words_of (P.state device.now)) }
     ensures { IsMallocPlan (bounds_of (words_of (P.state device.now))) (tables_of (words_of (P.state device.now))) root size result }
 {
     let layout = layout_in(device);
@@ -50,52 +81,159 @@ pub(crate) fn plan_malloc<P: Pmem>(
     if size > u64::from(heap * GRANULE_BYTES) {
         return Err(MallocRefusal::TooLarge);
     }
-    let granules = granules_for(size);
-    match free.best_fit(granules) {
-        Some(start) => Ok(Placed {
-            at: granule_at(start),
-            size: GRANULE_BYTES * granules,
-        }),
+    let place = match class_of(size) {
+        Some(class) => small_place(free, slabs, class),
+        None => large_place(free, granules(size) as u32),
+    };
+    match place {
+        Some(place) => Ok(place),
         None => Err(MallocRefusal::NoSpace),
     }
 }
 
-/// The answer to a free, and the block if there is one.
-pub(crate) fn plan_free<P: Pmem>(device: &P, log: &BookLog, root: u32) -> Result<Freed, FreeRefusal>
+// A place for a block of a class: the lowest free block of the lowest slab that has one, or a new slab at the best fit.
+fn small_place(free: &ExtentIndex, slabs: &SlabIndex, class: u8) -> Option<Place>
+    requires { class < 36 }
+    ensures { (words : List ℕ) → IsExactImage words → HasNormalSlabs words → IsIndexOf free.now words → IsSlabsOf slabs.now words → IsSmallPlan (bounds_of words) (tables_of words) class result }
+{
+    match slabs.lowest(class) {
+        Some(block) => {
+            let at = blocks_at(granule_at(block.start)) + block.number * size_of_class(class);
+            let block = SmallBlock {
+                start: block.start,
+                number: block.number,
+                at,
+            };
+            Some(Place::Small { block, class })
+        }
+        None => match free.best_fit(SLAB_GRANULES) {
+            Some(start) => Some(Place::Fresh { start, class }),
+            None => None,
+        },
+    }
+}
+
+// A place for so many granules, two at least: their best fit.
+fn large_place(free: &ExtentIndex, granules: u32) -> Option<Place>
+    requires { 2 ≤ granules }
+    ensures { (words : List ℕ) → IsExactImage words → IsIndexOf free.now words → IsLargePlan (bounds_of words) (tables_of words) granules result }
+{
+    match free.best_fit(granules) {
+        Some(start) => Some(Place::Large { start, granules }),
+        None => None,
+    }
+}
+
+/// The block at a place.
+pub(crate) fn placed_at(place: Place) -> Placed
+    requires { (b : Bounds) × (t : Tables) × (root : ℕ) × (size : ℕ) × Rattle.arena_core.specs.Plan.IsPlacing b t root size place × (b.granules ≤ 1024) }
+    ensures { (result.at ≡ (range_at place).at) × (result.size ≡ (range_at place).size) }
+{
+    match place {
+        Place::Large { start, granules } => Placed {
+            at: granule_at(start),
+            size: GRANULE_BYTES * granules,
+        },
+        Place::Small { block, class } => Placed {
+            at: block.at,
+            size: size_of_class(class),
+        },
+        Place::Fresh { start, class } => Placed {
+            at: blocks_at(granule_at(start)),
+            size: size_of_class(class),
+        },
+    }
+}
+
+/// What a free takes from a root, or why there is nothing.
+pub(crate) fn plan_free<P: Pmem>(
+    device: &P,
+    log: &BookLog,
+    slabs: &SlabIndex,
+    root: u32,
+) -> Result<Held, FreeRefusal>
     requires exact { IsExactImage (words_of (P.state device.now)) }
-    requires no_slab { HasNoSlab (words_of (P.state device.now)) }
+    requires normal { HasNormalSlabs (words_of (P.state device.now)) }
     requires log { IsBookOf log.now (words_of (P.state device.now)) }
+    requires slabs { IsSlabsOf slabs.now (words_of (P.state device.now)) }
     ensures { IsFreePlan (bounds_of (words_of (P.state device.now))) (tables_of (words_of (P.state device.now))) root result }
 {
     if root >= layout_in(device).roots {
         return Err(FreeRefusal::NoRoot);
     }
-    match named_block(device, log, root) {
-        Some(block) => Ok(Freed {
-            at: granule_at(block.start),
-            size: GRANULE_BYTES * block.granules,
-        }),
+    match held_by(device, log, slabs, root) {
+        Some(held) => Ok(held),
         None => Err(FreeRefusal::Empty),
     }
 }
 
-/// The block that a root names, if any.
-pub(crate) fn named_block<P: Pmem>(device: &P, log: &BookLog, root: u32) -> Option<LargeBlock>
+/// What a root names, if anything.
+pub(crate) fn held_by<P: Pmem>(
+    device: &P,
+    log: &BookLog,
+    slabs: &SlabIndex,
+    root: u32,
+) -> Option<Held>
     requires exact { IsExactImage (words_of (P.state device.now)) }
-    requires no_slab { HasNoSlab (words_of (P.state device.now)) }
+    requires normal { HasNormalSlabs (words_of (P.state device.now)) }
     requires log { IsBookOf log.now (words_of (P.state device.now)) }
+    requires slabs { IsSlabsOf slabs.now (words_of (P.state device.now)) }
     requires root { root < (layout_of (version_in (words_of (P.state device.now)))).roots }
-    ensures { MatchOption result ((tables_of (words_of (P.state device.now))).root root ≡ 0) (λ block. IsTakable (bounds_of (words_of (P.state device.now))) (tables_of (words_of (P.state device.now))) root block.start block.granules) }
+    ensures { MatchOption result ((tables_of (words_of (P.state device.now))).root root ≡ 0) (IsHeldBy (bounds_of (words_of (P.state device.now))) (tables_of (words_of (P.state device.now))) root) }
 {
     let at = root_word(device, root);
     if at == 0 {
         return None;
     }
-    let start = at / GRANULE_BYTES;
-    Some(LargeBlock {
-        start,
-        granules: granules_at(log, start),
-    })
+    let granule = at / GRANULE_BYTES;
+    match slab_with(slabs, granule) {
+        Some(slab) => Some(Held::Small {
+            block: SmallBlock {
+                start: slab.start,
+                number: (at - blocks_at(granule_at(slab.start))) / size_of_class(slab.class),
+                at,
+            },
+            class: slab.class,
+        }),
+        None => Some(Held::Large {
+            start: granule,
+            granules: granules_at(log, granule),
+        }),
+    }
+}
+
+// The slab that has a granule, where one has it.
+fn slab_with(slabs: &SlabIndex, granule: u32) -> Option<SlabAt>
+    ensures { MatchOption result (IsInNoSlabOf (class_in slabs.now) granule) (λ slab. IsInSlabOf (class_in slabs.now) granule slab.start slab.class) }
+{
+    for back in 0..SLAB_GRANULES {
+        if back <= granule {
+            if let Some(class) = slabs.class_at(granule - back) {
+                return Some(SlabAt {
+                    start: granule - back,
+                    class,
+                });
+            }
+        }
+    }
+    None
+}
+
+/// The block that is held.
+pub(crate) fn freed_of(held: Held) -> Freed
+    requires { (b : Bounds) × (t : Tables) × (root : ℕ) × IsHeldBy b t root held × (b.granules ≤ 1024) }
+    ensures { (result.at ≡ (range_held held).at) × (result.size ≡ (range_held held).size) }
+{
+    match held {
+        Held::Large { start, granules } => Freed {
+            at: granule_at(start),
+            size: GRANULE_BYTES * granules,
+        },
+        Held::Small { block, class } => Freed {
+            at: block.at,
+            size: size_of_class(class),
+        },
+    }
 }
 
 // How many granules the large extent has that starts at a granule.
@@ -108,19 +246,9 @@ fn granules_at(log: &BookLog, start: u32) -> u32
     }
 }
 
-// How many granules a request takes, whose bytes the heap has.
-fn granules_for(size: u64) -> u32
-    requires { size < 2 ^ 32 }
-    ensures { result ≡ granules_for size }
-{
-    let granules = size_classes::granules(size) as u32;
-    granules.max(2)
-}
-
 /// The word of a root: the address of its block, or 0.
 pub(crate) fn root_word<P: Pmem>(device: &P, root: u32) -> u32
     requires exact { IsExactImage (words_of (P.state device.now)) }
-    requires no_slab { HasNoSlab (words_of (P.state device.now)) }
     requires root { root < (layout_of (version_in (words_of (P.state device.now)))).roots }
     ensures { result ≡ (tables_of (words_of (P.state device.now))).root root }
 {

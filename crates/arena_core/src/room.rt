@@ -4,6 +4,7 @@ ghost use Rattle.std.specs.Prelude.{◌≡◌, ◌≤◌, IfOk};
 use book_log::BookLog;
 use extent_index::ExtentIndex;
 use pmem_lines::OutOfMemory;
+use slab_index::SlabIndex;
 use std::alloc::Global;
 use std::marker::Model;
 
@@ -13,6 +14,7 @@ use std::marker::Model;
 pub struct ArenaRoom {
     pub(crate) log: BookLog,
     pub(crate) free: ExtentIndex,
+    pub(crate) slabs: SlabIndex,
 }
 
 impl Model for ArenaRoom {
@@ -23,7 +25,7 @@ impl Model for ArenaRoom {
 
     ghost view = { λ a. a.log.granules };
 
-    ghost invariant = { λ a. IsRoom a.log.granules a.log a.free };
+    ghost invariant = { λ a. IsRoom a.log.granules a.log a.free a.slabs };
 }
 
 impl ArenaRoom {
@@ -35,6 +37,7 @@ impl ArenaRoom {
     {
         let log = BookLog::new(alloc, granules)?;
         let free = ExtentIndex::new(alloc, granules)?;
-        Ok(ArenaRoom { log, free })
+        let slabs = SlabIndex::new(alloc, granules)?;
+        Ok(ArenaRoom { log, free, slabs })
     }
 }
