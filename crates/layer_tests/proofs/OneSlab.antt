@@ -1,5 +1,5 @@
 -- An arena of 16 granules in which a slab of class 6 was made at granule 4, and no root has a block.
-use Rattle.std.proofs.Common.{◌≡◌, ◌≢◌, ◌&&◌, ◌*◌, ◌/◌, ◌%◌, ◌^◌, ◌+◌, ◌<◌, ◌≤◌, ⊎_elim, inl, inr, ℕ, Bool, true, false, true≢false, eqb, ltb, Option, Some, None, List, length, refl, sym, ap, subst, ◌∙◌, arith}
+use Rattle.std.proofs.Common.{◌≡◌, ◌≢◌, ◌&&◌, ◌*◌, ◌/◌, ◌%◌, ◌^◌, ◌<◌, ◌≤◌, ⊎_elim, inl, ℕ, Bool, true, false, true≢false, eqb, ltb, Some, None, List, length, refl, sym, ap, subst, ◌∙◌, arith}
 use Rattle.std.proofs.lemmas.Bool.{false≢true, cases_eq, cond-true, cond-false, ne_eqb, cases_lt, le-ltb}
 use Rattle.pmem_lines.specs.Words.{word_at, put_word, AreZeros}
 use Rattle.pmem_lines.proofs.Words.{word_at-put_same, word_at-put_other, length-put_word}
@@ -7,11 +7,9 @@ use Rattle.pool_layout.specs.declared.header.PoolHeader.{PoolHeader}
 use Rattle.pool_layout.specs.Layout.{layout_of}
 use Rattle.pool_layout.specs.Places.{text_word, fields_word, directory_word, entry_word, root_word, wal_word}
 use Rattle.pool_layout.specs.Header.{version_field, granules_field, version_in, granules_in, fields_of, header_text, header_word, IsHeader}
-use Rattle.pool_layout.proofs.Headers.{fields_of-header_word, header_fits}
 use Rattle.image_tables.specs.Extents.{extent_at}
 use Rattle.image_tables.specs.declared.extent.Extent.TheVariants as extent
 use Rattle.image_tables.specs.Tables.{Tables, wal_lines, large_of, is_slab_of, is_slab, state_word, bitmap_word, state_field, bit_at, bit_of_word, slab_bit, tables_of}
-use Rattle.image_tables.specs.Log.{active_chunks}
 use Rattle.image_tables.proofs.Chunks.{few_chunks}
 use Rattle.image_tables.proofs.Extents.{extent_at-same}
 use Rattle.image_tables.proofs.Logs.{SameLog}
@@ -26,14 +24,13 @@ use Rattle.book_log.specs.Log.{with_entry}
 use Rattle.book_log.specs.Book.{HasLog, IsInLog}
 use Rattle.book_log.specs.Entry.{log_word as word_of_entry}
 use Rattle.book_log.proofs.Appending.{with_entry-same}
-use Rattle.book_log.proofs.Fresh.{IsFresh}
 use Rattle.layer_tests.proofs.Fresh.{fresh_none}
 use Rattle.size_classes.specs.Classes.{class_size, class_capacity, sizes}
 use Rattle.heap_model.specs.Machine.{Bounds, slab_block}
 use Rattle.heap_check.specs.Laws.{AreBlank}
 use Rattle.heap_check.specs.Formatted.{IsFormatted}
 use Rattle.heap_check.specs.Sound.{IsExact, IsExactBut}
-use Rattle.heap_check.specs.Image.{bounds_of, header_in, HasSlabHeader, IsFormed, IsExactImage, IsExactButImage}
+use Rattle.heap_check.specs.Image.{bounds_of, header_in, HasSlabHeader, IsFormed, IsExactButImage}
 use Rattle.heap_check.proofs.Formatted.{AreBlank-formatted, header_in-formatted, IsFormed-formatted, law_of_formatted}
 use Rattle.heap_check.proofs.Geometry.{granules_at-large}
 use Rattle.heap_check.proofs.Loose.{IsExactBut-exact}

@@ -1,4 +1,4 @@
-use Rattle.std.proofs.Common.{◌≡◌, ℕ, List, sym, ap, subst, ◌∙◌, arith}
+use Rattle.std.proofs.Common.{ℕ, List, sym, ap, subst, ◌∙◌, arith}
 use Rattle.pmem_lines.specs.Pmem.{PmemState, words_of}
 use Rattle.pool_layout.specs.Layout.{layout_of}
 use Rattle.book_log.proofs.Books.{Reads-same}
