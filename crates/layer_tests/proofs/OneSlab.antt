@@ -124,17 +124,19 @@ one_slab_by {words} {made} {new} {k} {granules} formatted slab place is extents 
 abbrev bounds_by : ℕ → Bounds
 bounds_by word = record { roots = (layout_of (version_field word)).roots; first = (layout_of (version_field word)).first_granule; granules = granules_field word }
 
-none_of : (a b c : Bool) → c ≡ false → a && (b && c) ≡ false
-none_of true true c none = none
-none_of true false c none = refl
-none_of false b c none = refl
+-- a test whose last part fails, and one whose middle part does
+last_fails : (a b c : Bool) → c ≡ false → a && (b && c) ≡ false
+last_fails true true c none = none
+last_fails true false c none = refl
+last_fails false b c none = refl
 
-off : (a b c : Bool) → b ≡ false → a && (b && c) ≡ false
-off true true c none = absurd (true≢false none)
-off true false c none = refl
-off false b c none = refl
+middle_fails : (a b c : Bool) → b ≡ false → a && (b && c) ≡ false
+middle_fails true true c none = absurd (true≢false none)
+middle_fails true false c none = refl
+middle_fails false b c none = refl
 
 module _ (words new : List ℕ) (one : IsOneSlab words new) where
+  -- before, nothing
   blank : AreBlank (tables_of words)
   blank = AreBlank-formatted words header one.formatted
 
@@ -144,6 +146,7 @@ module _ (words new : List ℕ) (one : IsOneSlab words new) where
   was : granules_in words ≡ 16
   was = ap (λ (h : PoolHeader). h.granules) (header_in-formatted words header one.formatted)
 
+  -- the header line is the same
   fields : word_at new fields_word ≡ word_at words fields_word
   fields = one.low fields_word (omega arith)
 
@@ -156,6 +159,7 @@ module _ (words new : List ℕ) (one : IsOneSlab words new) where
   granules : granules_in new ≡ 16
   granules = ap granules_field fields ∙ was
 
+  -- the slab, and no other extent
   slab_here : is_slab new 4 ≡ true
   slab_here = ap is_slab_of (one.extents 4)
 
@@ -168,18 +172,21 @@ module _ (words new : List ℕ) (one : IsOneSlab words new) where
   no_large : (start : ℕ) → large_of (extent_at new start) ≡ 0
   no_large start = ⊎_elim (λ (here : start ≡ 4). ap large_of (ap (extent_at new) here ∙ one.extents 4)) (λ (differ : start ≢ 4). ap large_of (none_other start differ)) (cases_eq start 4)
 
+  -- what its state word says
   field : (bits value : ℕ) → word_of_state (Normal 6) / 2 ^ bits % 2 ^ 8 ≡ value → state_field new 4 bits ≡ value
   field bits value is = cond-true (is_slab new 4) (word_at new (state_word 4) / 2 ^ bits % 2 ^ 8) 0 slab_here ∙ ap (λ w. w / 2 ^ bits % 2 ^ 8) one.state ∙ is
 
   no_entries : state_field new 4 24 ≡ 0
   no_entries = field 24 0 (omega arith)
 
+  -- no entry is open
   closed : (line : ℕ) → line < wal_lines → word_at new (wal_word line) ≡ 0
   closed line below = one.low (wal_word line) (omega (arith, wal_word-low line below)) ∙ one.formatted.rest (wal_word line) (omega arith)
 
   header_is : header_in new ≡ header
   header_is = ap fields_of fields ∙ header_in-formatted words header one.formatted
 
+  -- the words have the form of an arena
   formed : IsFormed new
   formed = record {
     header = subst (IsHeader new) (sym header_is) (record {
@@ -200,12 +207,14 @@ module _ (words new : List ℕ) (one : IsOneSlab words new) where
         (cases_eq start 4);
   }
 
+  -- its bitmap is clear
   no_bit : (i : ℕ) → bit_at new 4 i ≡ false
   no_bit i = ⊎_elim
-      (λ (below : i < 4096). none_of (is_slab new 4) (ltb i 4096) (slab_bit new 4 i) (ap (λ w. bit_of_word w (i / 8 % 64)) (one.clear i below) ∙ bit_of_word-zero (i / 8 % 64)))
-      (λ (high : 4096 ≤ i). off (is_slab new 4) (ltb i 4096) (slab_bit new 4 i) (le-ltb i 4096 high))
+      (λ (below : i < 4096). last_fails (is_slab new 4) (ltb i 4096) (slab_bit new 4 i) (ap (λ w. bit_of_word w (i / 8 % 64)) (one.clear i below) ∙ bit_of_word-zero (i / 8 % 64)))
+      (λ (high : 4096 ≤ i). middle_fails (is_slab new 4) (ltb i 4096) (slab_bit new 4 i) (le-ltb i 4096 high))
       (cases_lt i 4096)
 
+  -- the tables have one slab more
   low_root : (root : ℕ) → root < (layout_of (version_in words)).roots → root_word root < 6144
   unfolding layout_of
   low_root root below = omega (arith, below)
@@ -238,6 +247,7 @@ module _ (words new : List ℕ) (one : IsOneSlab words new) where
         };
   }
 
+  -- on vacant granules
   place : IsSlabPlace (bounds_of words) (tables_of words) (tables_of new) 4 6
   unfolding layout_of
   place = IsSlabPlace-vacant exact.sound blank.closed (omega arith) (omega arith) with_slab (λ k from to. record {
@@ -246,9 +256,11 @@ module _ (words new : List ℕ) (one : IsOneSlab words new) where
     none = λ start covers. omega (arith, covers.low, covers.high, granules_at-large (tables_of words) start (blank.no_slab start), blank.no_large start);
   })
 
+  -- the image is exact, but for that slab
   image : IsExactButImage new 4
   image = record { formed = formed; but = subst (λ b. IsExactBut b (tables_of new) 4) (sym bounds) (IsExactBut-slab place exact) }
 
+  -- its block 9
   six_small : 9 < class_capacity 6
   unfolding class_size sizes
   six_small = omega arith

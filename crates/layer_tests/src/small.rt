@@ -88,7 +88,7 @@ fn comes_and_goes(rt: HostRuntime) -> Result<(), Fail> {
         assert_eq!(rt;
             EVENTS.get(i as usize).copied(),
             Some(device.event(i)),
-            "event {i}"
+            "event {i} of both"
         );
     }
     Ok(())
