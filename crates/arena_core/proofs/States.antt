@@ -1,11 +1,11 @@
 -- The state of the heap machine that an exact image has: what the image's tables say of its granules, slabs and blocks,
 -- and its state after a call. Slabs may live, and each is normal where a lemma says so.
-use Rattle.std.proofs.Common.{◌≡◌, ◌≢◌, ◌⊎◌, ◌↔◌, ℕ, ◌+◌, ◌*◌, ◌/◌, ◌<◌, ◌≤◌, Bool, true, false, true≢false, eqb, refl, sym, ap, subst, ◌∙◌, arith, inl, inr, ⊎_elim, List, Option, Some, None}
+use Rattle.std.proofs.Common.{◌≡◌, ◌≢◌, ◌↔◌, ℕ, ◌+◌, ◌*◌, ◌/◌, ◌<◌, ◌≤◌, true, false, true≢false, eqb, refl, sym, ap, subst, ◌∙◌, arith, inl, inr, ⊎_elim, List, Option, Some, None}
 use Rattle.std.proofs.lemmas.Bool.{cases_eq, cases_lt, cases_Bool, cond-true, cond-false, eq-eqb, ne_eqb}
 use Rattle.size_classes.specs.Classes.{class_capacity}
 use Rattle.image_tables.specs.Tables.{Tables, tables_of}
 use Rattle.image_tables.proofs.Tables.{root_table-past}
-use Rattle.heap_model.specs.Machine.{Bounds, Range, Machine, with_key, slab_block, AreApart, IsLarge, Meets, IsFreeGranule}
+use Rattle.heap_model.specs.Machine.{Bounds, Range, Machine, with_key, slab_block, AreApart, IsFreeGranule}
 use Rattle.heap_model.specs.Slabs.{IsFreeBlock}
 use Rattle.heap_model.specs.Step.{slabs_without, forgotten, IsAsking, IsNamedAt}
 use Rattle.heap_model.proofs.Maps.{with_key-here, with_key-other}
@@ -13,7 +13,7 @@ use Rattle.heap_model.proofs.Freeing.{BeginsIn, slabs_stay, slabs_stay-away, sla
 use Rattle.heap_check.specs.Heap.{is_large, entry_at, heap, slabs, IsClaim, Holds}
 use Rattle.heap_check.specs.Sound.{granules_at, Covers, IsVacant, IsInSlab, IsSound, HasOther}
 use Rattle.heap_check.specs.Image.{bounds_of, IsExactImage}
-use Rattle.heap_check.specs.State.{HasValue, HasState, KeepsBlocks}
+use Rattle.heap_check.specs.State.{HasState, KeepsBlocks}
 use Rattle.heap_check.proofs.Sizes.{sizes_of}
 use Rattle.heap_check.proofs.Claims.{plain_size, IsNamed-claim}
 use Rattle.heap_check.proofs.Geometry.{granules_at-slab, granules_at-large, granules_at-live, Covers-slab, is_large-slab, is_large-start, granule_of-start}
@@ -31,7 +31,7 @@ slab_says t start class is = ⊎_elim
     (λ (none : t.slab start ≡ false). absurd (let nothing = cond-false (t.slab start) (Some (t.class start)) None none in cc))
     (cases_Bool (t.slab start))
 
--- the tables say of a block of the slab that it is one of class c, and clear
+-- the range is a block of the class in the slab, and its bit is clear
 pub record IsClearBlock (t : Tables) (start class : ℕ) (range : Range) : Type 0 where
   pub number : ℕ
   pub below : number < class_capacity class
@@ -46,14 +46,15 @@ not_forgotten value root other index word is = ⊎_elim
     (cases_eq other root)
 
 module _ {words : List ℕ} {m : Machine} (state : HasState words m) where
-  -- what the heap says of a root is what the state does
-
+  -- the block that the heap has for a root is the state's
   pub naming : (root : ℕ) (range : Range) → heap (tables_of words) root ≡ Some range → m.block root ≡ Some range
   naming root range named = sym (state.blocks root) ∙ named
 
+  -- a root whose word is 0 names no block
   pub nameless : (root : ℕ) → (tables_of words).root root ≡ 0 → m.block root ≡ None
   nameless root none = sym (state.blocks root) ∙ heap-none (tables_of words) root none
 
+  -- a request that passes the tests of the tables passes those of the state
   pub asking : (root size : ℕ) → IsAskedOf (bounds_of words) (tables_of words) root size → IsAsking (bounds_of words) m root size
   asking root size asked = record { below = asked.below; none = nameless root asked.none; some = asked.some; most = asked.most }
 
@@ -61,7 +62,7 @@ module _ {words : List ℕ} {m : Machine} (state : HasState words m) where
   pub slab_named : (start class : ℕ) → m.slab start ≡ Some class → ((tables_of words).slab start ≡ true) × ((tables_of words).class start ≡ class)
   slab_named start class slab = slab_says (tables_of words) start class (state.slabs start ∙ slab)
 
-  -- and the other way round
+  -- and a slab of the tables is one of the state
   pub naming_slab : (start : ℕ) → (tables_of words).slab start ≡ true → m.slab start ≡ Some ((tables_of words).class start)
   naming_slab start slab = sym (state.slabs start) ∙ cond-true ((tables_of words).slab start) (Some ((tables_of words).class start)) None slab
 
@@ -105,6 +106,7 @@ module _ {words : List ℕ} (image : IsExactImage words) {m : Machine} (state : 
   first : 0 < b.first
   first = omega (arith, (sizes_of words image.formed).first)
 
+  -- a block of the state is its root's claim
   claim : (root : ℕ) (range : Range) → m.block root ≡ Some range → IsClaim t root range
   claim root range named = IsClaim-heap t root range (unnamed root) (state.blocks root ∙ named)
 
@@ -128,8 +130,7 @@ module _ {words : List ℕ} (image : IsExactImage words) {m : Machine} (state : 
       let whole : granules_at t start ≡ t.large start = granules_at-live sound start live in
       let low = (sound.starts start (omega (arith, whole, live))).0 in
       let some : t.root rooted.0 ≢ 0 = λ none. omega (arith, is, none, low, first) in
-      let large : is_large t.large (t.root rooted.0) ≡ true = subst (λ at. is_large t.large at ≡ true) (sym is) (is_large-start t.large start live) in
-      (
+      let large : is_large t.large (t.root rooted.0) ≡ true = subst (λ at. is_large t.large at ≡ true) (sym is) (is_large-start t.large start live) in (
         rooted.0,
         naming state rooted.0 (record { at = 16384 * start; size = 16384 * t.large start })
             (heap-large t rooted.0 (unnamed rooted.0) some large
@@ -173,24 +174,23 @@ module _ {words : List ℕ} (image : IsExactImage words) {m : Machine} (state : 
   pub free_vacant : (k : ℕ) → IsFreeGranule (bounds_of words) m k ↔ IsVacant (bounds_of words) (tables_of words) k
   free_vacant k = (free_is_vacant k, vacant_is_free k)
 
+  -- the same, the other way round
   pub vacant_free : (k : ℕ) → IsVacant (bounds_of words) (tables_of words) k ↔ IsFreeGranule (bounds_of words) m k
   vacant_free k = (vacant_is_free k, free_is_vacant k)
 
-  -- the slabs once a root has lost its block
-
-  -- a slab stays where the block does not lie in it
+  -- a slab stays once a root has lost its block where that does not lie in it
   slab_elsewhere : (root : ℕ) (range : Range) (s : ℕ) → ¬ (IsInSlab t s range.at) → slabs_without b m root range s ≡ m.slab s
   slab_elsewhere root range s outside = slabs_stay-away b m root range s (λ class slab begins.
-      let at = Range-begins s range begins in
+      let at = begins_at begins in
       outside (record { slab = (slab_named state s class slab).0; low = at.0; high = at.1 }))
     where
-      Range-begins : (s : ℕ) (range : Range) → BeginsIn s (Some range) → (16384 * s ≤ range.at) × (range.at < 16384 * s + 65536)
-      Range-begins s range begins =
+      begins_at : BeginsIn s (Some range) → (16384 * s ≤ range.at) × (range.at < 16384 * s + 65536)
+      begins_at begins =
           let same : range ≡ begins.range = cc (begins.named) in
           let at = ap (λ (x : Range). x.at) same in
           (omega (arith, at, begins.low), omega (arith, at, begins.high))
 
-  -- they are as before where the block was a large extent
+  -- the slabs are as before once a root has lost the block of a large extent
   pub slabs_without-large : (root : ℕ) (range : Range) → m.block root ≡ Some range → is_large (tables_of words).large ((tables_of words).root root) ≡ true → (s : ℕ) →
       slabs_without (bounds_of words) m root range s ≡ m.slab s
   slabs_without-large root range named large s = slab_elsewhere root range s (λ inside.
@@ -224,9 +224,7 @@ module _ {words : List ℕ} (image : IsExactImage words) {m : Machine} (state : 
       slab_elsewhere root range s (λ there. differ (one_slab sound s start range.at there inside)) ∙ sym (with_key-other m.slab start s None differ))
       (cases_eq s start)
 
-  -- free blocks, where each slab is normal
-
-  -- a block whose bit is clear is free
+  -- where each slab is normal, a block whose bit is clear is free
   pub block_free : ((start : ℕ) → (tables_of words).slab start ≡ true → (tables_of words).kind start ≡ 1) → (start class number : ℕ) → (tables_of words).slab start ≡ true →
       (tables_of words).class start ≡ class → number < class_capacity class → (tables_of words).bit start number ≡ false → IsFreeBlock m start class (slab_block start class number)
   block_free normal start class number slab is below clear =
