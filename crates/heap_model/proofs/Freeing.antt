@@ -28,6 +28,7 @@ pub record BeginsIn (s : ℕ) (block : Option Range) : Type 0 where
   pub low : 16384 * s ≤ range.at
   pub high : range.at < 16384 * s + 65536
 
+-- which is what the test says
 pub begins_in-true : (s : ℕ) (block : Option Range) → begins_in s block ≡ true → BeginsIn s block
 begins_in-true s None begins = absurd (cc)
 begins_in-true s (Some range) begins =
