@@ -1,6 +1,6 @@
 -- What the roots of an exact image without slabs name: large extents, each of two granules at least, in the heap.
-use Rattle.std.proofs.Common.{MatchOption, ◌≡◌, ◌≢◌, ◌*◌, ◌/◌, ◌<◌, ◌≤◌, ℕ, true, false, List, Option, Some, None, refl, sym, ap, ◌∙◌, subst, arith, ⊎_elim}
-use Rattle.std.proofs.lemmas.Bool.{ne_eqb, cond-false, cases_eq, cases_lt}
+use Rattle.std.proofs.Common.{MatchOption, ◌≡◌, ◌≢◌, ◌*◌, ◌/◌, ◌<◌, ◌≤◌, ℕ, true, List, Option, Some, None, refl, sym, ap, ◌∙◌, subst, arith, ⊎_elim}
+use Rattle.std.proofs.lemmas.Bool.{ne_eqb, cases_eq, cases_lt}
 use Rattle.pool_layout.specs.Header.{granules_in}
 use Rattle.image_tables.specs.declared.extent.Extent.{Extent}
 use Rattle.image_tables.specs.declared.extent.Extent.TheVariants as extent
@@ -13,12 +13,12 @@ use Rattle.book_log.specs.Book.{chunks_of}
 use Rattle.book_log.specs.Entry.{start_of, extent_of}
 use Rattle.book_log.specs.Table.{IsNextLive, IsNoneLive}
 use Rattle.log_gc.proofs.Live.{live_extents}
-use Rattle.heap_model.specs.Machine.{Bounds, Range}
-use Rattle.heap_check.specs.Heap.{is_large, heap, slabs}
+use Rattle.heap_model.specs.Machine.{Bounds}
+use Rattle.heap_check.specs.Heap.{is_large, heap}
 use Rattle.heap_check.specs.Sound.{granules_at, IsExact}
 use Rattle.heap_check.specs.Image.{bounds_of, IsExactImage}
 use Rattle.heap_check.proofs.Geometry.{granules_at-large, is_large-parts, is_large-start}
-use Rattle.heap_check.proofs.Heaps.{heap-none, is_large-rooted}
+use Rattle.heap_check.proofs.Heaps.{is_large-rooted}
 use Rattle.arena_core.specs.Arena.{HasNoSlab}
 use Rattle.arena_core.specs.Plan.{IsTakable}
 use Rattle.heap_check.proofs.Sizes.{sizes_of}
@@ -55,14 +55,17 @@ next_large words start (Some next) some live =
     let is = large_entry next granules (next_here (extent_at words) start (extent.Large granules) next (live_large words start some) live) in
     (is.0, ap (λ (e : LogEntry). Some e) is.1)
 
--- Each root that is not 0 names a live large extent, of two granules at least, in the heap; each such extent is named;
--- and no slab lives.
+-- a live large extent has two granules at least
+pub large_many : (words : List ℕ) → IsExactImage words → (start : ℕ) → 0 < (tables_of words).large start → 2 ≤ (tables_of words).large start
+large_many words image start some =
+    let sizes = sizes_of words image.formed in
+    let live = live_extents (granules_in words) words (chunks_of words) (omega (arith, sizes.most)) image.formed.log in
+    (live.each start (extent.Large ((tables_of words).large start)) (live_large words start some)).some
+
+-- Each root that is not 0 names a live large extent, of two granules at least, in the heap.
 pub record HasLargeBlocks (b : Bounds) (t : Tables) : Type 0 where
   pub first : 0 < b.first
-  pub no_slab : (start : ℕ) → t.slab start ≡ false
   pub named : (root : ℕ) → t.root root ≢ 0 → IsTakable b t root (t.root root / 16384) (t.large (t.root root / 16384))
-  pub rooted : (start : ℕ) → 0 < t.large start → (root : ℕ) × (t.root root ≡ 16384 * start)
-  pub low : (start : ℕ) → 0 < t.large start → b.first ≤ start
 
 pub large_blocks : (words : List ℕ) → IsExactImage words → HasNoSlab words → HasLargeBlocks (bounds_of words) (tables_of words)
 large_blocks words image no_slab =
@@ -70,27 +73,22 @@ large_blocks words image no_slab =
     let t = tables_of words in
     let exact : IsExact b t = image.exact in
     let sizes = sizes_of words image.formed in
-    let live = live_extents (granules_in words) words (chunks_of words) (omega (arith, sizes.most)) image.formed.log in
     record {
       first = omega (arith, sizes.first);
-      no_slab = no_slab.none;
       named = λ root some.
           let at = t.root root in
           let start = at / 16384 in
           let large = is_large-parts t.large at (is_large-rooted exact.sound exact.closed no_slab.none root some) in
           let count : granules_at t start ≡ t.large start = granules_at-large t start (no_slab.none start) in
           let lies = exact.sound.starts start (omega (arith, count, large.1)) in
-          let is_live = live.each start (extent.Large (t.large start)) (live_large words start large.1) in
           record {
             below = ⊎_elim (λ less. less) (λ past. absurd (some (root_table-past words root past))) (cases_lt root b.roots);
             named = large.0;
             live = refl;
-            many = is_live.some;
+            many = large_many words image start large.1;
             low = lies.0;
             high = omega (arith, lies.1, count);
           };
-      rooted = exact.all_named;
-      low = λ start some. (exact.sound.starts start (omega (arith, granules_at-large t start (no_slab.none start), some))).0;
     }
 
 -- a root's word is below that of the largest arena's end
@@ -112,32 +110,3 @@ heap-takable b t root start count first takable =
     let here : t.root root / 16384 ≡ start = omega (arith, takable.named) in
     let size : 16384 * t.large (t.root root / 16384) ≡ 16384 * count = ap (λ k. 16384 * t.large k) here ∙ ap (λ n. 16384 * n) takable.live in
     rw (ne_eqb (t.root root) 0 some, large, size, takable.named) refl
-
--- a block is that of a root's extent
-pub record IsBlockAt (b : Bounds) (t : Tables) (root : ℕ) (range : Range) : Type 0 where
-  pub start : ℕ
-  pub count : ℕ
-  pub takable : IsTakable b t root start count
-  pub is : range ≡ record { at = 16384 * start; size = 16384 * count }
-
-pub block_at : (b : Bounds) (t : Tables) (root : ℕ) (range : Range) → HasLargeBlocks b t → heap t root ≡ Some range → IsBlockAt b t root range
-block_at b t root range blocks named = ⊎_elim
-    (λ (none : t.root root ≡ 0). absurd (let no = heap-none t root none in cc))
-    (λ (some : t.root root ≢ 0).
-    let takable = blocks.named root some in
-    let start = t.root root / 16384 in
-    record { start = start; count = t.large start; takable = takable; is = some_same range (record { at = 16384 * start; size = 16384 * t.large start }) (sym named ∙ heap-takable b t root start (t.large start) blocks.first takable) })
-    (cases_eq (t.root root) 0)
-  where
-    some_same : (one other : Range) → Some one ≡ Some other → one ≡ other
-    some_same one other same = cc
-
--- a root that names the start of a live large extent names the extent
-pub live_takable : (b : Bounds) (t : Tables) (root start : ℕ) → HasLargeBlocks b t → 0 < t.large start → t.root root ≡ 16384 * start → IsTakable b t root start (t.large start)
-live_takable b t root start blocks live named =
-    let some : t.root root ≢ 0 = λ none. omega (arith, none, named, blocks.first, blocks.low start live) in
-    let here : t.root root / 16384 ≡ start = omega (arith, named) in
-    subst (λ (k : ℕ). IsTakable b t root k (t.large k)) here (blocks.named root some)
-
-pub slabs-none : (t : Tables) (start : ℕ) → t.slab start ≡ false → slabs t start ≡ None
-slabs-none t start none = cond-false (t.slab start) (Some (t.class start)) None none

@@ -5,5 +5,6 @@ pub mod Giving
 pub mod Taking
 pub mod Arenas
 pub mod Formats
+pub mod States
 pub mod Machines
 pub mod Given

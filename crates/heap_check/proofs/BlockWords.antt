@@ -1,11 +1,10 @@
 -- The words of a root's block lie in the heap, in no slab's header, and in no vacant granule.
-use Rattle.std.proofs.Common.{◌≡◌, ◌≢◌, ◌⊎◌, ℕ, ◌+◌, ◌*◌, ◌/◌, ◌<◌, ◌≤◌, true, sym, ap, subst, ◌∙◌, arith, inl, inr, ⊎_elim, Some, None}
+use Rattle.std.proofs.Common.{◌≡◌, ◌≢◌, ◌⊎◌, ℕ, ◌+◌, ◌*◌, ◌<◌, ◌≤◌, true, ap, subst, arith, inl, inr, ⊎_elim, Some, None}
 use Rattle.std.proofs.lemmas.Bool.{cases_eq, cases_lt}
-use Rattle.size_classes.specs.Classes.{class_size}
 use Rattle.image_tables.specs.Tables.{Tables}
 use Rattle.heap_model.specs.Machine.{Bounds, Range}
 use Rattle.heap_check.specs.Heap.{entry_at, heap, IsClaim, Holds, HoldsBit, HoldsOld}
-use Rattle.heap_check.specs.Sound.{Covers, IsVacant, IsInSlab, IsSound}
+use Rattle.heap_check.specs.Sound.{IsVacant, IsInSlab, IsSound}
 use Rattle.heap_check.specs.State.{IsWordOf}
 use Rattle.heap_check.proofs.Geometry.{granules_at-slab, Covers-slab}
 use Rattle.heap_check.proofs.Heaps.{IsClaim-heap}

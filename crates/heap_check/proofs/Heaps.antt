@@ -5,7 +5,7 @@ use Rattle.image_tables.specs.Tables.{Tables}
 use Rattle.heap_model.specs.Machine.{Bounds, Range}
 use Rattle.heap_check.specs.Heap.{is_large, size_at, entry_at, heap, IsClaim}
 use Rattle.heap_check.specs.Sound.{IsHeld, IsSound}
-use Rattle.heap_check.proofs.Claims.{plain_size, size_at-unnamed, IsClaim-word}
+use Rattle.heap_check.proofs.Claims.{plain_size, size_at-unnamed, IsNamed-claim, IsClaim-word}
 use Rattle.heap_check.proofs.Geometry.{plain_size-large}
 
 pub heap-none : (t : Tables) (root : ℕ) → t.root root ≡ 0 → heap t root ≡ None
@@ -36,6 +36,14 @@ IsClaim-heap t root range unnamed named = ⊎_elim
     let same : record { at = t.root root; size = plain_size t (t.root root) } ≡ range = cc in
     subst (λ x. IsClaim t root x) same (IsClaim-word t root unnamed some))
     (cases_eq (t.root root) 0)
+
+-- and a claim is its root's block of the heap
+pub heap-claim : (t : Tables) (root : ℕ) (range : Range) → entry_at t.entry root ≡ 0 → IsClaim t root range → heap t root ≡ Some range
+heap-claim t root range unnamed claim =
+    let named = IsNamed-claim t root range unnamed claim in
+    heap-some t root unnamed (λ none. named.some (sym named.word ∙ none))
+    ∙ ap (λ at. Some (record { at = at; size = plain_size t at })) named.word
+    ∙ ap (λ size. Some (record { at = range.at; size = size })) named.wide
 
 -- the block of a large extent
 pub heap-large : (t : Tables) (root : ℕ) → entry_at t.entry root ≡ 0 → t.root root ≢ 0 → is_large t.large (t.root root) ≡ true →

@@ -1,12 +1,10 @@
 -- An empty slab comes and goes by an entry of the log: what the words say before and after.
-use Rattle.std.proofs.Common.{◌≡◌, ◌≢◌, ◌⊎◌, ℕ, ◌<◌, ◌≤◌, true, false, List, refl, sym, ap, ◌∙◌, ⊎_elim, Some}
+use Rattle.std.proofs.Common.{◌≡◌, ◌≢◌, ℕ, ◌<◌, ◌≤◌, true, false, List, sym, ap, ◌∙◌, ⊎_elim, Some}
 use Rattle.std.proofs.lemmas.Bool.{cases_eq}
 use Rattle.size_classes.specs.Classes.{class_capacity}
 use Rattle.pmem_lines.specs.Words.{word_at}
-use Rattle.pool_layout.specs.Layout.{layout_of}
-use Rattle.pool_layout.specs.Places.{root_word, wal_word, heap_word}
+use Rattle.pool_layout.specs.Places.{wal_word, heap_word}
 use Rattle.pool_layout.specs.Header.{version_in}
-use Rattle.image_tables.specs.declared.extent.Extent.{Extent}
 use Rattle.image_tables.specs.declared.extent.Extent.TheVariants.{Slab}
 use Rattle.image_tables.specs.Extents.{extent_at}
 use Rattle.image_tables.specs.Tables.{AreSlabsInHeap, large_of, is_slab_of, is_slab, state_word, bitmap_word, index_word, wal_lines, tables_of}

@@ -4,7 +4,7 @@ use Rattle.std.proofs.lemmas.Bool.{cases_lt}
 use Rattle.image_tables.specs.Tables.{Tables}
 use Rattle.heap_model.specs.Machine.{Bounds}
 use Rattle.heap_check.specs.Heap.{entry_at}
-use Rattle.heap_check.specs.Slabs.{IsSameSlab, IsWithSlab}
+use Rattle.heap_check.specs.Slabs.{IsWithSlab}
 use Rattle.heap_check.specs.Sound.{granules_at, Covers, IsVacant, IsInSlab, IsSound}
 use Rattle.heap_check.proofs.Claims.{plain_size, IsClaim-word}
 use Rattle.heap_check.proofs.Geometry.{granules_at-slab, granules_at-large, Covers-slab}

@@ -5,7 +5,7 @@ use Rattle.size_classes.specs.Classes.{class_capacity}
 use Rattle.image_tables.specs.Tables.{Tables}
 use Rattle.heap_model.specs.Machine.{Bounds, Range, slab_block}
 use Rattle.heap_check.specs.Heap.{slab_of, is_large, entry_at, IsClaim, Holds, HoldsBit, HoldsOld}
-use Rattle.heap_check.specs.Slabs.{IsSameSlab, IsWithSlab}
+use Rattle.heap_check.specs.Slabs.{IsWithSlab}
 use Rattle.heap_check.specs.Sound.{granules_at, Covers, IsInSlab, IsHeld, IsStanding, IsEmptySlab}
 use Rattle.heap_check.proofs.Claims.{plain_size, IsNamed-claim, IsClaim-named}
 use Rattle.heap_check.proofs.Geometry.{granules_at-slab, granules_at-large}

@@ -1,5 +1,5 @@
 -- Where a small block and its root can come or go: at a free block of a normal slab, and at the block of a root.
-use Rattle.std.proofs.Common.{◌≡◌, ◌≢◌, ℕ, ◌/◌, ◌<◌, true, false, true≢false, refl, sym, ap, subst, ◌∙◌, arith, inl, inr, ⊎_elim}
+use Rattle.std.proofs.Common.{◌≡◌, ◌≢◌, ℕ, ◌/◌, ◌<◌, true, false, true≢false, refl, sym, ap, subst, ◌∙◌, arith, inl, inr, ⊎_elim, None}
 use Rattle.std.proofs.lemmas.Bool.{cases_eq}
 use Rattle.size_classes.specs.Classes.{class_capacity}
 use Rattle.size_classes.proofs.Spacing.{class_size-least}
@@ -62,56 +62,68 @@ Holds-normal {b} {t} sound start range normal holds = ⊎_elim
     (λ (old : HoldsOld t start range). absurd (omega (arith, old.below, ((sound.slabs start normal.slab).none normal.kind).1)))
     holds.block
 
-module _ {b : Bounds} {t : Tables} (root start number : ℕ) (but : IsExactBut b t start) (first : 0 < b.first) (rooted : root < b.roots) (normal : IsNormal t start) (below : number < class_capacity (t.class start)) where
+-- a block of a normal slab
+module _ {b : Bounds} {t : Tables} (sound : IsSound b t) (closed : t.entry ≡ None) (start number : ℕ) (normal : IsNormal t start) (below : number < class_capacity (t.class start)) where
   abbrev block : Range
   block = block_in t start number
 
-  sound : IsSound b t
-  sound = but.sound
-
   unnamed : (other : ℕ) → entry_at t.entry other ≡ 0
-  unnamed other = ap (λ e. entry_at e other) but.closed
+  unnamed other = ap (λ e. entry_at e other) closed
 
-  within : IsWithin t start block
-  within =
+  -- lies in it
+  pub IsWithin-block : IsWithin t start (block_in t start number)
+  IsWithin-block =
       let inside = LiesIn-block start (t.class start) block (record { number = number; within = below; is = refl }) in
       record { low = inside.low; high = omega (arith, inside.high, granules_at-slab t start normal.slab); some = omega (arith, class_size-least (t.class start) (sound.slabs start normal.slab).class) }
 
-  in_slab : (range : Range) → IsWithin t start range → IsInSlab t start range.at
+  pub in_slab : (range : Range) → IsWithin t start range → IsInSlab t start range.at
   in_slab range there = record { slab = normal.slab; low = there.low; high = omega (arith, there.high, there.some, granules_at-slab t start normal.slab) }
 
+  -- where its bit is set, it is held
+  pub Holds-set : t.bit start number ≡ true → Holds t start (block_in t start number)
+  Holds-set set = record { slab = normal.slab; block = inl (record { number = number; below = below; read = λ kind. omega (arith, normal.kind, kind); set = set; is = refl }) }
+
+  -- where its bit is clear, each root's block is apart from it
+  pub apart_free : t.bit start number ≡ false → (other : ℕ) (range : Range) → IsClaim t other range → AreApart range (block_in t start number)
+  apart_free clear other range claim =
+      let there = IsWithin-claim sound other range (unnamed other) claim in
+      ⊎_elim
+      (λ (same : there.0 ≡ start).
+      let here : IsWithin t start range = subst (λ s. IsWithin t s range) same there.1 in
+      let bit = Holds-normal sound start range normal (Holds-claim sound other start range (unnamed other) claim (in_slab range here)) in
+      subst (λ x. AreApart x block) (sym bit.is) (blocks_apart start (t.class start) bit.number number (λ is. true≢false (sym bit.set ∙ ap (t.bit start) is ∙ clear))))
+      (λ (differ : there.0 ≢ start). AreApart-within sound there.0 start range block there.1 IsWithin-block differ)
+      (cases_eq there.0 start)
+
+module _ {b : Bounds} {t : Tables} (root start number : ℕ) (but : IsExactBut b t start) (first : 0 < b.first) (rooted : root < b.roots) (normal : IsNormal t start) (below : number < class_capacity (t.class start)) where
   -- a block whose bit is clear, and a root without a block
   pub IsSmallPlace-free : t.bit start number ≡ false → t.root root ≡ 0 → IsSmallPlace b t root start number
   IsSmallPlace-free clear none = record {
-    sound = sound;
+    sound = but.sound;
     closed = but.closed;
     first = first;
     rooted = rooted;
     slab = normal.slab;
     below = below;
     calm = λ other is. λ kind. but.calm other (record { slab = is; kind = kind });
-    no_old = no_old-normal sound start block.at normal;
+    no_old = no_old-normal but.sound start (block_in t start number).at normal;
     was = inl (clear, none);
-    apart = λ other range differ claim.
-        let there = IsWithin-claim sound other range (unnamed other) claim in
-        ⊎_elim
-        (λ (same : there.0 ≡ start).
-        let here : IsWithin t start range = subst (λ s. IsWithin t s range) same there.1 in
-        let bit = Holds-normal sound start range normal (Holds-claim sound other start range (unnamed other) claim (in_slab range here)) in
-        subst (λ x. AreApart x block) (sym bit.is) (blocks_apart start (t.class start) bit.number number (λ is. true≢false (sym bit.set ∙ ap (t.bit start) is ∙ clear))))
-        (λ (differ : there.0 ≢ start). AreApart-within sound there.0 start range block there.1 within differ)
-        (cases_eq there.0 start);
+    apart = λ other range differ claim. apart_free but.sound but.closed start number normal below clear other range claim;
     lived = others_lived but;
   }
 
   -- the block that a root names
   pub IsSmallPlace-named : t.bit start number ≡ true → t.root root ≡ (block_in t start number).at → IsSmallPlace b t root start number
   IsSmallPlace-named set has =
-      let holds : Holds t start block = record { slab = normal.slab; block = inl (record { number = number; below = below; read = λ kind. omega (arith, normal.kind, kind); set = set; is = refl }) } in
+      let sound = but.sound in
+      let block = block_in t start number in
+      let unnamed : (other : ℕ) → entry_at t.entry other ≡ 0 = λ other. ap (λ e. entry_at e other) but.closed in
+      let within = IsWithin-block sound but.closed start number normal below in
+      let holds = Holds-set sound but.closed start number normal below set in
       let owner = sound.claimed start block holds in
       let its = IsNamed-claim t owner.0 block (unnamed owner.0) owner.1 in
       let claim = IsClaim-word t root (unnamed root) (λ none. its.some (sym has ∙ none)) in
-      let mine = in_slab block within in
+      let mine = in_slab sound but.closed start number normal below block within in
       let some = plain_size-some sound start (t.root root) (subst (IsInSlab t start) (sym has) mine) in
       let same : root ≡ owner.0 = one_claim sound root owner.0 _ block claim owner.1 has some within.some in
       record {

@@ -1,2 +1,3 @@
 pub mod Evens
 pub mod Fresh
+pub mod OneSlab

@@ -8,7 +8,6 @@ use Rattle.arena_core.specs.declared.answer.FreeRefusal.{FreeRefusal}
 use Rattle.arena_core.specs.Answer.{free_reply}
 use Rattle.arena_core.specs.Call.{IsStepOf}
 use Rattle.arena_core.specs.Plan.{IsFreePlan, IsTaking}
-use Rattle.arena_core.proofs.Blocks.{large_blocks}
 use Rattle.arena_core.proofs.Given.{IsTakable-taking}
 use Rattle.arena_core.proofs.Machines.{freed_step, refused_free, KeepsBlocks-gives}
 use Rattle.arena_core.proofs.carrying.carry_out_free.Goals as goal
@@ -30,13 +29,13 @@ returns-in-Ok-clause-step g c =
     let root = c.args.root in
     let freed = c.in-Ok.freed in
     let taking : IsTaking b t root freed = subst (IsFreePlan b t root) c.in-Ok.is c.requires.plan in
-    let step = freed_step old new root freed c.requires.arena.exact c.requires.arena.no_slab taking c.take.ensures.gives in
+    let step = freed_step old new root freed c.requires.arena.exact taking c.take.ensures.gives in
     subst (λ (reply : Result Freed FreeRefusal). IsStepOf old new (calls.Free root) (free_reply reply)) (sym c.in-Ok.is) step
 
 pub returns-in-Ok-clause-keeps : goal.returns-in-Ok-clause-keeps
 returns-in-Ok-clause-keeps g c =
     let old = words_of (g.P.Pmem.state c.args.device.now) in
-    KeepsBlocks-gives old (words_of (g.P.Pmem.state c.take.new.device)) c.args.root _ (large_blocks old c.requires.arena.exact c.requires.arena.no_slab) c.take.ensures.gives
+    KeepsBlocks-gives old (words_of (g.P.Pmem.state c.take.new.device)) c.args.root _ c.requires.arena.exact c.take.ensures.gives
 
 pub returns-in_default-clause-step : goal.returns-in_default-clause-step
 returns-in_default-clause-step g c =
@@ -46,5 +45,5 @@ returns-in_default-clause-step g c =
     let root = c.args.root in
     let refusal : FreeRefusal = c.in_default.field-0 in
     let refused : IsFreePlan b t root (Err refusal) = subst (IsFreePlan b t root) c.in_default.is c.requires.plan in
-    let step = refused_free words root refusal c.requires.arena.exact c.requires.arena.no_slab refused in
+    let step = refused_free words root refusal refused in
     subst (λ (reply : Result Freed FreeRefusal). IsStepOf words words (calls.Free root) (free_reply reply)) (sym c.in_default.is) step

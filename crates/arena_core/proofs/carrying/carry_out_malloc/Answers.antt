@@ -8,7 +8,6 @@ use Rattle.arena_core.specs.declared.answer.MallocRefusal.{MallocRefusal}
 use Rattle.arena_core.specs.Answer.{malloc_reply}
 use Rattle.arena_core.specs.Call.{IsStepOf}
 use Rattle.arena_core.specs.Plan.{IsMallocPlan, IsPlacing}
-use Rattle.arena_core.proofs.Blocks.{large_blocks}
 use Rattle.arena_core.proofs.Given.{IsGivable-placing, GivesRoot-placing}
 use Rattle.arena_core.proofs.Machines.{placed_step, refused_malloc, KeepsBlocks-gives}
 use Rattle.arena_core.proofs.carrying.carry_out_malloc.Goals as goal
@@ -31,13 +30,13 @@ returns-in-Ok-clause-step g c size plan =
     let root = c.args.root in
     let placed = c.in-Ok.placed in
     let placing : IsPlacing b t root size placed = subst (IsMallocPlan b t root size) c.in-Ok.is plan in
-    let step = placed_step old new root size placed c.requires.arena.exact c.requires.arena.no_slab placing (GivesRoot-placing b t old new root size placed placing c.give.ensures.gives) in
+    let step = placed_step old new root size placed c.requires.arena.exact placing (GivesRoot-placing b t old new root size placed placing c.give.ensures.gives) in
     subst (λ (reply : Result Placed MallocRefusal). IsStepOf old new (calls.Malloc root size) (malloc_reply reply)) (sym c.in-Ok.is) step
 
 pub returns-in-Ok-clause-keeps : goal.returns-in-Ok-clause-keeps
 returns-in-Ok-clause-keeps g c =
     let old = words_of (g.P.Pmem.state c.args.device.now) in
-    KeepsBlocks-gives old (words_of (g.P.Pmem.state c.give.new.device)) c.args.root _ (large_blocks old c.requires.arena.exact c.requires.arena.no_slab) c.give.ensures.gives
+    KeepsBlocks-gives old (words_of (g.P.Pmem.state c.give.new.device)) c.args.root _ c.requires.arena.exact c.give.ensures.gives
 
 pub returns-in_default-clause-step : goal.returns-in_default-clause-step
 returns-in_default-clause-step g c size plan =
@@ -47,5 +46,5 @@ returns-in_default-clause-step g c size plan =
     let root = c.args.root in
     let refusal : MallocRefusal = c.in_default.field-0 in
     let refused : IsMallocPlan b t root size (Err refusal) = subst (IsMallocPlan b t root size) c.in_default.is plan in
-    let step = refused_malloc words root size refusal c.requires.arena.exact c.requires.arena.no_slab refused in
+    let step = refused_malloc words root size refusal c.requires.arena.exact refused in
     subst (λ (reply : Result Placed MallocRefusal). IsStepOf words words (calls.Malloc root size) (malloc_reply reply)) (sym c.in_default.is) step

@@ -1,0 +1,264 @@
+-- The state of the heap machine that an exact image has: what the image's tables say of its granules, slabs and blocks,
+-- and its state after a call. Slabs may live, and each is normal where a lemma says so.
+use Rattle.std.proofs.Common.{◌≡◌, ◌≢◌, ◌↔◌, ℕ, ◌+◌, ◌*◌, ◌/◌, ◌<◌, ◌≤◌, true, false, true≢false, eqb, refl, sym, ap, subst, ◌∙◌, arith, inl, inr, ⊎_elim, List, Option, Some, None}
+use Rattle.std.proofs.lemmas.Bool.{cases_eq, cases_lt, cases_Bool, cond-true, cond-false, eq-eqb, ne_eqb}
+use Rattle.size_classes.specs.Classes.{class_capacity}
+use Rattle.image_tables.specs.Tables.{Tables, tables_of}
+use Rattle.image_tables.proofs.Tables.{root_table-past}
+use Rattle.heap_model.specs.Machine.{Bounds, Range, Machine, with_key, slab_block, AreApart, IsFreeGranule}
+use Rattle.heap_model.specs.Slabs.{IsFreeBlock}
+use Rattle.heap_model.specs.Step.{slabs_without, forgotten, IsAsking, IsNamedAt}
+use Rattle.heap_model.proofs.Maps.{with_key-here, with_key-other}
+use Rattle.heap_model.proofs.Freeing.{BeginsIn, slabs_stay, slabs_stay-away, slabs_leave}
+use Rattle.heap_check.specs.Heap.{is_large, entry_at, heap, slabs, IsClaim, Holds}
+use Rattle.heap_check.specs.Sound.{granules_at, Covers, IsVacant, IsInSlab, IsSound, HasOther}
+use Rattle.heap_check.specs.Image.{bounds_of, IsExactImage}
+use Rattle.heap_check.specs.State.{HasState, KeepsBlocks}
+use Rattle.heap_check.proofs.Sizes.{sizes_of}
+use Rattle.heap_check.proofs.Claims.{plain_size, IsNamed-claim}
+use Rattle.heap_check.proofs.Geometry.{granules_at-slab, granules_at-large, granules_at-live, Covers-slab, is_large-slab, is_large-start, granule_of-start}
+use Rattle.heap_check.proofs.Heaps.{heap-none, heap-some, heap-large, heap-claim, IsClaim-heap}
+use Rattle.heap_check.proofs.LargePlaces.{cases_run}
+use Rattle.heap_check.proofs.Within.{IsWithin, IsWithin-claim}
+use Rattle.heap_check.proofs.SmallPlaces.{one_slab, IsNormal, IsWithin-block, Holds-set, apart_free}
+use Rattle.arena_core.specs.Plan.{IsAskedOf}
+use Rattle.arena_core.proofs.Blocks.{large_many}
+
+-- a slab of the tables' map is one, of its class
+slab_says : (t : Tables) (start class : ℕ) → slabs t start ≡ Some class → (t.slab start ≡ true) × (t.class start ≡ class)
+slab_says t start class is = ⊎_elim
+    (λ (lives : t.slab start ≡ true). (lives, let here = cond-true (t.slab start) (Some (t.class start)) None lives in cc))
+    (λ (none : t.slab start ≡ false). absurd (let nothing = cond-false (t.slab start) (Some (t.class start)) None none in cc))
+    (cases_Bool (t.slab start))
+
+-- the range is a block of the class in the slab, and its bit is clear
+pub record IsClearBlock (t : Tables) (start class : ℕ) (range : Range) : Type 0 where
+  pub number : ℕ
+  pub below : number < class_capacity class
+  pub is : range ≡ slab_block start class number
+  pub clear : t.bit start number ≡ false
+
+-- what is not forgotten is another root's
+not_forgotten : (value : ℕ → ℕ → Option ℕ) (root other index word : ℕ) → forgotten value root other index ≡ Some word → (other ≢ root) × (value other index ≡ Some word)
+not_forgotten value root other index word is = ⊎_elim
+    (λ (here : other ≡ root). absurd (let none = cond-true (eqb other root) None (value other index) (eq-eqb other root here) in cc))
+    (λ (apart : other ≢ root). (apart, sym (cond-false (eqb other root) None (value other index) (ne_eqb other root apart)) ∙ is))
+    (cases_eq other root)
+
+module _ {words : List ℕ} {m : Machine} (state : HasState words m) where
+  -- the block that the heap has for a root is the state's
+  pub naming : (root : ℕ) (range : Range) → heap (tables_of words) root ≡ Some range → m.block root ≡ Some range
+  naming root range named = sym (state.blocks root) ∙ named
+
+  -- a root whose word is 0 names no block
+  pub nameless : (root : ℕ) → (tables_of words).root root ≡ 0 → m.block root ≡ None
+  nameless root none = sym (state.blocks root) ∙ heap-none (tables_of words) root none
+
+  -- a request that passes the tests of the tables passes those of the state
+  pub asking : (root size : ℕ) → IsAskedOf (bounds_of words) (tables_of words) root size → IsAsking (bounds_of words) m root size
+  asking root size asked = record { below = asked.below; none = nameless root asked.none; some = asked.some; most = asked.most }
+
+  -- a slab of the state is one of the tables
+  pub slab_named : (start class : ℕ) → m.slab start ≡ Some class → ((tables_of words).slab start ≡ true) × ((tables_of words).class start ≡ class)
+  slab_named start class slab = slab_says (tables_of words) start class (state.slabs start ∙ slab)
+
+  -- and a slab of the tables is one of the state
+  pub naming_slab : (start : ℕ) → (tables_of words).slab start ≡ true → m.slab start ≡ Some ((tables_of words).class start)
+  naming_slab start slab = sym (state.slabs start) ∙ cond-true ((tables_of words).slab start) (Some ((tables_of words).class start)) None slab
+
+  -- the state after a call by which the root has this block or none and loses its words, and the slabs are these
+  pub after_call : (root : ℕ) (block : Option Range) (slab : ℕ → Option ℕ) (new : List ℕ) → heap (tables_of new) root ≡ block →
+      ((other : ℕ) → other ≢ root → heap (tables_of new) other ≡ heap (tables_of words) other) → ((start : ℕ) → slabs (tables_of new) start ≡ slab start) → KeepsBlocks words new new →
+      HasState new (record { block = with_key m.block root block; slab = slab; value = forgotten m.value root })
+  after_call root block slab new here others slabs_are keeps = record {
+    blocks = λ other. ⊎_elim
+        (λ (same : other ≡ root). subst (λ (r : ℕ). heap (tables_of new) r ≡ with_key m.block root block r) (sym same) (here ∙ sym (with_key-here m.block root block)))
+        (λ (differ : other ≢ root). others other differ ∙ state.blocks other ∙ sym (with_key-other m.block root other block differ))
+        (cases_eq other root);
+    slabs = slabs_are;
+    values = λ other index word is.
+        let kept = not_forgotten m.value root other index word is in
+        let value = state.values other index word kept.1 in
+        let was = state.blocks other ∙ value.named in
+        record {
+          range = value.range;
+          named = with_key-other m.block root other block kept.0 ∙ value.named;
+          within = value.within;
+          here =
+              keeps.each other value.range (value.range.at / 8 + index) was (others other kept.0 ∙ was) (record { low = omega arith; high = omega (arith, value.within) })
+              ∙ value.here;
+        };
+  }
+
+module _ {words : List ℕ} (image : IsExactImage words) {m : Machine} (state : HasState words m) where
+  abbrev b : Bounds
+  b = bounds_of words
+
+  abbrev t : Tables
+  t = tables_of words
+
+  sound : IsSound b t
+  sound = image.exact.sound
+
+  unnamed : (root : ℕ) → entry_at t.entry root ≡ 0
+  unnamed root = ap (λ e. entry_at e root) image.exact.closed
+
+  first : 0 < b.first
+  first = omega (arith, (sizes_of words image.formed).first)
+
+  -- a block of the state is its root's claim
+  claim : (root : ℕ) (range : Range) → m.block root ≡ Some range → IsClaim t root range
+  claim root range named = IsClaim-heap t root range (unnamed root) (state.blocks root ∙ named)
+
+  -- the block of a root begins where its word says
+  pub block_word : (root : ℕ) (range : Range) → m.block root ≡ Some range → (tables_of words).root root ≡ range.at
+  block_word root range named = (IsNamed-claim t root range (unnamed root) (claim root range named)).word
+
+  -- a root whose word is not 0 names a block there
+  pub named_at : (root at : ℕ) → (tables_of words).root root ≡ at → at ≢ 0 → IsNamedAt m root at
+  named_at root at is some = record {
+    size = plain_size t at;
+    named = naming state root (record { at = at; size = plain_size t at })
+        (heap-some t root (unnamed root) (λ none. some (sym is ∙ none)) ∙ ap (λ at. Some (record { at = at; size = plain_size t at })) is);
+  }
+
+  -- a live large extent is the block of a root
+  large_named : (start : ℕ) → 0 < t.large start → (root : ℕ) × (m.block root ≡ Some (record { at = 16384 * start; size = 16384 * t.large start }))
+  large_named start live =
+      let rooted = image.exact.all_named start live in
+      let is = rooted.1 in
+      let whole : granules_at t start ≡ t.large start = granules_at-live sound start live in
+      let low = (sound.starts start (omega (arith, whole, live))).0 in
+      let some : t.root rooted.0 ≢ 0 = λ none. omega (arith, is, none, low, first) in
+      let large : is_large t.large (t.root rooted.0) ≡ true = subst (λ at. is_large t.large at ≡ true) (sym is) (is_large-start t.large start live) in (
+        rooted.0,
+        naming state rooted.0 (record { at = 16384 * start; size = 16384 * t.large start })
+            (heap-large t rooted.0 (unnamed rooted.0) some large
+            ∙ ap (λ at. Some (record { at = at; size = 16384 * t.large (at / 16384) })) is
+            ∙ ap (λ k. Some (record { at = 16384 * start; size = 16384 * t.large k })) (granule_of-start start)),
+      )
+
+  -- a granule that is free in the state is vacant
+  free_is_vacant : (k : ℕ) → IsFreeGranule b m k → IsVacant b t k
+  free_is_vacant k free = record { low = free.low; high = free.high; none = none }
+    where
+      none : (start : ℕ) → ¬ (Covers t start k)
+      none start covers = ⊎_elim
+          (λ (slab : t.slab start ≡ true).
+          let size = granules_at-slab t start slab in
+          ⊎_elim (λ x. omega (arith, x, covers.low)) (λ x. omega (arith, x, covers.high, size)) (free.no_slab start (t.class start) (naming_slab state start slab)))
+          (λ (no_slab : t.slab start ≡ false).
+          let size = granules_at-large t start no_slab in
+          let live : 0 < t.large start = omega (arith, size, covers.low, covers.high) in
+          let rooted = large_named start live in
+          free.no_block rooted.0 (record { at = 16384 * start; size = 16384 * t.large start }) rooted.1
+          (omega (arith, large_many words image start live))
+          (record { begins = omega (arith, covers.low); ends = omega (arith, covers.high, size) }))
+          (cases_Bool (t.slab start))
+
+  -- and a vacant one is free
+  vacant_is_free : (k : ℕ) → IsVacant b t k → IsFreeGranule b m k
+  vacant_is_free k vacant = record {
+    low = vacant.low;
+    high = vacant.high;
+    no_block = λ root range named big meets.
+        let within = IsWithin-claim sound root range (unnamed root) (claim root range named) in
+        vacant.none within.0 (record { low = omega (arith, within.1.low, meets.begins); high = omega (arith, within.1.high, meets.ends) });
+    no_slab = λ start class slab. ⊎_elim
+        (λ inside. absurd (vacant.none start (Covers-slab t start k (slab_named state start class slab).0 inside.0 inside.1)))
+        (λ outside. outside)
+        (cases_run start 4 k);
+  }
+
+  -- the free granules of the state are the vacant ones of the words
+  pub free_vacant : (k : ℕ) → IsFreeGranule (bounds_of words) m k ↔ IsVacant (bounds_of words) (tables_of words) k
+  free_vacant k = (free_is_vacant k, vacant_is_free k)
+
+  -- the same, the other way round
+  pub vacant_free : (k : ℕ) → IsVacant (bounds_of words) (tables_of words) k ↔ IsFreeGranule (bounds_of words) m k
+  vacant_free k = (vacant_is_free k, free_is_vacant k)
+
+  -- a slab stays once a root has lost its block where that does not lie in it
+  slab_elsewhere : (root : ℕ) (range : Range) (s : ℕ) → ¬ (IsInSlab t s range.at) → slabs_without b m root range s ≡ m.slab s
+  slab_elsewhere root range s outside = slabs_stay-away b m root range s (λ class slab begins.
+      let at = begins_at begins in
+      outside (record { slab = (slab_named state s class slab).0; low = at.0; high = at.1 }))
+    where
+      begins_at : BeginsIn s (Some range) → (16384 * s ≤ range.at) × (range.at < 16384 * s + 65536)
+      begins_at begins =
+          let same : range ≡ begins.range = cc (begins.named) in
+          let at = ap (λ (x : Range). x.at) same in
+          (omega (arith, at, begins.low), omega (arith, at, begins.high))
+
+  -- the slabs are as before once a root has lost the block of a large extent
+  pub slabs_without-large : (root : ℕ) (range : Range) → m.block root ≡ Some range → is_large (tables_of words).large ((tables_of words).root root) ≡ true → (s : ℕ) →
+      slabs_without (bounds_of words) m root range s ≡ m.slab s
+  slabs_without-large root range named large s = slab_elsewhere root range s (λ inside.
+      let there : IsInSlab t s (t.root root) = subst (IsInSlab t s) (sym (block_word root range named)) inside in
+      true≢false (sym large ∙ is_large-slab sound s (t.root root) there))
+
+  -- and where another root has a block in the slab that the block lay in
+  pub slabs_without-other : (root start : ℕ) (range : Range) → IsInSlab (tables_of words) start range.at → HasOther (tables_of words) root start → (s : ℕ) →
+      slabs_without (bounds_of words) m root range s ≡ m.slab s
+  slabs_without-other root start range inside has s = ⊎_elim
+      (λ (same : s ≡ start).
+      let below : has.other < b.roots = ⊎_elim (λ less. less) (λ past. absurd (has.some (root_table-past words has.other past))) (cases_lt has.other b.roots) in
+      let its = named_at has.other (t.root has.other) refl has.some in
+      slabs_stay b m root has.other range s below has.differ (record { range = record { at = t.root has.other; size = its.size }; named = its.named; low = omega (arith, has.inside.low, same); high = omega (arith, has.inside.high, same) }))
+      (λ (differ : s ≢ start). slab_elsewhere root range s (λ there. differ (one_slab sound s start range.at there inside)))
+      (cases_eq s start)
+
+  -- where none has, that slab leaves
+  pub slabs_without-none : (root start : ℕ) (range : Range) → IsInSlab (tables_of words) start range.at →
+      ((other : ℕ) → other ≢ root → (tables_of words).root other ≢ 0 → ¬ (IsInSlab (tables_of words) start ((tables_of words).root other))) → (s : ℕ) →
+      slabs_without (bounds_of words) m root range s ≡ with_key m.slab start None s
+  slabs_without-none root start range inside none s = ⊎_elim
+      (λ (same : s ≡ start).
+      subst (λ k. slabs_without b m root range k ≡ with_key m.slab start None k) (sym same)
+      (slabs_leave b m root range start (record { range = range; named = refl; low = inside.low; high = inside.high }) (λ other below differ begins.
+      let word = block_word other begins.range begins.named in
+      let claimed = IsNamed-claim t other begins.range (unnamed other) (claim other begins.range begins.named) in
+      none other differ (λ zero. claimed.some (sym word ∙ zero)) (record { slab = inside.slab; low = omega (arith, word, begins.low); high = omega (arith, word, begins.high) }))
+      ∙ sym (with_key-here m.slab start None)))
+      (λ (differ : s ≢ start).
+      slab_elsewhere root range s (λ there. differ (one_slab sound s start range.at there inside)) ∙ sym (with_key-other m.slab start s None differ))
+      (cases_eq s start)
+
+  -- where each slab is normal, a block whose bit is clear is free
+  pub block_free : ((start : ℕ) → (tables_of words).slab start ≡ true → (tables_of words).kind start ≡ 1) → (start class number : ℕ) → (tables_of words).slab start ≡ true →
+      (tables_of words).class start ≡ class → number < class_capacity class → (tables_of words).bit start number ≡ false → IsFreeBlock m start class (slab_block start class number)
+  block_free normal start class number slab is below clear =
+      let kind : IsNormal t start = record { slab = slab; kind = normal start slab } in
+      let inside : number < class_capacity (t.class start) = subst (λ c. number < class_capacity c) (sym is) below in
+      record {
+        block = record { number = number; within = below; is = refl };
+        unused = record {
+          each = λ root other named.
+              let apart = apart_free sound image.exact.closed start number kind inside clear root other (claim root other named) in
+              ⊎_elim (λ before. inr before) (λ behind. inl behind) (subst (λ c. AreApart other (slab_block start c number)) is apart);
+        };
+      }
+
+  -- and the bit of a free block is clear
+  pub free_block : ((start : ℕ) → (tables_of words).slab start ≡ true → (tables_of words).kind start ≡ 1) → (start class : ℕ) (range : Range) → m.slab start ≡ Some class → IsFreeBlock m start class range →
+      IsClearBlock (tables_of words) start class range
+  free_block normal start class range slab free =
+      let number = free.block.number in
+      let is_slab = slab_named state start class slab in
+      let kind : IsNormal t start = record { slab = is_slab.0; kind = normal start is_slab.0 } in
+      let below : number < class_capacity (t.class start) = subst (λ c. number < class_capacity c) (sym is_slab.1) free.block.within in
+      let same : range ≡ slab_block start (t.class start) number = free.block.is ∙ ap (λ c. slab_block start c number) (sym is_slab.1) in
+      record {
+        number = number;
+        below = free.block.within;
+        is = free.block.is;
+        clear = ⊎_elim
+            (λ (set : t.bit start number ≡ true).
+            let holds : Holds t start range = subst (Holds t start) (sym same) (Holds-set sound image.exact.closed start number kind below set) in
+            let within : IsWithin t start range = subst (IsWithin t start) (sym same) (IsWithin-block sound image.exact.closed start number kind below) in
+            let owner = sound.claimed start range holds in
+            absurd (⊎_elim (λ x. omega (arith, x, within.some)) (λ x. omega (arith, x, within.some))
+            (free.unused.each owner.0 range (naming state owner.0 range (heap-claim t owner.0 range (unnamed owner.0) owner.1)))))
+            (λ (clear : t.bit start number ≡ false). clear)
+            (cases_Bool (t.bit start number));
+      }

@@ -1,0 +1,95 @@
+// A small block that comes to a root and goes from it, in an arena of 16 granules: block 9 of a slab of class 6 at
+// granule 4, root 5, write-ahead line 3.
+use attach_steps::{SmallBlock, attach, detach};
+use book_log::{BookLog, LogEntry};
+use durable_steps::write_word;
+use pmem_lines::{Event, Pmem, SimPmem};
+use pool_layout::{directory_at, fields_at, header_text, text_at};
+use slab_header::make_slab;
+use std::test::Fail;
+
+// Blocks of class 6 have 112 bytes, and are behind the 2048 bytes of the slab's header. Bit 1 of the first word of line 2
+// of that header is that of block 9.
+const BLOCK: SmallBlock = SmallBlock {
+    start: 4,
+    number: 9,
+    at: 65536 + 2048 + 9 * 112,
+};
+
+const ENTRY: u64 = 0x0001_0bf0_0005_0001;
+
+const EVENTS: [Event; 22] = [
+    Event::Store {
+        at: 704,
+        value: ENTRY,
+    },
+    Event::Flush { line: 11 },
+    Event::Fence,
+    Event::Store {
+        at: 65664,
+        value: 2,
+    },
+    Event::Flush { line: 1026 },
+    Event::Store {
+        at: 16424,
+        value: 68592,
+    },
+    Event::Flush { line: 256 },
+    Event::Fence,
+    Event::Store { at: 704, value: 0 },
+    Event::Flush { line: 11 },
+    Event::Fence,
+    Event::Store {
+        at: 704,
+        value: ENTRY,
+    },
+    Event::Flush { line: 11 },
+    Event::Fence,
+    Event::Store {
+        at: 16424,
+        value: 0,
+    },
+    Event::Flush { line: 256 },
+    Event::Store {
+        at: 65664,
+        value: 0,
+    },
+    Event::Flush { line: 1026 },
+    Event::Fence,
+    Event::Store { at: 704, value: 0 },
+    Event::Flush { line: 11 },
+    Event::Fence,
+];
+
+#[test]
+fn comes_and_goes(rt: HostRuntime) -> Result<(), Fail> {
+    let mut device = SimPmem::zeroed(rt.alloc(), 4096, 87)?;
+    let mut log = BookLog::new(rt.alloc(), 16)?;
+    write_word(&mut device, fields_at(), 0x0001_0010_0000_0001);
+    write_word(&mut device, directory_at(), 1);
+    write_word(&mut device, text_at(), header_text());
+    log.load(&device);
+    make_slab(&mut device, 65536, 6);
+    assert!(rt; log.has_room());
+    log.append(&mut device, LogEntry::Slab { start: 4 });
+    device.begin();
+    attach(&mut device, 3, 5, BLOCK);
+    assert_eq!(rt;
+        (device.load(16424), device.load(65664), device.load(704)),
+        (68592, 2, 0)
+    );
+    detach(&mut device, 3, 5, BLOCK);
+    assert_eq!(rt;
+        (device.load(16424), device.load(65664), device.load(704)),
+        (0, 0, 0)
+    );
+    assert_eq!(rt; device.event_count(), 22);
+    for i in 0..device.event_count() {
+        assert_eq!(rt;
+            EVENTS.get(i as usize).copied(),
+            Some(device.event(i)),
+            "event {i} of both"
+        );
+    }
+    Ok(())
+}
