@@ -47,7 +47,7 @@ pub record IsArena (device : PmemState) (turn : ℕ) (book : Book) (set : FreeSe
   pub kept : IsKept device book set
   pub normal : HasNormalSlabs (words_of device)
   pub slabs : IsSlabsOf parts (words_of device)
-  pub turn : turn < 8
+  pub few : turn < 8
 
 -- memory for an arena of so many granules: an empty log, an index in which all of the heap is free, and one without slabs
 pub record IsRoom (granules : ℕ) (book : Book) (set : FreeSet) (parts : SlabSet) : Type 0 where

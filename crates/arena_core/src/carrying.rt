@@ -5,7 +5,7 @@ ghost use Rattle.pmem_lines.specs.Pmem.{words_of, Appends};
 ghost use Rattle.image_tables.specs.Tables.{tables_of};
 ghost use Rattle.heap_model.specs.declared.call.Call.TheVariants as calls;
 ghost use Rattle.heap_model.specs.Machine.{with_key, slab_block};
-ghost use Rattle.heap_check.specs.Heap.{slabs};
+ghost use Rattle.heap_check.specs.Heap.{slabs as classes_of};
 ghost use Rattle.heap_check.specs.Image.{bounds_of, IsExactButImage};
 ghost use Rattle.heap_check.specs.State.{IsEitherHeap};
 ghost use Rattle.log_steps.specs.Log.{IsBookOf};
@@ -101,7 +101,7 @@ fn give_large<P: Pmem>(
     requires givable { IsGivable (bounds_of (words_of (P.state device.old))) (tables_of (words_of (P.state device.old))) root start granules }
     ensures appends { Appends (P.state device.old) (P.state device.new) (place_events (words_of (P.state device.old)) root start granules) }
     ensures kept { IsKept (P.state device.new) log.new free.new }
-    ensures gives { GivesRoot (words_of (P.state device.old)) root (Some (record { at = 16384 * start; size = 16384 * granules })) (slabs (tables_of (words_of (P.state device.old)))) (words_of (P.state device.new)) }
+    ensures gives { GivesRoot (words_of (P.state device.old)) root (Some (record { at = 16384 * start; size = 16384 * granules })) (classes_of (tables_of (words_of (P.state device.old)))) (words_of (P.state device.new)) }
     ensures slabs { KeepsSlabs (words_of (P.state device.old)) (words_of (P.state device.new)) }
     ensures crash { CrashOnly (words_of (P.state device.old)) (place_events (words_of (P.state device.old)) root start granules) (IsEitherHeap (words_of (P.state device.old)) (words_of (P.state device.new))) }
 {
@@ -124,7 +124,7 @@ fn take_large<P: Pmem>(
     requires takable { IsTakable (bounds_of (words_of (P.state device.old))) (tables_of (words_of (P.state device.old))) root start granules }
     ensures appends { Appends (P.state device.old) (P.state device.new) (take_events (words_of (P.state device.old)) root start) }
     ensures kept { IsKept (P.state device.new) log.new free.new }
-    ensures gives { GivesRoot (words_of (P.state device.old)) root None (slabs (tables_of (words_of (P.state device.old)))) (words_of (P.state device.new)) }
+    ensures gives { GivesRoot (words_of (P.state device.old)) root None (classes_of (tables_of (words_of (P.state device.old)))) (words_of (P.state device.new)) }
     ensures slabs { KeepsSlabs (words_of (P.state device.old)) (words_of (P.state device.new)) }
     ensures crash { CrashOnly (words_of (P.state device.old)) (take_events (words_of (P.state device.old)) root start) (IsEitherHeap (words_of (P.state device.old)) (words_of (P.state device.new))) }
 {
@@ -203,7 +203,7 @@ fn give_fresh<P: Pmem>(
     requires asked { (size : ℕ) × IsAskedOf (bounds_of (words_of (P.state device.old))) (tables_of (words_of (P.state device.old))) root size }
     requires row { IsVacantRow (bounds_of (words_of (P.state device.old))) (tables_of (words_of (P.state device.old))) start 4 }
     requires class { class < 36 }
-    ensures { IsDone (P.state device.old) (P.state device.new) log.new free.new slabs.new root (Some (slab_block start class 0)) (with_key (slabs (tables_of (words_of (P.state device.old)))) start (Some class)) (fresh_events (words_of (P.state device.old)) line root start class) }
+    ensures { IsDone (P.state device.old) (P.state device.new) log.new free.new slabs.new root (Some (slab_block start class 0)) (with_key (classes_of (tables_of (words_of (P.state device.old)))) start (Some class)) (fresh_events (words_of (P.state device.old)) line root start class) }
 {
     add_slab(device, log, free, slabs, start, class);
     let first = SmallBlock {
@@ -228,7 +228,7 @@ fn take_small<P: Pmem>(
     requires arena { IsArena (P.state device.old) line log.old free.old slabs.old }
     requires fresh { (P.state device.old).events ≡ [] }
     requires named { IsNamedSmall (bounds_of (words_of (P.state device.old))) (tables_of (words_of (P.state device.old))) root block class }
-    ensures { let left = reading (words_of (P.state device.old)) (detach_events (words_of (P.state device.old)) line root block) in IsDone (P.state device.old) (P.state device.new) log.new free.new slabs.new root None (slabs_but (slabs (tables_of (words_of (P.state device.old)))) block.start (holds_none (tables_of left) block.start)) (unsmall_events (words_of (P.state device.old)) line root block) }
+    ensures { let left = reading (words_of (P.state device.old)) (detach_events (words_of (P.state device.old)) line root block) in IsDone (P.state device.old) (P.state device.new) log.new free.new slabs.new root None (slabs_but (classes_of (tables_of (words_of (P.state device.old)))) block.start (holds_none (tables_of left) block.start)) (unsmall_events (words_of (P.state device.old)) line root block) }
 {
     take_block(device, slabs, line, root, block);
     drop_if_empty(device, log, free, slabs, block.start, class);
