@@ -13,7 +13,7 @@ use Rattle.heap_model.specs.declared.call.Call.TheVariants.{Malloc, Free, Write,
 use Rattle.heap_model.specs.declared.call.Reply.{Reply}
 use Rattle.heap_model.specs.declared.call.Reply.TheVariants.{Placed, Freed, Wrote, Value, NoRoot, Occupied, Empty, ZeroSize, TooLarge, OutOfRange, NoSpace}
 use Rattle.heap_model.specs.Machine.{Bounds, Range, Machine, with_key}
-use Rattle.heap_model.specs.Step.{IsLargeStep, root_of}
+use Rattle.heap_model.specs.Step.{IsFromSlab, IsFromFreshSlab, IsKeptSmallGrant, IsLargeGrant, IsKeptGrant, IsKeptStep, root_of}
 use Rattle.heap_model.proofs.Maps.{with_key-here, with_key-other}
 use Rattle.heap_check.specs.Heap.{heap, slabs, size_at}
 use Rattle.heap_check.specs.Image.{bounds_of, IsFormed, IsExactImage}
@@ -47,8 +47,17 @@ pub record IsGift (b : Bounds) (m : Machine) (root : ℕ) (range : Range) (next 
   pub none : m.block root ≡ None
   pub after : next.block ≡ with_key m.block root (Some range)
 
-placed : (b : Bounds) (m next : Machine) (call : Call) (at size : ℕ) → IsLargeStep b m call (Placed at size) next → IsGift b m (root_of call) (record { at = at; size = size }) next
-placed b m next (Malloc root asked) at size step = record { below = step.0.below; none = step.0.none; after = ap (λ (n : Machine). n.block) step.1.after }
+-- whatever grants it: a slab that is there, a new one, or whole granules
+granted : (b : Bounds) (m next : Machine) (root asked : ℕ) (range : Range) → IsKeptGrant b m root asked range next → next.block ≡ with_key m.block root (Some range)
+granted b m next root asked range = ⊎_elim
+    (λ (small : IsKeptSmallGrant b m root asked range next). ⊎_elim
+    (λ (here : IsFromSlab m root small.class range next). ap (λ (n : Machine). n.block) here.after)
+    (λ (fresh : IsFromFreshSlab b m root small.class range next). ap (λ (n : Machine). n.block) fresh.after)
+    small.granted)
+    (λ (large : IsLargeGrant b m root asked range next). ap (λ (n : Machine). n.block) large.granted.after)
+
+placed : (b : Bounds) (m next : Machine) (call : Call) (at size : ℕ) → IsKeptStep b m call (Placed at size) next → IsGift b m (root_of call) (record { at = at; size = size }) next
+placed b m next (Malloc root asked) at size step = record { below = step.0.below; none = step.0.none; after = granted b m next root asked (record { at = at; size = size }) step.1 }
 placed b m next (Free root) at size step = absurd step
 placed b m next (Write root index word) at size step = ⊎_elim (λ done. let e : Placed at size ≡ Wrote = done.0 in absurd (cc)) (λ refused. absurd refused) step
 placed b m next (Read root index) at size step = ⊎_elim (λ done. let e : Placed at size ≡ Value done.0 = done.1 in absurd (cc)) (λ refused. absurd refused) step
@@ -59,7 +68,7 @@ pub record IsLoss (b : Bounds) (m : Machine) (root : ℕ) (range : Range) (next 
   pub named : m.block root ≡ Some range
   pub after : next.block ≡ with_key m.block root None
 
-freed : (b : Bounds) (m next : Machine) (call : Call) (at size : ℕ) → IsLargeStep b m call (Freed at size) next → IsLoss b m (root_of call) (record { at = at; size = size }) next
+freed : (b : Bounds) (m next : Machine) (call : Call) (at size : ℕ) → IsKeptStep b m call (Freed at size) next → IsLoss b m (root_of call) (record { at = at; size = size }) next
 freed b m next (Malloc root asked) at size step = absurd step
 freed b m next (Free root) at size step = record { below = step.0.below; named = step.0.named; after = ap (λ (n : Machine). n.block) step.1 }
 freed b m next (Write root index word) at size step = ⊎_elim (λ done. let e : Freed at size ≡ Wrote = done.0 in absurd (cc)) (λ refused. absurd refused) step
@@ -78,7 +87,7 @@ IsChange-step old new call (Placed at size) block given exact steps by =
     let m = machine_of old in
     let root = root_of call in
     let found = steps.each m (HasState-machine_of old) in
-    let gift : IsGift (bounds_of old) m root (record { at = at; size = size }) found.0 = placed (bounds_of old) m found.0 call at size found.1 in
+    let gift : IsGift (bounds_of old) m root (record { at = at; size = size }) found.0 = placed (bounds_of old) m found.0 call at size found.1.step in
     let same = heap_with new found.0 m.block root (Some (record { at = at; size = size })) found.2 gift.after in
     let change : IsChange old new (record { root = root; at = at; size = size }) true = record {
       below = subst (λ v. root < (layout_of v).roots) (version-formed old exact.formed) gift.below;
@@ -91,7 +100,7 @@ IsChange-step old new call (Freed at size) block given exact steps by =
     let m = machine_of old in
     let root = root_of call in
     let found = steps.each m (HasState-machine_of old) in
-    let loss : IsLoss (bounds_of old) m root (record { at = at; size = size }) found.0 = freed (bounds_of old) m found.0 call at size found.1 in
+    let loss : IsLoss (bounds_of old) m root (record { at = at; size = size }) found.0 = freed (bounds_of old) m found.0 call at size found.1.step in
     let same = heap_with new found.0 m.block root None found.2 loss.after in
     let change : IsChange old new (record { root = root; at = at; size = size }) false = record {
       below = subst (λ v. root < (layout_of v).roots) (version-formed old exact.formed) loss.below;

@@ -9,6 +9,7 @@ use Rattle.pool_layout.specs.Header.{granules_in}
 use Rattle.heap_model.specs.Machine.{Bounds, no_heap}
 use Rattle.heap_check.specs.Image.{bounds_of, IsFormed, IsExactImage}
 use Rattle.heap_check.specs.State.{HasState}
+use Rattle.arena_core.specs.Arena.{ArenaState}
 use Rattle.arena_core.specs.Events.{format_events}
 use Rattle.trace_runs.specs.Replay.{header_for, bounds_for, formatted}
 use Rattle.trace_runs.specs.Calls.{IsNewArena}
@@ -22,25 +23,26 @@ bounds-formed words granules formed size =
     ∙ ap (λ n. let b : Bounds = record { roots = (layout_of 1).roots; first = (layout_of 1).first_granule; granules = n } in b) many
 
 -- over a memory of zeros
-made_new : (granules : ℕ) (arena : PmemState) → arena ≡ appended (began (fresh (zeros (2048 * granules)) 2048)) (format_events (header_for granules)) →
-    IsExactImage (words_of arena) → HasState (words_of arena) no_heap → IsNewArena granules arena
+made_new : (granules : ℕ) (arena : ArenaState) → arena.device ≡ appended (began (fresh (zeros (2048 * granules)) 2048)) (format_events (header_for granules)) →
+    arena.turn ≡ 0 → IsExactImage (words_of arena.device) → HasState (words_of arena.device) no_heap → IsNewArena granules arena
 unfolding formatted
-made_new granules arena made exact empty =
-    let words : words_of arena ≡ formatted granules = ap (λ (s : PmemState). words_of s) made in
-    let size : length (words_of arena) ≡ 2048 * granules =
+made_new granules arena made first exact empty =
+    let words : words_of arena.device ≡ formatted granules = ap (λ (s : PmemState). words_of s) made in
+    let size : length (words_of arena.device) ≡ 2048 * granules =
     ap length words ∙ length-reading (zeros (2048 * granules)) (format_events (header_for granules)) ∙ length-zeros (2048 * granules) in
     record {
       words = words;
-      bounds = bounds-formed (words_of arena) granules exact.formed size;
+      bounds = bounds-formed (words_of arena.device) granules exact.formed size;
       empty = empty;
       base = ap (λ (s : PmemState). s.base) made;
       events = ap (λ (s : PmemState). s.events) made;
       begins = ap (λ (s : PmemState). s.begins) made;
+      turn = first;
     }
 
-pub IsNewArena-format : (granules : ℕ) (device arena : PmemState) → IsZeroed device (256 * granules) 2048 → arena ≡ appended (began device) (format_events (header_for granules)) →
-    IsExactImage (words_of arena) → HasState (words_of arena) no_heap → IsNewArena granules arena
-IsNewArena-format granules device arena zeroed made exact empty =
+pub IsNewArena-format : (granules : ℕ) (device : PmemState) (arena : ArenaState) → IsZeroed device (256 * granules) 2048 → arena.device ≡ appended (began device) (format_events (header_for granules)) →
+    arena.turn ≡ 0 → IsExactImage (words_of arena.device) → HasState (words_of arena.device) no_heap → IsNewArena granules arena
+IsNewArena-format granules device arena zeroed made turn exact empty =
     let lines : 8 * (256 * granules) ≡ 2048 * granules = omega arith in
     let first : device ≡ fresh (zeros (2048 * granules)) 2048 = zeroed.state ∙ ap (λ n. fresh (zeros n) 2048) lines in
-    made_new granules arena (made ∙ ap (λ (s : PmemState). appended (began s) (format_events (header_for granules))) first) exact empty
+    made_new granules arena (made ∙ ap (λ (s : PmemState). appended (began s) (format_events (header_for granules))) first) turn exact empty

@@ -7,17 +7,19 @@ use Rattle.image_tables.specs.Tables.{tables_of}
 use Rattle.heap_model.specs.declared.call.Call.{Call}
 use Rattle.heap_model.specs.declared.call.Entry.{Entry}
 use Rattle.heap_model.specs.Machine.{Bounds, Machine, no_heap, IsOverlapFree}
-use Rattle.heap_model.specs.Step.{IsLargeStep, root_of}
+use Rattle.heap_model.specs.Step.{IsKeptStep, root_of}
+use Rattle.heap_model.specs.Placement.{IsPlacedStep}
 use Rattle.heap_model.specs.Journal.{Leads}
-use Rattle.heap_model.proofs.Steps.{law_of_large_overlap}
+use Rattle.heap_model.proofs.Steps.{law_of_kept_overlap}
 use Rattle.heap_check.specs.Heap.{heap}
 use Rattle.heap_check.specs.Image.{IsExactImage}
 use Rattle.heap_check.specs.State.{HasState}
+use Rattle.arena_core.specs.Arena.{ArenaState}
 use Rattle.arena_core.specs.Call.{IsReady}
-use Rattle.arena_core.specs.Events.{call_events}
+use Rattle.arena_core.specs.Events.{call_events, turn_after}
 use Rattle.trace_text.specs.declared.call.TraceCall.{TraceCall}
 use Rattle.trace_text.specs.Report.{arena_line, entry_line, heap_text}
-use Rattle.trace_runs.specs.Replay.{bounds_for, blocks_of, AreAnswers, IsBehindCall}
+use Rattle.trace_runs.specs.Replay.{bounds_for, blocks_of, turn_behind, turn_of, AreAnswers, IsBehindCall}
 use Rattle.trace_runs.specs.Calls.{IsNewArena, HasAnswered, HasAnsweredAll, HasWrittenAll, IsReplayed}
 use Rattle.trace_runs.proofs.Listing.{blocks_of-same}
 
@@ -30,10 +32,20 @@ AreAnswers-more (c ∷ calls) [] call entry are seat asked = absurd are
 AreAnswers-more (c ∷ calls) (e ∷ journal) call entry are seat asked = (are.0, are.1, AreAnswers-more calls journal call entry are.2 seat asked)
 
 -- one step more
-Leads-more : (b : Bounds) (m middle next : Machine) (journal : List Entry) (entry : Entry) → Leads (IsLargeStep b) m journal middle → IsLargeStep b middle entry.call entry.reply next →
-    Leads (IsLargeStep b) m (journal ++ entry ∷ []) next
-Leads-more b m middle next [] entry leads step = (next, subst (λ (n : Machine). IsLargeStep b n entry.call entry.reply next) leads step, refl)
+Leads-more : (b : Bounds) (m middle next : Machine) (journal : List Entry) (entry : Entry) → Leads (IsPlacedStep b) m journal middle → IsPlacedStep b middle entry.call entry.reply next →
+    Leads (IsPlacedStep b) m (journal ++ entry ∷ []) next
+Leads-more b m middle next [] entry leads step = (next, subst (λ (n : Machine). IsPlacedStep b n entry.call entry.reply next) leads step, refl)
 Leads-more b m middle next (e ∷ journal) entry leads step = (leads.0, leads.1, Leads-more b leads.0 middle next journal entry leads.2 step)
+
+-- a journal of the placement is one of the machine whose slabs keep their class
+Leads-kept : (b : Bounds) (m last : Machine) (journal : List Entry) → Leads (IsPlacedStep b) m journal last → Leads (IsKeptStep b) m journal last
+Leads-kept b m last [] leads = leads
+Leads-kept b m last (entry ∷ journal) leads = (leads.0, leads.1.step, Leads-kept b leads.0 last journal leads.2)
+
+-- the write-ahead line, one entry further
+turn_behind-more : (turn : ℕ) (journal : List Entry) (entry : Entry) → turn_behind turn (journal ++ entry ∷ []) ≡ turn_after (turn_behind turn journal) entry.reply
+turn_behind-more turn [] entry = refl
+turn_behind-more turn (e ∷ journal) entry = turn_behind-more (turn_after turn e.reply) journal entry
 
 -- no block overlaps another in a state that the empty heap leads to
 
@@ -49,27 +61,29 @@ IsOverlapFree-none b = record {
   clear = λ root range s c k named is_large slab low high. absurd (cc);
 }
 
-IsOverlapFree-journal : (b : Bounds) (journal : List Entry) (machine : Machine) → Leads (IsLargeStep b) no_heap journal machine → IsOverlapFree b machine
-IsOverlapFree-journal b journal machine leads = law_of_large_overlap b no_heap machine journal (IsOverlapFree-none b) leads
+IsOverlapFree-journal : (b : Bounds) (journal : List Entry) (machine : Machine) → Leads (IsPlacedStep b) no_heap journal machine → IsOverlapFree b machine
+IsOverlapFree-journal b journal machine leads = law_of_kept_overlap b no_heap machine journal (IsOverlapFree-none b) (Leads-kept b no_heap machine journal leads)
 
 -- nothing was asked yet
-HasAnsweredAll-none : (granules : ℕ) (device : PmemState) → IsNewArena granules device → HasAnsweredAll granules device [] [] no_heap
-HasAnsweredAll-none granules device new = record {
+HasAnsweredAll-none : (granules : ℕ) (arena : ArenaState) → IsNewArena granules arena → HasAnsweredAll granules arena [] [] no_heap
+HasAnsweredAll-none granules arena new = record {
   answers = tt;
   leads = refl;
   apart = IsOverlapFree-none (bounds_for granules);
   state = new.empty;
   bounds = new.bounds;
   begins = new.begins;
+  turn = new.turn;
   last = inl (record { none = refl; base = new.base; events = new.events });
 }
 
 -- the device behind a call that was answered
-behind_call : (granules : ℕ) (old new : PmemState) (calls : List TraceCall) (journal : List Entry) (machine : Machine) (entry : Entry) →
-    HasAnsweredAll granules old calls journal machine → HasAnswered old new entry.call entry.reply → IsBehindCall granules new (journal ++ entry ∷ [])
+behind_call : (granules : ℕ) (old new : ArenaState) (calls : List TraceCall) (journal : List Entry) (machine : Machine) (entry : Entry) →
+    HasAnsweredAll granules old calls journal machine → HasAnswered old new entry.call entry.reply → IsBehindCall granules new.device (journal ++ entry ∷ [])
 behind_call granules old new calls journal machine entry all answered =
-    let base : words_of old ≡ new.base = sym (ap (λ (s : PmemState). s.base) answered.device) in
-    let events : new.events ≡ call_events (words_of old) (root_of entry.call) entry.reply = ap (λ (s : PmemState). s.events) answered.device in
+    let base : words_of old.device ≡ new.device.base = sym (ap (λ (s : PmemState). s.base) answered.device) in
+    let events : new.device.events ≡ call_events (words_of old.device) (turn_of journal) (root_of entry.call) entry.reply =
+    ap (λ (s : PmemState). s.events) answered.device ∙ ap (λ turn. call_events (words_of old.device) turn (root_of entry.call) entry.reply) all.turn in
     record {
       before = journal;
       entry = entry;
@@ -78,16 +92,16 @@ behind_call granules old new calls journal machine entry all answered =
       leads = all.leads;
       exact = subst IsExactImage base answered.exact;
       state = subst (λ (words : List ℕ). HasState words machine) base all.state;
-      events = subst (λ (words : List ℕ). new.events ≡ call_events words (root_of entry.call) entry.reply) base events;
+      events = subst (λ (words : List ℕ). new.device.events ≡ call_events words (turn_of journal) (root_of entry.call) entry.reply) base events;
     }
 
 -- one call more
-HasAnsweredAll-entry : (granules : ℕ) (old new : PmemState) (calls : List TraceCall) (journal : List Entry) (machine : Machine) (call : TraceCall) (entry : Entry) →
+HasAnsweredAll-entry : (granules : ℕ) (old new : ArenaState) (calls : List TraceCall) (journal : List Entry) (machine : Machine) (call : TraceCall) (entry : Entry) →
     HasAnsweredAll granules old calls journal machine → entry.seat ≡ call.thread → entry.call ≡ call.call → HasAnswered old new entry.call entry.reply → length journal < 2 ^ 63 →
     (next : Machine) × HasAnsweredAll granules new (calls ++ call ∷ []) (journal ++ entry ∷ []) next
 HasAnsweredAll-entry granules old new calls journal machine call entry all seat asked answered few =
     let found = answered.step.each machine all.state in
-    let step : IsLargeStep (bounds_for granules) machine entry.call entry.reply found.0 = subst (λ (b : Bounds). IsLargeStep b machine entry.call entry.reply found.0) all.bounds found.1 in
+    let step : IsPlacedStep (bounds_for granules) machine entry.call entry.reply found.0 = subst (λ (b : Bounds). IsPlacedStep b machine entry.call entry.reply found.0) all.bounds found.1 in
     let one = ap (λ (s : PmemState). s.begins) answered.device in
     let longer : length (journal ++ entry ∷ []) ≡ length journal + 1 = length-append journal (entry ∷ []) in
     let leads = Leads-more (bounds_for granules) no_heap machine found.0 journal entry all.leads step in (
@@ -99,6 +113,7 @@ HasAnsweredAll-entry granules old new calls journal machine call entry all seat 
         state = found.2;
         bounds = answered.step.bounds ∙ all.bounds;
         begins = omega (arith, one, all.begins, longer);
+        turn = answered.turn ∙ ap (λ turn. turn_after turn entry.reply) all.turn ∙ sym (turn_behind-more 0 journal entry);
         last = inr (behind_call granules old new calls journal machine entry all answered);
       },
     )
@@ -112,16 +127,16 @@ AreAnswers-length (c ∷ calls) (e ∷ journal) are = ap suc (AreAnswers-length 
 
 -- with their lines
 
-pub HasWrittenAll-none : (granules : ℕ) (device : PmemState) (text : List ℕ) → IsNewArena granules device → HasWrittenAll granules device [] text text
-HasWrittenAll-none granules device text new = record {
+pub HasWrittenAll-none : (granules : ℕ) (arena : ArenaState) (text : List ℕ) → IsNewArena granules arena → HasWrittenAll granules arena [] text text
+HasWrittenAll-none granules arena text new = record {
   journal = [];
   machine = no_heap;
-  answered = HasAnsweredAll-none granules device new;
+  answered = HasAnsweredAll-none granules arena new;
   is = sym (append-nil text);
 }
 
 -- one call of a list more, and its line
-pub HasWrittenAll-more : (granules : ℕ) (old new : PmemState) (calls : List TraceCall) (i : ℕ) (d : TraceCall) (text more further : List ℕ) (entry : Entry) →
+pub HasWrittenAll-more : (granules : ℕ) (old new : ArenaState) (calls : List TraceCall) (i : ℕ) (d : TraceCall) (text more further : List ℕ) (entry : Entry) →
     HasWrittenAll granules old (take i calls) text more → i < length calls → i < 2 ^ 63 → entry.seat ≡ (get_or calls i d).thread → entry.call ≡ (get_or calls i d).call →
     HasAnswered old new (get_or calls i d).call entry.reply → further ≡ more ++ entry_line entry → HasWrittenAll granules new (take (i + 1) calls) text further
 HasWrittenAll-more granules old new calls i d text more further entry all here small seat asked answered is =
@@ -140,13 +155,13 @@ HasWrittenAll-more granules old new calls i d text more further entry all here s
     }
 
 -- the report of the calls, and the device that went through their journal
-pub IsReplayed-written : (granules : ℕ) (device : PmemState) (calls : List TraceCall) (head text report : List ℕ) → HasWrittenAll granules device calls head text → head ≡ arena_line 0 (length calls) →
-    report ≡ text ++ heap_text (blocks_of (heap (tables_of (words_of device)))) → IsReady device → IsExactImage (words_of device) → IsReplayed granules calls report device
-IsReplayed-written granules device calls head text report all is_head is_report ready exact =
+pub IsReplayed-written : (granules : ℕ) (arena : ArenaState) (calls : List TraceCall) (head text report : List ℕ) → HasWrittenAll granules arena calls head text → head ≡ arena_line 0 (length calls) →
+    report ≡ text ++ heap_text (blocks_of (heap (tables_of (words_of arena.device)))) → IsReady arena.device → IsExactImage (words_of arena.device) → IsReplayed granules calls report arena.device
+IsReplayed-written granules arena calls head text report all is_head is_report ready exact =
     let lines = flat_map entry_line all.journal in
     let blocks = heap_text (blocks_of all.machine.block) in
     let many : length calls ≡ length all.journal = sym (AreAnswers-length calls all.journal all.answered.answers) in
-    let listed : heap_text (blocks_of (heap (tables_of (words_of device)))) ≡ blocks = ap heap_text (blocks_of-same (heap (tables_of (words_of device))) all.machine.block all.answered.state.blocks) in
+    let listed : heap_text (blocks_of (heap (tables_of (words_of arena.device)))) ≡ blocks = ap heap_text (blocks_of-same (heap (tables_of (words_of arena.device))) all.machine.block all.answered.state.blocks) in
     let first : text ≡ arena_line 0 (length all.journal) ++ lines = all.is ∙ ap (λ xs. xs ++ lines) (is_head ∙ ap (arena_line 0) many) in
     record {
       journal = all.journal;

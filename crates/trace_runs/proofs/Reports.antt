@@ -16,6 +16,7 @@ use Rattle.trace_text.specs.declared.call.CrashSide.TheVariants.{Same}
 use Rattle.trace_text.specs.declared.call.TraceCall.{TraceCall}
 use Rattle.trace_text.specs.Report.{crash_text}
 use Rattle.heap_check.specs.State.{HasState, IsEitherHeap}
+use Rattle.arena_core.specs.Arena.{ArenaState}
 use Rattle.trace_runs.specs.Replay.{blocks_of, formatted}
 use Rattle.trace_runs.specs.Calls.{IsNewArena}
 use Rattle.trace_runs.specs.Crash.{Stage, IsRunOf, calls_up_to, CrashLeft, IsCrashReport, IsSide, crash_image}
@@ -73,7 +74,7 @@ IsCrashReport-within granules calls event seed device number done text sought re
     }
 
 -- with no call under way no root has a block
-pub IsCrashReport-idle : (granules : ℕ) (calls : List TraceCall) (event seed : ℕ) (arena : PmemState) (events : ℕ) (text : List ℕ) →
+pub IsCrashReport-idle : (granules : ℕ) (calls : List TraceCall) (event seed : ℕ) (arena : ArenaState) (events : ℕ) (text : List ℕ) →
     IsNewArena granules arena → IsBehindAll granules calls event events → event ≤ events → text ≡ crash_text 0 Same [] → IsCrashReport granules calls event seed text
 IsCrashReport-idle granules calls event seed arena events text new behind few is =
     let left : CrashLeft = record { call = 0; side = Same; image = formatted granules } in

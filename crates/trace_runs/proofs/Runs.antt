@@ -5,66 +5,73 @@ use Rattle.std.proofs.lemmas.List.{append-nil}
 use Rattle.pmem_lines.specs.Pmem.{PmemState, words_of}
 use Rattle.heap_model.specs.declared.call.Reply.{Reply}
 use Rattle.heap_model.specs.Machine.{Bounds, Machine}
-use Rattle.heap_model.specs.Step.{IsLargeStep}
+use Rattle.heap_model.specs.Placement.{IsPlacedStep}
 use Rattle.heap_check.specs.Image.{bounds_of}
 use Rattle.heap_check.specs.State.{HasState}
+use Rattle.arena_core.specs.Arena.{ArenaState}
 use Rattle.trace_text.specs.declared.call.TraceCall.{TraceCall}
 use Rattle.trace_runs.specs.Crash.{Stage, IsStage, IsRun}
 use Rattle.trace_runs.specs.Calls.{HasAnswered}
 use Rattle.trace_runs.specs.Seek.{last_stage}
 
--- these calls made these stages and led to these words and this state, and whatever more calls make comes behind them
-pub record IsRunTo (b : Bounds) (start : List ℕ) (first : Machine) (calls : List TraceCall) (words : List ℕ) (machine : Machine) (stages : List Stage) : Type 0 where
-  pub state : HasState words machine
-  pub bounds : bounds_of words ≡ b
-  pub run : (rest : List TraceCall) (more : List Stage) → IsRun b words machine rest more → IsRun b start first (calls ++ rest) (stages ++ more)
+-- these calls made these stages and led to this arena and this state, and whatever more calls make comes behind them
+pub record IsRunTo (b : Bounds) (start : List ℕ) (first : Machine) (calls : List TraceCall) (arena : ArenaState) (machine : Machine) (stages : List Stage) : Type 0 where
+  pub state : HasState (words_of arena.device) machine
+  pub bounds : bounds_of (words_of arena.device) ≡ b
+  pub run : (rest : List TraceCall) (more : List Stage) → IsRun b (words_of arena.device) arena.turn machine rest more → IsRun b start 0 first (calls ++ rest) (stages ++ more)
 
 -- no call was made yet
-pub IsRunTo-none : (b : Bounds) (start : List ℕ) (first : Machine) → HasState start first → bounds_of start ≡ b → IsRunTo b start first [] start first []
-IsRunTo-none b start first state bounds = record { state = state; bounds = bounds; run = λ rest more run. run }
+pub IsRunTo-none : (b : Bounds) (arena : ArenaState) (first : Machine) → HasState (words_of arena.device) first → bounds_of (words_of arena.device) ≡ b → arena.turn ≡ 0 →
+    IsRunTo b (words_of arena.device) first [] arena first []
+IsRunTo-none b arena first state bounds turn = record {
+  state = state;
+  bounds = bounds;
+  run = λ rest more run. subst (λ n. IsRun b (words_of arena.device) n first rest more) turn run;
+}
 
 -- their run
-pub IsRun-to : (b : Bounds) (start : List ℕ) (first : Machine) (calls : List TraceCall) (words : List ℕ) (machine : Machine) (stages : List Stage) → IsRunTo b start first calls words machine stages → IsRun b start first calls stages
-IsRun-to b start first calls words machine stages to =
-    subst (λ (cs : List TraceCall). IsRun b start first cs stages) (append-nil calls)
-    (subst (λ (ss : List Stage). IsRun b start first (calls ++ []) ss) (append-nil stages) (to.run [] [] refl))
+pub IsRun-to : (b : Bounds) (start : List ℕ) (first : Machine) (calls : List TraceCall) (arena : ArenaState) (machine : Machine) (stages : List Stage) → IsRunTo b start first calls arena machine stages → IsRun b start 0 first calls stages
+IsRun-to b start first calls arena machine stages to =
+    subst (λ (cs : List TraceCall). IsRun b start 0 first cs stages) (append-nil calls)
+    (subst (λ (ss : List Stage). IsRun b start 0 first (calls ++ []) ss) (append-nil stages) (to.run [] [] refl))
 
 -- a call that was answered is a stage
-pub IsStage-answered : (b : Bounds) (old new : PmemState) (machine next : Machine) (call : TraceCall) (reply : Reply) → HasAnswered old new call.call reply →
-    IsLargeStep b machine call.call reply next → HasState (words_of new) next → IsStage b (words_of old) machine call (last_stage new) next
+pub IsStage-answered : (b : Bounds) (old new : ArenaState) (machine next : Machine) (call : TraceCall) (reply : Reply) → HasAnswered old new call.call reply →
+    IsPlacedStep b machine call.call reply next → HasState (words_of new.device) next → IsStage b (words_of old.device) old.turn machine call (last_stage new.device) new.turn next
 IsStage-answered b old new machine next call reply answered step state = record {
   reply = reply;
   begins = ap (λ (s : PmemState). s.base) answered.device;
   events = ap (λ (s : PmemState). s.events) answered.device;
+  later_is = answered.turn;
   step = step;
   state = state;
 }
 
 -- one call further
-IsRunTo-call : (b : Bounds) (start : List ℕ) (first : Machine) (calls : List TraceCall) (old new : PmemState) (machine : Machine) (call : TraceCall) (reply : Reply) (stages : List Stage) →
-    IsRunTo b start first calls (words_of old) machine stages → HasAnswered old new call.call reply →
-    (next : Machine) × IsRunTo b start first (calls ++ call ∷ []) (words_of new) next (stages ++ last_stage new ∷ [])
+IsRunTo-call : (b : Bounds) (start : List ℕ) (first : Machine) (calls : List TraceCall) (old new : ArenaState) (machine : Machine) (call : TraceCall) (reply : Reply) (stages : List Stage) →
+    IsRunTo b start first calls old machine stages → HasAnswered old new call.call reply →
+    (next : Machine) × IsRunTo b start first (calls ++ call ∷ []) new next (stages ++ last_stage new.device ∷ [])
 IsRunTo-call b start first calls old new machine call reply stages to answered =
     let found = answered.step.each machine to.state in
-    let step : IsLargeStep b machine call.call reply found.0 = subst (λ (c : Bounds). IsLargeStep c machine call.call reply found.0) to.bounds found.1 in
-    let stage : IsStage b (words_of old) machine call (last_stage new) found.0 = IsStage-answered b old new machine found.0 call reply answered step found.2 in (
+    let step : IsPlacedStep b machine call.call reply found.0 = subst (λ (c : Bounds). IsPlacedStep c machine call.call reply found.0) to.bounds found.1 in
+    let stage : IsStage b (words_of old.device) old.turn machine call (last_stage new.device) new.turn found.0 = IsStage-answered b old new machine found.0 call reply answered step found.2 in (
       found.0,
       record {
         state = found.2;
         bounds = answered.step.bounds ∙ to.bounds;
         run = λ rest more run.
-            subst (λ (cs : List TraceCall). IsRun b start first cs (stages ++ last_stage new ∷ [] ++ more)) (sym (append_assoc calls (call ∷ []) rest))
-            (subst (λ (ss : List Stage). IsRun b start first (calls ++ (call ∷ rest)) ss) (sym (append_assoc stages (last_stage new ∷ []) more))
-            (to.run (call ∷ rest) (last_stage new ∷ more) (found.0, stage, run)));
+            subst (λ (cs : List TraceCall). IsRun b start 0 first cs (stages ++ last_stage new.device ∷ [] ++ more)) (sym (append_assoc calls (call ∷ []) rest))
+            (subst (λ (ss : List Stage). IsRun b start 0 first (calls ++ (call ∷ rest)) ss) (sym (append_assoc stages (last_stage new.device ∷ []) more))
+            (to.run (call ∷ rest) (last_stage new.device ∷ more) (new.turn, found.0, stage, run)));
       },
     )
 
 -- the same, call by call of a list
-pub IsRunTo-more : (b : Bounds) (start : List ℕ) (first : Machine) (calls : List TraceCall) (old new : PmemState) (machine : Machine) (i : ℕ) (d : TraceCall) (reply : Reply) (stages : List Stage) →
-    IsRunTo b start first (take i calls) (words_of old) machine stages → i < length calls → HasAnswered old new (get_or calls i d).call reply →
-    (next : Machine) × IsRunTo b start first (take (i + 1) calls) (words_of new) next (stages ++ last_stage new ∷ [])
+pub IsRunTo-more : (b : Bounds) (start : List ℕ) (first : Machine) (calls : List TraceCall) (old new : ArenaState) (machine : Machine) (i : ℕ) (d : TraceCall) (reply : Reply) (stages : List Stage) →
+    IsRunTo b start first (take i calls) old machine stages → i < length calls → HasAnswered old new (get_or calls i d).call reply →
+    (next : Machine) × IsRunTo b start first (take (i + 1) calls) new next (stages ++ last_stage new.device ∷ [])
 IsRunTo-more b start first calls old new machine i d reply stages to here answered =
     let one : suc i ≡ i + 1 = omega arith in
     let more : take i calls ++ get_or calls i d ∷ [] ≡ take (i + 1) calls = sym (take-suc calls i d here) ∙ ap (λ n. take n calls) one in
-    subst (λ (cs : List TraceCall). (next : Machine) × IsRunTo b start first cs (words_of new) next (stages ++ last_stage new ∷ [])) more
+    subst (λ (cs : List TraceCall). (next : Machine) × IsRunTo b start first cs new next (stages ++ last_stage new.device ∷ [])) more
     (IsRunTo-call b start first (take i calls) old new machine (get_or calls i d) reply stages to answered)

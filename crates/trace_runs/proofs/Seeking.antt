@@ -10,6 +10,7 @@ use Rattle.heap_model.specs.declared.call.Entry.{Entry}
 use Rattle.heap_model.specs.Machine.{Machine, no_heap}
 use Rattle.heap_model.specs.Step.{root_of}
 use Rattle.heap_check.specs.Image.{IsExactImage}
+use Rattle.arena_core.specs.Arena.{ArenaState}
 use Rattle.arena_core.specs.Events.{call_events}
 use Rattle.heap_check.specs.State.{IsEitherHeap}
 use Rattle.arena_core.specs.Call.{IsStepOf}
@@ -21,10 +22,10 @@ use Rattle.trace_runs.specs.Seek.{last_stage, IsBehindEntry, IsBehindSought, IsB
 use Rattle.trace_runs.proofs.Runs.{IsRunTo, IsRunTo-none, IsRunTo-more, IsRun-to}
 
 -- the first i calls have these many events, and the event lies so many behind them
-pub record Seeking (granules : ℕ) (calls : List TraceCall) (event : ℕ) (words : List ℕ) (i left events : ℕ) : Type 0 where
+pub record Seeking (granules : ℕ) (calls : List TraceCall) (event : ℕ) (arena : ArenaState) (i left events : ℕ) : Type 0 where
   pub stages : List Stage
   pub machine : Machine
-  pub to : IsRunTo (bounds_for granules) (formatted granules) no_heap (take i calls) words machine stages
+  pub to : IsRunTo (bounds_for granules) (formatted granules) no_heap (take i calls) arena machine stages
   pub leaves : (more : List Stage) (seed : ℕ) (found : CrashLeft) → IsLeft (formatted granules) i more left seed found → IsLeft (formatted granules) 0 (stages ++ more) event seed found
   pub total : total_events stages ≡ events
 
@@ -33,13 +34,13 @@ total_events-append [] more = omega arith
 total_events-append (stage ∷ stages) more = omega (arith, total_events-append stages more)
 
 -- at the start
-pub Seeking-none : (granules : ℕ) (calls : List TraceCall) (event : ℕ) (arena : PmemState) → IsNewArena granules arena → Seeking granules calls event (words_of arena) 0 event 0
+pub Seeking-none : (granules : ℕ) (calls : List TraceCall) (event : ℕ) (arena : ArenaState) → IsNewArena granules arena → Seeking granules calls event arena 0 event 0
 Seeking-none granules calls event arena new =
-    let to : IsRunTo (bounds_for granules) (words_of arena) no_heap [] (words_of arena) no_heap [] = IsRunTo-none (bounds_for granules) (words_of arena) no_heap new.empty new.bounds in
+    let to : IsRunTo (bounds_for granules) (words_of arena.device) no_heap [] arena no_heap [] = IsRunTo-none (bounds_for granules) arena no_heap new.empty new.bounds new.turn in
     record {
       stages = [];
       machine = no_heap;
-      to = subst (λ (start : List ℕ). IsRunTo (bounds_for granules) start no_heap [] (words_of arena) no_heap []) new.words to;
+      to = subst (λ (start : List ℕ). IsRunTo (bounds_for granules) start no_heap [] arena no_heap []) new.words to;
       leaves = λ more seed found is. is;
       total = refl;
     }
@@ -52,62 +53,63 @@ not_under_way n event few = ⊎_elim
     (cases_lt 0 n)
 
 -- one call further, where it is not under way
-pub Seeking-more : (granules : ℕ) (calls : List TraceCall) (event : ℕ) (old new : PmemState) (i left events : ℕ) (d : TraceCall) (reply : Reply) →
-    Seeking granules calls event (words_of old) i left events → i < length calls → HasAnswered old new (get_or calls i d).call reply → (0 < length new.events → length new.events < left) →
-    Seeking granules calls event (words_of new) (i + 1) (left - length new.events) (events + length new.events)
+pub Seeking-more : (granules : ℕ) (calls : List TraceCall) (event : ℕ) (old new : ArenaState) (i left events : ℕ) (d : TraceCall) (reply : Reply) →
+    Seeking granules calls event old i left events → i < length calls → HasAnswered old new (get_or calls i d).call reply → (0 < length new.device.events → length new.device.events < left) →
+    Seeking granules calls event new (i + 1) (left - length new.device.events) (events + length new.device.events)
 Seeking-more granules calls event old new i left events d reply seeking here answered few =
     let next = IsRunTo-more (bounds_for granules) (formatted granules) no_heap calls old new seeking.machine i d reply seeking.stages seeking.to here answered in
-    let apart : is_under_way new.events left ≡ false = not_under_way (length new.events) left few in
+    let apart : is_under_way new.device.events left ≡ false = not_under_way (length new.device.events) left few in
     record {
-      stages = seeking.stages ++ last_stage new ∷ [];
+      stages = seeking.stages ++ last_stage new.device ∷ [];
       machine = next.0;
       to = next.1;
       leaves = λ more seed found is.
-          let Within : Type 0 = IsLeftWithin (last_stage new) (i + 1) left seed found in
-          let Later : Type 0 = IsLeft (formatted granules) (i + 1) more (left - length new.events) seed found in
-          subst (λ (ss : List Stage). IsLeft (formatted granules) 0 ss event seed found) (sym (append_assoc seeking.stages (last_stage new ∷ []) more))
-          (seeking.leaves (last_stage new ∷ more) seed found (subst (λ b. MatchBool b Within Later) (sym apart) is));
-      total = total_events-append seeking.stages (last_stage new ∷ []) ∙ omega (arith, seeking.total);
+          let Within : Type 0 = IsLeftWithin (last_stage new.device) (i + 1) left seed found in
+          let Later : Type 0 = IsLeft (formatted granules) (i + 1) more (left - length new.device.events) seed found in
+          subst (λ (ss : List Stage). IsLeft (formatted granules) 0 ss event seed found) (sym (append_assoc seeking.stages (last_stage new.device ∷ []) more))
+          (seeking.leaves (last_stage new.device ∷ more) seed found (subst (λ b. MatchBool b Within Later) (sym apart) is));
+      total = total_events-append seeking.stages (last_stage new.device ∷ []) ∙ omega (arith, seeking.total);
     }
 
 -- the call is the one under way
-pub IsBehindSought-here : (granules : ℕ) (calls : List TraceCall) (event : ℕ) (old new : PmemState) (i left events : ℕ) (d : TraceCall) (reply : Reply) →
-    Seeking granules calls event (words_of old) i left events → i < length calls → HasAnswered old new (get_or calls i d).call reply →
-    0 < length new.events → left ≤ length new.events → events + left ≡ event → IsBehindSought granules calls event new (i + 1) left
+pub IsBehindSought-here : (granules : ℕ) (calls : List TraceCall) (event : ℕ) (old new : ArenaState) (i left events : ℕ) (d : TraceCall) (reply : Reply) →
+    Seeking granules calls event old i left events → i < length calls → HasAnswered old new (get_or calls i d).call reply →
+    0 < length new.device.events → left ≤ length new.device.events → events + left ≡ event → IsBehindSought granules calls event new.device (i + 1) left
 IsBehindSought-here granules calls event old new i left events d reply seeking here answered some within sum =
     let next = IsRunTo-more (bounds_for granules) (formatted granules) no_heap calls old new seeking.machine i d reply seeking.stages seeking.to here answered in
-    let test : is_under_way new.events left ≡ true = and_from (ltb 0 (length new.events)) (leb left (length new.events)) (lt-ltb 0 (length new.events) some) (le-leb left (length new.events) within) in
+    let test : is_under_way new.device.events left ≡ true = and_from (ltb 0 (length new.device.events)) (leb left (length new.device.events)) (lt-ltb 0 (length new.device.events) some) (le-leb left (length new.device.events) within) in
     record {
       some = omega arith;
       before = seeking.stages;
-      run = IsRun-to (bounds_for granules) (formatted granules) no_heap (take (i + 1) calls) (words_of new) next.0 (seeking.stages ++ last_stage new ∷ []) next.1;
+      run = IsRun-to (bounds_for granules) (formatted granules) no_heap (take (i + 1) calls) new next.0 (seeking.stages ++ last_stage new.device ∷ []) next.1;
       leaves = λ seed found is.
-          let Within : Type 0 = IsLeftWithin (last_stage new) (i + 1) left seed found in
-          let Later : Type 0 = IsLeft (formatted granules) (i + 1) [] (left - length new.events) seed found in
-          seeking.leaves (last_stage new ∷ []) seed found (subst (λ b. MatchBool b Within Later) (sym test) is);
-      within = omega (arith, total_events-append seeking.stages (last_stage new ∷ []), seeking.total);
+          let Within : Type 0 = IsLeftWithin (last_stage new.device) (i + 1) left seed found in
+          let Later : Type 0 = IsLeft (formatted granules) (i + 1) [] (left - length new.device.events) seed found in
+          seeking.leaves (last_stage new.device ∷ []) seed found (subst (λ b. MatchBool b Within Later) (sym test) is);
+      within = omega (arith, total_events-append seeking.stages (last_stage new.device ∷ []), seeking.total);
     }
 
 -- what the arena was asked last
-pub IsBehindEntry-answered : (old new : PmemState) (entry : Entry) → HasAnswered old new entry.call entry.reply → 0 < length new.events → IsBehindEntry new entry
+pub IsBehindEntry-answered : (old new : ArenaState) (entry : Entry) → HasAnswered old new entry.call entry.reply → 0 < length new.device.events → IsBehindEntry new.device entry
 IsBehindEntry-answered old new entry answered some =
-    let base : words_of old ≡ new.base = sym (ap (λ (s : PmemState). s.base) answered.device) in
-    let events : new.events ≡ call_events (words_of old) (root_of entry.call) entry.reply = ap (λ (s : PmemState). s.events) answered.device in
+    let base : words_of old.device ≡ new.device.base = sym (ap (λ (s : PmemState). s.base) answered.device) in
+    let events : new.device.events ≡ call_events (words_of old.device) old.turn (root_of entry.call) entry.reply = ap (λ (s : PmemState). s.events) answered.device in
     record {
       exact = subst IsExactImage base answered.exact;
-      step = subst (λ (words : List ℕ). IsStepOf words (words_of new) entry.call entry.reply) base answered.step;
-      events = subst (λ (words : List ℕ). new.events ≡ call_events words (root_of entry.call) entry.reply) base events;
+      step = subst (λ (words : List ℕ). IsStepOf words (words_of new.device) entry.call entry.reply) base answered.step;
+      turn = old.turn;
+      events = subst (λ (words : List ℕ). new.device.events ≡ call_events words old.turn (root_of entry.call) entry.reply) base events;
       some = some;
-      crash = subst (λ (words : List ℕ). CrashOnly new.base new.events (IsEitherHeap words (words_of new))) base answered.crash;
+      crash = subst (λ (words : List ℕ). CrashOnly new.device.base new.device.events (IsEitherHeap words (words_of new.device))) base answered.crash;
     }
 
 -- no call is under way
-pub IsBehindAll-none : (granules : ℕ) (calls : List TraceCall) (event : ℕ) (words : List ℕ) (i left events : ℕ) → Seeking granules calls event words i left events → length calls ≤ i →
+pub IsBehindAll-none : (granules : ℕ) (calls : List TraceCall) (event : ℕ) (arena : ArenaState) (i left events : ℕ) → Seeking granules calls event arena i left events → length calls ≤ i →
     events + left ≡ event → IsBehindAll granules calls event events
-IsBehindAll-none granules calls event words i left events seeking all sum = record {
+IsBehindAll-none granules calls event arena i left events seeking all sum = record {
   stages = seeking.stages;
-  run = subst (λ (cs : List TraceCall). IsRun (bounds_for granules) (formatted granules) no_heap cs seeking.stages) (take_all i calls all)
-      (IsRun-to (bounds_for granules) (formatted granules) no_heap (take i calls) words seeking.machine seeking.stages seeking.to);
+  run = subst (λ (cs : List TraceCall). IsRun (bounds_for granules) (formatted granules) 0 no_heap cs seeking.stages) (take_all i calls all)
+      (IsRun-to (bounds_for granules) (formatted granules) no_heap (take i calls) arena seeking.machine seeking.stages seeking.to);
   total = sym seeking.total;
   leaves = λ few seed found idle.
       let none : 0 ≡ left = omega arith in

@@ -7,11 +7,12 @@ use Rattle.pmem_lines.specs.Picks.{picked_image}
 use Rattle.image_tables.specs.Tables.{tables_of}
 use Rattle.heap_model.specs.declared.call.Reply.{Reply}
 use Rattle.heap_model.specs.Machine.{Bounds, Machine, no_heap}
-use Rattle.heap_model.specs.Step.{IsLargeStep, root_of}
+use Rattle.heap_model.specs.Step.{root_of}
+use Rattle.heap_model.specs.Placement.{IsPlacedStep}
 use Rattle.heap_check.specs.Heap.{heap}
 use Rattle.heap_check.specs.Image.{IsSteadyImage}
 use Rattle.heap_check.specs.State.{HasState, HaveSameHeap}
-use Rattle.arena_core.specs.Events.{call_events}
+use Rattle.arena_core.specs.Events.{call_events, turn_after}
 use Rattle.trace_text.specs.declared.call.CrashSide.{CrashSide}
 use Rattle.trace_text.specs.declared.call.CrashSide.TheVariants.{Same, Before, After}
 use Rattle.trace_text.specs.declared.call.TraceCall.{TraceCall}
@@ -31,20 +32,22 @@ pub record Stage : Type 0 where
 abbrev pub words_after : Stage → List ℕ
 words_after stage = reading stage.words stage.events
 
--- from these words and this state on, a call makes this stage: the reply is the machine's, the events are those of the
--- reply, and the words behind it have the state that the machine leads to
-pub record IsStage (b : Bounds) (words : List ℕ) (m : Machine) (call : TraceCall) (stage : Stage) (next : Machine) : Type 0 where
+-- from these words, this write-ahead line and this state on, a call makes this stage: the reply is the machine's, the
+-- events are those of the reply, and behind it come the next line, and words with the state that the machine leads to
+pub record IsStage (b : Bounds) (words : List ℕ) (turn : ℕ) (m : Machine) (call : TraceCall) (stage : Stage) (later : ℕ) (next : Machine) : Type 0 where
   pub reply : Reply
   pub begins : stage.words ≡ words
-  pub events : stage.events ≡ call_events words (root_of call.call) reply
-  pub step : IsLargeStep b m call.call reply next
+  pub events : stage.events ≡ call_events words turn (root_of call.call) reply
+  pub later_is : later ≡ turn_after turn reply
+  pub step : IsPlacedStep b m call.call reply next
   pub state : HasState (words_after stage) next
 
--- from these words and this state on, calls make these stages, one after another
-abbrev pub IsRun : Bounds → List ℕ → Machine → List TraceCall → List Stage → Type 0
-IsRun b words m [] stages = stages ≡ []
-IsRun b words m (call ∷ calls) [] = ⊥
-IsRun b words m (call ∷ calls) (stage ∷ stages) = (next : Machine) × IsStage b words m call stage next × IsRun b (words_after stage) next calls stages
+-- from these words, this write-ahead line and this state on, calls make these stages, one after another
+abbrev pub IsRun : Bounds → List ℕ → ℕ → Machine → List TraceCall → List Stage → Type 0
+IsRun b words turn m [] stages = stages ≡ []
+IsRun b words turn m (call ∷ calls) [] = ⊥
+IsRun b words turn m (call ∷ calls) (stage ∷ stages) =
+    (later : ℕ) × (next : Machine) × IsStage b words turn m call stage later next × IsRun b (words_after stage) later next calls stages
 
 -- how many events they have
 abbrev pub total_events : List Stage → ℕ
@@ -98,7 +101,7 @@ IsLeft words number (stage ∷ stages) event seed left =
 
 -- the calls make these stages, in an arena of so many granules that was formatted
 abbrev pub IsRunOf : ℕ → List TraceCall → List Stage → Type 0
-IsRunOf granules calls stages = IsRun (bounds_for granules) (formatted granules) no_heap calls stages
+IsRunOf granules calls stages = IsRun (bounds_for granules) (formatted granules) 0 no_heap calls stages
 
 -- the calls up to and with the one of this number, counted from 1; all of them for 0
 abbrev pub calls_up_to : ℕ → List TraceCall → List TraceCall

@@ -8,11 +8,12 @@ use Rattle.pool_layout.specs.Layout.{layout_of}
 use Rattle.heap_model.specs.declared.block.Block.{Block}
 use Rattle.heap_model.specs.declared.call.Entry.{Entry}
 use Rattle.heap_model.specs.Machine.{Bounds, Range, Machine, no_heap, IsOverlapFree}
-use Rattle.heap_model.specs.Step.{IsLargeStep, root_of}
+use Rattle.heap_model.specs.Step.{root_of}
+use Rattle.heap_model.specs.Placement.{IsPlacedStep}
 use Rattle.heap_model.specs.Journal.{Leads}
 use Rattle.heap_check.specs.Image.{IsExactImage}
 use Rattle.heap_check.specs.State.{HasState}
-use Rattle.arena_core.specs.Events.{format_events, call_events}
+use Rattle.arena_core.specs.Events.{format_events, call_events, turn_after}
 use Rattle.trace_text.specs.declared.call.TraceCall.{TraceCall}
 use Rattle.trace_text.specs.Report.{arena_text}
 
@@ -49,6 +50,15 @@ blocks_from heap root (suc n) = listed root (heap root) ++ blocks_from heap (roo
 abbrev pub blocks_of : (ℕ → Option Range) → List Block
 blocks_of heap = blocks_from heap 0 (layout_of 1).roots
 
+-- the write-ahead line of the next entry, behind entries before which it was this one
+abbrev pub turn_behind : ℕ → List Entry → ℕ
+turn_behind turn [] = turn
+turn_behind turn (entry ∷ entries) = turn_behind (turn_after turn entry.reply) entries
+
+-- the write-ahead line of the next entry, behind a journal from the empty heap: the first one's is 0
+abbrev pub turn_of : List Entry → ℕ
+turn_of journal = turn_behind 0 journal
+
 -- the device was formatted, and nothing was asked of it since
 pub record IsBehindFormat (granules : ℕ) (device : PmemState) (journal : List Entry) : Type 0 where
   pub none : journal ≡ []
@@ -56,16 +66,16 @@ pub record IsBehindFormat (granules : ℕ) (device : PmemState) (journal : List 
   pub events : device.events ≡ format_events (header_for granules)
 
 -- the device went through the journal's last call: its base is exact, with the state that the entries before lead to, and
--- its events are that call's
+-- its events are that call's, at the write-ahead line that those entries lead to
 pub record IsBehindCall (granules : ℕ) (device : PmemState) (journal : List Entry) : Type 0 where
   pub before : List Entry
   pub entry : Entry
   pub last : journal ≡ before ++ entry ∷ []
   pub machine : Machine
-  pub leads : Leads (IsLargeStep (bounds_for granules)) no_heap before machine
+  pub leads : Leads (IsPlacedStep (bounds_for granules)) no_heap before machine
   pub exact : IsExactImage device.base
   pub state : HasState device.base machine
-  pub events : device.events ≡ call_events device.base (root_of entry.call) entry.reply
+  pub events : device.events ≡ call_events device.base (turn_of before) (root_of entry.call) entry.reply
 
 -- a device went through the journal, which leads to this state: it is quiet and exact with that state, each call began
 -- once, formatting among them, and its base and events are those of the last call
@@ -77,9 +87,9 @@ pub record HasRun (granules : ℕ) (device : PmemState) (journal : List Entry) (
   pub last : IsBehindFormat granules device journal ⊎ IsBehindCall granules device journal
 
 -- The text is the report of a legal journal of these calls, from the empty heap to this state, in which no two blocks
--- overlap.
+-- overlap. Each block is the one that the placement says.
 pub record IsReport (granules : ℕ) (calls : List TraceCall) (journal : List Entry) (machine : Machine) (text : List ℕ) : Type 0 where
-  pub legal : Leads (IsLargeStep (bounds_for granules)) no_heap journal machine
+  pub legal : Leads (IsPlacedStep (bounds_for granules)) no_heap journal machine
   pub answers : AreAnswers calls journal
   pub apart : IsOverlapFree (bounds_for granules) machine
   pub is : text ≡ arena_text 0 journal (blocks_of machine.block)

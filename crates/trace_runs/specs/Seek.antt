@@ -27,7 +27,8 @@ last_stage device = record { words = device.base; events = device.events }
 pub record IsBehindEntry (device : PmemState) (entry : Entry) : Type 0 where
   pub exact : IsExactImage device.base
   pub step : IsStepOf device.base (words_of device) entry.call entry.reply
-  pub events : device.events ≡ call_events device.base (root_of entry.call) entry.reply
+  pub turn : ℕ
+  pub events : device.events ≡ call_events device.base turn (root_of entry.call) entry.reply
   pub some : 0 < length device.events
   pub crash : CrashOnly device.base device.events (IsEitherHeap device.base (words_of device))
 

@@ -16,7 +16,7 @@ use std::alloc::Global;
 
 /// The blocks of an arena.
 pub(crate) fn blocks_of<P: Pmem>(alloc: Global, arena: &Arena<P>) -> Result<Vec<Block>, OutOfMemory>
-    ensures { IfOk result (λ blocks. blocks.items ≡ blocks_of (heap (tables_of (words_of arena.now)))) }
+    ensures { IfOk result (λ blocks. blocks.items ≡ blocks_of (heap (tables_of (words_of arena.now.device)))) }
 {
     let mut blocks = Vec::new(alloc);
     add_blocks(&mut blocks, arena, 0, layout_of(1).roots)?;
@@ -31,7 +31,7 @@ pub(crate) fn blocks_but<P: Pmem>(
     has: bool,
 ) -> Result<Vec<Block>, OutOfMemory>
     requires { block.root < (layout_of 1).roots }
-    ensures { IfOk result (λ blocks. (other : ℕ → Option Range) → IsHeapBut (words_of arena.now) block has other → blocks.items ≡ blocks_of other) }
+    ensures { IfOk result (λ blocks. (other : ℕ → Option Range) → IsHeapBut (words_of arena.now.device) block has other → blocks.items ≡ blocks_of other) }
 {
     let roots = layout_of(1).roots;
     let mut blocks = Vec::new(alloc);
@@ -59,7 +59,7 @@ fn add_blocks<P: Pmem>(
     to: u32,
 ) -> Result<(), OutOfMemory>
     requires { from ≤ to }
-    ensures { OnOk result (blocks.new.items ≡ blocks.old.items ++ blocks_from (heap (tables_of (words_of arena.now))) from (to - from)) }
+    ensures { OnOk result (blocks.new.items ≡ blocks.old.items ++ blocks_from (heap (tables_of (words_of arena.now.device))) from (to - from)) }
 {
     for root in from..to {
         if let Some(block) = arena.block(root) {

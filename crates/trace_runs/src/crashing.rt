@@ -107,8 +107,8 @@ struct Change {
 // Makes calls in order up to and with the one that is under way at an event, counted over all calls.
 fn seek(arena: &mut Arena<SimPmem>, calls: &[TraceCall], event: u64) -> Sought
     requires { All IsTraceCall calls.now }
-    ensures sought { (granules : ℕ) → IsNewArena granules arena.old → IsSought granules calls.now event arena.new result }
-    ensures next { IsReportable arena.new result }
+    ensures sought { (granules : ℕ) → IsNewArena granules arena.old → IsSought granules calls.now event arena.new.device result }
+    ensures next { IsReportable arena.new.device result }
 {
     let mut left = event;
     let mut events: u64 = 0;
@@ -138,9 +138,9 @@ fn report_within(
     done: u32,
     seed: u64,
 ) -> Result<Vec<u8>, OutOfMemory>
-    requires behind { IsBehindEntry arena.now entry.now }
-    requires within { done ≤ length arena.now.events }
-    ensures { IfOk result (λ text. IsReportWithin (last_stage arena.now) number done seed text.items) }
+    requires behind { IsBehindEntry arena.now.device entry.now }
+    requires within { done ≤ length arena.now.device.events }
+    ensures { IfOk result (λ text. IsReportWithin (last_stage arena.now.device) number done seed text.items) }
 {
     let left = crash_within(alloc, arena, entry, done, seed)?;
     let mut text = Vec::new(alloc);
@@ -166,9 +166,9 @@ fn crash_within(
     done: u32,
     seed: u64,
 ) -> Result<Left, OutOfMemory>
-    requires behind { IsBehindEntry arena.now entry.now }
-    requires within { done ≤ length arena.now.events }
-    ensures { IfOk result (λ left. IsLeftBy (last_stage arena.now) done seed left.side left.blocks.items) }
+    requires behind { IsBehindEntry arena.now.device entry.now }
+    requires within { done ≤ length arena.now.device.events }
+    ensures { IfOk result (λ left. IsLeftBy (last_stage arena.now.device) done seed left.side left.blocks.items) }
 {
     let image = image_of(alloc, arena.pmem(), done, seed)?;
     let change = change_of(entry);

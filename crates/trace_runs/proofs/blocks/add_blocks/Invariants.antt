@@ -6,4 +6,4 @@ use Rattle.trace_runs.specs.Replay.{blocks_from}
 use Rattle.trace_runs.proofs.blocks.add_blocks.Given as goal
 
 abbrev pub invariant-loop-root : goal.invariant-loop-root
-invariant-loop-root g l = l.blocks.items ≡ l.fn.blocks.items ++ blocks_from (heap (tables_of (words_of l.arena))) l.from (l.root - l.from)
+invariant-loop-root g l = l.blocks.items ≡ l.fn.blocks.items ++ blocks_from (heap (tables_of (words_of l.arena.device))) l.from (l.root - l.from)

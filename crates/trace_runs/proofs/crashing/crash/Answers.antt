@@ -5,7 +5,7 @@ use Rattle.trace_runs.proofs.crashing.crash.Goals as goal
 pub returns-in-UnderWay-clause-report : goal.returns-in-UnderWay-clause-report
 returns-in-UnderWay-clause-report c =
     let trace = c.args.trace.now in
-    let device : PmemState = c.seek.new.arena in
+    let device : PmemState = c.seek.new.arena.device in
     IsCrashReport-within trace.granules trace.calls.items c.args.event c.args.seed device c.in-UnderWay.number c.in-UnderWay.done c.in_ok-report_within-in-UnderWay.field-0.items
     (rw c.deref.ensures.value at (c.in-UnderWay.ensures.sought trace.granules c.in_ok-arena.ensures)) c.in_ok-report_within-in-UnderWay.ensures
 

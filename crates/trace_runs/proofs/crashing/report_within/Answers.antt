@@ -9,7 +9,7 @@ pub returns : goal.returns
 returns c =
     let side = c.in_ok-left.left.side in
     record {
-      left = record { call = c.args.number; side = side; image = crash_image (last_stage c.args.arena.now) c.args.done c.args.seed };
+      left = record { call = c.args.number; side = side; image = crash_image (last_stage c.args.arena.now.device) c.args.done c.args.seed };
       within = record { call = refl; image = refl; steady = c.in_ok-left.ensures.steady; side = c.in_ok-left.ensures.side };
       report =
           c.in_ok-write_crash.ensures.text
