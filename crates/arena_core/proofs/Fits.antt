@@ -40,12 +40,3 @@ HasNoFit-same One Other n same none = record { none = λ start long run. none.no
 -- each granule of the best fit is free
 pub fit_free : (Free : ℕ → Type 0) (n start k : ℕ) → IsBestFit Free n start → start ≤ k → k < start + n → Free k
 fit_free Free n start k fit low high = fit.run.row.each k low (omega (arith, high, fit.enough))
-
--- the best fit of vacant granules for a request may be given to its root
-pub givable : (b : Bounds) (t : Tables) (root size start : ℕ) → IsAskedOf b t root size → IsBestFit (IsVacant b t) (granules_for size) start → IsGivable b t root start (granules_for size)
-givable b t root size start asked fit =
-    let n = granules_for size in
-    let vacant : (k : ℕ) → start ≤ k → k < start + n → IsVacant b t k = λ k low high. fit_free (IsVacant b t) n start k fit low high in
-    let begin = vacant start (omega arith) (omega arith) in
-    let end = vacant (start + n - 1) (omega arith) (omega arith) in
-    record { below = asked.below; none = asked.none; many = omega arith; low = begin.low; high = omega (arith, end.high); vacant = vacant }

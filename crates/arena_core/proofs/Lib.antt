@@ -7,4 +7,4 @@ pub mod Arenas
 pub mod Formats
 pub mod States
 pub mod Machines
-pub mod Given
+pub mod Called

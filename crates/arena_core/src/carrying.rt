@@ -15,7 +15,7 @@ ghost use Rattle.arena_core.specs.Answer.{malloc_reply, free_reply};
 ghost use Rattle.arena_core.specs.Arena.{HasNormalSlabs, IsIndexOf, IsSlabsOf, IsKept, IsArena};
 ghost use Rattle.arena_core.specs.Call.{IsReady};
 ghost use Rattle.arena_core.specs.Carried.{IsDone, IsTidied, IsCalled};
-ghost use Rattle.arena_core.specs.Effect.{GivesRoot, KeepsSlabs, slabs_but};
+ghost use Rattle.arena_core.specs.Effect.{GivesRoot, KeepsSlabs, IsLastOf, slabs_but};
 ghost use Rattle.arena_core.specs.Events.{place_events, take_events, fresh_events, unsmall_events, holds_none};
 ghost use Rattle.arena_core.specs.Plan.{IsAskedOf, IsVacantRow, IsGivable, IsTakable, IsNamedSmall, IsMallocPlan, IsFreePlan};
 
@@ -228,7 +228,8 @@ fn take_small<P: Pmem>(
     requires arena { IsArena (P.state device.old) line log.old free.old slabs.old }
     requires fresh { (P.state device.old).events ≡ [] }
     requires named { IsNamedSmall (bounds_of (words_of (P.state device.old))) (tables_of (words_of (P.state device.old))) root block class }
-    ensures { let left = reading (words_of (P.state device.old)) (detach_events (words_of (P.state device.old)) line root block) in IsDone (P.state device.old) (P.state device.new) log.new free.new slabs.new root None (slabs_but (classes_of (tables_of (words_of (P.state device.old)))) block.start (holds_none (tables_of left) block.start)) (unsmall_events (words_of (P.state device.old)) line root block) }
+    ensures last { let left = reading (words_of (P.state device.old)) (detach_events (words_of (P.state device.old)) line root block) in IsLastOf (tables_of (words_of (P.state device.old))) root block.start (holds_none (tables_of left) block.start) }
+    ensures done { let left = reading (words_of (P.state device.old)) (detach_events (words_of (P.state device.old)) line root block) in IsDone (P.state device.old) (P.state device.new) log.new free.new slabs.new root None (slabs_but (classes_of (tables_of (words_of (P.state device.old)))) block.start (holds_none (tables_of left) block.start)) (unsmall_events (words_of (P.state device.old)) line root block) }
 {
     take_block(device, slabs, line, root, block);
     drop_if_empty(device, log, free, slabs, block.start, class);

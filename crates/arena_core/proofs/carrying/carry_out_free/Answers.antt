@@ -1,49 +1,66 @@
-use Rattle.std.proofs.Common.{Err, sym, subst, Result}
+use Rattle.std.proofs.Common.{◌≡◌, ◌+◌, ◌*◌, ◌%◌, ◌<◌, ℕ, List, Ok, Err, Result, sym, ap, subst, ◌∙◌, arith}
 use Rattle.pmem_lines.specs.Pmem.{words_of}
 use Rattle.image_tables.specs.Tables.{tables_of}
 use Rattle.heap_model.specs.declared.call.Call.TheVariants as calls
+use Rattle.heap_model.specs.declared.call.Reply.TheVariants as replies
+use Rattle.heap_model.specs.Machine.{Range, slab_block}
+use Rattle.heap_check.specs.Heap.{slabs}
 use Rattle.heap_check.specs.Image.{bounds_of}
-use Rattle.arena_core.specs.declared.answer.Freed.{Freed}
+use Rattle.heap_check.proofs.Sizes.{sizes_of}
+use Rattle.arena_core.specs.declared.plan.Held.{Held}
+use Rattle.arena_core.specs.declared.plan.Held.TheVariants as held
 use Rattle.arena_core.specs.declared.answer.FreeRefusal.{FreeRefusal}
-use Rattle.arena_core.specs.Answer.{free_reply}
-use Rattle.arena_core.specs.Call.{IsStepOf}
-use Rattle.arena_core.specs.Plan.{IsFreePlan, IsTaking}
-use Rattle.arena_core.proofs.Given.{IsTakable-taking}
-use Rattle.arena_core.proofs.Machines.{freed_step, refused_free, KeepsBlocks-gives}
+use Rattle.arena_core.specs.Carried.{IsCalled}
+use Rattle.arena_core.specs.Plan.{IsTakable, IsNamedSmall, IsFreePlan, range_held}
+use Rattle.arena_core.proofs.Blocks.{heap-takable}
+use Rattle.arena_core.proofs.Called.{IsCalled-same, IsCalled-done, IsDone-large, freed_large, turn_freed, freed_there, start_is, turn_small, named_class, named_inside, named_heap}
+use Rattle.arena_core.proofs.Machines.{freed_step, large_stays, small_stays, refused_free}
 use Rattle.arena_core.proofs.carrying.carry_out_free.Goals as goal
+use Rattle.arena_core.proofs.carrying.carry_out_free.Goals.{in-Large, in-Small}
 
-pub take-requires-clause-takable : goal.take-requires-clause-takable
-take-requires-clause-takable g c =
-    let words = words_of (g.P.Pmem.state c.args.device.now) in
-    let b = bounds_of words in
-    let t = tables_of words in
-    let taking : IsTaking b t c.args.root c.in-Ok.freed = subst (IsFreePlan b t c.args.root) c.in-Ok.is c.requires.plan in
-    IsTakable-taking b t c.args.root c.in-Ok.freed taking
-
-pub returns-in-Ok-clause-step : goal.returns-in-Ok-clause-step
-returns-in-Ok-clause-step g c =
-    let old = words_of (g.P.Pmem.state c.args.device.now) in
-    let new = words_of (g.P.Pmem.state c.take.new.device) in
-    let b = bounds_of old in
-    let t = tables_of old in
-    let root = c.args.root in
-    let freed = c.in-Ok.freed in
-    let taking : IsTaking b t root freed = subst (IsFreePlan b t root) c.in-Ok.is c.requires.plan in
-    let step = freed_step old new root freed c.requires.arena.exact taking c.take.ensures.gives in
-    subst (λ (reply : Result Freed FreeRefusal). IsStepOf old new (calls.Free root) (free_reply reply)) (sym c.in-Ok.is) step
-
-pub returns-in-Ok-clause-keeps : goal.returns-in-Ok-clause-keeps
-returns-in-Ok-clause-keeps g c =
-    let old = words_of (g.P.Pmem.state c.args.device.now) in
-    KeepsBlocks-gives old (words_of (g.P.Pmem.state c.take.new.device)) c.args.root _ c.requires.arena.exact c.take.ensures.gives
-
-pub returns-in_default-clause-step : goal.returns-in_default-clause-step
-returns-in_default-clause-step g c =
-    let words = words_of (g.P.Pmem.state c.args.device.now) in
+pub returns : goal.returns
+returns g c =
+    let old = g.P.Pmem.state c.args.device.now in
+    let words = words_of old in
     let b = bounds_of words in
     let t = tables_of words in
     let root = c.args.root in
-    let refusal : FreeRefusal = c.in_default.field-0 in
-    let refused : IsFreePlan b t root (Err refusal) = subst (IsFreePlan b t root) c.in_default.is c.requires.plan in
-    let step = refused_free words root refusal refused in
-    subst (λ (reply : Result Freed FreeRefusal). IsStepOf words words (calls.Free root) (free_reply reply)) (sym c.in_default.is) step
+    let arena = c.requires.arena in
+    let exact = arena.kept.exact in
+    let state = g.P.Pmem.state in
+    elim c.match-held.branch [
+      | in-Large w ↦
+          let start = w.in-Large.start in
+          let count = w.in-Large.granules in
+          let range : Range = record { at = 16384 * start; size = 16384 * count } in
+          let new = words_of (state w.take_large.new.device) in
+          let taken : IsTakable b t root start count = subst (IsFreePlan b t root) (c.in_ok-held.was ∙ ap (λ (h : Held). Ok h) w.in-Large.is) c.requires.plan in
+          let done = IsDone-large arena w.take_large.ensures.appends w.take_large.ensures.kept w.take_large.ensures.gives w.take_large.ensures.slabs w.take_large.ensures.crash in
+          let step = freed_step words new root range (slabs t) taken.below (heap-takable b t root start count (omega (arith, (sizes_of words exact.formed).first)) taken) (large_stays words root start count exact taken) w.take_large.ensures.gives in
+          IsCalled-same (ap state w.device-is) w.turn-is w.log-is w.free-is w.slabs-is
+          (λ i. replies.Freed ((c.freed_of.ensures.0 ∙ ap (λ (h : Held). (range_held h).at) w.held-is) i) ((c.freed_of.ensures.1 ∙ ap (λ (h : Held). (range_held h).size) w.held-is) i))
+          (IsCalled-done (calls.Free root) (replies.Freed range.at range.size) done (sym (freed_large words c.args.turn.now root start count taken.many)) (sym (turn_freed words c.args.turn.now root start count taken.many c.args.turn.now)) arena.few step)
+      | in-Small w ↦
+          let block = w.in-Small.block in
+          let class = w.in-Small.class in
+          let range : Range = slab_block block.start class block.number in
+          let new = words_of (state w.take_small.new.device) in
+          let named : IsNamedSmall b t root block class = subst (IsFreePlan b t root) (c.in_ok-held.was ∙ ap (λ (h : Held). Ok h) w.in-Small.is) c.requires.plan in
+          let is_class = named_class words exact arena.normal root block class named in
+          let done = w.take_small.ensures.done in
+          let step = freed_step words new root range _ named.rooted (named_heap words exact arena.normal root block class named)
+              (small_stays words root block.start range _ exact (named_inside words exact arena.normal root block class named) w.take_small.ensures.last) done.gives in
+          IsCalled-same (ap state w.device-is) w.turn-is w.log-is w.free-is w.slabs-is
+          (λ i. replies.Freed ((c.freed_of.ensures.0 ∙ ap (λ (h : Held). (range_held h).at) w.held-is) i) ((c.freed_of.ensures.1 ∙ ap (λ (h : Held). (range_held h).size) w.held-is) i))
+          (IsCalled-done (calls.Free root) (replies.Freed range.at range.size) done
+          (freed_there words c.args.turn.now root block class is_class named.at (start_is exact.exact.sound block.start class block.number named.slab is_class named.below))
+          (sym (turn_small c.args.turn.now range.at class is_class).1) (omega arith) step)
+    ]
+
+pub freed_of-requires : goal.freed_of-requires
+freed_of-requires g c =
+    let words = words_of (g.P.Pmem.state c.args.device.now) in
+    let exact = c.requires.arena.kept.exact in
+    (bounds_of words, tables_of words, c.args.root, held_is c.match-held.held, (sizes_of words exact.formed).most)
+  where
+    held_is : ?
