@@ -8,3 +8,5 @@ pub mod Formats
 pub mod States
 pub mod Machines
 pub mod Called
+pub mod Given
+pub mod Smalls

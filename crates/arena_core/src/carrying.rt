@@ -142,6 +142,7 @@ fn give_small<P: Pmem>(
     block: SmallBlock,
 )
     requires ready { IsReady (P.state device.old) }
+    requires few { length (P.state device.old).events ≤ 757 }
     requires line { line < 8 }
     requires attachable { IsAttachable (words_of (P.state device.old)) root block }
     requires normal { HasNormalSlabs (words_of (P.state device.old)) }
@@ -244,6 +245,7 @@ fn take_block<P: Pmem>(
     block: SmallBlock,
 )
     requires ready { IsReady (P.state device.old) }
+    requires fresh { (P.state device.old).events ≡ [] }
     requires line { line < 8 }
     requires detachable { IsDetachable (words_of (P.state device.old)) root block }
     requires normal { HasNormalSlabs (words_of (P.state device.old)) }

@@ -1,0 +1,32 @@
+use Rattle.std.proofs.Common.{rules, ◌≡◌, ◌<◌, ◌≤◌, ◌*◌, ℕ, true, [], Some, None, length, ◌+◌, ◌-◌, ◌/◌, ◌%◌, Bool, false, nat_eq, nat_lt, List, ◌∷◌, ◌++◌, slice_index_or, slice_set, bit_and, bit_or, Fits, w8, w32, w64, Bor, MutBor}
+use Rattle.pmem_lines.specs.Events.{reading, IsQuiet, CrashOnly}
+use Rattle.pmem_lines.specs.Pmem.{words_of, Appends}
+use Rattle.image_tables.specs.Tables.{tables_of}
+use Rattle.heap_model.specs.declared.call.Call.TheVariants as calls
+use Rattle.heap_model.specs.Machine.{with_key, slab_block}
+use Rattle.heap_check.specs.Heap.{slabs as classes_of}
+use Rattle.heap_check.specs.Image.{bounds_of, IsExactButImage}
+use Rattle.heap_check.specs.State.{IsEitherHeap}
+use Rattle.log_steps.specs.Log.{IsBookOf}
+use Rattle.slab_steps.specs.Steps.{open_events, IsOpened}
+use Rattle.attach_steps.specs.Steps.{attach_events, detach_events, IsAttachable, IsDetachable, IsAttached, IsDetached}
+use Rattle.arena_core.specs.Answer.{malloc_reply, free_reply}
+use Rattle.arena_core.specs.Arena.{HasNormalSlabs, IsIndexOf, IsSlabsOf, IsKept, IsArena}
+use Rattle.arena_core.specs.Call.{IsReady}
+use Rattle.arena_core.specs.Carried.{IsDone, IsTidied, IsCalled}
+use Rattle.arena_core.specs.Effect.{GivesRoot, KeepsSlabs, slabs_but}
+use Rattle.arena_core.specs.Events.{place_events, take_events, fresh_events, unsmall_events, holds_none}
+use Rattle.arena_core.specs.Plan.{IsAskedOf, IsVacantRow, IsGivable, IsTakable, IsNamedSmall, IsMallocPlan, IsFreePlan}
+use Rattle.arena_core.proofs.carrying.drop_if_empty.Goals as goal
+
+-- src/carrying.rt:284:9
+pub give-requires : goal.give-requires
+give-requires g c = ?
+
+-- src/carrying.rt:262:1
+pub returns-then-is_whole : goal.returns-then-is_whole
+returns-then-is_whole g c = ?
+
+-- src/carrying.rt:262:1
+pub returns-else-is_whole : goal.returns-else-is_whole
+returns-else-is_whole g c = ?
