@@ -1,11 +1,11 @@
 -- What a call has done, put together: by the place of its block.
-use Rattle.std.proofs.Common.{◌≡◌, ◌≢◌, ◌⊎◌, ◌==◌, ◌*◌, ◌/◌, ◌+◌, ◌-◌, ◌%◌, ◌<◌, ◌≤◌, ℕ, Bool, true, false, cond, leb, List, Option, Some, None, refl, sym, ap, subst, ◌∙◌, arith, inl}
+use Rattle.std.proofs.Common.{◌≡◌, ◌≢◌, ◌⊎◌, ◌==◌, ◌*◌, ◌/◌, ◌+◌, ◌-◌, ◌%◌, ◌<◌, ◌≤◌, ℕ, Bool, true, false, cond, leb, List, [], Option, Some, None, refl, sym, ap, subst, ◌∙◌, arith, inl}
 use Rattle.std.proofs.lemmas.Bool.{cond-true, cond-false, le-leb, lt-leb, false_from_ne_true}
 use Rattle.std.proofs.lemmas.Nat.{div-mul-add}
 use Rattle.size_classes.specs.Classes.{class_size, class_capacity}
 use Rattle.size_classes.proofs.Spacing.{class_size-least, class_size-most, class_size-rises}
 use Rattle.pmem_lines.specs.declared.event.Event.{Event}
-use Rattle.pmem_lines.specs.Events.{CrashOnly}
+use Rattle.pmem_lines.specs.Events.{IsQuiet, CrashOnly}
 use Rattle.pmem_lines.specs.Pmem.{PmemState, words_of, Appends}
 use Rattle.image_tables.specs.Tables.{Tables, tables_of}
 use Rattle.book_log.specs.Book.{Book}
@@ -19,20 +19,25 @@ use Rattle.heap_model.specs.Machine.{Bounds, Range, slab_block, with_key}
 use Rattle.heap_model.proofs.Slabbing.{LiesIn-block}
 use Rattle.heap_check.specs.Heap.{slab_of, entry_at, heap, slabs, IsClaim, Holds}
 use Rattle.heap_check.specs.Sound.{IsVacant, IsInSlab, IsSound}
+use Rattle.pmem_lines.proofs.Images.{by_none}
+use Rattle.pmem_lines.proofs.States.{appended_none, Appends-state}
+use Rattle.heap_check.proofs.Blank.{law_of_steady}
 use Rattle.heap_check.proofs.Claims.{IsNamed-claim, IsClaim-word}
 use Rattle.heap_check.proofs.Geometry.{Covers-slab, slab_of-here, plain_size-some}
 use Rattle.heap_check.proofs.Heaps.{heap-claim}
 use Rattle.heap_check.proofs.Within.{IsInSlab-held, one_claim}
 use Rattle.log_steps.proofs.Entries.{first_zero-is}
 use Rattle.attach_steps.specs.declared.block.SmallBlock.{SmallBlock}
-use Rattle.attach_steps.specs.Steps.{attach_events}
+use Rattle.attach_steps.specs.Steps.{attach_events, IsAttachable, IsAttached}
+use Rattle.heap_check.proofs.Loose.{IsExactBut-exact}
+use Rattle.arena_core.proofs.Smalls.{classes_small, index_small, book_small, keeps_small}
 use Rattle.heap_check.specs.Image.{bounds_of, IsExactImage}
 use Rattle.heap_check.specs.State.{KeepsBlocks, IsEitherHeap}
 use Rattle.arena_core.specs.Arena.{HasNormalSlabs, IsSlabsOf, IsKept, IsArena}
 use Rattle.arena_core.specs.Call.{IsStepOf}
 use Rattle.arena_core.specs.Carried.{IsDone, IsCalled}
 use Rattle.arena_core.specs.Effect.{GivesRoot, KeepsSlabs}
-use Rattle.arena_core.specs.Plan.{IsNamedSmall}
+use Rattle.arena_core.specs.Plan.{IsAskedOf, IsSmallPlacing, IsNamedSmall}
 use Rattle.arena_core.proofs.Arenas.{normal_kept, slabs_kept}
 use Rattle.arena_core.specs.Events.{is_small, class_for, start_at, in_slab, block_at, place_events, take_events, fresh_events, unsmall_events, placed_events, freed_events, call_events, turn_after}
 
@@ -224,3 +229,67 @@ IsDone-large {old} {new} {book} {next} {set} {free} {parts} {turn} {root} {block
   gives = gives;
   crash = crash;
 }
+
+-- a free block of a slab may come to a root
+pub small_attachable : (words : List ℕ) (root size : ℕ) (block : SmallBlock) (class : ℕ) → IsExactImage words → HasNormalSlabs words → IsAskedOf (bounds_of words) (tables_of words) root size →
+    IsSmallPlacing (tables_of words) size block class → IsAttachable words root block
+small_attachable words root size block class image normal asked placing =
+    let lowest = placing.lowest in
+    let same = sym lowest.class_is in
+    record {
+      block_in = record {
+        image = record { formed = image.formed; but = IsExactBut-exact image.exact block.start };
+        rooted = asked.below;
+        slab = lowest.slab;
+        normal = normal.each block.start lowest.slab;
+        below = subst (λ c. block.number < class_capacity c) same lowest.below;
+        at = placing.at ∙ ap (λ c. (slab_block block.start c block.number).at) same;
+      };
+      clear = lowest.clear;
+      none = asked.none;
+    }
+
+-- it came
+pub IsDone-small : {old new : PmemState} {turn : ℕ} {book : Book} {set : FreeSet} {parts left : SlabSet} {root class : ℕ} (block : SmallBlock) → IsArena old turn book set parts → IsAttachable (words_of old) root block →
+    (tables_of (words_of old)).class block.start ≡ class → Appends old new (attach_events (words_of old) turn root block) → IsQuiet new.events → IsAttached (words_of old) turn root block (words_of new) →
+    HasNormalSlabs (words_of new) → IsSlabsOf left (words_of new) → CrashOnly (words_of old) (attach_events (words_of old) turn root block) (IsEitherHeap (words_of old) (words_of new)) →
+    IsDone old new book set left root (Some (slab_block block.start class block.number)) (slabs (tables_of (words_of old))) (attach_events (words_of old) turn root block)
+IsDone-small {old} {new} {turn} {book} {set} {parts} {left} {root} {class} block arena may class_is appends quiet attached normal slabs crash =
+    let words = words_of old in
+    let after = words_of new in
+    record {
+      appends = appends;
+      kept = record {
+        ready = record { quiet = quiet; room = omega (arith, arena.kept.ready.room, appends.room) };
+        exact = attached.exact;
+        log = book_small words turn root block may.block_in arena.few after attached.rest attached.bounds book arena.kept.log;
+        index = index_small words root block.start block.number true block.at after attached.bounds attached.tables set arena.kept.index;
+      };
+      normal = normal;
+      slabs = slabs;
+      gives = record {
+        here = attached.gives.here ∙ ap (λ c. Some (slab_block block.start c block.number)) class_is;
+        others = attached.gives.others;
+        slabs = classes_small words root block.start block.number true block.at after attached.bounds attached.tables;
+        keeps = keeps_small words turn root block may.block_in arena.few after attached.rest after;
+        bounds = attached.bounds;
+      };
+      crash = crash;
+    }
+
+-- a call that is refused
+pub IsCalled-refused : {old : PmemState} {turn : ℕ} {book : Book} {set : FreeSet} {parts : SlabSet} {root : ℕ} (call : Call) (reply : Reply) → IsArena old turn book set parts →
+    call_events (words_of old) turn root reply ≡ [] → turn_after turn reply ≡ turn → IsStepOf (words_of old) (words_of old) call reply → IsCalled old old turn turn book set parts root call reply
+IsCalled-refused {old} {turn} {book} {set} {parts} {root} call reply arena none stays step =
+    let words = words_of old in
+    let exact = arena.kept.exact in
+    let keeps : KeepsBlocks words words words = record { each = λ r range k was is word. refl } in
+    record {
+      appends = subst (λ (es : List Event). Appends old old es) (sym none) (Appends-state old old [] (sym (appended_none old)));
+      arena = arena;
+      turn_is = sym stays;
+      step = step;
+      keeps = keeps;
+      crash = subst (λ (es : List Event). CrashOnly words es (IsEitherHeap words words)) (sym none)
+          (by_none words (IsEitherHeap words words) (record { steady = record { formed = exact.formed; steady = law_of_steady (bounds_of words) (tables_of words) exact.exact }; heap = inl (record { each = λ r. refl }); words = keeps }));
+    }

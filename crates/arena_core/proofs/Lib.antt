@@ -8,5 +8,4 @@ pub mod Formats
 pub mod States
 pub mod Machines
 pub mod Called
-pub mod Given
 pub mod Smalls

@@ -1,23 +1,35 @@
-use Rattle.std.proofs.Common.{◌≡◌, ◌+◌, ◌*◌, ◌%◌, ◌<◌, ◌≤◌, ℕ, List, Some, Ok, Err, Result, sym, ap, subst, ◌∙◌, arith}
-use Rattle.pmem_lines.specs.Pmem.{PmemState, words_of}
-use Rattle.pmem_lines.specs.declared.event.Event.{Event}
+use Rattle.std.proofs.Common.{◌≡◌, [], Err, Result, refl, sym, subst}
+use Rattle.pmem_lines.specs.Pmem.{words_of}
 use Rattle.image_tables.specs.Tables.{tables_of}
-use Rattle.book_log.specs.Book.{Book}
-use Rattle.extent_index.specs.FreeSet.{FreeSet}
 use Rattle.heap_model.specs.declared.call.Call.TheVariants as calls
-use Rattle.heap_model.specs.declared.call.Reply.TheVariants as replies
-use Rattle.heap_model.specs.Machine.{Range, slab_block}
-use Rattle.heap_check.specs.Heap.{slabs}
 use Rattle.heap_check.specs.Image.{bounds_of}
-use Rattle.heap_check.proofs.Sizes.{sizes_of}
-use Rattle.arena_core.specs.declared.plan.Place.{Place}
-use Rattle.arena_core.specs.declared.plan.Place.TheVariants as places
-use Rattle.arena_core.specs.Carried.{IsCalled}
-use Rattle.arena_core.specs.Plan.{IsMallocPlan, IsPlacing, range_at}
-use Rattle.arena_core.proofs.Called.{IsCalled-same, IsCalled-done, IsDone-large, placed_large, turn_placed, placed_there, placed_fresh, start_is, turn_small}
-use Rattle.arena_core.proofs.Machines.{placed_step, refused_malloc}
+use Rattle.arena_core.specs.declared.answer.MallocRefusal.{MallocRefusal}
+use Rattle.arena_core.specs.declared.answer.MallocRefusal.TheVariants as refusals
+use Rattle.arena_core.specs.Answer.{malloc_reply}
+use Rattle.arena_core.specs.Events.{call_events, turn_after}
+use Rattle.arena_core.specs.Plan.{IsMallocPlan}
+use Rattle.arena_core.proofs.Called.{IsCalled-refused}
+use Rattle.arena_core.proofs.Machines.{refused_malloc}
 use Rattle.arena_core.proofs.carrying.carry_out_malloc.Goals as goal
-use Rattle.arena_core.proofs.carrying.carry_out_malloc.Goals.{in-Large, in-Small, in-Fresh}
 
-pub returns : goal.returns
-returns g c size plan = elim c.match-place.branch [ in-Large w ↦ {! w !} | in-Small w ↦ {! w !} | in-Fresh w ↦ {! w !} ]
+pub returns-in-Ok : goal.returns-in-Ok
+returns-in-Ok g c size plan =
+    let words = words_of (g.P.Pmem.state c.args.device.now) in
+    c.carry_out_place.ensures size (subst (IsMallocPlan (bounds_of words) (tables_of words) c.args.root size) c.in-Ok.is plan)
+
+pub returns-in-Err : goal.returns-in-Err
+returns-in-Err g c size plan =
+    let words = words_of (g.P.Pmem.state c.args.device.now) in
+    let root = c.args.root in
+    let turn = c.args.turn.now in
+    let refused = subst (IsMallocPlan (bounds_of words) (tables_of words) root size) c.in-Err.is plan in
+    let stays : (refusal : MallocRefusal) → (call_events words turn root (malloc_reply (Err refusal)) ≡ []) × (turn_after turn (malloc_reply (Err refusal)) ≡ turn) =
+    λ refusal. elim refusal as (λ refusal. (call_events words turn root (malloc_reply (Err refusal)) ≡ []) × (turn_after turn (malloc_reply (Err refusal)) ≡ turn)) [
+      | refusals.NoRoot ↦ (refl, refl)
+      | refusals.Occupied at ↦ (refl, refl)
+      | refusals.ZeroSize ↦ (refl, refl)
+      | refusals.TooLarge ↦ (refl, refl)
+      | refusals.NoSpace ↦ (refl, refl)
+    ] in
+    IsCalled-refused (calls.Malloc root size) (malloc_reply (Err c.in-Err.refusal)) c.requires.arena (stays c.in-Err.refusal).0 (stays c.in-Err.refusal).1
+    (refused_malloc words root size c.in-Err.refusal c.requires.arena.kept.exact c.requires.arena.normal refused)
