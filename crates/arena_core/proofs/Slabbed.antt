@@ -1,13 +1,14 @@
 -- A slab comes or goes: what an arena keeps holds again.
-use Rattle.std.proofs.Common.{◌≡◌, ◌≢◌, ◌⊎◌, ◌↔◌, ◌==◌, ◌||◌, nat_lt, ℕ, zero, suc, ◌+◌, ◌<◌, ◌≤◌, Bool, true, false, true≢false, not, List, [], refl, sym, ap, subst, ◌∙◌, arith, inl, inr, ⊎_elim, Option, Some, None, if◌then◌else◌}
+use Rattle.std.proofs.Common.{◌≡◌, ◌≢◌, ◌⊎◌, ◌↔◌, ◌==◌, ◌||◌, nat_lt, ℕ, zero, suc, ◌+◌, ◌*◌, ◌<◌, ◌≤◌, Bool, true, false, true≢false, not, List, [], refl, sym, ap, subst, ◌∙◌, arith, inl, inr, ⊎_elim, Option, Some, None, if◌then◌else◌}
 use Rattle.std.proofs.lemmas.Bool.{cases_eq, cases_lt, eq-eqb, ne_eqb, lt-ltb, cond-true, cond-false, or_parts, or_cases, or_from, false_from_ne_true, true_from_ne_false}
+use Rattle.std.proofs.lemmas.Nat.{le-div}
 use Rattle.pmem_lines.specs.declared.event.Event.{Event}
 use Rattle.pmem_lines.specs.Events.{CrashOnly}
 use Rattle.pmem_lines.specs.Pmem.{PmemState, words_of, Appends}
 use Rattle.pmem_lines.proofs.Images.{by_none}
 use Rattle.pmem_lines.proofs.States.{appended_none, Appends-state}
-use Rattle.size_classes.specs.Classes.{class_capacity}
-use Rattle.pool_layout.specs.Places.{granule_word}
+use Rattle.size_classes.specs.Classes.{class_size, class_capacity}
+use Rattle.size_classes.proofs.Spacing.{class_size-least, class_size-most}
 use Rattle.image_tables.specs.Tables.{Tables, tables_of}
 use Rattle.extent_index.specs.FreeSet.{FreeSet, IsFree, IsHeldRow}
 use Rattle.slab_index.specs.SlabSet.{SlabSet, class_in, is_available, IsBlock, IsWhole}
@@ -31,6 +32,8 @@ use Rattle.heap_check.proofs.Within.{IsInSlab-held}
 use Rattle.log_steps.specs.Log.{IsBookOf}
 use Rattle.slab_steps.specs.Steps.{drop_events, IsOpened, IsDropped}
 use Rattle.slab_steps.proofs.Images.{keeps_blocks}
+use Rattle.attach_steps.specs.declared.block.SmallBlock.{SmallBlock}
+use Rattle.attach_steps.specs.Steps.{IsAttachable}
 use Rattle.arena_core.specs.Arena.{HasNormalSlabs, IsIndexOf, IsSlabsOf}
 use Rattle.arena_core.specs.Call.{IsReady}
 use Rattle.arena_core.specs.Carried.{IsTidied}
@@ -138,6 +141,23 @@ module _ (words : List ℕ) (start class : ℕ) (exact : IsExactImage words) (ro
   keeps_opened other = keeps_blocks words start other new exact.formed exact.exact.sound exact.exact.closed
       (λ root range k named word. ⊎_elim (λ x. inl x) (λ x. inr (omega (arith, x))) (block_word-vacant exact.exact.sound exact.exact.closed root range named k word start (row.vacant start (omega arith) (omega arith))))
       opened.rest
+
+  -- its first block may come to a root
+  pub first_attachable : (root at : ℕ) → root < (bounds_of words).roots → t.root root ≡ 0 → at ≡ 16384 * start + 2048 → IsAttachable new root (record { start = start; number = 0; at = at })
+  first_attachable root at rooted none is =
+      let some : 0 < class_capacity class = le-div 1 63488 (class_size class) (omega (arith, class_size-least class class_below)) (omega (arith, class_size-most class class_below)) in
+      record {
+        block_in = record {
+          image = opened.image;
+          rooted = subst (λ (b : Bounds). root < b.roots) (sym opened.bounds) rooted;
+          slab = with_it.slab;
+          normal = with_it.kind;
+          below = subst (λ c. 0 < class_capacity c) (sym with_it.class_is) some;
+          at = omega (arith, is);
+        };
+        clear = with_it.clear 0 some;
+        none = ap (λ (row : ℕ → ℕ). row root) with_it.root ∙ none;
+      }
 
 -- a slab is dropped
 module _ (words : List ℕ) (start class : ℕ) (image : IsExactButImage words start) (new : List ℕ) (dropped : IsDropped words start class new) where
