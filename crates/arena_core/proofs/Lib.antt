@@ -9,3 +9,4 @@ pub mod States
 pub mod Machines
 pub mod Called
 pub mod Smalls
+pub mod Slabbed

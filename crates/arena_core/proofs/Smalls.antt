@@ -1,12 +1,13 @@
 -- A small block and its root come or go: what an arena keeps holds again.
-use Rattle.std.proofs.Common.{◌≡◌, ◌≢◌, ◌⊎◌, ◌↔◌, ◌==◌, ◌&&◌, ℕ, ◌<◌, ◌≤◌, Bool, true, not, cond, List, refl, sym, ap, subst, ◌∙◌, arith, inl, inr, ⊎_elim, None, if◌then◌else◌}
-use Rattle.std.specs.List.{All}
+use Rattle.std.proofs.Common.{◌≡◌, ◌≢◌, ◌⊎◌, ◌↔◌, ◌==◌, ◌&&◌, ℕ, ◌<◌, ◌≤◌, Bool, not, List, ◌++◌, sym, ap, subst, ◌∙◌, arith, inl, inr, ⊎_elim, Some, None, if◌then◌else◌}
 use Rattle.std.proofs.lemmas.Bool.{cases_eq, eq-eqb, ne_eqb, cond-true, cond-false, and_from, and_left, and_right}
 use Rattle.std.proofs.lemmas.List.Elements.{All-weaker}
 use Rattle.pmem_lines.specs.Words.{word_at}
-use Rattle.pool_layout.specs.Layout.{layout_of}
+use Rattle.pmem_lines.specs.declared.event.Event.{Event}
+use Rattle.pmem_lines.specs.Events.{reading, IsQuiet, CrashOnly}
+use Rattle.pmem_lines.proofs.Images.{then as crash_append, weaker}
 use Rattle.pool_layout.specs.Places.{fields_word, directory_word, entry_word}
-use Rattle.pool_layout.specs.Header.{version_in, granules_in}
+use Rattle.pool_layout.specs.Header.{version_in}
 use Rattle.size_classes.specs.Classes.{class_capacity}
 use Rattle.image_tables.specs.Log.{active_chunks}
 use Rattle.image_tables.specs.Tables.{Tables, tables_of}
@@ -20,13 +21,13 @@ use Rattle.book_log.specs.Book.{Book}
 use Rattle.book_log.proofs.Books.{Reads-same}
 use Rattle.extent_index.specs.FreeSet.{FreeSet, IsFree}
 use Rattle.slab_index.specs.SlabSet.{SlabSet, class_in, is_available}
-use Rattle.heap_model.specs.Machine.{Bounds}
-use Rattle.heap_check.specs.Heap.{slabs}
+use Rattle.heap_model.specs.Machine.{Bounds, Range, slab_block}
+use Rattle.heap_check.specs.Heap.{heap, slabs}
 use Rattle.heap_check.specs.Sound.{IsVacant}
-use Rattle.heap_check.specs.Image.{bounds_of}
-use Rattle.heap_check.specs.State.{KeepsBlocks}
+use Rattle.heap_check.specs.Image.{bounds_of, IsExactImage}
+use Rattle.heap_check.specs.State.{HaveSameHeap, KeepsBlocks, IsEitherHeap}
 use Rattle.heap_check.proofs.BlockWords.{block_word-heap, block_word-header}
-use Rattle.heap_check.proofs.Forms.{AreSlabsInHeap-sound}
+use Rattle.heap_check.proofs.Loose.{IsExactBut-exact}
 use Rattle.heap_check.proofs.Sizes.{sizes_of}
 use Rattle.heap_check.proofs.SmallHeaps.{IsVacant-small}
 use Rattle.log_steps.specs.Log.{IsBookOf}
@@ -34,6 +35,7 @@ use Rattle.attach_steps.specs.declared.block.SmallBlock.{SmallBlock}
 use Rattle.attach_steps.specs.Steps.{KeepsOthers, IsBlockIn}
 use Rattle.attach_steps.proofs.Stages.{start_low, number_low, root_low}
 use Rattle.arena_core.specs.Arena.{HasNormalSlabs, IsIndexOf, IsSlabsOf}
+use Rattle.arena_core.specs.Plan.{IsNamedSmall}
 
 -- the set is another with one block taken or given
 pub record IsTurned (set new : SlabSet) (start number : ℕ) (on : Bool) : Type 0 where
@@ -138,3 +140,53 @@ module _ (words : List ℕ) (line root : ℕ) (block : SmallBlock) (block_in : I
         (λ e. omega (arith, e, off, number_low words line root block block_in line_below))
         (λ e. omega (arith, e, high, sizes.first, root_low words line root block block_in line_below));
   }
+
+-- a block that a root names
+pub named_in : (words : List ℕ) (root : ℕ) (block : SmallBlock) (class : ℕ) → IsExactImage words → HasNormalSlabs words → IsNamedSmall (bounds_of words) (tables_of words) root block class → IsBlockIn words root block
+named_in words root block class exact normal named = record {
+  image = record { formed = exact.formed; but = IsExactBut-exact exact.exact block.start };
+  rooted = named.rooted;
+  slab = named.slab;
+  normal = normal.each block.start named.slab;
+  below = subst (λ c. block.number < class_capacity c) (sym named.class_is) named.below;
+  at = named.at ∙ ap (λ c. (slab_block block.start c block.number).at) (sym named.class_is);
+}
+
+-- two steps, of which one leaves the heap
+module _ (old mid new : List ℕ) (which : HaveSameHeap old mid ⊎ HaveSameHeap mid new) where
+  -- what old and new heap have, the one between has
+  between : (root : ℕ) (range : Range) → heap (tables_of old) root ≡ Some range → heap (tables_of new) root ≡ Some range → heap (tables_of mid) root ≡ Some range
+  between root range was is = ⊎_elim (λ (same : HaveSameHeap old mid). same.each root ∙ was) (λ (same : HaveSameHeap mid new). sym (same.each root) ∙ is) which
+
+  pub keeps_then : (image : List ℕ) → KeepsBlocks old mid mid → KeepsBlocks mid new image → KeepsBlocks old new image
+  keeps_then image first second = record {
+    each = λ root range k was is word. let there = between root range was is in second.each root range k there is word ∙ first.each root range k was there word;
+  }
+
+  -- the heap from between is the one from before or from after
+  ends : (image : List ℕ) → HaveSameHeap mid image → HaveSameHeap old image ⊎ HaveSameHeap new image
+  ends image there = ⊎_elim
+      (λ (same : HaveSameHeap old mid). inl (record { each = λ root. there.each root ∙ same.each root }))
+      (λ (same : HaveSameHeap mid new). inr (record { each = λ root. there.each root ∙ sym (same.each root) }))
+      which
+
+  either_first : (image : List ℕ) → IsEitherHeap old mid image → IsEitherHeap old new image
+  either_first image left = record {
+    steady = left.steady;
+    heap = ⊎_elim (λ (before : HaveSameHeap old image). inl before) (λ (there : HaveSameHeap mid image). ends image there) left.heap;
+    words = record { each = λ root range k was is word. left.words.each root range k was (between root range was is) word };
+  }
+
+  either_second : KeepsBlocks old mid mid → (image : List ℕ) → IsEitherHeap mid new image → IsEitherHeap old new image
+  either_second keeps image left = record {
+    steady = left.steady;
+    heap = ⊎_elim (λ (there : HaveSameHeap mid image). ends image there) (λ (after : HaveSameHeap new image). inr after) left.heap;
+    words = keeps_then image keeps left.words;
+  }
+
+  pub crash_then : (e f : List Event) → IsQuiet e → mid ≡ reading old e → KeepsBlocks old mid mid → CrashOnly old e (IsEitherHeap old mid) → CrashOnly mid f (IsEitherHeap mid new) → CrashOnly old (e ++ f) (IsEitherHeap old new)
+  crash_then e f quiet is keeps first second =
+      let P : List ℕ → Type 0 = IsEitherHeap old new in
+      crash_append old e f P quiet
+      (weaker old e (IsEitherHeap old mid) P either_first first)
+      (subst (λ (ws : List ℕ). CrashOnly ws f P) is (weaker mid f (IsEitherHeap mid new) P (either_second keeps) second))

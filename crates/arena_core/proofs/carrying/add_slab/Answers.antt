@@ -1,36 +1,24 @@
-use Rattle.std.proofs.Common.{rules, ◌≡◌, ◌<◌, ◌≤◌, ◌*◌, ℕ, true, [], Some, None, length, ◌+◌, ◌-◌, ◌/◌, ◌%◌, Bool, false, nat_eq, nat_lt, List, ◌∷◌, ◌++◌, slice_index_or, slice_set, bit_and, bit_or, Fits, w8, w32, w64, Bor, MutBor}
-use Rattle.pmem_lines.specs.Events.{reading, IsQuiet, CrashOnly}
-use Rattle.pmem_lines.specs.Pmem.{words_of, Appends}
-use Rattle.image_tables.specs.Tables.{tables_of}
-use Rattle.heap_model.specs.declared.call.Call.TheVariants as calls
-use Rattle.heap_model.specs.Machine.{with_key, slab_block}
-use Rattle.heap_check.specs.Heap.{slabs as classes_of}
-use Rattle.heap_check.specs.Image.{bounds_of, IsExactButImage}
-use Rattle.heap_check.specs.State.{IsEitherHeap}
-use Rattle.log_steps.specs.Log.{IsBookOf}
-use Rattle.slab_steps.specs.Steps.{open_events, IsOpened}
-use Rattle.attach_steps.specs.Steps.{attach_events, detach_events, IsAttachable, IsDetachable, IsAttached, IsDetached}
-use Rattle.arena_core.specs.Answer.{malloc_reply, free_reply}
-use Rattle.arena_core.specs.Arena.{HasNormalSlabs, IsIndexOf, IsSlabsOf, IsKept, IsArena}
-use Rattle.arena_core.specs.Call.{IsReady}
-use Rattle.arena_core.specs.Carried.{IsDone, IsTidied, IsCalled}
-use Rattle.arena_core.specs.Effect.{GivesRoot, KeepsSlabs, slabs_but}
-use Rattle.arena_core.specs.Events.{place_events, take_events, fresh_events, unsmall_events, holds_none}
-use Rattle.arena_core.specs.Plan.{IsAskedOf, IsVacantRow, IsGivable, IsTakable, IsNamedSmall, IsMallocPlan, IsFreePlan}
+use Rattle.std.proofs.Common.{◌≡◌, ℕ}
+use Rattle.pmem_lines.specs.Pmem.{words_of}
+use Rattle.arena_core.proofs.Slabbed.{normal_opened, index_opened, slabs_opened}
 use Rattle.arena_core.proofs.carrying.add_slab.Goals as goal
 
--- src/carrying.rt:186:5
 pub take-requires : goal.take-requires
-take-requires g c = ?
+take-requires g c = record { each = λ k low high. (c.requires.kept.index.each k).1 (c.requires.row.vacant k low high) }
 
--- src/carrying.rt:161:1
 pub returns-clause-index : goal.returns-clause-index
-returns-clause-index g c = ?
+returns-clause-index g c =
+    let state = g.P.Pmem.state in
+    index_opened (words_of (state c.args.device.now)) c.args.start c.args.class c.requires.kept.exact c.requires.row c.requires.class (words_of (state c.open_slab.new.p)) c.open_slab.ensures.opened
+    c.args.free.now c.take.new.self c.take.ensures.granules c.take.ensures.free c.requires.kept.index
 
--- src/carrying.rt:161:1
 pub returns-clause-normal : goal.returns-clause-normal
-returns-clause-normal g c = ?
+returns-clause-normal g c =
+    let state = g.P.Pmem.state in
+    normal_opened (words_of (state c.args.device.now)) c.args.start c.args.class c.requires.kept.exact c.requires.row c.requires.class (words_of (state c.open_slab.new.p)) c.open_slab.ensures.opened c.requires.normal
 
--- src/carrying.rt:161:1
 pub returns-clause-slabs : goal.returns-clause-slabs
-returns-clause-slabs g c = ?
+returns-clause-slabs g c =
+    let state = g.P.Pmem.state in
+    slabs_opened (words_of (state c.args.device.now)) c.args.start c.args.class c.requires.kept.exact c.requires.row c.requires.class (words_of (state c.open_slab.new.p)) c.open_slab.ensures.opened
+    c.args.slabs.now c.add.new.self (record { granules = c.add.ensures.granules; classes = c.add.ensures.classes; blocks = c.add.ensures.blocks }) c.requires.slabs
