@@ -8,3 +8,4 @@ pub mod Formats
 pub mod States
 pub mod Machines
 pub mod Given
+pub mod Plans
