@@ -1,28 +1,28 @@
 -- What the reads before a call say of the tables of an exact image: the slabs of the set, the best fits of the vacant
 -- granules, and what a root names.
-use Rattle.std.proofs.Common.{◌≡◌, ◌≢◌, ℕ, ◌+◌, ◌-◌, ◌*◌, ◌/◌, ◌<◌, ◌≤◌, Bool, true, false, not, true≢false, refl, sym, ap, subst, ◌∙◌, arith, ⊎_elim, length, List, Option, Some, None}
+use Rattle.std.proofs.Common.{◌≡◌, ◌≢◌, ℕ, ◌+◌, ◌-◌, ◌*◌, ◌/◌, ◌<◌, ◌≤◌, Bool, true, false, not, refl, sym, ap, subst, ◌∙◌, arith, ⊎_elim, List, Option, Some, None, MatchOption}
 use Rattle.std.proofs.Math.Nat.{mul-div_cancel}
 use Rattle.std.proofs.lemmas.List.{get_or_past}
 use Rattle.std.proofs.lemmas.Bool.{cases_eq, cases_lt, cases_Bool, cond-true, cond-false}
 use Rattle.size_classes.specs.Classes.{sizes, class_size, class_capacity, IsClassOf, granules_of}
 use Rattle.size_classes.proofs.Spacing.{class_size-least}
 use Rattle.image_tables.specs.Tables.{Tables, tables_of}
-use Rattle.heap_model.specs.Machine.{Bounds, Range, slab_block}
+use Rattle.heap_model.specs.Machine.{Bounds, Range}
 use Rattle.heap_model.specs.Runs.{IsBestFit, HasNoFit}
 use Rattle.slab_index.specs.declared.block.SlabBlock.{SlabBlock}
 use Rattle.slab_index.specs.SlabSet.{SlabSet, class_in, is_available, HasNoBlock, IsLowest}
 use Rattle.extent_index.specs.FreeSet.{FreeSet, IsFree}
 use Rattle.heap_check.specs.Heap.{is_large, entry_at, slabs, HoldsBit}
-use Rattle.heap_check.specs.Sound.{granules_at, IsVacant, IsInSlab, IsHeld, IsSound, IsExact}
+use Rattle.heap_check.specs.Sound.{granules_at, IsVacant, IsInSlab, IsHeld, IsExact}
 use Rattle.heap_check.specs.Image.{bounds_of, IsExactImage}
 use Rattle.heap_check.proofs.Sizes.{sizes_of}
 use Rattle.heap_check.proofs.Claims.{plain_size, IsClaim-word}
-use Rattle.heap_check.proofs.Geometry.{granules_at-live, is_large-parts}
+use Rattle.heap_check.proofs.Geometry.{granules_at-slab, granules_at-live, is_large-parts}
 use Rattle.heap_check.proofs.Within.{IsInSlab-held, IsWithin-claim}
 use Rattle.heap_check.proofs.SmallPlaces.{IsNormal, Holds-claim, Holds-normal}
-use Rattle.attach_steps.specs.declared.block.SmallBlock.{SmallBlock}
+use Rattle.arena_core.specs.declared.plan.Place.{Place}
 use Rattle.arena_core.specs.Arena.{HasNormalSlabs, IsIndexOf, IsSlabsOf}
-use Rattle.arena_core.specs.Plan.{IsInSlabOf, IsInNoSlabOf, IsAskedOf, IsVacantRow, IsGivable, IsLowestClear, HasNoClear, IsLargePlacing, IsTakable, IsNamedSmall}
+use Rattle.arena_core.specs.Plan.{IsInSlabOf, IsInNoSlabOf, IsAskedOf, IsVacantRow, IsLowestClear, HasNoClear, IsLargePlacing, IsPlacing, IsSmallPlan, IsLargePlan, HasNoSmall, HasNoLarge, IsTakable, IsNamedSmall}
 use Rattle.arena_core.proofs.Blocks.{large_many}
 use Rattle.arena_core.proofs.Fits.{IsBestFit-same, HasNoFit-same, fit_free}
 
@@ -119,6 +119,19 @@ module _ {set : FreeSet} {words : List ℕ} (index : IsIndexOf set words) where
         givable = record { below = asked.below; none = asked.none; many = many; row = IsVacantRow-fit (bounds_of words) (tables_of words) count start (omega (arith, many)) vacant };
       }
 
+-- places
+
+-- what is found for a class is found for a request of that class
+pub small_found : (b : Bounds) (t : Tables) (root size class : ℕ) (found : Option Place) → IsClassOf size class → IsSmallPlan b t class found → MatchOption found (HasNoSmall b t size) (IsPlacing b t root size)
+small_found b t root size class None least plan = record { class = class; least = least; full = plan.is.0; no_run = plan.is.1 }
+small_found b t root size class (Some place) least plan = plan.is root size least
+
+-- and what is found for so many granules for a request of as many
+pub large_found : (b : Bounds) (t : Tables) (root size count : ℕ) (found : Option Place) → IsAskedOf b t root size → 16384 < size → count ≡ granules_of size → IsLargePlan b t count found →
+    MatchOption found (HasNoLarge b t size) (IsPlacing b t root size)
+large_found b t root size count None asked large is plan = record { large = large; no_run = subst (HasNoFit (IsVacant b t)) is plan.is }
+large_found b t root size count (Some place) asked large is plan = plan.is root size asked large is
+
 -- what a root names
 
 module _ {words : List ℕ} (image : IsExactImage words) where
@@ -182,6 +195,13 @@ module _ {words : List ℕ} (image : IsExactImage words) where
       IsInSlabOf (class_in set) (at / 16384) start class → IsBlockAt root start class
   block_found normal {set} parts root at start class is some inside =
       block_at_root normal parts root start class (λ none. some (is ∙ none)) (subst (λ k. IsInSlabOf (class_in set) (k / 16384) start class) is inside)
+
+  -- a slab begins below the largest arena's end
+  pub slab_few : {set : SlabSet} → IsSlabsOf set words → (start class : ℕ) → class_in set start ≡ Some class → start < 1024
+  slab_few parts start class is =
+      let four = granules_at-slab t start (slab_of_set parts start class is).0 in
+      let lies = image.exact.sound.starts start (omega (arith, four)) in
+      omega (arith, four, lies.1, (sizes_of words image.formed).most)
 
   -- so the root names it
   pub IsNamedSmall-block : (root at start class base size : ℕ) → root < (bounds_of words).roots → at ≡ (tables_of words).root root → base ≡ 16384 * start + 2048 → size ≡ class_size class → IsBlockAt root start class →

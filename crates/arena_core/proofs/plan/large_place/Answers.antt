@@ -1,4 +1,3 @@
-use Rattle.std.proofs.Common.{ℕ, List}
 use Rattle.arena_core.proofs.Plans.{no_fit_of, IsLargePlacing-fit}
 use Rattle.arena_core.proofs.plan.large_place.Goals as goal
 

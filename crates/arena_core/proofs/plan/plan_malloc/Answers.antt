@@ -1,23 +1,61 @@
-use Rattle.std.proofs.Common.{rules, ◌≡◌, ◌<◌, ◌≤◌, ◌+◌, ◌^◌, ℕ, List, MatchOption, None, Some, ◌-◌, ◌*◌, length, ◌/◌, ◌%◌, Bool, true, false, nat_eq, nat_lt, [], ◌∷◌, ◌++◌, slice_index_or, slice_set, bit_and, bit_or, Fits, w8, w32, w64, Bor, MutBor}
+use Rattle.std.proofs.Common.{◌≡◌, ◌≢◌, ◌<◌, ◌≤◌, ◌-◌, ◌*◌, ℕ, List, refl, sym, ap, ◌∙◌, subst, arith, inl, inr, ⊎_elim, MatchOption}
 use Rattle.pmem_lines.specs.Pmem.{words_of}
+use Rattle.pool_layout.specs.declared.layout.Layout.{Layout}
 use Rattle.pool_layout.specs.Layout.{layout_of}
-use Rattle.pool_layout.specs.Header.{version_in}
-use Rattle.size_classes.specs.Classes.{class_capacity, IsClassOf, granules_of}
-use Rattle.image_tables.specs.Tables.{Tables, tables_of}
-use Rattle.heap_model.specs.Machine.{Bounds, slab_block}
-use Rattle.heap_model.specs.Runs.{IsBestFit, HasNoFit}
-use Rattle.heap_check.specs.Sound.{IsVacant}
-use Rattle.heap_check.specs.Image.{bounds_of, IsFormed, IsExactImage}
-use Rattle.slab_index.specs.SlabSet.{class_in}
-use Rattle.log_steps.specs.Log.{IsBookOf}
-use Rattle.arena_core.specs.Arena.{HasNormalSlabs, IsIndexOf, IsSlabsOf}
-use Rattle.arena_core.specs.Plan.{IsMallocPlan, IsFreePlan, IsHeldBy, IsSmallPlan, IsLargePlan, IsInSlabOf, IsInNoSlabOf, range_at, range_held}
+use Rattle.pool_layout.specs.Header.{version_in, granules_in}
+use Rattle.image_tables.specs.Tables.{tables_of}
+use Rattle.heap_check.specs.Image.{bounds_of}
+use Rattle.arena_core.specs.Plan.{IsAskedOf, IsPlacing, HasNoSmall, HasNoLarge}
+use Rattle.heap_check.proofs.Sizes.{sizes_of}
+use Rattle.arena_core.proofs.Plans.{small_found, large_found}
 use Rattle.arena_core.proofs.plan.plan_malloc.Goals as goal
+use Rattle.arena_core.proofs.plan.plan_malloc.Goals.{in-Some, in-None}
 
--- src/plan.rt:80:16
 pub overflow_sub-heap : goal.overflow_sub-heap
-overflow_sub-heap g c = ?
+overflow_sub-heap g c =
+    let words = words_of (g.P.Pmem.state c.args.device.now) in
+    let sizes = sizes_of words c.requires.exact.formed in
+    let first = ap (λ (layout : Layout). layout.first_granule) c.layout_in-layout.ensures in
+    omega (arith, sizes.first, sizes.least, first, c.granules_in.ensures)
 
--- src/plan.rt:56:1
+-- a request passes the tests on what was read of the arena
+asked_of : (words : List ℕ) (root size held granules bytes : ℕ) (layout : Layout) → layout ≡ layout_of (version_in words) → granules ≡ granules_in words → held ≡ (tables_of words).root root →
+    bytes ≡ (granules - layout.first_granule) * 16384 → root < layout.roots → held ≡ 0 → size ≢ 0 → size ≤ bytes → IsAskedOf (bounds_of words) (tables_of words) root size
+asked_of words root size held granules bytes layout row all word heap below none some most =
+    let roots = ap (λ (layout : Layout). layout.roots) row in
+    let first = ap (λ (layout : Layout). layout.first_granule) row in
+    record { below = omega (arith, below, roots); none = sym word ∙ none; some = some; most = omega (arith, most, heap, all, first) }
+
 pub returns-in-Some-place : goal.returns-in-Some-place
-returns-in-Some-place g c = ?
+returns-in-Some-place g c =
+    let words = words_of (g.P.Pmem.state c.args.device.now) in
+    let b = bounds_of words in
+    let t = tables_of words in
+    let asked = asked_of words c.args.root c.args.size c.root_word-held.result c.granules_in.result c.from.result c.layout_in-layout.result
+    c.layout_in-layout.ensures c.granules_in.ensures c.root_word-held.ensures c.from.ensures c.if-root-layout.false c.if-held-ne0.false c.if-size-eq0.false c.if-size-from.false in
+    (asked, elim c.match-class_of.branch [
+      | in-Some w ↦
+          subst (λ o. MatchOption o (HasNoSmall b t c.args.size) (IsPlacing b t c.args.root c.args.size)) (sym w.place-is ∙ c.in-Some-place.is)
+          (small_found b t c.args.root c.args.size w.in-Some.class w.small_place-place.result w.in-Some.ensures.class (w.small_place-place.ensures words c.requires.exact c.requires.normal c.requires.index c.requires.slabs))
+      | in-None w ↦
+          let large : 16384 < c.args.size = ⊎_elim (λ zero. absurd (c.if-size-eq0.false zero)) (λ large. large) (w.in-None.ensures.none.0 refl) in
+          subst (λ o. MatchOption o (HasNoLarge b t c.args.size) (IsPlacing b t c.args.root c.args.size)) (sym w.place-is ∙ c.in-Some-place.is)
+          (large_found b t c.args.root c.args.size w.granules.result w.large_place-place.result asked large w.granules.ensures (w.large_place-place.ensures words c.requires.exact c.requires.index))
+    ])
+
+pub returns-in-None-place : goal.returns-in-None-place
+returns-in-None-place g c =
+    let words = words_of (g.P.Pmem.state c.args.device.now) in
+    let b = bounds_of words in
+    let t = tables_of words in
+    let asked = asked_of words c.args.root c.args.size c.root_word-held.result c.granules_in.result c.from.result c.layout_in-layout.result
+    c.layout_in-layout.ensures c.granules_in.ensures c.root_word-held.ensures c.from.ensures c.if-root-layout.false c.if-held-ne0.false c.if-size-eq0.false c.if-size-from.false in
+    (asked, elim c.match-class_of.branch [
+      | in-Some w ↦
+          inl (subst (λ o. MatchOption o (HasNoSmall b t c.args.size) (IsPlacing b t c.args.root c.args.size)) (sym w.place-is ∙ c.in-None-place.is)
+          (small_found b t c.args.root c.args.size w.in-Some.class w.small_place-place.result w.in-Some.ensures.class (w.small_place-place.ensures words c.requires.exact c.requires.normal c.requires.index c.requires.slabs)))
+      | in-None w ↦
+          let large : 16384 < c.args.size = ⊎_elim (λ zero. absurd (c.if-size-eq0.false zero)) (λ large. large) (w.in-None.ensures.none.0 refl) in
+          inr (subst (λ o. MatchOption o (HasNoLarge b t c.args.size) (IsPlacing b t c.args.root c.args.size)) (sym w.place-is ∙ c.in-None-place.is)
+          (large_found b t c.args.root c.args.size w.granules.result w.large_place-place.result asked large w.granules.ensures (w.large_place-place.ensures words c.requires.exact c.requires.index)))
+    ])

@@ -5,12 +5,6 @@ use Rattle.heap_check.specs.Image.{bounds_of}
 use Rattle.image_tables.specs.Tables.{tables_of}
 use Rattle.arena_core.proofs.plan.small_place.Goals as goal
 
-pub granule_at-requires : goal.granule_at-requires
-granule_at-requires c = let x : c.args.class ≡ 77 = c.well_formed in let y : c.args.class ≡ 77 = c.lowest.type_inv in let z : c.args.class ≡ 77 = c.lowest.auto in ?
-
-pub overflow_add-at : goal.overflow_add-at
-overflow_add-at c = ?
-
 pub returns-in-Some : goal.returns-in-Some
 returns-in-Some c words image normal index slabs =
     let product : c.in-Some.block.number * c.size_of_class.result ≡ c.in-Some.block.number * class_size c.args.class = ap (λ n. c.in-Some.block.number * n) c.size_of_class.ensures.size in
