@@ -10,3 +10,4 @@ pub mod Machines
 pub mod Called
 pub mod Smalls
 pub mod Slabbed
+pub mod Plans
