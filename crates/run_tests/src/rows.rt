@@ -150,6 +150,21 @@ heap 2
 2 133120 64
 ----
 pool 1 16
+0 0 m 5 100
+0 0 m 6 100
+0 0 m 7 20000
+0 0 f 5
+$0 replay
+arena 0 calls 4
+0 m 5 100 placed 67584 112
+0 m 6 100 placed 67696 112
+0 m 7 20000 placed 131072 32768
+0 f 5 freed 67584 112
+heap 2
+6 67696 112
+7 131072 32768
+----
+pool 1 16
 0 0 m 0 16385
 $0 replay
 arena 0 calls 1
@@ -250,6 +265,42 @@ heap 1
 2 65536 32768
 $2 crash 0 110 0
 no event 110 of 109
+----
+pool 1 16
+0 0 m 5 100
+0 0 f 5
+$0 crash 0 81 0
+call 1 before
+heap 0
+$0 crash 0 84 0
+call 1 after
+heap 1
+5 67584 112
+$0 crash 0 84 2
+call 1 before
+heap 0
+$0 crash 0 86 2
+call 1 after
+heap 1
+5 67584 112
+$0 crash 0 89 2
+call 1 after
+heap 1
+5 67584 112
+$0 crash 0 92 2
+call 2 before
+heap 1
+5 67584 112
+$0 crash 0 97 2
+call 2 after
+heap 0
+$0 crash 0 103 2
+call 2 after
+heap 0
+$2 crash 0 104 0
+no event 104 of 103
+$2 crash 1 0 0
+no arena 1 of 1
 ----
 pool 1 16
 0 0 m 5 20000
