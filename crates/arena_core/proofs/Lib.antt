@@ -11,3 +11,4 @@ pub mod Called
 pub mod Smalls
 pub mod Slabbed
 pub mod Plans
+pub mod Last

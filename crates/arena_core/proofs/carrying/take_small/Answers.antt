@@ -7,7 +7,8 @@ use Rattle.image_tables.specs.Tables.{tables_of}
 use Rattle.heap_check.specs.State.{IsEitherHeap}
 use Rattle.log_steps.proofs.Entries.{quiet_step}
 use Rattle.attach_steps.specs.Steps.{detach_events}
-use Rattle.arena_core.specs.Effect.{slabs_but}
+use Rattle.arena_core.specs.Effect.{slabs_but, IsLastOf}
+use Rattle.arena_core.proofs.Last.{last_of}
 use Rattle.arena_core.specs.Events.{holds_none, empty_events, unsmall_events}
 use Rattle.arena_core.proofs.Smalls.{classes_small, index_small, book_small, keeps_small, named_in, keeps_then, crash_then}
 use Rattle.arena_core.proofs.carrying.take_small.Goals as goal
@@ -28,8 +29,8 @@ drop_if_empty-requires-clause-index g c =
     let block = c.args.block in
     index_small (words_of (state c.args.device.now)) c.args.root block.start block.number false 0 (words_of (state c.take_block.new.device)) detached.bounds detached.tables c.args.free.now c.requires.arena.kept.index
 
-pub returns : goal.returns
-returns g c =
+pub returns-clause-done : goal.returns-clause-done
+returns-clause-done g c =
     let state = g.P.Pmem.state in
     let words = words_of (state c.args.device.now) in
     let mid = words_of (state c.take_block.new.device) in
@@ -62,3 +63,10 @@ returns g c =
       crash = subst (λ (es : List Event). CrashOnly words es (IsEitherHeap words new)) events
           (crash_then words mid new (inr tidied.heap) (detach_events words c.args.line root block) (empty_events mid start) (quiet_step take.appends take.quiet) mid_is kept_words take.crash tidied.crash);
     }
+
+pub returns-clause-last : goal.returns-clause-last
+returns-clause-last g c =
+    let words = words_of (g.P.Pmem.state c.args.device.now) in
+    let start = c.args.block.start in
+    subst (λ (ws : List ℕ). IsLastOf (tables_of words) c.args.root start (holds_none (tables_of ws) start)) c.take_block.ensures.appends.words
+    (last_of words c.args.line c.args.root c.args.block c.args.class c.requires.arena.kept.exact c.requires.arena.normal c.requires.named (words_of (g.P.Pmem.state c.take_block.new.device)) c.take_block.ensures.detached)
