@@ -1,5 +1,5 @@
 -- A small block and its root come or go: what an arena keeps holds again.
-use Rattle.std.proofs.Common.{◌≡◌, ◌≢◌, ◌⊎◌, ◌↔◌, ◌==◌, ◌&&◌, ℕ, ◌<◌, ◌≤◌, Bool, not, List, ◌++◌, sym, ap, subst, ◌∙◌, arith, inl, inr, ⊎_elim, Some, None, if◌then◌else◌}
+use Rattle.std.proofs.Common.{◌≡◌, ◌≢◌, ◌⊎◌, ◌↔◌, ◌==◌, ◌&&◌, ℕ, ◌<◌, Bool, not, List, ◌++◌, sym, ap, subst, ◌∙◌, arith, inl, inr, ⊎_elim, Some, None, if◌then◌else◌}
 use Rattle.std.proofs.lemmas.Bool.{cases_eq, eq-eqb, ne_eqb, cond-true, cond-false, and_from, and_left, and_right}
 use Rattle.std.proofs.lemmas.List.Elements.{All-weaker}
 use Rattle.pmem_lines.specs.Words.{word_at}

@@ -1,4 +1,3 @@
-use Rattle.std.proofs.Common.{◌≡◌, ℕ}
 use Rattle.pmem_lines.specs.Pmem.{words_of}
 use Rattle.arena_core.proofs.Slabbed.{normal_opened, index_opened, slabs_opened}
 use Rattle.arena_core.proofs.carrying.add_slab.Goals as goal

@@ -1,4 +1,4 @@
-use Rattle.std.proofs.Common.{◌≡◌, ℕ, ◌+◌, ◌*◌, true, List, ◌++◌, ap, subst, ◌∙◌, arith, inl, Some}
+use Rattle.std.proofs.Common.{◌≡◌, ◌+◌, ◌*◌, true, List, ◌++◌, ap, subst, ◌∙◌, arith, inl, Some}
 use Rattle.pmem_lines.specs.declared.event.Event.{Event}
 use Rattle.pmem_lines.specs.Events.{CrashOnly}
 use Rattle.pmem_lines.specs.Pmem.{words_of, Appends}

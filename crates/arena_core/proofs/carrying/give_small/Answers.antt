@@ -1,4 +1,4 @@
-use Rattle.std.proofs.Common.{◌≡◌, ℕ, true, not, ap, ◌∙◌, arith}
+use Rattle.std.proofs.Common.{true, not, ap, ◌∙◌, arith}
 use Rattle.pmem_lines.specs.Pmem.{words_of}
 use Rattle.arena_core.proofs.Smalls.{normal_small, slabs_small}
 use Rattle.arena_core.proofs.carrying.give_small.Goals as goal

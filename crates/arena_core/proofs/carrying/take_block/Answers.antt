@@ -1,4 +1,4 @@
-use Rattle.std.proofs.Common.{◌≡◌, ℕ, false, not, cond, ap, ◌∙◌, arith, Some, None, length}
+use Rattle.std.proofs.Common.{false, not, ap, ◌∙◌, arith, Some, None, length}
 use Rattle.std.proofs.lemmas.Bool.{cond-true}
 use Rattle.pmem_lines.specs.Pmem.{words_of}
 use Rattle.image_tables.specs.Tables.{tables_of}
