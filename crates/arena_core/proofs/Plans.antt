@@ -228,16 +228,16 @@ module _ {words : List ℕ} (image : IsExactImage words) where
       let at = t.root root in
       let start = at / 16384 in
       let large : is_large t.large at ≡ true = ⊎_elim
-          (λ large. large)
-          (λ rest. absurd (⊎_elim
-          (λ (held : IsHeld t at).
-          let inside : IsInSlab t held.start at = subst (IsInSlab t held.start) held.here (IsInSlab-held image.exact.sound held.start held.range held.holds) in
-          let none : class_in set held.start ≡ None = outside.none held.start (omega (arith, inside.low)) (omega (arith, inside.high)) in
-          let lives : class_in set held.start ≡ Some (t.class held.start) = slab_in_set parts held.start (t.class held.start) inside.slab refl in
-          cc)
-          (λ by_entry. some (sym by_entry ∙ unnamed root))
-          rest))
-          (image.exact.sound.rooted root some) in
+      (λ large. large)
+      (λ rest. absurd (⊎_elim
+      (λ (held : IsHeld t at).
+      let inside : IsInSlab t held.start at = subst (IsInSlab t held.start) held.here (IsInSlab-held image.exact.sound held.start held.range held.holds) in
+      let none : class_in set held.start ≡ None = outside.none held.start (omega (arith, inside.low)) (omega (arith, inside.high)) in
+      let lives : class_in set held.start ≡ Some (t.class held.start) = slab_in_set parts held.start (t.class held.start) inside.slab refl in
+      cc)
+      (λ by_entry. some (sym by_entry ∙ unnamed root))
+      rest))
+      (image.exact.sound.rooted root some) in
       let is = is_large-parts t.large at large in
       let count : granules_at t start ≡ t.large start = granules_at-live image.exact.sound start is.1 in
       let lies = image.exact.sound.starts start (omega (arith, count, is.1)) in

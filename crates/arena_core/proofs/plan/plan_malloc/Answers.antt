@@ -32,16 +32,18 @@ returns-in-Some-place g c =
     let b = bounds_of words in
     let t = tables_of words in
     let asked = asked_of words c.args.root c.args.size c.root_word-held.result c.granules_in.result c.from.result c.layout_in-layout.result
-    c.layout_in-layout.ensures c.granules_in.ensures c.root_word-held.ensures c.from.ensures c.if-root-layout.false c.if-held-ne0.false c.if-size-eq0.false c.if-size-from.false in
-    (asked, elim c.match-class_of.branch [
-      | in-Some w ↦
-          subst (λ o. MatchOption o (HasNoSmall b t c.args.size) (IsPlacing b t c.args.root c.args.size)) (sym w.place-is ∙ c.in-Some-place.is)
-          (small_found b t c.args.root c.args.size w.in-Some.class w.small_place-place.result w.in-Some.ensures.class (w.small_place-place.ensures words c.requires.exact c.requires.normal c.requires.index c.requires.slabs))
-      | in-None w ↦
-          let large : 16384 < c.args.size = ⊎_elim (λ zero. absurd (c.if-size-eq0.false zero)) (λ large. large) (w.in-None.ensures.none.0 refl) in
-          subst (λ o. MatchOption o (HasNoLarge b t c.args.size) (IsPlacing b t c.args.root c.args.size)) (sym w.place-is ∙ c.in-Some-place.is)
-          (large_found b t c.args.root c.args.size w.granules.result w.large_place-place.result asked large w.granules.ensures (w.large_place-place.ensures words c.requires.exact c.requires.index))
-    ])
+    c.layout_in-layout.ensures c.granules_in.ensures c.root_word-held.ensures c.from.ensures c.if-root-layout.false c.if-held-ne0.false c.if-size-eq0.false c.if-size-from.false in (
+      asked,
+      elim c.match-class_of.branch [
+        | in-Some w ↦
+            subst (λ o. MatchOption o (HasNoSmall b t c.args.size) (IsPlacing b t c.args.root c.args.size)) (sym w.place-is ∙ c.in-Some-place.is)
+            (small_found b t c.args.root c.args.size w.in-Some.class w.small_place-place.result w.in-Some.ensures.class (w.small_place-place.ensures words c.requires.exact c.requires.normal c.requires.index c.requires.slabs))
+        | in-None w ↦
+            let large : 16384 < c.args.size = ⊎_elim (λ zero. absurd (c.if-size-eq0.false zero)) (λ large. large) (w.in-None.ensures.none.0 refl) in
+            subst (λ o. MatchOption o (HasNoLarge b t c.args.size) (IsPlacing b t c.args.root c.args.size)) (sym w.place-is ∙ c.in-Some-place.is)
+            (large_found b t c.args.root c.args.size w.granules.result w.large_place-place.result asked large w.granules.ensures (w.large_place-place.ensures words c.requires.exact c.requires.index))
+      ],
+    )
 
 pub returns-in-None-place : goal.returns-in-None-place
 returns-in-None-place g c =
@@ -49,13 +51,15 @@ returns-in-None-place g c =
     let b = bounds_of words in
     let t = tables_of words in
     let asked = asked_of words c.args.root c.args.size c.root_word-held.result c.granules_in.result c.from.result c.layout_in-layout.result
-    c.layout_in-layout.ensures c.granules_in.ensures c.root_word-held.ensures c.from.ensures c.if-root-layout.false c.if-held-ne0.false c.if-size-eq0.false c.if-size-from.false in
-    (asked, elim c.match-class_of.branch [
-      | in-Some w ↦
-          inl (subst (λ o. MatchOption o (HasNoSmall b t c.args.size) (IsPlacing b t c.args.root c.args.size)) (sym w.place-is ∙ c.in-None-place.is)
-          (small_found b t c.args.root c.args.size w.in-Some.class w.small_place-place.result w.in-Some.ensures.class (w.small_place-place.ensures words c.requires.exact c.requires.normal c.requires.index c.requires.slabs)))
-      | in-None w ↦
-          let large : 16384 < c.args.size = ⊎_elim (λ zero. absurd (c.if-size-eq0.false zero)) (λ large. large) (w.in-None.ensures.none.0 refl) in
-          inr (subst (λ o. MatchOption o (HasNoLarge b t c.args.size) (IsPlacing b t c.args.root c.args.size)) (sym w.place-is ∙ c.in-None-place.is)
-          (large_found b t c.args.root c.args.size w.granules.result w.large_place-place.result asked large w.granules.ensures (w.large_place-place.ensures words c.requires.exact c.requires.index)))
-    ])
+    c.layout_in-layout.ensures c.granules_in.ensures c.root_word-held.ensures c.from.ensures c.if-root-layout.false c.if-held-ne0.false c.if-size-eq0.false c.if-size-from.false in (
+      asked,
+      elim c.match-class_of.branch [
+        | in-Some w ↦
+            inl (subst (λ o. MatchOption o (HasNoSmall b t c.args.size) (IsPlacing b t c.args.root c.args.size)) (sym w.place-is ∙ c.in-None-place.is)
+            (small_found b t c.args.root c.args.size w.in-Some.class w.small_place-place.result w.in-Some.ensures.class (w.small_place-place.ensures words c.requires.exact c.requires.normal c.requires.index c.requires.slabs)))
+        | in-None w ↦
+            let large : 16384 < c.args.size = ⊎_elim (λ zero. absurd (c.if-size-eq0.false zero)) (λ large. large) (w.in-None.ensures.none.0 refl) in
+            inr (subst (λ o. MatchOption o (HasNoLarge b t c.args.size) (IsPlacing b t c.args.root c.args.size)) (sym w.place-is ∙ c.in-None-place.is)
+            (large_found b t c.args.root c.args.size w.granules.result w.large_place-place.result asked large w.granules.ensures (w.large_place-place.ensures words c.requires.exact c.requires.index)))
+      ],
+    )
