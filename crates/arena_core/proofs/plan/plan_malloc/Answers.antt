@@ -7,7 +7,7 @@ use Rattle.image_tables.specs.Tables.{tables_of}
 use Rattle.heap_check.specs.Image.{bounds_of}
 use Rattle.arena_core.specs.Plan.{IsAskedOf, IsPlacing, HasNoSmall, HasNoLarge}
 use Rattle.heap_check.proofs.Sizes.{sizes_of}
-use Rattle.arena_core.proofs.Plans.{small_found, large_found}
+use Rattle.arena_core.proofs.Plans.{small_found, large_found, slab_few}
 use Rattle.arena_core.proofs.plan.plan_malloc.Goals as goal
 use Rattle.arena_core.proofs.plan.plan_malloc.Goals.{in-Some, in-None}
 
@@ -63,3 +63,6 @@ returns-in-None-place g c =
             (large_found b t c.args.root c.args.size w.granules.result w.large_place-place.result asked large w.granules.ensures (w.large_place-place.ensures words c.requires.exact c.requires.index)))
       ],
     )
+
+pub small_place-place-requires-clause-few : goal.small_place-place-requires-clause-few
+small_place-place-requires-clause-few g c = slab_few c.requires.exact c.requires.slabs

@@ -1,9 +1,21 @@
-use Rattle.std.proofs.Common.{◌≡◌, ◌*◌, ap, arith}
+use Rattle.std.proofs.Common.{◌≡◌, ◌*◌, refl, ap, arith}
+use Rattle.heap_model.specs.Machine.{slab_block}
+use Rattle.heap_model.proofs.Slabbing.{LiesIn-block}
 use Rattle.size_classes.specs.Classes.{class_size}
 use Rattle.arena_core.proofs.Plans.{IsLowestClear-of, HasNoClear-of, IsVacantRow-fit, fit_of, no_fit_of}
 use Rattle.heap_check.specs.Image.{bounds_of}
 use Rattle.image_tables.specs.Tables.{tables_of}
 use Rattle.arena_core.proofs.plan.small_place.Goals as goal
+
+pub granule_at-requires : goal.granule_at-requires
+granule_at-requires c = let few = c.requires.few c.in-Some.block.start c.args.class c.in-Some.ensures.slab in omega (arith, few)
+
+pub overflow_add-at : goal.overflow_add-at
+overflow_add-at c =
+    let few = c.requires.few c.in-Some.block.start c.args.class c.in-Some.ensures.slab in
+    let product : c.in-Some.block.number * c.size_of_class.result ≡ c.in-Some.block.number * class_size c.args.class = ap (λ n. c.in-Some.block.number * n) c.size_of_class.ensures.size in
+    let lies = LiesIn-block 0 c.args.class (slab_block 0 c.args.class c.in-Some.block.number) (record { number = c.in-Some.block.number; within = c.in-Some.ensures.below; is = refl }) in
+    omega (arith, few, product, lies.high, c.blocks_at.ensures, c.granule_at.ensures)
 
 pub returns-in-Some : goal.returns-in-Some
 returns-in-Some c words image normal index slabs =
