@@ -1,12 +1,12 @@
 -- What the roots of an exact image without slabs name: large extents, each of two granules at least, in the heap.
 use Rattle.std.proofs.Common.{MatchOption, ◌≡◌, ◌≢◌, ◌*◌, ◌/◌, ◌<◌, ◌≤◌, ℕ, true, List, Option, Some, None, refl, sym, ap, ◌∙◌, subst, arith, ⊎_elim}
-use Rattle.std.proofs.lemmas.Bool.{ne_eqb, cases_eq, cases_lt}
+use Rattle.std.proofs.lemmas.Bool.{ne_eqb, cases_eq}
 use Rattle.pool_layout.specs.Header.{granules_in}
 use Rattle.image_tables.specs.declared.extent.Extent.{Extent}
 use Rattle.image_tables.specs.declared.extent.Extent.TheVariants as extent
 use Rattle.image_tables.specs.Extents.{extent_at}
 use Rattle.image_tables.specs.Tables.{Tables, large_of, tables_of}
-use Rattle.image_tables.proofs.Tables.{root_table-past, large_table}
+use Rattle.image_tables.proofs.Tables.{large_table}
 use Rattle.book_log.specs.declared.entry.LogEntry.{LogEntry}
 use Rattle.book_log.specs.declared.entry.LogEntry.TheVariants as entry
 use Rattle.book_log.specs.Book.{chunks_of}
@@ -15,10 +15,8 @@ use Rattle.book_log.specs.Table.{IsNextLive, IsNoneLive}
 use Rattle.log_gc.proofs.Live.{live_extents}
 use Rattle.heap_model.specs.Machine.{Bounds}
 use Rattle.heap_check.specs.Heap.{is_large, heap}
-use Rattle.heap_check.specs.Sound.{granules_at, IsExact}
-use Rattle.heap_check.specs.Image.{bounds_of, IsExactImage}
-use Rattle.heap_check.proofs.Geometry.{granules_at-large, is_large-parts, is_large-start}
-use Rattle.heap_check.proofs.Heaps.{is_large-rooted}
+use Rattle.heap_check.specs.Image.{IsExactImage}
+use Rattle.heap_check.proofs.Geometry.{is_large-start}
 use Rattle.arena_core.specs.Plan.{IsTakable}
 use Rattle.heap_check.proofs.Sizes.{sizes_of}
 

@@ -1,21 +1,20 @@
 -- What a call has done, put together: by the place of its block.
-use Rattle.std.proofs.Common.{◌≡◌, ◌≢◌, ◌⊎◌, ◌==◌, ◌*◌, ◌/◌, ◌+◌, ◌-◌, ◌%◌, ◌<◌, ◌≤◌, ℕ, Bool, true, false, cond, leb, List, [], Option, Some, None, refl, sym, ap, subst, ◌∙◌, arith, inl}
+use Rattle.std.proofs.Common.{◌≡◌, ◌≢◌, ◌*◌, ◌/◌, ◌+◌, ◌-◌, ◌%◌, ◌<◌, ◌≤◌, ℕ, true, false, cond, leb, List, [], Option, Some, refl, sym, ap, subst, ◌∙◌, arith, inl}
 use Rattle.std.proofs.lemmas.Bool.{cond-true, cond-false, le-leb, lt-leb, false_from_ne_true}
 use Rattle.std.proofs.lemmas.Nat.{div-mul-add}
 use Rattle.size_classes.specs.Classes.{class_size, class_capacity}
 use Rattle.size_classes.proofs.Spacing.{class_size-least, class_size-most, class_size-rises}
 use Rattle.pmem_lines.specs.declared.event.Event.{Event}
 use Rattle.pmem_lines.specs.Events.{IsQuiet, CrashOnly}
-use Rattle.pmem_lines.specs.Pmem.{PmemState, words_of, Appends}
+use Rattle.pmem_lines.specs.Pmem.{PmemState, words_of, began, appended, Appends}
 use Rattle.image_tables.specs.Tables.{Tables, tables_of}
 use Rattle.book_log.specs.Book.{Book}
 use Rattle.extent_index.specs.FreeSet.{FreeSet}
 use Rattle.slab_index.specs.SlabSet.{SlabSet}
 use Rattle.heap_model.specs.declared.call.Call.{Call}
-use Rattle.heap_model.specs.declared.call.Call.TheVariants as calls
 use Rattle.heap_model.specs.declared.call.Reply.{Reply}
 use Rattle.heap_model.specs.declared.call.Reply.TheVariants as replies
-use Rattle.heap_model.specs.Machine.{Bounds, Range, slab_block, with_key}
+use Rattle.heap_model.specs.Machine.{Bounds, Range, slab_block}
 use Rattle.heap_model.proofs.Slabbing.{LiesIn-block}
 use Rattle.heap_check.specs.Heap.{slab_of, entry_at, heap, slabs, IsClaim, Holds}
 use Rattle.heap_check.specs.Sound.{IsVacant, IsInSlab, IsSound}
@@ -33,11 +32,15 @@ use Rattle.heap_check.proofs.Loose.{IsExactBut-exact}
 use Rattle.arena_core.proofs.Smalls.{classes_small, index_small, book_small, keeps_small}
 use Rattle.heap_check.specs.Image.{bounds_of, IsExactImage}
 use Rattle.heap_check.specs.State.{KeepsBlocks, IsEitherHeap}
-use Rattle.arena_core.specs.Arena.{HasNormalSlabs, IsSlabsOf, IsKept, IsArena}
+use Rattle.arena_core.specs.Arena.{ArenaState, HasNormalSlabs, IsSlabsOf, IsKept, IsArena}
 use Rattle.arena_core.specs.Call.{IsStepOf}
 use Rattle.arena_core.specs.Carried.{IsDone, IsCalled}
 use Rattle.arena_core.specs.Effect.{GivesRoot, KeepsSlabs}
-use Rattle.arena_core.specs.Plan.{IsAskedOf, IsSmallPlacing, IsNamedSmall}
+use Rattle.arena_core.specs.declared.plan.Held.{Held}
+use Rattle.arena_core.specs.declared.plan.Held.TheVariants as holding
+use Rattle.arena_core.specs.Plan.{IsAskedOf, IsSmallPlacing, IsNamedSmall, IsHeldBy, range_held}
+use Rattle.heap_check.proofs.Sizes.{sizes_of}
+use Rattle.arena_core.proofs.Blocks.{heap-takable}
 use Rattle.arena_core.proofs.Arenas.{normal_kept, slabs_kept}
 use Rattle.arena_core.specs.Events.{is_small, class_for, start_at, in_slab, block_at, place_events, take_events, fresh_events, unsmall_events, placed_events, freed_events, call_events, turn_after}
 
@@ -217,6 +220,11 @@ module _ (words : List ℕ) (image : IsExactImage words) (normal : HasNormalSlab
       let same : root ≡ owner.0 = one_claim sound root owner.0 _ at_class mine owner.1 word size (omega (arith, class_size-least class named_class)) in
       heap-claim t root at_class (unnamed root) (subst (λ r. IsClaim t r at_class) (sym same) owner.1)
 
+-- so is what a root holds
+pub held_heap : (words : List ℕ) → IsExactImage words → HasNormalSlabs words → (root : ℕ) (held : Held) → IsHeldBy (bounds_of words) (tables_of words) root held → heap (tables_of words) root ≡ Some (range_held held)
+held_heap words image normal root (holding.Large start count) taken = heap-takable (bounds_of words) (tables_of words) root start count (omega (arith, (sizes_of words image.formed).first)) taken
+held_heap words image normal root (holding.Small block class) named = named_heap words image normal root block class named
+
 -- a large block was given or taken
 pub IsDone-large : {old new : PmemState} {book next : Book} {set free : FreeSet} {parts : SlabSet} {turn : ℕ} {root : ℕ} {block : Option Range} {events : List Event} → IsArena old turn book set parts →
     Appends old new events → IsKept new next free → GivesRoot (words_of old) root block (slabs (tables_of (words_of old))) (words_of new) → KeepsSlabs (words_of old) (words_of new) →
@@ -293,3 +301,36 @@ IsCalled-refused {old} {turn} {book} {set} {parts} {root} call reply arena none 
       crash = subst (λ (es : List Event). CrashOnly words es (IsEitherHeap words words)) (sym none)
           (by_none words (IsEitherHeap words words) (record { steady = record { formed = exact.formed; steady = law_of_steady (bounds_of words) (tables_of words) exact.exact }; heap = inl (record { each = λ r. refl }); words = keeps }));
     }
+
+-- an arena answered a call
+pub record IsAnswered (old new : ArenaState) (book : Book) (set : FreeSet) (parts : SlabSet) (root : ℕ) (call : Call) (reply : Reply) : Type 0 where
+  pub step : IsStepOf (words_of old.device) (words_of new.device) call reply
+  pub device : new.device ≡ appended (began old.device) (call_events (words_of old.device) old.turn root reply)
+  pub turn_is : new.turn ≡ turn_after old.turn reply
+  pub keeps : KeepsBlocks (words_of old.device) (words_of new.device) (words_of new.device)
+  pub arena : IsArena new.device new.turn book set parts
+  pub crash : CrashOnly new.device.base new.device.events (IsEitherHeap (words_of old.device) (words_of new.device))
+
+-- by what was done behind its begin
+pub answered : (old : ArenaState) (begun new : PmemState) (turn : ℕ) (book : Book) (set : FreeSet) (parts : SlabSet) (root : ℕ) (call : Call) (reply : Reply) → begun ≡ began old.device →
+    IsCalled begun new old.turn turn book set parts root call reply → IsAnswered old (record { device = new; turn = turn }) book set parts root call reply
+answered old begun new turn book set parts root call reply is called =
+    let same : words_of begun ≡ words_of old.device = ap (λ (s : PmemState). words_of s) is in
+    let state : new ≡ appended (began old.device) (call_events (words_of old.device) old.turn root reply) =
+    called.appends.state ∙ (λ i. appended (is i) (call_events (same i) old.turn root reply)) in
+    record {
+      step = subst (λ (ws : List ℕ). IsStepOf ws (words_of new) call reply) same called.step;
+      device = state;
+      turn_is = called.turn_is;
+      keeps = subst (λ (ws : List ℕ). KeepsBlocks ws (words_of new) (words_of new)) same called.keeps;
+      arena = called.arena;
+      crash = subst (λ (s : PmemState). CrashOnly s.base s.events (IsEitherHeap (words_of old.device) (words_of new))) (sym state)
+          (subst (λ (ws : List ℕ). CrashOnly (words_of old.device) (call_events (words_of old.device) old.turn root reply) (IsEitherHeap ws (words_of new))) same
+          (subst (λ (ws : List ℕ). CrashOnly ws (call_events ws old.turn root reply) (IsEitherHeap (words_of begun) (words_of new))) same called.crash));
+    }
+
+-- of an arena by what it means
+pub answered_by : (inside now : ArenaState) (begun new : PmemState) (turn : ℕ) (book : Book) (set : FreeSet) (parts : SlabSet) (root : ℕ) (call : Call) (reply : Reply) → inside ≡ now → begun ≡ began inside.device →
+    IsCalled begun new inside.turn turn book set parts root call reply → IsAnswered now (record { device = new; turn = turn }) book set parts root call reply
+answered_by inside now begun new turn book set parts root call reply view is called =
+    subst (λ (s : ArenaState). IsAnswered s (record { device = new; turn = turn }) book set parts root call reply) view (answered inside begun new turn book set parts root call reply is called)

@@ -1,11 +1,6 @@
 -- Free rows, runs and fits of two sets of granules that have the same members, and what a best fit gives.
-use Rattle.std.proofs.Common.{◌↔◌, ◌+◌, ◌-◌, ◌<◌, ◌≤◌, ℕ, arith}
-use Rattle.image_tables.specs.Tables.{Tables}
-use Rattle.heap_model.specs.Machine.{Bounds}
+use Rattle.std.proofs.Common.{◌↔◌, ◌+◌, ◌<◌, ◌≤◌, ℕ, arith}
 use Rattle.heap_model.specs.Runs.{IsFreeRow, IsFreeRun, IsBestFit, HasNoFit}
-use Rattle.heap_model.specs.Step.{granules_for}
-use Rattle.heap_check.specs.Sound.{IsVacant}
-use Rattle.arena_core.specs.Plan.{IsAskedOf, IsGivable}
 
 module _ (One Other : ℕ → Type 0) (same : (k : ℕ) → One k ↔ Other k) where
   pub IsFreeRow-same : (start n : ℕ) → IsFreeRow One start n → IsFreeRow Other start n

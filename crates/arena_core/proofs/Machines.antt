@@ -1,7 +1,7 @@
 -- What a call means to the heap machine: the step from the state that the old words have to one that the new words have.
-use Rattle.std.proofs.Common.{◌≡◌, ◌≢◌, ◌⊎◌, ◌*◌, ◌/◌, ◌<◌, ◌≤◌, ℕ, Bool, true, false, true≢false, List, Option, Some, None, Ok, Err, refl, sym, ap, ◌∙◌, subst, arith, inl, inr, ⊎_elim}
+use Rattle.std.proofs.Common.{◌≡◌, ◌⊎◌, ◌*◌, ◌/◌, ◌<◌, ◌≤◌, ℕ, Bool, true, true≢false, List, Option, Some, None, Err, refl, sym, ap, ◌∙◌, subst, arith, inl, inr, ⊎_elim}
 use Rattle.std.proofs.lemmas.Nat.{le-div}
-use Rattle.size_classes.specs.Classes.{class_size, class_capacity, IsClassOf, granules_of}
+use Rattle.size_classes.specs.Classes.{class_size, class_capacity, granules_of}
 use Rattle.size_classes.proofs.Spacing.{class_size-least, class_size-most}
 use Rattle.image_tables.specs.Tables.{Tables, tables_of}
 use Rattle.heap_model.specs.declared.call.Call.TheVariants as calls
@@ -13,10 +13,9 @@ use Rattle.heap_model.specs.Step.{with_block, with_slab_block, without_block, sl
 use Rattle.heap_model.specs.Placement.{IsLowestBlock, IsPlacedAt, IsPlacedStep}
 use Rattle.heap_model.specs.Runs.{IsBestFit, HasNoFit}
 use Rattle.heap_check.specs.Heap.{is_large, heap, slabs}
-use Rattle.heap_check.specs.Sound.{IsVacant, IsInSlab, HasOther}
+use Rattle.heap_check.specs.Sound.{IsVacant, IsInSlab}
 use Rattle.heap_check.specs.Image.{bounds_of, IsExactImage}
 use Rattle.heap_check.specs.State.{HasState}
-use Rattle.heap_check.proofs.Sizes.{sizes_of}
 use Rattle.heap_check.proofs.Geometry.{is_large-start}
 use Rattle.arena_core.specs.declared.plan.Place.{Place}
 use Rattle.arena_core.specs.declared.plan.Place.TheVariants.{Large, Small, Fresh}
@@ -31,7 +30,7 @@ use Rattle.arena_core.specs.Effect.{slabs_but, slabs_behind, IsLastOf, GivesRoot
 use Rattle.arena_core.specs.Plan.{IsAskedOf, IsLowestClear, HasNoClear, IsPlacing, HasNoSmall, HasNoLarge, range_at, IsMallocPlan, IsTakable, IsFreePlan}
 use Rattle.heap_check.proofs.Small.{one_number}
 use Rattle.arena_core.proofs.Fits.{IsBestFit-same, HasNoFit-same}
-use Rattle.arena_core.proofs.States.{IsClearBlock, naming, nameless, asking, slab_named, naming_slab, after_call, named_at, vacant_free, block_free, free_block, slabs_without-large, slabs_without-other, slabs_without-none}
+use Rattle.arena_core.proofs.States.{naming, nameless, asking, slab_named, naming_slab, after_call, named_at, vacant_free, block_free, free_block, slabs_without-large, slabs_without-other, slabs_without-none}
 
 -- the new words have the state in which the root has this block, and these are the slabs
 pub HasState-gives : (old new : List ℕ) (root : ℕ) (block : Option Range) (slab : ℕ → Option ℕ) (m : Machine) (next : ℕ → Option ℕ) → HasState old m → GivesRoot old root block slab new → ((start : ℕ) → slab start ≡ next start) →
@@ -78,7 +77,7 @@ module _ {words : List ℕ} (image : IsExactImage words) (normal : HasNormalSlab
         first = λ lower less unused.
             let range = slab_block start class lower in
             let clear = free_block image state normal.each start class range (naming_slab state start lowest.slab ∙ ap (λ c. Some c) lowest.class_is)
-                (record { block = record { number = lower; within = omega (arith, less, lowest.below); is = refl }; unused = unused }) in
+            (record { block = record { number = lower; within = omega (arith, less, lowest.below); is = refl }; unused = unused }) in
             let same : lower ≡ clear.number = one_number start class lower clear.number (omega (arith, class_size-least class is_class)) (ap (λ (x : Range). x.at) clear.is) in
             true≢false (sym (lowest.first lower less) ∙ ap (t.bit start) same ∙ clear.clear);
         lowest = λ other range less slab free.

@@ -14,7 +14,7 @@ use Rattle.extent_index.specs.FreeSet.{FreeSet, IsFree, IsHeldRow}
 use Rattle.slab_index.specs.SlabSet.{SlabSet, class_in, is_available, IsBlock, IsWhole}
 use Rattle.book_log.specs.Book.{Book}
 use Rattle.heap_model.specs.Machine.{Bounds, Range, slab_block, with_key}
-use Rattle.heap_check.specs.Heap.{any_below, entry_at, heap, slabs, Holds, HoldsBit}
+use Rattle.heap_check.specs.Heap.{any_below, entry_at, slabs, Holds, HoldsBit}
 use Rattle.heap_check.specs.Sound.{IsVacant, IsInSlab, IsExactBut}
 use Rattle.heap_check.specs.Slabs.{IsWithSlab}
 use Rattle.heap_check.specs.Image.{bounds_of, IsExactImage, IsExactButImage}

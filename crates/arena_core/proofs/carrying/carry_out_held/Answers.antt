@@ -1,4 +1,4 @@
-use Rattle.std.proofs.Common.{◌≡◌, ◌+◌, ◌*◌, ◌%◌, ◌<◌, ℕ, List, Ok, Err, Result, sym, ap, subst, ◌∙◌, arith}
+use Rattle.std.proofs.Common.{◌≡◌, ◌*◌, sym, ap, subst, ◌∙◌, arith}
 use Rattle.pmem_lines.specs.Pmem.{words_of}
 use Rattle.image_tables.specs.Tables.{tables_of}
 use Rattle.heap_model.specs.declared.call.Call.TheVariants as calls
@@ -8,13 +8,10 @@ use Rattle.heap_check.specs.Heap.{slabs}
 use Rattle.heap_check.specs.Image.{bounds_of}
 use Rattle.heap_check.proofs.Sizes.{sizes_of}
 use Rattle.arena_core.specs.declared.plan.Held.{Held}
-use Rattle.arena_core.specs.declared.plan.Held.TheVariants as held
-use Rattle.arena_core.specs.declared.answer.FreeRefusal.{FreeRefusal}
-use Rattle.arena_core.specs.Carried.{IsCalled}
-use Rattle.arena_core.specs.Plan.{IsTakable, IsNamedSmall, IsHeldBy, IsFreePlan, range_held}
+use Rattle.arena_core.specs.Plan.{IsTakable, IsNamedSmall, IsHeldBy, range_held}
 use Rattle.arena_core.proofs.Blocks.{heap-takable}
 use Rattle.arena_core.proofs.Called.{IsCalled-same, IsCalled-done, IsDone-large, freed_large, turn_freed, freed_there, start_is, turn_small, named_class, named_inside, named_heap}
-use Rattle.arena_core.proofs.Machines.{freed_step, large_stays, small_stays, refused_free}
+use Rattle.arena_core.proofs.Machines.{freed_step, large_stays, small_stays}
 use Rattle.arena_core.proofs.carrying.carry_out_held.Goals as goal
 use Rattle.arena_core.proofs.carrying.carry_out_held.Goals.{in-Large, in-Small}
 
@@ -49,14 +46,13 @@ returns g c =
           let is_class = named_class words exact arena.normal root block class named in
           let done = w.take_small.ensures.done in
           let step = freed_step words new root range _ named.rooted (named_heap words exact arena.normal root block class named)
-              (small_stays words root block.start range _ exact (named_inside words exact arena.normal root block class named) w.take_small.ensures.last) done.gives in
+          (small_stays words root block.start range _ exact (named_inside words exact arena.normal root block class named) w.take_small.ensures.last) done.gives in
           IsCalled-same (ap state w.device-is) w.turn-is w.log-is w.free-is w.slabs-is
           (λ i. replies.Freed ((c.freed_of.ensures.0 ∙ ap (λ (h : Held). (range_held h).at) w.held-is) i) ((c.freed_of.ensures.1 ∙ ap (λ (h : Held). (range_held h).size) w.held-is) i))
           (IsCalled-done (calls.Free root) (replies.Freed range.at range.size) done
           (freed_there words c.args.turn.now root block class is_class named.at (start_is exact.exact.sound block.start class block.number named.slab is_class named.below))
           (sym (turn_small c.args.turn.now range.at class is_class).1) (omega arith) step)
     ]
-
 
 pub freed_of-requires : goal.freed_of-requires
 freed_of-requires g c =

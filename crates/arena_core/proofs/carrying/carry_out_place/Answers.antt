@@ -1,4 +1,4 @@
-use Rattle.std.proofs.Common.{◌≡◌, ◌+◌, ◌*◌, ◌%◌, ◌<◌, ◌≤◌, ℕ, List, Some, Ok, Err, Result, sym, ap, subst, ◌∙◌, arith}
+use Rattle.std.proofs.Common.{◌≡◌, ◌*◌, ◌≤◌, sym, ap, subst, ◌∙◌, arith}
 use Rattle.pmem_lines.specs.Pmem.{words_of}
 use Rattle.image_tables.specs.Tables.{tables_of}
 use Rattle.heap_model.specs.declared.call.Call.TheVariants as calls
@@ -8,11 +8,9 @@ use Rattle.heap_check.specs.Image.{bounds_of}
 use Rattle.heap_check.proofs.Sizes.{sizes_of}
 use Rattle.arena_core.specs.declared.plan.Place.{Place}
 use Rattle.arena_core.specs.declared.plan.Place.TheVariants as places
-use Rattle.arena_core.specs.declared.answer.MallocRefusal.{MallocRefusal}
-use Rattle.arena_core.specs.Carried.{IsCalled}
-use Rattle.arena_core.specs.Plan.{IsAskedOf, IsMallocPlan, IsPlacing, range_at}
+use Rattle.arena_core.specs.Plan.{IsAskedOf, IsPlacing, range_at}
 use Rattle.arena_core.proofs.Called.{IsCalled-same, IsCalled-done, IsDone-large, IsDone-small, placed_large, turn_placed, placed_there, placed_fresh, start_is, turn_small, small_attachable}
-use Rattle.arena_core.proofs.Machines.{placed_step, refused_malloc}
+use Rattle.arena_core.proofs.Machines.{placed_step}
 use Rattle.arena_core.proofs.carrying.carry_out_place.Goals as goal
 use Rattle.arena_core.proofs.carrying.carry_out_place.Goals.{in-Large, in-Small, in-Fresh}
 

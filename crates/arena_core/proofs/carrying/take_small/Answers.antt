@@ -1,4 +1,4 @@
-use Rattle.std.proofs.Common.{◌≡◌, false, List, ◌++◌, subst, ◌∙◌, inr}
+use Rattle.std.proofs.Common.{◌≡◌, ℕ, false, List, ◌++◌, subst, ◌∙◌, inr}
 use Rattle.pmem_lines.specs.declared.event.Event.{Event}
 use Rattle.pmem_lines.specs.Events.{reading, CrashOnly}
 use Rattle.pmem_lines.specs.Pmem.{words_of, Appends}
