@@ -1,5 +1,5 @@
 #!/usr/bin/env bash
-# Times the built program on five made traces, and prints for each the time per call or per byte and the peak memory.
+# Times the built program on six made traces, and prints for each the time per call or per byte and the peak memory.
 # It is no test. The inputs are made in a temporary folder, which is removed at the end.
 set -eu
 
@@ -11,22 +11,24 @@ trap 'rm -rf -- "$room"' EXIT
 "$top/nvheap" replay <"$top/examples/large.trace" >"$room/out"
 program=$top/crates/program/out/launched/nvheap
 
-# A million mallocs and frees of large blocks: a call frees its root's block or gives it one. The draws are by a fixed
-# rule. Over a few roots the log rolls, since its old chunks are soon needless; over many it is rewritten.
-large() {
-    awk -v roots="$1" 'BEGIN {
+# A million mallocs and frees of blocks of so many bytes at least, and so many more: a call frees its root's block or gives
+# it one. The draws are by a fixed rule. With large blocks over a few roots the log rolls, since its old chunks are soon
+# needless; over many it is rewritten.
+blocks() {
+    awk -v roots="$1" -v least="$2" -v more="$3" 'BEGIN {
         print "pool 1 1024"
         state = 1
         for (i = 0; i < 1000000; i++) {
             state = state * 16807 % 2147483647
             root = state % roots
             if (held[root]) { print "0 0 f " root; held[root] = 0 }
-            else { print "0 0 m " root " " (1 + state % 40000); held[root] = 1 }
+            else { print "0 0 m " root " " (least + state % more); held[root] = 1 }
         }
     }'
 }
-large 20 >"$room/rolls"
-large 600 >"$room/rewrites"
+blocks 20 16385 23616 >"$room/rolls"
+blocks 600 16385 23616 >"$room/rewrites"
+blocks 4000 1 2048 >"$room/small"
 
 # 64 MiB of comments behind a pool.
 awk 'BEGIN {
@@ -71,6 +73,7 @@ PYTHON
 
 measure rolls 1000000 call
 measure rewrites 1000000 call
+measure small 1000000 call
 measure comments 67108864 byte
 measure occupied 1000000 call
 measure longest 8388606 call

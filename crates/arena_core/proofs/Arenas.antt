@@ -1,5 +1,5 @@
 -- What an arena keeps holds again once a block was given or taken.
-use Rattle.std.proofs.Common.{◌≡◌, ◌↔◌, ◌⊎◌, ℕ, ◌+◌, ◌<◌, ◌≤◌, List, sym, ap, subst, ◌∙◌, inl, inr, ⊎_elim}
+use Rattle.std.proofs.Common.{◌≡◌, ◌↔◌, ◌⊎◌, ℕ, ◌+◌, ◌<◌, ◌≤◌, List, Bool, not, cond, Some, None, sym, ap, subst, ◌∙◌, inl, inr, ⊎_elim}
 use Rattle.pmem_lines.specs.Words.{put_word}
 use Rattle.pool_layout.specs.Layout.{layout_of}
 use Rattle.pool_layout.specs.Places.{root_word}
@@ -14,7 +14,10 @@ use Rattle.heap_check.specs.Sound.{IsVacant}
 use Rattle.heap_check.specs.Image.{bounds_of}
 use Rattle.heap_check.proofs.Large.{with_large}
 use Rattle.log_steps.specs.Log.{IsBookOf}
-use Rattle.arena_core.specs.Arena.{HasNoSlab, IsIndexOf}
+use Rattle.size_classes.specs.Classes.{class_capacity}
+use Rattle.slab_index.specs.SlabSet.{SlabSet}
+use Rattle.arena_core.specs.Arena.{HasNormalSlabs, IsIndexOf, IsSlabsOf}
+use Rattle.arena_core.specs.Effect.{KeepsSlabs}
 use Rattle.arena_core.proofs.Stages.{IsStageOf}
 
 -- a log reads the same where a root's word is stored
@@ -24,9 +27,32 @@ book_root book words root value below log = record {
   granules = log.granules ∙ sym (granules_in-put_root words root value);
 }
 
--- at each stage there are as many slabs as before
-pub no_slab_stage : {words : List ℕ} {root start here word : ℕ} {image : List ℕ} → IsStageOf words root start here word image → HasNoSlab words → HasNoSlab image
-no_slab_stage {words} {root} {start} {here} {word} {image} stage none = record { none = λ other. ap (λ (t : Tables). t.slab other) stage.tables ∙ none.none other }
+-- at each stage the slabs are as before
+pub slabs_stage : {words : List ℕ} {root start here word : ℕ} {image : List ℕ} → IsStageOf words root start here word image → KeepsSlabs words image
+slabs_stage {words} {root} {start} {here} {word} {image} stage = record {
+  slab = ap (λ (t : Tables). t.slab) stage.tables;
+  kind = ap (λ (t : Tables). t.kind) stage.tables;
+  class = ap (λ (t : Tables). t.class) stage.tables;
+  bit = ap (λ (t : Tables). t.bit) stage.tables;
+}
+
+-- so they are all normal still
+pub normal_kept : {words image : List ℕ} → KeepsSlabs words image → HasNormalSlabs words → HasNormalSlabs image
+normal_kept {words} {image} keeps normal = record {
+  each = λ start is. ap (λ (row : ℕ → ℕ). row start) keeps.kind ∙ normal.each start (sym (ap (λ (row : ℕ → Bool). row start) keeps.slab) ∙ is);
+}
+
+-- and the index of them holds still
+pub slabs_kept : {words image : List ℕ} (parts : SlabSet) → KeepsSlabs words image → granules_in image ≡ granules_in words → IsSlabsOf parts words → IsSlabsOf parts image
+slabs_kept {words} {image} parts keeps granules index =
+    let slab = λ (s : ℕ). ap (λ (row : ℕ → Bool). row s) keeps.slab in
+    let class = λ (s : ℕ). ap (λ (row : ℕ → ℕ). row s) keeps.class in
+    record {
+      granules = index.granules ∙ sym granules;
+      classes = λ s. index.classes s ∙ sym (ap (λ b. cond b (Some ((tables_of image).class s)) None) (slab s) ∙ ap (λ c. cond ((tables_of words).slab s) (Some c) None) (class s));
+      blocks = λ s i is below. index.blocks s i (sym (slab s) ∙ is) (subst (λ c. i < class_capacity c) (class s) below)
+          ∙ sym (ap (λ (row : ℕ → ℕ → Bool). not (row s i)) keeps.bit);
+    }
 
 -- the index of a stage, by what is vacant there
 pub index_stage : {words : List ℕ} {root start here word : ℕ} {image : List ℕ} (set : FreeSet) → IsStageOf words root start here word image → set.granules ≡ granules_in words →

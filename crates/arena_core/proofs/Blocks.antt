@@ -1,12 +1,12 @@
 -- What the roots of an exact image without slabs name: large extents, each of two granules at least, in the heap.
 use Rattle.std.proofs.Common.{MatchOption, ◌≡◌, ◌≢◌, ◌*◌, ◌/◌, ◌<◌, ◌≤◌, ℕ, true, List, Option, Some, None, refl, sym, ap, ◌∙◌, subst, arith, ⊎_elim}
-use Rattle.std.proofs.lemmas.Bool.{ne_eqb, cases_eq, cases_lt}
+use Rattle.std.proofs.lemmas.Bool.{ne_eqb, cases_eq}
 use Rattle.pool_layout.specs.Header.{granules_in}
 use Rattle.image_tables.specs.declared.extent.Extent.{Extent}
 use Rattle.image_tables.specs.declared.extent.Extent.TheVariants as extent
 use Rattle.image_tables.specs.Extents.{extent_at}
 use Rattle.image_tables.specs.Tables.{Tables, large_of, tables_of}
-use Rattle.image_tables.proofs.Tables.{root_table-past, large_table}
+use Rattle.image_tables.proofs.Tables.{large_table}
 use Rattle.book_log.specs.declared.entry.LogEntry.{LogEntry}
 use Rattle.book_log.specs.declared.entry.LogEntry.TheVariants as entry
 use Rattle.book_log.specs.Book.{chunks_of}
@@ -15,11 +15,8 @@ use Rattle.book_log.specs.Table.{IsNextLive, IsNoneLive}
 use Rattle.log_gc.proofs.Live.{live_extents}
 use Rattle.heap_model.specs.Machine.{Bounds}
 use Rattle.heap_check.specs.Heap.{is_large, heap}
-use Rattle.heap_check.specs.Sound.{granules_at, IsExact}
-use Rattle.heap_check.specs.Image.{bounds_of, IsExactImage}
-use Rattle.heap_check.proofs.Geometry.{granules_at-large, is_large-parts, is_large-start}
-use Rattle.heap_check.proofs.Heaps.{is_large-rooted}
-use Rattle.arena_core.specs.Arena.{HasNoSlab}
+use Rattle.heap_check.specs.Image.{IsExactImage}
+use Rattle.heap_check.proofs.Geometry.{is_large-start}
 use Rattle.arena_core.specs.Plan.{IsTakable}
 use Rattle.heap_check.proofs.Sizes.{sizes_of}
 
@@ -61,44 +58,6 @@ large_many words image start some =
     let sizes = sizes_of words image.formed in
     let live = live_extents (granules_in words) words (chunks_of words) (omega (arith, sizes.most)) image.formed.log in
     (live.each start (extent.Large ((tables_of words).large start)) (live_large words start some)).some
-
--- Each root that is not 0 names a live large extent, of two granules at least, in the heap.
-pub record HasLargeBlocks (b : Bounds) (t : Tables) : Type 0 where
-  pub first : 0 < b.first
-  pub named : (root : ℕ) → t.root root ≢ 0 → IsTakable b t root (t.root root / 16384) (t.large (t.root root / 16384))
-
-pub large_blocks : (words : List ℕ) → IsExactImage words → HasNoSlab words → HasLargeBlocks (bounds_of words) (tables_of words)
-large_blocks words image no_slab =
-    let b = bounds_of words in
-    let t = tables_of words in
-    let exact : IsExact b t = image.exact in
-    let sizes = sizes_of words image.formed in
-    record {
-      first = omega (arith, sizes.first);
-      named = λ root some.
-          let at = t.root root in
-          let start = at / 16384 in
-          let large = is_large-parts t.large at (is_large-rooted exact.sound exact.closed no_slab.none root some) in
-          let count : granules_at t start ≡ t.large start = granules_at-large t start (no_slab.none start) in
-          let lies = exact.sound.starts start (omega (arith, count, large.1)) in
-          record {
-            below = ⊎_elim (λ less. less) (λ past. absurd (some (root_table-past words root past))) (cases_lt root b.roots);
-            named = large.0;
-            live = refl;
-            many = large_many words image start large.1;
-            low = lies.0;
-            high = omega (arith, lies.1, count);
-          };
-    }
-
--- a root's word is below that of the largest arena's end
-pub root-small : (words : List ℕ) (root : ℕ) → IsExactImage words → HasNoSlab words → (tables_of words).root root < 16777216
-root-small words root image no_slab = ⊎_elim
-    (λ (none : (tables_of words).root root ≡ 0). omega (arith, none))
-    (λ (some : (tables_of words).root root ≢ 0).
-    let takable = (large_blocks words image no_slab).named root some in
-    omega (arith, takable.named, takable.many, takable.high, (sizes_of words image.formed).most))
-    (cases_eq ((tables_of words).root root) 0)
 
 -- the heap of such tables
 

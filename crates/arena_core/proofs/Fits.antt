@@ -1,11 +1,6 @@
 -- Free rows, runs and fits of two sets of granules that have the same members, and what a best fit gives.
-use Rattle.std.proofs.Common.{◌↔◌, ◌+◌, ◌-◌, ◌<◌, ◌≤◌, ℕ, arith}
-use Rattle.image_tables.specs.Tables.{Tables}
-use Rattle.heap_model.specs.Machine.{Bounds}
+use Rattle.std.proofs.Common.{◌↔◌, ◌+◌, ◌<◌, ◌≤◌, ℕ, arith}
 use Rattle.heap_model.specs.Runs.{IsFreeRow, IsFreeRun, IsBestFit, HasNoFit}
-use Rattle.heap_model.specs.Step.{granules_for}
-use Rattle.heap_check.specs.Sound.{IsVacant}
-use Rattle.arena_core.specs.Plan.{IsAskedOf, IsGivable}
 
 module _ (One Other : ℕ → Type 0) (same : (k : ℕ) → One k ↔ Other k) where
   pub IsFreeRow-same : (start n : ℕ) → IsFreeRow One start n → IsFreeRow Other start n
@@ -40,12 +35,3 @@ HasNoFit-same One Other n same none = record { none = λ start long run. none.no
 -- each granule of the best fit is free
 pub fit_free : (Free : ℕ → Type 0) (n start k : ℕ) → IsBestFit Free n start → start ≤ k → k < start + n → Free k
 fit_free Free n start k fit low high = fit.run.row.each k low (omega (arith, high, fit.enough))
-
--- the best fit of vacant granules for a request may be given to its root
-pub givable : (b : Bounds) (t : Tables) (root size start : ℕ) → IsAskedOf b t root size → IsBestFit (IsVacant b t) (granules_for size) start → IsGivable b t root start (granules_for size)
-givable b t root size start asked fit =
-    let n = granules_for size in
-    let vacant : (k : ℕ) → start ≤ k → k < start + n → IsVacant b t k = λ k low high. fit_free (IsVacant b t) n start k fit low high in
-    let begin = vacant start (omega arith) (omega arith) in
-    let end = vacant (start + n - 1) (omega arith) (omega arith) in
-    record { below = asked.below; none = asked.none; many = omega arith; low = begin.low; high = omega (arith, end.high); vacant = vacant }

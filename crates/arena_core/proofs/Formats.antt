@@ -1,5 +1,6 @@
 -- An arena is formatted: the words that its header line leaves, and those that a crash leaves.
-use Rattle.std.proofs.Common.{◌≡◌, ◌≢◌, ◌↔◌, ℕ, zero, suc, ◌*◌, ◌<◌, ◌≤◌, List, [], ◌∷◌, length, take, refl, sym, ap, subst, ◌∙◌, arith, inl, inr}
+use Rattle.std.proofs.Common.{◌≡◌, ◌≢◌, ◌↔◌, ℕ, zero, suc, ◌*◌, ◌<◌, ◌≤◌, List, [], ◌∷◌, length, take, true, true≢false, Some, None, refl, sym, ap, subst, ◌∙◌, arith, inl, inr}
+use Rattle.std.proofs.lemmas.Bool.{cond-false}
 use Rattle.pmem_lines.specs.Words.{word_at, put_word, AreZeros}
 use Rattle.pmem_lines.specs.declared.event.Event.TheVariants.{Flush, Fence}
 use Rattle.pmem_lines.specs.Events.{reading, IsQuiet, CrashOnly}
@@ -19,6 +20,7 @@ use Rattle.heap_model.specs.Machine.{no_heap}
 use Rattle.heap_check.specs.Image.{IsExactImage}
 use Rattle.heap_check.specs.State.{HasState}
 use Rattle.extent_index.specs.FreeSet.{FreeSet, IsFree}
+use Rattle.slab_index.specs.SlabSet.{SlabSet, class_in}
 use Rattle.heap_check.specs.Formatted.{IsFormatted}
 use Rattle.heap_check.proofs.Geometry.{granules_at-large}
 use Rattle.heap_check.proofs.Formatted.{AreBlank-formatted, header_in-formatted, IsFormed-formatted, law_of_formatted}
@@ -165,29 +167,38 @@ module _ {old begun new : PmemState} {number arenas granules : ℕ} (made : IsWr
   formatted_inside = within_heap (words_of new) (heap_inside (words_of new) (IsFormed-formatted (words_of new) header formatted_device))
 
 -- what an arena keeps, of one that was formatted
-pub formatted_arena : (device : PmemState) (header : PoolHeader) (book : Book) (set : FreeSet) → IsReady device → IsFormatted (words_of device) header → Reads book (words_of device) → book.granules ≡ header.granules →
-    set.granules ≡ header.granules → ((k : ℕ) → IsFree set k ↔ ((4 ≤ k) × (k < header.granules))) → IsArena device book set
-formatted_arena device header book set ready formatted reads size index each =
+pub formatted_arena : (device : PmemState) (header : PoolHeader) (book : Book) (set : FreeSet) (parts : SlabSet) → IsReady device → IsFormatted (words_of device) header → Reads book (words_of device) → book.granules ≡ header.granules →
+    set.granules ≡ header.granules → ((k : ℕ) → IsFree set k ↔ ((4 ≤ k) × (k < header.granules))) → parts.granules ≡ header.granules → ((s : ℕ) → class_in parts s ≡ None) → IsArena device 0 book set parts
+formatted_arena device header book set parts ready formatted reads size index each parts_size no_class =
     let words = words_of device in
     let blank = AreBlank-formatted words header formatted in
     let first = (sizes_of words (IsFormed-formatted words header formatted)).first in
     let granules : granules_in words ≡ header.granules = ap (λ (h : PoolHeader). h.granules) (header_in-formatted words header formatted) in
+    let none : (s : ℕ) → (tables_of words).slab s ≢ true = λ s slab. true≢false (sym slab ∙ blank.no_slab s) in
     record {
-      ready = ready;
-      exact = (law_of_formatted words header formatted).0;
-      no_slab = record { none = blank.no_slab };
-      log = record { reads = reads; granules = size ∙ sym granules };
-      index = record {
-        granules = index ∙ sym granules;
-        each = λ k. (
-          λ free.
-              let within = (each k).0 free in
-              record {
-                low = omega (arith, within.0, first);
-                high = omega (arith, within.1, granules);
-                none = λ start covers. omega (arith, covers.low, covers.high, granules_at-large (tables_of words) start (blank.no_slab start), blank.no_large start);
-              },
-          λ vacant. (each k).1 (omega (arith, vacant.low, first), omega (arith, vacant.high, granules)),
-        );
+      kept = record {
+        ready = ready;
+        exact = (law_of_formatted words header formatted).0;
+        log = record { reads = reads; granules = size ∙ sym granules };
+        index = record {
+          granules = index ∙ sym granules;
+          each = λ k. (
+            λ free.
+                let within = (each k).0 free in
+                record {
+                  low = omega (arith, within.0, first);
+                  high = omega (arith, within.1, granules);
+                  none = λ start covers. omega (arith, covers.low, covers.high, granules_at-large (tables_of words) start (blank.no_slab start), blank.no_large start);
+                },
+            λ vacant. (each k).1 (omega (arith, vacant.low, first), omega (arith, vacant.high, granules)),
+          );
+        };
       };
+      normal = record { each = λ s slab. absurd (none s slab) };
+      slabs = record {
+        granules = parts_size ∙ sym granules;
+        classes = λ s. no_class s ∙ sym (cond-false ((tables_of words).slab s) (Some ((tables_of words).class s)) None (blank.no_slab s));
+        blocks = λ s i slab below. absurd (none s slab);
+      };
+      few = omega arith;
     }

@@ -35,13 +35,13 @@ word_crash made at value other stored place word crash =
 
 module _ (words : List ℕ) (root start count : ℕ) (exact : IsExactImage words) (givable : IsGivable (bounds_of words) (tables_of words) root start count) where
   pub give_place : IsLargePlace (bounds_of words) (tables_of words) root start count
-  give_place = IsLargePlace-vacant exact.exact (omega (arith, (sizes_of words exact.formed).first)) (omega (arith, givable.many)) givable.none givable.vacant
+  give_place = IsLargePlace-vacant exact.exact (omega (arith, (sizes_of words exact.formed).first)) (omega (arith, givable.many)) givable.none givable.row.vacant
 
   -- before
   pub nothing : (tables_of words).large start ≡ 0
   nothing = ⊎_elim
       (λ none. none.0)
-      (λ live. absurd ((givable.vacant start (omega arith) (omega (arith, givable.many))).none start (record {
+      (λ live. absurd ((givable.row.vacant start (omega arith) (omega (arith, givable.many))).none start (record {
         low = omega arith;
         high = omega (arith, granules_at-large (tables_of words) start give_place.no_slab, live.0, givable.many);
       })))

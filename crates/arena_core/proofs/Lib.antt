@@ -7,4 +7,8 @@ pub mod Arenas
 pub mod Formats
 pub mod States
 pub mod Machines
-pub mod Given
+pub mod Called
+pub mod Smalls
+pub mod Slabbed
+pub mod Plans
+pub mod Last

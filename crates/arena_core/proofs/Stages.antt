@@ -192,24 +192,6 @@ module _ {words : List ℕ} {root start count : ℕ} (exact : IsExactImage words
 
   -- the effect
 
-  pub gives_none : (here : ℕ) (image : List ℕ) → IsStageOf words root start here 0 image → GivesRoot words root None image
-  gives_none here image stage = record {
-    here = none_stage here image stage;
-    others = others_stage here 0 image stage;
-    slabs = slabs_stage here 0 image stage;
-    words = stage.heap;
-    bounds = stage.bounds;
-  }
-
-  pub gives_some : (image : List ℕ) → IsStageOf words root start count (16384 * start) image → GivesRoot words root (Some (large_block start count)) image
-  gives_some image stage = record {
-    here = some_stage image stage;
-    others = others_stage count (16384 * start) image stage;
-    slabs = slabs_stage count (16384 * start) image stage;
-    words = stage.heap;
-    bounds = stage.bounds;
-  }
-
   -- a block of the words keeps its words
   pub keeps_stage : (here word : ℕ) (new image : List ℕ) → IsStageOf words root start here word image → KeepsBlocks words new image
   keeps_stage here word new image stage = record { each = λ r range k was _ lies. stage.heap k (block_in_heap r range k was lies) }
@@ -220,3 +202,21 @@ module _ {words : List ℕ} {root start count : ℕ} (exact : IsExactImage words
           let range_within = within.1 in
           let starts = place.sound.starts within.0 (omega (arith, range_within.low, range_within.high, range_within.some)) in
           omega (arith, range_within.low, starts.0, lies.low)
+
+  pub gives_none : (here : ℕ) (image : List ℕ) → IsStageOf words root start here 0 image → GivesRoot words root None (slabs (tables_of words)) image
+  gives_none here image stage = record {
+    here = none_stage here image stage;
+    others = others_stage here 0 image stage;
+    slabs = slabs_stage here 0 image stage;
+    keeps = keeps_stage here 0 image image stage;
+    bounds = stage.bounds;
+  }
+
+  pub gives_some : (image : List ℕ) → IsStageOf words root start count (16384 * start) image → GivesRoot words root (Some (large_block start count)) (slabs (tables_of words)) image
+  gives_some image stage = record {
+    here = some_stage image stage;
+    others = others_stage count (16384 * start) image stage;
+    slabs = slabs_stage count (16384 * start) image stage;
+    keeps = keeps_stage count (16384 * start) image image stage;
+    bounds = stage.bounds;
+  }

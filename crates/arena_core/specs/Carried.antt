@@ -1,5 +1,5 @@
 -- What a call has done once it is carried out.
-use Rattle.std.specs.Prelude.{◌≡◌, ℕ, List, Option, Some}
+use Rattle.std.specs.Prelude.{◌≡◌, ℕ, List, Option}
 use Rattle.pmem_lines.specs.declared.event.Event.{Event}
 use Rattle.pmem_lines.specs.Events.{CrashOnly}
 use Rattle.pmem_lines.specs.Pmem.{PmemState, words_of, Appends}

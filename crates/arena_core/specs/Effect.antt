@@ -1,10 +1,13 @@
 -- What a call changes of the words of an arena: one root's block, and the slabs.
-use Rattle.std.specs.Prelude.{◌≡◌, ◌≢◌, ℕ, Bool, List, Option, None, if◌then◌else◌}
-use Rattle.image_tables.specs.Tables.{tables_of}
+use Rattle.std.specs.Prelude.{◌≡◌, ◌≢◌, ◌⊎◌, ℕ, Bool, true, false, List, Option, Some, None, if◌then◌else◌}
+use Rattle.image_tables.specs.Tables.{Tables, tables_of}
 use Rattle.heap_model.specs.Machine.{Range, with_key}
 use Rattle.heap_check.specs.Heap.{heap, slabs}
+use Rattle.heap_check.specs.Sound.{IsInSlab, HasOther}
 use Rattle.heap_check.specs.Image.{bounds_of}
 use Rattle.heap_check.specs.State.{KeepsBlocks}
+use Rattle.arena_core.specs.declared.plan.Place.{Place}
+use Rattle.arena_core.specs.declared.plan.Place.TheVariants.{Large, Small, Fresh}
 
 -- the root has this block now, or none, these are the slabs, and all else is as before
 pub record GivesRoot (old : List ℕ) (root : ℕ) (block : Option Range) (slab : ℕ → Option ℕ) (new : List ℕ) : Type 0 where
@@ -24,3 +27,13 @@ pub record KeepsSlabs (old new : List ℕ) : Type 0 where
 -- the slabs behind a call that leaves the one at a start without a block, or not
 abbrev pub slabs_but : (ℕ → Option ℕ) → ℕ → Bool → ℕ → Option ℕ
 slabs_but slab start gone = if gone then with_key slab start None else slab
+
+-- the slabs behind a call that places a block
+abbrev pub slabs_behind : Tables → Place → ℕ → Option ℕ
+slabs_behind t (Large start count) = slabs t
+slabs_behind t (Small block class) = slabs t
+slabs_behind t (Fresh start class) = with_key (slabs t) start (Some class)
+
+-- no root but this one has a block in the slab at a start, or some other has
+pub record IsLastOf (t : Tables) (root start : ℕ) (gone : Bool) : Type 0 where
+  pub is : ((gone ≡ true) × ((other : ℕ) → other ≢ root → t.root other ≢ 0 → ¬ (IsInSlab t start (t.root other)))) ⊎ ((gone ≡ false) × HasOther t root start)

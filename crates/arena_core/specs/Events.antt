@@ -10,7 +10,6 @@ use Rattle.pool_layout.specs.Places.{text_word, fields_word, directory_word, roo
 use Rattle.pool_layout.specs.Header.{header_text, header_word}
 use Rattle.size_classes.specs.Classes.{class_size, class_capacity}
 use Rattle.image_tables.specs.Tables.{Tables, tables_of}
-use Rattle.book_log.specs.declared.entry.LogEntry.{LogEntry}
 use Rattle.book_log.specs.declared.entry.LogEntry.TheVariants.{Large, Tomb}
 use Rattle.log_steps.specs.Events.{first_zero, log_events}
 use Rattle.slab_steps.specs.Steps.{open_events, drop_events}

@@ -1,6 +1,6 @@
 -- What a call decides before its first store, over the tables of the image at its begin.
 use Rattle.std.specs.Prelude.{◌≡◌, ◌≢◌, ◌⊎◌, ℕ, ◌+◌, ◌-◌, ◌*◌, ◌<◌, ◌≤◌, true, false, Option, Some, None, MatchOption, Result, Ok, Err}
-use Rattle.size_classes.specs.Classes.{class_size, class_capacity, IsClassOf, granules_of}
+use Rattle.size_classes.specs.Classes.{class_capacity, IsClassOf, granules_of}
 use Rattle.image_tables.specs.Tables.{Tables}
 use Rattle.heap_model.specs.Machine.{Bounds, Range, slab_block}
 use Rattle.heap_model.specs.Runs.{IsBestFit, HasNoFit}

@@ -1,9 +1,10 @@
 // What a call does, once it has begun.
-ghost use Rattle.std.specs.Prelude.{◌≡◌, ◌<◌, ◌≤◌, ◌*◌, ℕ, true, [], Some, None, length};
+ghost use Rattle.std.specs.Prelude.{◌≡◌, ◌<◌, ◌≤◌, ◌*◌, ℕ, true, [], Some, None, Ok, length};
 ghost use Rattle.pmem_lines.specs.Events.{reading, IsQuiet, CrashOnly};
 ghost use Rattle.pmem_lines.specs.Pmem.{words_of, Appends};
 ghost use Rattle.image_tables.specs.Tables.{tables_of};
 ghost use Rattle.heap_model.specs.declared.call.Call.TheVariants as calls;
+ghost use Rattle.heap_model.specs.declared.call.Reply.TheVariants as replies;
 ghost use Rattle.heap_model.specs.Machine.{with_key, slab_block};
 ghost use Rattle.heap_check.specs.Heap.{slabs as classes_of};
 ghost use Rattle.heap_check.specs.Image.{bounds_of, IsExactButImage};
@@ -15,9 +16,9 @@ ghost use Rattle.arena_core.specs.Answer.{malloc_reply, free_reply};
 ghost use Rattle.arena_core.specs.Arena.{HasNormalSlabs, IsIndexOf, IsSlabsOf, IsKept, IsArena};
 ghost use Rattle.arena_core.specs.Call.{IsReady};
 ghost use Rattle.arena_core.specs.Carried.{IsDone, IsTidied, IsCalled};
-ghost use Rattle.arena_core.specs.Effect.{GivesRoot, KeepsSlabs, slabs_but};
+ghost use Rattle.arena_core.specs.Effect.{GivesRoot, KeepsSlabs, IsLastOf, slabs_but};
 ghost use Rattle.arena_core.specs.Events.{place_events, take_events, fresh_events, unsmall_events, holds_none};
-ghost use Rattle.arena_core.specs.Plan.{IsAskedOf, IsVacantRow, IsGivable, IsTakable, IsNamedSmall, IsMallocPlan, IsFreePlan};
+ghost use Rattle.arena_core.specs.Plan.{IsAskedOf, IsVacantRow, IsGivable, IsTakable, IsNamedSmall, IsHeldBy, IsMallocPlan, IsFreePlan};
 
 use crate::plan::{Held, Place, freed_of, placed_at};
 use crate::{FreeRefusal, Freed, MallocRefusal, Placed};
@@ -46,7 +47,27 @@ pub(crate) fn carry_out_malloc<P: Pmem>(
     requires plan { (size : ℕ) × IsMallocPlan (bounds_of (words_of (P.state device.old))) (tables_of (words_of (P.state device.old))) root size plan }
     ensures { (size : ℕ) → IsMallocPlan (bounds_of (words_of (P.state device.old))) (tables_of (words_of (P.state device.old))) root size plan → IsCalled (P.state device.old) (P.state device.new) turn.old turn.new log.new free.new slabs.new root (calls.Malloc root size) (malloc_reply result) }
 {
-    let place = plan?;
+    match plan {
+        Ok(place) => Ok(carry_out_place(device, log, free, slabs, turn, root, place)),
+        Err(refusal) => Err(refusal),
+    }
+}
+
+// Gives a root the block at a place.
+fn carry_out_place<P: Pmem>(
+    device: &mut P,
+    log: &mut BookLog,
+    free: &mut ExtentIndex,
+    slabs: &mut SlabIndex,
+    turn: &mut u32,
+    root: u32,
+    place: Place,
+) -> Placed
+    requires arena { IsArena (P.state device.old) turn.old log.old free.old slabs.old }
+    requires fresh { (P.state device.old).events ≡ [] }
+    requires plan { (size : ℕ) × IsMallocPlan (bounds_of (words_of (P.state device.old))) (tables_of (words_of (P.state device.old))) root size (Ok place) }
+    ensures { (size : ℕ) → IsMallocPlan (bounds_of (words_of (P.state device.old))) (tables_of (words_of (P.state device.old))) root size (Ok place) → IsCalled (P.state device.old) (P.state device.new) turn.old turn.new log.new free.new slabs.new root (calls.Malloc root size) (replies.Placed result.at result.size) }
+{
     match place {
         Place::Large { start, granules } => give_large(device, log, free, root, start, granules),
         Place::Small { block, class: _ } => {
@@ -58,7 +79,7 @@ pub(crate) fn carry_out_malloc<P: Pmem>(
             *turn = (*turn + 1) % 8;
         }
     }
-    Ok(placed_at(place))
+    placed_at(place)
 }
 
 /// Does what the plan of a free says, and answers the call. `turn` is the write-ahead line of the next entry.
@@ -76,7 +97,27 @@ pub(crate) fn carry_out_free<P: Pmem>(
     requires plan { IsFreePlan (bounds_of (words_of (P.state device.old))) (tables_of (words_of (P.state device.old))) root plan }
     ensures { IsCalled (P.state device.old) (P.state device.new) turn.old turn.new log.new free.new slabs.new root (calls.Free root) (free_reply result) }
 {
-    let held = plan?;
+    match plan {
+        Ok(held) => Ok(carry_out_held(device, log, free, slabs, turn, root, held)),
+        Err(refusal) => Err(refusal),
+    }
+}
+
+// Takes what it holds from a root.
+fn carry_out_held<P: Pmem>(
+    device: &mut P,
+    log: &mut BookLog,
+    free: &mut ExtentIndex,
+    slabs: &mut SlabIndex,
+    turn: &mut u32,
+    root: u32,
+    held: Held,
+) -> Freed
+    requires arena { IsArena (P.state device.old) turn.old log.old free.old slabs.old }
+    requires fresh { (P.state device.old).events ≡ [] }
+    requires plan { IsHeldBy (bounds_of (words_of (P.state device.old))) (tables_of (words_of (P.state device.old))) root held }
+    ensures { IsCalled (P.state device.old) (P.state device.new) turn.old turn.new log.new free.new slabs.new root (calls.Free root) (replies.Freed result.at result.size) }
+{
     match held {
         Held::Large { start, granules } => take_large(device, log, free, root, start, granules),
         Held::Small { block, class } => {
@@ -84,7 +125,7 @@ pub(crate) fn carry_out_free<P: Pmem>(
             *turn = (*turn + 1) % 8;
         }
     }
-    Ok(freed_of(held))
+    freed_of(held)
 }
 
 // Gives granules to a root: their extent goes into the log, and then the root gets its address.
@@ -142,6 +183,7 @@ fn give_small<P: Pmem>(
     block: SmallBlock,
 )
     requires ready { IsReady (P.state device.old) }
+    requires few { length (P.state device.old).events ≤ 757 }
     requires line { line < 8 }
     requires attachable { IsAttachable (words_of (P.state device.old)) root block }
     requires normal { HasNormalSlabs (words_of (P.state device.old)) }
@@ -228,7 +270,8 @@ fn take_small<P: Pmem>(
     requires arena { IsArena (P.state device.old) line log.old free.old slabs.old }
     requires fresh { (P.state device.old).events ≡ [] }
     requires named { IsNamedSmall (bounds_of (words_of (P.state device.old))) (tables_of (words_of (P.state device.old))) root block class }
-    ensures { let left = reading (words_of (P.state device.old)) (detach_events (words_of (P.state device.old)) line root block) in IsDone (P.state device.old) (P.state device.new) log.new free.new slabs.new root None (slabs_but (classes_of (tables_of (words_of (P.state device.old)))) block.start (holds_none (tables_of left) block.start)) (unsmall_events (words_of (P.state device.old)) line root block) }
+    ensures last { let left = reading (words_of (P.state device.old)) (detach_events (words_of (P.state device.old)) line root block) in IsLastOf (tables_of (words_of (P.state device.old))) root block.start (holds_none (tables_of left) block.start) }
+    ensures done { let left = reading (words_of (P.state device.old)) (detach_events (words_of (P.state device.old)) line root block) in IsDone (P.state device.old) (P.state device.new) log.new free.new slabs.new root None (slabs_but (classes_of (tables_of (words_of (P.state device.old)))) block.start (holds_none (tables_of left) block.start)) (unsmall_events (words_of (P.state device.old)) line root block) }
 {
     take_block(device, slabs, line, root, block);
     drop_if_empty(device, log, free, slabs, block.start, class);
@@ -243,6 +286,7 @@ fn take_block<P: Pmem>(
     block: SmallBlock,
 )
     requires ready { IsReady (P.state device.old) }
+    requires fresh { (P.state device.old).events ≡ [] }
     requires line { line < 8 }
     requires detachable { IsDetachable (words_of (P.state device.old)) root block }
     requires normal { HasNormalSlabs (words_of (P.state device.old)) }

@@ -1,14 +1,14 @@
 // One arena over persistent memory, used by one caller at a time.
 //
-// `Arena` gives large blocks, of whole granules, to the roots of an arena. Its contracts speak of what the words of its
-// memory say, by the definitions of `heap_check`: the heap, the state of the machine in `heap_model`, and when an image
-// is exact or steady. Each call is a step of the machine (`IsStepOf`), begins once and then has exactly the events of
-// `specs/Events.antt`, and leaves an exact image; a crash at any of its events leaves a steady image with the heap from
-// before the call or from after it (`IsEitherHeap`).
+// `Arena` gives blocks to the roots of an arena: small ones in slabs of their size class, large ones of whole granules. Its
+// contracts speak of what the words of its memory say, by the definitions of `heap_check`: the heap, the state of the
+// machine in `heap_model`, and when an image is exact or steady. Each call is a step of the machine (`IsStepOf`), begins
+// once and then has exactly the events of `specs/Events.antt`, and leaves an exact image; a crash at any of its events
+// leaves a steady image with the heap from before the call or from after it (`IsEitherHeap`).
 //
 // A call plans, begins, and carries out: `specs/Plan.antt` has what a plan decides. `ArenaRoom` takes the memory that an
 // arena needs, and no call of `Arena` takes any. The layer above knows these contracts, and nothing of the log's table
-// and the index of free granules that an arena keeps beside the words (`specs/Arena.antt`).
+// and of the indexes of free granules and of slabs that an arena keeps beside the words (`specs/Arena.antt`).
 #![tactic(auto, using(std::proofs::lemmas::Grind::common_steps))]
 
 mod answer;

@@ -93,7 +93,8 @@ pub(crate) fn plan_malloc<P: Pmem>(
 
 // A place for a block of a class: the lowest free block of the lowest slab that has one, or a new slab at the best fit.
 fn small_place(free: &ExtentIndex, slabs: &SlabIndex, class: u8) -> Option<Place>
-    requires { class < 36 }
+    requires class { class < 36 }
+    requires few { (start class : ℕ) → class_in slabs.now start ≡ Some class → start < 1024 }
     ensures { (words : List ℕ) → IsExactImage words → HasNormalSlabs words → IsIndexOf free.now words → IsSlabsOf slabs.now words → IsSmallPlan (bounds_of words) (tables_of words) class result }
 {
     match slabs.lowest(class) {

@@ -38,7 +38,7 @@ first_zero-none row (suc n) none =
     ∙ cond-false (eqb (row n) 0) n (suc n) (ne_eqb (row n) 0 (none n (omega arith)))
 
 -- the first 0 of a row
-first_zero-is : (row : ℕ → ℕ) (n i : ℕ) → i < n → row i ≡ 0 → ((earlier : ℕ) → earlier < i → row earlier ≢ 0) → first_zero row n ≡ i
+pub first_zero-is : (row : ℕ → ℕ) (n i : ℕ) → i < n → row i ≡ 0 → ((earlier : ℕ) → earlier < i → row earlier ≢ 0) → first_zero row n ≡ i
 first_zero-is row zero i below here first = absurd (omega arith)
 first_zero-is row (suc n) i below here first = ⊎_elim
     (λ (last : i ≡ n).

@@ -2,7 +2,8 @@
 // hand.
 //
 // The crate has no code. It stands apart from `nvheap`, since a crate with tests is proved twice. `rows` has the rows,
-// `faults` sources and sinks that fail, `logs` traces that fill an arena's log, and `runs` how they all run.
+// `faults` sources and sinks that fail, `logs` traces that fill an arena's log, `words` what is left on the device, and
+// `runs` how they all run.
 #![tactic(auto)]
 
 #[cfg(test)]
@@ -13,3 +14,5 @@ mod logs;
 mod rows;
 #[cfg(test)]
 mod runs;
+#[cfg(test)]
+mod words;

@@ -1,12 +1,9 @@
 // Runs in which the log of an arena is full: it drops a chunk, or is written anew.
-use crate::runs::{ends_and_writes, words_of};
-use nvheap::{KeptShelf, MemSink, OpenGate, Status, SureSource, run};
-use pmem_lines::Pmem;
+use crate::runs::{ends_and_writes, word_after};
+use nvheap::Status;
 use std::alloc::Global;
 use std::str;
-use std::sync::Wait;
 use std::test::Fail;
-use std::thread::Threads;
 
 // The byte of an arena's word that names the chunks of its log, in order.
 const DIRECTORY_AT: u32 = 16;
@@ -67,31 +64,6 @@ fn repeats(alloc: Global) -> Result<String, Fail> {
     Ok(trace)
 }
 
-// The directory of the device that a replay leaves on a shelf.
-fn directory_after<R: Threads + Wait + Sync>(
-    rt: &R,
-    alloc: Global,
-    trace: &str,
-) -> Result<u64, Fail> {
-    let words = words_of(alloc, "replay")?;
-    let mut source = SureSource::new(trace.as_bytes());
-    let mut sink = MemSink::new(alloc, &[], usize::MAX);
-    let mut shelf = KeptShelf::new(alloc)?;
-    let _ = run(
-        rt,
-        alloc,
-        &words,
-        &mut source,
-        &mut sink,
-        &OpenGate,
-        &mut shelf,
-    );
-    match shelf.device(0) {
-        Some(device) if device.size_words() > 2 => Ok(device.load(DIRECTORY_AT)),
-        _ => Ok(0),
-    }
-}
-
 #[test]
 fn leaves_the_directory(rt: HostRuntime) -> Result<(), Fail> {
     let rows = [
@@ -100,10 +72,8 @@ fn leaves_the_directory(rt: HostRuntime) -> Result<(), Fail> {
         (repeats(rt.alloc())?, 0x0301),
     ];
     for (trace, directory) in &rows {
-        assert_eq!(rt;
-            directory_after(&rt, rt.alloc(), trace.as_str())?,
-            *directory
-        );
+        let word = word_after(&rt, rt.alloc(), trace.as_str(), DIRECTORY_AT)?;
+        assert_eq!(rt; word, Some(*directory));
     }
     Ok(())
 }

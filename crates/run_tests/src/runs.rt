@@ -1,5 +1,6 @@
-// How a run over memory ends, and what it writes.
+// How a run over memory ends, what it writes, and what it leaves on the shelf.
 use nvheap::{KeptShelf, MemSink, OpenGate, Sink, Source, Status, SureSource, run};
+use pmem_lines::Pmem;
 use std::alloc::{AllocError, Global};
 use std::sync::Wait;
 use std::test::Fail;
@@ -39,4 +40,33 @@ pub(crate) fn ends_and_writes<R: Threads + Wait + Sync>(
     let status = ends(rt, alloc, line, &mut source, &mut sink)?;
     let taken = sink.bytes().to_vec(alloc)?;
     Ok((status, taken))
+}
+
+/// The word at an address of the device that a replay of a trace leaves on a shelf. The address lies in the first 16
+/// granules.
+pub(crate) fn word_after<R: Threads + Wait + Sync>(
+    rt: &R,
+    alloc: Global,
+    trace: &str,
+    at: u32,
+) -> Result<Option<u64>, Fail> {
+    let words = words_of(alloc, "replay")?;
+    let mut source = SureSource::new(trace.as_bytes());
+    let mut sink = MemSink::new(alloc, &[], usize::MAX);
+    let mut shelf = KeptShelf::new(alloc)?;
+    let _ = run(
+        rt,
+        alloc,
+        &words,
+        &mut source,
+        &mut sink,
+        &OpenGate,
+        &mut shelf,
+    );
+    match shelf.device(0) {
+        Some(device) if at % 8 == 0 && at < 262_144 && device.size_words() >= 32_768 => {
+            Ok(Some(device.load(at)))
+        }
+        _ => Ok(None),
+    }
 }

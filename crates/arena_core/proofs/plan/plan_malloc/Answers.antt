@@ -1,18 +1,15 @@
-use Rattle.std.proofs.Common.{◌≡◌, ◌≢◌, ◌<◌, ◌≤◌, ◌-◌, ◌*◌, ℕ, List, sym, ap, ◌∙◌, subst, arith}
+use Rattle.std.proofs.Common.{◌≡◌, ◌≢◌, ◌<◌, ◌≤◌, ◌-◌, ◌*◌, ℕ, List, refl, sym, ap, ◌∙◌, subst, arith, inl, inr, ⊎_elim, MatchOption}
 use Rattle.pmem_lines.specs.Pmem.{words_of}
 use Rattle.pool_layout.specs.declared.layout.Layout.{Layout}
 use Rattle.pool_layout.specs.Layout.{layout_of}
 use Rattle.pool_layout.specs.Header.{version_in, granules_in}
 use Rattle.image_tables.specs.Tables.{tables_of}
-use Rattle.heap_model.specs.Runs.{IsBestFit, HasNoFit}
-use Rattle.heap_model.specs.Step.{granules_for}
-use Rattle.extent_index.specs.FreeSet.{IsFree}
-use Rattle.heap_check.specs.Sound.{IsVacant}
 use Rattle.heap_check.specs.Image.{bounds_of}
-use Rattle.arena_core.specs.Plan.{IsAskedOf}
+use Rattle.arena_core.specs.Plan.{IsAskedOf, IsPlacing, HasNoSmall, HasNoLarge}
 use Rattle.heap_check.proofs.Sizes.{sizes_of}
-use Rattle.arena_core.proofs.Fits.{IsBestFit-same, HasNoFit-same, givable}
+use Rattle.arena_core.proofs.Plans.{small_found, large_found, slab_few}
 use Rattle.arena_core.proofs.plan.plan_malloc.Goals as goal
+use Rattle.arena_core.proofs.plan.plan_malloc.Goals.{in-Some, in-None}
 
 pub overflow_sub-heap : goal.overflow_sub-heap
 overflow_sub-heap g c =
@@ -20,15 +17,6 @@ overflow_sub-heap g c =
     let sizes = sizes_of words c.requires.exact.formed in
     let first = ap (λ (layout : Layout). layout.first_granule) c.layout_in-layout.ensures in
     omega (arith, sizes.first, sizes.least, first, c.granules_in.ensures)
-
-pub granule_at-requires : goal.granule_at-requires
-granule_at-requires g c =
-    let words = words_of (g.P.Pmem.state c.args.device.now) in
-    let sizes = sizes_of words c.requires.exact.formed in
-    let some = c.in-Some.ensures.run.some in
-    let free = c.in-Some.ensures.run.row.each c.in-Some.start (omega arith) (omega (arith, some)) in
-    let vacant = (c.requires.index.each c.in-Some.start).0 free in
-    omega (arith, vacant.high, sizes.most)
 
 -- a request passes the tests on what was read of the arena
 asked_of : (words : List ℕ) (root size held granules bytes : ℕ) (layout : Layout) → layout ≡ layout_of (version_in words) → granules ≡ granules_in words → held ≡ (tables_of words).root root →
@@ -38,28 +26,43 @@ asked_of words root size held granules bytes layout row all word heap below none
     let first = ap (λ (layout : Layout). layout.first_granule) row in
     record { below = omega (arith, below, roots); none = sym word ∙ none; some = some; most = omega (arith, most, heap, all, first) }
 
-pub returns-in-Some : goal.returns-in-Some
-returns-in-Some g c =
+pub returns-in-Some-place : goal.returns-in-Some-place
+returns-in-Some-place g c =
     let words = words_of (g.P.Pmem.state c.args.device.now) in
     let b = bounds_of words in
     let t = tables_of words in
     let asked = asked_of words c.args.root c.args.size c.root_word-held.result c.granules_in.result c.from.result c.layout_in-layout.result
-    c.layout_in-layout.ensures c.granules_in.ensures c.root_word-held.ensures c.from.ensures c.if-root-layout.false c.if-held-ne0.false c.if-size-eq0.false c.if-size-from.false in
-    let free : IsBestFit (IsFree c.args.free.now) (granules_for c.args.size) c.in-Some.start = subst (λ n. IsBestFit (IsFree c.args.free.now) n c.in-Some.start) c.granules_for-granules.ensures c.in-Some.ensures in
-    let fit = IsBestFit-same (IsFree c.args.free.now) (IsVacant b t) (granules_for c.args.size) c.in-Some.start c.requires.index.each free in
-    record {
-      asked = asked;
-      start = c.in-Some.start;
-      fit = fit;
-      givable = givable b t c.args.root c.args.size c.in-Some.start asked fit;
-      at = omega (arith, c.granule_at.ensures);
-      given = ap (λ n. 16384 * n) c.granules_for-granules.ensures;
-    }
+    c.layout_in-layout.ensures c.granules_in.ensures c.root_word-held.ensures c.from.ensures c.if-root-layout.false c.if-held-ne0.false c.if-size-eq0.false c.if-size-from.false in (
+      asked,
+      elim c.match-class_of.branch [
+        | in-Some w ↦
+            subst (λ o. MatchOption o (HasNoSmall b t c.args.size) (IsPlacing b t c.args.root c.args.size)) (sym w.place-is ∙ c.in-Some-place.is)
+            (small_found b t c.args.root c.args.size w.in-Some.class w.small_place-place.result w.in-Some.ensures.class (w.small_place-place.ensures words c.requires.exact c.requires.normal c.requires.index c.requires.slabs))
+        | in-None w ↦
+            let large : 16384 < c.args.size = ⊎_elim (λ zero. absurd (c.if-size-eq0.false zero)) (λ large. large) (w.in-None.ensures.none.0 refl) in
+            subst (λ o. MatchOption o (HasNoLarge b t c.args.size) (IsPlacing b t c.args.root c.args.size)) (sym w.place-is ∙ c.in-Some-place.is)
+            (large_found b t c.args.root c.args.size w.granules.result w.large_place-place.result asked large w.granules.ensures (w.large_place-place.ensures words c.requires.exact c.requires.index))
+      ],
+    )
 
-pub returns-in-None : goal.returns-in-None
-returns-in-None g c =
+pub returns-in-None-place : goal.returns-in-None-place
+returns-in-None-place g c =
     let words = words_of (g.P.Pmem.state c.args.device.now) in
+    let b = bounds_of words in
+    let t = tables_of words in
     let asked = asked_of words c.args.root c.args.size c.root_word-held.result c.granules_in.result c.from.result c.layout_in-layout.result
-    c.layout_in-layout.ensures c.granules_in.ensures c.root_word-held.ensures c.from.ensures c.if-root-layout.false c.if-held-ne0.false c.if-size-eq0.false c.if-size-from.false in
-    let none : HasNoFit (IsFree c.args.free.now) (granules_for c.args.size) = subst (HasNoFit (IsFree c.args.free.now)) c.granules_for-granules.ensures c.in-None.ensures in
-    (asked, HasNoFit-same (IsFree c.args.free.now) (IsVacant (bounds_of words) (tables_of words)) (granules_for c.args.size) c.requires.index.each none)
+    c.layout_in-layout.ensures c.granules_in.ensures c.root_word-held.ensures c.from.ensures c.if-root-layout.false c.if-held-ne0.false c.if-size-eq0.false c.if-size-from.false in (
+      asked,
+      elim c.match-class_of.branch [
+        | in-Some w ↦
+            inl (subst (λ o. MatchOption o (HasNoSmall b t c.args.size) (IsPlacing b t c.args.root c.args.size)) (sym w.place-is ∙ c.in-None-place.is)
+            (small_found b t c.args.root c.args.size w.in-Some.class w.small_place-place.result w.in-Some.ensures.class (w.small_place-place.ensures words c.requires.exact c.requires.normal c.requires.index c.requires.slabs)))
+        | in-None w ↦
+            let large : 16384 < c.args.size = ⊎_elim (λ zero. absurd (c.if-size-eq0.false zero)) (λ large. large) (w.in-None.ensures.none.0 refl) in
+            inr (subst (λ o. MatchOption o (HasNoLarge b t c.args.size) (IsPlacing b t c.args.root c.args.size)) (sym w.place-is ∙ c.in-None-place.is)
+            (large_found b t c.args.root c.args.size w.granules.result w.large_place-place.result asked large w.granules.ensures (w.large_place-place.ensures words c.requires.exact c.requires.index)))
+      ],
+    )
+
+pub small_place-place-requires-clause-few : goal.small_place-place-requires-clause-few
+small_place-place-requires-clause-few g c = slab_few c.requires.exact c.requires.slabs

@@ -5,7 +5,7 @@ use Rattle.pool_layout.specs.Places.{root_word}
 use Rattle.image_tables.specs.Tables.{tables_of}
 use Rattle.heap_check.proofs.Sizes.{sizes_of, root_inside}
 use Rattle.image_tables.proofs.Tables.{root_table}
-use Rattle.arena_core.proofs.Blocks.{root-small}
+use Rattle.arena_core.proofs.Plans.{word-small}
 use Rattle.arena_core.proofs.plan.root_word.Goals as goal
 
 pub root_at-requires : goal.root_at-requires
@@ -32,4 +32,4 @@ overflow_cast-result g c =
     let words = words_of (g.P.Pmem.state c.args.device.now) in
     let here : c.root_at.result / 8 ≡ root_word c.args.root = omega (arith, c.root_at.ensures) in
     let is : c.load.result ≡ (tables_of words).root c.args.root = c.load.ensures ∙ ap (word_at words) here ∙ sym (root_table words c.args.root c.requires.root) in
-    omega (arith, is, root-small words c.args.root c.requires.exact c.requires.no_slab)
+    omega (arith, is, word-small c.requires.exact c.args.root)

@@ -56,8 +56,9 @@ invariant_of-result g c =
     } in
     let header : PoolHeader = record { version = 1; number = c.args.number; arenas = c.args.arenas; granules = c.granules.result } in
     let same = sym c.granules.ensures.granules in
-    formatted_arena (state c.write_header.new.device) header c.load.new.self c.room.inside.free (formatted_ready made) (formatted_device made) c.load.ensures.reads (c.load.ensures.granules ∙ same)
+    formatted_arena (state c.write_header.new.device) header c.load.new.self c.room.inside.free c.room.inside.slabs (formatted_ready made) (formatted_device made) c.load.ensures.reads (c.load.ensures.granules ∙ same)
     (c.room.invariant.index ∙ same) (subst (λ (n : ℕ). (k : ℕ) → IsFree c.room.inside.free k ↔ ((4 ≤ k) × (k < n))) same c.room.invariant.each)
+    (c.room.invariant.slabs ∙ same) c.room.invariant.no_slab
 
 pub returns-clause-ready : goal.returns-clause-ready
 returns-clause-ready g c =

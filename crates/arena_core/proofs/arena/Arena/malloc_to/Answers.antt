@@ -4,18 +4,49 @@ use Rattle.image_tables.specs.Tables.{tables_of}
 use Rattle.heap_model.specs.declared.call.Call.TheVariants as calls
 use Rattle.heap_check.specs.Image.{bounds_of}
 use Rattle.arena_core.specs.Answer.{malloc_reply}
-use Rattle.arena_core.specs.Call.{IsStepOf}
 use Rattle.arena_core.specs.Plan.{IsMallocPlan}
+use Rattle.arena_core.proofs.Called.{answered_by}
 use Rattle.arena_core.proofs.arena.Arena.malloc_to.Goals as goal
 
 pub carry_out_malloc-requires-clause-plan : goal.carry_out_malloc-requires-clause-plan
-carry_out_malloc-requires-clause-plan g c =
-    (c.args.size, subst (λ (s : PmemState). IsMallocPlan (bounds_of (words_of s)) (tables_of (words_of s)) c.args.root c.args.size c.plan_malloc-reply.result) (sym c.begin.ensures.state) c.plan_malloc-reply.ensures)
+carry_out_malloc-requires-clause-plan g c = (c.args.size, subst (λ (s : PmemState). IsMallocPlan (bounds_of (words_of s)) (tables_of (words_of s)) c.args.root c.args.size c.plan_malloc-plan.result) (sym c.begin.ensures.state) c.plan_malloc-plan.ensures)
+
+pub invariant_of-self : goal.invariant_of-self
+invariant_of-self g c =
+    (answered_by (record { device = g.P.Pmem.state c.self.inside.device; turn = c.self.inside.turn }) c.args.self.now (g.P.Pmem.state c.begin.new.self) (g.P.Pmem.state c.carry_out_malloc.new.device) c.carry_out_malloc.new.turn c.carry_out_malloc.new.log c.carry_out_malloc.new.free c.carry_out_malloc.new.slabs c.args.root (calls.Malloc c.args.root c.args.size) (malloc_reply c.carry_out_malloc.result)
+    c.self.view_is c.begin.ensures.state (c.carry_out_malloc.ensures c.args.size (subst (λ (s : PmemState). IsMallocPlan (bounds_of (words_of s)) (tables_of (words_of s)) c.args.root c.args.size c.plan_malloc-plan.result) (sym c.begin.ensures.state) c.plan_malloc-plan.ensures))).arena
 
 pub returns-clause-step : goal.returns-clause-step
 returns-clause-step g c =
-    let reply = c.plan_malloc-reply.result in
-    let new = words_of (g.P.Pmem.state c.carry_out_malloc.new.device) in
-    let plan = subst (λ (s : PmemState). IsMallocPlan (bounds_of (words_of s)) (tables_of (words_of s)) c.args.root c.args.size reply) (sym c.begin.ensures.state) c.plan_malloc-reply.ensures in
-    let step = subst (λ (s : PmemState). IsStepOf (words_of s) new (calls.Malloc c.args.root c.args.size) (malloc_reply reply)) c.begin.ensures.state (c.carry_out_malloc.ensures.step c.args.size plan) in
-    subst (λ (s : PmemState). IsStepOf (words_of s) new (calls.Malloc c.args.root c.args.size) (malloc_reply reply)) c.self.view_is step
+    (answered_by (record { device = g.P.Pmem.state c.self.inside.device; turn = c.self.inside.turn }) c.args.self.now (g.P.Pmem.state c.begin.new.self) (g.P.Pmem.state c.carry_out_malloc.new.device) c.carry_out_malloc.new.turn c.carry_out_malloc.new.log c.carry_out_malloc.new.free c.carry_out_malloc.new.slabs c.args.root (calls.Malloc c.args.root c.args.size) (malloc_reply c.carry_out_malloc.result)
+    c.self.view_is c.begin.ensures.state (c.carry_out_malloc.ensures c.args.size (subst (λ (s : PmemState). IsMallocPlan (bounds_of (words_of s)) (tables_of (words_of s)) c.args.root c.args.size c.plan_malloc-plan.result) (sym c.begin.ensures.state) c.plan_malloc-plan.ensures))).step
+
+pub returns-clause-device : goal.returns-clause-device
+returns-clause-device g c =
+    (answered_by (record { device = g.P.Pmem.state c.self.inside.device; turn = c.self.inside.turn }) c.args.self.now (g.P.Pmem.state c.begin.new.self) (g.P.Pmem.state c.carry_out_malloc.new.device) c.carry_out_malloc.new.turn c.carry_out_malloc.new.log c.carry_out_malloc.new.free c.carry_out_malloc.new.slabs c.args.root (calls.Malloc c.args.root c.args.size) (malloc_reply c.carry_out_malloc.result)
+    c.self.view_is c.begin.ensures.state (c.carry_out_malloc.ensures c.args.size (subst (λ (s : PmemState). IsMallocPlan (bounds_of (words_of s)) (tables_of (words_of s)) c.args.root c.args.size c.plan_malloc-plan.result) (sym c.begin.ensures.state) c.plan_malloc-plan.ensures))).device
+
+pub returns-clause-turn : goal.returns-clause-turn
+returns-clause-turn g c =
+    (answered_by (record { device = g.P.Pmem.state c.self.inside.device; turn = c.self.inside.turn }) c.args.self.now (g.P.Pmem.state c.begin.new.self) (g.P.Pmem.state c.carry_out_malloc.new.device) c.carry_out_malloc.new.turn c.carry_out_malloc.new.log c.carry_out_malloc.new.free c.carry_out_malloc.new.slabs c.args.root (calls.Malloc c.args.root c.args.size) (malloc_reply c.carry_out_malloc.result)
+    c.self.view_is c.begin.ensures.state (c.carry_out_malloc.ensures c.args.size (subst (λ (s : PmemState). IsMallocPlan (bounds_of (words_of s)) (tables_of (words_of s)) c.args.root c.args.size c.plan_malloc-plan.result) (sym c.begin.ensures.state) c.plan_malloc-plan.ensures))).turn_is
+
+pub returns-clause-keeps : goal.returns-clause-keeps
+returns-clause-keeps g c =
+    (answered_by (record { device = g.P.Pmem.state c.self.inside.device; turn = c.self.inside.turn }) c.args.self.now (g.P.Pmem.state c.begin.new.self) (g.P.Pmem.state c.carry_out_malloc.new.device) c.carry_out_malloc.new.turn c.carry_out_malloc.new.log c.carry_out_malloc.new.free c.carry_out_malloc.new.slabs c.args.root (calls.Malloc c.args.root c.args.size) (malloc_reply c.carry_out_malloc.result)
+    c.self.view_is c.begin.ensures.state (c.carry_out_malloc.ensures c.args.size (subst (λ (s : PmemState). IsMallocPlan (bounds_of (words_of s)) (tables_of (words_of s)) c.args.root c.args.size c.plan_malloc-plan.result) (sym c.begin.ensures.state) c.plan_malloc-plan.ensures))).keeps
+
+pub returns-clause-exact : goal.returns-clause-exact
+returns-clause-exact g c =
+    (answered_by (record { device = g.P.Pmem.state c.self.inside.device; turn = c.self.inside.turn }) c.args.self.now (g.P.Pmem.state c.begin.new.self) (g.P.Pmem.state c.carry_out_malloc.new.device) c.carry_out_malloc.new.turn c.carry_out_malloc.new.log c.carry_out_malloc.new.free c.carry_out_malloc.new.slabs c.args.root (calls.Malloc c.args.root c.args.size) (malloc_reply c.carry_out_malloc.result)
+    c.self.view_is c.begin.ensures.state (c.carry_out_malloc.ensures c.args.size (subst (λ (s : PmemState). IsMallocPlan (bounds_of (words_of s)) (tables_of (words_of s)) c.args.root c.args.size c.plan_malloc-plan.result) (sym c.begin.ensures.state) c.plan_malloc-plan.ensures))).arena.kept.exact
+
+pub returns-clause-ready : goal.returns-clause-ready
+returns-clause-ready g c =
+    (answered_by (record { device = g.P.Pmem.state c.self.inside.device; turn = c.self.inside.turn }) c.args.self.now (g.P.Pmem.state c.begin.new.self) (g.P.Pmem.state c.carry_out_malloc.new.device) c.carry_out_malloc.new.turn c.carry_out_malloc.new.log c.carry_out_malloc.new.free c.carry_out_malloc.new.slabs c.args.root (calls.Malloc c.args.root c.args.size) (malloc_reply c.carry_out_malloc.result)
+    c.self.view_is c.begin.ensures.state (c.carry_out_malloc.ensures c.args.size (subst (λ (s : PmemState). IsMallocPlan (bounds_of (words_of s)) (tables_of (words_of s)) c.args.root c.args.size c.plan_malloc-plan.result) (sym c.begin.ensures.state) c.plan_malloc-plan.ensures))).arena.kept.ready
+
+pub returns-clause-crash : goal.returns-clause-crash
+returns-clause-crash g c =
+    (answered_by (record { device = g.P.Pmem.state c.self.inside.device; turn = c.self.inside.turn }) c.args.self.now (g.P.Pmem.state c.begin.new.self) (g.P.Pmem.state c.carry_out_malloc.new.device) c.carry_out_malloc.new.turn c.carry_out_malloc.new.log c.carry_out_malloc.new.free c.carry_out_malloc.new.slabs c.args.root (calls.Malloc c.args.root c.args.size) (malloc_reply c.carry_out_malloc.result)
+    c.self.view_is c.begin.ensures.state (c.carry_out_malloc.ensures c.args.size (subst (λ (s : PmemState). IsMallocPlan (bounds_of (words_of s)) (tables_of (words_of s)) c.args.root c.args.size c.plan_malloc-plan.result) (sym c.begin.ensures.state) c.plan_malloc-plan.ensures))).crash

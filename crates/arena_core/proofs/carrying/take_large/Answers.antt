@@ -7,21 +7,21 @@ use Rattle.heap_check.specs.Image.{bounds_of, IsSteadyImage}
 use Rattle.heap_check.proofs.Large.{with_large}
 use Rattle.heap_check.proofs.LargeHeaps.{IsVacant-freed}
 use Rattle.log_steps.specs.Log.{IsBookOf}
-use Rattle.arena_core.proofs.Arenas.{book_root, no_slab_stage, index_stage, index_more}
+use Rattle.arena_core.proofs.Arenas.{book_root, slabs_stage, index_stage, index_more}
 use Rattle.log_steps.proofs.Disjoint.{disjoint_of}
 use Rattle.heap_check.proofs.Sizes.{sizes_of, root_inside}
 use Rattle.arena_core.proofs.Giving.{word_stored, word_crash}
 use Rattle.arena_core.proofs.Stages.{IsStageOf, steady_stage, exact_stage, gives_none}
 use Rattle.arena_core.proofs.Taking.{take_place, taken_root, taken_extent, taken_covers, take_crash}
-use Rattle.arena_core.proofs.carrying.take.Goals as goal
+use Rattle.arena_core.proofs.carrying.take_large.Goals as goal
 
 pub root_at-requires : goal.root_at-requires
-root_at-requires g c = omega (arith, c.requires.takable.below, (sizes_of (words_of (g.P.Pmem.state c.args.device.now)) c.requires.arena.exact.formed).roots)
+root_at-requires g c = omega (arith, c.requires.takable.below, (sizes_of (words_of (g.P.Pmem.state c.args.device.now)) c.requires.kept.exact.formed).roots)
 
 pub write_word-requires-clause-place : goal.write_word-requires-clause-place
 write_word-requires-clause-place g c =
     let words = words_of (g.P.Pmem.state c.args.device.now) in
-    let inside = root_inside words c.args.root c.requires.arena.exact.formed c.requires.takable.below in
+    let inside = root_inside words c.args.root c.requires.kept.exact.formed c.requires.takable.below in
     record { aligned = omega (arith, c.root_at.ensures); inside = omega (arith, c.root_at.ensures, inside) }
 
 -- behind the store of the root
@@ -31,17 +31,17 @@ log_entry-requires-clause-formed g c =
     let words = words_of (state c.args.device.now) in
     let made = words_of (state c.write_word.new.device) in
     let is = word_stored words made c.root_at.result 0 (root_word c.args.root) 0 c.write_word.ensures.appends.words c.root_at.ensures refl in
-    let stage = taken_root words c.args.root c.args.block.start c.args.block.granules c.requires.arena.exact c.requires.takable in
-    (subst (λ (ws : List ℕ). IsStageOf words c.args.root c.args.block.start c.args.block.granules 0 ws) (sym is) stage).formed
+    let stage = taken_root words c.args.root c.args.start c.args.granules c.requires.kept.exact c.requires.takable in
+    (subst (λ (ws : List ℕ). IsStageOf words c.args.root c.args.start c.args.granules 0 ws) (sym is) stage).formed
 
 pub log_entry-requires-clause-disjoint : goal.log_entry-requires-clause-disjoint
 log_entry-requires-clause-disjoint g c =
     let state = g.P.Pmem.state in
     let words = words_of (state c.args.device.now) in
     let made = words_of (state c.write_word.new.device) in
-    let start = c.args.block.start in
-    let count = c.args.block.granules in
-    let exact = c.requires.arena.exact in
+    let start = c.args.start in
+    let count = c.args.granules in
+    let exact = c.requires.kept.exact in
     let is = word_stored words made c.root_at.result 0 (root_word c.args.root) 0 c.write_word.ensures.appends.words c.root_at.ensures refl in
     let stage : IsStageOf words c.args.root start count 0 made = subst (λ (ws : List ℕ). IsStageOf words c.args.root start count 0 ws) (sym is) (taken_root words c.args.root start count exact c.requires.takable) in
     let steady : IsSteadyImage made = steady_stage exact (take_place words c.args.root start count exact c.requires.takable) count 0 made (record { is = inr (refl, inl refl) }) stage in
@@ -53,27 +53,27 @@ log_entry-requires-clause-book g c =
     let words = words_of (state c.args.device.now) in
     let made = words_of (state c.write_word.new.device) in
     let is = word_stored words made c.root_at.result 0 (root_word c.args.root) 0 c.write_word.ensures.appends.words c.root_at.ensures refl in
-    subst (λ (ws : List ℕ). IsBookOf c.args.log.now ws) (sym is) (book_root c.args.log.now words c.args.root 0 c.requires.takable.below c.requires.arena.log)
+    subst (λ (ws : List ℕ). IsBookOf c.args.log.now ws) (sym is) (book_root c.args.log.now words c.args.root 0 c.requires.takable.below c.requires.kept.log)
 
 pub log_entry-requires-clause-valid : goal.log_entry-requires-clause-valid
 log_entry-requires-clause-valid g c =
     let state = g.P.Pmem.state in
     let words = words_of (state c.args.device.now) in
     let made = words_of (state c.write_word.new.device) in
-    let start = c.args.block.start in
+    let start = c.args.start in
     let is = word_stored words made c.root_at.result 0 (root_word c.args.root) 0 c.write_word.ensures.appends.words c.root_at.ensures refl in
-    let stage : IsStageOf words c.args.root start c.args.block.granules 0 made = subst (λ (ws : List ℕ). IsStageOf words c.args.root start c.args.block.granules 0 ws) (sym is) (taken_root words c.args.root start c.args.block.granules c.requires.arena.exact c.requires.takable) in
+    let stage : IsStageOf words c.args.root start c.args.granules 0 made = subst (λ (ws : List ℕ). IsStageOf words c.args.root start c.args.granules 0 ws) (sym is) (taken_root words c.args.root start c.args.granules c.requires.kept.exact c.requires.takable) in
     subst (λ (b : Bounds). (b.first ≤ start) × (start < b.granules)) (sym stage.bounds) (c.requires.takable.low, omega (arith, c.requires.takable.high, c.requires.takable.many))
 
 pub give-requires : goal.give-requires
 give-requires g c =
     let words = words_of (g.P.Pmem.state c.args.device.now) in
-    let arena = c.requires.arena in
+    let arena = c.requires.kept in
     record {
       each = λ k low high. (
         omega (arith, low, c.requires.takable.low, (sizes_of words arena.exact.formed).first),
         omega (arith, high, c.requires.takable.high, arena.index.granules),
-        λ free. ((arena.index.each k).0 free).none c.args.block.start (taken_covers words c.args.root c.args.block.start c.args.block.granules arena.exact c.requires.takable k low high),
+        λ free. ((arena.index.each k).0 free).none c.args.start (taken_covers words c.args.root c.args.start c.args.granules arena.exact c.requires.takable k low high),
       );
     }
 
@@ -84,23 +84,37 @@ returns-clause-gives g c =
     let made = words_of (state c.write_word.new.device) in
     let new = words_of (state c.log_entry.new.device) in
     let root = c.args.root in
-    let start = c.args.block.start in
-    let count = c.args.block.granules in
-    let exact = c.requires.arena.exact in
+    let start = c.args.start in
+    let count = c.args.granules in
+    let exact = c.requires.kept.exact in
     let is = word_stored words made c.root_at.result 0 (root_word root) 0 c.write_word.ensures.appends.words c.root_at.ensures refl in
     let stage : IsStageOf words root start count 0 made = subst (λ (ws : List ℕ). IsStageOf words root start count 0 ws) (sym is) (taken_root words root start count exact c.requires.takable) in
     gives_none exact (take_place words root start count exact c.requires.takable) 0 new (taken_extent words root start count exact c.requires.takable made new stage c.log_entry.ensures.logged)
 
-pub returns-clause-arena : goal.returns-clause-arena
-returns-clause-arena g c =
+pub returns-clause-slabs : goal.returns-clause-slabs
+returns-clause-slabs g c =
     let state = g.P.Pmem.state in
     let words = words_of (state c.args.device.now) in
     let made = words_of (state c.write_word.new.device) in
     let new = words_of (state c.log_entry.new.device) in
     let root = c.args.root in
-    let start = c.args.block.start in
-    let count = c.args.block.granules in
-    let arena = c.requires.arena in
+    let start = c.args.start in
+    let count = c.args.granules in
+    let exact = c.requires.kept.exact in
+    let is = word_stored words made c.root_at.result 0 (root_word root) 0 c.write_word.ensures.appends.words c.root_at.ensures refl in
+    let stage : IsStageOf words root start count 0 made = subst (λ (ws : List ℕ). IsStageOf words root start count 0 ws) (sym is) (taken_root words root start count exact c.requires.takable) in
+    slabs_stage (taken_extent words root start count exact c.requires.takable made new stage c.log_entry.ensures.logged)
+
+pub returns-clause-kept : goal.returns-clause-kept
+returns-clause-kept g c =
+    let state = g.P.Pmem.state in
+    let words = words_of (state c.args.device.now) in
+    let made = words_of (state c.write_word.new.device) in
+    let new = words_of (state c.log_entry.new.device) in
+    let root = c.args.root in
+    let start = c.args.start in
+    let count = c.args.granules in
+    let arena = c.requires.kept in
     let exact = arena.exact in
     let is = word_stored words made c.root_at.result 0 (root_word root) 0 c.write_word.ensures.appends.words c.root_at.ensures refl in
     let place = take_place words root start count exact c.requires.takable in
@@ -109,7 +123,6 @@ returns-clause-arena g c =
     record {
       ready = record { quiet = c.log_entry.ensures.quiet; room = omega (arith, arena.ready.room, c.log_entry.ensures.appends.room, c.write_word.ensures.appends.room) };
       exact = exact_stage exact place 0 0 new (record { is = inl (refl, refl) }) done;
-      no_slab = no_slab_stage done arena.no_slab;
       log = c.log_entry.ensures.book;
       index = index_stage c.give.new.self done (c.give.ensures.granules ∙ arena.index.granules)
           (index_more c.args.free.now c.give.new.self (bounds_of words) (tables_of words) (with_large (tables_of words) start 0 root 0) start count
@@ -123,9 +136,9 @@ returns-clause-crash g c =
     let made = words_of (state c.write_word.new.device) in
     let new = words_of (state c.log_entry.new.device) in
     let root = c.args.root in
-    let start = c.args.block.start in
-    let count = c.args.block.granules in
-    let exact = c.requires.arena.exact in
+    let start = c.args.start in
+    let count = c.args.granules in
+    let exact = c.requires.kept.exact in
     let is = word_stored words made c.root_at.result 0 (root_word root) 0 c.write_word.ensures.appends.words c.root_at.ensures refl in
     let stage : IsStageOf words root start count 0 made = subst (λ (ws : List ℕ). IsStageOf words root start count 0 ws) (sym is) (taken_root words root start count exact c.requires.takable) in
     take_crash words root start count exact c.requires.takable new (taken_extent words root start count exact c.requires.takable made new stage c.log_entry.ensures.logged) made is

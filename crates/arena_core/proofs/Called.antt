@@ -1,0 +1,336 @@
+-- What a call has done, put together: by the place of its block.
+use Rattle.std.proofs.Common.{◌≡◌, ◌≢◌, ◌*◌, ◌/◌, ◌+◌, ◌-◌, ◌%◌, ◌<◌, ◌≤◌, ℕ, true, false, cond, leb, List, [], Option, Some, refl, sym, ap, subst, ◌∙◌, arith, inl}
+use Rattle.std.proofs.lemmas.Bool.{cond-true, cond-false, le-leb, lt-leb, false_from_ne_true}
+use Rattle.std.proofs.lemmas.Nat.{div-mul-add}
+use Rattle.size_classes.specs.Classes.{class_size, class_capacity}
+use Rattle.size_classes.proofs.Spacing.{class_size-least, class_size-most, class_size-rises}
+use Rattle.pmem_lines.specs.declared.event.Event.{Event}
+use Rattle.pmem_lines.specs.Events.{IsQuiet, CrashOnly}
+use Rattle.pmem_lines.specs.Pmem.{PmemState, words_of, began, appended, Appends}
+use Rattle.image_tables.specs.Tables.{Tables, tables_of}
+use Rattle.book_log.specs.Book.{Book}
+use Rattle.extent_index.specs.FreeSet.{FreeSet}
+use Rattle.slab_index.specs.SlabSet.{SlabSet}
+use Rattle.heap_model.specs.declared.call.Call.{Call}
+use Rattle.heap_model.specs.declared.call.Reply.{Reply}
+use Rattle.heap_model.specs.declared.call.Reply.TheVariants as replies
+use Rattle.heap_model.specs.Machine.{Bounds, Range, slab_block}
+use Rattle.heap_model.proofs.Slabbing.{LiesIn-block}
+use Rattle.heap_check.specs.Heap.{slab_of, entry_at, heap, slabs, IsClaim, Holds}
+use Rattle.heap_check.specs.Sound.{IsVacant, IsInSlab, IsSound}
+use Rattle.pmem_lines.proofs.Images.{by_none}
+use Rattle.pmem_lines.proofs.States.{appended_none, Appends-state}
+use Rattle.heap_check.proofs.Blank.{law_of_steady}
+use Rattle.heap_check.proofs.Claims.{IsNamed-claim, IsClaim-word}
+use Rattle.heap_check.proofs.Geometry.{Covers-slab, slab_of-here, plain_size-some}
+use Rattle.heap_check.proofs.Heaps.{heap-claim}
+use Rattle.heap_check.proofs.Within.{IsInSlab-held, one_claim}
+use Rattle.log_steps.proofs.Entries.{first_zero-is}
+use Rattle.attach_steps.specs.declared.block.SmallBlock.{SmallBlock}
+use Rattle.attach_steps.specs.Steps.{attach_events, IsAttachable, IsAttached}
+use Rattle.heap_check.proofs.Loose.{IsExactBut-exact}
+use Rattle.arena_core.proofs.Smalls.{classes_small, index_small, book_small, keeps_small}
+use Rattle.heap_check.specs.Image.{bounds_of, IsExactImage}
+use Rattle.heap_check.specs.State.{KeepsBlocks, IsEitherHeap}
+use Rattle.arena_core.specs.Arena.{ArenaState, HasNormalSlabs, IsSlabsOf, IsKept, IsArena}
+use Rattle.arena_core.specs.Call.{IsStepOf}
+use Rattle.arena_core.specs.Carried.{IsDone, IsCalled}
+use Rattle.arena_core.specs.Effect.{GivesRoot, KeepsSlabs}
+use Rattle.arena_core.specs.declared.plan.Held.{Held}
+use Rattle.arena_core.specs.declared.plan.Held.TheVariants as holding
+use Rattle.arena_core.specs.Plan.{IsAskedOf, IsSmallPlacing, IsNamedSmall, IsHeldBy, range_held}
+use Rattle.heap_check.proofs.Sizes.{sizes_of}
+use Rattle.arena_core.proofs.Blocks.{heap-takable}
+use Rattle.arena_core.proofs.Arenas.{normal_kept, slabs_kept}
+use Rattle.arena_core.specs.Events.{is_small, class_for, start_at, in_slab, block_at, place_events, take_events, fresh_events, unsmall_events, placed_events, freed_events, call_events, turn_after}
+
+-- equal ends
+pub IsCalled-same : {old new device : PmemState} {turn new_turn left : ℕ} {book log : Book} {set free : FreeSet} {parts held : SlabSet} {root : ℕ} {call : Call} {reply answer : Reply} →
+    device ≡ new → left ≡ new_turn → log ≡ book → free ≡ set → held ≡ parts → answer ≡ reply → IsCalled old new turn new_turn book set parts root call reply → IsCalled old device turn left log free held root call answer
+IsCalled-same {old} {new} {device} {turn} {new_turn} {left} {book} {log} {set} {free} {parts} {held} {root} {call} {reply} {answer} d t l f s r called =
+    subst (λ (x : PmemState). IsCalled old x turn left log free held root call answer) (sym d)
+    (subst (λ x. IsCalled old new turn x log free held root call answer) (sym t)
+    (subst (λ (x : Book). IsCalled old new turn new_turn x free held root call answer) (sym l)
+    (subst (λ (x : FreeSet). IsCalled old new turn new_turn book x held root call answer) (sym f)
+    (subst (λ (x : SlabSet). IsCalled old new turn new_turn book set x root call answer) (sym s)
+    (subst (λ (x : Reply). IsCalled old new turn new_turn book set parts root call x) (sym r) called)))))
+
+-- a call that placed or freed a block, by its events
+pub IsCalled-done : {old new : PmemState} {turn new_turn : ℕ} {book : Book} {set : FreeSet} {parts : SlabSet} {root : ℕ} {block : Option Range} {slab : ℕ → Option ℕ} {events : List Event} (call : Call) (reply : Reply) →
+    IsDone old new book set parts root block slab events → events ≡ call_events (words_of old) turn root reply → new_turn ≡ turn_after turn reply → new_turn < 8 → IsStepOf (words_of old) (words_of new) call reply →
+    IsCalled old new turn new_turn book set parts root call reply
+IsCalled-done {old} {new} {turn} {new_turn} {book} {set} {parts} {root} {block} {slab} {events} call reply done same turn_is few step = record {
+  appends = subst (λ (es : List Event). Appends old new es) same done.appends;
+  arena = record { kept = done.kept; normal = done.normal; slabs = done.slabs; few = few };
+  turn_is = turn_is;
+  step = step;
+  keeps = done.gives.keeps;
+  crash = subst (λ (es : List Event). CrashOnly (words_of old) es (IsEitherHeap (words_of old) (words_of new))) same done.crash;
+}
+
+-- sizes
+
+-- a size above the largest class is large
+pub not_small : (size : ℕ) → 16384 < size → is_small size ≡ false
+not_small size large = lt-leb size 16384 large
+
+pub small_size : (size : ℕ) → size ≤ 16384 → is_small size ≡ true
+small_size size small = le-leb size 16384 small
+
+-- large blocks
+module _ (words : List ℕ) (line root start count : ℕ) (many : 2 ≤ count) where
+  big : is_small (16384 * count) ≡ false
+  big = not_small (16384 * count) (omega (arith, many))
+
+  granule_is : 16384 * start / 16384 ≡ start
+  granule_is = omega arith
+
+  count_is : 16384 * count / 16384 ≡ count
+  count_is = omega arith
+
+  pub placed_large : placed_events words line root (16384 * start) (16384 * count) ≡ place_events words root start count
+  placed_large = cond-false (is_small (16384 * count)) _ _ big ∙ (λ i. place_events words root (granule_is i) (count_is i))
+
+  pub freed_large : freed_events words line root (16384 * start) (16384 * count) ≡ take_events words root start
+  freed_large = cond-false (is_small (16384 * count)) _ _ big ∙ ap (take_events words root) granule_is
+
+  pub turn_placed : (turn : ℕ) → turn_after turn (replies.Placed (16384 * start) (16384 * count)) ≡ turn
+  turn_placed turn = cond-false (is_small (16384 * count)) _ _ big
+
+  pub turn_freed : (turn : ℕ) → turn_after turn (replies.Freed (16384 * start) (16384 * count)) ≡ turn
+  turn_freed turn = cond-false (is_small (16384 * count)) _ _ big
+
+-- small blocks
+
+-- the number of a block, by its address
+number_is : (start class number : ℕ) → 16 ≤ class_size class → ((slab_block start class number).at - (16384 * start + 2048)) / class_size class ≡ number
+number_is start class number some =
+    let offset : (slab_block start class number).at - (16384 * start + 2048) ≡ number * class_size class + 0 = omega arith in
+    ap (λ n. n / class_size class) offset ∙ div-mul-add number (class_size class) 0 (omega (arith, some))
+
+module _ (words : List ℕ) (line root : ℕ) (block : SmallBlock) (class : ℕ) (is_class : class < 36) (at : block.at ≡ (slab_block block.start class block.number).at) where
+  abbrev t : Tables
+  t = tables_of words
+
+  abbrev range : Range
+  range = slab_block block.start class block.number
+
+  least : 16 ≤ class_size class
+  least = class_size-least class is_class
+
+  pub little : is_small (class_size class) ≡ true
+  little = small_size (class_size class) (class_size-most class is_class)
+
+  -- the block is found by its address
+  block_is : block_at block.start range.at (class_size class) ≡ block
+  block_is = λ i. record { start = block.start; number = number_is block.start class block.number least i; at = sym at i }
+
+  module _ (here : start_at t range.at ≡ block.start) where
+    found : block_at (start_at t range.at) range.at (class_size class) ≡ block
+    found = ap (λ s. block_at s range.at (class_size class)) here ∙ block_is
+
+    pub placed_there : t.slab block.start ≡ true → attach_events words line root block ≡ placed_events words line root range.at (class_size class)
+    placed_there slab =
+        let inside : in_slab t range.at ≡ true = ap t.slab here ∙ slab in
+        sym (cond-true (is_small (class_size class)) _ _ little ∙ cond-true (in_slab t range.at) _ _ inside ∙ ap (attach_events words line root) found)
+
+    pub freed_there : unsmall_events words line root block ≡ freed_events words line root range.at (class_size class)
+    freed_there = sym (cond-true (is_small (class_size class)) _ _ little ∙ ap (unsmall_events words line root) found)
+
+-- the slab of a block
+pub start_is : {b : Bounds} {t : Tables} → IsSound b t → (start class number : ℕ) → t.slab start ≡ true → class < 36 → number < class_capacity class → start_at t (slab_block start class number).at ≡ start
+start_is {b} {t} sound start class number slab is_class below =
+    let lies = LiesIn-block start class (slab_block start class number) (record { number = number; within = below; is = refl }) in
+    let some = class_size-least class is_class in
+    slab_of-here sound start ((slab_block start class number).at / 16384) slab (omega (arith, lies.low)) (omega (arith, lies.high, some))
+
+-- the class of a slab that is opened
+
+abbrev too_little : ℕ → ℕ → ℕ
+too_little size class = cond (leb size (class_size class)) 0 1
+
+class_is : (class : ℕ) → class < 36 → class_for (class_size class) ≡ class
+class_is class is_class = first_zero-is (too_little (class_size class)) 36 class is_class
+    (cond-true (leb (class_size class) (class_size class)) 0 1 (le-leb (class_size class) (class_size class) (omega arith)))
+    (λ earlier before none.
+    let one : too_little (class_size class) earlier ≡ 1 = cond-false (leb (class_size class) (class_size earlier)) 0 1 (lt-leb (class_size class) (class_size earlier) (class_size-rises earlier class before is_class)) in
+    omega (arith, none, one))
+
+-- no slab has a vacant granule
+vacant_none : {b : Bounds} (t : Tables) (start : ℕ) → 3 ≤ start → IsVacant b t start → t.slab (slab_of t.slab start) ≡ false
+unfolding slab_of
+vacant_none {b} t start high vacant =
+    let none : (s : ℕ) → s ≤ start → start < s + 4 → t.slab s ≡ false = λ s low up. false_from_ne_true (t.slab s) (λ slab. vacant.none s (Covers-slab t s start slab low up)) in
+    rw (none start (omega arith) (omega arith), none (start - 1) (omega arith) (omega arith), none (start - 2) (omega arith) (omega arith)) (none (start - 3) (omega (arith, high)) (omega (arith, high)))
+
+-- the first block of a slab that is opened
+pub placed_fresh : (b : Bounds) (words : List ℕ) (line root start class : ℕ) → class < 36 → 3 ≤ start → IsVacant b (tables_of words) start →
+    fresh_events words line root start class ≡ placed_events words line root (slab_block start class 0).at (class_size class)
+placed_fresh b words line root start class is_class high vacant =
+    let t = tables_of words in
+    let at = (slab_block start class 0).at in
+    let granule : at / 16384 ≡ start = omega arith in
+    let outside : in_slab t at ≡ false = ap (λ k. t.slab (slab_of t.slab k)) granule ∙ vacant_none t start high vacant in
+    sym (cond-true (is_small (class_size class)) _ _ (small_size (class_size class) (class_size-most class is_class))
+    ∙ cond-false (in_slab t at) _ _ outside
+    ∙ (λ i. fresh_events words line root (granule i) (class_is class is_class i)))
+
+-- the turn behind a small block
+pub turn_small : (turn at class : ℕ) → class < 36 → (turn_after turn (replies.Placed at (class_size class)) ≡ (turn + 1) % 8) × (turn_after turn (replies.Freed at (class_size class)) ≡ (turn + 1) % 8)
+turn_small turn at class is_class =
+    let small = small_size (class_size class) (class_size-most class is_class) in
+    (cond-true (is_small (class_size class)) _ _ small, cond-true (is_small (class_size class)) _ _ small)
+
+-- what a root names
+
+-- a block of a slab is the root's in the heap
+module _ (words : List ℕ) (image : IsExactImage words) (normal : HasNormalSlabs words) (root : ℕ) (block : SmallBlock) (class : ℕ) (named : IsNamedSmall (bounds_of words) (tables_of words) root block class) where
+  abbrev at_class : Range
+  at_class = slab_block block.start class block.number
+
+  pub named_class : class < 36
+  named_class = omega (arith, named.class_is, (image.exact.sound.slabs block.start named.slab).class)
+
+  holds : Holds (tables_of words) block.start at_class
+  holds = record {
+    slab = named.slab;
+    block = inl (record {
+      number = block.number;
+      below = subst (λ c. block.number < class_capacity c) (sym named.class_is) named.below;
+      read = λ two. omega (arith, normal.each block.start named.slab, two);
+      set = named.set;
+      is = ap (λ c. slab_block block.start c block.number) (sym named.class_is);
+    });
+  }
+
+  pub named_inside : IsInSlab (tables_of words) block.start at_class.at
+  named_inside = IsInSlab-held image.exact.sound block.start at_class holds
+
+  pub named_heap : heap (tables_of words) root ≡ Some at_class
+  named_heap =
+      let t = tables_of words in
+      let sound = image.exact.sound in
+      let unnamed = λ (r : ℕ). ap (λ e. entry_at e r) image.exact.closed in
+      let owner = sound.claimed block.start at_class holds in
+      let its = IsNamed-claim t owner.0 at_class (unnamed owner.0) owner.1 in
+      let word : t.root root ≡ at_class.at = named.named ∙ named.at in
+      let some : t.root root ≢ 0 = λ none. its.some (sym word ∙ none) in
+      let mine = IsClaim-word t root (unnamed root) some in
+      let size = plain_size-some sound block.start (t.root root) (subst (IsInSlab t block.start) (sym word) named_inside) in
+      let same : root ≡ owner.0 = one_claim sound root owner.0 _ at_class mine owner.1 word size (omega (arith, class_size-least class named_class)) in
+      heap-claim t root at_class (unnamed root) (subst (λ r. IsClaim t r at_class) (sym same) owner.1)
+
+-- so is what a root holds
+pub held_heap : (words : List ℕ) → IsExactImage words → HasNormalSlabs words → (root : ℕ) (held : Held) → IsHeldBy (bounds_of words) (tables_of words) root held → heap (tables_of words) root ≡ Some (range_held held)
+held_heap words image normal root (holding.Large start count) taken = heap-takable (bounds_of words) (tables_of words) root start count (omega (arith, (sizes_of words image.formed).first)) taken
+held_heap words image normal root (holding.Small block class) named = named_heap words image normal root block class named
+
+-- a large block was given or taken
+pub IsDone-large : {old new : PmemState} {book next : Book} {set free : FreeSet} {parts : SlabSet} {turn : ℕ} {root : ℕ} {block : Option Range} {events : List Event} → IsArena old turn book set parts →
+    Appends old new events → IsKept new next free → GivesRoot (words_of old) root block (slabs (tables_of (words_of old))) (words_of new) → KeepsSlabs (words_of old) (words_of new) →
+    CrashOnly (words_of old) events (IsEitherHeap (words_of old) (words_of new)) → IsDone old new next free parts root block (slabs (tables_of (words_of old))) events
+IsDone-large {old} {new} {book} {next} {set} {free} {parts} {turn} {root} {block} {events} arena appends kept gives keeps crash = record {
+  appends = appends;
+  kept = kept;
+  normal = normal_kept keeps arena.normal;
+  slabs = slabs_kept parts keeps (ap (λ (b : Bounds). b.granules) gives.bounds) arena.slabs;
+  gives = gives;
+  crash = crash;
+}
+
+-- a free block of a slab may come to a root
+pub small_attachable : (words : List ℕ) (root size : ℕ) (block : SmallBlock) (class : ℕ) → IsExactImage words → HasNormalSlabs words → IsAskedOf (bounds_of words) (tables_of words) root size →
+    IsSmallPlacing (tables_of words) size block class → IsAttachable words root block
+small_attachable words root size block class image normal asked placing =
+    let lowest = placing.lowest in
+    let same = sym lowest.class_is in
+    record {
+      block_in = record {
+        image = record { formed = image.formed; but = IsExactBut-exact image.exact block.start };
+        rooted = asked.below;
+        slab = lowest.slab;
+        normal = normal.each block.start lowest.slab;
+        below = subst (λ c. block.number < class_capacity c) same lowest.below;
+        at = placing.at ∙ ap (λ c. (slab_block block.start c block.number).at) same;
+      };
+      clear = lowest.clear;
+      none = asked.none;
+    }
+
+-- it came
+pub IsDone-small : {old new : PmemState} {turn : ℕ} {book : Book} {set : FreeSet} {parts left : SlabSet} {root class : ℕ} (block : SmallBlock) → IsArena old turn book set parts → IsAttachable (words_of old) root block →
+    (tables_of (words_of old)).class block.start ≡ class → Appends old new (attach_events (words_of old) turn root block) → IsQuiet new.events → IsAttached (words_of old) turn root block (words_of new) →
+    HasNormalSlabs (words_of new) → IsSlabsOf left (words_of new) → CrashOnly (words_of old) (attach_events (words_of old) turn root block) (IsEitherHeap (words_of old) (words_of new)) →
+    IsDone old new book set left root (Some (slab_block block.start class block.number)) (slabs (tables_of (words_of old))) (attach_events (words_of old) turn root block)
+IsDone-small {old} {new} {turn} {book} {set} {parts} {left} {root} {class} block arena may class_is appends quiet attached normal slabs crash =
+    let words = words_of old in
+    let after = words_of new in
+    record {
+      appends = appends;
+      kept = record {
+        ready = record { quiet = quiet; room = omega (arith, arena.kept.ready.room, appends.room) };
+        exact = attached.exact;
+        log = book_small words turn root block may.block_in arena.few after attached.rest attached.bounds book arena.kept.log;
+        index = index_small words root block.start block.number true block.at after attached.bounds attached.tables set arena.kept.index;
+      };
+      normal = normal;
+      slabs = slabs;
+      gives = record {
+        here = attached.gives.here ∙ ap (λ c. Some (slab_block block.start c block.number)) class_is;
+        others = attached.gives.others;
+        slabs = classes_small words root block.start block.number true block.at after attached.bounds attached.tables;
+        keeps = keeps_small words turn root block may.block_in arena.few after attached.rest after;
+        bounds = attached.bounds;
+      };
+      crash = crash;
+    }
+
+-- a call that is refused
+pub IsCalled-refused : {old : PmemState} {turn : ℕ} {book : Book} {set : FreeSet} {parts : SlabSet} {root : ℕ} (call : Call) (reply : Reply) → IsArena old turn book set parts →
+    call_events (words_of old) turn root reply ≡ [] → turn_after turn reply ≡ turn → IsStepOf (words_of old) (words_of old) call reply → IsCalled old old turn turn book set parts root call reply
+IsCalled-refused {old} {turn} {book} {set} {parts} {root} call reply arena none stays step =
+    let words = words_of old in
+    let exact = arena.kept.exact in
+    let keeps : KeepsBlocks words words words = record { each = λ r range k was is word. refl } in
+    record {
+      appends = subst (λ (es : List Event). Appends old old es) (sym none) (Appends-state old old [] (sym (appended_none old)));
+      arena = arena;
+      turn_is = sym stays;
+      step = step;
+      keeps = keeps;
+      crash = subst (λ (es : List Event). CrashOnly words es (IsEitherHeap words words)) (sym none)
+          (by_none words (IsEitherHeap words words) (record { steady = record { formed = exact.formed; steady = law_of_steady (bounds_of words) (tables_of words) exact.exact }; heap = inl (record { each = λ r. refl }); words = keeps }));
+    }
+
+-- an arena answered a call
+pub record IsAnswered (old new : ArenaState) (book : Book) (set : FreeSet) (parts : SlabSet) (root : ℕ) (call : Call) (reply : Reply) : Type 0 where
+  pub step : IsStepOf (words_of old.device) (words_of new.device) call reply
+  pub device : new.device ≡ appended (began old.device) (call_events (words_of old.device) old.turn root reply)
+  pub turn_is : new.turn ≡ turn_after old.turn reply
+  pub keeps : KeepsBlocks (words_of old.device) (words_of new.device) (words_of new.device)
+  pub arena : IsArena new.device new.turn book set parts
+  pub crash : CrashOnly new.device.base new.device.events (IsEitherHeap (words_of old.device) (words_of new.device))
+
+-- by what was done behind its begin
+pub answered : (old : ArenaState) (begun new : PmemState) (turn : ℕ) (book : Book) (set : FreeSet) (parts : SlabSet) (root : ℕ) (call : Call) (reply : Reply) → begun ≡ began old.device →
+    IsCalled begun new old.turn turn book set parts root call reply → IsAnswered old (record { device = new; turn = turn }) book set parts root call reply
+answered old begun new turn book set parts root call reply is called =
+    let same : words_of begun ≡ words_of old.device = ap (λ (s : PmemState). words_of s) is in
+    let state : new ≡ appended (began old.device) (call_events (words_of old.device) old.turn root reply) =
+    called.appends.state ∙ (λ i. appended (is i) (call_events (same i) old.turn root reply)) in
+    record {
+      step = subst (λ (ws : List ℕ). IsStepOf ws (words_of new) call reply) same called.step;
+      device = state;
+      turn_is = called.turn_is;
+      keeps = subst (λ (ws : List ℕ). KeepsBlocks ws (words_of new) (words_of new)) same called.keeps;
+      arena = called.arena;
+      crash = subst (λ (s : PmemState). CrashOnly s.base s.events (IsEitherHeap (words_of old.device) (words_of new))) (sym state)
+          (subst (λ (ws : List ℕ). CrashOnly (words_of old.device) (call_events (words_of old.device) old.turn root reply) (IsEitherHeap ws (words_of new))) same
+          (subst (λ (ws : List ℕ). CrashOnly ws (call_events ws old.turn root reply) (IsEitherHeap (words_of begun) (words_of new))) same called.crash));
+    }
+
+-- of an arena by what it means
+pub answered_by : (inside now : ArenaState) (begun new : PmemState) (turn : ℕ) (book : Book) (set : FreeSet) (parts : SlabSet) (root : ℕ) (call : Call) (reply : Reply) → inside ≡ now → begun ≡ began inside.device →
+    IsCalled begun new inside.turn turn book set parts root call reply → IsAnswered now (record { device = new; turn = turn }) book set parts root call reply
+answered_by inside now begun new turn book set parts root call reply view is called =
+    subst (λ (s : ArenaState). IsAnswered s (record { device = new; turn = turn }) book set parts root call reply) view (answered inside begun new turn book set parts root call reply is called)

@@ -1,0 +1,321 @@
+-- A slab comes or goes: what an arena keeps holds again.
+use Rattle.std.proofs.Common.{◌≡◌, ◌≢◌, ◌⊎◌, ◌↔◌, ◌==◌, nat_lt, ℕ, zero, suc, ◌+◌, ◌*◌, ◌<◌, ◌≤◌, Bool, true, false, true≢false, not, List, [], refl, sym, ap, subst, ◌∙◌, arith, inl, inr, ⊎_elim, Some, None, if◌then◌else◌}
+use Rattle.std.proofs.lemmas.Bool.{cases_eq, cases_lt, eq-eqb, ne_eqb, lt-ltb, cond-true, cond-false, or_parts, or_cases, or_from, false_from_ne_true, true_from_ne_false}
+use Rattle.std.proofs.lemmas.Nat.{le-div}
+use Rattle.pmem_lines.specs.declared.event.Event.{Event}
+use Rattle.pmem_lines.specs.Events.{CrashOnly}
+use Rattle.pmem_lines.specs.Pmem.{PmemState, words_of, Appends}
+use Rattle.pmem_lines.proofs.Images.{by_none}
+use Rattle.pmem_lines.proofs.States.{appended_none, Appends-state}
+use Rattle.size_classes.specs.Classes.{class_size, class_capacity}
+use Rattle.size_classes.proofs.Spacing.{class_size-least, class_size-most}
+use Rattle.image_tables.specs.Tables.{Tables, tables_of}
+use Rattle.extent_index.specs.FreeSet.{FreeSet, IsFree, IsHeldRow}
+use Rattle.slab_index.specs.SlabSet.{SlabSet, class_in, is_available, IsBlock, IsWhole}
+use Rattle.book_log.specs.Book.{Book}
+use Rattle.heap_model.specs.Machine.{Bounds, Range, slab_block, with_key}
+use Rattle.heap_check.specs.Heap.{any_below, entry_at, slabs, Holds, HoldsBit}
+use Rattle.heap_check.specs.Sound.{IsVacant, IsInSlab, IsExactBut}
+use Rattle.heap_check.specs.Slabs.{IsWithSlab}
+use Rattle.heap_check.specs.Image.{bounds_of, IsExactImage, IsExactButImage}
+use Rattle.heap_check.specs.State.{KeepsBlocks, IsEitherHeap}
+use Rattle.heap_check.proofs.Blank.{law_of_steady}
+use Rattle.heap_check.proofs.BlockWords.{block_word-header, block_word-vacant}
+use Rattle.heap_check.proofs.Claims.{plain_size, IsNamed-claim, IsClaim-word}
+use Rattle.heap_check.proofs.Geometry.{granules_at-slab, Covers-slab}
+use Rattle.heap_check.proofs.Sizes.{sizes_of}
+use Rattle.heap_check.proofs.SlabHeaps.{slabs-slab, slabs-none, slabs-other, IsVacant-slab, IsVacant-no_slab}
+use Rattle.heap_check.proofs.SlabPlaces.{IsSlabPlace-vacant, IsSlabPlace-empty}
+use Rattle.heap_check.proofs.Slabs.{IsSlabPlace}
+use Rattle.heap_check.proofs.SmallPlaces.{Holds-normal, Holds-claim}
+use Rattle.heap_check.proofs.Within.{IsInSlab-held}
+use Rattle.log_steps.specs.Log.{IsBookOf}
+use Rattle.slab_steps.specs.Steps.{drop_events, IsOpened, IsDropped}
+use Rattle.slab_steps.proofs.Images.{keeps_blocks}
+use Rattle.attach_steps.specs.Steps.{IsAttachable}
+use Rattle.arena_core.specs.Arena.{HasNormalSlabs, IsIndexOf, IsSlabsOf}
+use Rattle.arena_core.specs.Call.{IsReady}
+use Rattle.arena_core.specs.Carried.{IsTidied}
+use Rattle.arena_core.specs.Effect.{slabs_but}
+use Rattle.arena_core.specs.Events.{holds_none, empty_events}
+use Rattle.arena_core.specs.Plan.{IsVacantRow}
+
+-- numbers that pass a test
+
+pub any_below-none : (test : ℕ → Bool) (n : ℕ) → ((i : ℕ) → i < n → test i ≡ false) → any_below test n ≡ false
+any_below-none test zero none = refl
+any_below-none test (suc n) none = or_from (test n) (any_below test n) (none n (omega arith)) (any_below-none test n (λ i below. none i (omega (arith, below))))
+
+pub any_below-each : (test : ℕ → Bool) (n : ℕ) → any_below test n ≡ false → (i : ℕ) → i < n → test i ≡ false
+any_below-each test zero none i below = absurd (omega (arith, below))
+any_below-each test (suc n) none i below =
+    let parts = or_parts (test n) (any_below test n) none in
+    ⊎_elim
+    (λ (lower : i < n). any_below-each test n parts.1 i lower)
+    (λ (last : n ≤ i). let same : i ≡ n = omega (arith, below, last) in ap test same ∙ parts.0)
+    (cases_lt i n)
+
+pub any_below-some : (test : ℕ → Bool) (n : ℕ) → any_below test n ≡ true → (i : ℕ) × (i < n) × (test i ≡ true)
+any_below-some test zero some = absurd (true≢false (sym some))
+any_below-some test (suc n) some = ⊎_elim
+    (λ (here : test n ≡ true). (n, omega arith, here))
+    (λ (lower : any_below test n ≡ true). let found = any_below-some test n lower in (found.0, omega (arith, found.1), found.2))
+    (or_cases (test n) (any_below test n) some)
+
+-- the set has one slab more, with all of its blocks
+pub record IsAdded (set new : SlabSet) (start class : ℕ) : Type 0 where
+  pub granules : new.granules ≡ set.granules
+  pub classes : (s : ℕ) → class_in new s ≡ with_key (class_in set) start (Some class) s
+  pub blocks : (s i : ℕ) → is_available new s i ≡ (if s == start then nat_lt i (class_capacity class) else is_available set s i)
+
+-- or one less
+pub record IsRemoved (set new : SlabSet) (start : ℕ) : Type 0 where
+  pub granules : new.granules ≡ set.granules
+  pub classes : (s : ℕ) → class_in new s ≡ with_key (class_in set) start None s
+  pub blocks : (s i : ℕ) → is_available new s i ≡ (if s == start then false else is_available set s i)
+
+-- a slab is opened
+module _ (words : List ℕ) (start class : ℕ) (exact : IsExactImage words) (row : IsVacantRow (bounds_of words) (tables_of words) start 4) (class_below : class < 36) (new : List ℕ) (opened : IsOpened words start class new) where
+  abbrev t : Tables
+  t = tables_of words
+
+  abbrev after : Tables
+  after = tables_of new
+
+  abbrev with_it : IsWithSlab (tables_of words) (tables_of new) start class
+  with_it = opened.slab
+
+  open_place : IsSlabPlace (bounds_of words) (tables_of words) (tables_of new) start class
+  open_place = IsSlabPlace-vacant exact.exact.sound exact.exact.closed (omega (arith, (sizes_of words exact.formed).first)) class_below opened.slab row.vacant
+
+  pub classes_opened : (s : ℕ) → slabs (tables_of new) s ≡ with_key (slabs (tables_of words)) start (Some class) s
+  classes_opened s = ⊎_elim
+      (λ (same : s ≡ start). ap (slabs after) same ∙ slabs-slab open_place ∙ sym (cond-true (s == start) (Some class) (slabs t s) (eq-eqb s start same)))
+      (λ (differ : s ≢ start). slabs-other open_place s differ ∙ sym (cond-false (s == start) (Some class) (slabs t s) (ne_eqb s start differ)))
+      (cases_eq s start)
+
+  pub normal_opened : HasNormalSlabs words → HasNormalSlabs new
+  normal_opened normal = record {
+    each = λ s slab. ⊎_elim
+        (λ (same : s ≡ start). ap after.kind same ∙ with_it.kind)
+        (λ (differ : s ≢ start). let it = with_it.others s differ in it.kind ∙ normal.each s (sym it.slab ∙ slab))
+        (cases_eq s start);
+  }
+
+  pub index_opened : (set less : FreeSet) → less.granules ≡ set.granules → ((k : ℕ) → IsFree less k ↔ (IsFree set k × ((k < start) ⊎ (start + 4 ≤ k)))) → IsIndexOf set words → IsIndexOf less new
+  index_opened set less granules taken index = record {
+    granules = granules ∙ index.granules ∙ ap (λ (b : Bounds). b.granules) (sym opened.bounds);
+    each = λ k. let vacant = IsVacant-slab open_place k in
+        subst (λ b. IsFree less k ↔ IsVacant b after k) (sym opened.bounds) (
+          λ free. let both = (taken k).0 free in vacant.1 ((index.each k).0 both.0, both.1),
+          λ is. let both = vacant.0 is in (taken k).1 ((index.each k).1 both.0, both.1),
+        );
+  }
+
+  pub slabs_opened : (set more : SlabSet) → IsAdded set more start class → IsSlabsOf set words → IsSlabsOf more new
+  slabs_opened set more added was = record {
+    granules = added.granules ∙ was.granules ∙ ap (λ (b : Bounds). b.granules) (sym opened.bounds);
+    classes = λ s. ⊎_elim
+        (λ (same : s ≡ start). added.classes s ∙ cond-true (s == start) (Some class) (class_in set s) (eq-eqb s start same) ∙ sym (slabs-slab open_place) ∙ ap (slabs after) (sym same))
+        (λ (differ : s ≢ start). added.classes s ∙ cond-false (s == start) (Some class) (class_in set s) (ne_eqb s start differ) ∙ was.classes s ∙ sym (slabs-other open_place s differ))
+        (cases_eq s start);
+    blocks = λ s i slab below. ⊎_elim
+        (λ (same : s ≡ start).
+        let among : i < class_capacity class = subst (λ c. i < class_capacity c) (ap after.class same ∙ with_it.class_is) below in
+        added.blocks s i
+        ∙ cond-true (s == start) (nat_lt i (class_capacity class)) (is_available set s i) (eq-eqb s start same)
+        ∙ lt-ltb i (class_capacity class) among
+        ∙ ap not (sym (with_it.clear i among))
+        ∙ ap (λ x. not (after.bit x i)) (sym same))
+        (λ (differ : s ≢ start).
+        let it = with_it.others s differ in
+        added.blocks s i
+        ∙ cond-false (s == start) (nat_lt i (class_capacity class)) (is_available set s i) (ne_eqb s start differ)
+        ∙ was.blocks s i (sym it.slab ∙ slab) (subst (λ c. i < class_capacity c) it.class below)
+        ∙ ap (λ (f : ℕ → Bool). not (f i)) (sym it.bit))
+        (cases_eq s start);
+  }
+
+  pub keeps_opened : (other : List ℕ) → KeepsBlocks words other new
+  keeps_opened other = keeps_blocks words start other new exact.formed exact.exact.sound exact.exact.closed
+      (λ root range k named word. ⊎_elim (λ x. inl x) (λ x. inr (omega (arith, x))) (block_word-vacant exact.exact.sound exact.exact.closed root range named k word start (row.vacant start (omega arith) (omega arith))))
+      opened.rest
+
+  -- its first block may come to a root
+  pub first_attachable : (root at : ℕ) → root < (bounds_of words).roots → t.root root ≡ 0 → at ≡ 16384 * start + 2048 → IsAttachable new root (record { start = start; number = 0; at = at })
+  first_attachable root at rooted none is =
+      let some : 0 < class_capacity class = le-div 1 63488 (class_size class) (omega (arith, class_size-least class class_below)) (omega (arith, class_size-most class class_below)) in
+      record {
+        block_in = record {
+          image = opened.image;
+          rooted = subst (λ (b : Bounds). root < b.roots) (sym opened.bounds) rooted;
+          slab = with_it.slab;
+          normal = with_it.kind;
+          below = subst (λ c. 0 < class_capacity c) (sym with_it.class_is) some;
+          at = omega (arith, is);
+        };
+        clear = with_it.clear 0 some;
+        none = ap (λ (row : ℕ → ℕ). row root) with_it.root ∙ none;
+      }
+
+-- a slab is dropped
+module _ (words : List ℕ) (start class : ℕ) (image : IsExactButImage words start) (new : List ℕ) (dropped : IsDropped words start class new) where
+  abbrev full : Tables
+  full = tables_of words
+
+  abbrev less : Tables
+  less = tables_of new
+
+  abbrev it : IsWithSlab (tables_of new) (tables_of words) start class
+  it = dropped.slab
+
+  abbrev but : IsExactBut (bounds_of words) (tables_of words) start
+  but = image.but
+
+  -- no root has a block in the slab
+  none_in : (root : ℕ) → full.root root ≢ 0 → ¬ (IsInSlab full start (full.root root))
+  none_in root some inside =
+      let unnamed : entry_at full.entry root ≡ 0 = ap (λ e. entry_at e root) but.closed in
+      let range : Range = record { at = full.root root; size = plain_size full (full.root root) } in
+      let holds = Holds-claim but.sound root start range unnamed (IsClaim-word full root unnamed some) inside in
+      let bit : HoldsBit full start range = Holds-normal but.sound start range (record { slab = it.slab; kind = it.kind }) holds in
+      true≢false (sym bit.set ∙ it.clear bit.number (subst (λ c. bit.number < class_capacity c) it.class_is bit.below))
+
+  drop_place : IsSlabPlace (bounds_of words) (tables_of new) (tables_of words) start class
+  drop_place = IsSlabPlace-empty but.sound but.closed (omega (arith, (sizes_of words image.formed).first)) (omega (arith, it.class_is, (but.sound.slabs start it.slab).class)) it none_in
+
+  pub classes_dropped : (s : ℕ) → slabs (tables_of new) s ≡ with_key (slabs (tables_of words)) start None s
+  classes_dropped s = ⊎_elim
+      (λ (same : s ≡ start). ap (slabs less) same ∙ slabs-none drop_place ∙ sym (cond-true (s == start) None (slabs full s) (eq-eqb s start same)))
+      (λ (differ : s ≢ start). sym (slabs-other drop_place s differ) ∙ sym (cond-false (s == start) None (slabs full s) (ne_eqb s start differ)))
+      (cases_eq s start)
+
+  -- the start is no slab any more
+  other_slab : (s : ℕ) → less.slab s ≡ true → s ≢ start
+  other_slab s slab same = true≢false (sym slab ∙ ap less.slab same ∙ it.none)
+
+  pub normal_dropped : HasNormalSlabs words → HasNormalSlabs new
+  normal_dropped normal = record { each = λ s slab. let same = it.others s (other_slab s slab) in sym same.kind ∙ normal.each s (same.slab ∙ slab) }
+
+  pub index_dropped : (set more : FreeSet) → more.granules ≡ set.granules → ((k : ℕ) → IsFree more k ↔ (IsFree set k ⊎ ((start ≤ k) × (k < start + 4)))) → IsIndexOf set words → IsIndexOf more new
+  index_dropped set more granules given index = record {
+    granules = granules ∙ index.granules ∙ ap (λ (b : Bounds). b.granules) (sym dropped.bounds);
+    each = λ k. let vacant = IsVacant-no_slab drop_place k in
+        subst (λ b. IsFree more k ↔ IsVacant b less k) (sym dropped.bounds) (
+          λ free. vacant.1 (⊎_elim (λ was. inl ((index.each k).0 was)) (λ within. inr within) ((given k).0 free)),
+          λ is. (given k).1 (⊎_elim (λ was. inl ((index.each k).1 was)) (λ within. inr within) (vacant.0 is)),
+        );
+  }
+
+  pub slabs_dropped : (set fewer : SlabSet) → IsRemoved set fewer start → IsSlabsOf set words → IsSlabsOf fewer new
+  slabs_dropped set fewer removed was = record {
+    granules = removed.granules ∙ was.granules ∙ ap (λ (b : Bounds). b.granules) (sym dropped.bounds);
+    classes = λ s. removed.classes s ∙ ap (λ x. if s == start then None else x) (was.classes s) ∙ sym (classes_dropped s);
+    blocks = λ s i slab below.
+        let differ = other_slab s slab in
+        let same = it.others s differ in
+        removed.blocks s i
+        ∙ cond-false (s == start) false (is_available set s i) (ne_eqb s start differ)
+        ∙ was.blocks s i (same.slab ∙ slab) (subst (λ c. i < class_capacity c) (sym same.class) below)
+        ∙ ap (λ (f : ℕ → Bool). not (f i)) same.bit;
+  }
+
+  pub keeps_dropped : (other : List ℕ) → KeepsBlocks words other new
+  keeps_dropped other = keeps_blocks words start other new image.formed but.sound but.closed
+      (λ root range k named word. block_word-header but.sound but.closed root range named k word start it.slab)
+      dropped.rest
+
+-- a normal slab that holds a block is one in which a root has it
+pub exact_held : (words : List ℕ) (start number : ℕ) → IsExactButImage words start → (tables_of words).slab start ≡ true → (tables_of words).kind start ≡ 1 → number < class_capacity ((tables_of words).class start) →
+    (tables_of words).bit start number ≡ true → IsExactImage words
+exact_held words start number image slab kind below set =
+    let t = tables_of words in
+    let but = image.but in
+    let block : Range = slab_block start (t.class start) number in
+    let holds : Holds t start block = record { slab = slab; block = inl (record { number = number; below = below; read = λ other. omega (arith, kind, other); set = set; is = refl }) } in
+    let owner = but.sound.claimed start block holds in
+    let unnamed : entry_at t.entry owner.0 ≡ 0 = ap (λ e. entry_at e owner.0) but.closed in
+    let its = IsNamed-claim t owner.0 block unnamed owner.1 in
+    let inside : IsInSlab t start (t.root owner.0) = subst (IsInSlab t start) (sym its.word) (IsInSlab-held but.sound start block holds) in
+    record {
+      formed = image.formed;
+      exact = record {
+        sound = but.sound;
+        closed = but.closed;
+        all_named = but.all_named;
+        all_live = λ other is. ⊎_elim
+            (λ (same : other ≡ start). (owner.0, λ none. its.some (sym its.word ∙ none), subst (λ s. IsInSlab t s (t.root owner.0)) (sym same) inside))
+            (λ (differ : other ≢ start). but.others_live other differ is)
+            (cases_eq other start);
+        calm = but.calm;
+        none_done = but.none_done;
+      };
+    }
+
+-- the blocks of a slab in the set
+
+-- each is available: no bit is set
+pub clear_of : (words : List ℕ) (set : SlabSet) (start : ℕ) → IsSlabsOf set words → (tables_of words).slab start ≡ true → IsWhole set start → (i : ℕ) → i < class_capacity ((tables_of words).class start) → (tables_of words).bit start i ≡ false
+clear_of words set start was slab whole i below =
+    let t = tables_of words in
+    let block : IsBlock set start i = record { class = t.class start; slab = was.classes start ∙ cond-true (t.slab start) (Some (t.class start)) None slab; below = below } in
+    false_from_ne_true (t.bit start i) (λ on. true≢false (sym (whole.each i block) ∙ was.blocks start i slab below ∙ ap not on))
+
+pub none_held : (words : List ℕ) (set : SlabSet) (start : ℕ) → IsSlabsOf set words → (tables_of words).slab start ≡ true → IsWhole set start → holds_none (tables_of words) start ≡ true
+none_held words set start was slab whole =
+    let t = tables_of words in
+    ap not (any_below-none (t.bit start) (class_capacity (t.class start)) (clear_of words set start was slab whole))
+
+-- some is not: a bit is set
+pub some_held : (words : List ℕ) (set : SlabSet) (start : ℕ) → IsSlabsOf set words → (tables_of words).slab start ≡ true → ¬ (IsWhole set start) → any_below ((tables_of words).bit start) (class_capacity ((tables_of words).class start)) ≡ true
+some_held words set start was slab other =
+    let t = tables_of words in
+    let here : class_in set start ≡ Some (t.class start) = was.classes start ∙ cond-true (t.slab start) (Some (t.class start)) None slab in
+    true_from_ne_false (any_below (t.bit start) (class_capacity (t.class start))) (λ none. other (record {
+      each = λ number block.
+          let there = block.slab in
+          let same : block.class ≡ t.class start = cc in
+          let below = subst (λ c. number < class_capacity c) same block.below in
+          was.blocks start number slab below ∙ ap not (any_below-each (t.bit start) (class_capacity (t.class start)) none number below);
+    }))
+
+-- the granules of a slab are held
+pub held_row : (words : List ℕ) (set : FreeSet) (start : ℕ) → IsExactButImage words start → (tables_of words).slab start ≡ true → IsIndexOf set words → IsHeldRow set start 4
+held_row words set start image slab index =
+    let t = tables_of words in
+    let four = granules_at-slab t start slab in
+    let lies = image.but.sound.starts start (omega (arith, four)) in
+    record {
+      each = λ k low high. (
+        omega (arith, low, lies.0, (sizes_of words image.formed).first),
+        omega (arith, high, lies.1, four, index.granules),
+        λ free. ((index.each k).0 free).none start (Covers-slab t start k slab low high),
+      );
+    }
+
+-- a slab that holds a block stays
+pub tidied_none : (s : PmemState) (book : Book) (free : FreeSet) (set : SlabSet) (start : ℕ) → IsExactButImage (words_of s) start → IsReady s → IsBookOf book (words_of s) → IsIndexOf free (words_of s) → HasNormalSlabs (words_of s) → IsSlabsOf set (words_of s) →
+    (tables_of (words_of s)).slab start ≡ true → ¬ (IsWhole set start) → IsTidied s s book free set start
+tidied_none s book free set start image ready log index normal was slab other =
+    let words = words_of s in
+    let t = tables_of words in
+    let some = some_held words set start was slab other in
+    let held = any_below-some (t.bit start) (class_capacity (t.class start)) some in
+    let exact = exact_held words start held.0 image slab (normal.each start slab) held.1 held.2 in
+    let none : holds_none t start ≡ false = ap not some in
+    let events : empty_events words start ≡ [] = cond-false (holds_none t start) (drop_events words start) [] none in
+    record {
+      appends = subst (λ (es : List Event). Appends s s es) (sym events) (Appends-state s s [] (sym (appended_none s)));
+      kept = record { ready = ready; exact = exact; log = log; index = index };
+      normal = normal;
+      slabs = was;
+      bounds = refl;
+      heap = record { each = λ root. refl };
+      slab = λ o. sym (ap (λ gone. slabs_but (slabs t) start gone o) none);
+      keeps = record { each = λ root range k first second word. refl };
+      crash = subst (λ (es : List Event). CrashOnly words es (IsEitherHeap words words)) (sym events) (by_none words (IsEitherHeap words words) (record {
+        steady = record { formed = exact.formed; steady = law_of_steady (bounds_of words) t exact.exact };
+        heap = inl (record { each = λ root. refl });
+        words = record { each = λ root range k first second word. refl };
+      }));
+    }

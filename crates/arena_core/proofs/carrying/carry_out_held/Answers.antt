@@ -1,0 +1,64 @@
+use Rattle.std.proofs.Common.{◌≡◌, ◌*◌, sym, ap, subst, ◌∙◌, arith}
+use Rattle.pmem_lines.specs.Pmem.{words_of}
+use Rattle.image_tables.specs.Tables.{tables_of}
+use Rattle.heap_model.specs.declared.call.Call.TheVariants as calls
+use Rattle.heap_model.specs.declared.call.Reply.TheVariants as replies
+use Rattle.heap_model.specs.Machine.{Range, slab_block}
+use Rattle.heap_check.specs.Heap.{slabs}
+use Rattle.heap_check.specs.Image.{bounds_of}
+use Rattle.heap_check.proofs.Sizes.{sizes_of}
+use Rattle.arena_core.specs.declared.plan.Held.{Held}
+use Rattle.arena_core.specs.Plan.{IsTakable, IsNamedSmall, IsHeldBy, range_held}
+use Rattle.arena_core.proofs.Blocks.{heap-takable}
+use Rattle.arena_core.proofs.Called.{IsCalled-same, IsCalled-done, IsDone-large, freed_large, turn_freed, freed_there, start_is, turn_small, named_class, named_inside, named_heap}
+use Rattle.arena_core.proofs.Machines.{freed_step, large_stays, small_stays}
+use Rattle.arena_core.proofs.carrying.carry_out_held.Goals as goal
+use Rattle.arena_core.proofs.carrying.carry_out_held.Goals.{in-Large, in-Small}
+
+pub returns : goal.returns
+returns g c =
+    let old = g.P.Pmem.state c.args.device.now in
+    let words = words_of old in
+    let b = bounds_of words in
+    let t = tables_of words in
+    let root = c.args.root in
+    let arena = c.requires.arena in
+    let exact = arena.kept.exact in
+    let state = g.P.Pmem.state in
+    elim c.match-held.branch [
+      | in-Large w ↦
+          let start = w.in-Large.start in
+          let count = w.in-Large.granules in
+          let range : Range = record { at = 16384 * start; size = 16384 * count } in
+          let new = words_of (state w.take_large.new.device) in
+          let taken : IsTakable b t root start count = subst (IsHeldBy b t root) w.in-Large.is c.requires.plan in
+          let done = IsDone-large arena w.take_large.ensures.appends w.take_large.ensures.kept w.take_large.ensures.gives w.take_large.ensures.slabs w.take_large.ensures.crash in
+          let step = freed_step words new root range (slabs t) taken.below (heap-takable b t root start count (omega (arith, (sizes_of words exact.formed).first)) taken) (large_stays words root start count exact taken) w.take_large.ensures.gives in
+          IsCalled-same (ap state w.device-is) w.turn-is w.log-is w.free-is w.slabs-is
+          (λ i. replies.Freed ((c.freed_of.ensures.0 ∙ ap (λ (h : Held). (range_held h).at) w.held-is) i) ((c.freed_of.ensures.1 ∙ ap (λ (h : Held). (range_held h).size) w.held-is) i))
+          (IsCalled-done (calls.Free root) (replies.Freed range.at range.size) done (sym (freed_large words c.args.turn.now root start count taken.many)) (sym (turn_freed words c.args.turn.now root start count taken.many c.args.turn.now)) arena.few step)
+      | in-Small w ↦
+          let block = w.in-Small.block in
+          let class = w.in-Small.class in
+          let range : Range = slab_block block.start class block.number in
+          let new = words_of (state w.take_small.new.device) in
+          let named : IsNamedSmall b t root block class = subst (IsHeldBy b t root) w.in-Small.is c.requires.plan in
+          let is_class = named_class words exact arena.normal root block class named in
+          let done = w.take_small.ensures.done in
+          let step = freed_step words new root range _ named.rooted (named_heap words exact arena.normal root block class named)
+          (small_stays words root block.start range _ exact (named_inside words exact arena.normal root block class named) w.take_small.ensures.last) done.gives in
+          IsCalled-same (ap state w.device-is) w.turn-is w.log-is w.free-is w.slabs-is
+          (λ i. replies.Freed ((c.freed_of.ensures.0 ∙ ap (λ (h : Held). (range_held h).at) w.held-is) i) ((c.freed_of.ensures.1 ∙ ap (λ (h : Held). (range_held h).size) w.held-is) i))
+          (IsCalled-done (calls.Free root) (replies.Freed range.at range.size) done
+          (freed_there words c.args.turn.now root block class is_class named.at (start_is exact.exact.sound block.start class block.number named.slab is_class named.below))
+          (sym (turn_small c.args.turn.now range.at class is_class).1) (omega arith) step)
+    ]
+
+pub freed_of-requires : goal.freed_of-requires
+freed_of-requires g c =
+    let words = words_of (g.P.Pmem.state c.args.device.now) in
+    let b = bounds_of words in
+    let t = tables_of words in
+    let root = c.args.root in
+    let same : c.match-held.held ≡ c.args.held = elim c.match-held.branch [ in-Large w ↦ w.held-is ∙ sym w.in-Large.is | in-Small w ↦ w.held-is ∙ sym w.in-Small.is ] in
+    (b, t, root, subst (IsHeldBy b t root) (sym same) c.requires.plan, (sizes_of words c.requires.arena.kept.exact.formed).most)

@@ -1,0 +1,97 @@
+use Rattle.std.proofs.Common.{◌≡◌, ◌*◌, ◌≤◌, sym, ap, subst, ◌∙◌, arith}
+use Rattle.pmem_lines.specs.Pmem.{words_of}
+use Rattle.image_tables.specs.Tables.{tables_of}
+use Rattle.heap_model.specs.declared.call.Call.TheVariants as calls
+use Rattle.heap_model.specs.declared.call.Reply.TheVariants as replies
+use Rattle.heap_model.specs.Machine.{Range, slab_block}
+use Rattle.heap_check.specs.Image.{bounds_of}
+use Rattle.heap_check.proofs.Sizes.{sizes_of}
+use Rattle.arena_core.specs.declared.plan.Place.{Place}
+use Rattle.arena_core.specs.declared.plan.Place.TheVariants as places
+use Rattle.arena_core.specs.Plan.{IsAskedOf, IsPlacing, range_at}
+use Rattle.arena_core.proofs.Called.{IsCalled-same, IsCalled-done, IsDone-large, IsDone-small, placed_large, turn_placed, placed_there, placed_fresh, start_is, turn_small, small_attachable}
+use Rattle.arena_core.proofs.Machines.{placed_step}
+use Rattle.arena_core.proofs.carrying.carry_out_place.Goals as goal
+use Rattle.arena_core.proofs.carrying.carry_out_place.Goals.{in-Large, in-Small, in-Fresh}
+
+pub returns : goal.returns
+returns g c size plan =
+    let old = g.P.Pmem.state c.args.device.now in
+    let words = words_of old in
+    let b = bounds_of words in
+    let t = tables_of words in
+    let root = c.args.root in
+    let turn = c.args.turn.now in
+    let arena = c.requires.arena in
+    let exact = arena.kept.exact in
+    let state = g.P.Pmem.state in
+    let made : IsAskedOf b t root size × IsPlacing b t root size c.args.place = plan in
+    elim c.match-place.branch [
+      | in-Large w ↦
+          let start = w.in-Large.start in
+          let count = w.in-Large.granules in
+          let range : Range = record { at = 16384 * start; size = 16384 * count } in
+          let new = words_of (state w.give_large.new.device) in
+          let placing : IsPlacing b t root size (places.Large start count) = subst (IsPlacing b t root size) w.in-Large.is made.1 in
+          let many = placing.givable.many in
+          let done = IsDone-large arena w.give_large.ensures.appends w.give_large.ensures.kept w.give_large.ensures.gives w.give_large.ensures.slabs w.give_large.ensures.crash in
+          let step = placed_step words new root size (places.Large start count) exact arena.normal made.0 placing w.give_large.ensures.gives in
+          IsCalled-same (ap state w.device-is) w.turn-is w.log-is w.free-is w.slabs-is
+          (λ i. replies.Placed ((c.placed_at.ensures.0 ∙ ap (λ (p : Place). (range_at p).at) w.place-is) i) ((c.placed_at.ensures.1 ∙ ap (λ (p : Place). (range_at p).size) w.place-is) i))
+          (IsCalled-done (calls.Malloc root size) (replies.Placed range.at range.size) done (sym (placed_large words turn root start count many)) (sym (turn_placed words turn root start count many turn)) arena.few step)
+      | in-Small w ↦
+          let block = w.in-Small.block in
+          let class = w.in-Small.class in
+          let range : Range = slab_block block.start class block.number in
+          let new = words_of (state w.give_small.new.device) in
+          let placing : IsPlacing b t root size (places.Small block class) = subst (IsPlacing b t root size) w.in-Small.is made.1 in
+          let is_class = placing.least.is_class in
+          let may = small_attachable words root size block class exact arena.normal made.0 placing in
+          let given = w.give_small.ensures in
+          let done = IsDone-small block arena may placing.lowest.class_is given.appends given.quiet given.attached given.normal given.slabs given.crash in
+          let step = placed_step words new root size (places.Small block class) exact arena.normal made.0 placing done.gives in
+          IsCalled-same (ap state w.device-is) w.turn-is w.log-is w.free-is w.slabs-is
+          (λ i. replies.Placed ((c.placed_at.ensures.0 ∙ ap (λ (p : Place). (range_at p).at) w.place-is) i) ((c.placed_at.ensures.1 ∙ ap (λ (p : Place). (range_at p).size) w.place-is) i))
+          (IsCalled-done (calls.Malloc root size) (replies.Placed range.at range.size) done
+          (placed_there words turn root block class is_class placing.at (start_is exact.exact.sound block.start class block.number placing.lowest.slab is_class placing.lowest.below) placing.lowest.slab)
+          (sym (turn_small turn range.at class is_class).0) (omega arith) step)
+      | in-Fresh w ↦
+          let start = w.in-Fresh.start in
+          let class = w.in-Fresh.class in
+          let range : Range = slab_block start class 0 in
+          let new = words_of (state w.give_fresh.new.device) in
+          let placing : IsPlacing b t root size (places.Fresh start class) = subst (IsPlacing b t root size) w.in-Fresh.is made.1 in
+          let is_class = placing.least.is_class in
+          let done = w.give_fresh.ensures in
+          let step = placed_step words new root size (places.Fresh start class) exact arena.normal made.0 placing done.gives in
+          let high : 3 ≤ start = omega (arith, placing.row.low, (sizes_of words exact.formed).first) in
+          IsCalled-same (ap state w.device-is) w.turn-is w.log-is w.free-is w.slabs-is
+          (λ i. replies.Placed ((c.placed_at.ensures.0 ∙ ap (λ (p : Place). (range_at p).at) w.place-is) i) ((c.placed_at.ensures.1 ∙ ap (λ (p : Place). (range_at p).size) w.place-is) i))
+          (IsCalled-done (calls.Malloc root size) (replies.Placed range.at range.size) done
+          (placed_fresh b words turn root start class is_class high (placing.row.vacant start (omega arith) (omega arith)))
+          (sym (turn_small turn range.at class is_class).0) (omega arith) step)
+    ]
+
+pub give_small-requires-clause-attachable : goal.give_small-requires-clause-attachable
+give_small-requires-clause-attachable g c =
+    let words = words_of (g.P.Pmem.state c.args.device.now) in
+    let b = bounds_of words in
+    let t = tables_of words in
+    let root = c.args.root in
+    let arena = c.requires.arena in
+    let size = c.requires.plan.0 in
+    let made : IsAskedOf b t root size × IsPlacing b t root size c.args.place = c.requires.plan.1 in
+    let placing : IsPlacing b t root size (places.Small c.in-Small.block c.in-Small.class) = subst (IsPlacing b t root size) c.in-Small.is made.1 in
+    small_attachable words root size c.in-Small.block c.in-Small.class arena.kept.exact arena.normal made.0 placing
+
+pub placed_at-requires : goal.placed_at-requires
+placed_at-requires g c =
+    let words = words_of (g.P.Pmem.state c.args.device.now) in
+    let b = bounds_of words in
+    let t = tables_of words in
+    let root = c.args.root in
+    let size = c.requires.plan.0 in
+    let made : IsAskedOf b t root size × IsPlacing b t root size c.args.place = c.requires.plan.1 in
+    let same : c.match-place.place ≡ c.args.place =
+    elim c.match-place.branch [ in-Large w ↦ w.place-is ∙ sym w.in-Large.is | in-Small w ↦ w.place-is ∙ sym w.in-Small.is | in-Fresh w ↦ w.place-is ∙ sym w.in-Fresh.is ] in
+    (b, t, root, size, subst (IsPlacing b t root size) (sym same) made.1, (sizes_of words c.requires.arena.kept.exact.formed).most)

@@ -1,0 +1,53 @@
+use Rattle.std.proofs.Common.{◌≡◌, true≢false, List, [], sym, ap, subst, ◌∙◌, arith}
+use Rattle.std.proofs.lemmas.Bool.{cond-true}
+use Rattle.pmem_lines.specs.declared.event.Event.{Event}
+use Rattle.pmem_lines.specs.Events.{CrashOnly}
+use Rattle.pmem_lines.specs.Pmem.{words_of, Appends}
+use Rattle.image_tables.specs.Tables.{tables_of}
+use Rattle.heap_check.specs.Heap.{slabs}
+use Rattle.heap_check.specs.State.{IsEitherHeap}
+use Rattle.slab_steps.specs.Steps.{drop_events}
+use Rattle.arena_core.specs.Effect.{slabs_but}
+use Rattle.arena_core.specs.Events.{holds_none, empty_events}
+use Rattle.arena_core.proofs.Slabbed.{none_held, held_row, classes_dropped, normal_dropped, index_dropped, slabs_dropped, keeps_dropped, tidied_none}
+use Rattle.arena_core.proofs.carrying.drop_if_empty.Goals as goal
+
+pub give-requires : goal.give-requires
+give-requires g c = held_row (words_of (g.P.Pmem.state c.args.device.now)) c.args.free.now c.args.start c.requires.image c.requires.slab c.requires.index
+
+pub returns-then-is_whole : goal.returns-then-is_whole
+returns-then-is_whole g c =
+    let old = g.P.Pmem.state c.args.device.now in
+    let left = g.P.Pmem.state c.drop_slab.new.p in
+    let words = words_of old in
+    let new = words_of left in
+    let start = c.args.start in
+    let class = c.args.class in
+    let image = c.requires.image in
+    let drop = c.drop_slab.ensures in
+    let dropped = drop.dropped in
+    let none = none_held words c.args.slabs.now start c.requires.slabs c.requires.slab (c.is_whole.ensures.0 c.if-is_whole.true) in
+    let events : empty_events words start ≡ drop_events words start = cond-true (holds_none (tables_of words) start) (drop_events words start) [] none in
+    record {
+      appends = subst (λ (es : List Event). Appends old left es) (sym events) drop.appends;
+      kept = record {
+        ready = record { quiet = drop.quiet; room = omega (arith, c.requires.room, drop.appends.room) };
+        exact = dropped.image;
+        log = drop.book;
+        index = index_dropped words start class image new dropped c.args.free.now c.give.new.self c.give.ensures.granules c.give.ensures.free c.requires.index;
+      };
+      normal = normal_dropped words start class image new dropped c.requires.normal;
+      slabs = slabs_dropped words start class image new dropped c.args.slabs.now c.remove.new.self
+          (record { granules = c.remove.ensures.granules; classes = c.remove.ensures.classes; blocks = c.remove.ensures.blocks }) c.requires.slabs;
+      bounds = dropped.bounds;
+      heap = dropped.heap;
+      slab = λ other. classes_dropped words start class image new dropped other ∙ sym (ap (λ gone. slabs_but (slabs (tables_of words)) start gone other) none);
+      keeps = keeps_dropped words start class image new dropped new;
+      crash = subst (λ (es : List Event). CrashOnly words es (IsEitherHeap words new)) (sym events) drop.crash;
+    }
+
+pub returns-else-is_whole : goal.returns-else-is_whole
+returns-else-is_whole g c =
+    tidied_none (g.P.Pmem.state c.args.device.now) c.args.log.now c.args.free.now c.args.slabs.now c.args.start c.requires.image
+    (record { quiet = c.requires.quiet; room = c.requires.room }) c.requires.book c.requires.index c.requires.normal c.requires.slabs c.requires.slab
+    (λ whole. true≢false (sym (c.is_whole.ensures.1 whole) ∙ c.if-is_whole.false))

@@ -1,0 +1,27 @@
+use Rattle.std.proofs.Common.{true, not, ap, ◌∙◌, arith}
+use Rattle.pmem_lines.specs.Pmem.{words_of}
+use Rattle.arena_core.proofs.Smalls.{normal_small, slabs_small}
+use Rattle.arena_core.proofs.carrying.give_small.Goals as goal
+
+pub attach-requires-clause-room : goal.attach-requires-clause-room
+attach-requires-clause-room g c = omega (arith, c.requires.few, c.requires.ready.room)
+
+pub take-requires : goal.take-requires
+take-requires g c =
+    let attachable = c.requires.attachable in
+    c.requires.slabs.blocks c.args.block.start c.args.block.number attachable.block_in.slab attachable.block_in.below ∙ ap not attachable.clear
+
+pub returns-clause-normal : goal.returns-clause-normal
+returns-clause-normal g c =
+    let state = g.P.Pmem.state in
+    let attached = c.attach.ensures.attached in
+    let block = c.args.block in
+    normal_small (words_of (state c.args.device.now)) c.args.root block.start block.number true block.at (words_of (state c.attach.new.p)) attached.bounds attached.tables c.requires.normal
+
+pub returns-clause-slabs : goal.returns-clause-slabs
+returns-clause-slabs g c =
+    let state = g.P.Pmem.state in
+    let attached = c.attach.ensures.attached in
+    let block = c.args.block in
+    slabs_small (words_of (state c.args.device.now)) c.args.root block.start block.number true block.at (words_of (state c.attach.new.p)) attached.bounds attached.tables
+    c.args.slabs.now c.take.new.self (record { granules = c.take.ensures.granules; classes = c.take.ensures.classes; blocks = c.take.ensures.blocks }) c.requires.slabs

@@ -1,0 +1,36 @@
+use Rattle.std.proofs.Common.{false, not, ap, ◌∙◌, arith, Some, None, length}
+use Rattle.std.proofs.lemmas.Bool.{cond-true}
+use Rattle.pmem_lines.specs.Pmem.{words_of}
+use Rattle.image_tables.specs.Tables.{tables_of}
+use Rattle.arena_core.proofs.Smalls.{normal_small, slabs_small}
+use Rattle.arena_core.proofs.carrying.take_block.Goals as goal
+
+pub detach-requires-clause-room : goal.detach-requires-clause-room
+detach-requires-clause-room g c = omega (arith, ap length c.requires.fresh, c.requires.ready.room)
+
+pub give-requires-clause-block : goal.give-requires-clause-block
+give-requires-clause-block g c =
+    let t = tables_of (words_of (g.P.Pmem.state c.args.device.now)) in
+    let block_in = c.requires.detachable.block_in in
+    let start = c.args.block.start in
+    record { class = t.class start; slab = c.requires.slabs.classes start ∙ cond-true (t.slab start) (Some (t.class start)) None block_in.slab; below = block_in.below }
+
+pub give-requires-clause-taken : goal.give-requires-clause-taken
+give-requires-clause-taken g c =
+    let detachable = c.requires.detachable in
+    c.requires.slabs.blocks c.args.block.start c.args.block.number detachable.block_in.slab detachable.block_in.below ∙ ap not detachable.set
+
+pub returns-clause-normal : goal.returns-clause-normal
+returns-clause-normal g c =
+    let state = g.P.Pmem.state in
+    let detached = c.detach.ensures.detached in
+    let block = c.args.block in
+    normal_small (words_of (state c.args.device.now)) c.args.root block.start block.number false 0 (words_of (state c.detach.new.p)) detached.bounds detached.tables c.requires.normal
+
+pub returns-clause-slabs : goal.returns-clause-slabs
+returns-clause-slabs g c =
+    let state = g.P.Pmem.state in
+    let detached = c.detach.ensures.detached in
+    let block = c.args.block in
+    slabs_small (words_of (state c.args.device.now)) c.args.root block.start block.number false 0 (words_of (state c.detach.new.p)) detached.bounds detached.tables
+    c.args.slabs.now c.give.new.self (record { granules = c.give.ensures.granules; classes = c.give.ensures.classes; blocks = c.give.ensures.blocks }) c.requires.slabs

@@ -1,0 +1,10 @@
+use Rattle.std.proofs.Common.{subst}
+use Rattle.arena_core.specs.Plan.{IsHeldBy}
+use Rattle.arena_core.proofs.Plans.{class_known}
+use Rattle.arena_core.proofs.plan.freed_of.Goals as goal
+
+-- a slab has blocks of a class alone
+pub size_of_class-requires : goal.size_of_class-requires
+size_of_class-requires c =
+    let named = subst (IsHeldBy c.requires.0 c.requires.1 c.requires.2) c.in-Small.is c.requires.3 in
+    class_known c.in-Small.class c.in-Small.block.number named.below

@@ -1,0 +1,31 @@
+use Rattle.std.proofs.Common.{◌≡◌, ◌/◌, sym, ◌∙◌, subst, arith}
+use Rattle.pmem_lines.specs.Pmem.{words_of}
+use Rattle.image_tables.specs.Tables.{tables_of}
+use Rattle.slab_index.specs.SlabSet.{class_in}
+use Rattle.heap_check.specs.Image.{bounds_of}
+use Rattle.arena_core.specs.Plan.{IsInNoSlabOf, IsTakable}
+use Rattle.arena_core.proofs.Plans.{block_found, IsNamedSmall-block, takable_outside}
+use Rattle.arena_core.proofs.plan.held_by.Goals as goal
+
+pub overflow_sub-result : goal.overflow_sub-result
+overflow_sub-result g c =
+    let block = block_found c.requires.exact c.requires.normal c.requires.slabs c.args.root c.root_word-at.result c.in-Some.slab.start c.in-Some.slab.class c.root_word-at.ensures c.if-at-eq0.false c.in-Some.ensures in
+    omega (arith, block.at, c.root_word-at.ensures, c.blocks_at.ensures, c.granule_at.ensures)
+
+pub returns-in-Some : goal.returns-in-Some
+returns-in-Some g c =
+    let block = block_found c.requires.exact c.requires.normal c.requires.slabs c.args.root c.root_word-at.result c.in-Some.slab.start c.in-Some.slab.class c.root_word-at.ensures c.if-at-eq0.false c.in-Some.ensures in
+    IsNamedSmall-block c.requires.exact c.args.root c.root_word-at.result c.in-Some.slab.start c.in-Some.slab.class c.blocks_at.result c.size_of_class.result c.requires.root c.root_word-at.ensures
+    (omega (arith, c.blocks_at.ensures, c.granule_at.ensures)) c.size_of_class.ensures.size block
+
+pub returns-in-None : goal.returns-in-None
+returns-in-None g c =
+    let words = words_of (g.P.Pmem.state c.args.device.now) in
+    let t = tables_of words in
+    let at = c.root_word-at.result in
+    let is : at ≡ t.root c.args.root = c.root_word-at.ensures in
+    let outside : IsInNoSlabOf (class_in c.args.slabs.now) (at / 16384) = c.in-None.ensures in
+    let takable = takable_outside c.requires.exact c.requires.slabs c.args.root c.requires.root (λ none. c.if-at-eq0.false (is ∙ none)) (subst (λ k. IsInNoSlabOf (class_in c.args.slabs.now) (k / 16384)) is outside) in
+    let here : IsTakable (bounds_of words) t c.args.root (at / 16384) (t.large (at / 16384)) = subst (λ k. IsTakable (bounds_of words) t c.args.root (k / 16384) (t.large (k / 16384))) (sym is) takable in
+    let count : c.granules_at.result ≡ t.large (at / 16384) = c.granules_at.ensures words c.requires.log (omega (arith, here.many)) in
+    subst (IsTakable (bounds_of words) t c.args.root (at / 16384)) (sym count) here

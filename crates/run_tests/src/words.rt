@@ -1,0 +1,58 @@
+// The words of the device that a replay leaves on a shelf.
+use crate::runs::word_after;
+use std::test::Fail;
+
+// The text `NVALLOG1` of an arena's header, as a word.
+const TEXT: u64 = 0x3147_4f4c_4c41_564e;
+
+// A block of 100 bytes at root 5: the header line, the root, the log's first entry, the state word, block 0's bit. All else
+// is 0, the first write-ahead line too.
+#[test]
+fn one_small_block(rt: HostRuntime) -> Result<(), Fail> {
+    let rows = [
+        (0, TEXT),
+        (8, 0x0001_0010_0000_0001),
+        (16, 1),
+        (24, 0),
+        (512, 0),
+        (576, 0),
+        (16416, 0),
+        (16424, 67584),
+        (16432, 0),
+        (49152, 0),
+        (49216, 0x0402),
+        (49280, 0),
+        (65536, 0x0601),
+        (65600, 1),
+        (65608, 0),
+        (65664, 0),
+        (67584, 0),
+    ];
+    for (at, word) in rows {
+        let left = word_after(&rt, rt.alloc(), "pool 1 16\n0 0 m 5 100\n", at)?;
+        assert_eq!(rt; left, Some(word), "at {at}");
+    }
+    Ok(())
+}
+
+// The bits of neighbours lie in different lines.
+#[test]
+fn two_small_blocks(rt: HostRuntime) -> Result<(), Fail> {
+    for (at, word) in [(65600, 1), (65664, 1), (65728, 0)] {
+        let trace = "pool 1 16\n0 0 m 1 16\n0 0 m 2 16\n";
+        let left = word_after(&rt, rt.alloc(), trace, at)?;
+        assert_eq!(rt; left, Some(word), "at {at}");
+    }
+    Ok(())
+}
+
+// A slab whose last block goes leaves the log: its entry, and behind it a Tomb.
+#[test]
+fn a_slab_goes_back(rt: HostRuntime) -> Result<(), Fail> {
+    for (at, word) in [(16392, 0), (49216, 0x0402), (49280, 0x0403), (65600, 0)] {
+        let trace = "pool 1 16\n0 0 m 1 64\n0 0 f 1\n";
+        let left = word_after(&rt, rt.alloc(), trace, at)?;
+        assert_eq!(rt; left, Some(word), "at {at}");
+    }
+    Ok(())
+}
