@@ -7,19 +7,16 @@ use std::test::Fail;
 #[test]
 fn best_fit_by_hand(rt: HostRuntime) -> Result<(), Fail> {
     let mut index = ExtentIndex::new(rt.alloc(), 32)?;
-    assert_eq!(rt; index.best_fit(28), Some(4));
-    assert_eq!(rt; index.best_fit(29), None);
+    assert_eq!(rt; (index.best_fit(28), index.best_fit(29)), (Some(4), None));
     index.take(7, 3);
     index.take(14, 6);
     index.take(23, 7);
-    assert_eq!(rt; index.best_fit(1), Some(30));
-    assert_eq!(rt; index.best_fit(3), Some(4));
-    assert_eq!(rt; index.best_fit(4), Some(10));
-    assert_eq!(rt; index.best_fit(5), None);
+    for (granules, start) in [(1, Some(30)), (3, Some(4)), (4, Some(10)), (5, None)] {
+        assert_eq!(rt; index.best_fit(granules), start, "for {granules}");
+    }
     index.take(4, 2);
     assert_eq!(rt; index.best_fit(1), Some(6));
     index.give(14, 6);
-    assert_eq!(rt; index.best_fit(13), Some(10));
-    assert_eq!(rt; index.best_fit(14), None);
+    assert_eq!(rt; (index.best_fit(13), index.best_fit(14)), (Some(10), None));
     Ok(())
 }

@@ -28,15 +28,20 @@ fn counts(events: &[Event], line: u32) -> (u32, u32) {
     (all, done)
 }
 
+// A store is done.
+fn put(words: &mut [u64], at: u32, value: u64) {
+    if let Some(word) = words.get_mut(at as usize / 8) {
+        *word = value;
+    }
+}
+
 // The first so many stores of a line are done.
 fn store_first(words: &mut [u64], events: &[Event], line: u32, mut kept: u64) {
     for event in events {
         if let Event::Store { at, value } = *event {
             if at / 64 == line && kept > 0 {
                 kept -= 1;
-                if let Some(word) = words.get_mut(at as usize / 8) {
-                    *word = value;
-                }
+                put(words, at, value);
             }
         }
     }

@@ -62,66 +62,64 @@ fn filled(alloc: Global, chunks: &[(u8, u8)], count: u32) -> Result<Outcome, Out
     })
 }
 
+// Each chunk names two extents of its own, or twenty.
+const TWO_EACH: [(u8, u8); 8] = [
+    (0, 2),
+    (2, 2),
+    (4, 2),
+    (6, 2),
+    (8, 2),
+    (10, 2),
+    (12, 2),
+    (14, 2),
+];
+
+const TWENTY_EACH: [(u8, u8); 8] = [
+    (0, 20),
+    (20, 20),
+    (40, 20),
+    (60, 20),
+    (80, 20),
+    (100, 20),
+    (120, 20),
+    (140, 20),
+];
+
 #[test]
 fn ways(rt: HostRuntime) -> Result<(), Fail> {
-    let two_each = [
-        (0, 2),
-        (2, 2),
-        (4, 2),
-        (6, 2),
-        (8, 2),
-        (10, 2),
-        (12, 2),
-        (14, 2),
+    let rows: [(&[(u8, u8)], u32, Rolled, u32, u64); 6] = [
+        (&TWO_EACH, 120, Rolled::Nothing, 700, 1),
+        (
+            &TWO_EACH,
+            121,
+            Rolled::Rolled { dropped: None },
+            561,
+            0x0201,
+        ),
+        (&TWO_EACH, 960, Rolled::Nothing, 700, 0x0807_0605_0403_0201),
+        (&TWO_EACH, 961, Rolled::Rewritten { chunks: 1 }, 561, 9),
+        (
+            &TWENTY_EACH,
+            961,
+            Rolled::Rewritten { chunks: 2 },
+            426,
+            0x0a09,
+        ),
+        (
+            &[(0, 1), (1, 1), (0, 2)],
+            361,
+            Rolled::Rolled { dropped: Some(0) },
+            561,
+            0x0004_0302,
+        ),
     ];
-    let room = Outcome {
-        made: Rolled::Nothing,
-        left: 700,
-        directory: 1,
-    };
-    assert_eq!(rt; filled(rt.alloc(), &two_each, 120)?, room);
-    let rolled = Outcome {
-        made: Rolled::Rolled { dropped: None },
-        left: 561,
-        directory: 0x0201,
-    };
-    assert_eq!(rt; filled(rt.alloc(), &two_each, 121)?, rolled);
-    let full = Outcome {
-        made: Rolled::Nothing,
-        left: 700,
-        directory: 0x0807_0605_0403_0201,
-    };
-    assert_eq!(rt; filled(rt.alloc(), &two_each, 960)?, full);
-    let rewritten = Outcome {
-        made: Rolled::Rewritten { chunks: 1 },
-        left: 561,
-        directory: 9,
-    };
-    assert_eq!(rt; filled(rt.alloc(), &two_each, 961)?, rewritten);
-    let twenty_each = [
-        (0, 20),
-        (20, 20),
-        (40, 20),
-        (60, 20),
-        (80, 20),
-        (100, 20),
-        (120, 20),
-        (140, 20),
-    ];
-    let into_two = Outcome {
-        made: Rolled::Rewritten { chunks: 2 },
-        left: 426,
-        directory: 0x0a09,
-    };
-    assert_eq!(rt; filled(rt.alloc(), &twenty_each, 961)?, into_two);
-    let first_dropped = Outcome {
-        made: Rolled::Rolled { dropped: Some(0) },
-        left: 561,
-        directory: 0x0004_0302,
-    };
-    assert_eq!(rt;
-        filled(rt.alloc(), &[(0, 1), (1, 1), (0, 2)], 361)?,
-        first_dropped
-    );
+    for (chunks, count, made, left, directory) in rows {
+        let want = Outcome {
+            made,
+            left,
+            directory,
+        };
+        assert_eq!(rt; filled(rt.alloc(), chunks, count)?, want, "after {count}");
+    }
     Ok(())
 }

@@ -65,7 +65,7 @@ fn index_words(rt: HostRuntime) {
 
 #[test]
 fn slab_of_class_6(rt: HostRuntime) -> Result<(), Fail> {
-    let mut device = SimPmem::zeroed(rt.alloc(), 4096, 85)?;
+    let mut device = SimPmem::zeroed(rt.alloc(), 4096, 75)?;
     write_word(&mut device, 65664, 7);
     device.begin();
     make_slab(&mut device, 65536, 6);
@@ -101,20 +101,24 @@ fn slab_of_class_6(rt: HostRuntime) -> Result<(), Fail> {
             assert_eq!(rt; device.event(i), event, "event {i}");
         }
     }
-    assert_eq!(rt; device.words(65536, 1), [0x0601].as_slice());
-    assert_eq!(rt; device.words(65664, 1), [0].as_slice());
+    assert_eq!(rt; (device.load(65536), device.load(65664)), (0x0601, 0));
+    Ok(())
+}
+
+#[test]
+fn bits_and_index_of_a_slab(rt: HostRuntime) -> Result<(), Fail> {
+    let mut device = SimPmem::zeroed(rt.alloc(), 4096, 10)?;
     put_bit(&mut device, 65536, 0, true);
     put_bit(&mut device, 65536, 1, true);
     put_bit(&mut device, 65536, 8, true);
     put_bit(&mut device, 65536, 0, false);
-    assert_eq!(rt; device.words(65600, 1), [2].as_slice());
-    assert_eq!(rt; device.words(65664, 1), [1].as_slice());
     let entry = IndexEntry {
         live: true,
         number: 5,
     };
     put_index(&mut device, 65536, 9, entry);
-    assert_eq!(rt; device.words(66184, 1), [0x0005_0001].as_slice());
+    let words = [device.load(65600), device.load(65664), device.load(66184)];
+    assert_eq!(rt; words, [2, 1, 0x0005_0001]);
     assert_eq!(rt; device.left(), 0);
     Ok(())
 }

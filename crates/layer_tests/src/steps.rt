@@ -33,8 +33,7 @@ fn exact_events(rt: HostRuntime) -> Result<(), Fail> {
             "event {i}"
         );
     }
-    assert_eq!(rt; device.left(), 0);
-    assert_eq!(rt; device.words(0, 2), [7, 1].as_slice());
+    assert_eq!(rt; (device.left(), device.load(0), device.load(8)), (0, 7, 1));
     assert_eq!(rt; device.words(56, 3), [3, 4, 5].as_slice());
     Ok(())
 }
