@@ -34,7 +34,8 @@ use Rattle.heap_check.specs.Image.{bounds_of, header_in, HasSlabHeader, IsFormed
 use Rattle.heap_check.proofs.Formatted.{AreBlank-formatted, header_in-formatted, IsFormed-formatted, law_of_formatted}
 use Rattle.heap_check.proofs.Geometry.{granules_at-large}
 use Rattle.heap_check.proofs.Loose.{IsExactBut-exact}
-use Rattle.heap_check.proofs.Slabs.{IsWithSlab, IsSlabPlace}
+use Rattle.heap_check.specs.Slabs.{IsWithSlab}
+use Rattle.heap_check.proofs.Slabs.{IsSlabPlace}
 use Rattle.heap_check.proofs.SlabPlaces.{IsSlabPlace-vacant}
 use Rattle.heap_check.proofs.SlabSound.{IsExactBut-slab}
 use Rattle.attach_steps.specs.declared.block.SmallBlock.{SmallBlock}
