@@ -12,3 +12,4 @@ pub mod Smalls
 pub mod Slabbed
 pub mod Plans
 pub mod Last
+pub mod Adopted

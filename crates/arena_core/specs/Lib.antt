@@ -5,3 +5,4 @@ pub mod Effect
 pub mod Plan
 pub mod Arena
 pub mod Carried
+pub mod Adopting

@@ -9,10 +9,11 @@ ghost use Rattle.heap_model.specs.Machine.{no_heap};
 ghost use Rattle.heap_check.specs.Image.{IsExactImage};
 ghost use Rattle.heap_check.specs.State.{HasState, KeepsBlocks, IsEitherHeap};
 ghost use Rattle.arena_core.specs.Answer.{malloc_reply, free_reply};
-ghost use Rattle.arena_core.specs.Arena.{IsBlockOfRoot};
+ghost use Rattle.arena_core.specs.Arena.{HasNormalSlabs, IsBlockOfRoot};
 ghost use Rattle.arena_core.specs.Call.{IsReady, IsStepOf, IsFormattedOrNot};
 ghost use Rattle.arena_core.specs.Events.{call_events, turn_after, format_events};
 
+use crate::adopting::read_image;
 use crate::carrying::{carry_out_free, carry_out_malloc};
 use crate::formatting::write_header;
 use crate::plan::{freed_of, granules_in, held_by, layout_in, plan_free, plan_malloc};
@@ -83,6 +84,34 @@ impl<P: Pmem> Arena<P> {
         device.begin();
         write_header(&mut device, &header);
         log.load(&device);
+        Arena {
+            device,
+            log,
+            free,
+            slabs,
+            turn: 0,
+        }
+    }
+
+    /// Makes an arena over a memory whose image is exact and whose slabs are all normal; `room` is for as many granules as
+    /// the image has. It begins no call and has no event, and the heap is that of the image. It takes no memory.
+    pub fn adopt(room: ArenaRoom, device: P) -> Arena<P>
+        requires quiet { IsQuiet (P.state device).events }
+        requires room { 2048 ≤ (P.state device).room }
+        requires exact { IsExactImage (words_of (P.state device)) }
+        requires normal { HasNormalSlabs (words_of (P.state device)) }
+        requires size { granules_in (words_of (P.state device)) ≡ room }
+        ensures device { result.device ≡ P.state device }
+        ensures turn { result.turn ≡ 0 }
+        ensures ready { IsReady result.device }
+    {
+        let ArenaRoom {
+            mut log,
+            mut free,
+            mut slabs,
+        } = room;
+        log.load(&device);
+        read_image(&device, &log, &mut free, &mut slabs);
         Arena {
             device,
             log,

@@ -11,6 +11,7 @@
 // and of the indexes of free granules and of slabs that an arena keeps beside the words (`specs/Arena.antt`).
 #![tactic(auto, using(std::proofs::lemmas::Grind::common_steps))]
 
+mod adopting;
 mod answer;
 mod arena;
 mod carrying;

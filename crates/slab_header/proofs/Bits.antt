@@ -12,6 +12,11 @@ pub bit_of_word-is_set : (word bit : ℕ) → bit_of_word word bit ≡ is_set wo
 unfolding bit_of_word is_set
 bit_of_word-is_set word bit = refl
 
+-- a bit of a word, spelled out
+pub bit_of_word-is : (word bit : ℕ) → eqb (word / 2 ^ bit % 2) 1 ≡ bit_of_word word bit
+unfolding bit_of_word
+bit_of_word-is word bit = refl
+
 -- a bit by its test
 bit_by_test : (a b : ℕ) → a < 2 → b < 2 → eqb a 1 ≡ eqb b 1 → a ≡ b
 bit_by_test zero zero p q h = refl

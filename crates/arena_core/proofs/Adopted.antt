@@ -1,0 +1,349 @@
+-- The indexes take over the live extents of an exact image, one after another by rising start.
+use Rattle.std.proofs.Common.{◌≡◌, ◌≢◌, ◌↔◌, ◌⊎◌, ◌+◌, ◌*◌, ◌/◌, ◌<◌, ◌≤◌, ◌&&◌, ℕ, true, false, not, cond, ltb, eqb, List, Bool, Option, Some, None, refl, sym, ap, subst, ◌∙◌, inl, inr, ⊎_elim, arith}
+use Rattle.std.proofs.lemmas.Bool.{cond-true, cond-false, cases_lt, cases_eq, lt-ltb, le-ltb, eq-eqb, ne_eqb, and_from}
+use Rattle.size_classes.specs.Classes.{class_capacity}
+use Rattle.image_tables.specs.declared.extent.Extent.{Extent}
+use Rattle.image_tables.specs.declared.extent.Extent.TheVariants as extent
+use Rattle.image_tables.specs.Extents.{extent_at}
+use Rattle.image_tables.specs.Tables.{Tables, large_of, is_slab_of, is_slab, tables_of}
+use Rattle.image_tables.proofs.Tables.{large_table, slab_table}
+use Rattle.pool_layout.specs.Header.{granules_in}
+use Rattle.book_log.specs.declared.entry.LogEntry.{LogEntry}
+use Rattle.book_log.specs.declared.entry.LogEntry.TheVariants.{Large, Slab}
+use Rattle.book_log.specs.Book.{chunks_of}
+use Rattle.book_log.specs.Entry.{start_of, extent_of}
+use Rattle.book_log.specs.Table.{IsNextLive}
+use Rattle.log_gc.proofs.Live.{live_extents}
+use Rattle.heap_model.specs.Machine.{Bounds, with_key}
+use Rattle.heap_model.specs.Runs.{IsFreeRow}
+use Rattle.extent_index.specs.FreeSet.{FreeSet, IsFree}
+use Rattle.slab_index.specs.SlabSet.{SlabSet, class_in, is_available}
+use Rattle.heap_check.specs.Heap.{slabs}
+use Rattle.heap_check.specs.Sound.{granules_at, Covers}
+use Rattle.heap_check.specs.Image.{bounds_of, IsExactImage}
+use Rattle.heap_check.proofs.Geometry.{granules_at-slab, granules_at-large}
+use Rattle.heap_check.proofs.Sizes.{sizes_of}
+use Rattle.arena_core.specs.Arena.{IsIndexOf, IsSlabsOf}
+use Rattle.arena_core.specs.Adopting.{IsVacantBelow, slabs_below, IsReadBelow, IsWithSlabOf, IsNextRead}
+
+-- what the tables say of a granule by its extent
+
+pub slab_is : (words : List ℕ) (start : ℕ) (here : Option Extent) → extent_at words start ≡ here → (tables_of words).slab start ≡ is_slab_of here
+slab_is words start here is = slab_table words start ∙ ap is_slab_of is
+
+large_is : (words : List ℕ) (start : ℕ) (here : Option Extent) → extent_at words start ≡ here → (tables_of words).large start ≡ large_of here
+large_is words start here is = large_table words start ∙ ap large_of is
+
+pub large_size : (words : List ℕ) (start count : ℕ) → extent_at words start ≡ Some (extent.Large count) → granules_at (tables_of words) start ≡ count
+large_size words start count is =
+    granules_at-large (tables_of words) start (slab_is words start (Some (extent.Large count)) is) ∙ large_is words start (Some (extent.Large count)) is
+
+pub slab_size : (words : List ℕ) (start : ℕ) → extent_at words start ≡ Some extent.Slab → granules_at (tables_of words) start ≡ 4
+slab_size words start is = granules_at-slab (tables_of words) start (slab_is words start (Some extent.Slab) is)
+
+-- where nothing starts, no granule is covered
+covers_none : (words : List ℕ) (start k : ℕ) → extent_at words start ≡ None → ¬ (Covers (tables_of words) start k)
+covers_none words start k none covers =
+    let t = tables_of words in
+    let size : granules_at t start ≡ 0 = granules_at-large t start (slab_is words start None none) ∙ large_is words start None none in
+    omega (arith, size, covers.low, covers.high)
+
+slabs_none : (words : List ℕ) (start : ℕ) → extent_at words start ≡ None → slabs (tables_of words) start ≡ None
+slabs_none words start none = ap (λ b. cond b (Some ((tables_of words).class start)) None) (slab_is words start None none)
+
+no_slab : (words : List ℕ) (start : ℕ) → extent_at words start ≡ None → (tables_of words).slab start ≢ true
+no_slab words start none is = let is_none = slab_is words start None none in cc
+
+below : (t : Tables) (from start : ℕ) → start < from → slabs_below t from start ≡ slabs t start
+below t from start less = cond-true (ltb start from) (slabs t start) None (lt-ltb start from less)
+
+pub not_below : (t : Tables) (from start : ℕ) → from ≤ start → slabs_below t from start ≡ None
+not_below t from start past = cond-false (ltb start from) (slabs t start) None (le-ltb start from past)
+
+-- nothing starts from one granule on and below another, so that what is read below the one is read below the other
+pub IsReadBelow-none : (words : List ℕ) (set : FreeSet) (parts : SlabSet) (from to : ℕ) → from ≤ to → ((start : ℕ) → from ≤ start → start < to → extent_at words start ≡ None) →
+    IsReadBelow words set parts from → IsReadBelow words set parts to
+IsReadBelow-none words set parts from to up none read = record {
+  granules = read.granules;
+  free = λ k. (
+    λ free.
+        let vacant = (read.free k).0 free in
+        record {
+          low = vacant.low;
+          high = vacant.high;
+          none = λ start less covers. ⊎_elim (λ (lower : start < from). vacant.none start lower covers) (λ (past : from ≤ start). covers_none words start k (none start past less) covers) (cases_lt start from);
+        },
+    λ vacant. (read.free k).1 (record {
+      low = vacant.low;
+      high = vacant.high;
+      none = λ start less. vacant.none start (omega (arith, less, up));
+    }),
+  );
+  slab_granules = read.slab_granules;
+  classes = λ start. read.classes start ∙ ⊎_elim
+      (λ (lower : start < from). below (tables_of words) from start lower ∙ sym (below (tables_of words) to start (omega (arith, lower, up))))
+      (λ (past : from ≤ start). not_below (tables_of words) from start past ∙ ⊎_elim
+      (λ (less : start < to). sym (slabs_none words start (none start past less)) ∙ sym (below (tables_of words) to start less))
+      (λ (over : to ≤ start). sym (not_below (tables_of words) to start over))
+      (cases_lt start to))
+      (cases_lt start from);
+  blocks = λ start i less slab few. ⊎_elim
+      (λ (lower : start < from). read.blocks start i lower slab few)
+      (λ (past : from ≤ start). absurd (no_slab words start (none start past less) slab))
+      (cases_lt start from);
+}
+
+-- the granules of the next extent are all free yet
+pub read_row : (words : List ℕ) (set : FreeSet) (start : ℕ) → IsExactImage words → ((k : ℕ) → IsFree set k ↔ IsVacantBelow (bounds_of words) (tables_of words) start k) →
+    0 < granules_at (tables_of words) start → IsFreeRow (IsFree set) start (granules_at (tables_of words) start)
+read_row words set start image free some = record {
+  each = λ k from to.
+      let sound = image.exact.sound in
+      let here = sound.starts start some in
+      (free k).1 (record {
+        low = omega (arith, here.0, from);
+        high = omega (arith, here.1, to);
+        none = λ other less covers. let same = sound.disjoint start other k (record { low = from; high = to }) covers in omega (arith, same, less);
+      });
+}
+
+-- once they are taken, the free ones are those in no extent that starts below the next granule
+pub read_free : (b : Bounds) (t : Tables) (set new : FreeSet) (start : ℕ) → ((k : ℕ) → IsFree set k ↔ IsVacantBelow b t start k) →
+    ((k : ℕ) → IsFree new k ↔ (IsFree set k × ((k < start) ⊎ (start + granules_at t start ≤ k)))) → (k : ℕ) → IsFree new k ↔ IsVacantBelow b t (start + 1) k
+read_free b t set new start free taken k = (
+  λ is.
+      let both = (taken k).0 is in
+      let vacant = (free k).0 both.0 in
+      record {
+        low = vacant.low;
+        high = vacant.high;
+        none = λ other less covers. ⊎_elim
+            (λ (lower : other < start). vacant.none other lower covers)
+            (λ (last : start ≤ other).
+            let same : other ≡ start = omega (arith, less, last) in
+            let here = subst (λ s. Covers t s k) same covers in
+            ⊎_elim (λ (out : k < start). omega (arith, out, here.low)) (λ (out : start + granules_at t start ≤ k). omega (arith, out, here.high)) both.1)
+            (cases_lt other start);
+      },
+  λ vacant. (taken k).1 (
+    (free k).1 (record { low = vacant.low; high = vacant.high; none = λ other less. vacant.none other (omega (arith, less)) }),
+    ⊎_elim
+        (λ (out : k < start). inl out)
+        (λ (from : start ≤ k). ⊎_elim
+        (λ (to : k < start + granules_at t start). absurd (vacant.none start (omega arith) (record { low = from; high = to })))
+        (λ (out : start + granules_at t start ≤ k). inr out)
+        (cases_lt k (start + granules_at t start)))
+        (cases_lt k start),
+  ),
+)
+
+-- the next extent is a large one
+pub IsReadBelow-large : (words : List ℕ) (set new : FreeSet) (parts : SlabSet) (start count : ℕ) → extent_at words start ≡ Some (extent.Large count) → new.granules ≡ set.granules →
+    ((k : ℕ) → IsFree new k ↔ (IsFree set k × ((k < start) ⊎ (start + count ≤ k)))) → IsReadBelow words set parts start → IsReadBelow words new parts (start + 1)
+IsReadBelow-large words set new parts start count is granules taken read =
+    let t = tables_of words in
+    let none : t.slab start ≡ false = slab_is words start (Some (extent.Large count)) is in
+    let size : granules_at t start ≡ count = granules_at-large t start none ∙ large_is words start (Some (extent.Large count)) is in
+    record {
+      granules = granules ∙ read.granules;
+      free = read_free (bounds_of words) t set new start read.free (subst (λ n. (k : ℕ) → IsFree new k ↔ (IsFree set k × ((k < start) ⊎ (start + n ≤ k)))) (sym size) taken);
+      slab_granules = read.slab_granules;
+      classes = λ other. read.classes other ∙ ⊎_elim
+          (λ (lower : other < start). below t start other lower ∙ sym (below t (start + 1) other (omega (arith, lower))))
+          (λ (past : start ≤ other). not_below t start other past ∙ ⊎_elim
+          (λ (here : other ≡ start). sym (below t (start + 1) other (omega (arith, here)) ∙ ap (λ s. slabs t s) here ∙ ap (λ b. cond b (Some (t.class start)) None) none))
+          (λ (apart : other ≢ start). sym (not_below t (start + 1) other (omega (arith, past, apart))))
+          (cases_eq other start))
+          (cases_lt other start);
+      blocks = λ other i less slab few. ⊎_elim
+          (λ (lower : other < start). read.blocks other i lower slab few)
+          (λ (last : start ≤ other). absurd (let same : other ≡ start = omega (arith, less, last) in let here = ap (λ s. t.slab s) same in cc))
+          (cases_lt other start);
+    }
+
+-- the next extent is a slab
+pub IsReadBelow-slab : (words : List ℕ) (set new : FreeSet) (parts more : SlabSet) (start : ℕ) → extent_at words start ≡ Some extent.Slab → new.granules ≡ set.granules →
+    ((k : ℕ) → IsFree new k ↔ (IsFree set k × ((k < start) ⊎ (start + 4 ≤ k)))) → IsWithSlabOf words parts more start → IsReadBelow words set parts start → IsReadBelow words new more (start + 1)
+IsReadBelow-slab words set new parts more start is granules taken with_slab read =
+    let t = tables_of words in
+    let slab : t.slab start ≡ true = slab_is words start (Some extent.Slab) is in
+    let size : granules_at t start ≡ 4 = granules_at-slab t start slab in
+    record {
+      granules = granules ∙ read.granules;
+      free = read_free (bounds_of words) t set new start read.free (subst (λ n. (k : ℕ) → IsFree new k ↔ (IsFree set k × ((k < start) ⊎ (start + n ≤ k)))) (sym size) taken);
+      slab_granules = with_slab.granules ∙ read.slab_granules;
+      classes = λ other. ⊎_elim
+          (λ (here : other ≡ start).
+          ap (λ s. class_in more s) here ∙ with_slab.here ∙ sym (ap (λ b. cond b (Some (t.class start)) None) slab) ∙ ap (λ s. slabs t s) (sym here) ∙ sym (below t (start + 1) other (omega (arith, here))))
+          (λ (apart : other ≢ start). with_slab.classes other apart ∙ read.classes other ∙ ⊎_elim
+          (λ (lower : other < start). below t start other lower ∙ sym (below t (start + 1) other (omega (arith, lower))))
+          (λ (past : start ≤ other). not_below t start other past ∙ sym (not_below t (start + 1) other (omega (arith, past, apart))))
+          (cases_lt other start))
+          (cases_eq other start);
+      blocks = λ other i less is_slab few. ⊎_elim
+          (λ (here : other ≡ start).
+          let mine : i < class_capacity (t.class start) = subst (λ s. i < class_capacity (t.class s)) here few in
+          ap (λ s. is_available more s i) here ∙ with_slab.blocks i mine ∙ ap (λ s. not (t.bit s i)) (sym here))
+          (λ (apart : other ≢ start). with_slab.others other i apart ∙ read.blocks other i (omega (arith, less, apart)) is_slab few)
+          (cases_eq other start);
+    }
+
+-- before anything is read
+pub IsReadBelow-first : (words : List ℕ) (set : FreeSet) (parts : SlabSet) → (bounds_of words).first ≡ 4 → set.granules ≡ (bounds_of words).granules → ((k : ℕ) → IsFree set k ↔ ((4 ≤ k) × (k < set.granules))) →
+    parts.granules ≡ (bounds_of words).granules → ((start : ℕ) → class_in parts start ≡ None) → IsReadBelow words set parts 0
+IsReadBelow-first words set parts first granules free slab_granules none = record {
+  granules = granules;
+  free = λ k. (
+    λ is. let within = (free k).0 is in record { low = omega (arith, first, within.0); high = omega (arith, granules, within.1); none = λ start less. absurd (omega (arith, less)) },
+    λ vacant. (free k).1 (omega (arith, first, vacant.low), omega (arith, granules, vacant.high)),
+  );
+  slab_granules = slab_granules;
+  classes = λ start. none start ∙ sym (not_below (tables_of words) 0 start (omega arith));
+  blocks = λ start i less. absurd (omega (arith, less));
+}
+
+-- behind all extents: the indexes are those of the image
+pub index_read : (words : List ℕ) (set : FreeSet) (parts : SlabSet) (from : ℕ) → ((start : ℕ) → from ≤ start → extent_at words start ≡ None) → IsReadBelow words set parts from → IsIndexOf set words
+index_read words set parts from none read = record {
+  granules = read.granules;
+  each = λ k. (
+    λ is.
+        let vacant = (read.free k).0 is in
+        record {
+          low = vacant.low;
+          high = vacant.high;
+          none = λ start covers. ⊎_elim (λ (lower : start < from). vacant.none start lower covers) (λ (past : from ≤ start). covers_none words start k (none start past) covers) (cases_lt start from);
+        },
+    λ vacant. (read.free k).1 (record { low = vacant.low; high = vacant.high; none = λ start less. vacant.none start }),
+  );
+}
+
+pub slabs_read : (words : List ℕ) (set : FreeSet) (parts : SlabSet) (from : ℕ) → ((start : ℕ) → from ≤ start → extent_at words start ≡ None) → IsReadBelow words set parts from → IsSlabsOf parts words
+slabs_read words set parts from none read = record {
+  granules = read.slab_granules;
+  classes = λ start. read.classes start ∙ ⊎_elim
+      (λ (lower : start < from). below (tables_of words) from start lower)
+      (λ (past : from ≤ start). not_below (tables_of words) from start past ∙ sym (slabs_none words start (none start past)))
+      (cases_lt start from);
+  blocks = λ start i slab few. ⊎_elim
+      (λ (lower : start < from). read.blocks start i lower slab few)
+      (λ (past : from ≤ start). absurd (no_slab words start (none start past) slab))
+      (cases_lt start from);
+}
+
+-- the next live extent is what starts at its granule, and all that starts below it is read
+next_read : (words : List ℕ) (set : FreeSet) (parts : SlabSet) (next : LogEntry) → IsNextRead words set parts next → (extent_at words (start_of next) ≡ extent_of next) × IsReadBelow words set parts (start_of next)
+next_read words set parts next is = (is.live.live ∙ sym is.live.says, IsReadBelow-none words set parts is.from (start_of next) is.live.at_least is.live.least is.read)
+
+pub next_large : (words : List ℕ) (set : FreeSet) (parts : SlabSet) (next : LogEntry) (start count : ℕ) → next ≡ Large start count → IsNextRead words set parts next →
+    (extent_at words start ≡ Some (extent.Large count)) × IsReadBelow words set parts start
+next_large words set parts next start count same is = subst (λ e. (extent_at words (start_of e) ≡ extent_of e) × IsReadBelow words set parts (start_of e)) same (next_read words set parts next is)
+
+pub next_slab : (words : List ℕ) (set : FreeSet) (parts : SlabSet) (next : LogEntry) (start : ℕ) → next ≡ Slab start → IsNextRead words set parts next →
+    (extent_at words start ≡ Some extent.Slab) × IsReadBelow words set parts start
+next_slab words set parts next start same is = subst (λ e. (extent_at words (start_of e) ≡ extent_of e) × IsReadBelow words set parts (start_of e)) same (next_read words set parts next is)
+
+-- a live extent has granules
+pub extent_some : (words : List ℕ) (start : ℕ) (here : Extent) → IsExactImage words → extent_at words start ≡ Some here → 0 < granules_at (tables_of words) start
+extent_some words start (extent.Large count) image is =
+    let sizes = sizes_of words image.formed in
+    let live = live_extents (granules_in words) words (chunks_of words) (omega (arith, sizes.most)) image.formed.log in
+    let many : 2 ≤ count = (live.each start (extent.Large count) is).some in
+    let size = large_size words start count is in
+    omega (arith, many, size)
+extent_some words start extent.Slab image is =
+    let size = granules_at-slab (tables_of words) start (slab_is words start (Some extent.Slab) is) in
+    omega (arith, size)
+
+-- it ends in the heap
+pub extent_below : (words : List ℕ) (from : ℕ) (next : LogEntry) → IsExactImage words → IsNextLive (extent_at words) from next → start_of next < granules_in words
+extent_below words from next image live =
+    let some = extent_some words (start_of next) live.extent image live.live in
+    let inside = (image.exact.sound.starts (start_of next) some).1 in
+    omega (arith, some, inside)
+
+-- a slab is read
+
+-- the first n blocks of a slab that was added are read, and the others are available yet
+pub record IsReading (words : List ℕ) (old new : SlabSet) (start class n : ℕ) : Type 0 where
+  pub granules : new.granules ≡ old.granules
+  pub here : class_in new start ≡ Some class
+  pub done : (i : ℕ) → i < n → is_available new start i ≡ not ((tables_of words).bit start i)
+  pub rest : (i : ℕ) → n ≤ i → i < class_capacity class → is_available new start i ≡ true
+  pub classes : (other : ℕ) → ¬ (other ≡ start) → class_in new other ≡ class_in old other
+  pub others : (other i : ℕ) → ¬ (other ≡ start) → is_available new other i ≡ is_available old other i
+
+-- a condition that holds, and one that doesn't
+if_same : {X : Type 0} (k j : ℕ) (yes_x no_x : X) → k ≡ j → cond (eqb k j) yes_x no_x ≡ yes_x
+if_same k j yes_x no_x same = cond-true (eqb k j) yes_x no_x (eq-eqb k j same)
+
+if_other : {X : Type 0} (k j : ℕ) (yes_x no_x : X) → k ≢ j → cond (eqb k j) yes_x no_x ≡ no_x
+if_other k j yes_x no_x apart = cond-false (eqb k j) yes_x no_x (ne_eqb k j apart)
+
+pub IsReading-first : (words : List ℕ) (old new : SlabSet) (start class : ℕ) → new.granules ≡ old.granules → ((s : ℕ) → class_in new s ≡ with_key (class_in old) start (Some class) s) →
+    ((s i : ℕ) → is_available new s i ≡ cond (eqb s start) (ltb i (class_capacity class)) (is_available old s i)) → IsReading words old new start class 0
+IsReading-first words old new start class granules classes blocks = record {
+  granules = granules;
+  here = classes start ∙ if_same start start (Some class) (class_in old start) refl;
+  done = λ i less. absurd (omega (arith, less));
+  rest = λ i low few. blocks start i ∙ if_same start start (ltb i (class_capacity class)) (is_available old start i) refl ∙ lt-ltb i (class_capacity class) few;
+  classes = λ other apart. classes other ∙ if_other other start (Some class) (class_in old other) apart;
+  others = λ other i apart. blocks other i ∙ if_other other start (ltb i (class_capacity class)) (is_available old other i) apart;
+}
+
+-- the next block's bit is clear
+pub IsReading-clear : (words : List ℕ) (old new : SlabSet) (start class n : ℕ) → n < class_capacity class → (tables_of words).bit start n ≡ false → IsReading words old new start class n → IsReading words old new start class (n + 1)
+IsReading-clear words old new start class n few clear read = record {
+  granules = read.granules;
+  here = read.here;
+  done = λ i less. ⊎_elim
+      (λ (lower : i < n). read.done i lower)
+      (λ (last : n ≤ i). let same : i ≡ n = omega (arith, less, last) in
+      ap (λ k. is_available new start k) same ∙ read.rest n (omega arith) few ∙ sym (ap not clear) ∙ sym (ap (λ k. not ((tables_of words).bit start k)) same))
+      (cases_lt i n);
+  rest = λ i low few_i. read.rest i (omega (arith, low)) few_i;
+  classes = read.classes;
+  others = read.others;
+}
+
+-- it is set, and the block is taken
+pub IsReading-set : (words : List ℕ) (old new next : SlabSet) (start class n : ℕ) → (tables_of words).bit start n ≡ true → next.granules ≡ new.granules → ((s : ℕ) → class_in next s ≡ class_in new s) →
+    ((s i : ℕ) → is_available next s i ≡ cond (eqb s start && eqb i n) false (is_available new s i)) → IsReading words old new start class n → IsReading words old next start class (n + 1)
+IsReading-set words old new next start class n set granules classes blocks read =
+    let taken : is_available next start n ≡ false = blocks start n ∙ cond-true (eqb start start && eqb n n) false (is_available new start n) (and_from (eqb start start) (eqb n n) (eq-eqb start start refl) (eq-eqb n n refl)) in
+    let kept : (i : ℕ) → i ≢ n → is_available next start i ≡ is_available new start i =
+    λ i apart. blocks start i ∙ ap (λ b. cond (b && eqb i n) false (is_available new start i)) (eq-eqb start start refl) ∙ ap (λ b. cond b false (is_available new start i)) (ne_eqb i n apart) in
+    record {
+      granules = granules ∙ read.granules;
+      here = classes start ∙ read.here;
+      done = λ i less. ⊎_elim
+          (λ (lower : i < n). kept i (λ same. omega (arith, same, lower)) ∙ read.done i lower)
+          (λ (last : n ≤ i). let same : i ≡ n = omega (arith, less, last) in
+          ap (λ k. is_available next start k) same ∙ taken ∙ sym (ap not set) ∙ sym (ap (λ k. not ((tables_of words).bit start k)) same))
+          (cases_lt i n);
+      rest = λ i low few. kept i (λ same. omega (arith, same, low)) ∙ read.rest i (omega (arith, low)) few;
+      classes = λ other apart. classes other ∙ read.classes other apart;
+      others = λ other i apart. blocks other i ∙ ap (λ b. cond (b && eqb i n) false (is_available new other i)) (ne_eqb other start apart) ∙ read.others other i apart;
+    }
+
+-- all of them are read
+pub IsReading-all : (words : List ℕ) (old new : SlabSet) (start class n : ℕ) → class ≡ (tables_of words).class start → class_capacity class ≤ n → IsReading words old new start class n → IsWithSlabOf words old new start
+IsReading-all words old new start class n is all read = record {
+  granules = read.granules;
+  here = read.here ∙ ap (λ c. Some c) is;
+  blocks = λ i few. let below_n : i < class_capacity class = subst (λ c. i < class_capacity c) (sym is) few in read.done i (omega (arith, below_n, all));
+  classes = read.classes;
+  others = read.others;
+}
+
+-- the class that was read is the slab's
+pub class_read : (words : List ℕ) (at start class : ℕ) → at ≡ 16384 * start → (tables_of words).slab start ≡ true → (is_slab words (at / 16384) ≡ true → class ≡ (tables_of words).class (at / 16384)) → class ≡ (tables_of words).class start
+class_read words at start class is slab read =
+    let same : at / 16384 ≡ start = omega (arith, is) in
+    subst (λ s. is_slab words s ≡ true → class ≡ (tables_of words).class s) same read (sym (slab_table words start) ∙ slab)
+
+-- so is the bit
+pub bit_read : (words : List ℕ) (at start i : ℕ) (bit : Bool) → at ≡ 16384 * start → (tables_of words).slab start ≡ true → (is_slab words (at / 16384) ≡ true → bit ≡ (tables_of words).bit (at / 16384) i) → bit ≡ (tables_of words).bit start i
+bit_read words at start i bit is slab read =
+    let same : at / 16384 ≡ start = omega (arith, is) in
+    subst (λ s. is_slab words s ≡ true → bit ≡ (tables_of words).bit s i) same read (sym (slab_table words start) ∙ slab)

@@ -1,0 +1,58 @@
+use Rattle.std.proofs.Common.{◌+◌, ◌<◌, subst, sym, arith}
+use Rattle.pmem_lines.specs.Pmem.{words_of}
+use Rattle.arena_core.specs.Adopting.{IsReadBelow}
+use Rattle.heap_check.proofs.Sizes.{sizes_of}
+use Rattle.arena_core.proofs.Adopted.{IsReadBelow-first, extent_below, index_read, slabs_read}
+use Rattle.arena_core.proofs.adopting.read_image.Given as given
+use Rattle.arena_core.proofs.adopting.read_image.Goals as goal
+use Rattle.arena_core.proofs.adopting.read_image.Goals.{After-start-from}
+
+pub loop-extent-init : goal.loop-extent-init
+loop-extent-init g c =
+    let words = words_of (g.P.Pmem.state c.args.device.now) in
+    record {
+      read = IsReadBelow-first words c.args.free.now c.args.slabs.now (sizes_of words c.requires.exact.formed).first c.requires.granules c.requires.all_free c.requires.slab_granules c.requires.no_slab;
+      below = omega arith;
+    }
+
+-- the next live extent starts in the arena
+inside : (g : given.Over) (c : After-start-from g) → c.start-from.result < c.args.log.now.granules
+inside g c =
+    let words = words_of (g.P.Pmem.state c.args.device.now) in
+    let below = extent_below words c.loop-extent.from c.in-Some.extent c.requires.exact (c.in-Some.ensures.reads words c.requires.log.reads) in
+    omega (arith, below, c.requires.log.granules, c.start-from.ensures)
+
+pub overflow_add-from : goal.overflow_add-from
+overflow_add-from g c =
+    let words = words_of (g.P.Pmem.state c.args.device.now) in
+    omega (arith, inside g c, c.requires.log.granules, (sizes_of words c.requires.exact.formed).most)
+
+pub loop-extent-smaller : goal.loop-extent-smaller
+loop-extent-smaller g c =
+    let words = words_of (g.P.Pmem.state c.args.device.now) in
+    let live = c.in-Some.ensures.reads words c.requires.log.reads in
+    omega (arith, inside g c, live.at_least, c.start-from.ensures)
+
+pub loop-extent-preserved : goal.loop-extent-preserved
+loop-extent-preserved g c =
+    let words = words_of (g.P.Pmem.state c.args.device.now) in
+    record {
+      read = subst (λ s. IsReadBelow words c.read_extent.new.free c.read_extent.new.slabs (s + 1)) (sym c.start-from.ensures)
+          (record { granules = c.read_extent.ensures.granules; free = c.read_extent.ensures.free; slab_granules = c.read_extent.ensures.slab_granules; classes = c.read_extent.ensures.classes; blocks = c.read_extent.ensures.blocks });
+      below = omega (arith, inside g c);
+    }
+
+pub read_extent-requires-clause-next : goal.read_extent-requires-clause-next
+read_extent-requires-clause-next g c =
+    let words = words_of (g.P.Pmem.state c.args.device.now) in
+    record { from = c.loop-extent.from; live = c.in-Some.ensures.reads words c.requires.log.reads; read = c.loop-extent.invariant.read }
+
+pub returns-clause-free : goal.returns-clause-free
+returns-clause-free g c =
+    let words = words_of (g.P.Pmem.state c.args.device.now) in
+    index_read words c.loop-extent.free c.loop-extent.slabs c.loop-extent.from (c.in_default.ensures.reads words c.requires.log.reads).none c.loop-extent.invariant.read
+
+pub returns-clause-slabs : goal.returns-clause-slabs
+returns-clause-slabs g c =
+    let words = words_of (g.P.Pmem.state c.args.device.now) in
+    slabs_read words c.loop-extent.free c.loop-extent.slabs c.loop-extent.from (c.in_default.ensures.reads words c.requires.log.reads).none c.loop-extent.invariant.read

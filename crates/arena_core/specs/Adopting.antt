@@ -1,0 +1,47 @@
+-- What the indexes of an arena have read of an image so far, while an arena is made over it.
+use Rattle.std.specs.Prelude.{◌≡◌, ◌↔◌, nat_lt, ℕ, ◌<◌, ◌≤◌, true, not, List, Option, Some, None, if◌then◌else◌}
+use Rattle.pool_layout.specs.Header.{granules_in}
+use Rattle.size_classes.specs.Classes.{class_capacity}
+use Rattle.image_tables.specs.Extents.{extent_at}
+use Rattle.image_tables.specs.Tables.{Tables, tables_of}
+use Rattle.book_log.specs.declared.entry.LogEntry.{LogEntry}
+use Rattle.book_log.specs.Table.{IsNextLive}
+use Rattle.heap_model.specs.Machine.{Bounds}
+use Rattle.extent_index.specs.FreeSet.{FreeSet, IsFree}
+use Rattle.slab_index.specs.SlabSet.{SlabSet, class_in, is_available}
+use Rattle.heap_check.specs.Heap.{slabs}
+use Rattle.heap_check.specs.Sound.{Covers}
+use Rattle.heap_check.specs.Image.{bounds_of}
+
+-- a granule lies in the heap, and in no live extent that starts below another
+pub record IsVacantBelow (b : Bounds) (t : Tables) (from k : ℕ) : Type 0 where
+  pub low : b.first ≤ k
+  pub high : k < b.granules
+  pub none : (start : ℕ) → start < from → ¬ (Covers t start k)
+
+-- the slabs that begin below a granule, each with its class
+abbrev pub slabs_below : Tables → ℕ → ℕ → Option ℕ
+slabs_below t from start = if nat_lt start from then slabs t start else None
+
+-- the indexes have the live extents of these words that start below a granule
+pub record IsReadBelow (words : List ℕ) (set : FreeSet) (parts : SlabSet) (from : ℕ) : Type 0 where
+  pub granules : set.granules ≡ granules_in words
+  pub free : (k : ℕ) → IsFree set k ↔ IsVacantBelow (bounds_of words) (tables_of words) from k
+  pub slab_granules : parts.granules ≡ granules_in words
+  pub classes : (start : ℕ) → class_in parts start ≡ slabs_below (tables_of words) from start
+  pub blocks : (start i : ℕ) → start < from → (tables_of words).slab start ≡ true → i < class_capacity ((tables_of words).class start) →
+      is_available parts start i ≡ not ((tables_of words).bit start i)
+
+-- the second set is the first with one slab more, in which the blocks are available whose bits are clear
+pub record IsWithSlabOf (words : List ℕ) (old new : SlabSet) (start : ℕ) : Type 0 where
+  pub granules : new.granules ≡ old.granules
+  pub here : class_in new start ≡ Some ((tables_of words).class start)
+  pub blocks : (i : ℕ) → i < class_capacity ((tables_of words).class start) → is_available new start i ≡ not ((tables_of words).bit start i)
+  pub classes : (other : ℕ) → ¬ (other ≡ start) → class_in new other ≡ class_in old other
+  pub others : (other i : ℕ) → ¬ (other ≡ start) → is_available new other i ≡ is_available old other i
+
+-- the entry says the next live extent, and those that start below it are read
+pub record IsNextRead (words : List ℕ) (set : FreeSet) (parts : SlabSet) (next : LogEntry) : Type 0 where
+  pub from : ℕ
+  pub live : IsNextLive (extent_at words) from next
+  pub read : IsReadBelow words set parts from
