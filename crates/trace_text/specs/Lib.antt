@@ -4,4 +4,5 @@ pub mod Numbers
 pub mod Lines
 pub mod Fronts
 pub mod Report
+pub mod ImageReport
 pub mod Laws

@@ -8,6 +8,7 @@
 #![tactic(auto, using(crate::proofs::Fronts::kept_further))]
 
 mod call;
+mod image_report;
 mod laws;
 mod line;
 mod number;
@@ -16,6 +17,7 @@ mod trace;
 mod writing;
 
 pub use call::{CrashSide, Refusal, TraceCall};
+pub use image_report::{write_defect, write_recovered, write_summary};
 pub use laws::{law_of_no_refusal, law_of_one_refusal, law_of_one_trace};
 pub use number::whole_number;
 pub use report::{write_arena, write_crash, write_entry, write_heap, write_refusal};
