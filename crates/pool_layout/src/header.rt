@@ -33,7 +33,7 @@ pub fn header_word(header: &PoolHeader) -> u64
 }
 
 // What the second word of a header line says.
-fn fields_of(word: u64) -> PoolHeader
+pub(crate) fn fields_of(word: u64) -> PoolHeader
     ensures fields { result ≡ fields_of word }
     ensures inverse { header_word result ≡ word }
 {
@@ -46,7 +46,7 @@ fn fields_of(word: u64) -> PoolHeader
 }
 
 // A pool may have this header.
-fn is_pool_header(header: &PoolHeader) -> bool
+pub(crate) fn is_pool_header(header: &PoolHeader) -> bool
     ensures { IsTrue result ↔ IsPoolHeader header.now }
 {
     if !is_version(header.version)

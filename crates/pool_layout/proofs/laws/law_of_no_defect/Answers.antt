@@ -1,0 +1,5 @@
+use Rattle.pool_layout.proofs.OneImage.{law_of_no_defect}
+use Rattle.pool_layout.proofs.laws.law_of_no_defect.Goals as goal
+
+pub returns : goal.returns
+returns c = law_of_no_defect

@@ -1,0 +1,26 @@
+-- Laws of images: bytes are an image or have a first defect, and never both; bytes and words undo each other.
+use Rattle.std.specs.Prelude.{◌≡◌, ◌⊎◌, ℕ, ◌*◌, ◌<◌, ◌^◌, List, length}
+use Rattle.std.specs.List.{All}
+use Rattle.pool_layout.specs.declared.defect.Defect.{Defect}
+use Rattle.pool_layout.specs.Bytes.{words_of_bytes, bytes_of_words}
+use Rattle.pool_layout.specs.Image.{IsImageOf, IsImageDefect}
+
+-- bytes are an image, or they have a defect
+abbrev pub LawOfImages : Type 0
+LawOfImages = (bytes : List ℕ) → ((words : List ℕ) × IsImageOf bytes words) ⊎ ((arena : ℕ) × (defect : Defect) × IsImageDefect bytes arena defect)
+
+-- an image has no defect
+abbrev pub LawOfNoDefect : Type 0
+LawOfNoDefect = (bytes words : List ℕ) (arena : ℕ) (defect : Defect) → IsImageOf bytes words → ¬ (IsImageDefect bytes arena defect)
+
+-- bytes have one first defect at most
+abbrev pub LawOfOneDefect : Type 0
+LawOfOneDefect = (bytes : List ℕ) (arena other : ℕ) (defect another : Defect) → IsImageDefect bytes arena defect → IsImageDefect bytes other another → (arena ≡ other) × (defect ≡ another)
+
+-- words are read back from their bytes
+abbrev pub LawOfWordsOfBytes : Type 0
+LawOfWordsOfBytes = (words : List ℕ) → All (λ word. word < 2 ^ 64) words → words_of_bytes (bytes_of_words words) ≡ words
+
+-- bytes are written back from their words
+abbrev pub LawOfBytesOfWords : Type 0
+LawOfBytesOfWords = (bytes : List ℕ) → All (λ byte. byte < 256) bytes → length bytes ≡ 8 * length (words_of_bytes bytes) → bytes_of_words (words_of_bytes bytes) ≡ bytes

@@ -1,0 +1,28 @@
+// Laws of images. With the contract of `image_words` they say that it gives the words of bytes exactly where these are
+// the image of a pool, and else their one first defect, unless memory runs out.
+ghost use Rattle.pool_layout.specs.Laws.{LawOfImages, LawOfNoDefect, LawOfOneDefect, LawOfWordsOfBytes, LawOfBytesOfWords};
+
+/// Bytes are the image of a pool, or they have a defect.
+pub fn law_of_images()
+    ensures { LawOfImages }
+{}
+
+/// An image has no defect.
+pub fn law_of_no_defect()
+    ensures { LawOfNoDefect }
+{}
+
+/// Bytes have one first defect at most.
+pub fn law_of_one_defect()
+    ensures { LawOfOneDefect }
+{}
+
+/// Words are read back from their bytes.
+pub fn law_of_words_of_bytes()
+    ensures { LawOfWordsOfBytes }
+{}
+
+/// Bytes are written back from their words.
+pub fn law_of_bytes_of_words()
+    ensures { LawOfBytesOfWords }
+{}
