@@ -1,8 +1,9 @@
 -- Where the chunks of a well-formed log lie among the words.
 use Rattle.std.proofs.Common.{◌≡◌, ◌<◌, ◌≤◌, ◌+◌, ◌-◌, ◌*◌, ◌/◌, ℕ, List, length, get_or, ap, arith, subst, sym}
 use Rattle.std.proofs.Math.Nat.{mul-le-mul_left}
+use Rattle.std.proofs.lemmas.List.{take_all}
 use Rattle.std.specs.List.{All}
-use Rattle.pmem_lines.specs.Words.{word_at}
+use Rattle.pmem_lines.specs.Words.{word_at, words_at}
 use Rattle.pmem_lines.specs.Pmem.{PmemState, words_of, IsPlace}
 use Rattle.pool_layout.specs.Layout.{layout_of}
 use Rattle.pool_layout.specs.Places.{directory_word, chunk_word, entry_word, heap_word}
@@ -19,6 +20,11 @@ place_at s at k is inside = record { aligned = omega arith; inside = omega arith
 -- the word at that address
 pub word_of_place : (words : List ℕ) (at k : ℕ) → at ≡ 8 * k → word_at words (at / 8) ≡ word_at words k
 word_of_place words at k is = let e : at / 8 ≡ k = omega arith in ap (word_at words) e
+
+-- all words are those from the first one on
+pub words_at-whole : (words : List ℕ) (n : ℕ) → n ≡ length words → words_at words 0 n ≡ words
+unfolding words_at
+words_at-whole words n is = take_all n words (omega (arith, is))
 
 -- an entry lies in its chunk
 pub entry_word-within : (version chunk entry : ℕ) → entry < (layout_of version).chunk_entries → entry_word version chunk entry < chunk_word version (chunk + 1)

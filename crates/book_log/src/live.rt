@@ -39,6 +39,17 @@ pub(crate) fn put_entry(live: &mut [Option<Extent>], entry: LogEntry)
     live[entry.start() as usize] = entry.extent();
 }
 
+/// What starts at a granule; nothing does past the end of the table.
+pub(crate) fn extent_in(live: &[Option<Extent>], start: u32) -> Option<Extent>
+    ensures { result ≡ extent_in live.now start }
+{
+    if (start as usize) < live.len() {
+        live[start as usize]
+    } else {
+        None
+    }
+}
+
 /// The entry of the live extent with the least start from `from` on.
 pub(crate) fn next_in(live: &[Option<Extent>], from: u32) -> Option<LogEntry>
     requires { length live.now < 2 ^ 32 }

@@ -13,7 +13,7 @@ ghost use Rattle.book_log.specs.Table.{IsNextLive, IsNoneLive};
 ghost use Rattle.book_log.specs.Book.{live_at, IsArenaSize, IsBlank, HasLog, AreWithin, Reads, HasFreeEntry, chunks_of, next_word, append_events, IsEntryOrNot, IsInLog};
 
 use crate::append::append_at;
-use crate::live::{next_in, no_extents};
+use crate::live::{extent_in, next_in, no_extents};
 use crate::taking::take_log;
 use crate::{EntryPlace, LogEntry};
 use image_tables::Extent;
@@ -69,7 +69,25 @@ impl BookLog {
         ensures reads { Reads self.new (words_of (P.state p.now)) }
         ensures granules { self.new.granules ≡ self.old.granules }
     {
-        self.next = take_log(&mut self.live, p);
+        self.load_words(p.words(0, p.size_words()));
+    }
+
+    /// Takes over the log that an arena of these words has, as `load` does that of a device.
+    pub fn load_words(&mut self, words: &[u64])
+        requires log { HasLog self.old.granules words.now }
+        requires inside { AreWithin words.now }
+        ensures reads { Reads self.new words.now }
+        ensures granules { self.new.granules ≡ self.old.granules }
+    {
+        self.next = take_log(&mut self.live, words);
+    }
+
+    /// The live extent that starts at a granule, if one does; none starts past the arena.
+    pub fn extent_at(&self, start: u32) -> Option<Extent>
+        ensures live { result ≡ live_at self.now start }
+        ensures reads { (words : List ℕ) → Reads self.now words → result ≡ extent_at words start }
+    {
+        extent_in(&self.live, start)
     }
 
     /// There is room for an entry. In an arena that the log reads, the last active chunk has an entry that is 0.

@@ -1,6 +1,7 @@
 // One pass over the log of an arena, which takes over what its entries say.
 
-ghost use Rattle.std.specs.Prelude.{◌≡◌, ℕ, ◌+◌, ◌<◌, ◌≤◌, length, None, MatchOption};
+ghost use Rattle.std.specs.Prelude.{◌≡◌, ℕ, ◌+◌, ◌*◌, ◌/◌, ◌%◌, ◌<◌, ◌≤◌, length, None, MatchOption};
+ghost use Rattle.pmem_lines.specs.Words.{word_at};
 ghost use Rattle.pmem_lines.specs.Pmem.{words_of};
 ghost use Rattle.pool_layout.specs.Layout.{layout_of};
 ghost use Rattle.pool_layout.specs.Places.{chunk_word};
@@ -27,14 +28,31 @@ pub(crate) fn version_of<P: Pmem>(device: &P) -> u32
     (device.load(fields_at()) % 65536) as u32
 }
 
+// The word that begins at this byte.
+fn word_at(words: &[u64], at: u32) -> u64
+    requires aligned { at % 8 ≡ 0 }
+    requires inside { at < 8 * length words.now }
+    ensures { result ≡ word_at words.now (at / 8) }
+{
+    words[(at / 8) as usize]
+}
+
+// The version of the arena of these words.
+fn version_in(words: &[u64]) -> u32
+    requires { 1 < length words.now }
+    ensures { result ≡ version_in words.now }
+{
+    (word_at(words, fields_at()) % 65536) as u32
+}
+
 // The word of an entry of a chunk.
-fn logged_word<P: Pmem>(device: &P, version: u32, chunk: u32, entry: u32) -> u64
+fn logged_word(words: &[u64], version: u32, chunk: u32, entry: u32) -> u64
     requires chunk { chunk < 16 }
     requires entry { entry < (layout_of version).chunk_entries }
-    requires inside { chunk_word version (chunk + 1) ≤ length (words_of (P.state device.now)) }
-    ensures { result ≡ logged version (words_of (P.state device.now)) chunk entry }
+    requires inside { chunk_word version (chunk + 1) ≤ length words.now }
+    ensures { result ≡ logged version words.now chunk entry }
 {
-    device.load(entry_at(version, chunk, entry))
+    word_at(words, entry_at(version, chunk, entry))
 }
 
 // Does what the entry of a word says, if there is one.
@@ -48,27 +66,27 @@ fn take_word(live: &mut [Option<Extent>], word: u64)
 }
 
 // Does what the entries of a chunk say.
-fn take_chunk<P: Pmem>(live: &mut [Option<Extent>], device: &P, version: u32, chunk: u32)
+fn take_chunk(live: &mut [Option<Extent>], words: &[u64], version: u32, chunk: u32)
     requires number { chunk < 16 }
-    requires chunk { IsChunk version (length live.old) (words_of (P.state device.now)) chunk }
-    requires inside { chunk_word version (chunk + 1) ≤ length (words_of (P.state device.now)) }
-    ensures { (start : ℕ) → extent_in live.new start ≡ extent_behind (chunk_log version (words_of (P.state device.now)) chunk) start (extent_in live.old start) }
+    requires chunk { IsChunk version (length live.old) words.now chunk }
+    requires inside { chunk_word version (chunk + 1) ≤ length words.now }
+    ensures { (start : ℕ) → extent_in live.new start ≡ extent_behind (chunk_log version words.now chunk) start (extent_in live.old start) }
 {
     let entries = layout_of(version).chunk_entries;
     for entry in 0..entries {
-        take_word(live, logged_word(device, version, chunk, entry));
+        take_word(live, logged_word(words, version, chunk, entry));
     }
 }
 
 // The first entry of a chunk that is 0.
-fn first_free<P: Pmem>(device: &P, version: u32, chunk: u32) -> Option<u32>
+fn first_free(words: &[u64], version: u32, chunk: u32) -> Option<u32>
     requires number { chunk < 16 }
-    requires inside { chunk_word version (chunk + 1) ≤ length (words_of (P.state device.now)) }
-    ensures { MatchOption result (IsFull version (words_of (P.state device.now)) chunk) (IsNext version (words_of (P.state device.now)) chunk) }
+    requires inside { chunk_word version (chunk + 1) ≤ length words.now }
+    ensures { MatchOption result (IsFull version words.now chunk) (IsNext version words.now chunk) }
 {
     let entries = layout_of(version).chunk_entries;
     for entry in 0..entries {
-        if logged_word(device, version, chunk, entry) == 0 {
+        if logged_word(words, version, chunk, entry) == 0 {
             return Some(entry);
         }
     }
@@ -76,20 +94,20 @@ fn first_free<P: Pmem>(device: &P, version: u32, chunk: u32) -> Option<u32>
 }
 
 /// Makes the table say what the log says, and answers where the next entry goes.
-pub(crate) fn take_log<P: Pmem>(live: &mut [Option<Extent>], device: &P) -> Option<EntryPlace>
-    requires log { HasLog (length live.old) (words_of (P.state device.now)) }
-    requires inside { AreWithin (words_of (P.state device.now)) }
-    ensures live { (start : ℕ) → extent_in live.new start ≡ extent_at (words_of (P.state device.now)) start }
-    ensures next { IsNextOf (words_of (P.state device.now)) result }
+pub(crate) fn take_log(live: &mut [Option<Extent>], words: &[u64]) -> Option<EntryPlace>
+    requires log { HasLog (length live.old) words.now }
+    requires inside { AreWithin words.now }
+    ensures live { (start : ℕ) → extent_in live.new start ≡ extent_at words.now start }
+    ensures next { IsNextOf words.now result }
 {
-    let version = version_of(device);
-    let directory = active_chunks(device.load(directory_at()));
+    let version = version_in(words);
+    let directory = active_chunks(word_at(words, directory_at()));
     let chunks = directory.as_slice();
     clear(live);
     for chunk in chunks {
-        take_chunk(live, device, version, *chunk);
+        take_chunk(live, words, version, *chunk);
     }
     let chunk = chunks[chunks.len() - 1];
-    let entry = first_free(device, version, chunk)?;
+    let entry = first_free(words, version, chunk)?;
     Some(EntryPlace { chunk, entry })
 }

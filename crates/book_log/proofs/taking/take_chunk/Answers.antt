@@ -1,5 +1,4 @@
 use Rattle.std.proofs.Common.{◌≡◌, sym, ap, ◌∙◌, arith}
-use Rattle.pmem_lines.specs.Pmem.{words_of}
 use Rattle.image_tables.specs.Log.{entry_or_none, entries_below, chunk_log}
 use Rattle.image_tables.specs.Extents.{extent_behind}
 use Rattle.book_log.specs.Log.{logged}
@@ -8,8 +7,8 @@ use Rattle.book_log.proofs.Takings.{behind_row}
 use Rattle.book_log.proofs.taking.take_chunk.Goals as goal
 
 pub loop-entry-preserved : goal.loop-entry-preserved
-loop-entry-preserved g c start =
-    let row = logged c.args.version (words_of (g.P.Pmem.state c.args.device.now)) c.args.chunk in
+loop-entry-preserved c start =
+    let row = logged c.args.version c.args.words.now c.args.chunk in
     let n = c.loop-entry.entry in
     let old = extent_in c.args.live.now start in
     c.take_word.ensures start
@@ -19,7 +18,7 @@ loop-entry-preserved g c start =
 
 pub returns : goal.returns
 unfolding chunk_log
-returns g c start =
-    let row = logged c.args.version (words_of (g.P.Pmem.state c.args.device.now)) c.args.chunk in
+returns c start =
+    let row = logged c.args.version c.args.words.now c.args.chunk in
     let all : c.loop-entry.entry ≡ (Rattle.pool_layout.specs.Layout.layout_of c.args.version).chunk_entries = omega (arith, ap (λ (row : Rattle.pool_layout.specs.declared.layout.Layout.Layout). row.chunk_entries) c.layout_of-entries.ensures.row) in
     c.loop-entry.invariant start ∙ ap (λ n. extent_behind (entries_below row n) start (extent_in c.args.live.now start)) all

@@ -1,5 +1,4 @@
 use Rattle.std.proofs.Common.{◌≡◌, ℕ}
-use Rattle.pmem_lines.specs.Pmem.{words_of}
 use Rattle.image_tables.specs.Log.{entries_below}
 use Rattle.image_tables.specs.Extents.{extent_behind}
 use Rattle.book_log.specs.Log.{logged}
@@ -7,5 +6,5 @@ use Rattle.book_log.specs.Table.{extent_in}
 use Rattle.book_log.proofs.taking.take_chunk.Given as goal
 
 abbrev pub invariant-loop-entry : goal.invariant-loop-entry
-invariant-loop-entry g l =
-    (start : ℕ) → extent_in l.live start ≡ extent_behind (entries_below (logged l.version (words_of (g.P.Pmem.state l.device)) l.chunk) l.entry) start (extent_in l.fn.live start)
+invariant-loop-entry l =
+    (start : ℕ) → extent_in l.live start ≡ extent_behind (entries_below (logged l.version l.words l.chunk) l.entry) start (extent_in l.fn.live start)

@@ -1,26 +1,24 @@
 use Rattle.std.proofs.Common.{◌≡◌, length, get_or, None, sym, ap, ◌∙◌, arith}
-use Rattle.pmem_lines.specs.Pmem.{words_of}
 use Rattle.pool_layout.specs.Places.{directory_word}
 use Rattle.image_tables.specs.Log.{chunk_log, active_chunks}
 use Rattle.image_tables.specs.Extents.{extent_behind}
 use Rattle.book_log.specs.Book.{chunks_of}
-use Rattle.book_log.proofs.Places.{header_within, place_at, word_of_place}
+use Rattle.book_log.proofs.Places.{header_within, word_of_place}
 use Rattle.book_log.proofs.Takings.{behind_chunks, behind_all}
 use Rattle.book_log.proofs.taking.take_log.Goals as goal
 
-pub version_of-version-requires : goal.version_of-version-requires
-version_of-version-requires g c =
-    omega (arith, header_within (length c.args.live.now) (words_of (g.P.Pmem.state c.args.device.now)) c.requires.log c.requires.inside)
+pub version_in-version-requires : goal.version_in-version-requires
+version_in-version-requires c = omega (arith, header_within (length c.args.live.now) c.args.words.now c.requires.log c.requires.inside)
 
-pub load-requires : goal.load-requires
-load-requires g c =
-    let words = words_of (g.P.Pmem.state c.args.device.now) in
-    place_at (g.P.Pmem.state c.args.device.now) c.directory_at.result directory_word c.directory_at.ensures
-    (omega (arith, header_within (length c.args.live.now) words c.requires.log c.requires.inside))
+pub word_at-requires : goal.word_at-requires
+word_at-requires c = record {
+  aligned = omega (arith, c.directory_at.ensures);
+  inside = omega (arith, c.directory_at.ensures, header_within (length c.args.live.now) c.args.words.now c.requires.log c.requires.inside);
+}
 
 pub loop-chunk-preserved : goal.loop-chunk-preserved
-loop-chunk-preserved g c start =
-    let f = chunk_log c.version_of-version.result (words_of (g.P.Pmem.state c.args.device.now)) in
+loop-chunk-preserved c start =
+    let f = chunk_log c.version_in-version.result c.args.words.now in
     let chunks = c.as_slice-chunks.result.now in
     let i = c.loop-chunk.chunk-index in
     c.take_chunk.ensures start
@@ -28,15 +26,15 @@ loop-chunk-preserved g c start =
     ∙ sym (behind_chunks f chunks i 0 start None c.loop-chunk-test.true)
 
 pub returns-clause-live : goal.returns-clause-live
-returns-clause-live g c start =
-    let words = words_of (g.P.Pmem.state c.args.device.now) in
+returns-clause-live c start =
+    let words = c.args.words.now in
     let chunks : c.as_slice-chunks.result.now ≡ chunks_of words =
-    c.as_slice-chunks.ensures.value ∙ c.active_chunks-directory.ensures ∙ ap active_chunks (c.load.ensures ∙ word_of_place words c.directory_at.result directory_word c.directory_at.ensures) in
-    c.loop-chunk.invariant start ∙ behind_all words c.version_of-version.result c.as_slice-chunks.result.now c.loop-chunk.chunk-index start c.version_of-version.ensures chunks c.loop-chunk-test.false
+    c.as_slice-chunks.ensures.value ∙ c.active_chunks-directory.ensures ∙ ap active_chunks (c.word_at.ensures ∙ word_of_place words c.directory_at.result directory_word c.directory_at.ensures) in
+    c.loop-chunk.invariant start ∙ behind_all words c.version_in-version.result c.as_slice-chunks.result.now c.loop-chunk.chunk-index start c.version_in-version.ensures chunks c.loop-chunk-test.false
 
 pub returns-in_err-entry-clause-live : goal.returns-in_err-entry-clause-live
-returns-in_err-entry-clause-live g c start =
-    let words = words_of (g.P.Pmem.state c.args.device.now) in
+returns-in_err-entry-clause-live c start =
+    let words = c.args.words.now in
     let chunks : c.as_slice-chunks.result.now ≡ chunks_of words =
-    c.as_slice-chunks.ensures.value ∙ c.active_chunks-directory.ensures ∙ ap active_chunks (c.load.ensures ∙ word_of_place words c.directory_at.result directory_word c.directory_at.ensures) in
-    c.loop-chunk.invariant start ∙ behind_all words c.version_of-version.result c.as_slice-chunks.result.now c.loop-chunk.chunk-index start c.version_of-version.ensures chunks c.loop-chunk-test.false
+    c.as_slice-chunks.ensures.value ∙ c.active_chunks-directory.ensures ∙ ap active_chunks (c.word_at.ensures ∙ word_of_place words c.directory_at.result directory_word c.directory_at.ensures) in
+    c.loop-chunk.invariant start ∙ behind_all words c.version_in-version.result c.as_slice-chunks.result.now c.loop-chunk.chunk-index start c.version_in-version.ensures chunks c.loop-chunk-test.false

@@ -1,10 +1,9 @@
 use Rattle.std.proofs.Common.{◌≡◌, ℕ, take, flat_map, None}
-use Rattle.pmem_lines.specs.Pmem.{words_of}
 use Rattle.image_tables.specs.Log.{chunk_log}
 use Rattle.image_tables.specs.Extents.{extent_behind}
 use Rattle.book_log.specs.Table.{extent_in}
 use Rattle.book_log.proofs.taking.take_log.Given as goal
 
 abbrev pub invariant-loop-chunk : goal.invariant-loop-chunk
-invariant-loop-chunk g l =
-    (start : ℕ) → extent_in l.live start ≡ extent_behind (flat_map (chunk_log l.version (words_of (g.P.Pmem.state l.device))) (take l.chunk-index l.chunks)) start None
+invariant-loop-chunk l =
+    (start : ℕ) → extent_in l.live start ≡ extent_behind (flat_map (chunk_log l.version l.words) (take l.chunk-index l.chunks)) start None
