@@ -189,7 +189,7 @@ module _ (words : List ℕ) (image : IsExactImage words) (normal : HasNormalSlab
   at_class = slab_block block.start class block.number
 
   pub named_class : class < 36
-  named_class = omega (arith, named.class_is, (image.exact.sound.slabs block.start named.slab).class)
+  named_class = omega (arith, named.class_is, (image.exact.sound.slabs block.start named.slab).state.is_class)
 
   holds : Holds (tables_of words) block.start at_class
   holds = record {
@@ -279,7 +279,7 @@ IsDone-small {old} {new} {turn} {book} {set} {parts} {left} {root} {class} block
         here = attached.gives.here ∙ ap (λ c. Some (slab_block block.start c block.number)) class_is;
         others = attached.gives.others;
         slabs = classes_small words root block.start block.number true block.at after attached.bounds attached.tables;
-        keeps = keeps_small words turn root block may.block_in arena.few after attached.rest after;
+        keeps = keeps_small words turn root block may.block_in arena.few after attached.rest;
         bounds = attached.bounds;
       };
       crash = crash;
@@ -291,7 +291,7 @@ pub IsCalled-refused : {old : PmemState} {turn : ℕ} {book : Book} {set : FreeS
 IsCalled-refused {old} {turn} {book} {set} {parts} {root} call reply arena none stays step =
     let words = words_of old in
     let exact = arena.kept.exact in
-    let keeps : KeepsBlocks words words words = record { each = λ r range k was is word. refl } in
+    let keeps : KeepsBlocks words words = record { each = λ r other range k was is word. refl } in
     record {
       appends = subst (λ (es : List Event). Appends old old es) (sym none) (Appends-state old old [] (sym (appended_none old)));
       arena = arena;
@@ -307,7 +307,7 @@ pub record IsAnswered (old new : ArenaState) (book : Book) (set : FreeSet) (part
   pub step : IsStepOf (words_of old.device) (words_of new.device) call reply
   pub device : new.device ≡ appended (began old.device) (call_events (words_of old.device) old.turn root reply)
   pub turn_is : new.turn ≡ turn_after old.turn reply
-  pub keeps : KeepsBlocks (words_of old.device) (words_of new.device) (words_of new.device)
+  pub keeps : KeepsBlocks (words_of old.device) (words_of new.device)
   pub arena : IsArena new.device new.turn book set parts
   pub crash : CrashOnly new.device.base new.device.events (IsEitherHeap (words_of old.device) (words_of new.device))
 
@@ -322,7 +322,7 @@ answered old begun new turn book set parts root call reply is called =
       step = subst (λ (ws : List ℕ). IsStepOf ws (words_of new) call reply) same called.step;
       device = state;
       turn_is = called.turn_is;
-      keeps = subst (λ (ws : List ℕ). KeepsBlocks ws (words_of new) (words_of new)) same called.keeps;
+      keeps = subst (λ (ws : List ℕ). KeepsBlocks ws (words_of new)) same called.keeps;
       arena = called.arena;
       crash = subst (λ (s : PmemState). CrashOnly s.base s.events (IsEitherHeap (words_of old.device) (words_of new))) (sym state)
           (subst (λ (ws : List ℕ). CrashOnly (words_of old.device) (call_events (words_of old.device) old.turn root reply) (IsEitherHeap ws (words_of new))) same

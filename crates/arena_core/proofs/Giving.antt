@@ -18,6 +18,7 @@ use Rattle.arena_core.specs.Events.{root_events, place_events}
 use Rattle.log_steps.specs.Log.{IsLogged, IsLoggedOrNot}
 use Rattle.arena_core.specs.Plan.{IsGivable}
 use Rattle.heap_check.proofs.Sizes.{sizes_of, root_inside}
+use Rattle.image_tables.proofs.Stores.{HasNoMove-closed}
 use Rattle.arena_core.proofs.Stages.{IsStageOf, stage_none, stage_root, stage_same, stage_entry, steady_stage, same_none, same_some, keeps_stage}
 
 -- a word at an address
@@ -50,7 +51,7 @@ module _ (words : List ℕ) (root start count : ℕ) (exact : IsExactImage words
   begun : IsStageOf words root start 0 0 words
   begun = subst (λ n. IsStageOf words root start n 0 words) nothing
       (subst (λ w. IsStageOf words root start ((tables_of words).large start) w words) givable.none
-      (stage_none words root start exact.formed (AreSlabsInHeap-sound words exact.exact.sound)))
+      (stage_none words root start exact.formed (AreSlabsInHeap-sound words exact.exact.sound) (HasNoMove-closed exact.exact.closed)))
 
   -- the extent is in the log
   pub given_extent : (image : List ℕ) → IsLogged words (Large start count) image → IsStageOf words root start count 0 image
@@ -70,14 +71,14 @@ module _ (words : List ℕ) (root start count : ℕ) (exact : IsExactImage words
     before here image either stage = record {
       steady = steady_stage exact give_place here 0 image (record { is = ⊎_elim (λ none. inl (none, refl)) (λ all. inr (all, inl refl)) either }) stage;
       heap = inl (same_none exact give_place 0 here words image begun stage);
-      words = keeps_stage exact give_place here 0 new image stage;
+      words = keeps_stage exact give_place here 0 image stage;
     }
 
     after : (image : List ℕ) → IsStageOf words root start count (16384 * start) image → IsEitherHeap words new image
     after image stage = record {
       steady = steady_stage exact give_place count (16384 * start) image (record { is = inr (refl, inr refl) }) stage;
       heap = inr (same_some exact give_place new image done stage);
-      words = keeps_stage exact give_place count (16384 * start) new image stage;
+      words = keeps_stage exact give_place count (16384 * start) image stage;
     }
 
     crash_extent : (image : List ℕ) → IsLoggedOrNot words (Large start count) image → IsEitherHeap words new image

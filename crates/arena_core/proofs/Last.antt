@@ -33,7 +33,7 @@ module _ (words : List ℕ) (line root : ℕ) (block : SmallBlock) (class : ℕ)
   start = block.start
 
   is_class : t.class start < 36
-  is_class = (image.exact.sound.slabs start named.slab).class
+  is_class = (image.exact.sound.slabs start named.slab).state.is_class
 
   below : block.number < class_capacity (t.class start)
   below = subst (λ c. block.number < class_capacity c) (sym named.class_is) named.below

@@ -182,7 +182,7 @@ module _ {words : List ℕ} (image : IsExactImage words) where
       record {
         slab = is.0;
         class_is = is.1;
-        is_class = subst (λ c. c < 36) is.1 (image.exact.sound.slabs start is.0).class;
+        is_class = subst (λ c. c < 36) is.1 (image.exact.sound.slabs start is.0).state.is_class;
         number = bit.number;
         below = subst (λ c. bit.number < class_capacity c) is.1 bit.below;
         set = bit.set;

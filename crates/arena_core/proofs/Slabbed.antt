@@ -136,8 +136,8 @@ module _ (words : List ℕ) (start class : ℕ) (exact : IsExactImage words) (ro
         (cases_eq s start);
   }
 
-  pub keeps_opened : (other : List ℕ) → KeepsBlocks words other new
-  keeps_opened other = keeps_blocks words start other new exact.formed exact.exact.sound exact.exact.closed
+  pub keeps_opened : KeepsBlocks words new
+  keeps_opened = keeps_blocks words start new exact.formed exact.exact.sound exact.exact.closed
       (λ root range k named word. ⊎_elim (λ x. inl x) (λ x. inr (omega (arith, x))) (block_word-vacant exact.exact.sound exact.exact.closed root range named k word start (row.vacant start (omega arith) (omega arith))))
       opened.rest
 
@@ -182,7 +182,7 @@ module _ (words : List ℕ) (start class : ℕ) (image : IsExactButImage words s
       true≢false (sym bit.set ∙ it.clear bit.number (subst (λ c. bit.number < class_capacity c) it.class_is bit.below))
 
   drop_place : IsSlabPlace (bounds_of words) (tables_of new) (tables_of words) start class
-  drop_place = IsSlabPlace-empty but.sound but.closed (omega (arith, (sizes_of words image.formed).first)) (omega (arith, it.class_is, (but.sound.slabs start it.slab).class)) it none_in
+  drop_place = IsSlabPlace-empty but.sound but.closed (omega (arith, (sizes_of words image.formed).first)) (omega (arith, it.class_is, (but.sound.slabs start it.slab).state.is_class)) it none_in
 
   pub classes_dropped : (s : ℕ) → slabs (tables_of new) s ≡ with_key (slabs (tables_of words)) start None s
   classes_dropped s = ⊎_elim
@@ -220,8 +220,8 @@ module _ (words : List ℕ) (start class : ℕ) (image : IsExactButImage words s
         ∙ ap (λ (f : ℕ → Bool). not (f i)) same.bit;
   }
 
-  pub keeps_dropped : (other : List ℕ) → KeepsBlocks words other new
-  keeps_dropped other = keeps_blocks words start other new image.formed but.sound but.closed
+  pub keeps_dropped : KeepsBlocks words new
+  keeps_dropped = keeps_blocks words start new image.formed but.sound but.closed
       (λ root range k named word. block_word-header but.sound but.closed root range named k word start it.slab)
       dropped.rest
 
@@ -312,10 +312,10 @@ tidied_none s book free set start image ready log index normal was slab other =
       bounds = refl;
       heap = record { each = λ root. refl };
       slab = λ o. sym (ap (λ gone. slabs_but (slabs t) start gone o) none);
-      keeps = record { each = λ root range k first second word. refl };
+      keeps = record { each = λ root other range k first second word. refl };
       crash = subst (λ (es : List Event). CrashOnly words es (IsEitherHeap words words)) (sym events) (by_none words (IsEitherHeap words words) (record {
         steady = record { formed = exact.formed; steady = law_of_steady (bounds_of words) t exact.exact };
         heap = inl (record { each = λ root. refl });
-        words = record { each = λ root range k first second word. refl };
+        words = record { each = λ root other range k first second word. refl };
       }));
     }

@@ -1,5 +1,5 @@
 -- A small block and its root come or go: what an arena keeps holds again.
-use Rattle.std.proofs.Common.{◌≡◌, ◌≢◌, ◌⊎◌, ◌↔◌, ◌==◌, ◌&&◌, ℕ, ◌<◌, Bool, not, List, ◌++◌, sym, ap, subst, ◌∙◌, arith, inl, inr, ⊎_elim, Some, None, if◌then◌else◌}
+use Rattle.std.proofs.Common.{refl, ◌≡◌, ◌≢◌, ◌⊎◌, ◌↔◌, ◌==◌, ◌&&◌, ℕ, ◌<◌, Bool, not, List, ◌++◌, sym, ap, subst, ◌∙◌, arith, inl, inr, ⊎_elim, Some, None, if◌then◌else◌}
 use Rattle.std.proofs.lemmas.Bool.{cases_eq, eq-eqb, ne_eqb, cond-true, cond-false, and_from, and_left, and_right}
 use Rattle.std.proofs.lemmas.List.Elements.{All-weaker}
 use Rattle.pmem_lines.specs.Words.{word_at}
@@ -128,9 +128,9 @@ module _ (words : List ℕ) (line root : ℕ) (block : SmallBlock) (block_in : I
     granules = log.granules ∙ ap (λ (b : Bounds). b.granules) (sym bounds);
   }
 
-  pub keeps_small : (other : List ℕ) → KeepsBlocks words other new
-  keeps_small other = record {
-    each = λ r at k was is within.
+  pub keeps_small : KeepsBlocks words new
+  keeps_small = record {
+    each = λ r other at k was is within.
         let but = block_in.image.but in
         let sizes = sizes_of words block_in.image.formed in
         let high = block_word-heap but.sound but.closed r at was k within in
@@ -154,14 +154,25 @@ named_in words root block class exact normal named = record {
 
 -- two steps, of which one leaves the heap
 module _ (old mid new : List ℕ) (which : HaveSameHeap old mid ⊎ HaveSameHeap mid new) where
-  -- what old and new heap have, the one between has
-  between : (root : ℕ) (range : Range) → heap (tables_of old) root ≡ Some range → heap (tables_of new) root ≡ Some range → heap (tables_of mid) root ≡ Some range
-  between root range was is = ⊎_elim (λ (same : HaveSameHeap old mid). same.each root ∙ was) (λ (same : HaveSameHeap mid new). sym (same.each root) ∙ is) which
-
-  pub keeps_then : (image : List ℕ) → KeepsBlocks old mid mid → KeepsBlocks mid new image → KeepsBlocks old new image
-  keeps_then image first second = record {
-    each = λ root range k was is word. let there = between root range was is in second.each root range k there is word ∙ first.each root range k was there word;
+  -- a block from before that an image of the second step has keeps its words
+  keeps_then : (image : List ℕ) → HaveSameHeap mid image ⊎ HaveSameHeap new image → KeepsBlocks old mid → KeepsBlocks mid image → KeepsBlocks old image
+  keeps_then image left first second = record {
+    each = λ root other range k was is word. ⊎_elim
+        (λ (same : HaveSameHeap old mid).
+        let there = same.each root ∙ was in
+        second.each root other range k there is word ∙ first.each root root range k was there word)
+        (λ (same : HaveSameHeap mid new).
+        let there : heap (tables_of mid) other ≡ Some range = ⊎_elim
+        (λ (here : HaveSameHeap mid image). sym (here.each other) ∙ is)
+        (λ (after : HaveSameHeap new image). sym (same.each other) ∙ sym (after.each other) ∙ is)
+        left in
+        second.each other other range k there is word ∙ first.each root other range k was there word)
+        which;
   }
+
+  -- so it does at the end
+  pub keeps_both : KeepsBlocks old mid → KeepsBlocks mid new → KeepsBlocks old new
+  keeps_both first second = keeps_then new (inr (record { each = λ root. refl })) first second
 
   -- the heap from between is the one from before or from after
   ends : (image : List ℕ) → HaveSameHeap mid image → HaveSameHeap old image ⊎ HaveSameHeap new image
@@ -174,17 +185,17 @@ module _ (old mid new : List ℕ) (which : HaveSameHeap old mid ⊎ HaveSameHeap
   either_first image left = record {
     steady = left.steady;
     heap = ⊎_elim (λ (before : HaveSameHeap old image). inl before) (λ (there : HaveSameHeap mid image). ends image there) left.heap;
-    words = record { each = λ root range k was is word. left.words.each root range k was (between root range was is) word };
+    words = left.words;
   }
 
-  either_second : KeepsBlocks old mid mid → (image : List ℕ) → IsEitherHeap mid new image → IsEitherHeap old new image
+  either_second : KeepsBlocks old mid → (image : List ℕ) → IsEitherHeap mid new image → IsEitherHeap old new image
   either_second keeps image left = record {
     steady = left.steady;
     heap = ⊎_elim (λ (there : HaveSameHeap mid image). ends image there) (λ (after : HaveSameHeap new image). inr after) left.heap;
-    words = keeps_then image keeps left.words;
+    words = keeps_then image left.heap keeps left.words;
   }
 
-  pub crash_then : (e f : List Event) → IsQuiet e → mid ≡ reading old e → KeepsBlocks old mid mid → CrashOnly old e (IsEitherHeap old mid) → CrashOnly mid f (IsEitherHeap mid new) → CrashOnly old (e ++ f) (IsEitherHeap old new)
+  pub crash_then : (e f : List Event) → IsQuiet e → mid ≡ reading old e → KeepsBlocks old mid → CrashOnly old e (IsEitherHeap old mid) → CrashOnly mid f (IsEitherHeap mid new) → CrashOnly old (e ++ f) (IsEitherHeap old new)
   crash_then e f quiet is keeps first second =
       let P : List ℕ → Type 0 = IsEitherHeap old new in
       crash_append old e f P quiet

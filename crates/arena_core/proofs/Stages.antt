@@ -8,9 +8,9 @@ use Rattle.pool_layout.specs.Places.{root_word, heap_word}
 use Rattle.pool_layout.specs.Header.{version_in}
 use Rattle.image_tables.specs.Extents.{extent_at}
 use Rattle.image_tables.specs.Tables.{Tables, large_of, is_slab_of, is_slab, AreSlabsInHeap, tables_of}
-use Rattle.image_tables.specs.Updates.{put_at}
+use Rattle.image_tables.specs.Updates.{put_at, with_root, HasNoMove}
 use Rattle.image_tables.proofs.Updates.{put_at-same, put_at-other, put_at-twice, put_at-own}
-use Rattle.image_tables.proofs.Stores.{version_in-off_log, heap_word-off_log, tables_off_log, version_in-put_root, heap_word-put_root, extent_at-put_root, tables_put_root}
+use Rattle.image_tables.proofs.Stores.{version_in-off_log, heap_word-off_log, tables_off_log, roots_plain, version_in-put_root, heap_word-put_root, extent_at-put_root, tables_put_root}
 use Rattle.image_tables.proofs.Tables.{large_table, slab_table}
 use Rattle.book_log.specs.declared.entry.LogEntry.{LogEntry}
 use Rattle.book_log.specs.Entry.{start_of, extent_of}
@@ -37,19 +37,22 @@ pub record IsStageOf (words : List ℕ) (root start here word : ℕ) (image : Li
   pub bounds : bounds_of image ≡ bounds_of words
   pub slabs : AreSlabsInHeap image
   pub size : length image ≡ length words
+  pub plain : HasNoMove (tables_of words).entry
   pub tables : tables_of image ≡ with_large (tables_of words) start here root word
   pub heap : (k : ℕ) → heap_word (version_in words) ≤ k → word_at image k ≡ word_at words k
 
 -- the words as they are
-pub stage_none : (words : List ℕ) (root start : ℕ) → IsFormed words → AreSlabsInHeap words → IsStageOf words root start ((tables_of words).large start) ((tables_of words).root root) words
-stage_none words root start formed slabs =
+pub stage_none : (words : List ℕ) (root start : ℕ) → IsFormed words → AreSlabsInHeap words → HasNoMove (tables_of words).entry → IsStageOf words root start ((tables_of words).large start) ((tables_of words).root root) words
+stage_none words root start formed slabs plain =
     let t = tables_of words in
+    let own_word : put_at t.word root (t.root root) ≡ t.word = ap (λ (held : ℕ → ℕ). put_at t.word root (held root)) (roots_plain words plain) ∙ put_at-own t.word root in
     record {
       formed = formed;
       bounds = refl;
       slabs = slabs;
       size = refl;
-      tables = sym (λ i. record t { large = put_at-own t.large start i; root = put_at-own t.root root i });
+      plain = plain;
+      tables = sym (λ i. record t { large = put_at-own t.large start i; word = own_word i; root = put_at-own t.root root i });
       heap = λ k high. refl;
     }
 
@@ -73,9 +76,10 @@ stage_root words root start here word made value stage below inside =
             (stage.slabs.low other (sym (ap is_slab_of (extent_at-put_root made root value other among)) ∙ is));
       };
       size = length-put_word made (root_word root) value ∙ stage.size;
-      tables = tables_put_root made root value among within stage.slabs
-          ∙ ap (λ (s : Tables). record s { root = put_at s.root root value }) stage.tables
-          ∙ ap (λ (roots : ℕ → ℕ). record t { large = put_at t.large start here; root = roots }) (put_at-twice t.root root word value);
+      plain = stage.plain;
+      tables = tables_put_root made root value among within stage.slabs (subst HasNoMove (sym (ap (λ (s : Tables). s.entry) stage.tables)) stage.plain)
+          ∙ ap (λ (s : Tables). with_root s root value) stage.tables
+          ∙ (λ i. record t { large = put_at t.large start here; word = put_at-twice t.word root word value i; root = put_at-twice t.root root word value i });
       heap = λ k high. heap_word-put_root made root value k among (omega (arith, high, same_heap_word words made stage.bounds)) ∙ stage.heap k high;
     }
 
@@ -93,9 +97,10 @@ stage_log words root start here word made image after stage rest slab large =
         low = λ other is. subst (λ v. (layout_of v).first_granule ≤ other) (sym (version_in-off_log made image off)) (stage.slabs.low other (sym (slab other) ∙ is));
       };
       size = rest.same_length ∙ stage.size;
+      plain = stage.plain;
       tables = tables_off_log made image (put_at (tables_of made).large start after) off stage.slabs slab large
           ∙ ap (λ (s : Tables). record s { large = put_at s.large start after }) stage.tables
-          ∙ ap (λ (larges : ℕ → ℕ). record t { large = larges; root = put_at t.root root word }) (put_at-twice t.large start here after);
+          ∙ ap (λ (larges : ℕ → ℕ). record (with_root t root word) { large = larges }) (put_at-twice t.large start here after);
       heap = λ k high. heap_word-off_log made image k off (omega (arith, high, same_heap_word words made stage.bounds)) ∙ stage.heap k high;
     }
 
@@ -193,8 +198,8 @@ module _ {words : List ℕ} {root start count : ℕ} (exact : IsExactImage words
   -- the effect
 
   -- a block of the words keeps its words
-  pub keeps_stage : (here word : ℕ) (new image : List ℕ) → IsStageOf words root start here word image → KeepsBlocks words new image
-  keeps_stage here word new image stage = record { each = λ r range k was _ lies. stage.heap k (block_in_heap r range k was lies) }
+  pub keeps_stage : (here word : ℕ) (image : List ℕ) → IsStageOf words root start here word image → KeepsBlocks words image
+  keeps_stage here word image stage = record { each = λ r other range k was _ lies. stage.heap k (block_in_heap r range k was lies) }
     where
       block_in_heap : (r : ℕ) (range : Range) (k : ℕ) → heap (tables_of words) r ≡ Some range → IsWordOf range k → heap_word (version_in words) ≤ k
       block_in_heap r range k was lies =
@@ -208,7 +213,7 @@ module _ {words : List ℕ} {root start count : ℕ} (exact : IsExactImage words
     here = none_stage here image stage;
     others = others_stage here 0 image stage;
     slabs = slabs_stage here 0 image stage;
-    keeps = keeps_stage here 0 image image stage;
+    keeps = keeps_stage here 0 image stage;
     bounds = stage.bounds;
   }
 
@@ -217,6 +222,6 @@ module _ {words : List ℕ} {root start count : ℕ} (exact : IsExactImage words
     here = some_stage image stage;
     others = others_stage count (16384 * start) image stage;
     slabs = slabs_stage count (16384 * start) image stage;
-    keeps = keeps_stage count (16384 * start) image image stage;
+    keeps = keeps_stage count (16384 * start) image stage;
     bounds = stage.bounds;
   }

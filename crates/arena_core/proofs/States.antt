@@ -68,7 +68,7 @@ module _ {words : List ℕ} {m : Machine} (state : HasState words m) where
 
   -- the state after a call by which the root has this block or none and loses its words, and the slabs are these
   pub after_call : (root : ℕ) (block : Option Range) (slab : ℕ → Option ℕ) (new : List ℕ) → heap (tables_of new) root ≡ block →
-      ((other : ℕ) → other ≢ root → heap (tables_of new) other ≡ heap (tables_of words) other) → ((start : ℕ) → slabs (tables_of new) start ≡ slab start) → KeepsBlocks words new new →
+      ((other : ℕ) → other ≢ root → heap (tables_of new) other ≡ heap (tables_of words) other) → ((start : ℕ) → slabs (tables_of new) start ≡ slab start) → KeepsBlocks words new →
       HasState new (record { block = with_key m.block root block; slab = slab; value = forgotten m.value root })
   after_call root block slab new here others slabs_are keeps = record {
     blocks = λ other. ⊎_elim
@@ -85,7 +85,7 @@ module _ {words : List ℕ} {m : Machine} (state : HasState words m) where
           named = with_key-other m.block root other block kept.0 ∙ value.named;
           within = value.within;
           here =
-              keeps.each other value.range (value.range.at / 8 + index) was (others other kept.0 ∙ was) (record { low = omega arith; high = omega (arith, value.within) })
+              keeps.each other other value.range (value.range.at / 8 + index) was (others other kept.0 ∙ was) (record { low = omega arith; high = omega (arith, value.within) })
               ∙ value.here;
         };
   }

@@ -20,6 +20,7 @@ use Rattle.log_steps.specs.Log.{IsLogged, IsLoggedOrNot}
 use Rattle.arena_core.specs.Plan.{IsTakable}
 use Rattle.heap_check.proofs.Sizes.{sizes_of, root_inside}
 use Rattle.arena_core.proofs.Giving.{put_byte}
+use Rattle.image_tables.proofs.Stores.{HasNoMove-closed}
 use Rattle.arena_core.proofs.Stages.{IsStageOf, stage_none, stage_root, stage_same, stage_entry, steady_stage, same_none, same_some, keeps_stage}
 
 module _ (words : List ℕ) (root start count : ℕ) (exact : IsExactImage words) (takable : IsTakable (bounds_of words) (tables_of words) root start count) where
@@ -30,7 +31,7 @@ module _ (words : List ℕ) (root start count : ℕ) (exact : IsExactImage words
   begun : IsStageOf words root start count (16384 * start) words
   begun = subst (λ n. IsStageOf words root start n (16384 * start) words) takable.live
       (subst (λ w. IsStageOf words root start ((tables_of words).large start) w words) takable.named
-      (stage_none words root start exact.formed (AreSlabsInHeap-sound words exact.exact.sound)))
+      (stage_none words root start exact.formed (AreSlabsInHeap-sound words exact.exact.sound) (HasNoMove-closed exact.exact.closed)))
 
   -- the root's word is 0
   pub taken_root : IsStageOf words root start count 0 (put_word words (root_word root) 0)
@@ -50,14 +51,14 @@ module _ (words : List ℕ) (root start count : ℕ) (exact : IsExactImage words
     before image stage = record {
       steady = steady_stage exact take_place count (16384 * start) image (record { is = inr (refl, inr refl) }) stage;
       heap = inl (same_some exact take_place words image begun stage);
-      words = keeps_stage exact take_place count (16384 * start) new image stage;
+      words = keeps_stage exact take_place count (16384 * start) image stage;
     }
 
     after : (here : ℕ) (image : List ℕ) → (here ≡ 0) ⊎ (here ≡ count) → IsStageOf words root start here 0 image → IsEitherHeap words new image
     after here image either stage = record {
       steady = steady_stage exact take_place here 0 image (record { is = ⊎_elim (λ none. inl (none, refl)) (λ all. inr (all, inl refl)) either }) stage;
       heap = inr (same_none exact take_place 0 here new image done stage);
-      words = keeps_stage exact take_place here 0 new image stage;
+      words = keeps_stage exact take_place here 0 image stage;
     }
 
     crash_root : (image : List ℕ) → IsOldOrNewWord words (8 * root_word root) 0 image → IsEitherHeap words new image

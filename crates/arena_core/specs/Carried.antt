@@ -36,7 +36,7 @@ pub record IsTidied (old new : PmemState) (book : Book) (set : FreeSet) (parts :
   pub bounds : bounds_of (words_of new) ≡ bounds_of (words_of old)
   pub heap : HaveSameHeap (words_of old) (words_of new)
   pub slab : (other : ℕ) → Heap.slabs (tables_of (words_of new)) other ≡ slabs_but (Heap.slabs (tables_of (words_of old))) start (holds_none (tables_of (words_of old)) start) other
-  pub keeps : KeepsBlocks (words_of old) (words_of new) (words_of new)
+  pub keeps : KeepsBlocks (words_of old) (words_of new)
   pub crash : CrashOnly (words_of old) (empty_events (words_of old) start) (IsEitherHeap (words_of old) (words_of new))
 
 -- a call was answered
@@ -45,5 +45,5 @@ pub record IsCalled (old new : PmemState) (turn new_turn : ℕ) (book : Book) (s
   pub arena : IsArena new new_turn book set parts
   pub turn_is : new_turn ≡ turn_after turn reply
   pub step : IsStepOf (words_of old) (words_of new) call reply
-  pub keeps : KeepsBlocks (words_of old) (words_of new) (words_of new)
+  pub keeps : KeepsBlocks (words_of old) (words_of new)
   pub crash : CrashOnly (words_of old) (call_events (words_of old) turn root reply) (IsEitherHeap (words_of old) (words_of new))

@@ -14,7 +14,7 @@ pub record GivesRoot (old : List ℕ) (root : ℕ) (block : Option Range) (slab 
   pub here : heap (tables_of new) root ≡ block
   pub others : (other : ℕ) → other ≢ root → heap (tables_of new) other ≡ heap (tables_of old) other
   pub slabs : (start : ℕ) → slabs (tables_of new) start ≡ slab start
-  pub keeps : KeepsBlocks old new new
+  pub keeps : KeepsBlocks old new
   pub bounds : bounds_of new ≡ bounds_of old
 
 -- the slabs are the same, and the bits of their blocks

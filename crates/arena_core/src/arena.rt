@@ -133,7 +133,7 @@ impl<P: Pmem> Arena<P> {
         ensures step { IsStepOf (words_of self.old.device) (words_of self.new.device) (calls.Malloc root size) (malloc_reply result) }
         ensures device { self.new.device ≡ appended (began self.old.device) (call_events (words_of self.old.device) self.old.turn root (malloc_reply result)) }
         ensures turn { self.new.turn ≡ turn_after self.old.turn (malloc_reply result) }
-        ensures keeps { KeepsBlocks (words_of self.old.device) (words_of self.new.device) (words_of self.new.device) }
+        ensures keeps { KeepsBlocks (words_of self.old.device) (words_of self.new.device) }
         ensures was_exact { IsExactImage (words_of self.old.device) }
         ensures exact { IsExactImage (words_of self.new.device) }
         ensures ready { IsReady self.new.device }
@@ -162,7 +162,7 @@ impl<P: Pmem> Arena<P> {
         ensures step { IsStepOf (words_of self.old.device) (words_of self.new.device) (calls.Free root) (free_reply result) }
         ensures device { self.new.device ≡ appended (began self.old.device) (call_events (words_of self.old.device) self.old.turn root (free_reply result)) }
         ensures turn { self.new.turn ≡ turn_after self.old.turn (free_reply result) }
-        ensures keeps { KeepsBlocks (words_of self.old.device) (words_of self.new.device) (words_of self.new.device) }
+        ensures keeps { KeepsBlocks (words_of self.old.device) (words_of self.new.device) }
         ensures was_exact { IsExactImage (words_of self.old.device) }
         ensures exact { IsExactImage (words_of self.new.device) }
         ensures ready { IsReady self.new.device }

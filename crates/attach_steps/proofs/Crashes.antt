@@ -8,10 +8,11 @@ use Rattle.pmem_lines.proofs.Images.{then, weaker}
 use Rattle.durable_steps.specs.Steps.{word_events, pair_events, IsOldOrNewWord, IsOldOrNewPair}
 use Rattle.durable_steps.proofs.Steps.{IsQuiet-word, IsQuiet-pair}
 use Rattle.pool_layout.specs.Places.{root_word, wal_word}
-use Rattle.image_tables.specs.Tables.{OpenEntry, Tables, bitmap_word, tables_of}
+use Rattle.image_tables.specs.declared.entry.WalEntry.{WalEntry}
+use Rattle.image_tables.specs.Tables.{Tables, bitmap_word, tables_of}
 use Rattle.image_tables.specs.Updates.{with_small}
 use Rattle.slab_header.specs.Steps.{with_bit, PutsBit, PutsBitOver}
-use Rattle.attach_wal.specs.Entry.{entry_word, open_entry}
+use Rattle.attach_wal.specs.Entry.{entry_word}
 use Rattle.attach_wal.specs.Wal.{OpensOrNot, ClosesOrNot}
 use Rattle.heap_model.specs.Machine.{Bounds, Range, slab_block}
 use Rattle.heap_check.specs.Heap.{heap}
@@ -45,8 +46,8 @@ module _ (words : List ℕ) (line root : ℕ) (block : SmallBlock) (block_in : I
   range = slab_block block.start (t.class block.start) block.number
 
   -- the entry of the sequence
-  abbrev own : OpenEntry
-  own = open_entry (entry_for root block)
+  abbrev own : WalEntry
+  own = entry_for root block
 
   -- the stages that may be
 
@@ -60,7 +61,7 @@ module _ (words : List ℕ) (line root : ℕ) (block : SmallBlock) (block_in : I
   with_both = record { is = inr (refl, inr (refl, block_in.at)) }
 
   -- each is steady
-  steady : (on : Bool) (word : ℕ) (entry : Option OpenEntry) (image : List ℕ) → IsSmallStage root range.at on word entry → IsStageOf words line root block on word entry image → IsSteadyImage image
+  steady : (on : Bool) (word : ℕ) (entry : Option WalEntry) (image : List ℕ) → IsSmallStage root range.at on word entry → IsStageOf words line root block on word entry image → IsSteadyImage image
   steady on word entry image small stage = record {
     formed = stage.formed;
     steady = subst (λ (b : Bounds). IsSteady b (tables_of image)) (sym stage.bounds)
@@ -68,9 +69,9 @@ module _ (words : List ℕ) (line root : ℕ) (block : SmallBlock) (block_in : I
   }
 
   -- and keeps the words of blocks
-  keeps : (on : Bool) (word : ℕ) (entry : Option OpenEntry) (new image : List ℕ) → IsStageOf words line root block on word entry image → KeepsBlocks words new image
-  keeps on word entry new image stage = record {
-    each = λ r at k was is within.
+  keeps : (on : Bool) (word : ℕ) (entry : Option WalEntry) (image : List ℕ) → IsStageOf words line root block on word entry image → KeepsBlocks words image
+  keeps on word entry image stage = record {
+    each = λ r other at k was is within.
         let but = block_in.image.but in
         let sizes = sizes_of words block_in.image.formed in
         let high = block_word-heap but.sound but.closed r at was k within in
@@ -83,21 +84,21 @@ module _ (words : List ℕ) (line root : ℕ) (block : SmallBlock) (block_in : I
 
   -- heaps
 
-  pub heap_other : (on : Bool) (word : ℕ) (entry : Option OpenEntry) (image : List ℕ) → IsSmallStage root range.at on word entry → IsStageOf words line root block on word entry image → (r : ℕ) → r ≢ root →
+  pub heap_other : (on : Bool) (word : ℕ) (entry : Option WalEntry) (image : List ℕ) → IsSmallStage root range.at on word entry → IsStageOf words line root block on word entry image → (r : ℕ) → r ≢ root →
       heap (tables_of image) r ≡ heap t r
   heap_other on word entry image small stage r differ = ap (λ (x : Tables). heap x r) stage.tables ∙ heap-small_other place on word entry small r differ
 
-  pub heap_none : (on : Bool) (entry : Option OpenEntry) (image : List ℕ) → IsStageOf words line root block on 0 entry image → heap (tables_of image) root ≡ None
+  pub heap_none : (on : Bool) (entry : Option WalEntry) (image : List ℕ) → IsStageOf words line root block on 0 entry image → heap (tables_of image) root ≡ None
   heap_none on entry image stage = ap (λ (x : Tables). heap x root) stage.tables ∙ heap-small_none place on entry
 
-  pub heap_some : (on : Bool) (entry : Option OpenEntry) (image : List ℕ) → IsSmallStage root range.at on block.at entry → IsStageOf words line root block on block.at entry image → heap (tables_of image) root ≡ Some range
+  pub heap_some : (on : Bool) (entry : Option WalEntry) (image : List ℕ) → IsSmallStage root range.at on block.at entry → IsStageOf words line root block on block.at entry image → heap (tables_of image) root ≡ Some range
   heap_some on entry image small stage =
       ap (λ (x : Tables). heap x root) stage.tables
       ∙ ap (λ a. heap (with_small t block.start block.number on root a entry) root) block_in.at
       ∙ heap-small_some place on entry (subst (λ a. IsSmallStage root range.at on a entry) block_in.at small)
 
   -- two stages in which the root has no block have one heap
-  same_none : (on other_on : Bool) (entry other_entry : Option OpenEntry) (other image : List ℕ) → IsSmallStage root range.at other_on 0 other_entry → IsSmallStage root range.at on 0 entry →
+  same_none : (on other_on : Bool) (entry other_entry : Option WalEntry) (other image : List ℕ) → IsSmallStage root range.at other_on 0 other_entry → IsSmallStage root range.at on 0 entry →
       IsStageOf words line root block other_on 0 other_entry other → IsStageOf words line root block on 0 entry image → HaveSameHeap other image
   same_none on other_on entry other_entry other image first second here there = record {
     each = λ r. ⊎_elim
@@ -107,7 +108,7 @@ module _ (words : List ℕ) (line root : ℕ) (block : SmallBlock) (block_in : I
   }
 
   -- so have two in which it has the block
-  same_some : (on other_on : Bool) (entry other_entry : Option OpenEntry) (other image : List ℕ) → IsSmallStage root range.at other_on block.at other_entry → IsSmallStage root range.at on block.at entry →
+  same_some : (on other_on : Bool) (entry other_entry : Option WalEntry) (other image : List ℕ) → IsSmallStage root range.at other_on block.at other_entry → IsSmallStage root range.at on block.at entry →
       IsStageOf words line root block other_on block.at other_entry other → IsStageOf words line root block on block.at entry image → HaveSameHeap other image
   same_some on other_on entry other_entry other image first second here there = record {
     each = λ r. ⊎_elim
@@ -186,7 +187,7 @@ module _ (words : List ℕ) (line root : ℕ) (block : SmallBlock) (block_in : I
   module _ (new : List ℕ) (on new_on : Bool) (word new_word : ℕ) (begins : IsStageOf words line root block on word None words) (ends : IsStageOf words line root block new_on new_word None new)
       (begins_small : IsSmallStage root range.at on word None) (ends_small : IsSmallStage root range.at new_on new_word None)
       (ways : ((word ≡ 0) × (new_word ≡ block.at)) ⊎ ((word ≡ block.at) × (new_word ≡ 0))) where
-    heap_is : (image_on : Bool) (image_word : ℕ) (entry : Option OpenEntry) (image : List ℕ) → (image_word ≡ 0) ⊎ (image_word ≡ block.at) → IsSmallStage root range.at image_on image_word entry →
+    heap_is : (image_on : Bool) (image_word : ℕ) (entry : Option WalEntry) (image : List ℕ) → (image_word ≡ 0) ⊎ (image_word ≡ block.at) → IsSmallStage root range.at image_on image_word entry →
         IsStageOf words line root block image_on image_word entry image → HaveSameHeap words image ⊎ HaveSameHeap new image
     heap_is image_on image_word entry image either small stage =
         let as_none : (o : Bool) (w : ℕ) (ws : List ℕ) → w ≡ 0 → image_word ≡ 0 → IsSmallStage root range.at o w None → IsStageOf words line root block o w None ws → HaveSameHeap ws image =
@@ -202,12 +203,12 @@ module _ (words : List ℕ) (line root : ℕ) (block : SmallBlock) (block_in : I
         (λ goes. ⊎_elim (λ none. inr (as_none new_on new_word new goes.1 none ends_small ends)) (λ has. inl (as_some on word words goes.0 has begins_small begins)) either)
         ways
 
-    judged : (image_on : Bool) (image_word : ℕ) (entry : Option OpenEntry) (image : List ℕ) → (image_word ≡ 0) ⊎ (image_word ≡ block.at) → IsSmallStage root range.at image_on image_word entry →
+    judged : (image_on : Bool) (image_word : ℕ) (entry : Option WalEntry) (image : List ℕ) → (image_word ≡ 0) ⊎ (image_word ≡ block.at) → IsSmallStage root range.at image_on image_word entry →
         IsStageOf words line root block image_on image_word entry image → IsEitherHeap words new image
     judged image_on image_word entry image either small stage = record {
       steady = steady image_on image_word entry image small stage;
       heap = heap_is image_on image_word entry image either small stage;
-      words = keeps image_on image_word entry new image stage;
+      words = keeps image_on image_word entry image stage;
     }
 
     word_either : (word ≡ 0) ⊎ (word ≡ block.at)

@@ -8,20 +8,23 @@ use Rattle.size_classes.proofs.Spacing.{class_size-least}
 use Rattle.pool_layout.specs.Layout.{layout_of}
 use Rattle.pool_layout.specs.Places.{fields_word, root_word, wal_word}
 use Rattle.pool_layout.specs.Header.{version_in}
-use Rattle.image_tables.specs.Tables.{OpenEntry, Tables, AreSlabsInHeap, is_slab, is_slab_of, state_field, wal_lines, tables_of}
-use Rattle.image_tables.specs.Updates.{put_at, put_in, put_bit, with_small}
+use Rattle.image_tables.specs.declared.entry.WalEntry.{WalEntry}
+use Rattle.image_tables.specs.Forms.{IsWalWord}
+use Rattle.image_tables.specs.Tables.{held_of, Tables, AreSlabsInHeap, is_slab, is_slab_of, state_field, wal_lines, tables_of}
+use Rattle.image_tables.specs.Updates.{put_at, put_in, put_bit, with_root, with_entry, with_small, HasNoMove}
 use Rattle.image_tables.proofs.Updates.{put_at-twice, put_at-own, put_in-twice, put_in-own}
 use Rattle.image_tables.proofs.Extents.{extent_at-elsewhere}
 use Rattle.image_tables.proofs.Headers.{IsSameOffHeader-put, is_slab-off_header}
-use Rattle.image_tables.proofs.Stores.{few_lines, closed_words, extent_at-put_root, wal_word-put_root, IsOffLog-wal, tables_put_root}
+use Rattle.image_tables.proofs.Stores.{few_lines, closed_words, HasNoMove-closed, held_of-plain, roots_plain, extent_at-put_root, wal_word-put_root, IsOffLog-wal, tables_put_root}
 use Rattle.image_tables.proofs.Tables.{slab_table, entries_table}
 use Rattle.slab_header.specs.Steps.{PutsBit}
-use Rattle.attach_wal.specs.Entry.{entry_word, open_entry}
+use Rattle.attach_wal.specs.Entry.{entry_word}
+use Rattle.attach_wal.proofs.Words.{IsWalWord-entry}
 use Rattle.attach_wal.specs.Wal.{HasNoOther, Opens, Closes}
 use Rattle.heap_model.specs.Machine.{Bounds, LiesIn, slab_block}
 use Rattle.heap_model.proofs.Slabbing.{LiesIn-block}
 use Rattle.heap_check.specs.Sound.{IsSound}
-use Rattle.heap_check.specs.Image.{bounds_of, IsWalWord, IsFormed}
+use Rattle.heap_check.specs.Image.{bounds_of, IsFormed}
 use Rattle.heap_check.proofs.Forms.{AreSlabsInHeap-sound, bounds_of-put_word, IsFormed-put_root, IsFormed-put_wal, IsFormed-put_bitmap}
 use Rattle.heap_check.proofs.Geometry.{granules_at-slab, entries_few, number_few}
 use Rattle.heap_check.proofs.Sizes.{sizes_of, root_inside}
@@ -29,11 +32,12 @@ use Rattle.attach_steps.specs.declared.block.SmallBlock.{SmallBlock}
 use Rattle.attach_steps.specs.Steps.{entry_for, bit_word, IsBlockIn, KeepsOthers}
 
 -- The image is as the words are, but that the block's bit, the root's word and the open entry are these.
-pub record IsStageOf (words : List ℕ) (line root : ℕ) (block : SmallBlock) (on : Bool) (word : ℕ) (entry : Option OpenEntry) (image : List ℕ) : Type 0 where
+pub record IsStageOf (words : List ℕ) (line root : ℕ) (block : SmallBlock) (on : Bool) (word : ℕ) (entry : Option WalEntry) (image : List ℕ) : Type 0 where
   pub formed : IsFormed image
   pub bounds : bounds_of image ≡ bounds_of words
   pub slabs : AreSlabsInHeap image
   pub alone : HasNoOther image line
+  pub plain : HasNoMove entry
   pub tables : tables_of image ≡ with_small (tables_of words) block.start block.number on root word entry
   pub rest : KeepsOthers words line root block image
 
@@ -78,7 +82,11 @@ module _ (words : List ℕ) (line root : ℕ) (block : SmallBlock) (block_in : I
       omega (arith, sizes.size, (sound.starts block.start (omega (arith, four))).1, four)
 
   pub number_low : block.number < 4096
-  number_low = number_few (t.class block.start) block.number (sound.slabs block.start block_in.slab).class block_in.below
+  number_low = number_few (t.class block.start) block.number (sound.slabs block.start block_in.slab).state.is_class block_in.below
+
+  -- before, each root holds its word
+  plain_roots : t.root ≡ t.word
+  plain_roots = roots_plain words (HasNoMove-closed block_in.image.but.closed)
 
   -- the words as they are
   pub stage_begin : IsStageOf words line root block (t.bit block.start block.number) (t.root root) None words
@@ -89,22 +97,32 @@ module _ (words : List ℕ) (line root : ℕ) (block : SmallBlock) (block_in : I
         bounds = refl;
         slabs = AreSlabsInHeap-sound words sound;
         alone = record { closed = λ other below apart. closed_words words closed other below };
-        tables = sym (λ i. record t { bit = put_in-own t.bit block.start block.number i; root = put_at-own t.root root i; entry = sym closed i });
+        plain = tt;
+        tables = sym (λ i. record t {
+          bit = put_in-own t.bit block.start block.number i;
+          word = own_word i;
+          root = put_at-own t.root root i;
+          entry = sym closed i;
+        });
         rest = record { same_length = refl; others = λ k wal bit root. refl };
       }
+    where
+      own_word : put_at t.word root (t.root root) ≡ t.word
+      own_word = ap (λ (held : ℕ → ℕ). put_at t.word root (held root)) plain_roots ∙ put_at-own t.word root
 
   -- one store of the sequence
-  pub stage_put : (on new_on : Bool) (word new_word : ℕ) (entry new_entry : Option OpenEntry) (made : List ℕ) (k value : ℕ) → IsStageOf words line root block on word entry made → IsOneOf line root block k →
-      IsFormed (put_word made k value) → ((other : ℕ) → is_slab (put_word made k value) other ≡ is_slab made other) → HasNoOther (put_word made k value) line →
+  pub stage_put : (on new_on : Bool) (word new_word : ℕ) (entry new_entry : Option WalEntry) (made : List ℕ) (k value : ℕ) → IsStageOf words line root block on word entry made → IsOneOf line root block k →
+      IsFormed (put_word made k value) → ((other : ℕ) → is_slab (put_word made k value) other ≡ is_slab made other) → HasNoOther (put_word made k value) line → HasNoMove new_entry →
       tables_of (put_word made k value) ≡ with_small (tables_of words) block.start block.number new_on root new_word new_entry →
       IsStageOf words line root block new_on new_word new_entry (put_word made k value)
-  stage_put on new_on word new_word entry new_entry made k value stage one well slab alone tables =
+  stage_put on new_on word new_word entry new_entry made k value stage one well slab alone plain tables =
       let bounds = bounds_of-put_word made k value (λ e. not_fields k one e) in
       record {
         formed = well;
         bounds = bounds ∙ stage.bounds;
         slabs = record { low = λ other is. subst (λ (b : Bounds). b.first ≤ other) (sym bounds) (stage.slabs.low other (sym (slab other) ∙ is)) };
         alone = alone;
+        plain = plain;
         tables = tables;
         rest = record {
           same_length = length-put_word made k value ∙ stage.rest.same_length;
@@ -118,41 +136,46 @@ module _ (words : List ℕ) (line root : ℕ) (block : SmallBlock) (block_in : I
       other_than : (k j : ℕ) → IsOneOf line root block k → j ≢ wal_word line → j ≢ bit_word block → j ≢ root_word root → j ≢ k
       other_than k j one wal bit root e = ⊎_elim (λ x. wal (e ∙ x)) (λ y. ⊎_elim (λ x. bit (e ∙ x)) (λ x. root (e ∙ x)) y) one
 
-  module _ (on : Bool) (word : ℕ) (entry : Option OpenEntry) (made : List ℕ) (stage : IsStageOf words line root block on word entry made) where
+  module _ (on : Bool) (word : ℕ) (entry : Option WalEntry) (made : List ℕ) (stage : IsStageOf words line root block on word entry made) where
     made_size : length made ≡ length words
     made_size = stage.rest.same_length
 
     -- a write-ahead word is stored
-    wal_stage : (value : ℕ) (new_entry : Option OpenEntry) → (value ≢ 0 → IsWalWord value) → tables_of (put_word made (wal_word line) value) ≡ with_small t block.start block.number on root word new_entry →
+    wal_stage : (value : ℕ) (new_entry : Option WalEntry) → (value ≢ 0 → IsWalWord value) → HasNoMove new_entry → tables_of (put_word made (wal_word line) value) ≡ with_small t block.start block.number on root word new_entry →
         IsStageOf words line root block on word new_entry (put_word made (wal_word line) value)
-    wal_stage value new_entry valid tables =
+    wal_stage value new_entry valid plain tables =
         stage_put on on word word entry new_entry made (wal_word line) value stage (inl refl)
         (IsFormed-put_wal made line value stage.formed line_one stage.slabs stage.alone.closed valid (omega (arith, wal_inside, made_size)))
         (λ other. ap is_slab_of (extent_at-elsewhere made (wal_word line) value other (IsOffLog-wal made line line_one)))
         (record { closed = λ other below apart. word_at-put_other made (wal_word line) (wal_word other) value (λ e. apart (omega (arith, e))) ∙ stage.alone.closed other below apart })
-        tables
+        plain tables
+
+    -- the open entry is another
+    entry_stage : (new_entry : Option WalEntry) → HasNoMove new_entry → with_entry (with_small t block.start block.number on root word entry) new_entry ≡ with_small t block.start block.number on root word new_entry
+    entry_stage new_entry plain =
+        let held : held_of new_entry (put_at t.word root word) ≡ put_at t.root root word = held_of-plain new_entry (put_at t.word root word) plain ∙ ap (λ (f : ℕ → ℕ). put_at f root word) (sym plain_roots) in
+        λ i. record t { bit = put_in t.bit block.start block.number on; word = put_at t.word root word; root = held i; entry = new_entry }
 
     -- the entry is open
-    pub stage_open : (image : List ℕ) → entry ≡ None → Opens made line (entry_for root block) image → IsStageOf words line root block on word (Some (open_entry (entry_for root block))) image
+    pub stage_open : (image : List ℕ) → entry ≡ None → Opens made line (entry_for root block) image → IsStageOf words line root block on word (Some (entry_for root block)) image
     stage_open image closed opens =
         let e = entry_for root block in
-        subst (λ (ws : List ℕ). IsStageOf words line root block on word (Some (open_entry e)) ws) (sym opens.is)
-        (wal_stage (entry_word e) (Some (open_entry e)) (λ some. IsWalWord-entry root block)
+        subst (λ (ws : List ℕ). IsStageOf words line root block on word (Some e) ws) (sym opens.is)
+        (wal_stage (entry_word e) (Some e) (λ some. IsWalWord-entry e (omega (arith, root_low), omega arith, λ new. refl)) tt
         (ap (λ (ws : List ℕ). tables_of ws) (sym opens.is)
         ∙ opens.tables stage.slabs (ap (λ (x : Tables). x.entry) stage.tables ∙ closed)
-        ∙ ap (λ (x : Tables). record x { entry = Some (open_entry e) }) stage.tables))
-      where
-        IsWalWord-entry : (root : ℕ) (block : SmallBlock) → IsWalWord (entry_word (entry_for root block))
-        IsWalWord-entry root block = record { some = omega arith; unused = omega arith; place = omega arith; no_place = λ new. omega arith }
+        ∙ ap (λ (x : Tables). with_entry x (Some e)) stage.tables
+        ∙ entry_stage (Some e) tt))
 
     -- the entry is closed
     pub stage_close : (image : List ℕ) → Closes made line image → IsStageOf words line root block on word None image
     stage_close image closes =
         subst (λ (ws : List ℕ). IsStageOf words line root block on word None ws) (sym closes.is)
-        (wal_stage 0 None (λ some. absurd (some refl))
+        (wal_stage 0 None (λ some. absurd (some refl)) tt
         (ap (λ (ws : List ℕ). tables_of ws) (sym closes.is)
         ∙ closes.tables stage.slabs stage.alone
-        ∙ ap (λ (x : Tables). record x { entry = None }) stage.tables))
+        ∙ ap (λ (x : Tables). with_entry x None) stage.tables
+        ∙ entry_stage None tt))
 
     made_slab : is_slab made block.start ≡ true
     made_slab = sym (slab_table made block.start) ∙ ap (λ (x : Tables). x.slab block.start) stage.tables ∙ block_in.slab
@@ -173,9 +196,10 @@ module _ (words : List ℕ) (line root : ℕ) (block : SmallBlock) (block_in : I
         (IsFormed-put_bitmap made block.start block.number value stage.formed in_heap number_low few_entries)
         (λ other. is_slab-off_header made (put_word made k value) block.start other (IsSameOffHeader-put made block.start k value in_heap (omega arith) (omega (arith, number_low))))
         (record { closed = λ other below apart. word_at-put_other made k (wal_word other) value (λ e. omega (arith, e, start_low, few_lines, below)) ∙ stage.alone.closed other below apart })
+        stage.plain
         (puts.tables stage.slabs made_slab
         ∙ ap (λ (x : Tables). put_bit x block.start block.number new_on) stage.tables
-        ∙ ap (λ (bits : ℕ → ℕ → Bool). record t { bit = bits; root = put_at t.root root word; entry = entry }) (put_in-twice t.bit block.start block.number on new_on))
+        ∙ ap (λ (bits : ℕ → ℕ → Bool). record (with_root t root word) { bit = bits; entry = entry }) (put_in-twice t.bit block.start block.number on new_on))
 
     -- the root's word is stored
     pub stage_root : (value : ℕ) → IsStageOf words line root block on value entry (put_word made (root_word root) value)
@@ -187,6 +211,7 @@ module _ (words : List ℕ) (line root : ℕ) (block : SmallBlock) (block_in : I
         (IsFormed-put_root made root value stage.formed among inside stage.slabs)
         (λ other. ap is_slab_of (extent_at-put_root made root value other among))
         (record { closed = λ other below apart. wal_word-put_root made root value other below ∙ stage.alone.closed other below apart })
-        (tables_put_root made root value among inside stage.slabs
-        ∙ ap (λ (x : Tables). record x { root = put_at x.root root value }) stage.tables
-        ∙ ap (λ (roots : ℕ → ℕ). record t { bit = put_in t.bit block.start block.number on; root = roots; entry = entry }) (put_at-twice t.root root word value))
+        stage.plain
+        (tables_put_root made root value among inside stage.slabs (subst HasNoMove (sym (ap (λ (x : Tables). x.entry) stage.tables)) stage.plain)
+        ∙ ap (λ (x : Tables). with_root x root value) stage.tables
+        ∙ (λ i. record t { bit = put_in t.bit block.start block.number on; word = put_at-twice t.word root word value i; root = put_at-twice t.root root word value i; entry = entry }))

@@ -7,7 +7,7 @@ use Rattle.durable_steps.specs.Steps.{word_events, pair_events, IsOldOrNewPair}
 use Rattle.pool_layout.specs.Places.{root_word, wal_word}
 use Rattle.image_tables.specs.Tables.{Tables, tables_of}
 use Rattle.slab_header.specs.Steps.{with_bit, PutsBitOver}
-use Rattle.attach_wal.specs.Entry.{entry_word, open_entry}
+use Rattle.attach_wal.specs.Entry.{entry_word}
 use Rattle.attach_wal.specs.Wal.{Opens, OpensOrNot, Closes, ClosesOrNot}
 use Rattle.heap_model.specs.Machine.{Bounds}
 use Rattle.heap_check.specs.Sound.{IsExact, IsExactBut}
@@ -61,19 +61,19 @@ module _ (words : List ℕ) (line root : ℕ) (block : SmallBlock) (may : IsAtta
 
   module _ (made left new : List ℕ) (opens : Opens words line (entry_for root block) made) (over : PutsBitOver made block.start block.number true) (left_is : left ≡ reading made (mark_events made root block))
       (closes : Closes left line new) where
-    opened : IsStageOf words line root block false 0 (Some (open_entry (entry_for root block))) made
+    opened : IsStageOf words line root block false 0 (Some (entry_for root block)) made
     opened = stage_open words line root block block_in line_below false 0 None words begins made refl opens
 
-    marked : IsStageOf words line root block true block.at (Some (open_entry (entry_for root block))) left
+    marked : IsStageOf words line root block true block.at (Some (entry_for root block)) left
     marked =
-        let e = Some (open_entry (entry_for root block)) in
+        let e = Some (entry_for root block) in
         let v = bit_put made block true in
         subst (λ (ws : List ℕ). IsStageOf words line root block true block.at e ws) (sym (left_is ∙ reading_pair made (bit_word block) v (root_word root) block.at))
         (stage_root words line root block block_in line_below true 0 e (put_word made (bit_word block) v)
         (stage_bit words line root block block_in line_below false 0 e made opened true v (over.each made refl refl)) block.at)
 
     closed : IsStageOf words line root block true block.at None new
-    closed = stage_close words line root block block_in line_below true block.at (Some (open_entry (entry_for root block))) left marked new closes
+    closed = stage_close words line root block block_in line_below true block.at (Some (entry_for root block)) left marked new closes
 
     pub attached : IsAttached words line root block new
     attached = record {
@@ -119,12 +119,12 @@ module _ (words : List ℕ) (line root : ℕ) (block : SmallBlock) (may : IsDeta
 
   module _ (made left new : List ℕ) (opens : Opens words line (entry_for root block) made) (over : PutsBitOver made block.start block.number false) (left_is : left ≡ reading made (unmark_events made root block))
       (closes : Closes left line new) where
-    going_opened : IsStageOf words line root block true block.at (Some (open_entry (entry_for root block))) made
+    going_opened : IsStageOf words line root block true block.at (Some (entry_for root block)) made
     going_opened = stage_open words line root block going line_below true block.at None words going_begins made refl opens
 
-    going_marked : IsStageOf words line root block false 0 (Some (open_entry (entry_for root block))) left
+    going_marked : IsStageOf words line root block false 0 (Some (entry_for root block)) left
     going_marked =
-        let e = Some (open_entry (entry_for root block)) in
+        let e = Some (entry_for root block) in
         let v = bit_put made block false in
         let between = put_word made (root_word root) 0 in
         let there = over_root words line root block going line_below going_place made between false 0 over (record { is = inr (ap (λ i. put_word made i 0) (omega arith)) }) in
@@ -133,7 +133,7 @@ module _ (words : List ℕ) (line root : ℕ) (block : SmallBlock) (may : IsDeta
         (stage_bit words line root block going line_below true 0 e between (stage_root words line root block going line_below true block.at e made going_opened 0) false (bit_put between block false) (there.0.each between refl refl))
 
     going_closed : IsStageOf words line root block false 0 None new
-    going_closed = stage_close words line root block going line_below false 0 (Some (open_entry (entry_for root block))) left going_marked new closes
+    going_closed = stage_close words line root block going line_below false 0 (Some (entry_for root block)) left going_marked new closes
 
     pub detached : IsDetached words line root block new
     detached =

@@ -8,7 +8,8 @@ use Rattle.pool_layout.specs.Places.{root_word, wal_word}
 use Rattle.image_tables.specs.Tables.{bitmap_word, tables_of}
 use Rattle.image_tables.specs.Updates.{with_small}
 use Rattle.slab_header.specs.Steps.{with_bit}
-use Rattle.attach_wal.specs.declared.entry.WalEntry.{WalEntry}
+use Rattle.image_tables.specs.declared.entry.WalEntry.{WalEntry}
+use Rattle.image_tables.specs.declared.entry.WalEntry.TheVariants.{Place}
 use Rattle.attach_wal.specs.Entry.{entry_word}
 use Rattle.heap_model.specs.Machine.{Range, slab_block}
 use Rattle.heap_check.specs.Heap.{heap}
@@ -20,7 +21,7 @@ use Rattle.attach_steps.specs.declared.block.SmallBlock.{SmallBlock}
 
 -- the entry of a root's block
 abbrev pub entry_for : ℕ → SmallBlock → WalEntry
-entry_for root block = record { root = root; at = block.at; old = false; place = 0 }
+entry_for root block = Place root block.at false 0
 
 -- the word of the bitmap that has the block's bit
 abbrev pub bit_word : SmallBlock → ℕ

@@ -55,7 +55,7 @@ pub fn detach<P: Pmem>(p: &mut P, line: u32, root: u32, block: SmallBlock)
 fn entry_for(root: u32, block: SmallBlock) -> WalEntry
     ensures { result ≡ Rattle.attach_steps.specs.Steps.entry_for root block }
 {
-    WalEntry {
+    WalEntry::Place {
         root,
         at: block.at,
         old: false,

@@ -7,14 +7,16 @@ use Rattle.pool_layout.specs.Layout.{layout_of}
 use Rattle.pool_layout.specs.Places.{fields_word, root_word, wal_word, heap_word}
 use Rattle.pool_layout.specs.Header.{version_field, version_in}
 use Rattle.image_tables.specs.Extents.{extent_at}
-use Rattle.image_tables.specs.Tables.{OpenEntry, entry_of_word, entry_among, wal_lines, large_of, is_slab_of, is_slab, AreSlabsInHeap, state_word, bitmap_word, index_word, bit_at, tables_of}
+use Rattle.image_tables.specs.declared.entry.WalEntry.{WalEntry}
+use Rattle.image_tables.specs.Tables.{entry_of_word, entry_among, root_in, wal_lines, large_of, is_slab_of, is_slab, AreSlabsInHeap, state_word, bitmap_word, index_word, bit_at, tables_of}
 use Rattle.image_tables.proofs.Places.{log_word-low}
 use Rattle.image_tables.proofs.Extents.{extent_at-elsewhere}
 use Rattle.image_tables.proofs.Stores.{IsOffLog-wal, tables_but, wal_word-low, log_word-high, state_word-high, bitmap_word-high, index_word-high, bit_at-same, slab_bit-same}
-use Rattle.attach_wal.specs.Wal.{with_entry, HasNoOther}
+use Rattle.image_tables.specs.Updates.{with_entry}
+use Rattle.attach_wal.specs.Wal.{HasNoOther}
 
 -- the entry of a word, if it is not 0
-abbrev pub entry_or_none : ℕ → Option OpenEntry
+abbrev pub entry_or_none : ℕ → Option WalEntry
 entry_or_none word = cond (eqb word 0) None (Some (entry_of_word word))
 
 -- none among lines without one
@@ -51,7 +53,7 @@ tables_put_wal words line value below inside slabs alone =
     let slab : (start : ℕ) → is_slab new start ≡ is_slab words start = λ start. ap is_slab_of (extent start) in
     let heap : (k : ℕ) → heap_word version ≤ k → word_at new k ≡ word_at words k =
     λ k high. word_at-put_other words at k value (λ e. omega (arith, e, high, wal_word-low line below, log_word-low version, log_word-high version)) in
-    tables_but words new (tables_of words).root (entry_or_none value) (tables_of words).large (bit_at words)
+    tables_but words new (root_in words) (entry_or_none value) (tables_of words).large (bit_at words)
     (record {
       slab = slab;
       state = λ start is. heap (state_word start) (state_word-high words start slabs is);

@@ -7,13 +7,14 @@ use Rattle.image_tables.specs.Tables.{entry_of_word, wal_lines, tables_of}
 use Rattle.image_tables.proofs.Stores.{closed_words}
 use Rattle.pmem_lines.specs.Events.{reading}
 use Rattle.durable_steps.specs.Steps.{word_events, IsOldOrNewWord}
-use Rattle.attach_wal.specs.declared.entry.WalEntry.{WalEntry}
-use Rattle.attach_wal.specs.Entry.{entry_word, open_entry, FitsWord}
-use Rattle.attach_wal.specs.Wal.{with_entry, HasNoOther, Opens, Closes, OpensOrNot, ClosesOrNot}
-use Rattle.attach_wal.proofs.Words.{entry_of_word-back}
+use Rattle.image_tables.specs.declared.entry.WalEntry.{WalEntry}
+use Rattle.image_tables.specs.Updates.{with_entry}
+use Rattle.attach_wal.specs.Entry.{entry_word, FitsWord}
+use Rattle.attach_wal.specs.Wal.{HasNoOther, Opens, Closes, OpensOrNot, ClosesOrNot}
+use Rattle.attach_wal.proofs.Words.{entry_word-some, entry_of_word-back}
 use Rattle.attach_wal.proofs.Lines.{tables_put_wal}
 
-pub Opens-put : (words : List ℕ) (line : ℕ) (entry : WalEntry) → line < wal_lines → wal_word line < length words → entry_of_word (entry_word entry) ≡ open_entry entry →
+pub Opens-put : (words : List ℕ) (line : ℕ) (entry : WalEntry) → line < wal_lines → wal_word line < length words → entry_of_word (entry_word entry) ≡ entry →
     Opens words line entry (put_word words (wal_word line) (entry_word entry))
 Opens-put words line entry below inside says = record {
   is = refl;
@@ -21,7 +22,7 @@ Opens-put words line entry below inside says = record {
       let alone : HasNoOther words line = record { closed = λ other less apart. closed_words words closed other less } in
       tables_put_wal words line (entry_word entry) below inside slabs alone
       ∙ ap (with_entry (tables_of words))
-      (cond-false (eqb (entry_word entry) 0) None (Some (entry_of_word (entry_word entry))) (ne_eqb (entry_word entry) 0 (λ e. omega (arith, e))) ∙ ap Some says);
+      (cond-false (eqb (entry_word entry) 0) None (Some (entry_of_word (entry_word entry))) (ne_eqb (entry_word entry) 0 (entry_word-some entry)) ∙ ap Some says);
 }
 
 pub Closes-put : (words : List ℕ) (line : ℕ) → line < wal_lines → wal_word line < length words → Closes words line (put_word words (wal_word line) 0)

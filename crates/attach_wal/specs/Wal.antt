@@ -1,14 +1,11 @@
 -- What opening and closing an entry changes of the words of an arena, and of what they say.
-use Rattle.std.specs.Prelude.{◌≡◌, ◌≢◌, ◌⊎◌, ℕ, ◌<◌, List, Option, Some, None}
+use Rattle.std.specs.Prelude.{◌≡◌, ◌≢◌, ◌⊎◌, ℕ, ◌<◌, List, Some, None}
 use Rattle.pmem_lines.specs.Words.{word_at, put_word}
 use Rattle.pool_layout.specs.Places.{wal_word}
-use Rattle.image_tables.specs.Tables.{OpenEntry, Tables, AreSlabsInHeap, wal_lines, tables_of}
-use Rattle.attach_wal.specs.declared.entry.WalEntry.{WalEntry}
-use Rattle.attach_wal.specs.Entry.{entry_word, open_entry}
-
--- the tables with another open entry, or none
-abbrev pub with_entry : Tables → Option OpenEntry → Tables
-with_entry t other = record t { entry = other }
+use Rattle.image_tables.specs.declared.entry.WalEntry.{WalEntry}
+use Rattle.image_tables.specs.Tables.{AreSlabsInHeap, wal_lines, tables_of}
+use Rattle.image_tables.specs.Updates.{with_entry}
+use Rattle.attach_wal.specs.Entry.{entry_word}
 
 -- no line but this one has an entry
 pub record HasNoOther (words : List ℕ) (line : ℕ) : Type 0 where
@@ -17,7 +14,7 @@ pub record HasNoOther (words : List ℕ) (line : ℕ) : Type 0 where
 -- The entry is open on a line. Where none was open before, that is all that changed of what the words say.
 pub record Opens (words : List ℕ) (line : ℕ) (entry : WalEntry) (image : List ℕ) : Type 0 where
   pub is : image ≡ put_word words (wal_word line) (entry_word entry)
-  pub tables : AreSlabsInHeap words → (tables_of words).entry ≡ None → tables_of image ≡ with_entry (tables_of words) (Some (open_entry entry))
+  pub tables : AreSlabsInHeap words → (tables_of words).entry ≡ None → tables_of image ≡ with_entry (tables_of words) (Some entry)
 
 -- The line has no entry. Where no other line had one, that is all that changed of what the words say.
 pub record Closes (words : List ℕ) (line : ℕ) (image : List ℕ) : Type 0 where

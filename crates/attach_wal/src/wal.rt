@@ -7,8 +7,9 @@ ghost use Rattle.pool_layout.specs.Places.{wal_word};
 ghost use Rattle.attach_wal.specs.Entry.{entry_word, FitsWord};
 ghost use Rattle.attach_wal.specs.Wal.{Opens, OpensOrNot, Closes, ClosesOrNot};
 
-use crate::{WalEntry, entry_word};
+use crate::entry_word;
 use durable_steps::write_word;
+use image_tables::WalEntry;
 use pmem_lines::Pmem;
 use pool_layout::wal_at;
 

@@ -63,12 +63,12 @@ IsSteady-but {b} {t} {start} but = record {
           slab = nearly.slab;
           kind = morphed;
           none = λ place below. ⊎_elim
-              (λ (live : t.live other place ≡ true). absurd (let found = nearly.none place below live in let open' = found.1 in let none = but.closed in cc))
+              (λ (live : t.live other place ≡ true). absurd (let found = nearly.none place below live in let open' = found.entry in let none = but.closed in cc))
               (λ dead. dead)
               (cases_Bool (t.live other place));
         }))
         rest)
-        (but.sound.slabs other nearly.slab).state
+        (but.sound.slabs other nearly.slab).state.kinds
 
 -- so is an exact image
 pub law_of_steady : LawOfSteady

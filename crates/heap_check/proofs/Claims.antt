@@ -1,19 +1,21 @@
 -- The claim of a root that the open entry does not name: its word alone says where its block is.
-use Rattle.std.proofs.Common.{◌≡◌, ◌≢◌, ◌&&◌, ◌==◌, ℕ, ◌*◌, ◌/◌, true, false, cond, refl, sym, ap, ◌∙◌, arith, ⊎_elim, ltb, Option, Some, None}
+use Rattle.std.proofs.Common.{◌≡◌, ◌≢◌, ◌&&◌, ◌==◌, ℕ, ◌*◌, ◌/◌, Bool, true, false, cond, refl, sym, ap, ◌∙◌, arith, ⊎_elim, ltb, Option, Some, None}
 use Rattle.std.proofs.lemmas.Bool.{cases_Bool, eqb-true, cond-true, cond-false, ne_eqb, false_from_ne_true, and_parts, ltb-true}
-use Rattle.image_tables.specs.Tables.{OpenEntry, Tables}
+use Rattle.image_tables.specs.declared.entry.WalEntry.{WalEntry}
+use Rattle.image_tables.specs.declared.entry.WalEntry.TheVariants.{Place, Move}
+use Rattle.image_tables.specs.Tables.{Tables}
 use Rattle.heap_model.specs.Machine.{Range}
 use Rattle.heap_check.specs.Heap.{slab_of, is_large, is_old, size_by, size_at, entry_at, entry_old, claim_at, IsClaim}
 
--- the open entry names this root or none
-pub record NamesOnly (entry : Option OpenEntry) (root : ℕ) : Type 0 where
+-- an open place entry names this root or none
+pub record NamesOnly (entry : Option WalEntry) (root : ℕ) : Type 0 where
   pub others : (other : ℕ) → other ≢ root → entry_at entry other ≡ 0
 
-pub NamesOnly-none : (entry : Option OpenEntry) (root : ℕ) → entry ≡ None → NamesOnly entry root
+pub NamesOnly-none : (entry : Option WalEntry) (root : ℕ) → entry ≡ None → NamesOnly entry root
 NamesOnly-none entry root closed = record { others = λ other apart. ap (λ e. entry_at e other) closed }
 
-pub NamesOnly-some : (e : OpenEntry) → NamesOnly (Some e) e.root
-NamesOnly-some e = record { others = λ other apart. cond-false (other == e.root) e.at 0 (ne_eqb other e.root apart) }
+pub NamesOnly-some : (root at : ℕ) (old : Bool) (place : ℕ) → NamesOnly (Some (Place root at old place)) root
+NamesOnly-some root at old place = record { others = λ other apart. cond-false (other == root) at 0 (ne_eqb other root apart) }
 
 -- the size of a block at an address, where no entry says it
 abbrev pub plain_size : Tables → ℕ → ℕ

@@ -13,6 +13,7 @@ use Rattle.image_tables.specs.Log.{log_of, active_chunks, most_chunks, chunk_log
 use Rattle.image_tables.specs.Extents.{extent_at, extent_behind}
 use Rattle.image_tables.specs.Tables.{tables_of, entry_among, wal_lines, large_of, is_slab_of}
 use Rattle.book_log.proofs.Fresh.{HasLog-fresh}
+use Rattle.image_tables.proofs.Tables.{root_table-none}
 use Rattle.heap_model.specs.Machine.{no_heap}
 use Rattle.heap_check.specs.Laws.{AreBlank}
 use Rattle.heap_check.specs.Image.{bounds_of, header_in, IsFormed}
@@ -51,7 +52,7 @@ module _ (words : List ℕ) (fields : PoolHeader) (formatted : IsFormatted words
   pub AreBlank-formatted : AreBlank (tables_of words)
   unfolding tables_of wal_lines
   AreBlank-formatted = record {
-    roots = λ root. go (nat_lt root (layout_of (version_in words)).roots) root;
+    roots = λ root. root_table-none words root (go (nat_lt root (layout_of (version_in words)).roots) root);
     closed = entry_among-none (λ line. word_at words (wal_word line)) 8 (λ line. formatted.rest (wal_word line) (omega arith));
     no_large = λ start. ap large_of (no_extent start);
     no_slab = λ start. ap is_slab_of (no_extent start);

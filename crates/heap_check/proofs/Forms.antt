@@ -16,7 +16,8 @@ use Rattle.book_log.specs.Book.{HasLog}
 use Rattle.book_log.proofs.Books.{HasLog-same}
 use Rattle.heap_model.specs.Machine.{Bounds}
 use Rattle.heap_check.specs.Sound.{granules_at, IsSound}
-use Rattle.heap_check.specs.Image.{bounds_of, header_in, IsWalWord, HasWal, IsIndexWord, HasSlabHeader, IsFormed}
+use Rattle.image_tables.specs.Forms.{IsWalWord, IsIndexWord}
+use Rattle.heap_check.specs.Image.{bounds_of, header_in, HasWal, HasSlabHeader, IsFormed}
 
 -- the slabs of a sound image begin in the heap
 pub AreSlabsInHeap-sound : (words : List ℕ) → IsSound (bounds_of words) (tables_of words) → AreSlabsInHeap words

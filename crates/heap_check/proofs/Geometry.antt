@@ -26,7 +26,7 @@ Covers-slab t start k slab low high = record { low = low; high = omega (arith, h
 
 -- a valid slab has 64 index entries at most
 pub entries_few : {t : Tables} {start : ℕ} → IsSlab t start → t.entries start ≤ 64
-entries_few {t} {start} is = ⊎_elim (λ (normal : t.kind start ≡ 1). omega (arith, (is.none normal).1)) (λ (other : t.kind start ≢ 1). (is.number other).1) (cases_eq (t.kind start) 1)
+entries_few {t} {start} is = ⊎_elim (λ (normal : t.kind start ≡ 1). omega (arith, (is.state.none normal).1)) (λ (other : t.kind start ≢ 1). (is.state.number other).1) (cases_eq (t.kind start) 1)
 
 -- numbers of blocks are below 4096
 pub number_few : (class i : ℕ) → class < 36 → i < class_capacity class → i < 4096
@@ -93,10 +93,10 @@ module _ {b : Bounds} {t : Tables} (sound : IsSound b t) where
   pub plain_size-some : (start at : ℕ) → IsInSlab t start at → 0 < plain_size t at
   plain_size-some start at inside =
       let here : slab_of t.slab (at / 16384) ≡ start = slab_of-here start (at / 16384) inside.slab (omega (arith, inside.low)) (omega (arith, inside.high)) in
-      let state = sound.slabs start inside.slab in
+      let state = (sound.slabs start inside.slab).state in
       let by : (of_old : Bool) → 0 < class_size (cond of_old (t.old start) (t.class start)) = λ of_old. elim of_old as (λ of_old. 0 < class_size (cond of_old (t.old start) (t.class start))) [
-        | true ↦ omega (arith, class_size-least (t.old start) state.old_class)
-        | false ↦ omega (arith, class_size-least (t.class start) state.class)
+        | true ↦ omega (arith, class_size-least (t.old start) state.is_old_class)
+        | false ↦ omega (arith, class_size-least (t.class start) state.is_class)
       ] in
       rw (is_large-slab start at inside, here) (by (is_old t start at))
 

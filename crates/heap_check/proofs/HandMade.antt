@@ -27,6 +27,7 @@ bounds = record { roots = 4096; first = 4; granules = 16 }
 
 image : Tables
 image = record {
+  word = λ r. only 0 65536 r + only 5 100352 r;
   root = λ r. only 0 65536 r + only 5 100352 r;
   entry = None;
   large = λ g. only 4 2 g;
@@ -132,12 +133,14 @@ holds_it = record { slab = refl; block = inl (record { number = 0; below = omega
 image_slab : (g : ℕ) → g ≡ 6 → IsSlab image g
 unfolding image only
 image_slab g here = subst (λ (k : ℕ). IsSlab image k) (sym here) (record {
-  state = inl refl;
-  class = omega arith;
-  old_class = omega arith;
-  none = λ _. (refl, refl);
-  differ = λ no'. absurd (no' refl);
-  number = λ no'. absurd (no' refl);
+  state = record {
+    kinds = inl refl;
+    is_class = omega arith;
+    is_old_class = omega arith;
+    none = λ _. (refl, refl);
+    differ = λ no'. absurd (no' refl);
+    number = λ no'. absurd (no' refl);
+  };
   small = λ place below. absurd (omega arith);
   once = λ place other below. absurd (omega arith);
 })

@@ -5,7 +5,7 @@ use Rattle.image_tables.specs.Tables.{Tables}
 use Rattle.heap_model.specs.Machine.{Bounds, Range, AreApart}
 use Rattle.heap_check.specs.Heap.{is_large, is_old, size_by, slab_of, entry_at, IsClaim, Holds, HoldsBit, HoldsOld}
 use Rattle.heap_check.specs.Sound.{granules_at, Covers, IsInSlab, IsLooseLarge, IsSound}
-use Rattle.image_tables.specs.Updates.{put_at}
+use Rattle.image_tables.specs.Updates.{put_at, with_root}
 use Rattle.image_tables.proofs.Updates.{put_at-same, put_at-other}
 use Rattle.heap_check.proofs.Claims.{plain_size, IsNamed-claim}
 use Rattle.heap_check.proofs.Geometry.{granules_at-large, Covers-slab, is_large-parts, is_large-put, plain_size-large}
@@ -13,7 +13,7 @@ use Rattle.heap_check.proofs.Within.{IsWithin, IsWithin-claim, IsWithin-start}
 
 -- the tables where a large extent of so many granules starts, 0 for none, and a root has this word
 abbrev pub with_large : Tables → ℕ → ℕ → ℕ → ℕ → Tables
-with_large t start count root word = record t { large = put_at t.large start count; root = put_at t.root root word }
+with_large t start count root word = record (with_root t root word) { large = put_at t.large start count }
 
 -- the block of a large extent
 abbrev pub large_block : ℕ → ℕ → Range

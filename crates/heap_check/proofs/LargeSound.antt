@@ -95,7 +95,7 @@ module _ {b : Bounds} {t : Tables} {root start count : ℕ} (place : IsLargePlac
     slabs : (other : ℕ) → t.slab other ≡ true → IsSlab new other
     slabs other slab =
         let was = place.sound.slabs other slab in
-        record { state = was.state; class = was.class; old_class = was.old_class; none = was.none; differ = was.differ; number = was.number; small = was.small; once = was.once }
+        record { state = was.state; small = was.small; once = was.once }
 
     own_live : word ≢ 0 → (here ≡ count) × (word ≡ 16384 * start)
     own_live some = ⊎_elim (λ none. absurd (some none.1)) (λ live. (live.0, ⊎_elim (λ none. absurd (some none)) (λ has. has) live.1)) stage.is
@@ -184,7 +184,7 @@ module _ {b : Bounds} {t : Tables} {root start count : ℕ} (place : IsLargePlac
       one_done = AtMostOne-fewer (λ k (nearly : IsNearlyDone new k). record {
         slab = nearly.slab;
         kind = nearly.kind;
-        none = λ at below live. absurd (let entry = nearly.none at below live in let is = entry.1 in let none = place.closed in cc);
+        none = λ at below live. absurd (let found = nearly.none at below live in let is = found.entry in let none = place.closed in cc);
       }) steady.one_done;
     }
 

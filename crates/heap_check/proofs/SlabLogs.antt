@@ -7,7 +7,7 @@ use Rattle.pool_layout.specs.Places.{wal_word, heap_word}
 use Rattle.pool_layout.specs.Header.{version_in}
 use Rattle.image_tables.specs.declared.extent.Extent.TheVariants.{Slab}
 use Rattle.image_tables.specs.Extents.{extent_at}
-use Rattle.image_tables.specs.Tables.{AreSlabsInHeap, large_of, is_slab_of, is_slab, state_word, bitmap_word, index_word, wal_lines, tables_of}
+use Rattle.image_tables.specs.Tables.{held_of, root_in, entry_in, AreSlabsInHeap, large_of, is_slab_of, is_slab, state_word, bitmap_word, index_word, wal_lines, tables_of}
 use Rattle.image_tables.proofs.Stores.{IsSameOffLog, version_in-off_log, root_word-off_log, wal_word-off_log, heap_word-off_log, state_word-high, bitmap_word-high, index_word-high, roots-same, entry_among-same, state_field-same, bit_at-same, slab_bit-same, live_at-same, number_at-same}
 use Rattle.heap_check.specs.Slabs.{IsSameSlab, IsWithSlab}
 
@@ -49,8 +49,9 @@ module _ (words new : List ℕ) (start class : ℕ) (adds : AddsSlab words new s
       IsWithSlab (tables_of words) (tables_of new) start class
   unfolding tables_of
   IsWithSlab-logged kind class_is old entries clear = record {
-    root = λ k root. roots-same words new (version_in-off_log words new adds.off_log) (λ r below. root_word-off_log words new r adds.off_log below) root k;
-    entry = entry_among-same (λ line. word_at words (wal_word line)) (λ line. word_at new (wal_word line)) wal_lines (λ line below. wal_word-off_log words new line adds.off_log below);
+    word = words_same;
+    root = λ k. held_of (entry_same k) (words_same k);
+    entry = entry_same;
     large = λ k other. large other k;
     none = adds.none;
     slab = ap is_slab_of adds.slab;
@@ -62,5 +63,11 @@ module _ (words new : List ℕ) (start class : ℕ) (adds : AddsSlab words new s
     others = same_slab;
   }
     where
+      words_same : root_in new ≡ root_in words
+      words_same k root = roots-same words new (version_in-off_log words new adds.off_log) (λ r below. root_word-off_log words new r adds.off_log below) root k
+
+      entry_same : entry_in new ≡ entry_in words
+      entry_same = entry_among-same (λ line. word_at words (wal_word line)) (λ line. word_at new (wal_word line)) wal_lines (λ line below. wal_word-off_log words new line adds.off_log below)
+
       large : (other : ℕ) → large_of (extent_at new other) ≡ large_of (extent_at words other)
       large other = ⊎_elim (λ (same : other ≡ start). ap (λ k. large_of (extent_at new k)) same ∙ ap large_of adds.slab ∙ sym (ap (λ k. large_of (extent_at words k)) same ∙ adds.no_large)) (λ differ. ap large_of (adds.others other differ)) (cases_eq other start)

@@ -2,6 +2,7 @@
 use Rattle.std.proofs.Common.{◌≡◌, ◌≢◌, ◌⊎◌, ℕ, ◌<◌, sym, ap, subst, ◌∙◌, arith, inl, ⊎_elim, Bool}
 use Rattle.std.proofs.lemmas.Bool.{cases_eq}
 use Rattle.size_classes.specs.Classes.{class_capacity}
+use Rattle.image_tables.specs.Forms.{IsState}
 use Rattle.image_tables.specs.Tables.{Tables}
 use Rattle.heap_model.specs.Machine.{Bounds}
 use Rattle.heap_check.specs.Slabs.{IsSameSlab, IsWithSlab}
@@ -12,12 +13,10 @@ use Rattle.heap_check.proofs.Slabs.{IsSlabPlace, new_closed, word, large, slab-d
 -- the state of a slab is valid where another's is of which the tables say the same
 IsSlab-same : (t new : Tables) (start : ℕ) → IsSameSlab t new start → IsSlab t start → IsSlab new start
 IsSlab-same t new start same was = record {
-  state = subst (λ k. (k ≡ 1) ⊎ ((k ≡ 2) ⊎ (k ≡ 3))) (sym same.kind) was.state;
-  class = omega (arith, was.class, same.class);
-  old_class = omega (arith, was.old_class, same.old);
-  none = λ kind. let none = was.none (sym same.kind ∙ kind) in (same.old ∙ none.0, same.entries ∙ none.1);
-  differ = λ kind is. was.differ (λ k. kind (same.kind ∙ k)) (sym same.old ∙ is ∙ same.class);
-  number = λ kind. let few = was.number (λ k. kind (same.kind ∙ k)) in (omega (arith, few.0, same.entries), omega (arith, few.1, same.entries));
+  state = subst (λ e. IsState (new.kind start) (new.class start) (new.old start) e) (sym same.entries)
+      (subst (λ o. IsState (new.kind start) (new.class start) o (t.entries start)) (sym same.old)
+      (subst (λ c. IsState (new.kind start) c (t.old start) (t.entries start)) (sym same.class)
+      (subst (λ k. IsState k (t.class start) (t.old start) (t.entries start)) (sym same.kind) was.state)));
   small = λ place below. subst (λ (row : ℕ → ℕ). row place < class_capacity (new.old start)) (sym same.number)
       (subst (λ c. t.number start place < class_capacity c) (sym same.old) (was.small place (omega (arith, below, same.entries))));
   once = λ place other below under is. was.once place other (omega (arith, below, same.entries)) (omega (arith, under, same.entries))
@@ -132,12 +131,14 @@ module _ {b : Bounds} {t new : Tables} {start class : ℕ} (place : IsSlabPlace 
           (cases_eq other start);
       slabs = λ other slab. ⊎_elim
           (λ (same : other ≡ start). subst (IsSlab new) (sym same) (record {
-            state = inl it.kind;
-            class = omega (arith, it.class_is, place.below);
-            old_class = omega (arith, it.old);
-            none = λ kind. (it.old, it.entries);
-            differ = λ kind. absurd (kind it.kind);
-            number = λ kind. absurd (kind it.kind);
+            state = record {
+              kinds = inl it.kind;
+              is_class = omega (arith, it.class_is, place.below);
+              is_old_class = omega (arith, it.old);
+              none = λ kind. (it.old, it.entries);
+              differ = λ kind. absurd (kind it.kind);
+              number = λ kind. absurd (kind it.kind);
+            };
             small = λ at below. absurd (omega (arith, below, it.entries));
             once = λ at other below. absurd (omega (arith, below, it.entries));
           }))
@@ -165,7 +166,7 @@ module _ {b : Bounds} {t new : Tables} {start class : ℕ} (place : IsSlabPlace 
             kind = λ kind. nearly.kind (same.kind ∙ kind);
             none = λ at below live.
                 let by_entry = nearly.none at (omega (arith, below, same.entries)) (ap (λ (row : ℕ → Bool). row at) same.live ∙ live) in
-                absurd (let is = by_entry.1 in let none = new_closed place in cc);
+                absurd (let is = by_entry.entry in let none = new_closed place in cc);
           })
           (cases_eq k start)) steady.one_done;
     }

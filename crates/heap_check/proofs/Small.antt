@@ -4,7 +4,9 @@ use Rattle.std.proofs.lemmas.Bool.{cases_eq, cases_lt, cond-true, eq-eqb, lt-ltb
 use native.Mathlib.Nat.{mul-le-mul_right}
 use Rattle.size_classes.specs.Classes.{class_size, class_capacity}
 use Rattle.size_classes.proofs.Spacing.{class_size-least}
-use Rattle.image_tables.specs.Tables.{OpenEntry, Tables}
+use Rattle.image_tables.specs.declared.entry.WalEntry.{WalEntry}
+use Rattle.image_tables.specs.declared.entry.WalEntry.TheVariants.{Place, Move}
+use Rattle.image_tables.specs.Tables.{Tables}
 use Rattle.heap_model.specs.Machine.{Bounds, Range, AreApart, LiesIn, slab_block}
 use Rattle.heap_model.proofs.Slabbing.{LiesIn-block}
 use Rattle.heap_check.specs.Heap.{slab_of, any_below, is_old_of, is_old, size_at, entry_at, IsClaim, Holds, HoldsBit, HoldsOld}
@@ -22,8 +24,8 @@ cases_bit start number s i = ⊎_elim
     (cases_eq s start)
 
 -- the entry of a root's block
-abbrev pub small_entry : ℕ → ℕ → OpenEntry
-small_entry root at = record { root = root; at = at; old = false; place = 0 }
+abbrev pub small_entry : ℕ → ℕ → WalEntry
+small_entry root at = Place root at false 0
 
 -- block `number` of the slab's class
 abbrev pub block_in : Tables → ℕ → ℕ → Range
@@ -44,17 +46,17 @@ pub record IsSmallPlace (b : Bounds) (t : Tables) (root start number : ℕ) : Ty
   pub lived : (other : ℕ) → other ≢ start → ¬ (IsEmptySlab t other)
 
 -- with the entry open, bit and word are there or not; with none, both are there or neither
-pub record IsSmallStage (root at : ℕ) (on : Bool) (word : ℕ) (entry : Option OpenEntry) : Type 0 where
+pub record IsSmallStage (root at : ℕ) (on : Bool) (word : ℕ) (entry : Option WalEntry) : Type 0 where
   pub is : ((entry ≡ Some (small_entry root at)) × ((word ≡ 0) ⊎ (word ≡ at))) ⊎ ((entry ≡ None) × (((on ≡ false) × (word ≡ 0)) ⊎ ((on ≡ true) × (word ≡ at))))
 
 -- the root's word is 0 or the address, in each case
-pub stage_word : {root at : ℕ} {on : Bool} {word : ℕ} {entry : Option OpenEntry} → IsSmallStage root at on word entry → (word ≡ 0) ⊎ (word ≡ at)
+pub stage_word : {root at : ℕ} {on : Bool} {word : ℕ} {entry : Option WalEntry} → IsSmallStage root at on word entry → (word ≡ 0) ⊎ (word ≡ at)
 stage_word {root} {at} {on} {word} {entry} stage = ⊎_elim (λ open'. open'.1) (λ shut. ⊎_elim (λ none. inl none.1) (λ both. inr both.1) shut.1) stage.is
 
 -- the entry names the root or none
-pub stage_names : {root at : ℕ} {on : Bool} {word : ℕ} {entry : Option OpenEntry} → IsSmallStage root at on word entry → NamesOnly entry root
+pub stage_names : {root at : ℕ} {on : Bool} {word : ℕ} {entry : Option WalEntry} → IsSmallStage root at on word entry → NamesOnly entry root
 stage_names {root} {at} {on} {word} {entry} stage = ⊎_elim
-    (λ open'. subst (λ e. NamesOnly e root) (sym open'.0) (NamesOnly-some (small_entry root at)))
+    (λ open'. subst (λ e. NamesOnly e root) (sym open'.0) (NamesOnly-some root at false 0))
     (λ shut. NamesOnly-none entry root shut.0)
     stage.is
 
@@ -102,7 +104,7 @@ is_old-held t start at range old here =
 
 -- what no place is asked for: the blocks that slabs hold are the same but for this one
 
-module _ (t : Tables) (start number : ℕ) (on : Bool) (root word : ℕ) (entry : Option OpenEntry) where
+module _ (t : Tables) (start number : ℕ) (on : Bool) (root word : ℕ) (entry : Option WalEntry) where
   abbrev new : Tables
   new = with_small t start number on root word entry
 
@@ -142,7 +144,7 @@ module _ {b : Bounds} {t : Tables} {root start number : ℕ} (place : IsSmallPla
   block = block_in t start number
 
   size_some : 16 ≤ class_size (t.class start)
-  size_some = class_size-least (t.class start) (place.sound.slabs start place.slab).class
+  size_some = class_size-least (t.class start) (place.sound.slabs start place.slab).state.is_class
 
   -- the block lies in its slab
   pub IsInSlab-block : IsInSlab t start (block_in t start number).at
@@ -185,7 +187,7 @@ module _ {b : Bounds} {t : Tables} {root start number : ℕ} (place : IsSmallPla
       (Covers-slab t start (block.at / 16384) place.slab (omega (arith, IsInSlab-block.low)) (omega (arith, IsInSlab-block.high)))
 
   -- once its bit is clear no slab holds it
-  pub unheld : (other word : ℕ) (entry : Option OpenEntry) → ¬ (Holds (with_small t start number false root word entry) other (block_in t start number))
+  pub unheld : (other word : ℕ) (entry : Option WalEntry) → ¬ (Holds (with_small t start number false root word entry) other (block_in t start number))
   unheld other word entry holds =
       let state = place.sound.slabs other holds.slab in
       let inside : LiesIn other block → IsInSlab t other block.at = λ lies. record { slab = holds.slab; low = lies.low; high = omega (arith, lies.high, size_some) } in

@@ -53,13 +53,13 @@ pub record IsNormal (t : Tables) (start : ℕ) : Type 0 where
 -- so it has no old block
 pub no_old-normal : {b : Bounds} {t : Tables} → IsSound b t → (start at : ℕ) → IsNormal t start → is_old t start at ≡ false
 unfolding is_old_of
-no_old-normal {b} {t} sound start at normal = let none = ((sound.slabs start normal.slab).none normal.kind).1 in rw none refl
+no_old-normal {b} {t} sound start at normal = let none = ((sound.slabs start normal.slab).state.none normal.kind).1 in rw none refl
 
 -- what it holds is of its class
 pub Holds-normal : {b : Bounds} {t : Tables} → IsSound b t → (start : ℕ) (range : Range) → IsNormal t start → Holds t start range → HoldsBit t start range
 Holds-normal {b} {t} sound start range normal holds = ⊎_elim
     (λ (bit : HoldsBit t start range). bit)
-    (λ (old : HoldsOld t start range). absurd (omega (arith, old.below, ((sound.slabs start normal.slab).none normal.kind).1)))
+    (λ (old : HoldsOld t start range). absurd (omega (arith, old.below, ((sound.slabs start normal.slab).state.none normal.kind).1)))
     holds.block
 
 -- a block of a normal slab
@@ -74,7 +74,7 @@ module _ {b : Bounds} {t : Tables} (sound : IsSound b t) (closed : t.entry ≡ N
   pub IsWithin-block : IsWithin t start (block_in t start number)
   IsWithin-block =
       let inside = LiesIn-block start (t.class start) block (record { number = number; within = below; is = refl }) in
-      record { low = inside.low; high = omega (arith, inside.high, granules_at-slab t start normal.slab); some = omega (arith, class_size-least (t.class start) (sound.slabs start normal.slab).class) }
+      record { low = inside.low; high = omega (arith, inside.high, granules_at-slab t start normal.slab); some = omega (arith, class_size-least (t.class start) (sound.slabs start normal.slab).state.is_class) }
 
   pub in_slab : (range : Range) → IsWithin t start range → IsInSlab t start range.at
   in_slab range there = record { slab = normal.slab; low = there.low; high = omega (arith, there.high, there.some, granules_at-slab t start normal.slab) }

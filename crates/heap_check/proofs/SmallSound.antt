@@ -1,7 +1,9 @@
 -- A small block and its root come and go: the image stays sound and steady at each stage, and is exact at the ends.
 use Rattle.std.proofs.Common.{◌≡◌, ◌≢◌, ◌⊎◌, ◌==◌, ℕ, ◌*◌, ◌<◌, Bool, true, true≢false, refl, sym, ap, subst, ◌∙◌, arith, inl, inr, ⊎_elim, Option, Some, None}
 use Rattle.std.proofs.lemmas.Bool.{cases_eq, cond-true, cond-false, eq-eqb, ne_eqb}
-use Rattle.image_tables.specs.Tables.{OpenEntry, Tables}
+use Rattle.image_tables.specs.declared.entry.WalEntry.{WalEntry}
+use Rattle.image_tables.specs.declared.entry.WalEntry.TheVariants.{Place, Move}
+use Rattle.image_tables.specs.Tables.{Tables}
 use Rattle.heap_model.specs.Machine.{Bounds, Range}
 use Rattle.heap_check.specs.Heap.{entry_at, size_at, claim_at, IsClaim, Holds}
 use Rattle.heap_check.specs.Sound.{IsInSlab, IsSlab, IsOpen, IsHeld, IsStanding, IsLooseLarge, IsEmptySlab, IsNearlyDone, IsSound, IsExact, IsSteady, IsExactBut, HasOther}
@@ -51,7 +53,7 @@ module _ {b : Bounds} {t : Tables} {root start number : ℕ} (place : IsSmallPla
       (λ has. same_slab place other (subst (IsInSlab t other) has.1 inside))
       place.was
 
-  module _ (on : Bool) (word : ℕ) (entry : Option OpenEntry) (stage : IsSmallStage root (block_in t start number).at on word entry) where
+  module _ (on : Bool) (word : ℕ) (entry : Option WalEntry) (stage : IsSmallStage root (block_in t start number).at on word entry) where
     abbrev new : Tables
     new = with_small t start number on root word entry
 
@@ -141,15 +143,17 @@ module _ {b : Bounds} {t : Tables} {root start number : ℕ} (place : IsSmallPla
         shut.1)
         stage.is
 
-    open_entry : (e : OpenEntry) → entry ≡ Some e → IsOpen b new e
+    open_entry : (e : WalEntry) → entry ≡ Some e → IsOpen b new e
     open_entry e is = ⊎_elim
         (λ open'.
         let own = open'.0 in
         let same : small_entry root block.at ≡ e = cc in
         subst (IsOpen b new) same (record {
-          root = place.rooted;
-          word = ⊎_elim (λ none. inl (own_word ∙ none)) (λ has. inr (own_word ∙ has)) (stage_word stage);
-          block = inl (refl, record { start = start; number = number; slab = place.slab; below = place.below; at = refl });
+          entry = record {
+            rooted = place.rooted;
+            word = ⊎_elim (λ none. inl (own_word ∙ none)) (λ has. inr (own_word ∙ has)) (stage_word stage);
+            block = inl (refl, record { start = start; number = number; slab = place.slab; below = place.below; is = refl });
+          };
           calm = place.calm;
         }))
         (λ shut. absurd (let none = shut.0 in cc))
@@ -158,7 +162,7 @@ module _ {b : Bounds} {t : Tables} {root start number : ℕ} (place : IsSmallPla
     slabs : (other : ℕ) → t.slab other ≡ true → IsSlab new other
     slabs other slab =
         let was = place.sound.slabs other slab in
-        record { state = was.state; class = was.class; old_class = was.old_class; none = was.none; differ = was.differ; number = was.number; small = was.small; once = was.once }
+        record { state = was.state; small = was.small; once = was.once }
 
     -- no more large extents are loose
     loose_before : (other : ℕ) → IsLooseLarge new other → IsLooseLarge t other
@@ -214,11 +218,8 @@ module _ {b : Bounds} {t : Tables} {root start number : ℕ} (place : IsSmallPla
     IsSound-small = IsSound-touched IsTouch-small
 
     -- no entry of an old block is open
-    no_old_entry : (e : OpenEntry) → entry ≡ Some e → e.old ≢ true
-    no_old_entry e is old = ⊎_elim
-        (λ open'. let own = open'.0 in let same : small_entry root block.at ≡ e = cc in true≢false (sym old ∙ ap (λ (e : OpenEntry). e.old) (sym same)))
-        (λ shut. absurd (let none = shut.0 in cc))
-        stage.is
+    no_old_entry : (r at p : ℕ) → entry ≢ Some (Place r at true p)
+    no_old_entry r at p is = ⊎_elim (λ open'. let own = open'.0 in cc) (λ shut. let none = shut.0 in cc) stage.is
 
     pub IsSteady-small : IsSteady b t → IsSteady b (with_small t start number on root word entry)
     IsSteady-small steady = record {
@@ -226,7 +227,7 @@ module _ {b : Bounds} {t : Tables} {root start number : ℕ} (place : IsSmallPla
       one_done = AtMostOne-fewer (λ k (nearly : IsNearlyDone new k). record {
         slab = nearly.slab;
         kind = nearly.kind;
-        none = λ at below live. let by_entry = nearly.none at below live in absurd (no_old_entry by_entry.0 by_entry.1 by_entry.2);
+        none = λ at below live. let by_entry = nearly.none at below live in absurd (no_old_entry by_entry.root _ at by_entry.entry);
       }) steady.one_done;
     }
 

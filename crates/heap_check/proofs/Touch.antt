@@ -1,7 +1,8 @@
 -- One root comes to claim a block, or claims it no more: the image stays sound, also under an open entry of that root.
 use Rattle.std.proofs.Common.{◌≡◌, ◌≢◌, ◌⊎◌, ℕ, ◌+◌, ◌<◌, ◌≤◌, true, Some, sym, ap, subst, ◌∙◌, inl, inr, ⊎_elim}
 use Rattle.std.proofs.lemmas.Bool.{cases_eq}
-use Rattle.image_tables.specs.Tables.{OpenEntry, Tables}
+use Rattle.image_tables.specs.declared.entry.WalEntry.{WalEntry}
+use Rattle.image_tables.specs.Tables.{Tables}
 use Rattle.heap_model.specs.Machine.{Bounds, Range, AreApart}
 use Rattle.heap_check.specs.Heap.{IsClaim, Holds}
 use Rattle.heap_check.specs.Sound.{granules_at, Covers, IsSlab, IsOpen, IsStanding, AtMostOne, IsLooseLarge, IsEmptySlab, IsMorphing, IsDoneSlab, IsSound}
@@ -30,7 +31,7 @@ pub record IsTouch (b : Bounds) (t new : Tables) (root : ℕ) (block : Range) : 
   pub starts : (start : ℕ) → 0 < granules_at new start → (b.first ≤ start) × (start + granules_at new start ≤ b.granules)
   pub one_kind : (start : ℕ) → new.slab start ≡ true → new.large start ≡ 0
   pub slabs : (start : ℕ) → new.slab start ≡ true → IsSlab new start
-  pub open_entry : (e : OpenEntry) → new.entry ≡ Some e → IsOpen b new e
+  pub open_entry : (e : WalEntry) → new.entry ≡ Some e → IsOpen b new e
   pub loose_large : AtMostOne (IsLooseLarge new)
   pub empty_slab : AtMostOne (IsEmptySlab new)
   pub morphing : AtMostOne (IsMorphing new)

@@ -25,15 +25,15 @@ module _ {b : Bounds} {t : Tables} (sound : IsSound b t) where
   pub IsWithin-held : (start : ℕ) (range : Range) → Holds t start range → IsWithin t start range
   IsWithin-held start range holds =
       let four = granules_at-slab t start holds.slab in
-      let state = sound.slabs start holds.slab in
+      let slab = sound.slabs start holds.slab in
       let within : (class : ℕ) → class < 36 → (range.size ≡ class_size class) → LiesIn start range → IsWithin t start range = λ class below wide inside.
       record { low = inside.low; high = omega (arith, inside.high, four); some = omega (arith, wide, class_size-least class below) } in
       ⊎_elim
       (λ (bit : HoldsBit t start range).
-      within (t.class start) state.class (ap (λ (x : Range). x.size) bit.is) (LiesIn-block start (t.class start) range (record { number = bit.number; within = bit.below; is = bit.is })))
+      within (t.class start) slab.state.is_class (ap (λ (x : Range). x.size) bit.is) (LiesIn-block start (t.class start) range (record { number = bit.number; within = bit.below; is = bit.is })))
       (λ (old : HoldsOld t start range).
-      within (t.old start) state.old_class (ap (λ (x : Range). x.size) old.is)
-      (LiesIn-block start (t.old start) range (record { number = t.number start old.place; within = state.small old.place old.below; is = old.is })))
+      within (t.old start) slab.state.is_old_class (ap (λ (x : Range). x.size) old.is)
+      (LiesIn-block start (t.old start) range (record { number = t.number start old.place; within = slab.small old.place old.below; is = old.is })))
       holds.block
 
   pub IsInSlab-held : (start : ℕ) (range : Range) → Holds t start range → IsInSlab t start range.at

@@ -1,7 +1,11 @@
--- The heap that an image has: the block of each root, with its size. All of it is read off the tables of the image.
+-- The heap that an image has: the block of each root, with its size. All of it is read off the tables of the image, and of
+-- roots it is what they hold that counts (`root`), not their words.
 use Rattle.std.specs.Prelude.{◌≡◌, ◌≢◌, ◌⊎◌, ◌==◌, ◌&&◌, ◌||◌, nat_lt, ℕ, zero, suc, ◌*◌, ◌/◌, ◌%◌, ◌-◌, ◌<◌, Bool, true, false, Option, Some, None, if◌then◌else◌}
 use Rattle.size_classes.specs.Classes.{class_size, class_capacity}
-use Rattle.image_tables.specs.Tables.{OpenEntry, Tables}
+use Rattle.image_tables.specs.declared.entry.WalEntry.{WalEntry}
+use Rattle.image_tables.specs.declared.entry.WalEntry.TheVariants.{Place, Move}
+use Rattle.image_tables.specs.Forms.{morphing_kind}
+use Rattle.image_tables.specs.Tables.{Tables}
 use Rattle.heap_model.specs.Machine.{Range, slab_block}
 
 -- the start of the slab that has a granule, where one has it
@@ -25,22 +29,24 @@ is_old t start at = is_old_of start (t.old start) (t.live start) (t.number start
 unfoldable pub is_large : (ℕ → ℕ) → ℕ → Bool
 is_large large at = (at % 16384 == 0) && nat_lt 0 (large (at / 16384))
 
--- the address that the open entry has for a root, 0 where it names another
-abbrev pub entry_at : Option OpenEntry → ℕ → ℕ
+-- the address that an open place entry has for a root, 0 where it names another
+abbrev pub entry_at : Option WalEntry → ℕ → ℕ
 entry_at None root = 0
-entry_at (Some e) root = if root == e.root then e.at else 0
+entry_at (Some (Place named at old place)) root = if root == named then at else 0
+entry_at (Some (Move from to)) root = 0
 
--- the open entry is one of an old block
-abbrev pub entry_old : Option OpenEntry → Bool
+-- an open place entry is one of an old block
+abbrev pub entry_old : Option WalEntry → Bool
 entry_old None = false
-entry_old (Some e) = e.old
+entry_old (Some (Place named at old place)) = old
+entry_old (Some (Move from to)) = false
 
 -- the size of the old class, or of the class, of the slab that has an address
 abbrev pub size_by : Tables → ℕ → Bool → ℕ
 size_by t at of_old = class_size (if of_old then t.old (slab_of t.slab (at / 16384)) else t.class (slab_of t.slab (at / 16384)))
 
 -- The size of the block of a root at an address: that of the live large extent that starts there; else, where the open
--- entry names this root and address, the size of the old class or of the class, as the entry says; else that of the
+-- place entry names this root and address, the size of the old class or of the class, as the entry says; else that of the
 -- live index entry's block there; else that of the block of the slab's class.
 abbrev pub size_at : Tables → ℕ → ℕ → ℕ
 size_at t root at =
@@ -48,7 +54,7 @@ size_at t root at =
     else (if (entry_at t.entry root == at) && nat_lt 0 at then size_by t at (entry_old t.entry)
     else size_by t at (is_old t (slab_of t.slab (at / 16384)) at))
 
--- the heap of an image: each root whose word is not 0 has the block there
+-- the heap of an image: each root that holds an address has the block there
 abbrev pub heap : Tables → ℕ → Option Range
 heap t root = if t.root root == 0 then None else Some (record { at = t.root root; size = size_at t root (t.root root) })
 
@@ -56,7 +62,7 @@ heap t root = if t.root root == 0 then None else Some (record { at = t.root root
 abbrev pub slabs : Tables → ℕ → Option ℕ
 slabs t start = if t.slab start then Some (t.class start) else None
 
--- claims: the open entry's block counts as its root's
+-- claims: the block of an open place entry counts as its root's
 
 -- the address of a root's block, 0 where it has none
 abbrev pub claim_at : Tables → ℕ → ℕ
@@ -74,7 +80,7 @@ pub record IsClaim (t : Tables) (root : ℕ) (range : Range) : Type 0 where
 pub record HoldsBit (t : Tables) (start : ℕ) (range : Range) : Type 0 where
   pub number : ℕ
   pub below : number < class_capacity (t.class start)
-  pub read : t.kind start ≢ 2
+  pub read : t.kind start ≢ morphing_kind
   pub set : t.bit start number ≡ true
   pub is : range ≡ slab_block start (t.class start) number
 

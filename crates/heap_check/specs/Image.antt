@@ -1,11 +1,12 @@
 -- The image of an arena as a whole. Its words have the form that the layout gives them, and what they say, table by
 -- table, is sound, exact or steady.
-use Rattle.std.specs.Prelude.{◌≡◌, ◌≢◌, ℕ, ◌*◌, ◌/◌, ◌%◌, ◌^◌, ◌<◌, ◌≤◌, true, List, length}
+use Rattle.std.specs.Prelude.{◌≡◌, ◌≢◌, ℕ, ◌*◌, ◌<◌, true, List, length}
 use Rattle.pmem_lines.specs.Words.{word_at}
 use Rattle.pool_layout.specs.declared.header.PoolHeader.{PoolHeader}
 use Rattle.pool_layout.specs.Layout.{layout_of}
 use Rattle.pool_layout.specs.Places.{fields_word, wal_word}
 use Rattle.pool_layout.specs.Header.{version_in, granules_in, fields_of, IsHeader}
+use Rattle.image_tables.specs.Forms.{IsWalWord, HasStateBits, IsIndexWord}
 use Rattle.image_tables.specs.Tables.{is_slab, state_word, index_word, state_field, wal_lines, tables_of}
 use Rattle.book_log.specs.Book.{HasLog}
 use Rattle.heap_model.specs.Machine.{Bounds}
@@ -19,27 +20,14 @@ bounds_of words = record { roots = (layout_of (version_in words)).roots; first =
 abbrev pub header_in : List ℕ → PoolHeader
 header_in words = fields_of (word_at words fields_word)
 
--- a write-ahead word that is not 0 is an entry: bit 0 is set, bits without a meaning are not, and a block of the slab's
--- class has no place in the index table
-pub record IsWalWord (word : ℕ) : Type 0 where
-  pub some : word % 2 ≡ 1
-  pub unused : word / 2 ^ 2 % 2 ^ 6 ≡ 0
-  pub place : word / 2 ^ 8 % 2 ^ 8 < 64
-  pub no_place : word / 2 % 2 ≡ 0 → word / 2 ^ 8 % 2 ^ 8 ≡ 0
-
 -- one write-ahead word at most is not 0, and it is an entry
 pub record HasWal (words : List ℕ) : Type 0 where
   pub entry : (line : ℕ) → line < wal_lines → word_at words (wal_word line) ≢ 0 → IsWalWord (word_at words (wal_word line))
   pub one : (line other : ℕ) → line < wal_lines → other < wal_lines → word_at words (wal_word line) ≢ 0 → word_at words (wal_word other) ≢ 0 → line ≡ other
 
--- a word of the index table has its flag and its number, and nothing else
-pub record IsIndexWord (word : ℕ) : Type 0 where
-  pub flag : word % 2 ^ 16 ≤ 1
-  pub number : word < 2 ^ 32
-
 -- the state word and the index words of a slab have their fields, and nothing else
 pub record HasSlabHeader (words : List ℕ) (start : ℕ) : Type 0 where
-  pub state : word_at words (state_word start) < 2 ^ 32
+  pub state : HasStateBits (word_at words (state_word start))
   pub index : (place : ℕ) → place < state_field words start 24 → IsIndexWord (word_at words (index_word start place))
 
 -- The words have the form of an arena: a header line, the length that it says, a well-formed log, write-ahead words and

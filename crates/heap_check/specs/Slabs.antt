@@ -16,6 +16,7 @@ pub record IsSameSlab (t new : Tables) (start : ℕ) : Type 0 where
 
 -- The second tables have one slab more, a normal one of this class that holds no block.
 pub record IsWithSlab (t new : Tables) (start class : ℕ) : Type 0 where
+  pub word : new.word ≡ t.word
   pub root : new.root ≡ t.root
   pub entry : new.entry ≡ t.entry
   pub large : new.large ≡ t.large

@@ -1,8 +1,11 @@
 -- When an image is sound, part by part, over its tables; when nothing in it is loose; and what every crash of a call
 -- leaves.
-use Rattle.std.specs.Prelude.{◌≡◌, ◌≢◌, ◌⊎◌, ℕ, ◌+◌, ◌*◌, ◌<◌, ◌≤◌, true, false, Some, None, if◌then◌else◌}
+use Rattle.std.specs.Prelude.{◌≡◌, ◌≢◌, ◌⊎◌, ℕ, ◌+◌, ◌*◌, ◌<◌, ◌≤◌, Bool, true, false, Some, None, if◌then◌else◌}
 use Rattle.size_classes.specs.Classes.{class_capacity}
-use Rattle.image_tables.specs.Tables.{OpenEntry, Tables}
+use Rattle.image_tables.specs.declared.entry.WalEntry.{WalEntry}
+use Rattle.image_tables.specs.declared.entry.WalEntry.TheVariants.{Place, Move}
+use Rattle.image_tables.specs.Forms.{normal_kind, morphing_kind, morphed_kind, IsState}
+use Rattle.image_tables.specs.Tables.{Tables}
 use Rattle.heap_model.specs.Machine.{Bounds, Range, AreApart, slab_block}
 use Rattle.heap_check.specs.Heap.{is_large, entry_at, IsClaim, Holds}
 
@@ -33,39 +36,50 @@ pub record IsInSlab (t : Tables) (start at : ℕ) : Type 0 where
 
 -- state word and index entries of a slab are valid
 pub record IsSlab (t : Tables) (start : ℕ) : Type 0 where
-  pub state : (t.kind start ≡ 1) ⊎ ((t.kind start ≡ 2) ⊎ (t.kind start ≡ 3))
-  pub class : t.class start < 36
-  pub old_class : t.old start < 36
-  pub none : t.kind start ≡ 1 → (t.old start ≡ 0) × (t.entries start ≡ 0)
-  pub differ : t.kind start ≢ 1 → t.old start ≢ t.class start
-  pub number : t.kind start ≢ 1 → (1 ≤ t.entries start) × (t.entries start ≤ 64)
+  pub state : IsState (t.kind start) (t.class start) (t.old start) (t.entries start)
   pub small : (place : ℕ) → place < t.entries start → t.number start place < class_capacity (t.old start)
   pub once : (place other : ℕ) → place < t.entries start → other < t.entries start → t.number start place ≡ t.number start other → place ≡ other
 
 -- the open entry
 
--- its block is one of its slab's class
-pub record IsNewEntry (t : Tables) (e : OpenEntry) : Type 0 where
+-- a block of its slab's class stands at the address
+pub record IsNewEntry (t : Tables) (at : ℕ) : Type 0 where
   pub start : ℕ
   pub number : ℕ
   pub slab : t.slab start ≡ true
   pub below : number < class_capacity (t.class start)
-  pub at : e.at ≡ (slab_block start (t.class start) number).at
+  pub is : at ≡ (slab_block start (t.class start) number).at
 
--- its block is one that its slab's index table has
-pub record IsOldEntry (t : Tables) (e : OpenEntry) : Type 0 where
+-- a slab's index table has an old block at the address, in this place
+pub record IsOldEntry (t : Tables) (at place : ℕ) : Type 0 where
   pub start : ℕ
   pub slab : t.slab start ≡ true
-  pub kind : t.kind start ≡ 3
-  pub below : e.place < t.entries start
-  pub at : e.at ≡ (slab_block start (t.old start) (t.number start e.place)).at
+  pub kind : t.kind start ≡ morphed_kind
+  pub below : place < t.entries start
+  pub is : at ≡ (slab_block start (t.old start) (t.number start place)).at
 
--- an entry may be open: its root's word is 0 or its address, it names a block, and no slab takes another class
-pub record IsOpen (b : Bounds) (t : Tables) (e : OpenEntry) : Type 0 where
-  pub root : e.root < b.roots
-  pub word : (t.root e.root ≡ 0) ⊎ (t.root e.root ≡ e.at)
-  pub block : ((e.old ≡ false) × IsNewEntry t e) ⊎ ((e.old ≡ true) × IsOldEntry t e)
-  pub calm : (start : ℕ) → t.slab start ≡ true → t.kind start ≢ 2
+-- a place entry may be open: its root holds nothing or its address, and it names a block
+pub record IsOpenPlace (b : Bounds) (t : Tables) (root at : ℕ) (old : Bool) (place : ℕ) : Type 0 where
+  pub rooted : root < b.roots
+  pub word : (t.root root ≡ 0) ⊎ (t.root root ≡ at)
+  pub block : ((old ≡ false) × IsNewEntry t at) ⊎ ((old ≡ true) × IsOldEntry t at place)
+
+-- A move entry may be open: it names two roots, of which one has a word at least, and where both have, it is the same.
+pub record IsOpenMove (b : Bounds) (t : Tables) (from to : ℕ) : Type 0 where
+  pub low : from < b.roots
+  pub high : to < b.roots
+  pub differ : from ≢ to
+  pub some : (t.word from ≢ 0) ⊎ (t.word to ≢ 0)
+  pub same : t.word from ≢ 0 → t.word to ≢ 0 → t.word from ≡ t.word to
+
+abbrev pub IsOpenEntry : Bounds → Tables → WalEntry → Type 0
+IsOpenEntry b t (Place root at old place) = IsOpenPlace b t root at old place
+IsOpenEntry b t (Move from to) = IsOpenMove b t from to
+
+-- an entry may be open, and then no slab takes another class
+pub record IsOpen (b : Bounds) (t : Tables) (e : WalEntry) : Type 0 where
+  pub entry : IsOpenEntry b t e
+  pub calm : (start : ℕ) → t.slab start ≡ true → t.kind start ≢ morphing_kind
 
 -- roots
 
@@ -77,7 +91,7 @@ pub record IsHeld (t : Tables) (at : ℕ) : Type 0 where
   pub here : range.at ≡ at
 
 -- a root's block may stand at the address: a live large extent starts there, a slab holds a block there, or the open
--- entry names this root and the address
+-- place entry names this root and the address
 abbrev pub IsStanding : Tables → ℕ → ℕ → Type 0
 IsStanding t root at = (is_large t.large at ≡ true) ⊎ (IsHeld t at ⊎ (entry_at t.entry root ≡ at))
 
@@ -87,7 +101,7 @@ IsStanding t root at = (is_large t.large at ≡ true) ⊎ (IsHeld t at ⊎ (entr
 pub record AtMostOne (P : ℕ → Type 0) : Type 0 where
   pub same : (one other : ℕ) → P one → P other → one ≡ other
 
--- a large extent that no root names
+-- a large extent that no root holds
 pub record IsLooseLarge (t : Tables) (start : ℕ) : Type 0 where
   pub live : 0 < t.large start
   pub unnamed : (root : ℕ) → t.root root ≢ 16384 * start
@@ -100,23 +114,23 @@ pub record IsEmptySlab (t : Tables) (start : ℕ) : Type 0 where
 -- a slab that takes another class
 pub record IsMorphing (t : Tables) (start : ℕ) : Type 0 where
   pub slab : t.slab start ≡ true
-  pub kind : t.kind start ≡ 2
+  pub kind : t.kind start ≡ morphing_kind
 
 -- a slab that took another class and has no live index entry left
 pub record IsDoneSlab (t : Tables) (start : ℕ) : Type 0 where
   pub slab : t.slab start ≡ true
-  pub kind : t.kind start ≡ 3
+  pub kind : t.kind start ≡ morphed_kind
   pub none : (place : ℕ) → place < t.entries start → t.live start place ≡ false
 
--- The image is sound: its live extents are disjoint and lie in the heap; slabs and the open entry are valid; each root
--- stands where a block may, no two roots' blocks overlap, and each block that a slab holds is a root's; and of each of
+-- The image is sound: its live extents are disjoint and lie in the heap; slabs and the open entry are valid; what each
+-- root holds stands where a block may, no two roots' blocks overlap, and each block that a slab holds is a root's; and of each of
 -- the four loose things there is one at most.
 pub record IsSound (b : Bounds) (t : Tables) : Type 0 where
   pub disjoint : (start other k : ℕ) → Covers t start k → Covers t other k → start ≡ other
   pub starts : (start : ℕ) → 0 < granules_at t start → (b.first ≤ start) × (start + granules_at t start ≤ b.granules)
   pub one_kind : (start : ℕ) → t.slab start ≡ true → t.large start ≡ 0
   pub slabs : (start : ℕ) → t.slab start ≡ true → IsSlab t start
-  pub open_entry : (e : OpenEntry) → t.entry ≡ Some e → IsOpen b t e
+  pub open_entry : (e : WalEntry) → t.entry ≡ Some e → IsOpen b t e
   pub rooted : (root : ℕ) → t.root root ≢ 0 → IsStanding t root (t.root root)
   pub apart : (root other : ℕ) (range another : Range) → root ≢ other → IsClaim t root range → IsClaim t other another → AreApart range another
   pub claimed : (start : ℕ) (range : Range) → Holds t start range → (root : ℕ) × IsClaim t root range
@@ -150,13 +164,17 @@ pub record IsExactBut (b : Bounds) (t : Tables) (start : ℕ) : Type 0 where
   pub calm : (other : ℕ) → ¬ (IsMorphing t other)
   pub none_done : (other : ℕ) → ¬ (IsDoneSlab t other)
 
--- a slab that takes or took another class has no live index entry, but for the one of an open old entry whose root's
--- word is 0
+-- an open place entry of an old block has this place of a slab's index table, and its root holds nothing
+pub record IsLeaving (t : Tables) (start place : ℕ) : Type 0 where
+  pub root : ℕ
+  pub entry : t.entry ≡ Some (Place root (slab_block start (t.old start) (t.number start place)).at true place)
+  pub none : t.root root ≡ 0
+
+-- a slab that takes or took another class has no live index entry, but for one that is leaving
 pub record IsNearlyDone (t : Tables) (start : ℕ) : Type 0 where
   pub slab : t.slab start ≡ true
-  pub kind : t.kind start ≢ 1
-  pub none : (place : ℕ) → place < t.entries start → t.live start place ≡ true →
-      (e : OpenEntry) × (t.entry ≡ Some e) × (e.old ≡ true) × (e.place ≡ place) × (e.at ≡ (slab_block start (t.old start) (t.number start place)).at) × (t.root e.root ≡ 0)
+  pub kind : t.kind start ≢ normal_kind
+  pub none : (place : ℕ) → place < t.entries start → t.live start place ≡ true → IsLeaving t start place
 
 -- The image is steady, as every crash within a call leaves it: sound, and one slab at most is nearly done.
 pub record IsSteady (b : Bounds) (t : Tables) : Type 0 where

@@ -29,13 +29,13 @@ pub record HasState (words : List ℕ) (m : Machine) : Type 0 where
 pub record HaveSameHeap (words image : List ℕ) : Type 0 where
   pub each : (root : ℕ) → heap (tables_of image) root ≡ heap (tables_of words) root
 
--- each block that both the old heap and the new one have has its old words in the image
-pub record KeepsBlocks (old new image : List ℕ) : Type 0 where
-  pub each : (root : ℕ) (range : Range) (k : ℕ) → heap (tables_of old) root ≡ Some range → heap (tables_of new) root ≡ Some range → IsWordOf range k → word_at image k ≡ word_at old k
+-- each range that is a block of the old heap and of the image's, of whichever root, has its old words in the image
+pub record KeepsBlocks (old image : List ℕ) : Type 0 where
+  pub each : (root other : ℕ) (range : Range) (k : ℕ) → heap (tables_of old) root ≡ Some range → heap (tables_of image) other ≡ Some range → IsWordOf range k → word_at image k ≡ word_at old k
 
 -- A crash within a call from the old words to the new ones leaves a steady image with the heap of the one or of the
--- other, and each block of both has its words.
+-- other, in which each block that was there before has its words.
 pub record IsEitherHeap (old new image : List ℕ) : Type 0 where
   pub steady : IsSteadyImage image
   pub heap : HaveSameHeap old image ⊎ HaveSameHeap new image
-  pub words : KeepsBlocks old new image
+  pub words : KeepsBlocks old image

@@ -1,5 +1,5 @@
 -- What a store changes of the tables of an image.
-use Rattle.std.proofs.Common.{◌≡◌, ◌≢◌, ◌⊎◌, ◌&&◌, ◌/◌, ◌%◌, ◌^◌, ◌<◌, ◌≤◌, ⊎_elim, inl, inr, ℕ, zero, suc, Bool, true, false, cond, eqb, ltb, Option, Some, None, List, length, refl, sym, ap, ◌∙◌, arith}
+use Rattle.std.proofs.Common.{◌≡◌, ◌≢◌, ◌⊎◌, ◌&&◌, ◌/◌, ◌%◌, ◌^◌, ◌<◌, ◌≤◌, ⊎_elim, inl, inr, ℕ, zero, suc, Bool, true, false, cond, eqb, ltb, Option, Some, None, List, length, refl, sym, ap, subst, ◌∙◌, arith}
 use Rattle.std.proofs.lemmas.Bool.{cases_Bool, cases_eq, eqb-true, cond-true, cond-false, and_parts, ltb-true, lt-ltb}
 use Rattle.pmem_lines.specs.Words.{word_at, put_word}
 use Rattle.pmem_lines.proofs.Words.{word_at-put_same, word_at-put_other}
@@ -8,8 +8,10 @@ use Rattle.pool_layout.specs.Places.{text_word, fields_word, directory_word, roo
 use Rattle.pool_layout.specs.Header.{version_field, granules_field, version_in, granules_in}
 use Rattle.pool_layout.proofs.Layouts.{layout_rules}
 use Rattle.image_tables.specs.Extents.{extent_at}
-use Rattle.image_tables.specs.Tables.{OpenEntry, entry_of_word, entry_among, wal_lines, large_of, is_slab_of, is_slab, AreSlabsInHeap, bit_of_word, state_word, bitmap_word, index_word, slab_bit, bit_at, live_at, number_at, state_field, tables_of}
-use Rattle.image_tables.specs.Updates.{put_at}
+use Rattle.image_tables.specs.declared.entry.WalEntry.{WalEntry}
+use Rattle.image_tables.specs.declared.entry.WalEntry.TheVariants.{Place, Move}
+use Rattle.image_tables.specs.Tables.{entry_of_word, entry_among, entry_in, held_of, root_in, wal_lines, large_of, is_slab_of, is_slab, AreSlabsInHeap, bit_of_word, state_word, bitmap_word, index_word, slab_bit, bit_at, live_at, number_at, state_field, tables_of}
+use Rattle.image_tables.specs.Updates.{put_at, HasNoMove, with_root}
 use Rattle.image_tables.proofs.Updates.{put_at-same, put_at-other}
 use Rattle.image_tables.proofs.Places.{log_word-low}
 use Rattle.image_tables.proofs.Logs.{IsOffLog}
@@ -128,8 +130,7 @@ slab_bit-same words new start i same = ap (λ w. bit_of_word w (i / 8 % 64)) sam
 
 -- the roots are the same where their words are
 pub roots-same : (words new : List ℕ) → version_in new ≡ version_in words → ((root : ℕ) → root < (layout_of (version_in words)).roots → word_at new (root_word root) ≡ word_at words (root_word root)) →
-    (root : ℕ) → (tables_of new).root root ≡ (tables_of words).root root
-unfolding tables_of
+    (root : ℕ) → root_in new root ≡ root_in words root
 roots-same words new version same root = where_same (ltb root (layout_of (version_in new)).roots) (ltb root (layout_of (version_in words)).roots) _ _ 0
     (ap (λ version. ltb root (layout_of version).roots) version)
     (λ is. same root (ltb-true root (layout_of (version_in words)).roots is))
@@ -141,20 +142,35 @@ entry_among-same row new (suc n) same =
     ap (λ w. cond (eqb w 0) (entry_among new n) (Some (entry_of_word w))) (same n (omega arith))
     ∙ ap (λ x. cond (eqb (row n) 0) x (Some (entry_of_word (row n)))) (entry_among-same row new n (λ line below. same line (omega arith)))
 
+-- no move entry is open where none is
+pub HasNoMove-closed : {entry : Option WalEntry} → entry ≡ None → HasNoMove entry
+HasNoMove-closed {entry} closed = subst HasNoMove (sym closed) tt
+
+-- while no move entry is open, each root holds its word
+pub held_of-plain : (entry : Option WalEntry) (word : ℕ → ℕ) → HasNoMove entry → held_of entry word ≡ word
+held_of-plain None word none = refl
+held_of-plain (Some (Place root at old place)) word none = refl
+held_of-plain (Some (Move from to)) word none = absurd none
+
+pub roots_plain : (words : List ℕ) → HasNoMove (tables_of words).entry → (tables_of words).root ≡ (tables_of words).word
+unfolding tables_of
+roots_plain words none = held_of-plain (entry_in words) (root_in words) none
+
 -- the tables, where the slabs and their state words stay the same
-pub tables_by : (words new : List ℕ) (root : ℕ → ℕ) (entry : Option OpenEntry) (large : ℕ → ℕ) (bit live : ℕ → ℕ → Bool) (number : ℕ → ℕ → ℕ) →
+pub tables_by : (words new : List ℕ) (word : ℕ → ℕ) (entry : Option WalEntry) (large : ℕ → ℕ) (bit live : ℕ → ℕ → Bool) (number : ℕ → ℕ → ℕ) →
     ((start : ℕ) → is_slab new start ≡ is_slab words start) →
     ((start : ℕ) → is_slab words start ≡ true → word_at new (state_word start) ≡ word_at words (state_word start)) →
-    ((r : ℕ) → cond (ltb r (layout_of (version_in new)).roots) (word_at new (root_word r)) 0 ≡ root r) →
-    entry_among (λ line. word_at new (wal_word line)) wal_lines ≡ entry →
+    ((r : ℕ) → root_in new r ≡ word r) →
+    entry_in new ≡ entry →
     ((start : ℕ) → large_of (extent_at new start) ≡ large start) →
     ((start i : ℕ) → bit_at new start i ≡ bit start i) →
     ((start place : ℕ) → live_at new start place ≡ live start place) →
     ((start place : ℕ) → number_at new start place ≡ number start place) →
-    tables_of new ≡ record (tables_of words) { root = root; entry = entry; large = large; bit = bit; live = live; number = number }
+    tables_of new ≡ record (tables_of words) { word = word; root = held_of entry word; entry = entry; large = large; bit = bit; live = live; number = number }
 unfolding tables_of
-tables_by words new root entry large bit live number slab state roots entries larges bits lives numbers = λ k. record {
-  root = λ r. roots r k;
+tables_by words new word entry large bit live number slab state roots entries larges bits lives numbers = λ k. record {
+  word = λ r. roots r k;
+  root = held_of (entries k) (λ r. roots r k);
   entry = entries k;
   large = λ start. larges start k;
   slab = λ start. slab start k;
@@ -168,15 +184,15 @@ tables_by words new root entry large bit live number slab state roots entries la
 }
 
 -- the tables, where only the roots, the open entry, the large extents and the bits change
-pub tables_but : (words new : List ℕ) (root : ℕ → ℕ) (entry : Option OpenEntry) (large : ℕ → ℕ) (bit : ℕ → ℕ → Bool) → SameSlabs words new →
-    ((r : ℕ) → cond (ltb r (layout_of (version_in new)).roots) (word_at new (root_word r)) 0 ≡ root r) →
-    entry_among (λ line. word_at new (wal_word line)) wal_lines ≡ entry →
+pub tables_but : (words new : List ℕ) (word : ℕ → ℕ) (entry : Option WalEntry) (large : ℕ → ℕ) (bit : ℕ → ℕ → Bool) → SameSlabs words new →
+    ((r : ℕ) → root_in new r ≡ word r) →
+    entry_in new ≡ entry →
     ((start : ℕ) → large_of (extent_at new start) ≡ large start) →
     ((start i : ℕ) → bit_at new start i ≡ bit start i) →
-    tables_of new ≡ record (tables_of words) { root = root; entry = entry; large = large; bit = bit }
+    tables_of new ≡ record (tables_of words) { word = word; root = held_of entry word; entry = entry; large = large; bit = bit }
 unfolding tables_of
-tables_but words new root entry large bit same roots entries larges bits =
-    tables_by words new root entry large bit (live_at words) (number_at words) same.slab same.state roots entries larges bits
+tables_but words new word entry large bit same roots entries larges bits =
+    tables_by words new word entry large bit (live_at words) (number_at words) same.slab same.state roots entries larges bits
     (λ start place. live_at-same words new start place (same.slab start) (same.index start place))
     (λ start place. number_at-same words new start place (same.slab start) (same.index start place))
 
@@ -186,7 +202,7 @@ pub tables_off_log : (words new : List ℕ) (large : ℕ → ℕ) → IsSameOffL
 unfolding tables_of
 tables_off_log words new large same slabs slab larges =
     let heap : (k : ℕ) → heap_word (version_in words) ≤ k → word_at new k ≡ word_at words k = λ k high. heap_word-off_log words new k same high in
-    tables_but words new (tables_of words).root (tables_of words).entry large (bit_at words)
+    tables_but words new (root_in words) (entry_in words) large (bit_at words)
     (record {
       slab = slab;
       state = λ start is. heap (state_word start) (state_word-high words start slabs is);
@@ -239,17 +255,18 @@ heap_word-put_root words root value k below high =
 pub extent_at-put_root : (words : List ℕ) (root value start : ℕ) → root < (layout_of (version_in words)).roots → extent_at (put_word words (root_word root) value) start ≡ extent_at words start
 extent_at-put_root words root value start below = extent_at-elsewhere words (root_word root) value start (IsOffLog-root words root below)
 
--- a store of a root word changes that root
-pub tables_put_root : (words : List ℕ) (root value : ℕ) → root < (layout_of (version_in words)).roots → root_word root < length words → AreSlabsInHeap words →
-    tables_of (put_word words (root_word root) value) ≡ record (tables_of words) { root = put_at (tables_of words).root root value }
+-- a store of a root word changes that word, and what roots hold by it
+pub tables_store_root : (words : List ℕ) (root value : ℕ) → root < (layout_of (version_in words)).roots → root_word root < length words → AreSlabsInHeap words →
+    tables_of (put_word words (root_word root) value)
+    ≡ record (tables_of words) { word = put_at (tables_of words).word root value; root = held_of (tables_of words).entry (put_at (tables_of words).word root value) }
 unfolding tables_of
-tables_put_root words root value below inside slabs =
+tables_store_root words root value below inside slabs =
     let new = put_word words (root_word root) value in
     let roots = (layout_of (version_in words)).roots in
     let slab : (start : ℕ) → is_slab new start ≡ is_slab words start = λ start. ap is_slab_of (extent_at-put_root words root value start below) in
     let heap : (k : ℕ) → heap_word (version_in words) ≤ k → word_at new k ≡ word_at words k = λ k high. heap_word-put_root words root value k below high in
-    let table : ℕ → ℕ = (tables_of words).root in
-    tables_but words new (put_at table root value) (tables_of words).entry (tables_of words).large (bit_at words)
+    let table : ℕ → ℕ = root_in words in
+    tables_but words new (put_at table root value) (entry_in words) (tables_of words).large (bit_at words)
     (record {
       slab = slab;
       state = λ start is. heap (state_word start) (state_word-high words start slabs is);
@@ -271,6 +288,15 @@ tables_put_root words root value below inside slabs =
     (entry_among-same (λ line. word_at words (wal_word line)) (λ line. word_at new (wal_word line)) wal_lines (λ line less. wal_word-put_root words root value line less))
     (λ start. ap large_of (extent_at-put_root words root value start below))
     (λ start i. bit_at-same words new start i (slab start) (λ is less. slab_bit-same words new start i (heap (bitmap_word start i) (bitmap_word-high words start i slabs is))))
+
+-- while no move entry is open, it changes that root
+pub tables_put_root : (words : List ℕ) (root value : ℕ) → root < (layout_of (version_in words)).roots → root_word root < length words → AreSlabsInHeap words → HasNoMove (tables_of words).entry →
+    tables_of (put_word words (root_word root) value) ≡ with_root (tables_of words) root value
+tables_put_root words root value below inside slabs none =
+    let t = tables_of words in
+    let plain : held_of t.entry (put_at t.word root value) ≡ put_at t.root root value =
+    held_of-plain t.entry (put_at t.word root value) none ∙ ap (λ (f : ℕ → ℕ). put_at f root value) (sym (roots_plain words none)) in
+    tables_store_root words root value below inside slabs ∙ (λ i. record t { word = put_at t.word root value; root = plain i })
 
 none_among : (row : ℕ → ℕ) (n : ℕ) → entry_among row n ≡ None → (line : ℕ) → line < n → row line ≡ 0
 none_among row zero closed line below = absurd (omega arith)

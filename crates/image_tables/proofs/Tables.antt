@@ -1,22 +1,47 @@
 -- What the tables of an image read off its words, one by one.
-use Rattle.std.proofs.Common.{◌≡◌, ◌&&◌, ◌/◌, ◌%◌, ◌^◌, ◌<◌, ◌≤◌, ℕ, true, List, ltb, refl, ap, ◌∙◌}
+use Rattle.std.proofs.Common.{◌≡◌, ◌&&◌, ◌/◌, ◌%◌, ◌^◌, ◌<◌, ◌≤◌, ℕ, Bool, true, false, cond, eqb, ltb, Option, Some, None, List, refl, ap, ◌∙◌}
 use Rattle.std.proofs.lemmas.Bool.{cond-true, cond-false, lt-ltb, le-ltb, and_from}
 use Rattle.pmem_lines.specs.Words.{word_at}
 use Rattle.pool_layout.specs.Layout.{layout_of}
 use Rattle.pool_layout.specs.Places.{root_word}
 use Rattle.pool_layout.specs.Header.{version_in}
 use Rattle.image_tables.specs.Extents.{extent_at}
-use Rattle.image_tables.specs.Tables.{large_of, is_slab, bit_of_word, index_word, slab_bit, tables_of, state_field}
+use Rattle.image_tables.specs.declared.entry.WalEntry.{WalEntry}
+use Rattle.image_tables.specs.declared.entry.WalEntry.TheVariants.{Place, Move}
+use Rattle.image_tables.specs.Tables.{entry_in, held_of, root_in, large_of, is_slab, bit_of_word, index_word, slab_bit, tables_of, state_field}
+use Rattle.image_tables.specs.Updates.{HasNoMove}
+use Rattle.image_tables.proofs.Stores.{roots_plain}
 
 -- a root's word
-pub root_table : (words : List ℕ) (root : ℕ) → root < (layout_of (version_in words)).roots → (tables_of words).root root ≡ word_at words (root_word root)
+pub word_table : (words : List ℕ) (root : ℕ) → root < (layout_of (version_in words)).roots → (tables_of words).word root ≡ word_at words (root_word root)
 unfolding tables_of
-root_table words root below = cond-true (ltb root (layout_of (version_in words)).roots) (word_at words (root_word root)) 0 (lt-ltb root (layout_of (version_in words)).roots below)
+word_table words root below = cond-true (ltb root (layout_of (version_in words)).roots) (word_at words (root_word root)) 0 (lt-ltb root (layout_of (version_in words)).roots below)
 
 -- there are no more roots
-pub root_table-past : (words : List ℕ) (root : ℕ) → (layout_of (version_in words)).roots ≤ root → (tables_of words).root root ≡ 0
+pub word_table-past : (words : List ℕ) (root : ℕ) → (layout_of (version_in words)).roots ≤ root → (tables_of words).word root ≡ 0
 unfolding tables_of
-root_table-past words root past = cond-false (ltb root (layout_of (version_in words)).roots) (word_at words (root_word root)) 0 (le-ltb root (layout_of (version_in words)).roots past)
+word_table-past words root past = cond-false (ltb root (layout_of (version_in words)).roots) (word_at words (root_word root)) 0 (le-ltb root (layout_of (version_in words)).roots past)
+
+-- what a root holds: its word, while no move entry is open
+pub root_table : (words : List ℕ) (root : ℕ) → HasNoMove (tables_of words).entry → root < (layout_of (version_in words)).roots → (tables_of words).root root ≡ word_at words (root_word root)
+root_table words root none below = ap (λ (f : ℕ → ℕ). f root) (roots_plain words none) ∙ word_table words root below
+
+-- what has no word holds nothing
+held_of-none : (entry : Option WalEntry) (word : ℕ → ℕ) (root : ℕ) → word root ≡ 0 → held_of entry word root ≡ 0
+held_of-none None word root none = none
+held_of-none (Some (Place named at old place)) word root none = none
+held_of-none (Some (Move from to)) word root none = if_none (eqb root from && ltb 0 (word to)) none
+  where
+    if_none : (test : Bool) {n : ℕ} → n ≡ 0 → cond test 0 n ≡ 0
+    if_none true none = refl
+    if_none false none = none
+
+pub root_table-none : (words : List ℕ) (root : ℕ) → (tables_of words).word root ≡ 0 → (tables_of words).root root ≡ 0
+unfolding tables_of
+root_table-none words root none = held_of-none (entry_in words) (root_in words) root none
+
+pub root_table-past : (words : List ℕ) (root : ℕ) → (layout_of (version_in words)).roots ≤ root → (tables_of words).root root ≡ 0
+root_table-past words root past = root_table-none words root (word_table-past words root past)
 
 -- large extents and slabs
 pub large_table : (words : List ℕ) (start : ℕ) → (tables_of words).large start ≡ large_of (extent_at words start)

@@ -6,28 +6,24 @@ use Rattle.pmem_lines.specs.Words.{word_at}
 use Rattle.pool_layout.specs.Layout.{layout_of}
 use Rattle.pool_layout.specs.Places.{root_word, wal_word, granule_word, line_place, index_place}
 use Rattle.pool_layout.specs.Header.{version_in}
+use Rattle.image_tables.specs.declared.entry.WalEntry.{WalEntry}
+use Rattle.image_tables.specs.declared.entry.WalEntry.TheVariants.{Place, Move}
 use Rattle.image_tables.specs.declared.extent.Extent.{Extent}
 use Rattle.image_tables.specs.declared.extent.Extent.TheVariants.{Large, Slab}
 use Rattle.image_tables.specs.Extents.{extent_at}
 
--- an open write-ahead entry: the root and the address of its block, whether that is an old block of its slab, and then
--- its place in the index table
-pub record OpenEntry : Type 0 where
-  pub root : ℕ
-  pub at : ℕ
-  pub old : Bool
-  pub place : ℕ
-
 pub record Tables : Type 0 where
   -- the root words
+  pub word : ℕ → ℕ
+  -- what each root holds: its word, or 0 where it is not held
   pub root : ℕ → ℕ
   -- the open write-ahead entry
-  pub entry : Option OpenEntry
+  pub entry : Option WalEntry
   -- how many granules the live large extent has that starts at a granule, 0 where none starts
   pub large : ℕ → ℕ
   -- a live slab starts at the granule
   pub slab : ℕ → Bool
-  -- the state word of the slab that starts at a granule: 1 Normal, 2 Morphing, 3 Morphed
+  -- the kind of the state of the slab that starts at a granule
   pub kind : ℕ → ℕ
   -- its class, its old class and the number of its index entries
   pub class : ℕ → ℕ
@@ -61,18 +57,37 @@ pub record AreSlabsInHeap (words : List ℕ) : Type 0 where
 
 -- the open entry
 
--- the entry of a word that is not 0
-unfoldable pub entry_of_word : ℕ → OpenEntry
-entry_of_word word = record { root = word / 2 ^ 16 % 2 ^ 16; at = word / 2 ^ 32; old = word / 2 % 2 == 1; place = word / 2 ^ 8 % 2 ^ 8 }
+-- the entry of a word that is not 0: bit 2 tells a move entry from a place entry
+unfoldable pub entry_of_word : ℕ → WalEntry
+entry_of_word word =
+    if word / 2 ^ 2 % 2 == 1 then Move (word / 2 ^ 16 % 2 ^ 16) (word / 2 ^ 32 % 2 ^ 16)
+    else Place (word / 2 ^ 16 % 2 ^ 16) (word / 2 ^ 32) (word / 2 % 2 == 1) (word / 2 ^ 8 % 2 ^ 8)
 
 -- how many write-ahead lines there are
 unfoldable pub wal_lines : ℕ
 wal_lines = 8
 
 -- the entry among the first n write-ahead lines, of which one at most has one
-abbrev pub entry_among : (ℕ → ℕ) → ℕ → Option OpenEntry
+abbrev pub entry_among : (ℕ → ℕ) → ℕ → Option WalEntry
 entry_among row zero = None
 entry_among row (suc n) = if row n == 0 then entry_among row n else Some (entry_of_word (row n))
+
+-- the open entry of an arena of these words
+abbrev pub entry_in : List ℕ → Option WalEntry
+entry_in words = entry_among (λ line. word_at words (wal_word line)) wal_lines
+
+-- roots
+
+-- What each root holds, by the open entry and the root words. A root is held where its word is not 0, but for the one
+-- that an open move entry moves from, once the other has a word. So a block that moves is held by one root at a time.
+abbrev pub held_of : Option WalEntry → (ℕ → ℕ) → ℕ → ℕ
+held_of None word root = word root
+held_of (Some (Place named at old place)) word root = word root
+held_of (Some (Move from to)) word root = if (root == from) && nat_lt 0 (word to) then 0 else word root
+
+-- the word of each root of an arena of these words
+abbrev pub root_in : List ℕ → ℕ → ℕ
+root_in words root = if nat_lt root (layout_of (version_in words)).roots then word_at words (root_word root) else 0
 
 -- slabs
 
@@ -116,8 +131,9 @@ state_field words start bits = where_slab (is_slab words start) (word_at words (
 -- what the words of an arena say
 unfoldable pub tables_of : List ℕ → Tables
 tables_of words = record {
-  root = λ r. if nat_lt r (layout_of (version_in words)).roots then word_at words (root_word r) else 0;
-  entry = entry_among (λ line. word_at words (wal_word line)) wal_lines;
+  word = root_in words;
+  root = held_of (entry_in words) (root_in words);
+  entry = entry_in words;
   large = λ start. large_of (extent_at words start);
   slab = is_slab words;
   kind = λ start. state_field words start 0;

@@ -1,6 +1,8 @@
 -- Tables with one thing changed.
-use Rattle.std.specs.Prelude.{◌==◌, ℕ, Bool, Option, if◌then◌else◌}
-use Rattle.image_tables.specs.Tables.{OpenEntry, Tables}
+use Rattle.std.specs.Prelude.{◌==◌, ℕ, Bool, Option, Some, None, if◌then◌else◌}
+use Rattle.image_tables.specs.declared.entry.WalEntry.{WalEntry}
+use Rattle.image_tables.specs.declared.entry.WalEntry.TheVariants.{Place, Move}
+use Rattle.image_tables.specs.Tables.{held_of, Tables}
 
 -- a table with one entry changed
 abbrev pub put_at : {X : Type 0} → (ℕ → X) → ℕ → X → ℕ → X
@@ -18,6 +20,20 @@ put_bit t start i on = record t { bit = put_in t.bit start i on }
 abbrev pub put_index : Tables → ℕ → ℕ → Bool → ℕ → Tables
 put_index t start place live number = record t { live = put_in t.live start place live; number = put_in t.number start place number }
 
+-- the open entry is another, or none
+abbrev pub with_entry : Tables → Option WalEntry → Tables
+with_entry t other = record t { entry = other; root = held_of other t.word }
+
+-- no move entry is open
+abbrev pub HasNoMove : Option WalEntry → Type 0
+HasNoMove None = Unit {0}
+HasNoMove (Some (Place root at old place)) = Unit {0}
+HasNoMove (Some (Move from to)) = ⊥
+
+-- the word of a root is changed, while no move entry is open
+abbrev pub with_root : Tables → ℕ → ℕ → Tables
+with_root t root word = record t { word = put_at t.word root word; root = put_at t.root root word }
+
 -- the bit of block i of the slab at a granule, the word of a root, and the open entry are changed
-abbrev pub with_small : Tables → ℕ → ℕ → Bool → ℕ → ℕ → Option OpenEntry → Tables
-with_small t start i on root word entry = record (put_bit t start i on) { root = put_at t.root root word; entry = entry }
+abbrev pub with_small : Tables → ℕ → ℕ → Bool → ℕ → ℕ → Option WalEntry → Tables
+with_small t start i on root word entry = record (with_root (put_bit t start i on) root word) { entry = entry }

@@ -9,7 +9,7 @@ use Rattle.pool_layout.specs.Places.{text_word, fields_word, directory_word, ent
 use Rattle.pool_layout.specs.Header.{version_field, granules_field, version_in, granules_in, fields_of, header_text, header_word, IsHeader}
 use Rattle.image_tables.specs.Extents.{extent_at}
 use Rattle.image_tables.specs.declared.extent.Extent.TheVariants as extent
-use Rattle.image_tables.specs.Tables.{Tables, wal_lines, large_of, is_slab_of, is_slab, state_word, bitmap_word, state_field, bit_at, bit_of_word, slab_bit, tables_of}
+use Rattle.image_tables.specs.Tables.{Tables, held_of, root_in, entry_in, wal_lines, large_of, is_slab_of, is_slab, state_word, bitmap_word, state_field, bit_at, bit_of_word, slab_bit, tables_of}
 use Rattle.image_tables.proofs.Chunks.{few_chunks}
 use Rattle.image_tables.proofs.Extents.{extent_at-same}
 use Rattle.image_tables.proofs.Logs.{SameLog}
@@ -220,11 +220,18 @@ module _ (words new : List ℕ) (one : IsOneSlab words new) where
   unfolding layout_of
   low_root root below = omega (arith, below)
 
+  words_same : root_in new ≡ root_in words
+  words_same k r = roots-same words new version (λ root below. one.low (root_word root) (low_root root below)) r k
+
+  entry_same : entry_in new ≡ entry_in words
+  entry_same = entry_among-same (λ line. word_at words (wal_word line)) (λ line. word_at new (wal_word line)) wal_lines (λ line below. one.low (wal_word line) (omega (arith, wal_word-low line below)))
+
   with_slab : IsWithSlab (tables_of words) (tables_of new) 4 6
   unfolding tables_of
   with_slab = record {
-    root = λ k r. roots-same words new version (λ root below. one.low (root_word root) (low_root root below)) r k;
-    entry = entry_among-same (λ line. word_at words (wal_word line)) (λ line. word_at new (wal_word line)) wal_lines (λ line below. one.low (wal_word line) (omega (arith, wal_word-low line below)));
+    word = words_same;
+    root = λ k. held_of (entry_same k) (words_same k);
+    entry = entry_same;
     large = λ k start. (no_large start ∙ sym (blank.no_large start)) k;
     none = blank.no_slab 4;
     slab = slab_here;

@@ -3,36 +3,42 @@ use attach_wal::{WalEntry, close_entry, entry_of, entry_word, write_entry};
 use pmem_lines::{Pmem, SimPmem};
 use std::test::Fail;
 
-const ATTACHED: WalEntry = WalEntry {
+const ATTACHED: WalEntry = WalEntry::Place {
     root: 5,
     at: 67584,
     old: false,
     place: 0,
 };
 
-const OLD: WalEntry = WalEntry {
+const OLD: WalEntry = WalEntry::Place {
     root: 65535,
     at: 67584,
     old: true,
     place: 63,
 };
 
+const MOVED: WalEntry = WalEntry::Move { from: 5, to: 9 };
+
 #[test]
 fn words_of_entries(rt: HostRuntime) {
     let rows = [
         (0x0001_0800_0005_0001, Some(ATTACHED)),
         (0x0001_0800_ffff_3f03, Some(OLD)),
+        (0x0000_0009_0005_0005, Some(MOVED)),
         (0, None),
         (0x0001_0800_0005_0000, None),
         (0x0001_0800_0005_0005, None),
         (0x0001_0800_0005_0101, None),
         (0x0001_0800_0005_4003, None),
+        (0x0000_0009_0005_0007, None),
+        (0x0000_0009_0005_0105, None),
     ];
     for (word, entry) in rows {
         assert_eq!(rt; entry_of(word), entry, "at {word}");
     }
     assert_eq!(rt; entry_word(ATTACHED), 0x0001_0800_0005_0001);
     assert_eq!(rt; entry_word(OLD), 0x0001_0800_ffff_3f03);
+    assert_eq!(rt; entry_word(MOVED), 38_655_033_349);
 }
 
 #[test]

@@ -1,5 +1,7 @@
 -- The words of index entries.
-use Rattle.std.proofs.Common.{◌≡◌, ◌+◌, ◌*◌, ◌/◌, ◌%◌, ◌^◌, ◌<◌, ◌≤◌, ℕ, Bool, true, false, eqb, cond, sym, ap, ◌∙◌, arith}
+use Rattle.std.proofs.Common.{◌≡◌, ◌+◌, ◌*◌, ◌/◌, ◌%◌, ◌^◌, ◌<◌, ◌≤◌, ◌≢◌, ℕ, Bool, true, false, true≢false, eqb, cond, refl, sym, ap, ◌∙◌, ⊎_elim, arith}
+use Rattle.std.proofs.lemmas.Bool.{cases_Bool, eq-eqb, eqb-true}
+use Rattle.image_tables.specs.Forms.{IsIndexWord}
 use Rattle.image_tables.specs.Tables.{bit_of_word}
 use Rattle.slab_header.specs.declared.index.IndexEntry.{IndexEntry}
 use Rattle.slab_header.specs.Index.{word_of_index, read_index, IsNoIndexWord, SaysOfIndex}
@@ -38,13 +40,23 @@ pub says_of_word : (word : ℕ) (entry : IndexEntry) → word ≡ word_of_index 
 says_of_word word entry is fits =
     let inverse = ap read_index is ∙ read_index-word entry fits in
     record {
+      form = record { flag = omega (arith, is, flag_alone entry.live entry.number); number = omega (arith, is, word_small entry.live entry.number fits) };
       live = ap (λ (e : IndexEntry). e.live) inverse;
       number = ap (λ (e : IndexEntry). e.number) inverse;
-      flag = omega (arith, is, flag_alone entry.live entry.number);
-      small = omega (arith, is, word_small entry.live entry.number fits);
     }
 
--- a word that is not that of what its fields say is that of no entry
+-- a word of the form is that of what its fields say
+pub word_of_read : (word : ℕ) → IsIndexWord word → word_of_index (read_index word) ≡ word
+word_of_read word form = ap (λ b. cond b 1 0 + 2 ^ 16 * (word / 2 ^ 16 % 2 ^ 16)) (bit_of_word-lowest word) ∙ whole word form
+  where
+    whole : (word : ℕ) → IsIndexWord word → cond (eqb (word % 2) 1) 1 0 + 2 ^ 16 * (word / 2 ^ 16 % 2 ^ 16) ≡ word
+    whole word form = ⊎_elim
+        (λ (set : eqb (word % 2) 1 ≡ true). ap (λ b. cond b 1 0 + 2 ^ 16 * (word / 2 ^ 16 % 2 ^ 16)) set ∙ omega (arith, form.flag, form.number, eqb-true (word % 2) 1 set))
+        (λ (clear : eqb (word % 2) 1 ≡ false).
+        let even : word % 2 ≢ 1 = λ e. true≢false (sym (eq-eqb (word % 2) 1 e) ∙ clear) in
+        ap (λ b. cond b 1 0 + 2 ^ 16 * (word / 2 ^ 16 % 2 ^ 16)) clear ∙ omega (arith, form.flag, form.number, even))
+        (cases_Bool (eqb (word % 2) 1))
+
+-- so one that is not has not the form
 pub none_read : (word : ℕ) (read : IndexEntry) (back : ℕ) → read ≡ read_index word → back ≡ word_of_index read → ¬ (back ≡ word) → IsNoIndexWord word
-none_read word read back is again differ entry of_entry =
-    differ (again ∙ ap word_of_index (is ∙ ap read_index of_entry.word ∙ read_index-word entry of_entry.fits) ∙ sym of_entry.word)
+none_read word read back is again differ form = differ (again ∙ ap word_of_index is ∙ word_of_read word form)

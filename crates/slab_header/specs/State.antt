@@ -1,13 +1,14 @@
--- The state word of a slab, and what it says.
-use Rattle.std.specs.Prelude.{◌≡◌, ◌≢◌, ◌==◌, ℕ, ◌+◌, ◌*◌, ◌/◌, ◌%◌, ◌^◌, ◌<◌, ◌≤◌, Option, Some, None, if◌then◌else◌}
+-- The state word of a slab, and what it says. Its form is stated with the tables of an image.
+use Rattle.std.specs.Prelude.{◌≡◌, ◌==◌, ℕ, ◌+◌, ◌*◌, ◌/◌, ◌%◌, ◌^◌, Option, Some, None, if◌then◌else◌}
+use Rattle.image_tables.specs.Forms.{normal_kind, morphing_kind, morphed_kind, IsState, IsStateWord}
 use Rattle.slab_header.specs.declared.state.SlabState.{SlabState}
 use Rattle.slab_header.specs.declared.state.SlabState.TheVariants.{Normal, Morphing, Morphed}
 
 -- the number of the kind of state
 abbrev pub kind_of : SlabState → ℕ
-kind_of (Normal class) = 1
-kind_of (Morphing class old entries) = 2
-kind_of (Morphed class old entries) = 3
+kind_of (Normal class) = normal_kind
+kind_of (Morphing class old entries) = morphing_kind
+kind_of (Morphed class old entries) = morphed_kind
 
 -- the slab's class
 abbrev pub class_of : SlabState → ℕ
@@ -29,28 +30,22 @@ entries_of (Morphed class old entries) = entries
 
 -- the word of a state
 abbrev pub word_of_state : SlabState → ℕ
-word_of_state (Normal class) = 1 + 2 ^ 8 * class
-word_of_state (Morphing class old entries) = 2 + 2 ^ 8 * class + 2 ^ 16 * old + 2 ^ 24 * entries
-word_of_state (Morphed class old entries) = 3 + 2 ^ 8 * class + 2 ^ 16 * old + 2 ^ 24 * entries
-
--- a slab of this class may have had this one before, and have so many index entries
-abbrev pub IsValidChange : ℕ → ℕ → ℕ → Type 0
-IsValidChange class old entries = (class < 36) × (old < 36) × (old ≢ class) × (1 ≤ entries) × (entries ≤ 64)
+word_of_state (Normal class) = normal_kind + 2 ^ 8 * class
+word_of_state (Morphing class old entries) = morphing_kind + 2 ^ 8 * class + 2 ^ 16 * old + 2 ^ 24 * entries
+word_of_state (Morphed class old entries) = morphed_kind + 2 ^ 8 * class + 2 ^ 16 * old + 2 ^ 24 * entries
 
 -- the numbers of a state are in range, and its two classes differ
 abbrev pub IsValidState : SlabState → Type 0
-IsValidState (Normal class) = class < 36
-IsValidState (Morphing class old entries) = IsValidChange class old entries
-IsValidState (Morphed class old entries) = IsValidChange class old entries
+IsValidState state = IsState (kind_of state) (class_of state) (old_of state) (entries_of state)
 
 -- the word is that of a valid state
-pub record IsStateWord (value : ℕ) (state : SlabState) : Type 0 where
+pub record IsWordOfState (value : ℕ) (state : SlabState) : Type 0 where
   pub word : value ≡ word_of_state state
   pub valid : IsValidState state
 
--- the word is that of no valid state
+-- the word has not the form of a state word
 abbrev pub IsNoStateWord : ℕ → Type 0
-IsNoStateWord value = (state : SlabState) → ¬ (IsStateWord value state)
+IsNoStateWord value = ¬ (IsStateWord value)
 
 -- what the fields of a word say, whatever the rest of the word is
 abbrev pub read_state : ℕ → Option SlabState
@@ -59,10 +54,10 @@ read_state word =
     else (if word % 2 ^ 8 == 2 then Some (Morphing (word / 2 ^ 8 % 2 ^ 8) (word / 2 ^ 16 % 2 ^ 8) (word / 2 ^ 24 % 2 ^ 8))
     else (if word % 2 ^ 8 == 3 then Some (Morphed (word / 2 ^ 8 % 2 ^ 8) (word / 2 ^ 16 % 2 ^ 8) (word / 2 ^ 24 % 2 ^ 8)) else None))
 
--- the fields of the word, as the tables of an image read them, say what the state is, and the word has nothing else
+-- the word has the form of a state word, and its fields, as the tables of an image read them, say what the state is
 pub record SaysOfState (word : ℕ) (state : SlabState) : Type 0 where
+  pub form : IsStateWord word
   pub kind : word / 2 ^ 0 % 2 ^ 8 ≡ kind_of state
   pub class : word / 2 ^ 8 % 2 ^ 8 ≡ class_of state
   pub old : word / 2 ^ 16 % 2 ^ 8 ≡ old_of state
   pub entries : word / 2 ^ 24 % 2 ^ 8 ≡ entries_of state
-  pub small : word < 2 ^ 32

@@ -1,7 +1,7 @@
 // The words of a slab's index table.
 
 ghost use Rattle.std.specs.Prelude.{◌≡◌, ◌<◌, ◌^◌, IfSome, MatchOption};
-ghost use Rattle.slab_header.specs.Index.{word_of_index, read_index, IsIndexWordOf, IsNoIndexWord, SaysOfIndex};
+ghost use Rattle.slab_header.specs.Index.{word_of_index, read_index, IsWordOfIndex, IsNoIndexWord, SaysOfIndex};
 
 /// An entry of the index table: a block of the class that the slab had before, by its number, and whether it lives.
 #[derive(Clone, Copy, Debug, PartialEq, Eq)]
@@ -15,7 +15,7 @@ pub struct IndexEntry {
 /// The index entry of a word. There is none exactly where a bit is set that has no meaning: one of bits 1 to 15, or of
 /// bits 32 to 63.
 pub fn index_of(word: u64) -> Option<IndexEntry>
-    ensures entry { MatchOption result (IsNoIndexWord word) (IsIndexWordOf word) }
+    ensures entry { MatchOption result (IsNoIndexWord word) (IsWordOfIndex word) }
     ensures says { IfSome result (SaysOfIndex word) }
 {
     let entry = read_index(word);

@@ -1,7 +1,7 @@
 // The state word of a slab.
 
 ghost use Rattle.std.specs.Prelude.{◌≡◌, ◌↔◌, IsTrue, Some, IfSome, MatchOption};
-ghost use Rattle.slab_header.specs.State.{word_of_state, read_state, IsValidState, IsStateWord, IsNoStateWord, SaysOfState};
+ghost use Rattle.slab_header.specs.State.{word_of_state, read_state, IsValidState, IsWordOfState, IsNoStateWord, SaysOfState};
 
 // How many classes there are.
 const CLASSES: u8 = 36;
@@ -24,7 +24,7 @@ pub enum SlabState {
 /// is out of range, both classes are one, a normal slab has an old class or entries, or a bit without a meaning is set.
 /// So 0 has none.
 pub fn state_of(word: u64) -> Option<SlabState>
-    ensures state { MatchOption result (IsNoStateWord word) (IsStateWord word) }
+    ensures state { MatchOption result (IsNoStateWord word) (IsWordOfState word) }
     ensures says { IfSome result (SaysOfState word) }
 {
     let state = read_state(word)?;

@@ -76,7 +76,7 @@ module _ (words : List ℕ) (start class : ℕ) (may : IsDroppable words start c
   drop_high = omega (arith, bounds_here.1)
 
   below : class < 36
-  below = omega (arith, may.class_is, (but.sound.slabs start may.slab).class)
+  below = omega (arith, may.class_is, (but.sound.slabs start may.slab).state.is_class)
 
   off_header : (root : ℕ) (range : Range) (k : ℕ) → heap t root ≡ Some range → IsWordOf range k → (k < granule_word start) ⊎ (granule_word start + 256 ≤ k)
   off_header root range k named word = block_word-header but.sound but.closed root range named k word start may.slab
@@ -106,7 +106,7 @@ module _ (words : List ℕ) (start class : ℕ) (may : IsDroppable words start c
       })
       (subst (IsSteady (bounds_of words)) (sym tables) (IsSteady-but but))
       (λ root. ap (λ (x : Tables). heap x root) tables)
-      (keeps_blocks words start new image drop_formed but.sound but.closed off_header (rest_of image rest))
+      (keeps_blocks words start image drop_formed but.sound but.closed off_header (rest_of image rest))
 
   -- the slab is gone
 
@@ -128,7 +128,7 @@ module _ (words : List ℕ) (start class : ℕ) (may : IsDroppable words start c
 
     without_it : IsWithSlab (tables_of image) t start class
     without_it =
-        let none = (but.sound.slabs start may.slab).none may.normal in
+        let none = (but.sound.slabs start may.slab).state.none may.normal in
         IsWithSlab-logged image words start class
         (record {
           off_log = IsSameOffLog-back words image off_words;
@@ -164,7 +164,7 @@ module _ (words : List ℕ) (start class : ℕ) (may : IsDroppable words start c
 
     drop_either : (new : List ℕ) → IsEitherHeap words new image
     drop_either new = either words start new image drop_near (law_of_steady (bounds_of words) (tables_of image) drop_exact) (λ root. sym (heap-slab drop_place root))
-        (keeps_blocks words start new image drop_formed but.sound but.closed off_header drop_near.rest)
+        (keeps_blocks words start image drop_formed but.sound but.closed off_header drop_near.rest)
 
   pub drop_crash : (new : List ℕ) → CrashOnly words (drop_events words start) (IsLoggedOrNot words (Tomb start)) → CrashOnly words (drop_events words start) (IsEitherHeap words new)
   drop_crash new logging =

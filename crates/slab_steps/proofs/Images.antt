@@ -29,17 +29,17 @@ pub few_entries : (words : List ℕ) → IsSound (bounds_of words) (tables_of wo
 few_entries words sound other is = omega (arith, entries_few (sound.slabs other (slab_table words other ∙ is)), entries_table words other)
 
 -- the words of blocks are kept, which lie in no header at the start
-pub keeps_blocks : (words : List ℕ) (start : ℕ) (new image : List ℕ) → IsFormed words → IsSound (bounds_of words) (tables_of words) → (tables_of words).entry ≡ None →
-    ((root : ℕ) (range : Range) (k : ℕ) → heap (tables_of words) root ≡ Some range → IsWordOf range k → (k < granule_word start) ⊎ (granule_word start + 256 ≤ k)) → KeepsOthers words start image → KeepsBlocks words new image
-keeps_blocks words start new image formed sound closed off rest = record {
-  each = λ root range k was is word.
+pub keeps_blocks : (words : List ℕ) (start : ℕ) (image : List ℕ) → IsFormed words → IsSound (bounds_of words) (tables_of words) → (tables_of words).entry ≡ None →
+    ((root : ℕ) (range : Range) (k : ℕ) → heap (tables_of words) root ≡ Some range → IsWordOf range k → (k < granule_word start) ⊎ (granule_word start + 256 ≤ k)) → KeepsOthers words start image → KeepsBlocks words image
+keeps_blocks words start image formed sound closed off rest = record {
+  each = λ root other range k was is word.
       let sizes = sizes_of words formed in
       let high = block_word-heap sound closed root range was k word in
       rest.others k (λ e. omega (arith, e, high, sizes.first)) (inr (omega (arith, high))) (off root range k was word);
 }
 
 -- an image that has the heap of the words, and is steady, is one that a crash may leave
-pub either : (words : List ℕ) (start : ℕ) (new image : List ℕ) → IsNear words start image → IsSteady (bounds_of words) (tables_of image) → ((root : ℕ) → heap (tables_of image) root ≡ heap (tables_of words) root) → KeepsBlocks words new image →
+pub either : (words : List ℕ) (start : ℕ) (new image : List ℕ) → IsNear words start image → IsSteady (bounds_of words) (tables_of image) → ((root : ℕ) → heap (tables_of image) root ≡ heap (tables_of words) root) → KeepsBlocks words image →
     IsEitherHeap words new image
 either words start new image near steady same keeps = record {
   steady = record { formed = near.formed; steady = subst (λ (b : Bounds). IsSteady b (tables_of image)) (sym near.bounds) steady };

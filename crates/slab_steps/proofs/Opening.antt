@@ -115,7 +115,7 @@ module _ (words : List ℕ) (start class : ℕ) (may : IsOpenable words start) (
   same_either new image same = either words start new image same.near
       (subst (IsSteady (bounds_of words)) (sym same.tables) (law_of_steady (bounds_of words) t exact))
       (λ root. ap (λ (x : Tables). heap x root) same.tables)
-      (keeps_blocks words start new image formed exact.sound exact.closed off_header same.near.rest)
+      (keeps_blocks words start image formed exact.sound exact.closed off_header same.near.rest)
 
   -- once it is made
 
@@ -207,7 +207,7 @@ module _ (words : List ℕ) (start class : ℕ) (may : IsOpenable words start) (
 
       header_here : HasSlabHeader image start
       header_here = record {
-        state = omega (arith, state_here, is_made.says.small);
+        state = omega (arith, state_here, is_made.says.form.small);
         index = λ place among. absurd (omega (arith, among, field_here 24 0 is_made.says.entries));
       }
 
@@ -235,7 +235,7 @@ module _ (words : List ℕ) (start class : ℕ) (may : IsOpenable words start) (
 
       open_either : (new : List ℕ) → IsEitherHeap words new image
       open_either new = either words start new image open_near (IsSteady-but open_but) (heap-slab open_place)
-          (keeps_blocks words start new image formed exact.sound exact.closed off_header open_near.rest)
+          (keeps_blocks words start image formed exact.sound exact.closed off_header open_near.rest)
 
     logged_either : (new image : List ℕ) → IsLoggedOrNot made (Slab start) image → IsEitherHeap words new image
     logged_either new image either = ⊎_elim

@@ -9,14 +9,14 @@ add-requires-clause-class g c =
     let words = words_of (g.P.Pmem.state c.args.device.now) in
     let is = class_read words c.granule_at-at.result c.args.start c.class_at-class.result (omega (arith, c.granule_at-at.ensures)) c.requires.slab c.class_at-class.ensures in
     let slab = c.requires.exact.exact.sound.slabs c.args.start c.requires.slab in
-    omega (arith, slab.class, is)
+    omega (arith, slab.state.is_class, is)
 
 pub capacity-i-end-requires : goal.capacity-i-end-requires
 capacity-i-end-requires g c =
     let words = words_of (g.P.Pmem.state c.args.device.now) in
     let is = class_read words c.granule_at-at.result c.args.start c.class_at-class.result (omega (arith, c.granule_at-at.ensures)) c.requires.slab c.class_at-class.ensures in
     let slab = c.requires.exact.exact.sound.slabs c.args.start c.requires.slab in
-    omega (arith, slab.class, is)
+    omega (arith, slab.state.is_class, is)
 
 pub loop-i-init : goal.loop-i-init
 loop-i-init g c =

@@ -42,7 +42,7 @@ returns-then-is_whole g c =
       bounds = dropped.bounds;
       heap = dropped.heap;
       slab = λ other. classes_dropped words start class image new dropped other ∙ sym (ap (λ gone. slabs_but (slabs (tables_of words)) start gone other) none);
-      keeps = keeps_dropped words start class image new dropped new;
+      keeps = keeps_dropped words start class image new dropped;
       crash = subst (λ (es : List Event). CrashOnly words es (IsEitherHeap words new)) (sym events) drop.crash;
     }
 

@@ -10,7 +10,7 @@ use Rattle.slab_steps.specs.Steps.{open_events}
 use Rattle.attach_steps.specs.declared.block.SmallBlock.{SmallBlock}
 use Rattle.attach_steps.specs.Steps.{attach_events}
 use Rattle.arena_core.specs.Events.{first_block, fresh_events}
-use Rattle.arena_core.proofs.Smalls.{classes_small, index_small, book_small, keeps_small, keeps_then, crash_then}
+use Rattle.arena_core.proofs.Smalls.{classes_small, index_small, book_small, keeps_small, keeps_both, crash_then}
 use Rattle.arena_core.proofs.Slabbed.{classes_opened, keeps_opened, first_attachable}
 use Rattle.arena_core.proofs.carrying.give_fresh.Goals as goal
 
@@ -43,7 +43,7 @@ returns g c =
     let may = first_attachable words start class exact c.requires.row c.requires.class mid opened root c.blocks_at.result asked.below asked.none at_is in
     let events : (open_events words start class ++ attach_events mid c.args.line root first) ≡ fresh_events words c.args.line root start class =
     λ i. open_events words start class ++ attach_events (add.appends.words i) c.args.line root (first_is i) in
-    let kept_words = keeps_opened words start class exact c.requires.row c.requires.class mid opened mid in
+    let kept_words = keeps_opened words start class exact c.requires.row c.requires.class mid opened in
     record {
       appends = subst (λ (es : List Event). Appends (state c.args.device.now) (state c.give_small.new.device) es) events (then_step add.appends give.appends);
       kept = record {
@@ -58,7 +58,7 @@ returns g c =
         here = attached.gives.here ∙ ap (λ k. Some (slab_block start k 0)) opened.slab.class_is;
         others = λ other differ. attached.gives.others other differ ∙ opened.heap.each other;
         slabs = λ s. classes_small mid root start 0 true c.blocks_at.result new attached.bounds attached.tables s ∙ classes_opened words start class exact c.requires.row c.requires.class mid opened s;
-        keeps = keeps_then words mid new (inl opened.heap) new kept_words (keeps_small mid c.args.line root first may.block_in arena.few new attached.rest new);
+        keeps = keeps_both words mid new (inl opened.heap) kept_words (keeps_small mid c.args.line root first may.block_in arena.few new attached.rest);
         bounds = attached.bounds ∙ opened.bounds;
       };
       crash = subst (λ (es : List Event). CrashOnly words es (IsEitherHeap words new)) events

@@ -10,7 +10,7 @@ use Rattle.attach_steps.specs.Steps.{detach_events}
 use Rattle.arena_core.specs.Effect.{slabs_but, IsLastOf}
 use Rattle.arena_core.proofs.Last.{last_of}
 use Rattle.arena_core.specs.Events.{holds_none, empty_events, unsmall_events}
-use Rattle.arena_core.proofs.Smalls.{classes_small, index_small, book_small, keeps_small, named_in, keeps_then, crash_then}
+use Rattle.arena_core.proofs.Smalls.{classes_small, index_small, book_small, keeps_small, named_in, keeps_both, crash_then}
 use Rattle.arena_core.proofs.carrying.take_small.Goals as goal
 
 pub drop_if_empty-requires-clause-book : goal.drop_if_empty-requires-clause-book
@@ -46,7 +46,7 @@ returns-clause-done g c =
     let mid_is : mid ≡ reading words (detach_events words c.args.line root block) = take.appends.words in
     let events : (detach_events words c.args.line root block ++ empty_events mid start) ≡ unsmall_events words c.args.line root block =
     λ i. detach_events words c.args.line root block ++ empty_events (mid_is i) start in
-    let kept_words = keeps_small words c.args.line root block block_in arena.few mid detached.rest mid in
+    let kept_words = keeps_small words c.args.line root block block_in arena.few mid detached.rest in
     record {
       appends = subst (λ (es : List Event). Appends (state c.args.device.now) (state c.drop_if_empty.new.device) es) events (then_step take.appends tidied.appends);
       kept = tidied.kept;
@@ -57,7 +57,7 @@ returns-clause-done g c =
         others = λ other differ. tidied.heap.each other ∙ detached.gives.others other differ;
         slabs = λ s. tidied.slab s
             ∙ (λ i. slabs_but (λ o. classes_small words root start block.number false 0 mid detached.bounds detached.tables o i) start (holds_none (tables_of (mid_is i)) start) s);
-        keeps = keeps_then words mid new (inr tidied.heap) new kept_words tidied.keeps;
+        keeps = keeps_both words mid new (inr tidied.heap) kept_words tidied.keeps;
         bounds = tidied.bounds ∙ detached.bounds;
       };
       crash = subst (λ (es : List Event). CrashOnly words es (IsEitherHeap words new)) events

@@ -5,6 +5,7 @@ use Rattle.pool_layout.specs.Places.{root_word}
 use Rattle.image_tables.specs.Tables.{tables_of}
 use Rattle.heap_check.proofs.Sizes.{sizes_of, root_inside}
 use Rattle.image_tables.proofs.Tables.{root_table}
+use Rattle.image_tables.proofs.Stores.{HasNoMove-closed}
 use Rattle.arena_core.proofs.Plans.{word-small}
 use Rattle.arena_core.proofs.plan.root_word.Goals as goal
 
@@ -25,11 +26,11 @@ pub returns : goal.returns
 returns g c =
     let words = words_of (g.P.Pmem.state c.args.device.now) in
     let here : c.root_at.result / 8 ≡ root_word c.args.root = omega (arith, c.root_at.ensures) in
-    c.load.ensures ∙ ap (word_at words) here ∙ sym (root_table words c.args.root c.requires.root)
+    c.load.ensures ∙ ap (word_at words) here ∙ sym (root_table words c.args.root (HasNoMove-closed c.requires.exact.exact.closed) c.requires.root)
 
 pub overflow_cast-result : goal.overflow_cast-result
 overflow_cast-result g c =
     let words = words_of (g.P.Pmem.state c.args.device.now) in
     let here : c.root_at.result / 8 ≡ root_word c.args.root = omega (arith, c.root_at.ensures) in
-    let is : c.load.result ≡ (tables_of words).root c.args.root = c.load.ensures ∙ ap (word_at words) here ∙ sym (root_table words c.args.root c.requires.root) in
+    let is : c.load.result ≡ (tables_of words).root c.args.root = c.load.ensures ∙ ap (word_at words) here ∙ sym (root_table words c.args.root (HasNoMove-closed c.requires.exact.exact.closed) c.requires.root) in
     omega (arith, is, word-small c.requires.exact c.args.root)

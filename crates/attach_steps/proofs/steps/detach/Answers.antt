@@ -5,7 +5,7 @@ use Rattle.pmem_lines.specs.Pmem.{words_of, Appends}
 use Rattle.pmem_lines.proofs.States.{then_step}
 use Rattle.durable_steps.specs.Steps.{word_events, pair_events}
 use Rattle.pool_layout.specs.Places.{root_word, wal_word}
-use Rattle.attach_wal.specs.declared.entry.WalEntry.{WalEntry}
+use Rattle.image_tables.specs.declared.entry.WalEntry.{WalEntry}
 use Rattle.attach_wal.specs.Entry.{entry_word, FitsWord}
 use Rattle.attach_wal.specs.Wal.{Opens, OpensOrNot}
 use Rattle.attach_steps.specs.Steps.{entry_for, bit_word}
@@ -19,7 +19,7 @@ pub write_entry-requires-clause-entry : goal.write_entry-requires-clause-entry
 write_entry-requires-clause-entry g c =
     let block_in = c.requires.detachable.block_in in
     let low = root_low (words_of (g.P.Pmem.state c.args.p.now)) c.args.line c.args.root c.args.block block_in c.requires.line in
-    subst FitsWord (sym c.entry_for.ensures) (record { root = omega (arith, low); place = omega arith; no_place = λ new. refl })
+    subst FitsWord (sym c.entry_for.ensures) (omega (arith, low), omega arith, λ new. refl)
 
 pub unmark-requires-clause-start : goal.unmark-requires-clause-start
 unmark-requires-clause-start g c = omega (arith, start_high (words_of (g.P.Pmem.state c.args.p.now)) c.args.line c.args.root c.args.block c.requires.detachable.block_in c.requires.line)

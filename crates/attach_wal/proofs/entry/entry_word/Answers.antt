@@ -1,8 +1,11 @@
-use Rattle.std.proofs.Common.{◌∙◌, ap, arith}
+use Rattle.std.proofs.Common.{◌≡◌, ℕ, ◌+◌, sym, subst, arith}
 use Rattle.std.proofs.lemmas.Grind.{common_steps}
-use Rattle.image_tables.specs.Tables.{entry_of_word}
-use Rattle.attach_wal.proofs.Words.{entry_of_word-back}
+use Rattle.attach_wal.specs.Entry.{entry_word, IsEntryWord}
+use Rattle.attach_wal.proofs.Words.{IsEntryWord-entry}
 use Rattle.attach_wal.proofs.entry.entry_word.Goals as goal
 
-pub returns-clause-inverse : goal.returns-clause-inverse
-returns-clause-inverse c = ap entry_of_word (grind (arith, common_steps)) ∙ entry_of_word-back c.args.entry c.requires
+pub returns-in-Place-clause-inverse : goal.returns-in-Place-clause-inverse
+returns-in-Place-clause-inverse c = subst (λ w. IsEntryWord w c.args.entry) (grind (arith, common_steps)) (IsEntryWord-entry c.args.entry c.requires)
+
+pub returns-in-Move-clause-inverse : goal.returns-in-Move-clause-inverse
+returns-in-Move-clause-inverse c = subst (λ w. IsEntryWord w c.args.entry) (grind (arith, common_steps)) (IsEntryWord-entry c.args.entry c.requires)
