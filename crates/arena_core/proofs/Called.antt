@@ -11,6 +11,7 @@ use Rattle.image_tables.specs.Tables.{Tables, tables_of}
 use Rattle.book_log.specs.Book.{Book}
 use Rattle.extent_index.specs.FreeSet.{FreeSet}
 use Rattle.slab_index.specs.SlabSet.{SlabSet}
+use Rattle.image_tables.proofs.Stores.{HasNoMove-closed}
 use Rattle.heap_model.specs.declared.call.Call.{Call}
 use Rattle.heap_model.specs.declared.call.Reply.{Reply}
 use Rattle.heap_model.specs.declared.call.Reply.TheVariants as replies
@@ -33,6 +34,7 @@ use Rattle.arena_core.proofs.Smalls.{classes_small, index_small, book_small, kee
 use Rattle.heap_check.specs.Image.{bounds_of, IsExactImage}
 use Rattle.heap_check.specs.State.{KeepsBlocks, IsEitherHeap}
 use Rattle.arena_core.specs.Arena.{ArenaState, HasNormalSlabs, IsSlabsOf, IsKept, IsArena}
+use Rattle.arena_core.specs.declared.volatile.Volatile.{Volatile}
 use Rattle.arena_core.specs.Call.{IsStepOf}
 use Rattle.arena_core.specs.Carried.{IsDone, IsCalled}
 use Rattle.arena_core.specs.Effect.{GivesRoot, KeepsSlabs}
@@ -45,23 +47,19 @@ use Rattle.arena_core.proofs.Arenas.{normal_kept, slabs_kept}
 use Rattle.arena_core.specs.Events.{is_small, class_for, start_at, in_slab, block_at, place_events, take_events, fresh_events, unsmall_events, placed_events, freed_events, call_events, turn_after}
 
 -- equal ends
-pub IsCalled-same : {old new device : PmemState} {turn new_turn left : ℕ} {book log : Book} {set free : FreeSet} {parts held : SlabSet} {root : ℕ} {call : Call} {reply answer : Reply} →
-    device ≡ new → left ≡ new_turn → log ≡ book → free ≡ set → held ≡ parts → answer ≡ reply → IsCalled old new turn new_turn book set parts root call reply → IsCalled old device turn left log free held root call answer
-IsCalled-same {old} {new} {device} {turn} {new_turn} {left} {book} {log} {set} {free} {parts} {held} {root} {call} {reply} {answer} d t l f s r called =
-    subst (λ (x : PmemState). IsCalled old x turn left log free held root call answer) (sym d)
-    (subst (λ x. IsCalled old new turn x log free held root call answer) (sym t)
-    (subst (λ (x : Book). IsCalled old new turn new_turn x free held root call answer) (sym l)
-    (subst (λ (x : FreeSet). IsCalled old new turn new_turn book x held root call answer) (sym f)
-    (subst (λ (x : SlabSet). IsCalled old new turn new_turn book set x root call answer) (sym s)
-    (subst (λ (x : Reply). IsCalled old new turn new_turn book set parts root call x) (sym r) called)))))
+pub IsCalled-same : {old new device : PmemState} {was next left : Volatile} {root : ℕ} {call : Call} {reply answer : Reply} → device ≡ new → left ≡ next → answer ≡ reply → IsCalled old new was next root call reply → IsCalled old device was left root call answer
+IsCalled-same {old} {new} {device} {was} {next} {left} {root} {call} {reply} {answer} d v r called =
+    subst (λ (x : PmemState). IsCalled old x was left root call answer) (sym d)
+    (subst (λ (x : Volatile). IsCalled old new was x root call answer) (sym v)
+    (subst (λ (x : Reply). IsCalled old new was next root call x) (sym r) called))
 
 -- a call that placed or freed a block, by its events
-pub IsCalled-done : {old new : PmemState} {turn new_turn : ℕ} {book : Book} {set : FreeSet} {parts : SlabSet} {root : ℕ} {block : Option Range} {slab : ℕ → Option ℕ} {events : List Event} (call : Call) (reply : Reply) →
-    IsDone old new book set parts root block slab events → events ≡ call_events (words_of old) turn root reply → new_turn ≡ turn_after turn reply → new_turn < 8 → IsStepOf (words_of old) (words_of new) call reply →
-    IsCalled old new turn new_turn book set parts root call reply
-IsCalled-done {old} {new} {turn} {new_turn} {book} {set} {parts} {root} {block} {slab} {events} call reply done same turn_is few step = record {
+pub IsCalled-done : {old new : PmemState} {was done_left left : Volatile} {root : ℕ} {block : Option Range} {slab : ℕ → Option ℕ} {events : List Event} (call : Call) (reply : Reply) →
+    IsDone old new done_left root block slab events → events ≡ call_events (words_of old) was.line root reply → left ≡ record done_left { line = left.line } → left.line ≡ turn_after was.line reply → left.line < 8 →
+    IsStepOf (words_of old) (words_of new) call reply → IsCalled old new was left root call reply
+IsCalled-done {old} {new} {was} {done_left} {left} {root} {block} {slab} {events} call reply done same left_is turn_is few step = record {
   appends = subst (λ (es : List Event). Appends old new es) same done.appends;
-  arena = record { kept = done.kept; normal = done.normal; slabs = done.slabs; few = few };
+  arena = subst (IsArena new) (sym left_is) (record { kept = record { ready = done.kept.ready; exact = done.kept.exact; log = done.kept.log; index = done.kept.index }; normal = done.normal; slabs = done.slabs; few = few });
   turn_is = turn_is;
   step = step;
   keeps = done.gives.keeps;
@@ -226,14 +224,14 @@ held_heap words image normal root (holding.Large start count) taken = heap-takab
 held_heap words image normal root (holding.Small block class) named = named_heap words image normal root block class named
 
 -- a large block was given or taken
-pub IsDone-large : {old new : PmemState} {book next : Book} {set free : FreeSet} {parts : SlabSet} {turn : ℕ} {root : ℕ} {block : Option Range} {events : List Event} → IsArena old turn book set parts →
-    Appends old new events → IsKept new next free → GivesRoot (words_of old) root block (slabs (tables_of (words_of old))) (words_of new) → KeepsSlabs (words_of old) (words_of new) →
-    CrashOnly (words_of old) events (IsEitherHeap (words_of old) (words_of new)) → IsDone old new next free parts root block (slabs (tables_of (words_of old))) events
-IsDone-large {old} {new} {book} {next} {set} {free} {parts} {turn} {root} {block} {events} arena appends kept gives keeps crash = record {
+pub IsDone-large : {old new : PmemState} {was left : Volatile} {root : ℕ} {block : Option Range} {events : List Event} → IsArena old was → left.slabs ≡ was.slabs →
+    Appends old new events → IsKept new left → GivesRoot (words_of old) root block (slabs (tables_of (words_of old))) (words_of new) → KeepsSlabs (words_of old) (words_of new) →
+    CrashOnly (words_of old) events (IsEitherHeap (words_of old) (words_of new)) → IsDone old new left root block (slabs (tables_of (words_of old))) events
+IsDone-large {old} {new} {was} {left} {root} {block} {events} arena same appends kept gives keeps crash = record {
   appends = appends;
   kept = kept;
   normal = normal_kept keeps arena.normal;
-  slabs = slabs_kept parts keeps (ap (λ (b : Bounds). b.granules) gives.bounds) arena.slabs;
+  slabs = subst (λ (set : SlabSet). IsSlabsOf set (words_of new)) (sym same) (slabs_kept was.slabs keeps (ap (λ (b : Bounds). b.granules) gives.bounds) arena.slabs);
   gives = gives;
   crash = crash;
 }
@@ -258,37 +256,37 @@ small_attachable words root size block class image normal asked placing =
     }
 
 -- it came
-pub IsDone-small : {old new : PmemState} {turn : ℕ} {book : Book} {set : FreeSet} {parts left : SlabSet} {root class : ℕ} (block : SmallBlock) → IsArena old turn book set parts → IsAttachable (words_of old) root block →
-    (tables_of (words_of old)).class block.start ≡ class → Appends old new (attach_events (words_of old) turn root block) → IsQuiet new.events → IsAttached (words_of old) turn root block (words_of new) →
-    HasNormalSlabs (words_of new) → IsSlabsOf left (words_of new) → CrashOnly (words_of old) (attach_events (words_of old) turn root block) (IsEitherHeap (words_of old) (words_of new)) →
-    IsDone old new book set left root (Some (slab_block block.start class block.number)) (slabs (tables_of (words_of old))) (attach_events (words_of old) turn root block)
-IsDone-small {old} {new} {turn} {book} {set} {parts} {left} {root} {class} block arena may class_is appends quiet attached normal slabs crash =
+pub IsDone-small : {old new : PmemState} {was left : Volatile} {root class : ℕ} (block : SmallBlock) → IsArena old was → left ≡ record was { slabs = left.slabs } → IsAttachable (words_of old) root block →
+    (tables_of (words_of old)).class block.start ≡ class → Appends old new (attach_events (words_of old) was.line root block) → IsQuiet new.events → IsAttached (words_of old) was.line root block (words_of new) →
+    HasNormalSlabs (words_of new) → IsSlabsOf left.slabs (words_of new) → CrashOnly (words_of old) (attach_events (words_of old) was.line root block) (IsEitherHeap (words_of old) (words_of new)) →
+    IsDone old new left root (Some (slab_block block.start class block.number)) (slabs (tables_of (words_of old))) (attach_events (words_of old) was.line root block)
+IsDone-small {old} {new} {was} {left} {root} {class} block arena left_is may class_is appends quiet attached normal slabs crash =
     let words = words_of old in
     let after = words_of new in
     record {
       appends = appends;
-      kept = record {
+      kept = subst (IsKept new) (sym left_is) (record {
         ready = record { quiet = quiet; room = omega (arith, arena.kept.ready.room, appends.room) };
         exact = attached.exact;
-        log = book_small words turn root block may.block_in arena.few after attached.rest attached.bounds book arena.kept.log;
-        index = index_small words root block.start block.number true block.at after attached.bounds attached.tables set arena.kept.index;
-      };
+        log = book_small words was.line root block may.block_in arena.few after attached.rest attached.bounds was.log arena.kept.log;
+        index = index_small words root block.start block.number true block.at after attached.bounds attached.tables was.free arena.kept.index;
+      });
       normal = normal;
       slabs = slabs;
       gives = record {
         here = attached.gives.here ∙ ap (λ c. Some (slab_block block.start c block.number)) class_is;
         others = attached.gives.others;
         slabs = classes_small words root block.start block.number true block.at after attached.bounds attached.tables;
-        keeps = keeps_small words turn root block may.block_in arena.few after attached.rest;
+        keeps = keeps_small words was.line root block may.block_in arena.few after attached.rest;
         bounds = attached.bounds;
       };
       crash = crash;
     }
 
 -- a call that is refused
-pub IsCalled-refused : {old : PmemState} {turn : ℕ} {book : Book} {set : FreeSet} {parts : SlabSet} {root : ℕ} (call : Call) (reply : Reply) → IsArena old turn book set parts →
-    call_events (words_of old) turn root reply ≡ [] → turn_after turn reply ≡ turn → IsStepOf (words_of old) (words_of old) call reply → IsCalled old old turn turn book set parts root call reply
-IsCalled-refused {old} {turn} {book} {set} {parts} {root} call reply arena none stays step =
+pub IsCalled-refused : {old : PmemState} {was : Volatile} {root : ℕ} (call : Call) (reply : Reply) → IsArena old was →
+    call_events (words_of old) was.line root reply ≡ [] → turn_after was.line reply ≡ was.line → IsStepOf (words_of old) (words_of old) call reply → IsCalled old old was was root call reply
+IsCalled-refused {old} {was} {root} call reply arena none stays step =
     let words = words_of old in
     let exact = arena.kept.exact in
     let keeps : KeepsBlocks words words = record { each = λ r other range k was is word. refl } in
@@ -299,38 +297,41 @@ IsCalled-refused {old} {turn} {book} {set} {parts} {root} call reply arena none 
       step = step;
       keeps = keeps;
       crash = subst (λ (es : List Event). CrashOnly words es (IsEitherHeap words words)) (sym none)
-          (by_none words (IsEitherHeap words words) (record { steady = record { formed = exact.formed; steady = law_of_steady (bounds_of words) (tables_of words) exact.exact }; heap = inl (record { each = λ r. refl }); words = keeps }));
+          (by_none words (IsEitherHeap words words) (record { steady = record { formed = exact.formed; steady = law_of_steady (bounds_of words) (tables_of words) exact.exact }; heap = inl (record { each = λ r. refl }); words = keeps; still = HasNoMove-closed exact.exact.closed }));
     }
 
 -- an arena answered a call
-pub record IsAnswered (old new : ArenaState) (book : Book) (set : FreeSet) (parts : SlabSet) (root : ℕ) (call : Call) (reply : Reply) : Type 0 where
+pub record IsAnswered (old new : ArenaState) (left : Volatile) (root : ℕ) (call : Call) (reply : Reply) : Type 0 where
   pub step : IsStepOf (words_of old.device) (words_of new.device) call reply
   pub device : new.device ≡ appended (began old.device) (call_events (words_of old.device) old.turn root reply)
   pub turn_is : new.turn ≡ turn_after old.turn reply
   pub keeps : KeepsBlocks (words_of old.device) (words_of new.device)
-  pub arena : IsArena new.device new.turn book set parts
+  pub arena : IsArena new.device left
   pub crash : CrashOnly new.device.base new.device.events (IsEitherHeap (words_of old.device) (words_of new.device))
 
+-- what an arena means
+abbrev pub meant : PmemState → Volatile → ArenaState
+meant device volatile = record { device = device; turn = volatile.line }
+
 -- by what was done behind its begin
-pub answered : (old : ArenaState) (begun new : PmemState) (turn : ℕ) (book : Book) (set : FreeSet) (parts : SlabSet) (root : ℕ) (call : Call) (reply : Reply) → begun ≡ began old.device →
-    IsCalled begun new old.turn turn book set parts root call reply → IsAnswered old (record { device = new; turn = turn }) book set parts root call reply
-answered old begun new turn book set parts root call reply is called =
-    let same : words_of begun ≡ words_of old.device = ap (λ (s : PmemState). words_of s) is in
-    let state : new ≡ appended (began old.device) (call_events (words_of old.device) old.turn root reply) =
-    called.appends.state ∙ (λ i. appended (is i) (call_events (same i) old.turn root reply)) in
+answered : (device begun new : PmemState) (was left : Volatile) (root : ℕ) (call : Call) (reply : Reply) → begun ≡ began device → IsCalled begun new was left root call reply → IsAnswered (meant device was) (meant new left) left root call reply
+answered device begun new was left root call reply is called =
+    let same : words_of begun ≡ words_of device = ap (λ (s : PmemState). words_of s) is in
+    let state : new ≡ appended (began device) (call_events (words_of device) was.line root reply) =
+    called.appends.state ∙ (λ i. appended (is i) (call_events (same i) was.line root reply)) in
     record {
       step = subst (λ (ws : List ℕ). IsStepOf ws (words_of new) call reply) same called.step;
       device = state;
       turn_is = called.turn_is;
       keeps = subst (λ (ws : List ℕ). KeepsBlocks ws (words_of new)) same called.keeps;
       arena = called.arena;
-      crash = subst (λ (s : PmemState). CrashOnly s.base s.events (IsEitherHeap (words_of old.device) (words_of new))) (sym state)
-          (subst (λ (ws : List ℕ). CrashOnly (words_of old.device) (call_events (words_of old.device) old.turn root reply) (IsEitherHeap ws (words_of new))) same
-          (subst (λ (ws : List ℕ). CrashOnly ws (call_events ws old.turn root reply) (IsEitherHeap (words_of begun) (words_of new))) same called.crash));
+      crash = subst (λ (s : PmemState). CrashOnly s.base s.events (IsEitherHeap (words_of device) (words_of new))) (sym state)
+          (subst (λ (ws : List ℕ). CrashOnly (words_of device) (call_events (words_of device) was.line root reply) (IsEitherHeap ws (words_of new))) same
+          (subst (λ (ws : List ℕ). CrashOnly ws (call_events ws was.line root reply) (IsEitherHeap (words_of begun) (words_of new))) same called.crash));
     }
 
 -- of an arena by what it means
-pub answered_by : (inside now : ArenaState) (begun new : PmemState) (turn : ℕ) (book : Book) (set : FreeSet) (parts : SlabSet) (root : ℕ) (call : Call) (reply : Reply) → inside ≡ now → begun ≡ began inside.device →
-    IsCalled begun new inside.turn turn book set parts root call reply → IsAnswered now (record { device = new; turn = turn }) book set parts root call reply
-answered_by inside now begun new turn book set parts root call reply view is called =
-    subst (λ (s : ArenaState). IsAnswered s (record { device = new; turn = turn }) book set parts root call reply) view (answered inside begun new turn book set parts root call reply is called)
+pub answered_by : (device begun new : PmemState) (was left : Volatile) (now : ArenaState) (root : ℕ) (call : Call) (reply : Reply) → meant device was ≡ now → begun ≡ began device →
+    IsCalled begun new was left root call reply → IsAnswered now (meant new left) left root call reply
+answered_by device begun new was left now root call reply view is called =
+    subst (λ (s : ArenaState). IsAnswered s (meant new left) left root call reply) view (answered device begun new was left root call reply is called)

@@ -24,6 +24,7 @@ use Rattle.slab_index.specs.SlabSet.{SlabSet, class_in}
 use Rattle.heap_check.specs.Formatted.{IsFormatted}
 use Rattle.heap_check.proofs.Geometry.{granules_at-large}
 use Rattle.heap_check.proofs.Formatted.{AreBlank-formatted, header_in-formatted, IsFormed-formatted, law_of_formatted}
+use Rattle.arena_core.specs.declared.volatile.Volatile.{Volatile}
 use Rattle.arena_core.specs.Arena.{IsArena}
 use Rattle.arena_core.specs.Call.{IsReady, IsFormattedOrNot}
 use Rattle.arena_core.specs.Events.{format_events}
@@ -167,9 +168,10 @@ module _ {old begun new : PmemState} {number arenas granules : ℕ} (made : IsWr
   formatted_inside = within_heap (words_of new) (heap_inside (words_of new) (IsFormed-formatted (words_of new) header formatted_device))
 
 -- what an arena keeps, of one that was formatted
-pub formatted_arena : (device : PmemState) (header : PoolHeader) (book : Book) (set : FreeSet) (parts : SlabSet) → IsReady device → IsFormatted (words_of device) header → Reads book (words_of device) → book.granules ≡ header.granules →
-    set.granules ≡ header.granules → ((k : ℕ) → IsFree set k ↔ ((4 ≤ k) × (k < header.granules))) → parts.granules ≡ header.granules → ((s : ℕ) → class_in parts s ≡ None) → IsArena device 0 book set parts
-formatted_arena device header book set parts ready formatted reads size index each parts_size no_class =
+pub formatted_arena : (device : PmemState) (header : PoolHeader) (volatile : Volatile) → IsReady device → IsFormatted (words_of device) header → Reads volatile.log (words_of device) → volatile.log.granules ≡ header.granules →
+    volatile.free.granules ≡ header.granules → ((k : ℕ) → IsFree volatile.free k ↔ ((4 ≤ k) × (k < header.granules))) → volatile.slabs.granules ≡ header.granules → ((s : ℕ) → class_in volatile.slabs s ≡ None) →
+    volatile.line ≡ 0 → IsArena device volatile
+formatted_arena device header volatile ready formatted reads size index each parts_size no_class first_line =
     let words = words_of device in
     let blank = AreBlank-formatted words header formatted in
     let first = (sizes_of words (IsFormed-formatted words header formatted)).first in
@@ -200,5 +202,5 @@ formatted_arena device header book set parts ready formatted reads size index ea
         classes = λ s. no_class s ∙ sym (cond-false ((tables_of words).slab s) (Some ((tables_of words).class s)) None (blank.no_slab s));
         blocks = λ s i slab below. absurd (none s slab);
       };
-      few = omega arith;
+      few = omega (arith, first_line);
     }

@@ -19,7 +19,7 @@ use Rattle.log_steps.specs.Log.{IsLogged, IsLoggedOrNot}
 use Rattle.arena_core.specs.Plan.{IsGivable}
 use Rattle.heap_check.proofs.Sizes.{sizes_of, root_inside}
 use Rattle.image_tables.proofs.Stores.{HasNoMove-closed}
-use Rattle.arena_core.proofs.Stages.{IsStageOf, stage_none, stage_root, stage_same, stage_entry, steady_stage, same_none, same_some, keeps_stage}
+use Rattle.arena_core.proofs.Stages.{IsStageOf, stage_none, stage_root, stage_same, stage_entry, steady_stage, same_none, same_some, keeps_stage, still_stage}
 
 -- a word at an address
 pub put_byte : (words : List ℕ) (k value : ℕ) → put_word words (8 * k / 8) value ≡ put_word words k value
@@ -72,6 +72,7 @@ module _ (words : List ℕ) (root start count : ℕ) (exact : IsExactImage words
       steady = steady_stage exact give_place here 0 image (record { is = ⊎_elim (λ none. inl (none, refl)) (λ all. inr (all, inl refl)) either }) stage;
       heap = inl (same_none exact give_place 0 here words image begun stage);
       words = keeps_stage exact give_place here 0 image stage;
+      still = still_stage stage;
     }
 
     after : (image : List ℕ) → IsStageOf words root start count (16384 * start) image → IsEitherHeap words new image
@@ -79,6 +80,7 @@ module _ (words : List ℕ) (root start count : ℕ) (exact : IsExactImage words
       steady = steady_stage exact give_place count (16384 * start) image (record { is = inr (refl, inr refl) }) stage;
       heap = inr (same_some exact give_place new image done stage);
       words = keeps_stage exact give_place count (16384 * start) image stage;
+      still = still_stage stage;
     }
 
     crash_extent : (image : List ℕ) → IsLoggedOrNot words (Large start count) image → IsEitherHeap words new image

@@ -12,7 +12,7 @@ use Rattle.size_classes.proofs.Spacing.{class_size-least, class_size-most}
 use Rattle.image_tables.specs.Tables.{Tables, tables_of}
 use Rattle.extent_index.specs.FreeSet.{FreeSet, IsFree, IsHeldRow}
 use Rattle.slab_index.specs.SlabSet.{SlabSet, class_in, is_available, IsBlock, IsWhole}
-use Rattle.book_log.specs.Book.{Book}
+use Rattle.image_tables.proofs.Stores.{HasNoMove-closed}
 use Rattle.heap_model.specs.Machine.{Bounds, Range, slab_block, with_key}
 use Rattle.heap_check.specs.Heap.{any_below, entry_at, slabs, Holds, HoldsBit}
 use Rattle.heap_check.specs.Sound.{IsVacant, IsInSlab, IsExactBut}
@@ -33,6 +33,7 @@ use Rattle.log_steps.specs.Log.{IsBookOf}
 use Rattle.slab_steps.specs.Steps.{drop_events, IsOpened, IsDropped}
 use Rattle.slab_steps.proofs.Images.{keeps_blocks}
 use Rattle.attach_steps.specs.Steps.{IsAttachable}
+use Rattle.arena_core.specs.declared.volatile.Volatile.{Volatile}
 use Rattle.arena_core.specs.Arena.{HasNormalSlabs, IsIndexOf, IsSlabsOf}
 use Rattle.arena_core.specs.Call.{IsReady}
 use Rattle.arena_core.specs.Carried.{IsTidied}
@@ -294,12 +295,12 @@ held_row words set start image slab index =
     }
 
 -- a slab that holds a block stays
-pub tidied_none : (s : PmemState) (book : Book) (free : FreeSet) (set : SlabSet) (start : ℕ) → IsExactButImage (words_of s) start → IsReady s → IsBookOf book (words_of s) → IsIndexOf free (words_of s) → HasNormalSlabs (words_of s) → IsSlabsOf set (words_of s) →
-    (tables_of (words_of s)).slab start ≡ true → ¬ (IsWhole set start) → IsTidied s s book free set start
-tidied_none s book free set start image ready log index normal was slab other =
+pub tidied_none : (s : PmemState) (volatile : Volatile) (start : ℕ) → IsExactButImage (words_of s) start → IsReady s → IsBookOf volatile.log (words_of s) → IsIndexOf volatile.free (words_of s) → HasNormalSlabs (words_of s) → IsSlabsOf volatile.slabs (words_of s) →
+    (tables_of (words_of s)).slab start ≡ true → ¬ (IsWhole volatile.slabs start) → IsTidied s s volatile start
+tidied_none s volatile start image ready log index normal was slab other =
     let words = words_of s in
     let t = tables_of words in
-    let some = some_held words set start was slab other in
+    let some = some_held words volatile.slabs start was slab other in
     let held = any_below-some (t.bit start) (class_capacity (t.class start)) some in
     let exact = exact_held words start held.0 image slab (normal.each start slab) held.1 held.2 in
     let none : holds_none t start ≡ false = ap not some in
@@ -317,5 +318,6 @@ tidied_none s book free set start image ready log index normal was slab other =
         steady = record { formed = exact.formed; steady = law_of_steady (bounds_of words) t exact.exact };
         heap = inl (record { each = λ root. refl });
         words = record { each = λ root other range k first second word. refl };
+        still = HasNoMove-closed exact.exact.closed;
       }));
     }

@@ -186,6 +186,7 @@ module _ (old mid new : List ℕ) (which : HaveSameHeap old mid ⊎ HaveSameHeap
     steady = left.steady;
     heap = ⊎_elim (λ (before : HaveSameHeap old image). inl before) (λ (there : HaveSameHeap mid image). ends image there) left.heap;
     words = left.words;
+    still = left.still;
   }
 
   either_second : KeepsBlocks old mid → (image : List ℕ) → IsEitherHeap mid new image → IsEitherHeap old new image
@@ -193,6 +194,7 @@ module _ (old mid new : List ℕ) (which : HaveSameHeap old mid ⊎ HaveSameHeap
     steady = left.steady;
     heap = ⊎_elim (λ (there : HaveSameHeap mid image). ends image there) (λ (after : HaveSameHeap new image). inr after) left.heap;
     words = keeps_then image left.heap keeps left.words;
+    still = left.still;
   }
 
   pub crash_then : (e f : List Event) → IsQuiet e → mid ≡ reading old e → KeepsBlocks old mid → CrashOnly old e (IsEitherHeap old mid) → CrashOnly mid f (IsEitherHeap mid new) → CrashOnly old (e ++ f) (IsEitherHeap old new)

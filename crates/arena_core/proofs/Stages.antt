@@ -146,6 +146,10 @@ stage_entry words root start here word made image entry after stage rest extents
         ∙ sym (put_at-other (tables_of made).large start other after (λ same. differ (same ∙ sym names))))
         (cases_eq other (start_of entry))
 
+-- no move entry is open in it
+pub still_stage : {words : List ℕ} {root start here word : ℕ} {image : List ℕ} → IsStageOf words root start here word image → HasNoMove (tables_of image).entry
+still_stage {words} {root} {start} {here} {word} {image} stage = subst HasNoMove (sym (ap (λ (t : Tables). t.entry) stage.tables)) stage.plain
+
 -- what a stage has
 
 module _ {words : List ℕ} {root start count : ℕ} (exact : IsExactImage words) (place : IsLargePlace (bounds_of words) (tables_of words) root start count) where

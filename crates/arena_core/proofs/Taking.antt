@@ -21,7 +21,7 @@ use Rattle.arena_core.specs.Plan.{IsTakable}
 use Rattle.heap_check.proofs.Sizes.{sizes_of, root_inside}
 use Rattle.arena_core.proofs.Giving.{put_byte}
 use Rattle.image_tables.proofs.Stores.{HasNoMove-closed}
-use Rattle.arena_core.proofs.Stages.{IsStageOf, stage_none, stage_root, stage_same, stage_entry, steady_stage, same_none, same_some, keeps_stage}
+use Rattle.arena_core.proofs.Stages.{IsStageOf, stage_none, stage_root, stage_same, stage_entry, steady_stage, same_none, same_some, keeps_stage, still_stage}
 
 module _ (words : List ℕ) (root start count : ℕ) (exact : IsExactImage words) (takable : IsTakable (bounds_of words) (tables_of words) root start count) where
   pub take_place : IsLargePlace (bounds_of words) (tables_of words) root start count
@@ -52,6 +52,7 @@ module _ (words : List ℕ) (root start count : ℕ) (exact : IsExactImage words
       steady = steady_stage exact take_place count (16384 * start) image (record { is = inr (refl, inr refl) }) stage;
       heap = inl (same_some exact take_place words image begun stage);
       words = keeps_stage exact take_place count (16384 * start) image stage;
+      still = still_stage stage;
     }
 
     after : (here : ℕ) (image : List ℕ) → (here ≡ 0) ⊎ (here ≡ count) → IsStageOf words root start here 0 image → IsEitherHeap words new image
@@ -59,6 +60,7 @@ module _ (words : List ℕ) (root start count : ℕ) (exact : IsExactImage words
       steady = steady_stage exact take_place here 0 image (record { is = ⊎_elim (λ none. inl (none, refl)) (λ all. inr (all, inl refl)) either }) stage;
       heap = inr (same_none exact take_place 0 here new image done stage);
       words = keeps_stage exact take_place here 0 image stage;
+      still = still_stage stage;
     }
 
     crash_root : (image : List ℕ) → IsOldOrNewWord words (8 * root_word root) 0 image → IsEitherHeap words new image

@@ -4,7 +4,7 @@ use Rattle.pmem_lines.specs.Pmem.{PmemState, words_of}
 use Rattle.pool_layout.specs.Header.{granules_in}
 use Rattle.size_classes.specs.Classes.{class_capacity}
 use Rattle.image_tables.specs.Tables.{tables_of}
-use Rattle.book_log.specs.Book.{Book, IsBlank}
+use Rattle.book_log.specs.Book.{IsBlank}
 use Rattle.heap_model.specs.declared.block.Block.{Block}
 use Rattle.extent_index.specs.FreeSet.{FreeSet, IsFree}
 use Rattle.slab_index.specs.SlabSet.{SlabSet, class_in, is_available}
@@ -12,6 +12,7 @@ use Rattle.heap_check.specs.Heap.{heap, slabs}
 use Rattle.heap_check.specs.Sound.{IsVacant}
 use Rattle.heap_check.specs.Image.{bounds_of, IsExactImage}
 use Rattle.log_steps.specs.Log.{IsBookOf}
+use Rattle.arena_core.specs.declared.volatile.Volatile.{Volatile}
 use Rattle.arena_core.specs.Call.{IsReady}
 
 -- what an arena means: the state of its memory, and the write-ahead line that its next entry goes to
@@ -36,28 +37,29 @@ pub record IsSlabsOf (set : SlabSet) (words : List ℕ) : Type 0 where
 
 -- what an arena keeps, whatever slabs there are: its memory is ready and its image exact, and log and index are those of
 -- the image
-pub record IsKept (device : PmemState) (book : Book) (set : FreeSet) : Type 0 where
+pub record IsKept (device : PmemState) (volatile : Volatile) : Type 0 where
   pub ready : IsReady device
   pub exact : IsExactImage (words_of device)
-  pub log : IsBookOf book (words_of device)
-  pub index : IsIndexOf set (words_of device)
+  pub log : IsBookOf volatile.log (words_of device)
+  pub index : IsIndexOf volatile.free (words_of device)
 
--- what an arena keeps
-pub record IsArena (device : PmemState) (turn : ℕ) (book : Book) (set : FreeSet) (parts : SlabSet) : Type 0 where
-  pub kept : IsKept device book set
+-- what an arena keeps: what stands beside its words is what they say
+pub record IsArena (device : PmemState) (volatile : Volatile) : Type 0 where
+  pub kept : IsKept device volatile
   pub normal : HasNormalSlabs (words_of device)
-  pub slabs : IsSlabsOf parts (words_of device)
-  pub few : turn < 8
+  pub slabs : IsSlabsOf volatile.slabs (words_of device)
+  pub few : volatile.line < 8
 
 -- memory for an arena of so many granules: an empty log, an index in which all of the heap is free, and one without slabs
-pub record IsRoom (granules : ℕ) (book : Book) (set : FreeSet) (parts : SlabSet) : Type 0 where
+pub record IsRoom (granules : ℕ) (volatile : Volatile) : Type 0 where
   pub least : 16 ≤ granules
   pub most : granules ≤ 1024
-  pub log : IsBlank granules book
-  pub index : set.granules ≡ granules
-  pub each : (k : ℕ) → IsFree set k ↔ ((4 ≤ k) × (k < granules))
-  pub slabs : parts.granules ≡ granules
-  pub no_slab : (start : ℕ) → class_in parts start ≡ None
+  pub log : IsBlank granules volatile.log
+  pub index : volatile.free.granules ≡ granules
+  pub each : (k : ℕ) → IsFree volatile.free k ↔ ((4 ≤ k) × (k < granules))
+  pub slabs : volatile.slabs.granules ≡ granules
+  pub no_slab : (start : ℕ) → class_in volatile.slabs start ≡ None
+  pub first : volatile.line ≡ 0
 
 -- the block of a root, where it has one
 abbrev pub IsBlockOfRoot : List ℕ → ℕ → Option Block → Type 0

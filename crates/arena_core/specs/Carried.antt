@@ -4,35 +4,33 @@ use Rattle.pmem_lines.specs.declared.event.Event.{Event}
 use Rattle.pmem_lines.specs.Events.{CrashOnly}
 use Rattle.pmem_lines.specs.Pmem.{PmemState, words_of, Appends}
 use Rattle.image_tables.specs.Tables.{tables_of}
-use Rattle.book_log.specs.Book.{Book}
-use Rattle.extent_index.specs.FreeSet.{FreeSet}
-use Rattle.slab_index.specs.SlabSet.{SlabSet}
 use Rattle.heap_model.specs.declared.call.Call.{Call}
 use Rattle.heap_model.specs.declared.call.Reply.{Reply}
 use Rattle.heap_model.specs.Machine.{Range}
 use Rattle.heap_check.specs.Heap as Heap
 use Rattle.heap_check.specs.Image.{bounds_of}
 use Rattle.heap_check.specs.State.{HaveSameHeap, KeepsBlocks, IsEitherHeap}
+use Rattle.arena_core.specs.declared.volatile.Volatile.{Volatile}
 use Rattle.arena_core.specs.Arena.{HasNormalSlabs, IsSlabsOf, IsKept, IsArena}
 use Rattle.arena_core.specs.Call.{IsStepOf}
 use Rattle.arena_core.specs.Effect.{slabs_but, GivesRoot}
 use Rattle.arena_core.specs.Events.{holds_none, empty_events, call_events, turn_after}
 
 -- a root was given a block, or lost its own: the events, what is kept, and what a crash leaves
-pub record IsDone (old new : PmemState) (book : Book) (set : FreeSet) (parts : SlabSet) (root : ℕ) (block : Option Range) (slab : ℕ → Option ℕ) (events : List Event) : Type 0 where
+pub record IsDone (old new : PmemState) (left : Volatile) (root : ℕ) (block : Option Range) (slab : ℕ → Option ℕ) (events : List Event) : Type 0 where
   pub appends : Appends old new events
-  pub kept : IsKept new book set
+  pub kept : IsKept new left
   pub normal : HasNormalSlabs (words_of new)
-  pub slabs : IsSlabsOf parts (words_of new)
+  pub slabs : IsSlabsOf left.slabs (words_of new)
   pub gives : GivesRoot (words_of old) root block slab (words_of new)
   pub crash : CrashOnly (words_of old) events (IsEitherHeap (words_of old) (words_of new))
 
 -- a slab was dropped, where it held no block: the image is exact
-pub record IsTidied (old new : PmemState) (book : Book) (set : FreeSet) (parts : SlabSet) (start : ℕ) : Type 0 where
+pub record IsTidied (old new : PmemState) (left : Volatile) (start : ℕ) : Type 0 where
   pub appends : Appends old new (empty_events (words_of old) start)
-  pub kept : IsKept new book set
+  pub kept : IsKept new left
   pub normal : HasNormalSlabs (words_of new)
-  pub slabs : IsSlabsOf parts (words_of new)
+  pub slabs : IsSlabsOf left.slabs (words_of new)
   pub bounds : bounds_of (words_of new) ≡ bounds_of (words_of old)
   pub heap : HaveSameHeap (words_of old) (words_of new)
   pub slab : (other : ℕ) → Heap.slabs (tables_of (words_of new)) other ≡ slabs_but (Heap.slabs (tables_of (words_of old))) start (holds_none (tables_of (words_of old)) start) other
@@ -40,10 +38,10 @@ pub record IsTidied (old new : PmemState) (book : Book) (set : FreeSet) (parts :
   pub crash : CrashOnly (words_of old) (empty_events (words_of old) start) (IsEitherHeap (words_of old) (words_of new))
 
 -- a call was answered
-pub record IsCalled (old new : PmemState) (turn new_turn : ℕ) (book : Book) (set : FreeSet) (parts : SlabSet) (root : ℕ) (call : Call) (reply : Reply) : Type 0 where
-  pub appends : Appends old new (call_events (words_of old) turn root reply)
-  pub arena : IsArena new new_turn book set parts
-  pub turn_is : new_turn ≡ turn_after turn reply
+pub record IsCalled (old new : PmemState) (was left : Volatile) (root : ℕ) (call : Call) (reply : Reply) : Type 0 where
+  pub appends : Appends old new (call_events (words_of old) was.line root reply)
+  pub arena : IsArena new left
+  pub turn_is : left.line ≡ turn_after was.line reply
   pub step : IsStepOf (words_of old) (words_of new) call reply
   pub keeps : KeepsBlocks (words_of old) (words_of new)
-  pub crash : CrashOnly (words_of old) (call_events (words_of old) turn root reply) (IsEitherHeap (words_of old) (words_of new))
+  pub crash : CrashOnly (words_of old) (call_events (words_of old) was.line root reply) (IsEitherHeap (words_of old) (words_of new))

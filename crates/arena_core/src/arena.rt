@@ -14,16 +14,13 @@ ghost use Rattle.arena_core.specs.Call.{IsReady, IsStepOf, IsFormattedOrNot};
 ghost use Rattle.arena_core.specs.Events.{call_events, turn_after, format_events};
 
 use crate::adopting::read_image;
-use crate::carrying::{carry_out_free, carry_out_malloc};
 use crate::formatting::write_header;
 use crate::plan::{freed_of, granules_in, held_by, layout_in, plan_free, plan_malloc};
+use crate::volatile::Volatile;
 use crate::{ArenaRoom, FreeRefusal, Freed, MallocRefusal, Placed};
-use book_log::BookLog;
-use extent_index::ExtentIndex;
 use heap_model::Block;
 use pmem_lines::Pmem;
 use pool_layout::PoolHeader;
-use slab_index::SlabIndex;
 use std::marker::Model;
 
 /// The version of the layout in which an arena is formatted.
@@ -35,11 +32,7 @@ const VERSION: u32 = 1;
 #[derive(Drop)]
 pub struct Arena<P: Pmem> {
     device: P,
-    log: BookLog,
-    free: ExtentIndex,
-    slabs: SlabIndex,
-    // The write-ahead line of the next entry.
-    turn: u32,
+    volatile: Volatile,
 }
 
 impl<P: Pmem> Model for Arena<P> {
@@ -47,9 +40,9 @@ impl<P: Pmem> Model for Arena<P> {
 
     ghost Value = { ArenaState };
 
-    ghost view = { λ a. record { device = P.state a.device; turn = a.turn } };
+    ghost view = { λ a. record { device = P.state a.device; turn = a.volatile.line } };
 
-    ghost invariant = { λ a. IsArena (P.state a.device) a.turn a.log a.free a.slabs };
+    ghost invariant = { λ a. IsArena (P.state a.device) a.volatile };
 }
 
 impl<P: Pmem> Arena<P> {
@@ -70,27 +63,17 @@ impl<P: Pmem> Arena<P> {
         ensures empty { HasState (words_of result.device) no_heap }
         ensures crash { CrashOnly result.device.base result.device.events IsFormattedOrNot }
     {
-        let ArenaRoom {
-            mut log,
-            free,
-            slabs,
-        } = room;
+        let ArenaRoom { mut volatile } = room;
         let header = PoolHeader {
             version: VERSION,
             number,
             arenas,
-            granules: log.granules(),
+            granules: volatile.log.granules(),
         };
         device.begin();
         write_header(&mut device, &header);
-        log.load(&device);
-        Arena {
-            device,
-            log,
-            free,
-            slabs,
-            turn: 0,
-        }
+        volatile.log.load(&device);
+        Arena { device, volatile }
     }
 
     /// Makes an arena over a memory whose image is exact and whose slabs are all normal; `room` is for as many granules as
@@ -105,20 +88,15 @@ impl<P: Pmem> Arena<P> {
         ensures turn { result.turn ≡ 0 }
         ensures ready { IsReady result.device }
     {
-        let ArenaRoom {
-            mut log,
-            mut free,
-            mut slabs,
-        } = room;
-        log.load(&device);
-        read_image(&device, &log, &mut free, &mut slabs);
-        Arena {
-            device,
-            log,
-            free,
-            slabs,
-            turn: 0,
-        }
+        let ArenaRoom { mut volatile } = room;
+        volatile.log.load(&device);
+        read_image(
+            &device,
+            &volatile.log,
+            &mut volatile.free,
+            &mut volatile.slabs,
+        );
+        Arena { device, volatile }
     }
 
     /// Gives a root a block of at least `size` bytes. A size of at most 16384 takes the lowest free block of its class: of
@@ -139,17 +117,15 @@ impl<P: Pmem> Arena<P> {
         ensures ready { IsReady self.new.device }
         ensures crash { CrashOnly self.new.device.base self.new.device.events (IsEitherHeap (words_of self.old.device) (words_of self.new.device)) }
     {
-        let plan = plan_malloc(&self.device, &self.free, &self.slabs, root, size);
-        self.device.begin();
-        carry_out_malloc(
-            &mut self.device,
-            &mut self.log,
-            &mut self.free,
-            &mut self.slabs,
-            &mut self.turn,
+        let plan = plan_malloc(
+            &self.device,
+            &self.volatile.free,
+            &self.volatile.slabs,
             root,
-            plan,
-        )
+            size,
+        );
+        self.device.begin();
+        self.volatile.carry_out_malloc(&mut self.device, root, plan)
     }
 
     /// Takes a root its block, and the block's slab out of the heap where no other block is left in it. The answer is the
@@ -168,17 +144,14 @@ impl<P: Pmem> Arena<P> {
         ensures ready { IsReady self.new.device }
         ensures crash { CrashOnly self.new.device.base self.new.device.events (IsEitherHeap (words_of self.old.device) (words_of self.new.device)) }
     {
-        let plan = plan_free(&self.device, &self.log, &self.slabs, root);
-        self.device.begin();
-        carry_out_free(
-            &mut self.device,
-            &mut self.log,
-            &mut self.free,
-            &mut self.slabs,
-            &mut self.turn,
+        let plan = plan_free(
+            &self.device,
+            &self.volatile.log,
+            &self.volatile.slabs,
             root,
-            plan,
-        )
+        );
+        self.device.begin();
+        self.volatile.carry_out_free(&mut self.device, root, plan)
     }
 
     /// The block that a root names. `None` exactly where there is no such root word, or it names no block.
@@ -188,7 +161,12 @@ impl<P: Pmem> Arena<P> {
         if root >= layout_in(&self.device).roots {
             return None;
         }
-        match held_by(&self.device, &self.log, &self.slabs, root) {
+        match held_by(
+            &self.device,
+            &self.volatile.log,
+            &self.volatile.slabs,
+            root,
+        ) {
             Some(held) => {
                 let block = freed_of(held);
                 Some(Block {
@@ -204,6 +182,7 @@ impl<P: Pmem> Arena<P> {
     /// Lends the memory.
     pub fn pmem(&self) -> &P
         ensures device { P.state result.now ≡ self.now.device }
+        ensures ready { IsReady self.now.device }
         ensures exact { IsExactImage (words_of self.now.device) }
     {
         &self.device
@@ -217,10 +196,7 @@ impl<P: Pmem> Arena<P> {
     {
         let Arena {
             device,
-            log: _,
-            free: _,
-            slabs: _,
-            turn: _,
+            volatile: _,
         } = self;
         device
     }

@@ -1,4 +1,4 @@
-// What a call does, once it has begun.
+// What a call does, once it has begun: it changes the words and what stands beside them together.
 ghost use Rattle.std.specs.Prelude.{◌≡◌, ◌<◌, ◌≤◌, ◌*◌, ℕ, true, [], Some, None, Ok, length};
 ghost use Rattle.pmem_lines.specs.Events.{reading, IsQuiet, CrashOnly};
 ghost use Rattle.pmem_lines.specs.Pmem.{words_of, Appends};
@@ -20,312 +20,287 @@ ghost use Rattle.arena_core.specs.Effect.{GivesRoot, KeepsSlabs, IsLastOf, slabs
 ghost use Rattle.arena_core.specs.Events.{place_events, take_events, fresh_events, unsmall_events, holds_none};
 ghost use Rattle.arena_core.specs.Plan.{IsAskedOf, IsVacantRow, IsGivable, IsTakable, IsNamedSmall, IsHeldBy, IsMallocPlan, IsFreePlan};
 
+use crate::volatile::Volatile;
 use crate::plan::{Held, Place, freed_of, placed_at};
 use crate::{FreeRefusal, Freed, MallocRefusal, Placed};
 use attach_steps::{SmallBlock, attach, detach};
-use book_log::{BookLog, LogEntry};
+use book_log::LogEntry;
 use durable_steps::write_word;
-use extent_index::ExtentIndex;
 use log_steps::log_entry;
 use pmem_lines::Pmem;
 use pool_layout::{SLAB_GRANULES, blocks_at, granule_at, root_at};
-use slab_index::SlabIndex;
 use slab_steps::{drop_slab, open_slab};
 
-/// Does what the plan of a malloc says, and answers the call. `turn` is the write-ahead line of the next entry.
-pub(crate) fn carry_out_malloc<P: Pmem>(
-    device: &mut P,
-    log: &mut BookLog,
-    free: &mut ExtentIndex,
-    slabs: &mut SlabIndex,
-    turn: &mut u32,
-    root: u32,
-    plan: Result<Place, MallocRefusal>,
-) -> Result<Placed, MallocRefusal>
-    requires arena { IsArena (P.state device.old) turn.old log.old free.old slabs.old }
-    requires fresh { (P.state device.old).events ≡ [] }
-    requires plan { (size : ℕ) × IsMallocPlan (bounds_of (words_of (P.state device.old))) (tables_of (words_of (P.state device.old))) root size plan }
-    ensures { (size : ℕ) → IsMallocPlan (bounds_of (words_of (P.state device.old))) (tables_of (words_of (P.state device.old))) root size plan → IsCalled (P.state device.old) (P.state device.new) turn.old turn.new log.new free.new slabs.new root (calls.Malloc root size) (malloc_reply result) }
-{
-    match plan {
-        Ok(place) => Ok(carry_out_place(device, log, free, slabs, turn, root, place)),
-        Err(refusal) => Err(refusal),
-    }
-}
-
-// Gives a root the block at a place.
-fn carry_out_place<P: Pmem>(
-    device: &mut P,
-    log: &mut BookLog,
-    free: &mut ExtentIndex,
-    slabs: &mut SlabIndex,
-    turn: &mut u32,
-    root: u32,
-    place: Place,
-) -> Placed
-    requires arena { IsArena (P.state device.old) turn.old log.old free.old slabs.old }
-    requires fresh { (P.state device.old).events ≡ [] }
-    requires plan { (size : ℕ) × IsMallocPlan (bounds_of (words_of (P.state device.old))) (tables_of (words_of (P.state device.old))) root size (Ok place) }
-    ensures { (size : ℕ) → IsMallocPlan (bounds_of (words_of (P.state device.old))) (tables_of (words_of (P.state device.old))) root size (Ok place) → IsCalled (P.state device.old) (P.state device.new) turn.old turn.new log.new free.new slabs.new root (calls.Malloc root size) (replies.Placed result.at result.size) }
-{
-    match place {
-        Place::Large { start, granules } => give_large(device, log, free, root, start, granules),
-        Place::Small { block, class: _ } => {
-            give_small(device, slabs, *turn, root, block);
-            *turn = (*turn + 1) % 8;
-        }
-        Place::Fresh { start, class } => {
-            give_fresh(device, log, free, slabs, *turn, root, start, class);
-            *turn = (*turn + 1) % 8;
+impl Volatile {
+    /// Does what the plan of a malloc says, and answers the call. `turn` is the write-ahead line of the next entry.
+    pub(crate) fn carry_out_malloc<P: Pmem>(
+        &mut self,
+        device: &mut P,
+        root: u32,
+        plan: Result<Place, MallocRefusal>,
+    ) -> Result<Placed, MallocRefusal>
+        requires arena { IsArena (P.state device.old) self.old }
+        requires fresh { (P.state device.old).events ≡ [] }
+        requires plan { (size : ℕ) × IsMallocPlan (bounds_of (words_of (P.state device.old))) (tables_of (words_of (P.state device.old))) root size plan }
+        ensures { (size : ℕ) → IsMallocPlan (bounds_of (words_of (P.state device.old))) (tables_of (words_of (P.state device.old))) root size plan → IsCalled (P.state device.old) (P.state device.new) self.old self.new root (calls.Malloc root size) (malloc_reply result) }
+    {
+        match plan {
+            Ok(place) => Ok(self.carry_out_place(device, root, place)),
+            Err(refusal) => Err(refusal),
         }
     }
-    placed_at(place)
-}
 
-/// Does what the plan of a free says, and answers the call. `turn` is the write-ahead line of the next entry.
-pub(crate) fn carry_out_free<P: Pmem>(
-    device: &mut P,
-    log: &mut BookLog,
-    free: &mut ExtentIndex,
-    slabs: &mut SlabIndex,
-    turn: &mut u32,
-    root: u32,
-    plan: Result<Held, FreeRefusal>,
-) -> Result<Freed, FreeRefusal>
-    requires arena { IsArena (P.state device.old) turn.old log.old free.old slabs.old }
-    requires fresh { (P.state device.old).events ≡ [] }
-    requires plan { IsFreePlan (bounds_of (words_of (P.state device.old))) (tables_of (words_of (P.state device.old))) root plan }
-    ensures { IsCalled (P.state device.old) (P.state device.new) turn.old turn.new log.new free.new slabs.new root (calls.Free root) (free_reply result) }
-{
-    match plan {
-        Ok(held) => Ok(carry_out_held(device, log, free, slabs, turn, root, held)),
-        Err(refusal) => Err(refusal),
+    // Gives a root the block at a place.
+    fn carry_out_place<P: Pmem>(
+        &mut self,
+        device: &mut P,
+        root: u32,
+        place: Place,
+    ) -> Placed
+        requires arena { IsArena (P.state device.old) self.old }
+        requires fresh { (P.state device.old).events ≡ [] }
+        requires plan { (size : ℕ) × IsMallocPlan (bounds_of (words_of (P.state device.old))) (tables_of (words_of (P.state device.old))) root size (Ok place) }
+        ensures { (size : ℕ) → IsMallocPlan (bounds_of (words_of (P.state device.old))) (tables_of (words_of (P.state device.old))) root size (Ok place) → IsCalled (P.state device.old) (P.state device.new) self.old self.new root (calls.Malloc root size) (replies.Placed result.at result.size) }
+    {
+        match place {
+            Place::Large { start, granules } => self.give_large(device, root, start, granules),
+            Place::Small { block, class: _ } => {
+                self.give_small(device, root, block);
+                self.line = (self.line + 1) % 8;
+            }
+            Place::Fresh { start, class } => {
+                self.give_fresh(device, root, start, class);
+                self.line = (self.line + 1) % 8;
+            }
+        }
+        placed_at(place)
     }
-}
 
-// Takes what it holds from a root.
-fn carry_out_held<P: Pmem>(
-    device: &mut P,
-    log: &mut BookLog,
-    free: &mut ExtentIndex,
-    slabs: &mut SlabIndex,
-    turn: &mut u32,
-    root: u32,
-    held: Held,
-) -> Freed
-    requires arena { IsArena (P.state device.old) turn.old log.old free.old slabs.old }
-    requires fresh { (P.state device.old).events ≡ [] }
-    requires plan { IsHeldBy (bounds_of (words_of (P.state device.old))) (tables_of (words_of (P.state device.old))) root held }
-    ensures { IsCalled (P.state device.old) (P.state device.new) turn.old turn.new log.new free.new slabs.new root (calls.Free root) (replies.Freed result.at result.size) }
-{
-    match held {
-        Held::Large { start, granules } => take_large(device, log, free, root, start, granules),
-        Held::Small { block, class } => {
-            take_small(device, log, free, slabs, *turn, root, block, class);
-            *turn = (*turn + 1) % 8;
+    /// Does what the plan of a free says, and answers the call. `turn` is the write-ahead line of the next entry.
+    pub(crate) fn carry_out_free<P: Pmem>(
+        &mut self,
+        device: &mut P,
+        root: u32,
+        plan: Result<Held, FreeRefusal>,
+    ) -> Result<Freed, FreeRefusal>
+        requires arena { IsArena (P.state device.old) self.old }
+        requires fresh { (P.state device.old).events ≡ [] }
+        requires plan { IsFreePlan (bounds_of (words_of (P.state device.old))) (tables_of (words_of (P.state device.old))) root plan }
+        ensures { IsCalled (P.state device.old) (P.state device.new) self.old self.new root (calls.Free root) (free_reply result) }
+    {
+        match plan {
+            Ok(held) => Ok(self.carry_out_held(device, root, held)),
+            Err(refusal) => Err(refusal),
         }
     }
-    freed_of(held)
-}
 
-// Gives granules to a root: their extent goes into the log, and then the root gets its address.
-fn give_large<P: Pmem>(
-    device: &mut P,
-    log: &mut BookLog,
-    free: &mut ExtentIndex,
-    root: u32,
-    start: u32,
-    granules: u32,
-)
-    requires kept { IsKept (P.state device.old) log.old free.old }
-    requires fresh { (P.state device.old).events ≡ [] }
-    requires givable { IsGivable (bounds_of (words_of (P.state device.old))) (tables_of (words_of (P.state device.old))) root start granules }
-    ensures appends { Appends (P.state device.old) (P.state device.new) (place_events (words_of (P.state device.old)) root start granules) }
-    ensures kept { IsKept (P.state device.new) log.new free.new }
-    ensures gives { GivesRoot (words_of (P.state device.old)) root (Some (record { at = 16384 * start; size = 16384 * granules })) (classes_of (tables_of (words_of (P.state device.old)))) (words_of (P.state device.new)) }
-    ensures slabs { KeepsSlabs (words_of (P.state device.old)) (words_of (P.state device.new)) }
-    ensures crash { CrashOnly (words_of (P.state device.old)) (place_events (words_of (P.state device.old)) root start granules) (IsEitherHeap (words_of (P.state device.old)) (words_of (P.state device.new))) }
-{
-    log_entry(log, device, LogEntry::Large { start, granules });
-    write_word(device, root_at(root), u64::from(granule_at(start)));
-    free.take(start, granules);
-}
+    // Takes what it holds from a root.
+    fn carry_out_held<P: Pmem>(
+        &mut self,
+        device: &mut P,
+        root: u32,
+        held: Held,
+    ) -> Freed
+        requires arena { IsArena (P.state device.old) self.old }
+        requires fresh { (P.state device.old).events ≡ [] }
+        requires plan { IsHeldBy (bounds_of (words_of (P.state device.old))) (tables_of (words_of (P.state device.old))) root held }
+        ensures { IsCalled (P.state device.old) (P.state device.new) self.old self.new root (calls.Free root) (replies.Freed result.at result.size) }
+    {
+        match held {
+            Held::Large { start, granules } => self.take_large(device, root, start, granules),
+            Held::Small { block, class } => {
+                self.take_small(device, root, block, class);
+                self.line = (self.line + 1) % 8;
+            }
+        }
+        freed_of(held)
+    }
 
-// Takes granules from a root: the root's word becomes 0, and then a Tomb for their extent goes into the log.
-fn take_large<P: Pmem>(
-    device: &mut P,
-    log: &mut BookLog,
-    free: &mut ExtentIndex,
-    root: u32,
-    start: u32,
-    granules: u32,
-)
-    requires kept { IsKept (P.state device.old) log.old free.old }
-    requires fresh { (P.state device.old).events ≡ [] }
-    requires takable { IsTakable (bounds_of (words_of (P.state device.old))) (tables_of (words_of (P.state device.old))) root start granules }
-    ensures appends { Appends (P.state device.old) (P.state device.new) (take_events (words_of (P.state device.old)) root start) }
-    ensures kept { IsKept (P.state device.new) log.new free.new }
-    ensures gives { GivesRoot (words_of (P.state device.old)) root None (classes_of (tables_of (words_of (P.state device.old)))) (words_of (P.state device.new)) }
-    ensures slabs { KeepsSlabs (words_of (P.state device.old)) (words_of (P.state device.new)) }
-    ensures crash { CrashOnly (words_of (P.state device.old)) (take_events (words_of (P.state device.old)) root start) (IsEitherHeap (words_of (P.state device.old)) (words_of (P.state device.new))) }
-{
-    write_word(device, root_at(root), 0);
-    log_entry(log, device, LogEntry::Tomb { start });
-    free.give(start, granules);
-}
+    // Gives granules to a root: their extent goes into the log, and then the root gets its address.
+    fn give_large<P: Pmem>(
+        &mut self,
+        device: &mut P,
+        root: u32,
+        start: u32,
+        granules: u32,
+    )
+        requires arena { IsArena (P.state device.old) self.old }
+        requires fresh { (P.state device.old).events ≡ [] }
+        requires givable { IsGivable (bounds_of (words_of (P.state device.old))) (tables_of (words_of (P.state device.old))) root start granules }
+        ensures done { IsDone (P.state device.old) (P.state device.new) self.new root (Some (record { at = 16384 * start; size = 16384 * granules })) (classes_of (tables_of (words_of (P.state device.old)))) (place_events (words_of (P.state device.old)) root start granules) }
+        ensures line { self.new.line ≡ self.old.line }
+    {
+        log_entry(&mut self.log, device, LogEntry::Large { start, granules });
+        write_word(device, root_at(root), u64::from(granule_at(start)));
+        self.free.take(start, granules);
+    }
 
-// Gives a free block of a slab to a root.
-fn give_small<P: Pmem>(
-    device: &mut P,
-    slabs: &mut SlabIndex,
-    line: u32,
-    root: u32,
-    block: SmallBlock,
-)
-    requires ready { IsReady (P.state device.old) }
-    requires few { length (P.state device.old).events ≤ 757 }
-    requires line { line < 8 }
-    requires attachable { IsAttachable (words_of (P.state device.old)) root block }
-    requires normal { HasNormalSlabs (words_of (P.state device.old)) }
-    requires slabs { IsSlabsOf slabs.old (words_of (P.state device.old)) }
-    ensures appends { Appends (P.state device.old) (P.state device.new) (attach_events (words_of (P.state device.old)) line root block) }
-    ensures quiet { IsQuiet (P.state device.new).events }
-    ensures attached { IsAttached (words_of (P.state device.old)) line root block (words_of (P.state device.new)) }
-    ensures normal { HasNormalSlabs (words_of (P.state device.new)) }
-    ensures slabs { IsSlabsOf slabs.new (words_of (P.state device.new)) }
-    ensures crash { CrashOnly (words_of (P.state device.old)) (attach_events (words_of (P.state device.old)) line root block) (IsEitherHeap (words_of (P.state device.old)) (words_of (P.state device.new))) }
-{
-    attach(device, line, root, block);
-    slabs.take(block.start, block.number);
-}
+    // Takes granules from a root: the root's word becomes 0, and then a Tomb for their extent goes into the log.
+    fn take_large<P: Pmem>(
+        &mut self,
+        device: &mut P,
+        root: u32,
+        start: u32,
+        granules: u32,
+    )
+        requires arena { IsArena (P.state device.old) self.old }
+        requires fresh { (P.state device.old).events ≡ [] }
+        requires takable { IsTakable (bounds_of (words_of (P.state device.old))) (tables_of (words_of (P.state device.old))) root start granules }
+        ensures done { IsDone (P.state device.old) (P.state device.new) self.new root None (classes_of (tables_of (words_of (P.state device.old)))) (take_events (words_of (P.state device.old)) root start) }
+        ensures line { self.new.line ≡ self.old.line }
+    {
+        write_word(device, root_at(root), 0);
+        log_entry(&mut self.log, device, LogEntry::Tomb { start });
+        self.free.give(start, granules);
+    }
 
-// Opens a slab on vacant granules.
-fn add_slab<P: Pmem>(
-    device: &mut P,
-    log: &mut BookLog,
-    free: &mut ExtentIndex,
-    slabs: &mut SlabIndex,
-    start: u32,
-    class: u8,
-)
-    requires kept { IsKept (P.state device.old) log.old free.old }
-    requires fresh { (P.state device.old).events ≡ [] }
-    requires row { IsVacantRow (bounds_of (words_of (P.state device.old))) (tables_of (words_of (P.state device.old))) start 4 }
-    requires class { class < 36 }
-    requires normal { HasNormalSlabs (words_of (P.state device.old)) }
-    requires slabs { IsSlabsOf slabs.old (words_of (P.state device.old)) }
-    ensures appends { Appends (P.state device.old) (P.state device.new) (open_events (words_of (P.state device.old)) start class) }
-    ensures quiet { IsQuiet (P.state device.new).events }
-    ensures few { length (P.state device.new).events ≤ 757 }
-    ensures opened { IsOpened (words_of (P.state device.old)) start class (words_of (P.state device.new)) }
-    ensures book { IsBookOf log.new (words_of (P.state device.new)) }
-    ensures index { IsIndexOf free.new (words_of (P.state device.new)) }
-    ensures normal { HasNormalSlabs (words_of (P.state device.new)) }
-    ensures slabs { IsSlabsOf slabs.new (words_of (P.state device.new)) }
-    ensures crash { CrashOnly (words_of (P.state device.old)) (open_events (words_of (P.state device.old)) start class) (IsEitherHeap (words_of (P.state device.old)) (words_of (P.state device.new))) }
-{
-    open_slab(device, log, start, class);
-    free.take(start, SLAB_GRANULES);
-    slabs.add(start, class);
-}
+    // Gives a free block of a slab to a root.
+    fn give_small<P: Pmem>(
+        &mut self,
+        device: &mut P,
+        root: u32,
+        block: SmallBlock,
+    )
+        requires ready { IsReady (P.state device.old) }
+        requires few { length (P.state device.old).events ≤ 757 }
+        requires line { self.old.line < 8 }
+        requires attachable { IsAttachable (words_of (P.state device.old)) root block }
+        requires normal { HasNormalSlabs (words_of (P.state device.old)) }
+        requires slabs { IsSlabsOf self.old.slabs (words_of (P.state device.old)) }
+        ensures appends { Appends (P.state device.old) (P.state device.new) (attach_events (words_of (P.state device.old)) self.old.line root block) }
+        ensures quiet { IsQuiet (P.state device.new).events }
+        ensures attached { IsAttached (words_of (P.state device.old)) self.old.line root block (words_of (P.state device.new)) }
+        ensures normal { HasNormalSlabs (words_of (P.state device.new)) }
+        ensures slabs { IsSlabsOf self.new.slabs (words_of (P.state device.new)) }
+        ensures crash { CrashOnly (words_of (P.state device.old)) (attach_events (words_of (P.state device.old)) self.old.line root block) (IsEitherHeap (words_of (P.state device.old)) (words_of (P.state device.new))) }
+        ensures rest { self.new ≡ record self.old { slabs = self.new.slabs } }
+    {
+        attach(device, self.line, root, block);
+        self.slabs.take(block.start, block.number);
+    }
 
-// Opens a slab, and gives its first block to a root.
-fn give_fresh<P: Pmem>(
-    device: &mut P,
-    log: &mut BookLog,
-    free: &mut ExtentIndex,
-    slabs: &mut SlabIndex,
-    line: u32,
-    root: u32,
-    start: u32,
-    class: u8,
-)
-    requires arena { IsArena (P.state device.old) line log.old free.old slabs.old }
-    requires fresh { (P.state device.old).events ≡ [] }
-    requires asked { (size : ℕ) × IsAskedOf (bounds_of (words_of (P.state device.old))) (tables_of (words_of (P.state device.old))) root size }
-    requires row { IsVacantRow (bounds_of (words_of (P.state device.old))) (tables_of (words_of (P.state device.old))) start 4 }
-    requires class { class < 36 }
-    ensures { IsDone (P.state device.old) (P.state device.new) log.new free.new slabs.new root (Some (slab_block start class 0)) (with_key (classes_of (tables_of (words_of (P.state device.old)))) start (Some class)) (fresh_events (words_of (P.state device.old)) line root start class) }
-{
-    add_slab(device, log, free, slabs, start, class);
-    let first = SmallBlock {
-        start,
-        number: 0,
-        at: blocks_at(granule_at(start)),
-    };
-    give_small(device, slabs, line, root, first);
-}
+    // Opens a slab on vacant granules.
+    fn add_slab<P: Pmem>(
+        &mut self,
+        device: &mut P,
+        start: u32,
+        class: u8,
+    )
+        requires kept { IsKept (P.state device.old) self.old }
+        requires fresh { (P.state device.old).events ≡ [] }
+        requires row { IsVacantRow (bounds_of (words_of (P.state device.old))) (tables_of (words_of (P.state device.old))) start 4 }
+        requires class { class < 36 }
+        requires normal { HasNormalSlabs (words_of (P.state device.old)) }
+        requires slabs { IsSlabsOf self.old.slabs (words_of (P.state device.old)) }
+        ensures appends { Appends (P.state device.old) (P.state device.new) (open_events (words_of (P.state device.old)) start class) }
+        ensures quiet { IsQuiet (P.state device.new).events }
+        ensures few { length (P.state device.new).events ≤ 757 }
+        ensures opened { IsOpened (words_of (P.state device.old)) start class (words_of (P.state device.new)) }
+        ensures book { IsBookOf self.new.log (words_of (P.state device.new)) }
+        ensures index { IsIndexOf self.new.free (words_of (P.state device.new)) }
+        ensures normal { HasNormalSlabs (words_of (P.state device.new)) }
+        ensures slabs { IsSlabsOf self.new.slabs (words_of (P.state device.new)) }
+        ensures crash { CrashOnly (words_of (P.state device.old)) (open_events (words_of (P.state device.old)) start class) (IsEitherHeap (words_of (P.state device.old)) (words_of (P.state device.new))) }
+        ensures line { self.new.line ≡ self.old.line }
+    {
+        open_slab(device, &mut self.log, start, class);
+        self.free.take(start, SLAB_GRANULES);
+        self.slabs.add(start, class);
+    }
 
-// Takes a block of a slab from a root, and drops the slab where it holds no other.
-fn take_small<P: Pmem>(
-    device: &mut P,
-    log: &mut BookLog,
-    free: &mut ExtentIndex,
-    slabs: &mut SlabIndex,
-    line: u32,
-    root: u32,
-    block: SmallBlock,
-    class: u8,
-)
-    requires arena { IsArena (P.state device.old) line log.old free.old slabs.old }
-    requires fresh { (P.state device.old).events ≡ [] }
-    requires named { IsNamedSmall (bounds_of (words_of (P.state device.old))) (tables_of (words_of (P.state device.old))) root block class }
-    ensures last { let left = reading (words_of (P.state device.old)) (detach_events (words_of (P.state device.old)) line root block) in IsLastOf (tables_of (words_of (P.state device.old))) root block.start (holds_none (tables_of left) block.start) }
-    ensures done { let left = reading (words_of (P.state device.old)) (detach_events (words_of (P.state device.old)) line root block) in IsDone (P.state device.old) (P.state device.new) log.new free.new slabs.new root None (slabs_but (classes_of (tables_of (words_of (P.state device.old)))) block.start (holds_none (tables_of left) block.start)) (unsmall_events (words_of (P.state device.old)) line root block) }
-{
-    take_block(device, slabs, line, root, block);
-    drop_if_empty(device, log, free, slabs, block.start, class);
-}
+    // Opens a slab, and gives its first block to a root.
+    fn give_fresh<P: Pmem>(
+        &mut self,
+        device: &mut P,
+        root: u32,
+        start: u32,
+        class: u8,
+    )
+        requires arena { IsArena (P.state device.old) self.old }
+        requires fresh { (P.state device.old).events ≡ [] }
+        requires asked { (size : ℕ) × IsAskedOf (bounds_of (words_of (P.state device.old))) (tables_of (words_of (P.state device.old))) root size }
+        requires row { IsVacantRow (bounds_of (words_of (P.state device.old))) (tables_of (words_of (P.state device.old))) start 4 }
+        requires class { class < 36 }
+        ensures done { IsDone (P.state device.old) (P.state device.new) self.new root (Some (slab_block start class 0)) (with_key (classes_of (tables_of (words_of (P.state device.old)))) start (Some class)) (fresh_events (words_of (P.state device.old)) self.old.line root start class) }
+        ensures line { self.new.line ≡ self.old.line }
+    {
+        self.add_slab(device, start, class);
+        let first = SmallBlock {
+            start,
+            number: 0,
+            at: blocks_at(granule_at(start)),
+        };
+        self.give_small(device, root, first);
+    }
 
-// Takes a block of a slab from a root.
-fn take_block<P: Pmem>(
-    device: &mut P,
-    slabs: &mut SlabIndex,
-    line: u32,
-    root: u32,
-    block: SmallBlock,
-)
-    requires ready { IsReady (P.state device.old) }
-    requires fresh { (P.state device.old).events ≡ [] }
-    requires line { line < 8 }
-    requires detachable { IsDetachable (words_of (P.state device.old)) root block }
-    requires normal { HasNormalSlabs (words_of (P.state device.old)) }
-    requires slabs { IsSlabsOf slabs.old (words_of (P.state device.old)) }
-    ensures appends { Appends (P.state device.old) (P.state device.new) (detach_events (words_of (P.state device.old)) line root block) }
-    ensures quiet { IsQuiet (P.state device.new).events }
-    ensures detached { IsDetached (words_of (P.state device.old)) line root block (words_of (P.state device.new)) }
-    ensures normal { HasNormalSlabs (words_of (P.state device.new)) }
-    ensures slabs { IsSlabsOf slabs.new (words_of (P.state device.new)) }
-    ensures crash { CrashOnly (words_of (P.state device.old)) (detach_events (words_of (P.state device.old)) line root block) (IsEitherHeap (words_of (P.state device.old)) (words_of (P.state device.new))) }
-{
-    detach(device, line, root, block);
-    slabs.give(block.start, block.number);
-}
+    // Takes a block of a slab from a root, and drops the slab where it holds no other.
+    fn take_small<P: Pmem>(
+        &mut self,
+        device: &mut P,
+        root: u32,
+        block: SmallBlock,
+        class: u8,
+    )
+        requires arena { IsArena (P.state device.old) self.old }
+        requires fresh { (P.state device.old).events ≡ [] }
+        requires named { IsNamedSmall (bounds_of (words_of (P.state device.old))) (tables_of (words_of (P.state device.old))) root block class }
+        ensures last { let left = reading (words_of (P.state device.old)) (detach_events (words_of (P.state device.old)) self.old.line root block) in IsLastOf (tables_of (words_of (P.state device.old))) root block.start (holds_none (tables_of left) block.start) }
+        ensures done { let left = reading (words_of (P.state device.old)) (detach_events (words_of (P.state device.old)) self.old.line root block) in IsDone (P.state device.old) (P.state device.new) self.new root None (slabs_but (classes_of (tables_of (words_of (P.state device.old)))) block.start (holds_none (tables_of left) block.start)) (unsmall_events (words_of (P.state device.old)) self.old.line root block) }
+        ensures line { self.new.line ≡ self.old.line }
+    {
+        self.take_block(device, root, block);
+        self.drop_if_empty(device, block.start, class);
+    }
 
-// Drops a slab that holds no block.
-fn drop_if_empty<P: Pmem>(
-    device: &mut P,
-    log: &mut BookLog,
-    free: &mut ExtentIndex,
-    slabs: &mut SlabIndex,
-    start: u32,
-    class: u8,
-)
-    requires image { IsExactButImage (words_of (P.state device.old)) start }
-    requires quiet { IsQuiet (P.state device.old).events }
-    requires few { length (P.state device.old).events ≤ 11 }
-    requires room { 2048 ≤ (P.state device.old).room }
-    requires book { IsBookOf log.old (words_of (P.state device.old)) }
-    requires index { IsIndexOf free.old (words_of (P.state device.old)) }
-    requires normal { HasNormalSlabs (words_of (P.state device.old)) }
-    requires slabs { IsSlabsOf slabs.old (words_of (P.state device.old)) }
-    requires slab { (tables_of (words_of (P.state device.old))).slab start ≡ true }
-    requires class { (tables_of (words_of (P.state device.old))).class start ≡ class }
-    ensures { IsTidied (P.state device.old) (P.state device.new) log.new free.new slabs.new start }
-{
-    if slabs.is_whole(start) {
-        drop_slab(device, log, start, class);
-        free.give(start, SLAB_GRANULES);
-        slabs.remove(start);
+    // Takes a block of a slab from a root.
+    fn take_block<P: Pmem>(
+        &mut self,
+        device: &mut P,
+        root: u32,
+        block: SmallBlock,
+    )
+        requires ready { IsReady (P.state device.old) }
+        requires fresh { (P.state device.old).events ≡ [] }
+        requires line { self.old.line < 8 }
+        requires detachable { IsDetachable (words_of (P.state device.old)) root block }
+        requires normal { HasNormalSlabs (words_of (P.state device.old)) }
+        requires slabs { IsSlabsOf self.old.slabs (words_of (P.state device.old)) }
+        ensures appends { Appends (P.state device.old) (P.state device.new) (detach_events (words_of (P.state device.old)) self.old.line root block) }
+        ensures quiet { IsQuiet (P.state device.new).events }
+        ensures detached { IsDetached (words_of (P.state device.old)) self.old.line root block (words_of (P.state device.new)) }
+        ensures normal { HasNormalSlabs (words_of (P.state device.new)) }
+        ensures slabs { IsSlabsOf self.new.slabs (words_of (P.state device.new)) }
+        ensures crash { CrashOnly (words_of (P.state device.old)) (detach_events (words_of (P.state device.old)) self.old.line root block) (IsEitherHeap (words_of (P.state device.old)) (words_of (P.state device.new))) }
+        ensures rest { self.new ≡ record self.old { slabs = self.new.slabs } }
+    {
+        detach(device, self.line, root, block);
+        self.slabs.give(block.start, block.number);
+    }
+
+    // Drops a slab that holds no block.
+    fn drop_if_empty<P: Pmem>(
+        &mut self,
+        device: &mut P,
+        start: u32,
+        class: u8,
+    )
+        requires image { IsExactButImage (words_of (P.state device.old)) start }
+        requires quiet { IsQuiet (P.state device.old).events }
+        requires few { length (P.state device.old).events ≤ 11 }
+        requires room { 2048 ≤ (P.state device.old).room }
+        requires book { IsBookOf self.old.log (words_of (P.state device.old)) }
+        requires index { IsIndexOf self.old.free (words_of (P.state device.old)) }
+        requires normal { HasNormalSlabs (words_of (P.state device.old)) }
+        requires slabs { IsSlabsOf self.old.slabs (words_of (P.state device.old)) }
+        requires slab { (tables_of (words_of (P.state device.old))).slab start ≡ true }
+        requires class { (tables_of (words_of (P.state device.old))).class start ≡ class }
+        ensures tidied { IsTidied (P.state device.old) (P.state device.new) self.new start }
+        ensures line { self.new.line ≡ self.old.line }
+    {
+        if self.slabs.is_whole(start) {
+            drop_slab(device, &mut self.log, start, class);
+            self.free.give(start, SLAB_GRANULES);
+            self.slabs.remove(start);
+        }
     }
 }

@@ -18,6 +18,7 @@ mod carrying;
 mod formatting;
 mod plan;
 mod room;
+mod volatile;
 
 pub use answer::{FreeRefusal, Freed, MallocRefusal, Placed};
 pub use arena::Arena;

@@ -1,6 +1,7 @@
 // The memory that an arena needs beside the words.
 ghost use Rattle.std.specs.Prelude.{◌≡◌, ◌≤◌, IfOk};
 
+use crate::volatile::Volatile;
 use book_log::BookLog;
 use extent_index::ExtentIndex;
 use pmem_lines::OutOfMemory;
@@ -12,9 +13,7 @@ use std::marker::Model;
 /// may have.
 #[derive(Drop)]
 pub struct ArenaRoom {
-    pub(crate) log: BookLog,
-    pub(crate) free: ExtentIndex,
-    pub(crate) slabs: SlabIndex,
+    pub(crate) volatile: Volatile,
 }
 
 impl Model for ArenaRoom {
@@ -23,9 +22,9 @@ impl Model for ArenaRoom {
 
     ghost Value = { ℕ };
 
-    ghost view = { λ a. a.log.granules };
+    ghost view = { λ a. a.volatile.log.granules };
 
-    ghost invariant = { λ a. IsRoom a.log.granules a.log a.free a.slabs };
+    ghost invariant = { λ a. IsRoom a.volatile.log.granules a.volatile };
 }
 
 impl ArenaRoom {
@@ -38,6 +37,12 @@ impl ArenaRoom {
         let log = BookLog::new(alloc, granules)?;
         let free = ExtentIndex::new(alloc, granules)?;
         let slabs = SlabIndex::new(alloc, granules)?;
-        Ok(ArenaRoom { log, free, slabs })
+        let volatile = Volatile {
+            log,
+            free,
+            slabs,
+            line: 0,
+        };
+        Ok(ArenaRoom { volatile })
     }
 }

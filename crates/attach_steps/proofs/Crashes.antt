@@ -10,7 +10,7 @@ use Rattle.durable_steps.proofs.Steps.{IsQuiet-word, IsQuiet-pair}
 use Rattle.pool_layout.specs.Places.{root_word, wal_word}
 use Rattle.image_tables.specs.declared.entry.WalEntry.{WalEntry}
 use Rattle.image_tables.specs.Tables.{Tables, bitmap_word, tables_of}
-use Rattle.image_tables.specs.Updates.{with_small}
+use Rattle.image_tables.specs.Updates.{with_small, HasNoMove}
 use Rattle.slab_header.specs.Steps.{with_bit, PutsBit, PutsBitOver}
 use Rattle.attach_wal.specs.Entry.{entry_word}
 use Rattle.attach_wal.specs.Wal.{OpensOrNot, ClosesOrNot}
@@ -209,6 +209,7 @@ module _ (words : List ℕ) (line root : ℕ) (block : SmallBlock) (block_in : I
       steady = steady image_on image_word entry image small stage;
       heap = heap_is image_on image_word entry image either small stage;
       words = keeps image_on image_word entry image stage;
+      still = subst HasNoMove (sym (ap (λ (x : Tables). x.entry) stage.tables)) stage.plain;
     }
 
     word_either : (word ≡ 0) ⊎ (word ≡ block.at)

@@ -3,6 +3,7 @@
 use Rattle.std.specs.Prelude.{◌≡◌, ◌⊎◌, ℕ, ◌+◌, ◌/◌, ◌<◌, ◌≤◌, List, Some}
 use Rattle.pmem_lines.specs.Words.{word_at}
 use Rattle.image_tables.specs.Tables.{tables_of}
+use Rattle.image_tables.specs.Updates.{HasNoMove}
 use Rattle.heap_model.specs.Machine.{Range, Machine}
 use Rattle.heap_check.specs.Heap.{heap, slabs}
 use Rattle.heap_check.specs.Image.{IsSteadyImage}
@@ -34,8 +35,9 @@ pub record KeepsBlocks (old image : List ℕ) : Type 0 where
   pub each : (root other : ℕ) (range : Range) (k : ℕ) → heap (tables_of old) root ≡ Some range → heap (tables_of image) other ≡ Some range → IsWordOf range k → word_at image k ≡ word_at old k
 
 -- A crash within a call from the old words to the new ones leaves a steady image with the heap of the one or of the
--- other, in which each block that was there before has its words.
+-- other, in which each block that was there before has its words; and no move entry is open in it.
 pub record IsEitherHeap (old new image : List ℕ) : Type 0 where
   pub steady : IsSteadyImage image
   pub heap : HaveSameHeap old image ⊎ HaveSameHeap new image
   pub words : KeepsBlocks old image
+  pub still : HasNoMove (tables_of image).entry

@@ -107,6 +107,7 @@ module _ (words : List ℕ) (start class : ℕ) (may : IsDroppable words start c
       (subst (IsSteady (bounds_of words)) (sym tables) (IsSteady-but but))
       (λ root. ap (λ (x : Tables). heap x root) tables)
       (keeps_blocks words start image drop_formed but.sound but.closed off_header (rest_of image rest))
+      (ap (λ (x : Tables). x.entry) tables ∙ but.closed)
 
   -- the slab is gone
 
@@ -164,7 +165,7 @@ module _ (words : List ℕ) (start class : ℕ) (may : IsDroppable words start c
 
     drop_either : (new : List ℕ) → IsEitherHeap words new image
     drop_either new = either words start new image drop_near (law_of_steady (bounds_of words) (tables_of image) drop_exact) (λ root. sym (heap-slab drop_place root))
-        (keeps_blocks words start image drop_formed but.sound but.closed off_header drop_near.rest)
+        (keeps_blocks words start image drop_formed but.sound but.closed off_header drop_near.rest) drop_exact.closed
 
   pub drop_crash : (new : List ℕ) → CrashOnly words (drop_events words start) (IsLoggedOrNot words (Tomb start)) → CrashOnly words (drop_events words start) (IsEitherHeap words new)
   drop_crash new logging =

@@ -3,6 +3,7 @@ use Rattle.std.proofs.Common.{◌≡◌, ◌⊎◌, ℕ, ◌+◌, ◌<◌, ◌�
 use Rattle.pool_layout.specs.Places.{granule_word}
 use Rattle.image_tables.specs.Tables.{is_slab, state_field, tables_of}
 use Rattle.image_tables.proofs.Tables.{slab_table, entries_table}
+use Rattle.image_tables.proofs.Stores.{HasNoMove-closed}
 use Rattle.heap_model.specs.Machine.{Bounds, Range}
 use Rattle.heap_check.specs.Heap.{heap}
 use Rattle.heap_check.specs.Sound.{IsSound, IsSteady}
@@ -40,9 +41,10 @@ keeps_blocks words start image formed sound closed off rest = record {
 
 -- an image that has the heap of the words, and is steady, is one that a crash may leave
 pub either : (words : List ℕ) (start : ℕ) (new image : List ℕ) → IsNear words start image → IsSteady (bounds_of words) (tables_of image) → ((root : ℕ) → heap (tables_of image) root ≡ heap (tables_of words) root) → KeepsBlocks words image →
-    IsEitherHeap words new image
-either words start new image near steady same keeps = record {
+    (tables_of image).entry ≡ None → IsEitherHeap words new image
+either words start new image near steady same keeps closed = record {
   steady = record { formed = near.formed; steady = subst (λ (b : Bounds). IsSteady b (tables_of image)) (sym near.bounds) steady };
   heap = inl (record { each = same });
   words = keeps;
+  still = HasNoMove-closed closed;
 }

@@ -116,6 +116,7 @@ module _ (words : List ℕ) (start class : ℕ) (may : IsOpenable words start) (
       (subst (IsSteady (bounds_of words)) (sym same.tables) (law_of_steady (bounds_of words) t exact))
       (λ root. ap (λ (x : Tables). heap x root) same.tables)
       (keeps_blocks words start image formed exact.sound exact.closed off_header same.near.rest)
+      (ap (λ (x : Tables). x.entry) same.tables ∙ exact.closed)
 
   -- once it is made
 
@@ -235,7 +236,7 @@ module _ (words : List ℕ) (start class : ℕ) (may : IsOpenable words start) (
 
       open_either : (new : List ℕ) → IsEitherHeap words new image
       open_either new = either words start new image open_near (IsSteady-but open_but) (heap-slab open_place)
-          (keeps_blocks words start image formed exact.sound exact.closed off_header open_near.rest)
+          (keeps_blocks words start image formed exact.sound exact.closed off_header open_near.rest) open_but.closed
 
     logged_either : (new image : List ℕ) → IsLoggedOrNot made (Slab start) image → IsEitherHeap words new image
     logged_either new image either = ⊎_elim

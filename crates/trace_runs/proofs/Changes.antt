@@ -7,6 +7,8 @@ use Rattle.pool_layout.specs.Places.{root_word}
 use Rattle.pool_layout.specs.Header.{version_in, granules_in}
 use Rattle.pool_layout.proofs.Layouts.{layout_rules}
 use Rattle.image_tables.specs.Tables.{tables_of}
+use Rattle.image_tables.specs.Updates.{HasNoMove}
+use Rattle.image_tables.proofs.Tables.{root_table}
 use Rattle.heap_model.specs.declared.block.Block.{Block}
 use Rattle.heap_model.specs.declared.call.Call.{Call}
 use Rattle.heap_model.specs.declared.call.Call.TheVariants.{Malloc, Free, Write, Read}
@@ -119,25 +121,22 @@ IsChange-step old new call TooLarge block given exact steps by = absurd by
 IsChange-step old new call OutOfRange block given exact steps by = absurd by
 IsChange-step old new call NoSpace block given exact steps by = absurd by
 
--- a root's word is what the tables say of it
-root_is : (words : List ℕ) (root : ℕ) → IsFormed words → root < (layout_of 1).roots → (tables_of words).root root ≡ word_at words (root_word root)
-unfolding tables_of
-root_is words root formed below =
-    let here : root < (layout_of (version_in words)).roots = subst (λ v. root < (layout_of v).roots) (sym (version-formed words formed)) below in
-    cond-true _ (word_at words (root_word root)) 0 (lt-ltb root (layout_of (version_in words)).roots here)
+-- a root's word is what the tables say of it, while no move entry is open
+root_is : (words : List ℕ) (root : ℕ) → IsFormed words → HasNoMove (tables_of words).entry → root < (layout_of 1).roots → (tables_of words).root root ≡ word_at words (root_word root)
+root_is words root formed still below = root_table words root still (subst (λ v. root < (layout_of v).roots) (sym (version-formed words formed)) below)
 
 -- a root whose word is 0 has no block
-pub heap-zero : (words : List ℕ) (root : ℕ) → IsFormed words → root < (layout_of 1).roots → word_at words (root_word root) ≡ 0 → heap (tables_of words) root ≡ None
-heap-zero words root formed below zero' =
+pub heap-zero : (words : List ℕ) (root : ℕ) → IsFormed words → HasNoMove (tables_of words).entry → root < (layout_of 1).roots → word_at words (root_word root) ≡ 0 → heap (tables_of words) root ≡ None
+heap-zero words root formed still below zero' =
     cond-true _ None (Some (record { at = (tables_of words).root root; size = size_at (tables_of words) root ((tables_of words).root root) }))
-    (eq-eqb ((tables_of words).root root) 0 (root_is words root formed below ∙ zero'))
+    (eq-eqb ((tables_of words).root root) 0 (root_is words root formed still below ∙ zero'))
 
 -- a root whose word is not 0 has one
-pub heap-some : (words : List ℕ) (root : ℕ) → IsFormed words → root < (layout_of 1).roots → word_at words (root_word root) ≢ 0 → heap (tables_of words) root ≢ None
-heap-some words root formed below some none =
+pub heap-some : (words : List ℕ) (root : ℕ) → IsFormed words → HasNoMove (tables_of words).entry → root < (layout_of 1).roots → word_at words (root_word root) ≢ 0 → heap (tables_of words) root ≢ None
+heap-some words root formed still below some none =
     let range : Range = record { at = (tables_of words).root root; size = size_at (tables_of words) root ((tables_of words).root root) } in
     let is : heap (tables_of words) root ≡ Some range =
-    cond-false _ None (Some range) (ne_eqb ((tables_of words).root root) 0 (λ e. some (sym (root_is words root formed below) ∙ e))) in
+    cond-false _ None (Some range) (ne_eqb ((tables_of words).root root) 0 (λ e. some (sym (root_is words root formed still below) ∙ e))) in
     absurd (cc)
 
 -- By whether the root of a call has a block in an image, which has the heap before the call or the one after it: the

@@ -45,8 +45,8 @@ IsLeftBy-changed device done seed image block given has side listed changed is r
     let formed = changed.either.steady.formed in
     let told : IsToldBy device.base (words_of device) image block given has =
     IsToldBy-heap device.base (words_of device) image block given has changed.change changed.either.heap
-    (λ some. heap-some image block.root formed changed.change.below (reads.0 some))
-    (λ none. heap-zero image block.root formed changed.change.below (zero_or has (word_at image (root_word block.root)) none reads.1)) in
+    (λ some. heap-some image block.root formed changed.either.still changed.change.below (reads.0 some))
+    (λ none. heap-zero image block.root formed changed.either.still changed.change.below (zero_or has (word_at image (root_word block.root)) none reads.1)) in
     record {
       steady = subst IsSteadyImage is changed.either.steady;
       side = subst (λ (words : List ℕ). IsSide device.base (words_of device) words side) is (rw on told.side);

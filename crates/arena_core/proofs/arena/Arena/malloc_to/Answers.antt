@@ -5,48 +5,41 @@ use Rattle.heap_model.specs.declared.call.Call.TheVariants as calls
 use Rattle.heap_check.specs.Image.{bounds_of}
 use Rattle.arena_core.specs.Answer.{malloc_reply}
 use Rattle.arena_core.specs.Plan.{IsMallocPlan}
-use Rattle.arena_core.proofs.Called.{answered_by}
+use Rattle.arena_core.proofs.Called.{IsAnswered, meant, answered_by}
+use Rattle.arena_core.proofs.arena.Arena.malloc_to.Given as given
 use Rattle.arena_core.proofs.arena.Arena.malloc_to.Goals as goal
 
 pub carry_out_malloc-requires-clause-plan : goal.carry_out_malloc-requires-clause-plan
 carry_out_malloc-requires-clause-plan g c = (c.args.size, subst (λ (s : PmemState). IsMallocPlan (bounds_of (words_of s)) (tables_of (words_of s)) c.args.root c.args.size c.plan_malloc-plan.result) (sym c.begin.ensures.state) c.plan_malloc-plan.ensures)
 
+-- the arena answered the call
+answered : (g : given.Over) (c : goal.After-carry_out_malloc g) →
+    let state = g.P.Pmem.state in IsAnswered c.args.self.now (meant (state c.carry_out_malloc.new.device) c.carry_out_malloc.new.self) c.carry_out_malloc.new.self c.args.root (calls.Malloc c.args.root c.args.size) (malloc_reply c.carry_out_malloc.result)
+answered g c =
+    let state = g.P.Pmem.state in
+    answered_by (state c.self.inside.device) (state c.begin.new.self) (state c.carry_out_malloc.new.device) c.self.inside.volatile c.carry_out_malloc.new.self c.args.self.now c.args.root (calls.Malloc c.args.root c.args.size) (malloc_reply c.carry_out_malloc.result)
+    c.self.view_is c.begin.ensures.state (c.carry_out_malloc.ensures c.args.size (subst (λ (s : PmemState). IsMallocPlan (bounds_of (words_of s)) (tables_of (words_of s)) c.args.root c.args.size c.plan_malloc-plan.result) (sym c.begin.ensures.state) c.plan_malloc-plan.ensures))
+
 pub invariant_of-self : goal.invariant_of-self
-invariant_of-self g c =
-    (answered_by (record { device = g.P.Pmem.state c.self.inside.device; turn = c.self.inside.turn }) c.args.self.now (g.P.Pmem.state c.begin.new.self) (g.P.Pmem.state c.carry_out_malloc.new.device) c.carry_out_malloc.new.turn c.carry_out_malloc.new.log c.carry_out_malloc.new.free c.carry_out_malloc.new.slabs c.args.root (calls.Malloc c.args.root c.args.size) (malloc_reply c.carry_out_malloc.result)
-    c.self.view_is c.begin.ensures.state (c.carry_out_malloc.ensures c.args.size (subst (λ (s : PmemState). IsMallocPlan (bounds_of (words_of s)) (tables_of (words_of s)) c.args.root c.args.size c.plan_malloc-plan.result) (sym c.begin.ensures.state) c.plan_malloc-plan.ensures))).arena
+invariant_of-self g c = (answered g c).arena
 
 pub returns-clause-step : goal.returns-clause-step
-returns-clause-step g c =
-    (answered_by (record { device = g.P.Pmem.state c.self.inside.device; turn = c.self.inside.turn }) c.args.self.now (g.P.Pmem.state c.begin.new.self) (g.P.Pmem.state c.carry_out_malloc.new.device) c.carry_out_malloc.new.turn c.carry_out_malloc.new.log c.carry_out_malloc.new.free c.carry_out_malloc.new.slabs c.args.root (calls.Malloc c.args.root c.args.size) (malloc_reply c.carry_out_malloc.result)
-    c.self.view_is c.begin.ensures.state (c.carry_out_malloc.ensures c.args.size (subst (λ (s : PmemState). IsMallocPlan (bounds_of (words_of s)) (tables_of (words_of s)) c.args.root c.args.size c.plan_malloc-plan.result) (sym c.begin.ensures.state) c.plan_malloc-plan.ensures))).step
+returns-clause-step g c = (answered g c).step
 
 pub returns-clause-device : goal.returns-clause-device
-returns-clause-device g c =
-    (answered_by (record { device = g.P.Pmem.state c.self.inside.device; turn = c.self.inside.turn }) c.args.self.now (g.P.Pmem.state c.begin.new.self) (g.P.Pmem.state c.carry_out_malloc.new.device) c.carry_out_malloc.new.turn c.carry_out_malloc.new.log c.carry_out_malloc.new.free c.carry_out_malloc.new.slabs c.args.root (calls.Malloc c.args.root c.args.size) (malloc_reply c.carry_out_malloc.result)
-    c.self.view_is c.begin.ensures.state (c.carry_out_malloc.ensures c.args.size (subst (λ (s : PmemState). IsMallocPlan (bounds_of (words_of s)) (tables_of (words_of s)) c.args.root c.args.size c.plan_malloc-plan.result) (sym c.begin.ensures.state) c.plan_malloc-plan.ensures))).device
+returns-clause-device g c = (answered g c).device
 
 pub returns-clause-turn : goal.returns-clause-turn
-returns-clause-turn g c =
-    (answered_by (record { device = g.P.Pmem.state c.self.inside.device; turn = c.self.inside.turn }) c.args.self.now (g.P.Pmem.state c.begin.new.self) (g.P.Pmem.state c.carry_out_malloc.new.device) c.carry_out_malloc.new.turn c.carry_out_malloc.new.log c.carry_out_malloc.new.free c.carry_out_malloc.new.slabs c.args.root (calls.Malloc c.args.root c.args.size) (malloc_reply c.carry_out_malloc.result)
-    c.self.view_is c.begin.ensures.state (c.carry_out_malloc.ensures c.args.size (subst (λ (s : PmemState). IsMallocPlan (bounds_of (words_of s)) (tables_of (words_of s)) c.args.root c.args.size c.plan_malloc-plan.result) (sym c.begin.ensures.state) c.plan_malloc-plan.ensures))).turn_is
+returns-clause-turn g c = (answered g c).turn_is
 
 pub returns-clause-keeps : goal.returns-clause-keeps
-returns-clause-keeps g c =
-    (answered_by (record { device = g.P.Pmem.state c.self.inside.device; turn = c.self.inside.turn }) c.args.self.now (g.P.Pmem.state c.begin.new.self) (g.P.Pmem.state c.carry_out_malloc.new.device) c.carry_out_malloc.new.turn c.carry_out_malloc.new.log c.carry_out_malloc.new.free c.carry_out_malloc.new.slabs c.args.root (calls.Malloc c.args.root c.args.size) (malloc_reply c.carry_out_malloc.result)
-    c.self.view_is c.begin.ensures.state (c.carry_out_malloc.ensures c.args.size (subst (λ (s : PmemState). IsMallocPlan (bounds_of (words_of s)) (tables_of (words_of s)) c.args.root c.args.size c.plan_malloc-plan.result) (sym c.begin.ensures.state) c.plan_malloc-plan.ensures))).keeps
+returns-clause-keeps g c = (answered g c).keeps
 
 pub returns-clause-exact : goal.returns-clause-exact
-returns-clause-exact g c =
-    (answered_by (record { device = g.P.Pmem.state c.self.inside.device; turn = c.self.inside.turn }) c.args.self.now (g.P.Pmem.state c.begin.new.self) (g.P.Pmem.state c.carry_out_malloc.new.device) c.carry_out_malloc.new.turn c.carry_out_malloc.new.log c.carry_out_malloc.new.free c.carry_out_malloc.new.slabs c.args.root (calls.Malloc c.args.root c.args.size) (malloc_reply c.carry_out_malloc.result)
-    c.self.view_is c.begin.ensures.state (c.carry_out_malloc.ensures c.args.size (subst (λ (s : PmemState). IsMallocPlan (bounds_of (words_of s)) (tables_of (words_of s)) c.args.root c.args.size c.plan_malloc-plan.result) (sym c.begin.ensures.state) c.plan_malloc-plan.ensures))).arena.kept.exact
+returns-clause-exact g c = (answered g c).arena.kept.exact
 
 pub returns-clause-ready : goal.returns-clause-ready
-returns-clause-ready g c =
-    (answered_by (record { device = g.P.Pmem.state c.self.inside.device; turn = c.self.inside.turn }) c.args.self.now (g.P.Pmem.state c.begin.new.self) (g.P.Pmem.state c.carry_out_malloc.new.device) c.carry_out_malloc.new.turn c.carry_out_malloc.new.log c.carry_out_malloc.new.free c.carry_out_malloc.new.slabs c.args.root (calls.Malloc c.args.root c.args.size) (malloc_reply c.carry_out_malloc.result)
-    c.self.view_is c.begin.ensures.state (c.carry_out_malloc.ensures c.args.size (subst (λ (s : PmemState). IsMallocPlan (bounds_of (words_of s)) (tables_of (words_of s)) c.args.root c.args.size c.plan_malloc-plan.result) (sym c.begin.ensures.state) c.plan_malloc-plan.ensures))).arena.kept.ready
+returns-clause-ready g c = (answered g c).arena.kept.ready
 
 pub returns-clause-crash : goal.returns-clause-crash
-returns-clause-crash g c =
-    (answered_by (record { device = g.P.Pmem.state c.self.inside.device; turn = c.self.inside.turn }) c.args.self.now (g.P.Pmem.state c.begin.new.self) (g.P.Pmem.state c.carry_out_malloc.new.device) c.carry_out_malloc.new.turn c.carry_out_malloc.new.log c.carry_out_malloc.new.free c.carry_out_malloc.new.slabs c.args.root (calls.Malloc c.args.root c.args.size) (malloc_reply c.carry_out_malloc.result)
-    c.self.view_is c.begin.ensures.state (c.carry_out_malloc.ensures c.args.size (subst (λ (s : PmemState). IsMallocPlan (bounds_of (words_of s)) (tables_of (words_of s)) c.args.root c.args.size c.plan_malloc-plan.result) (sym c.begin.ensures.state) c.plan_malloc-plan.ensures))).crash
+returns-clause-crash g c = (answered g c).crash

@@ -1,6 +1,6 @@
 use Rattle.pmem_lines.specs.Pmem.{words_of}
 use Rattle.arena_core.proofs.Slabbed.{normal_opened, index_opened, slabs_opened}
-use Rattle.arena_core.proofs.carrying.add_slab.Goals as goal
+use Rattle.arena_core.proofs.volatile.Volatile.add_slab.Goals as goal
 
 pub take-requires : goal.take-requires
 take-requires g c = record { each = λ k low high. (c.requires.kept.index.each k).1 (c.requires.row.vacant k low high) }
@@ -9,7 +9,7 @@ pub returns-clause-index : goal.returns-clause-index
 returns-clause-index g c =
     let state = g.P.Pmem.state in
     index_opened (words_of (state c.args.device.now)) c.args.start c.args.class c.requires.kept.exact c.requires.row c.requires.class (words_of (state c.open_slab.new.p)) c.open_slab.ensures.opened
-    c.args.free.now c.take.new.self c.take.ensures.granules c.take.ensures.free c.requires.kept.index
+    c.args.self.now.free c.take.new.self c.take.ensures.granules c.take.ensures.free c.requires.kept.index
 
 pub returns-clause-normal : goal.returns-clause-normal
 returns-clause-normal g c =
@@ -20,4 +20,4 @@ pub returns-clause-slabs : goal.returns-clause-slabs
 returns-clause-slabs g c =
     let state = g.P.Pmem.state in
     slabs_opened (words_of (state c.args.device.now)) c.args.start c.args.class c.requires.kept.exact c.requires.row c.requires.class (words_of (state c.open_slab.new.p)) c.open_slab.ensures.opened
-    c.args.slabs.now c.add.new.self (record { granules = c.add.ensures.granules; classes = c.add.ensures.classes; blocks = c.add.ensures.blocks }) c.requires.slabs
+    c.args.self.now.slabs c.add.new.self (record { granules = c.add.ensures.granules; classes = c.add.ensures.classes; blocks = c.add.ensures.blocks }) c.requires.slabs

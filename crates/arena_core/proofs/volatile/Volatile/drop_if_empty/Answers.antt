@@ -10,13 +10,13 @@ use Rattle.slab_steps.specs.Steps.{drop_events}
 use Rattle.arena_core.specs.Effect.{slabs_but}
 use Rattle.arena_core.specs.Events.{holds_none, empty_events}
 use Rattle.arena_core.proofs.Slabbed.{none_held, held_row, classes_dropped, normal_dropped, index_dropped, slabs_dropped, keeps_dropped, tidied_none}
-use Rattle.arena_core.proofs.carrying.drop_if_empty.Goals as goal
+use Rattle.arena_core.proofs.volatile.Volatile.drop_if_empty.Goals as goal
 
 pub give-requires : goal.give-requires
-give-requires g c = held_row (words_of (g.P.Pmem.state c.args.device.now)) c.args.free.now c.args.start c.requires.image c.requires.slab c.requires.index
+give-requires g c = held_row (words_of (g.P.Pmem.state c.args.device.now)) c.args.self.now.free c.args.start c.requires.image c.requires.slab c.requires.index
 
-pub returns-then-is_whole : goal.returns-then-is_whole
-returns-then-is_whole g c =
+pub returns-then-is_whole-clause-tidied : goal.returns-then-is_whole-clause-tidied
+returns-then-is_whole-clause-tidied g c =
     let old = g.P.Pmem.state c.args.device.now in
     let left = g.P.Pmem.state c.drop_slab.new.p in
     let words = words_of old in
@@ -26,7 +26,7 @@ returns-then-is_whole g c =
     let image = c.requires.image in
     let drop = c.drop_slab.ensures in
     let dropped = drop.dropped in
-    let none = none_held words c.args.slabs.now start c.requires.slabs c.requires.slab (c.is_whole.ensures.0 c.if-is_whole.true) in
+    let none = none_held words c.args.self.now.slabs start c.requires.slabs c.requires.slab (c.is_whole.ensures.0 c.if-is_whole.true) in
     let events : empty_events words start ≡ drop_events words start = cond-true (holds_none (tables_of words) start) (drop_events words start) [] none in
     record {
       appends = subst (λ (es : List Event). Appends old left es) (sym events) drop.appends;
@@ -34,10 +34,10 @@ returns-then-is_whole g c =
         ready = record { quiet = drop.quiet; room = omega (arith, c.requires.room, drop.appends.room) };
         exact = dropped.image;
         log = drop.book;
-        index = index_dropped words start class image new dropped c.args.free.now c.give.new.self c.give.ensures.granules c.give.ensures.free c.requires.index;
+        index = index_dropped words start class image new dropped c.args.self.now.free c.give.new.self c.give.ensures.granules c.give.ensures.free c.requires.index;
       };
       normal = normal_dropped words start class image new dropped c.requires.normal;
-      slabs = slabs_dropped words start class image new dropped c.args.slabs.now c.remove.new.self
+      slabs = slabs_dropped words start class image new dropped c.args.self.now.slabs c.remove.new.self
           (record { granules = c.remove.ensures.granules; classes = c.remove.ensures.classes; blocks = c.remove.ensures.blocks }) c.requires.slabs;
       bounds = dropped.bounds;
       heap = dropped.heap;
@@ -46,8 +46,8 @@ returns-then-is_whole g c =
       crash = subst (λ (es : List Event). CrashOnly words es (IsEitherHeap words new)) (sym events) drop.crash;
     }
 
-pub returns-else-is_whole : goal.returns-else-is_whole
-returns-else-is_whole g c =
-    tidied_none (g.P.Pmem.state c.args.device.now) c.args.log.now c.args.free.now c.args.slabs.now c.args.start c.requires.image
+pub returns-else-is_whole-clause-tidied : goal.returns-else-is_whole-clause-tidied
+returns-else-is_whole-clause-tidied g c =
+    tidied_none (g.P.Pmem.state c.args.device.now) c.args.self.now c.args.start c.requires.image
     (record { quiet = c.requires.quiet; room = c.requires.room }) c.requires.book c.requires.index c.requires.normal c.requires.slabs c.requires.slab
     (λ whole. true≢false (sym (c.is_whole.ensures.1 whole) ∙ c.if-is_whole.false))

@@ -1,4 +1,4 @@
-use Rattle.std.proofs.Common.{◌≡◌, ◌*◌, sym, ap, subst, ◌∙◌, arith}
+use Rattle.std.proofs.Common.{◌≡◌, ◌+◌, ◌*◌, ◌%◌, refl, sym, ap, subst, ◌∙◌, arith}
 use Rattle.pmem_lines.specs.Pmem.{words_of}
 use Rattle.image_tables.specs.Tables.{tables_of}
 use Rattle.heap_model.specs.declared.call.Call.TheVariants as calls
@@ -12,8 +12,8 @@ use Rattle.arena_core.specs.Plan.{IsTakable, IsNamedSmall, IsHeldBy, range_held}
 use Rattle.arena_core.proofs.Blocks.{heap-takable}
 use Rattle.arena_core.proofs.Called.{IsCalled-same, IsCalled-done, IsDone-large, freed_large, turn_freed, freed_there, start_is, turn_small, named_class, named_inside, named_heap}
 use Rattle.arena_core.proofs.Machines.{freed_step, large_stays, small_stays}
-use Rattle.arena_core.proofs.carrying.carry_out_held.Goals as goal
-use Rattle.arena_core.proofs.carrying.carry_out_held.Goals.{in-Large, in-Small}
+use Rattle.arena_core.proofs.volatile.Volatile.carry_out_held.Goals as goal
+use Rattle.arena_core.proofs.volatile.Volatile.carry_out_held.Goals.{in-Large, in-Small}
 
 pub returns : goal.returns
 returns g c =
@@ -32,11 +32,11 @@ returns g c =
           let range : Range = record { at = 16384 * start; size = 16384 * count } in
           let new = words_of (state w.take_large.new.device) in
           let taken : IsTakable b t root start count = subst (IsHeldBy b t root) w.in-Large.is c.requires.plan in
-          let done = IsDone-large arena w.take_large.ensures.appends w.take_large.ensures.kept w.take_large.ensures.gives w.take_large.ensures.slabs w.take_large.ensures.crash in
-          let step = freed_step words new root range (slabs t) taken.below (heap-takable b t root start count (omega (arith, (sizes_of words exact.formed).first)) taken) (large_stays words root start count exact taken) w.take_large.ensures.gives in
-          IsCalled-same (ap state w.device-is) w.turn-is w.log-is w.free-is w.slabs-is
+          let done = w.take_large.ensures.done in
+          let step = freed_step words new root range (slabs t) taken.below (heap-takable b t root start count (omega (arith, (sizes_of words exact.formed).first)) taken) (large_stays words root start count exact taken) done.gives in
+          IsCalled-same (ap state w.device-is) w.self-is
           (λ i. replies.Freed ((c.freed_of.ensures.0 ∙ ap (λ (h : Held). (range_held h).at) w.held-is) i) ((c.freed_of.ensures.1 ∙ ap (λ (h : Held). (range_held h).size) w.held-is) i))
-          (IsCalled-done (calls.Free root) (replies.Freed range.at range.size) done (sym (freed_large words c.args.turn.now root start count taken.many)) (sym (turn_freed words c.args.turn.now root start count taken.many c.args.turn.now)) arena.few step)
+          (IsCalled-done (calls.Free root) (replies.Freed range.at range.size) done (sym (freed_large words c.args.self.now.line root start count taken.many)) refl (w.take_large.ensures.line ∙ sym (turn_freed words c.args.self.now.line root start count taken.many c.args.self.now.line)) (omega (arith, w.take_large.ensures.line, arena.few)) step)
       | in-Small w ↦
           let block = w.in-Small.block in
           let class = w.in-Small.class in
@@ -47,11 +47,11 @@ returns g c =
           let done = w.take_small.ensures.done in
           let step = freed_step words new root range _ named.rooted (named_heap words exact arena.normal root block class named)
           (small_stays words root block.start range _ exact (named_inside words exact arena.normal root block class named) w.take_small.ensures.last) done.gives in
-          IsCalled-same (ap state w.device-is) w.turn-is w.log-is w.free-is w.slabs-is
+          IsCalled-same (ap state w.device-is) w.self-is
           (λ i. replies.Freed ((c.freed_of.ensures.0 ∙ ap (λ (h : Held). (range_held h).at) w.held-is) i) ((c.freed_of.ensures.1 ∙ ap (λ (h : Held). (range_held h).size) w.held-is) i))
           (IsCalled-done (calls.Free root) (replies.Freed range.at range.size) done
-          (freed_there words c.args.turn.now root block class is_class named.at (start_is exact.exact.sound block.start class block.number named.slab is_class named.below))
-          (sym (turn_small c.args.turn.now range.at class is_class).1) (omega arith) step)
+          (freed_there words c.args.self.now.line root block class is_class named.at (start_is exact.exact.sound block.start class block.number named.slab is_class named.below))
+          refl (ap (λ n. (n + 1) % 8) w.take_small.ensures.line ∙ sym (turn_small c.args.self.now.line range.at class is_class).1) (omega arith) step)
     ]
 
 pub freed_of-requires : goal.freed_of-requires

@@ -10,7 +10,7 @@ use Rattle.arena_core.specs.Events.{call_events, turn_after}
 use Rattle.arena_core.specs.Plan.{IsFreePlan}
 use Rattle.arena_core.proofs.Called.{IsCalled-refused}
 use Rattle.arena_core.proofs.Machines.{refused_free}
-use Rattle.arena_core.proofs.carrying.carry_out_free.Goals as goal
+use Rattle.arena_core.proofs.volatile.Volatile.carry_out_free.Goals as goal
 
 pub carry_out_held-requires-clause-plan : goal.carry_out_held-requires-clause-plan
 carry_out_held-requires-clause-plan g c =
@@ -21,7 +21,7 @@ pub returns-in-Err : goal.returns-in-Err
 returns-in-Err g c =
     let words = words_of (g.P.Pmem.state c.args.device.now) in
     let root = c.args.root in
-    let turn = c.args.turn.now in
+    let turn = c.args.self.now.line in
     let refused = subst (IsFreePlan (bounds_of words) (tables_of words) root) c.in-Err.is c.requires.plan in
     let stays : (refusal : FreeRefusal) → (call_events words turn root (free_reply (Err refusal)) ≡ []) × (turn_after turn (free_reply (Err refusal)) ≡ turn) =
     λ refusal. elim refusal as (λ refusal. (call_events words turn root (free_reply (Err refusal)) ≡ []) × (turn_after turn (free_reply (Err refusal)) ≡ turn)) [

@@ -1,4 +1,4 @@
-use Rattle.std.proofs.Common.{◌≡◌, ◌*◌, ◌≤◌, sym, ap, subst, ◌∙◌, arith}
+use Rattle.std.proofs.Common.{◌≡◌, ◌+◌, ◌*◌, ◌%◌, ◌≤◌, refl, sym, ap, subst, ◌∙◌, arith}
 use Rattle.pmem_lines.specs.Pmem.{words_of}
 use Rattle.image_tables.specs.Tables.{tables_of}
 use Rattle.heap_model.specs.declared.call.Call.TheVariants as calls
@@ -6,13 +6,14 @@ use Rattle.heap_model.specs.declared.call.Reply.TheVariants as replies
 use Rattle.heap_model.specs.Machine.{Range, slab_block}
 use Rattle.heap_check.specs.Image.{bounds_of}
 use Rattle.heap_check.proofs.Sizes.{sizes_of}
+use Rattle.arena_core.specs.declared.volatile.Volatile.{Volatile}
 use Rattle.arena_core.specs.declared.plan.Place.{Place}
 use Rattle.arena_core.specs.declared.plan.Place.TheVariants as places
 use Rattle.arena_core.specs.Plan.{IsAskedOf, IsPlacing, range_at}
 use Rattle.arena_core.proofs.Called.{IsCalled-same, IsCalled-done, IsDone-large, IsDone-small, placed_large, turn_placed, placed_there, placed_fresh, start_is, turn_small, small_attachable}
 use Rattle.arena_core.proofs.Machines.{placed_step}
-use Rattle.arena_core.proofs.carrying.carry_out_place.Goals as goal
-use Rattle.arena_core.proofs.carrying.carry_out_place.Goals.{in-Large, in-Small, in-Fresh}
+use Rattle.arena_core.proofs.volatile.Volatile.carry_out_place.Goals as goal
+use Rattle.arena_core.proofs.volatile.Volatile.carry_out_place.Goals.{in-Large, in-Small, in-Fresh}
 
 pub returns : goal.returns
 returns g c size plan =
@@ -21,7 +22,7 @@ returns g c size plan =
     let b = bounds_of words in
     let t = tables_of words in
     let root = c.args.root in
-    let turn = c.args.turn.now in
+    let turn = c.args.self.now.line in
     let arena = c.requires.arena in
     let exact = arena.kept.exact in
     let state = g.P.Pmem.state in
@@ -34,11 +35,11 @@ returns g c size plan =
           let new = words_of (state w.give_large.new.device) in
           let placing : IsPlacing b t root size (places.Large start count) = subst (IsPlacing b t root size) w.in-Large.is made.1 in
           let many = placing.givable.many in
-          let done = IsDone-large arena w.give_large.ensures.appends w.give_large.ensures.kept w.give_large.ensures.gives w.give_large.ensures.slabs w.give_large.ensures.crash in
-          let step = placed_step words new root size (places.Large start count) exact arena.normal made.0 placing w.give_large.ensures.gives in
-          IsCalled-same (ap state w.device-is) w.turn-is w.log-is w.free-is w.slabs-is
+          let done = w.give_large.ensures.done in
+          let step = placed_step words new root size (places.Large start count) exact arena.normal made.0 placing done.gives in
+          IsCalled-same (ap state w.device-is) w.self-is
           (λ i. replies.Placed ((c.placed_at.ensures.0 ∙ ap (λ (p : Place). (range_at p).at) w.place-is) i) ((c.placed_at.ensures.1 ∙ ap (λ (p : Place). (range_at p).size) w.place-is) i))
-          (IsCalled-done (calls.Malloc root size) (replies.Placed range.at range.size) done (sym (placed_large words turn root start count many)) (sym (turn_placed words turn root start count many turn)) arena.few step)
+          (IsCalled-done (calls.Malloc root size) (replies.Placed range.at range.size) done (sym (placed_large words turn root start count many)) refl (w.give_large.ensures.line ∙ sym (turn_placed words turn root start count many turn)) (omega (arith, w.give_large.ensures.line, arena.few)) step)
       | in-Small w ↦
           let block = w.in-Small.block in
           let class = w.in-Small.class in
@@ -48,13 +49,13 @@ returns g c size plan =
           let is_class = placing.least.is_class in
           let may = small_attachable words root size block class exact arena.normal made.0 placing in
           let given = w.give_small.ensures in
-          let done = IsDone-small block arena may placing.lowest.class_is given.appends given.quiet given.attached given.normal given.slabs given.crash in
+          let done = IsDone-small block arena given.rest may placing.lowest.class_is given.appends given.quiet given.attached given.normal given.slabs given.crash in
           let step = placed_step words new root size (places.Small block class) exact arena.normal made.0 placing done.gives in
-          IsCalled-same (ap state w.device-is) w.turn-is w.log-is w.free-is w.slabs-is
+          IsCalled-same (ap state w.device-is) w.self-is
           (λ i. replies.Placed ((c.placed_at.ensures.0 ∙ ap (λ (p : Place). (range_at p).at) w.place-is) i) ((c.placed_at.ensures.1 ∙ ap (λ (p : Place). (range_at p).size) w.place-is) i))
           (IsCalled-done (calls.Malloc root size) (replies.Placed range.at range.size) done
           (placed_there words turn root block class is_class placing.at (start_is exact.exact.sound block.start class block.number placing.lowest.slab is_class placing.lowest.below) placing.lowest.slab)
-          (sym (turn_small turn range.at class is_class).0) (omega arith) step)
+          refl (ap (λ (v : Volatile). (v.line + 1) % 8) given.rest ∙ sym (turn_small turn range.at class is_class).0) (omega arith) step)
       | in-Fresh w ↦
           let start = w.in-Fresh.start in
           let class = w.in-Fresh.class in
@@ -62,14 +63,14 @@ returns g c size plan =
           let new = words_of (state w.give_fresh.new.device) in
           let placing : IsPlacing b t root size (places.Fresh start class) = subst (IsPlacing b t root size) w.in-Fresh.is made.1 in
           let is_class = placing.least.is_class in
-          let done = w.give_fresh.ensures in
+          let done = w.give_fresh.ensures.done in
           let step = placed_step words new root size (places.Fresh start class) exact arena.normal made.0 placing done.gives in
           let high : 3 ≤ start = omega (arith, placing.row.low, (sizes_of words exact.formed).first) in
-          IsCalled-same (ap state w.device-is) w.turn-is w.log-is w.free-is w.slabs-is
+          IsCalled-same (ap state w.device-is) w.self-is
           (λ i. replies.Placed ((c.placed_at.ensures.0 ∙ ap (λ (p : Place). (range_at p).at) w.place-is) i) ((c.placed_at.ensures.1 ∙ ap (λ (p : Place). (range_at p).size) w.place-is) i))
           (IsCalled-done (calls.Malloc root size) (replies.Placed range.at range.size) done
           (placed_fresh b words turn root start class is_class high (placing.row.vacant start (omega arith) (omega arith)))
-          (sym (turn_small turn range.at class is_class).0) (omega arith) step)
+          refl (ap (λ n. (n + 1) % 8) w.give_fresh.ensures.line ∙ sym (turn_small turn range.at class is_class).0) (omega arith) step)
     ]
 
 pub give_small-requires-clause-attachable : goal.give_small-requires-clause-attachable

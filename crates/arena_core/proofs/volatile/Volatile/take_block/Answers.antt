@@ -3,7 +3,7 @@ use Rattle.std.proofs.lemmas.Bool.{cond-true}
 use Rattle.pmem_lines.specs.Pmem.{words_of}
 use Rattle.image_tables.specs.Tables.{tables_of}
 use Rattle.arena_core.proofs.Smalls.{normal_small, slabs_small}
-use Rattle.arena_core.proofs.carrying.take_block.Goals as goal
+use Rattle.arena_core.proofs.volatile.Volatile.take_block.Goals as goal
 
 pub detach-requires-clause-room : goal.detach-requires-clause-room
 detach-requires-clause-room g c = omega (arith, ap length c.requires.fresh, c.requires.ready.room)
@@ -33,4 +33,4 @@ returns-clause-slabs g c =
     let detached = c.detach.ensures.detached in
     let block = c.args.block in
     slabs_small (words_of (state c.args.device.now)) c.args.root block.start block.number false 0 (words_of (state c.detach.new.p)) detached.bounds detached.tables
-    c.args.slabs.now c.give.new.self (record { granules = c.give.ensures.granules; classes = c.give.ensures.classes; blocks = c.give.ensures.blocks }) c.requires.slabs
+    c.args.self.now.slabs c.give.new.self (record { granules = c.give.ensures.granules; classes = c.give.ensures.classes; blocks = c.give.ensures.blocks }) c.requires.slabs

@@ -1,4 +1,4 @@
-use Rattle.std.proofs.Common.{◌≡◌, ℕ, false, List, ◌++◌, subst, ◌∙◌, inr}
+use Rattle.std.proofs.Common.{◌≡◌, ℕ, false, List, ◌++◌, sym, ap, subst, ◌∙◌, inr}
 use Rattle.pmem_lines.specs.declared.event.Event.{Event}
 use Rattle.pmem_lines.specs.Events.{reading, CrashOnly}
 use Rattle.pmem_lines.specs.Pmem.{words_of, Appends}
@@ -7,11 +7,14 @@ use Rattle.image_tables.specs.Tables.{tables_of}
 use Rattle.heap_check.specs.State.{IsEitherHeap}
 use Rattle.log_steps.proofs.Entries.{quiet_step}
 use Rattle.attach_steps.specs.Steps.{detach_events}
+use Rattle.log_steps.specs.Log.{IsBookOf}
+use Rattle.arena_core.specs.declared.volatile.Volatile.{Volatile}
+use Rattle.arena_core.specs.Arena.{IsIndexOf}
 use Rattle.arena_core.specs.Effect.{slabs_but, IsLastOf}
 use Rattle.arena_core.proofs.Last.{last_of}
 use Rattle.arena_core.specs.Events.{holds_none, empty_events, unsmall_events}
 use Rattle.arena_core.proofs.Smalls.{classes_small, index_small, book_small, keeps_small, named_in, keeps_both, crash_then}
-use Rattle.arena_core.proofs.carrying.take_small.Goals as goal
+use Rattle.arena_core.proofs.volatile.Volatile.take_small.Goals as goal
 
 pub drop_if_empty-requires-clause-book : goal.drop_if_empty-requires-clause-book
 drop_if_empty-requires-clause-book g c =
@@ -19,15 +22,17 @@ drop_if_empty-requires-clause-book g c =
     let words = words_of (state c.args.device.now) in
     let arena = c.requires.arena in
     let detached = c.take_block.ensures.detached in
-    book_small words c.args.line c.args.root c.args.block (named_in words c.args.root c.args.block c.args.class arena.kept.exact arena.normal c.requires.named) arena.few
-    (words_of (state c.take_block.new.device)) detached.rest detached.bounds c.args.log.now arena.kept.log
+    subst (λ (v : Volatile). IsBookOf v.log (words_of (state c.take_block.new.device))) (sym c.take_block.ensures.rest)
+    (book_small words c.args.self.now.line c.args.root c.args.block (named_in words c.args.root c.args.block c.args.class arena.kept.exact arena.normal c.requires.named) arena.few
+    (words_of (state c.take_block.new.device)) detached.rest detached.bounds c.args.self.now.log arena.kept.log)
 
 pub drop_if_empty-requires-clause-index : goal.drop_if_empty-requires-clause-index
 drop_if_empty-requires-clause-index g c =
     let state = g.P.Pmem.state in
     let detached = c.take_block.ensures.detached in
     let block = c.args.block in
-    index_small (words_of (state c.args.device.now)) c.args.root block.start block.number false 0 (words_of (state c.take_block.new.device)) detached.bounds detached.tables c.args.free.now c.requires.arena.kept.index
+    subst (λ (v : Volatile). IsIndexOf v.free (words_of (state c.take_block.new.device))) (sym c.take_block.ensures.rest)
+    (index_small (words_of (state c.args.device.now)) c.args.root block.start block.number false 0 (words_of (state c.take_block.new.device)) detached.bounds detached.tables c.args.self.now.free c.requires.arena.kept.index)
 
 pub returns-clause-done : goal.returns-clause-done
 returns-clause-done g c =
@@ -41,12 +46,12 @@ returns-clause-done g c =
     let arena = c.requires.arena in
     let take = c.take_block.ensures in
     let detached = take.detached in
-    let tidied = c.drop_if_empty.ensures in
+    let tidied = c.drop_if_empty.ensures.tidied in
     let block_in = named_in words root block c.args.class arena.kept.exact arena.normal c.requires.named in
-    let mid_is : mid ≡ reading words (detach_events words c.args.line root block) = take.appends.words in
-    let events : (detach_events words c.args.line root block ++ empty_events mid start) ≡ unsmall_events words c.args.line root block =
-    λ i. detach_events words c.args.line root block ++ empty_events (mid_is i) start in
-    let kept_words = keeps_small words c.args.line root block block_in arena.few mid detached.rest in
+    let mid_is : mid ≡ reading words (detach_events words c.args.self.now.line root block) = take.appends.words in
+    let events : (detach_events words c.args.self.now.line root block ++ empty_events mid start) ≡ unsmall_events words c.args.self.now.line root block =
+    λ i. detach_events words c.args.self.now.line root block ++ empty_events (mid_is i) start in
+    let kept_words = keeps_small words c.args.self.now.line root block block_in arena.few mid detached.rest in
     record {
       appends = subst (λ (es : List Event). Appends (state c.args.device.now) (state c.drop_if_empty.new.device) es) events (then_step take.appends tidied.appends);
       kept = tidied.kept;
@@ -61,7 +66,7 @@ returns-clause-done g c =
         bounds = tidied.bounds ∙ detached.bounds;
       };
       crash = subst (λ (es : List Event). CrashOnly words es (IsEitherHeap words new)) events
-          (crash_then words mid new (inr tidied.heap) (detach_events words c.args.line root block) (empty_events mid start) (quiet_step take.appends take.quiet) mid_is kept_words take.crash tidied.crash);
+          (crash_then words mid new (inr tidied.heap) (detach_events words c.args.self.now.line root block) (empty_events mid start) (quiet_step take.appends take.quiet) mid_is kept_words take.crash tidied.crash);
     }
 
 pub returns-clause-last : goal.returns-clause-last
@@ -69,4 +74,7 @@ returns-clause-last g c =
     let words = words_of (g.P.Pmem.state c.args.device.now) in
     let start = c.args.block.start in
     subst (λ (ws : List ℕ). IsLastOf (tables_of words) c.args.root start (holds_none (tables_of ws) start)) c.take_block.ensures.appends.words
-    (last_of words c.args.line c.args.root c.args.block c.args.class c.requires.arena.kept.exact c.requires.arena.normal c.requires.named (words_of (g.P.Pmem.state c.take_block.new.device)) c.take_block.ensures.detached)
+    (last_of words c.args.self.now.line c.args.root c.args.block c.args.class c.requires.arena.kept.exact c.requires.arena.normal c.requires.named (words_of (g.P.Pmem.state c.take_block.new.device)) c.take_block.ensures.detached)
+
+pub returns-clause-line : goal.returns-clause-line
+returns-clause-line g c = c.drop_if_empty.ensures.line ∙ ap (λ (v : Volatile). v.line) c.take_block.ensures.rest

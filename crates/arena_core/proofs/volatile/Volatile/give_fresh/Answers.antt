@@ -1,4 +1,4 @@
-use Rattle.std.proofs.Common.{◌≡◌, ◌+◌, ◌*◌, true, List, ◌++◌, ap, subst, ◌∙◌, arith, inl, Some}
+use Rattle.std.proofs.Common.{◌≡◌, ◌+◌, ◌*◌, ◌<◌, true, List, ◌++◌, sym, ap, subst, ◌∙◌, arith, inl, Some}
 use Rattle.pmem_lines.specs.declared.event.Event.{Event}
 use Rattle.pmem_lines.specs.Events.{CrashOnly}
 use Rattle.pmem_lines.specs.Pmem.{words_of, Appends}
@@ -9,10 +9,11 @@ use Rattle.log_steps.proofs.Entries.{quiet_step}
 use Rattle.slab_steps.specs.Steps.{open_events}
 use Rattle.attach_steps.specs.declared.block.SmallBlock.{SmallBlock}
 use Rattle.attach_steps.specs.Steps.{attach_events}
+use Rattle.arena_core.specs.Arena.{IsKept}
 use Rattle.arena_core.specs.Events.{first_block, fresh_events}
 use Rattle.arena_core.proofs.Smalls.{classes_small, index_small, book_small, keeps_small, keeps_both, crash_then}
 use Rattle.arena_core.proofs.Slabbed.{classes_opened, keeps_opened, first_attachable}
-use Rattle.arena_core.proofs.carrying.give_fresh.Goals as goal
+use Rattle.arena_core.proofs.volatile.Volatile.give_fresh.Goals as goal
 
 pub give_small-requires-clause-attachable : goal.give_small-requires-clause-attachable
 give_small-requires-clause-attachable g c =
@@ -21,8 +22,8 @@ give_small-requires-clause-attachable g c =
     first_attachable (words_of (state c.args.device.now)) c.args.start c.args.class c.requires.arena.kept.exact c.requires.row c.requires.class (words_of (state c.add_slab.new.device)) c.add_slab.ensures.opened
     c.args.root c.blocks_at.result asked.below asked.none (omega (arith, c.blocks_at.ensures, c.granule_at.ensures))
 
-pub returns : goal.returns
-returns g c =
+pub returns-clause-done : goal.returns-clause-done
+returns-clause-done g c =
     let state = g.P.Pmem.state in
     let words = words_of (state c.args.device.now) in
     let mid = words_of (state c.add_slab.new.device) in
@@ -34,6 +35,8 @@ returns g c =
     let exact = arena.kept.exact in
     let asked = c.requires.asked.1 in
     let add = c.add_slab.ensures in
+    let line = c.add_slab.new.self.line in
+    let few : line < 8 = omega (arith, add.line, arena.few) in
     let opened = add.opened in
     let give = c.give_small.ensures in
     let attached = give.attached in
@@ -41,26 +44,26 @@ returns g c =
     let first : SmallBlock = record { start = start; number = 0; at = c.blocks_at.result } in
     let first_is : first ≡ first_block start = λ i. record { start = start; number = 0; at = at_is i } in
     let may = first_attachable words start class exact c.requires.row c.requires.class mid opened root c.blocks_at.result asked.below asked.none at_is in
-    let events : (open_events words start class ++ attach_events mid c.args.line root first) ≡ fresh_events words c.args.line root start class =
-    λ i. open_events words start class ++ attach_events (add.appends.words i) c.args.line root (first_is i) in
+    let events : (open_events words start class ++ attach_events mid line root first) ≡ fresh_events words c.args.self.now.line root start class =
+    λ i. open_events words start class ++ attach_events (add.appends.words i) (add.line i) root (first_is i) in
     let kept_words = keeps_opened words start class exact c.requires.row c.requires.class mid opened in
     record {
       appends = subst (λ (es : List Event). Appends (state c.args.device.now) (state c.give_small.new.device) es) events (then_step add.appends give.appends);
-      kept = record {
+      kept = subst (IsKept (state c.give_small.new.device)) (sym give.rest) (record {
         ready = record { quiet = give.quiet; room = omega (arith, arena.kept.ready.room, add.appends.room, give.appends.room) };
         exact = attached.exact;
-        log = book_small mid c.args.line root first may.block_in arena.few new attached.rest attached.bounds c.add_slab.new.log add.book;
-        index = index_small mid root start 0 true c.blocks_at.result new attached.bounds attached.tables c.add_slab.new.free add.index;
-      };
+        log = book_small mid line root first may.block_in few new attached.rest attached.bounds c.add_slab.new.self.log add.book;
+        index = index_small mid root start 0 true c.blocks_at.result new attached.bounds attached.tables c.add_slab.new.self.free add.index;
+      });
       normal = give.normal;
       slabs = give.slabs;
       gives = record {
         here = attached.gives.here ∙ ap (λ k. Some (slab_block start k 0)) opened.slab.class_is;
         others = λ other differ. attached.gives.others other differ ∙ opened.heap.each other;
         slabs = λ s. classes_small mid root start 0 true c.blocks_at.result new attached.bounds attached.tables s ∙ classes_opened words start class exact c.requires.row c.requires.class mid opened s;
-        keeps = keeps_both words mid new (inl opened.heap) kept_words (keeps_small mid c.args.line root first may.block_in arena.few new attached.rest);
+        keeps = keeps_both words mid new (inl opened.heap) kept_words (keeps_small mid line root first may.block_in few new attached.rest);
         bounds = attached.bounds ∙ opened.bounds;
       };
       crash = subst (λ (es : List Event). CrashOnly words es (IsEitherHeap words new)) events
-          (crash_then words mid new (inl opened.heap) (open_events words start class) (attach_events mid c.args.line root first) (quiet_step add.appends add.quiet) add.appends.words kept_words add.crash give.crash);
+          (crash_then words mid new (inl opened.heap) (open_events words start class) (attach_events mid line root first) (quiet_step add.appends add.quiet) add.appends.words kept_words add.crash give.crash);
     }

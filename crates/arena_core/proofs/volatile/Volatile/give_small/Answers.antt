@@ -1,7 +1,7 @@
 use Rattle.std.proofs.Common.{true, not, ap, ◌∙◌, arith}
 use Rattle.pmem_lines.specs.Pmem.{words_of}
 use Rattle.arena_core.proofs.Smalls.{normal_small, slabs_small}
-use Rattle.arena_core.proofs.carrying.give_small.Goals as goal
+use Rattle.arena_core.proofs.volatile.Volatile.give_small.Goals as goal
 
 pub attach-requires-clause-room : goal.attach-requires-clause-room
 attach-requires-clause-room g c = omega (arith, c.requires.few, c.requires.ready.room)
@@ -24,4 +24,4 @@ returns-clause-slabs g c =
     let attached = c.attach.ensures.attached in
     let block = c.args.block in
     slabs_small (words_of (state c.args.device.now)) c.args.root block.start block.number true block.at (words_of (state c.attach.new.p)) attached.bounds attached.tables
-    c.args.slabs.now c.take.new.self (record { granules = c.take.ensures.granules; classes = c.take.ensures.classes; blocks = c.take.ensures.blocks }) c.requires.slabs
+    c.args.self.now.slabs c.take.new.self (record { granules = c.take.ensures.granules; classes = c.take.ensures.classes; blocks = c.take.ensures.blocks }) c.requires.slabs

@@ -10,7 +10,7 @@ use Rattle.arena_core.specs.Events.{call_events, turn_after}
 use Rattle.arena_core.specs.Plan.{IsMallocPlan}
 use Rattle.arena_core.proofs.Called.{IsCalled-refused}
 use Rattle.arena_core.proofs.Machines.{refused_malloc}
-use Rattle.arena_core.proofs.carrying.carry_out_malloc.Goals as goal
+use Rattle.arena_core.proofs.volatile.Volatile.carry_out_malloc.Goals as goal
 
 pub returns-in-Ok : goal.returns-in-Ok
 returns-in-Ok g c size plan =
@@ -21,7 +21,7 @@ pub returns-in-Err : goal.returns-in-Err
 returns-in-Err g c size plan =
     let words = words_of (g.P.Pmem.state c.args.device.now) in
     let root = c.args.root in
-    let turn = c.args.turn.now in
+    let turn = c.args.self.now.line in
     let refused = subst (IsMallocPlan (bounds_of words) (tables_of words) root size) c.in-Err.is plan in
     let stays : (refusal : MallocRefusal) → (call_events words turn root (malloc_reply (Err refusal)) ≡ []) × (turn_after turn (malloc_reply (Err refusal)) ≡ turn) =
     λ refusal. elim refusal as (λ refusal. (call_events words turn root (malloc_reply (Err refusal)) ≡ []) × (turn_after turn (malloc_reply (Err refusal)) ≡ turn)) [
