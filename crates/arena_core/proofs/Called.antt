@@ -33,12 +33,12 @@ use Rattle.arena_core.proofs.Smalls.{classes_small, index_small, book_small, kee
 use Rattle.heap_check.specs.Image.{bounds_of, IsExactImage}
 use Rattle.heap_check.specs.State.{KeepsBlocks, IsEitherHeap}
 use Rattle.arena_core.specs.Arena.{ArenaState, HasNormalSlabs, IsSlabsOf, IsKept, IsArena}
-use Rattle.arena_core.specs.Call.{IsStepOf}
+use Rattle.arena_core.specs.Call.{IsStepOfAny}
 use Rattle.arena_core.specs.Carried.{IsDone, IsCalled}
 use Rattle.arena_core.specs.Effect.{GivesRoot, KeepsSlabs}
 use Rattle.arena_core.specs.declared.plan.Held.{Held}
 use Rattle.arena_core.specs.declared.plan.Held.TheVariants as holding
-use Rattle.arena_core.specs.Plan.{IsAskedOf, IsSmallPlacing, IsNamedSmall, IsHeldBy, range_held}
+use Rattle.arena_core.specs.Plan.{IsAskedOf, IsClearBlock, IsNamedSmall, IsHeldBy, range_held}
 use Rattle.heap_check.proofs.Sizes.{sizes_of}
 use Rattle.arena_core.proofs.Blocks.{heap-takable}
 use Rattle.arena_core.proofs.Arenas.{normal_kept, slabs_kept}
@@ -57,7 +57,7 @@ IsCalled-same {old} {new} {device} {turn} {new_turn} {left} {book} {log} {set} {
 
 -- a call that placed or freed a block, by its events
 pub IsCalled-done : {old new : PmemState} {turn new_turn : ℕ} {book : Book} {set : FreeSet} {parts : SlabSet} {root : ℕ} {block : Option Range} {slab : ℕ → Option ℕ} {events : List Event} (call : Call) (reply : Reply) →
-    IsDone old new book set parts root block slab events → events ≡ call_events (words_of old) turn root reply → new_turn ≡ turn_after turn reply → new_turn < 8 → IsStepOf (words_of old) (words_of new) call reply →
+    IsDone old new book set parts root block slab events → events ≡ call_events (words_of old) turn root reply → new_turn ≡ turn_after turn reply → new_turn < 8 → IsStepOfAny (words_of old) (words_of new) call reply →
     IsCalled old new turn new_turn book set parts root call reply
 IsCalled-done {old} {new} {turn} {new_turn} {book} {set} {parts} {root} {block} {slab} {events} call reply done same turn_is few step = record {
   appends = subst (λ (es : List Event). Appends old new es) same done.appends;
@@ -240,20 +240,19 @@ IsDone-large {old} {new} {book} {next} {set} {free} {parts} {turn} {root} {block
 
 -- a free block of a slab may come to a root
 pub small_attachable : (words : List ℕ) (root size : ℕ) (block : SmallBlock) (class : ℕ) → IsExactImage words → HasNormalSlabs words → IsAskedOf (bounds_of words) (tables_of words) root size →
-    IsSmallPlacing (tables_of words) size block class → IsAttachable words root block
+    IsClearBlock (tables_of words) block class → IsAttachable words root block
 small_attachable words root size block class image normal asked placing =
-    let lowest = placing.lowest in
-    let same = sym lowest.class_is in
+    let same = sym placing.class_is in
     record {
       block_in = record {
         image = record { formed = image.formed; but = IsExactBut-exact image.exact block.start };
         rooted = asked.below;
-        slab = lowest.slab;
-        normal = normal.each block.start lowest.slab;
-        below = subst (λ c. block.number < class_capacity c) same lowest.below;
+        slab = placing.slab;
+        normal = normal.each block.start placing.slab;
+        below = subst (λ c. block.number < class_capacity c) same placing.below;
         at = placing.at ∙ ap (λ c. (slab_block block.start c block.number).at) same;
       };
-      clear = lowest.clear;
+      clear = placing.clear;
       none = asked.none;
     }
 
@@ -287,7 +286,7 @@ IsDone-small {old} {new} {turn} {book} {set} {parts} {left} {root} {class} block
 
 -- a call that is refused
 pub IsCalled-refused : {old : PmemState} {turn : ℕ} {book : Book} {set : FreeSet} {parts : SlabSet} {root : ℕ} (call : Call) (reply : Reply) → IsArena old turn book set parts →
-    call_events (words_of old) turn root reply ≡ [] → turn_after turn reply ≡ turn → IsStepOf (words_of old) (words_of old) call reply → IsCalled old old turn turn book set parts root call reply
+    call_events (words_of old) turn root reply ≡ [] → turn_after turn reply ≡ turn → IsStepOfAny (words_of old) (words_of old) call reply → IsCalled old old turn turn book set parts root call reply
 IsCalled-refused {old} {turn} {book} {set} {parts} {root} call reply arena none stays step =
     let words = words_of old in
     let exact = arena.kept.exact in
@@ -304,7 +303,7 @@ IsCalled-refused {old} {turn} {book} {set} {parts} {root} call reply arena none 
 
 -- an arena answered a call
 pub record IsAnswered (old new : ArenaState) (book : Book) (set : FreeSet) (parts : SlabSet) (root : ℕ) (call : Call) (reply : Reply) : Type 0 where
-  pub step : IsStepOf (words_of old.device) (words_of new.device) call reply
+  pub step : IsStepOfAny (words_of old.device) (words_of new.device) call reply
   pub device : new.device ≡ appended (began old.device) (call_events (words_of old.device) old.turn root reply)
   pub turn_is : new.turn ≡ turn_after old.turn reply
   pub keeps : KeepsBlocks (words_of old.device) (words_of new.device) (words_of new.device)
@@ -319,7 +318,7 @@ answered old begun new turn book set parts root call reply is called =
     let state : new ≡ appended (began old.device) (call_events (words_of old.device) old.turn root reply) =
     called.appends.state ∙ (λ i. appended (is i) (call_events (same i) old.turn root reply)) in
     record {
-      step = subst (λ (ws : List ℕ). IsStepOf ws (words_of new) call reply) same called.step;
+      step = subst (λ (ws : List ℕ). IsStepOfAny ws (words_of new) call reply) same called.step;
       device = state;
       turn_is = called.turn_is;
       keeps = subst (λ (ws : List ℕ). KeepsBlocks ws (words_of new) (words_of new)) same called.keeps;

@@ -14,7 +14,7 @@ use Rattle.heap_check.specs.Heap as Heap
 use Rattle.heap_check.specs.Image.{bounds_of}
 use Rattle.heap_check.specs.State.{HaveSameHeap, KeepsBlocks, IsEitherHeap}
 use Rattle.arena_core.specs.Arena.{HasNormalSlabs, IsSlabsOf, IsKept, IsArena}
-use Rattle.arena_core.specs.Call.{IsStepOf}
+use Rattle.arena_core.specs.Call.{IsStepOfAny}
 use Rattle.arena_core.specs.Effect.{slabs_but, GivesRoot}
 use Rattle.arena_core.specs.Events.{holds_none, empty_events, call_events, turn_after}
 
@@ -44,6 +44,6 @@ pub record IsCalled (old new : PmemState) (turn new_turn : ℕ) (book : Book) (s
   pub appends : Appends old new (call_events (words_of old) turn root reply)
   pub arena : IsArena new new_turn book set parts
   pub turn_is : new_turn ≡ turn_after turn reply
-  pub step : IsStepOf (words_of old) (words_of new) call reply
+  pub step : IsStepOfAny (words_of old) (words_of new) call reply
   pub keeps : KeepsBlocks (words_of old) (words_of new) (words_of new)
   pub crash : CrashOnly (words_of old) (call_events (words_of old) turn root reply) (IsEitherHeap (words_of old) (words_of new))

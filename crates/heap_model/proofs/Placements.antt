@@ -1,8 +1,7 @@
 -- The placement leaves nothing open: each call has one address for a small block, and leads to the same stacks.
-use Rattle.std.proofs.Common.{◌≡◌, ◌⊎◌, ℕ, ◌+◌, ◌-◌, ◌/◌, ◌<◌, ◌≤◌, List, [], ◌∷◌, refl, sym, ap, ◌∙◌, subst, arith, ⊎_elim}
+use Rattle.std.proofs.Common.{◌≡◌, ◌⊎◌, ℕ, ◌+◌, ◌-◌, ◌<◌, ◌≤◌, List, [], ◌∷◌, refl, sym, ap, ◌∙◌, subst, arith, ⊎_elim}
 use Rattle.std.proofs.lemmas.Bool.{cases_lt}
-use Rattle.std.proofs.lemmas.List.{get_or_past}
-use Rattle.size_classes.specs.Classes.{sizes, class_size, class_capacity, IsClassOf}
+use Rattle.size_classes.specs.Classes.{class_size, IsClassOf}
 use Rattle.size_classes.proofs.Spacing.{class_size-rises}
 use Rattle.heap_model.specs.declared.call.Call.{Call}
 use Rattle.heap_model.specs.declared.call.Call.TheVariants.{Malloc, Free, Write, Read, Move}
@@ -14,8 +13,8 @@ use Rattle.heap_model.specs.Machine.{Bounds, Range, Machine, slab_block, IsBlock
 use Rattle.heap_model.specs.Choice.{View}
 use Rattle.heap_model.specs.Slabs.{view_of}
 use Rattle.heap_model.specs.Placement.{Stacks, PlacedState, with_stack, without_slab, without_left, with_class, addresses, IsAvailable, IsNext, AreLowest, IsRefill, HasTop, IsFirstSeat, HasStacked, IsPop, IsMorphRefill, IsNewRefill, IsWay, GaveSmall, IsKeepable, IsReturned, IsStacked, IsPlacedStep}
-use Rattle.heap_model.specs.Journal.{Leads, IsPlacedEntry, IsOfBlock, LawOfOneJournal}
-use Rattle.heap_model.proofs.Sites.{best_once, class_once, best_slab_once}
+use Rattle.heap_model.specs.Journal.{Leads, IsEntry, IsPlacedEntry, IsOfBlock, LawOfOneJournal}
+use Rattle.heap_model.proofs.Sites.{best_once, class_known, class_once, best_slab_once}
 use Rattle.heap_model.proofs.Settled.{first_once, step_once}
 
 -- the next number is one
@@ -119,17 +118,6 @@ module _ (p : Policy) (b : Bounds) (was : PlacedState) (seat class : ℕ) where
       first_once x y (λ _ _. refill_once p (view_of b was.machine) was.stacks seat class at other after later) (λ _ x y.
       first_once x y (λ stacked also x y. stacked_once was.stacks class stacked also at other after later x y) (λ _. taken_once at other after later)))
 
--- only a class has blocks in a slab
-class_known : (class number : ℕ) → number < class_capacity class → class < 36
-unfolding class_size sizes
-class_known class number below = ⊎_elim
-    (λ (is : class < 36). is)
-    (λ (past : 36 ≤ class).
-    let none : class_size class ≡ 0 = get_or_past sizes class 0 past in
-    let empty : class_capacity class ≡ 0 = ap (λ n. 63488 / n) none in
-    absurd (omega (arith, below, empty)))
-    (cases_lt class 36)
-
 -- a block is of one class
 block_class : (range : Range) (s t c d : ℕ) → IsBlockOf s c range → IsBlockOf t d range → c ≡ d
 block_class range s t c d one two =
@@ -211,3 +199,8 @@ law_of_one_journal p b s last other (entry ∷ entries) (another ∷ others) sam
     let step = placed_once p b entry.seat s first.0 second.0 entry.call entry.reply another.reply same.2 first.1 again in
     let rest = law_of_one_journal p b first.0 last other entries others same.3 first.2 (subst (λ (n : PlacedState). Leads (IsPlacedEntry p b) n others other) (sym step.1) second.2) in
     (λ i. entry_once entry another same.0 same.1 step.0 i ∷ rest.0 i, rest.1)
+
+-- a journal of the placement is one of the machine
+pub Leads-machine : (p : Policy) (b : Bounds) (s last : PlacedState) (entries : List Entry) → Leads (IsPlacedEntry p b) s entries last → Leads (IsEntry p b) s.machine entries last.machine
+Leads-machine p b s last [] leads = ap (λ (t : PlacedState). t.machine) leads
+Leads-machine p b s last (entry ∷ entries) leads = (leads.0.machine, leads.1.step, Leads-machine p b leads.0 last entries leads.2)

@@ -111,7 +111,7 @@ IsOverlapFree-moved b m from to range was below held =
     }
 
 -- two rows of granules share none, or one granule is in both
-rows_apart : (a m b n : ℕ) → 0 < m → 0 < n → ((k : ℕ) → a ≤ k → k < a + m → b ≤ k → k < b + n → ⊥) → (a + m ≤ b) ⊎ (b + n ≤ a)
+pub rows_apart : (a m b n : ℕ) → 0 < m → 0 < n → ((k : ℕ) → a ≤ k → k < a + m → b ≤ k → k < b + n → ⊥) → (a + m ≤ b) ⊎ (b + n ≤ a)
 rows_apart a m b n some more none = ⊎_elim
     (λ (low : b < a + m). ⊎_elim
     (λ (high : a < b + n). absurd (⊎_elim

@@ -7,18 +7,19 @@ use Rattle.heap_model.specs.declared.call.Call.{Call}
 use Rattle.heap_model.specs.declared.call.Call.TheVariants.{Malloc, Free, Write, Read, Move}
 use Rattle.heap_model.specs.declared.call.Reply.{Reply}
 use Rattle.heap_model.specs.declared.call.Reply.TheVariants.{Placed, Freed, NoRoot, Empty}
-use Rattle.heap_model.specs.Policy.{Policy, plain}
+use Rattle.heap_model.specs.Policy.{plain}
 use Rattle.heap_model.specs.Machine.{Bounds, Machine, slab_block, IsUnused, IsOverlapFree, IsFreeGranule}
 use Rattle.heap_model.specs.Choice.{View, HasUnusedBlock, IsUnusedBlock, Site, range_of, IsSite}
 use Rattle.heap_model.specs.Choice.Site.{Granules, InSlab, InMorph, InNewSlab}
 use Rattle.heap_model.specs.Slabs.{view_of}
-use Rattle.heap_model.specs.Step.{with_block, IsGrant, IsStep}
+use Rattle.heap_model.specs.Step.{with_block, IsStep}
 use Rattle.heap_model.specs.Placement.{Stacks, no_stacks, PlacedState, bare, with_stack, with_class, HasTop, HasStacked, IsAvailable, HasAvailable, AreLowest, addresses, IsRefill, IsNewRefill, IsWay, GaveSmall, TookBlock, IsStacked, IsPlacedStep}
 use Rattle.heap_model.specs.Plain.{IsPlainSite, IsGivenLowest, LawOfPlainPlacement}
 use Rattle.heap_model.proofs.Maps.{with_key-here, with_key-other, with_key-cases}
 use Rattle.heap_model.proofs.Placing.{IsUnused-free}
 use Rattle.heap_model.proofs.Slabbing.{LiesIn-block}
 use Rattle.heap_model.proofs.Steps.{row_of_fit}
+use Rattle.heap_model.proofs.Replies.{granted}
 use Rattle.heap_model.proofs.Sites.{class_small}
 
 -- an empty stack in the place of an empty one
@@ -57,9 +58,16 @@ refill v seat start class number slab block first lowest = record {
   after_is = sym (no_stacks-with seat class);
 }
 
+-- the first block of a new slab overlaps no live block, as it does on free granules where no blocks overlap
+abbrev pub IsClear : Machine → Site → Type 0
+IsClear m (Granules start count) = Unit {0}
+IsClear m (InSlab start class number) = Unit {0}
+IsClear m (InMorph start class number) = Unit {0}
+IsClear m (InNewSlab start class number) = IsUnused m (slab_block start class number)
+
 module _ (b : Bounds) (seat : ℕ) (m : Machine) where
   -- the lowest site of a request is the one of the placement
-  stacked : (root size : ℕ) (site : Site) → IsPlainSite (view_of b m) size site → IsUnused m (range_of site) →
+  stacked : (root size : ℕ) (site : Site) → IsPlainSite (view_of b m) size site → IsClear m site →
       IsStacked plain b seat (bare m) (Malloc root size) (Placed (range_of site).at (range_of site).size) (bare (with_block m root site))
   stacked root size (Granules start count) is unused = inr (λ gave. class_small size gave.class gave.least is.chosen.large, refl)
   stacked root size (InSlab start class number) is unused = inl (
@@ -99,7 +107,7 @@ module _ (b : Bounds) (seat : ℕ) (m : Machine) where
       )
 
   -- a malloc that is given the lowest site is a step of the placement
-  pub IsPlacedStep-malloc : (root size : ℕ) (site : Site) → root < b.roots → m.block root ≡ None → size ≢ 0 → size ≤ (b.granules - b.first) * 16384 → IsPlainSite (view_of b m) size site → IsUnused m (range_of site) →
+  pub IsPlacedStep-malloc : (root size : ℕ) (site : Site) → root < b.roots → m.block root ≡ None → size ≢ 0 → size ≤ (b.granules - b.first) * 16384 → IsPlainSite (view_of b m) size site → IsClear m site →
       IsPlacedStep plain b seat (bare m) (Malloc root size) (Placed (range_of site).at (range_of site).size) (bare (with_block m root site))
   IsPlacedStep-malloc root size site below none some most is unused = record {
     step = inr (
@@ -131,22 +139,6 @@ module _ (b : Bounds) (seat : ℕ) (m : Machine) where
       still (Write root index word) step = refl
       still (Read root index) step = refl
       still (Move from to) step = refl
-
--- a block that is given was granted
-pub granted : {p : Policy} {b : Bounds} {m next : Machine} (root size at given : ℕ) (reply : Reply) → IsStep p b m (Malloc root size) reply next → reply ≡ Placed at given → IsGrant p b m root size reply next
-granted root size at given reply step is = ⊎_elim
-    (λ no_root. absurd (let other = no_root.1.0 in cc))
-    (λ rooted. ⊎_elim
-    (λ held. absurd (let other = held.1.0 in cc))
-    (λ bare. ⊎_elim
-    (λ empty. absurd (let other = empty.1.0 in cc))
-    (λ some. ⊎_elim
-    (λ large. absurd (let other = large.1.0 in cc))
-    (λ asked. ⊎_elim (λ grant. grant) (λ lacking. absurd (let other = lacking.1.0 in cc)) asked.1)
-    some.1)
-    bare.1)
-    rooted.1)
-    step
 
 -- a refill of empty stacks gives the lowest available block, and leaves them empty
 pub record IsGivenFirst (v : View) (class at : ℕ) (after : Stacks) : Type 0 where
@@ -254,7 +246,7 @@ module _ (b : Bounds) (seat : ℕ) (m : Machine) (clean : IsOverlapFree b m) whe
 
   lowest_given : (root size at given : ℕ) (reply : Reply) (next : PlacedState) → reply ≡ Placed at given → IsPlacedStep plain b seat (bare m) (Malloc root size) reply next → IsGivenLowest v size at
   lowest_given root size at given reply next is placed =
-      let grant = granted root size at given reply placed.step is in
+      let grant = (granted plain b m next.machine root size at given reply placed.step is).2 in
       ⊎_elim
       (λ gave. subst (IsGivenLowest v size) (let first = gave.0.is in cc) (by_way size gave.0.class gave.0.at next.stacks gave.0.least gave.1).0)
       (λ none. subst (IsGivenLowest v size) (let first = grant.is in cc) (by_grant root size reply next.machine grant.site none.0 grant.chosen grant.is))

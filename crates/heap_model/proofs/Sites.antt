@@ -1,8 +1,9 @@
 -- Sites of a malloc: two for one request that begin at one address are one block and leave the same slabs, and none is
 -- where there is said to be none.
-use Rattle.std.proofs.Common.{◌≡◌, ℕ, ◌<◌, ◌≤◌, ◌*◌, Option, Some, refl, sym, ◌∙◌, subst, arith, ⊎_elim}
+use Rattle.std.proofs.Common.{◌≡◌, ℕ, ◌<◌, ◌≤◌, ◌*◌, ◌/◌, Option, Some, refl, sym, ap, ◌∙◌, subst, arith, ⊎_elim}
 use Rattle.std.proofs.lemmas.Bool.{cases_lt}
-use Rattle.size_classes.specs.Classes.{class_size, IsClassOf}
+use Rattle.std.proofs.lemmas.List.{get_or_past}
+use Rattle.size_classes.specs.Classes.{sizes, class_capacity, class_size, IsClassOf}
 use Rattle.size_classes.proofs.Spacing.{class_size-most}
 use Rattle.heap_model.specs.Policy.{Policy}
 use Rattle.heap_model.specs.Machine.{slab_block, with_key}
@@ -15,6 +16,17 @@ pub best_once : (Vacant : ℕ → Type 0) (n start other : ℕ) → IsBestFit Va
 best_once Vacant n start other one two =
     let same : one.length ≡ two.length = omega (arith, one.shortest other two.length two.run two.enough, two.shortest start one.length one.run one.enough) in
     omega (arith, one.lowest other (subst (λ (long : ℕ). IsFreeRun Vacant other long) (sym same) two.run), two.lowest start (subst (λ (long : ℕ). IsFreeRun Vacant start long) same one.run))
+
+-- only a class has blocks in a slab
+pub class_known : (class number : ℕ) → number < class_capacity class → class < 36
+unfolding class_size sizes
+class_known class number below = ⊎_elim
+    (λ (is : class < 36). is)
+    (λ (past : 36 ≤ class).
+    let none : class_size class ≡ 0 = get_or_past sizes class 0 past in
+    let empty : class_capacity class ≡ 0 = ap (λ n. 63488 / n) none in
+    absurd (omega (arith, below, empty)))
+    (cases_lt class 36)
 
 -- the least class is one
 pub class_once : (size c d : ℕ) → IsClassOf size c → IsClassOf size d → c ≡ d

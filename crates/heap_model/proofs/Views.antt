@@ -1,7 +1,8 @@
 -- Two views that say the same have the same sites, the same lowest ones, and none for the same requests.
-use Rattle.std.proofs.Common.{◌≡◌, ◌↔◌, ℕ, true, Some, sym, ◌∙◌, arith, ⊎_elim, inl, inr}
+use Rattle.std.proofs.Common.{◌≡◌, ◌↔◌, ℕ, true, true≢false, Some, sym, ◌∙◌, arith, ⊎_elim, inl, inr}
 use Rattle.size_classes.specs.Classes.{granules_of}
-use Rattle.heap_model.specs.Policy.{Policy}
+use Rattle.heap_model.specs.Policy.{Policy, plain}
+use Rattle.heap_model.specs.Plain.{IsPlainSite}
 use Rattle.heap_model.specs.Choice.{View, IsUnusedBlock, HasUnusedBlock, IsFit, IsBestSlab, HasNoFitSlab, Site, IsSite, HasNoSite, IsLowestSite, Agree}
 use Rattle.heap_model.specs.Choice.Site.{Granules, InSlab, InMorph, InNewSlab}
 use Rattle.heap_model.proofs.Fits.{IsBestFit-same, HasNoFit-same}
@@ -89,3 +90,11 @@ module _ (p : Policy) (v w : View) (agree : Agree p v w) where
       (λ small. inl (record { class = small.class; least = small.least; full = full small.class small.full; no_fit = no_fit_slab small.class small.no_fit; no_run = HasNoFit-same v.free w.free 4 agree.free small.no_run }))
       (λ large. inr (record { large = large.large; no_run = HasNoFit-same v.free w.free (granules_of size) agree.free large.no_run }))
       none
+
+-- so by the plain policy they have the same plain sites
+pub IsPlainSite-same : (v w : View) (size : ℕ) (site : Site) → Agree plain v w → IsPlainSite v size site → IsPlainSite w size site
+IsPlainSite-same v w size site agree is = record { chosen = IsSite-same plain v w agree size site is.chosen; lowest = IsLowestSite-same plain v w agree site is.lowest }
+
+-- and no slab is fit
+pub HasNoFitSlab-plain : (v : View) (c : ℕ) → HasNoFitSlab plain v c
+HasNoFitSlab-plain v c = record { none = λ s fit. true≢false (sym fit.allowed) }

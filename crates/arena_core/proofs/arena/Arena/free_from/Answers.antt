@@ -19,7 +19,7 @@ invariant_of-self g c =
 pub returns-clause-step : goal.returns-clause-step
 returns-clause-step g c =
     (answered_by (record { device = g.P.Pmem.state c.self.inside.device; turn = c.self.inside.turn }) c.args.self.now (g.P.Pmem.state c.begin.new.self) (g.P.Pmem.state c.carry_out_free.new.device) c.carry_out_free.new.turn c.carry_out_free.new.log c.carry_out_free.new.free c.carry_out_free.new.slabs c.args.root (calls.Free c.args.root) (free_reply c.carry_out_free.result)
-    c.self.view_is c.begin.ensures.state c.carry_out_free.ensures).step
+    c.self.view_is c.begin.ensures.state c.carry_out_free.ensures).step c.args.seat
 
 pub returns-clause-device : goal.returns-clause-device
 returns-clause-device g c =

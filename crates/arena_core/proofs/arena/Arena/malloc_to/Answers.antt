@@ -19,7 +19,7 @@ invariant_of-self g c =
 pub returns-clause-step : goal.returns-clause-step
 returns-clause-step g c =
     (answered_by (record { device = g.P.Pmem.state c.self.inside.device; turn = c.self.inside.turn }) c.args.self.now (g.P.Pmem.state c.begin.new.self) (g.P.Pmem.state c.carry_out_malloc.new.device) c.carry_out_malloc.new.turn c.carry_out_malloc.new.log c.carry_out_malloc.new.free c.carry_out_malloc.new.slabs c.args.root (calls.Malloc c.args.root c.args.size) (malloc_reply c.carry_out_malloc.result)
-    c.self.view_is c.begin.ensures.state (c.carry_out_malloc.ensures c.args.size (subst (λ (s : PmemState). IsMallocPlan (bounds_of (words_of s)) (tables_of (words_of s)) c.args.root c.args.size c.plan_malloc-plan.result) (sym c.begin.ensures.state) c.plan_malloc-plan.ensures))).step
+    c.self.view_is c.begin.ensures.state (c.carry_out_malloc.ensures c.args.size (subst (λ (s : PmemState). IsMallocPlan (bounds_of (words_of s)) (tables_of (words_of s)) c.args.root c.args.size c.plan_malloc-plan.result) (sym c.begin.ensures.state) c.plan_malloc-plan.ensures))).step c.args.seat
 
 pub returns-clause-device : goal.returns-clause-device
 returns-clause-device g c =
