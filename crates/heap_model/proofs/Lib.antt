@@ -8,5 +8,5 @@ pub mod Steps
 pub mod Sites
 pub mod Settled
 pub mod Placements
-pub mod Replies
+pub mod Outcomes
 pub mod Plain

@@ -1,6 +1,5 @@
 -- The placement leaves nothing open: each call has one address for a small block, and leads to the same stacks.
-use Rattle.std.proofs.Common.{◌≡◌, ◌⊎◌, ℕ, ◌+◌, ◌-◌, ◌<◌, ◌≤◌, List, [], ◌∷◌, refl, sym, ap, ◌∙◌, subst, arith, ⊎_elim}
-use Rattle.std.proofs.lemmas.Bool.{cases_lt}
+use Rattle.std.proofs.Common.{◌≡◌, ◌⊎◌, ℕ, ◌+◌, ◌-◌, List, [], ◌∷◌, refl, sym, ap, ◌∙◌, subst, arith, ⊎_elim}
 use Rattle.size_classes.specs.Classes.{class_size, IsClassOf}
 use Rattle.size_classes.proofs.Spacing.{class_size-rises}
 use Rattle.heap_model.specs.declared.call.Call.{Call}
@@ -14,18 +13,12 @@ use Rattle.heap_model.specs.Choice.{View}
 use Rattle.heap_model.specs.Slabs.{view_of}
 use Rattle.heap_model.specs.Placement.{Stacks, PlacedState, with_stack, without_slab, without_left, with_class, addresses, IsAvailable, IsNext, AreLowest, IsRefill, HasTop, IsFirstSeat, HasStacked, IsPop, IsMorphRefill, IsNewRefill, IsWay, GaveSmall, IsKeepable, IsReturned, IsStacked, IsPlacedStep}
 use Rattle.heap_model.specs.Journal.{Leads, IsEntry, IsPlacedEntry, IsOfBlock, LawOfOneJournal}
-use Rattle.heap_model.proofs.Sites.{best_once, class_known, class_once, best_slab_once}
+use Rattle.heap_model.proofs.Sites.{best_once, class_known, neither_below, class_once, best_slab_once}
 use Rattle.heap_model.proofs.Settled.{first_once, step_once}
 
 -- the next number is one
 next_once : (Passes : ℕ → Type 0) (low number other : ℕ) → IsNext Passes low number → IsNext Passes low other → number ≡ other
-next_once Passes low number other one two = ⊎_elim
-    (λ (lower : number < other). absurd (two.first number one.from lower one.passes))
-    (λ (from : other ≤ number). ⊎_elim
-    (λ (lower : other < number). absurd (one.first other two.from lower two.passes))
-    (λ (to : number ≤ other). omega arith)
-    (cases_lt other number))
-    (cases_lt number other)
+next_once Passes low number other one two = neither_below number other (λ less. two.first number one.from less one.passes) (λ less. one.first other two.from less two.passes)
 
 -- the lowest numbers are one list
 lowest_once : (Passes : ℕ → Type 0) (low most : ℕ) (numbers others : List ℕ) → AreLowest Passes low most numbers → AreLowest Passes low most others → numbers ≡ others
@@ -53,13 +46,7 @@ head_of (top ∷ rest) = top
 refill_once : (p : Policy) (v : View) (stacks : Stacks) (seat class at other : ℕ) (after later : Stacks) → IsRefill p v stacks seat class at after → IsRefill p v stacks seat class other later → AreOne at other after later
 unfolding head_of tail_of
 refill_once p v stacks seat class at other after later one two =
-    let start : one.start ≡ two.start = ⊎_elim
-    (λ (lower : one.start < two.start). absurd (two.lowest one.start one.number lower one.slab one.taken.1.passes))
-    (λ (from : two.start ≤ one.start). ⊎_elim
-    (λ (lower : two.start < one.start). absurd (one.lowest two.start two.number lower two.slab two.taken.1.passes))
-    (λ (to : one.start ≤ two.start). omega arith)
-    (cases_lt two.start one.start))
-    (cases_lt one.start two.start) in
+    let start = neither_below one.start two.start (λ less. two.lowest one.start one.number less one.slab one.taken.1.passes) (λ less. one.lowest two.start two.number less two.slab two.taken.1.passes) in
     let taken : AreLowest (IsAvailable v stacks one.start class) 0 p.refill (two.number ∷ two.rest) = subst (λ (s : ℕ). AreLowest (IsAvailable v stacks s class) 0 p.refill (two.number ∷ two.rest)) (sym start) two.taken in
     let same = lowest_once (IsAvailable v stacks one.start class) 0 p.refill (one.number ∷ one.rest) (two.number ∷ two.rest) one.taken taken in (
       one.is ∙ (λ i. (slab_block (start i) class (head_of (same i))).at) ∙ sym two.is,
@@ -77,13 +64,7 @@ pop_once {stacks} {seat} {class} one two at other after later gives too =
 
 -- the first seat is one
 seat_once : (stacks : Stacks) (class seat other : ℕ) → IsFirstSeat stacks class seat → IsFirstSeat stacks class other → seat ≡ other
-seat_once stacks class seat other one two = ⊎_elim
-    (λ (lower : seat < other). absurd (two.first seat lower one.top))
-    (λ (from : other ≤ seat). ⊎_elim
-    (λ (lower : other < seat). absurd (one.first other lower two.top))
-    (λ (to : seat ≤ other). omega arith)
-    (cases_lt other seat))
-    (cases_lt seat other)
+seat_once stacks class seat other one two = neither_below seat other (λ less. two.first seat less one.top) (λ less. one.first other less two.top)
 
 stacked_once : (stacks : Stacks) (class : ℕ) (one two : HasStacked stacks class) (at other : ℕ) (after later : Stacks) → IsPop one.first.top at after → IsPop two.first.top other later → AreOne at other after later
 stacked_once stacks class one two at other after later gives too =
@@ -122,13 +103,7 @@ module _ (p : Policy) (b : Bounds) (was : PlacedState) (seat class : ℕ) where
 block_class : (range : Range) (s t c d : ℕ) → IsBlockOf s c range → IsBlockOf t d range → c ≡ d
 block_class range s t c d one two =
     let size : class_size c ≡ class_size d = sym (ap (λ (r : Range). r.size) one.is) ∙ ap (λ (r : Range). r.size) two.is in
-    ⊎_elim
-    (λ (lower : c < d). absurd (omega (arith, size, class_size-rises c d lower (class_known d two.number two.within))))
-    (λ (from : d ≤ c). ⊎_elim
-    (λ (lower : d < c). absurd (omega (arith, size, class_size-rises d c lower (class_known c one.number one.within))))
-    (λ (to : c ≤ d). omega arith)
-    (cases_lt d c))
-    (cases_lt c d)
+    neither_below c d (λ less. omega (arith, size, class_size-rises c d less (class_known d two.number two.within))) (λ less. omega (arith, size, class_size-rises d c less (class_known c one.number one.within)))
 
 -- a freed block goes on one stack
 returned_once : (p : Policy) (m : Machine) (stacks : Stacks) (seat : ℕ) (range : Range) (after later : Stacks) → IsReturned p m stacks seat range after → IsReturned p m stacks seat range later → after ≡ later

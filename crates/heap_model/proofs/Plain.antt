@@ -19,7 +19,8 @@ use Rattle.heap_model.proofs.Maps.{with_key-here, with_key-other, with_key-cases
 use Rattle.heap_model.proofs.Placing.{IsUnused-free}
 use Rattle.heap_model.proofs.Slabbing.{LiesIn-block}
 use Rattle.heap_model.proofs.Steps.{row_of_fit}
-use Rattle.heap_model.proofs.Replies.{granted}
+use Rattle.heap_model.proofs.Outcomes.{IsOfHeap, outcome}
+use Rattle.heap_model.proofs.Outcomes.Outcome.{Kept, Given, Taken, Written, Passed}
 use Rattle.heap_model.proofs.Sites.{class_small}
 
 -- an empty stack in the place of an empty one
@@ -230,12 +231,12 @@ module _ (b : Bounds) (seat : ℕ) (m : Machine) (clean : IsOverlapFree b m) whe
       bare.1)
       way
 
-  -- whole granules are the lowest site
-  by_grant : (root size : ℕ) (reply : Reply) (next : Machine) (site : Site) → ¬ (GaveSmall size reply) → IsSite plain v size site → reply ≡ Placed (range_of site).at (range_of site).size → IsGivenLowest v size (range_of site).at
-  by_grant root size reply next (Granules start count) none chosen is = record { site = Granules start count; placing = record { chosen = chosen; lowest = tt }; is = refl }
-  by_grant root size reply next (InSlab start class number) none chosen is = absurd (none (record { class = class; least = chosen.least; at = _; given = _; is = is }))
-  by_grant root size reply next (InMorph start class number) none chosen is = absurd (none (record { class = class; least = chosen.least; at = _; given = _; is = is }))
-  by_grant root size reply next (InNewSlab start class number) none chosen is = absurd (none (record { class = class; least = chosen.least; at = _; given = _; is = is }))
+  -- where no small block is given, whole granules are
+  by_grant : (size : ℕ) (reply : Reply) (site : Site) → ¬ (GaveSmall size reply) → IsSite plain v size site → reply ≡ Placed (range_of site).at (range_of site).size → IsGivenLowest v size (range_of site).at
+  by_grant size reply (Granules start count) none chosen is = record { site = Granules start count; placing = record { chosen = chosen; lowest = tt }; is = refl }
+  by_grant size reply (InSlab start class number) none chosen is = absurd (none (record { class = class; least = chosen.least; at = _; given = _; is = is }))
+  by_grant size reply (InMorph start class number) none chosen is = absurd (none (record { class = class; least = chosen.least; at = _; given = _; is = is }))
+  by_grant size reply (InNewSlab start class number) none chosen is = absurd (none (record { class = class; least = chosen.least; at = _; given = _; is = is }))
 
   still_empty : (call : Call) (reply : Reply) (next : PlacedState) → IsStacked plain b seat (bare m) call reply next → next.stacks ≡ no_stacks
   still_empty (Malloc root size) reply next stacked = ⊎_elim (λ gave. (by_way size gave.0.class gave.0.at next.stacks gave.0.least gave.1).1) (λ same. same.1) stacked
@@ -245,11 +246,18 @@ module _ (b : Bounds) (seat : ℕ) (m : Machine) (clean : IsOverlapFree b m) whe
   still_empty (Move from to) reply next stacked = stacked
 
   lowest_given : (root size at given : ℕ) (reply : Reply) (next : PlacedState) → reply ≡ Placed at given → IsPlacedStep plain b seat (bare m) (Malloc root size) reply next → IsGivenLowest v size at
-  lowest_given root size at given reply next is placed =
-      let grant = (granted plain b m next.machine root size at given reply placed.step is).2 in
-      ⊎_elim
+  lowest_given root size at given reply next is placed = ⊎_elim
       (λ gave. subst (IsGivenLowest v size) (let first = gave.0.is in cc) (by_way size gave.0.class gave.0.at next.stacks gave.0.least gave.1).0)
-      (λ none. subst (IsGivenLowest v size) (let first = grant.is in cc) (by_grant root size reply next.machine grant.site none.0 grant.chosen grant.is))
+      (λ none. elim (outcome plain b m next.machine reply (Malloc root size) placed.step) [
+        | Kept not same ↦ absurd (not (subst IsOfHeap (sym is) tt))
+        | Given r s asked granted ↦
+            let same : s ≡ size = cc in
+            let first = granted.grant.is in
+            subst (IsGivenLowest v size) (cc) (by_grant size reply granted.grant.site none.0 (subst (λ (n : ℕ). IsSite plain v n granted.grant.site) same granted.grant.chosen) granted.grant.is)
+        | Taken r asked taken ↦ absurd (cc)
+        | Written r index word not after ↦ absurd (not (subst IsOfHeap (sym is) tt))
+        | Passed from to passed ↦ absurd (let other = passed.is in cc)
+      ])
       placed.stacked
 
 pub law_of_plain_placement : LawOfPlainPlacement

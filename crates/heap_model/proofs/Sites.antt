@@ -28,15 +28,16 @@ class_known class number below = ⊎_elim
     absurd (omega (arith, below, empty)))
     (cases_lt class 36)
 
+-- numbers are equal where neither is below the other
+pub neither_below : (a b : ℕ) → ¬ (a < b) → ¬ (b < a) → a ≡ b
+neither_below a b one two = ⊎_elim
+    (λ (less : a < b). absurd (one less))
+    (λ (from : b ≤ a). ⊎_elim (λ (less : b < a). absurd (two less)) (λ (to : a ≤ b). omega arith) (cases_lt b a))
+    (cases_lt a b)
+
 -- the least class is one
 pub class_once : (size c d : ℕ) → IsClassOf size c → IsClassOf size d → c ≡ d
-class_once size c d p q = ⊎_elim
-    (λ (lower : c < d). absurd (omega (arith, q.least c lower, p.holds)))
-    (λ (from : d ≤ c). ⊎_elim
-    (λ (higher : d < c). absurd (omega (arith, p.least d higher, q.holds)))
-    (λ (to : c ≤ d). omega arith)
-    (cases_lt d c))
-    (cases_lt c d)
+class_once size c d p q = neither_below c d (λ less. omega (arith, q.least c less, p.holds)) (λ less. omega (arith, p.least d less, q.holds))
 
 -- no size has a class and is above the largest
 pub class_small : (size c : ℕ) → IsClassOf size c → 16384 < size → ⊥

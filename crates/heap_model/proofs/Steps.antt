@@ -1,10 +1,8 @@
 -- Every step of the heap machine keeps it free of overlaps, and so does every legal journal.
-use Rattle.std.proofs.Common.{◌≡◌, ◌≢◌, ℕ, ◌+◌, ◌-◌, ◌*◌, ◌<◌, ◌≤◌, [], ◌∷◌, sym, refl, arith, subst, inr, ◌⊎◌, ⊎_elim, Some}
-use Rattle.std.proofs.lemmas.Bool.{cases_lt}
+use Rattle.std.proofs.Common.{◌≡◌, ◌≢◌, ℕ, ◌+◌, ◌-◌, ◌*◌, ◌<◌, ◌≤◌, [], ◌∷◌, sym, refl, arith, subst, ⊎_elim, Some}
 use Rattle.size_classes.specs.Classes.{IsClassOf}
 use Rattle.size_classes.proofs.Spacing.{class_size-most}
 use Rattle.heap_model.specs.declared.call.Call.{Call}
-use Rattle.heap_model.specs.declared.call.Call.TheVariants.{Malloc, Free, Write, Read, Move}
 use Rattle.heap_model.specs.declared.call.Reply.{Reply}
 use Rattle.heap_model.specs.Policy.{Policy}
 use Rattle.heap_model.specs.Machine.{IsBlockOf, Bounds, Range, Machine, slab_block, IsLarge, IsFreeGranule, IsOverlapFree}
@@ -12,12 +10,14 @@ use Rattle.heap_model.specs.Runs.{IsFreeRow, IsBestFit}
 use Rattle.heap_model.specs.Choice.{Site, IsSite}
 use Rattle.heap_model.specs.Choice.Site.{Granules, InSlab, InMorph, InNewSlab}
 use Rattle.heap_model.specs.Slabs.{view_of}
-use Rattle.heap_model.specs.Step.{with_block, IsRefused, IsOnWord, IsStep}
+use Rattle.heap_model.specs.Step.{with_block, IsStep}
 use Rattle.heap_model.specs.Placement.{with_class}
 use Rattle.heap_model.specs.Journal.{LawOfOverlap}
 use Rattle.heap_model.proofs.Maps.{with_key-here}
 use Rattle.heap_model.proofs.Placing.{IsProper, IsOverlapFree-with, IsOverlapFree-moved, IsOverlapFree-value, IsUnused-free}
 use Rattle.heap_model.proofs.Slabbing.{IsOverlapFree-morph, IsOverlapFree-slab, LiesIn-block}
+use Rattle.heap_model.proofs.Outcomes.{outcome}
+use Rattle.heap_model.proofs.Outcomes.Outcome.{Kept, Given, Taken, Written, Passed}
 use Rattle.heap_model.proofs.Freeing.{IsOverlapFree-without}
 
 -- the first granules of the best fit are free
@@ -69,64 +69,20 @@ give p b m root size (InNewSlab start class number) was below some is =
     (record { each = (IsUnused-free b m start 4 (slab_block start class number) was (omega arith) row lies.low (omega (arith, lies.high))).each })
     (block_proper b (with_class m start class) start class size number some is.least (with_key-here m.slab start (Some class)) block)
 
-module _ (p : Policy) (b : Bounds) (m next : Machine) (was : IsOverlapFree b m) where
-  -- the state behind is one that is free of overlaps
-  behind : (last : Machine) → IsOverlapFree b last → next ≡ last → IsOverlapFree b next
-  behind last clean is = subst (λ (t : Machine). IsOverlapFree b t) (sym is) clean
-
-  refused : (refusal reply : Reply) → IsRefused m refusal reply next → IsOverlapFree b next
-  refused refusal reply is = behind m was is.1
-
-  on_word : (root index : ℕ) (reply : Reply) (Done : Type 0) → (Done → IsOverlapFree b next) → IsOnWord b m root index reply next Done → IsOverlapFree b next
-  on_word root index reply Done done is = ⊎_elim
-      (λ no_root. refused _ reply no_root.1)
-      (λ rooted. ⊎_elim
-      (λ held. ⊎_elim (λ past. refused _ reply past.1) (λ here. done here.1) held.1)
-      (λ empty. refused _ reply empty.1)
-      rooted.1)
-      is
-
-  step : (call : Call) (reply : Reply) → IsStep p b m call reply next → IsOverlapFree b next
-  step (Malloc root size) reply is = ⊎_elim
-      (λ no_root. refused _ reply no_root.1)
-      (λ rooted. ⊎_elim
-      (λ held. refused _ reply held.1)
-      (λ bare. ⊎_elim
-      (λ empty. refused _ reply empty.1)
-      (λ some. ⊎_elim
-      (λ large. refused _ reply large.1)
-      (λ asked. ⊎_elim
-      (λ grant. behind (with_block m root grant.site) (give p b m root size grant.site was (omega (arith, rooted.0)) some.0 grant.chosen) grant.after)
-      (λ lacking. refused _ reply lacking.1)
-      asked.1)
-      some.1)
-      bare.1)
-      rooted.1)
-      is
-  step (Free root) reply is = ⊎_elim
-      (λ no_root. refused _ reply no_root.1)
-      (λ rooted. ⊎_elim
-      (λ held. behind _ (IsOverlapFree-without b m root held.0.range was) held.1.1)
-      (λ empty. refused _ reply empty.1)
-      rooted.1)
-      is
-  step (Write root index word) reply is = on_word root index reply _ (λ done. behind _ (IsOverlapFree-value b m root index word was) done.1) is
-  step (Read root index) reply is = on_word root index reply _ (λ done. behind m was done.3) is
-  step (Move from to) reply is = ⊎_elim
-      (λ no_root. refused _ reply no_root.1)
-      (λ rooted. ⊎_elim
-      (λ held. ⊎_elim
-      (λ occupied. refused _ reply occupied.1)
-      (λ moved. behind _ (IsOverlapFree-moved b m from to held.0.range was (below rooted.0) held.0.named) moved.1.1)
-      held.1)
-      (λ empty. refused _ reply empty.1)
-      rooted.1)
-      is
-    where
-      below : ¬ ((b.roots ≤ from) ⊎ (b.roots ≤ to)) → to < b.roots
-      below none = ⊎_elim (λ less. less) (λ past. absurd (none (inr past))) (cases_lt to b.roots)
+-- a step
+step : (p : Policy) (b : Bounds) (m next : Machine) (call : Call) (reply : Reply) → IsOverlapFree b m → IsStep p b m call reply next → IsOverlapFree b next
+step p b m next call reply was is = elim (outcome p b m next reply call is) [
+  | Kept not same ↦ behind m was same
+  | Given root size asked given ↦ behind (with_block m root given.grant.site) (give p b m root size given.grant.site was given.below given.some given.grant.chosen) given.grant.after
+  | Taken root asked taken ↦ behind _ (IsOverlapFree-without b m root taken.range was) taken.after
+  | Written root index word not after ↦ behind _ (IsOverlapFree-value b m root index word was) after
+  | Passed from to passed ↦ behind _ (IsOverlapFree-moved b m from to passed.range was passed.below passed.named) passed.after
+]
+  where
+    behind : (last : Machine) → IsOverlapFree b last → next ≡ last → IsOverlapFree b next
+    behind last clean after = subst (λ (t : Machine). IsOverlapFree b t) (sym after) clean
 
 -- every state that is reached from one free of overlaps is free of them
 pub law_of_overlap : LawOfOverlap
 law_of_overlap p b m last [] was leads = subst (λ (t : Machine). IsOverlapFree b t) (sym leads) was
-law_of_overlap p b m last (entry ∷ entries) was leads = law_of_overlap p b leads.0 last entries (step p b m leads.0 was entry.call entry.reply leads.1) leads.2
+law_of_overlap p b m last (entry ∷ entries) was leads = law_of_overlap p b leads.0 last entries (step p b m leads.0 entry.call entry.reply was leads.1) leads.2

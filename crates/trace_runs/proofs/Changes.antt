@@ -11,10 +11,10 @@ use Rattle.heap_model.specs.declared.block.Block.{Block}
 use Rattle.heap_model.specs.declared.call.Call.{Call}
 use Rattle.heap_model.specs.declared.call.Reply.{Reply}
 use Rattle.heap_model.specs.declared.call.Reply.TheVariants.{Placed, Freed, Wrote, Value, Moved, NoRoot, Occupied, Empty, ZeroSize, TooLarge, OutOfRange, NoSpace}
-use Rattle.heap_model.specs.Machine.{Bounds, Range, Machine, with_key}
+use Rattle.heap_model.specs.Machine.{Range, Machine, with_key}
 use Rattle.heap_model.specs.Policy.{plain}
 use Rattle.heap_model.specs.Step.{root_of}
-use Rattle.heap_model.proofs.Replies.{IsGift, IsLoss, gift, loss}
+use Rattle.heap_model.proofs.Outcomes.{IsGift, IsLoss, gift, loss}
 use Rattle.heap_model.proofs.Maps.{with_key-here, with_key-other}
 use Rattle.heap_check.specs.Heap.{heap, slabs, size_at}
 use Rattle.heap_check.specs.Image.{bounds_of, IsFormed, IsExactImage}
