@@ -35,12 +35,12 @@ use Rattle.heap_check.specs.Image.{bounds_of, IsExactImage}
 use Rattle.heap_check.specs.State.{KeepsBlocks, IsEitherHeap}
 use Rattle.arena_core.specs.Arena.{ArenaState, HasNormalSlabs, IsSlabsOf, IsKept, IsArena}
 use Rattle.arena_core.specs.declared.volatile.Volatile.{Volatile}
-use Rattle.arena_core.specs.Call.{IsStepOf}
+use Rattle.arena_core.specs.Call.{IsStepOfAny}
 use Rattle.arena_core.specs.Carried.{IsDone, IsCalled}
 use Rattle.arena_core.specs.Effect.{GivesRoot, KeepsSlabs}
 use Rattle.arena_core.specs.declared.plan.Held.{Held}
 use Rattle.arena_core.specs.declared.plan.Held.TheVariants as holding
-use Rattle.arena_core.specs.Plan.{IsAskedOf, IsSmallPlacing, IsNamedSmall, IsHeldBy, range_held}
+use Rattle.arena_core.specs.Plan.{IsAskedOf, IsClearBlock, IsNamedSmall, IsHeldBy, range_held}
 use Rattle.heap_check.proofs.Sizes.{sizes_of}
 use Rattle.arena_core.proofs.Blocks.{heap-takable}
 use Rattle.arena_core.proofs.Arenas.{normal_kept, slabs_kept}
@@ -56,7 +56,7 @@ IsCalled-same {old} {new} {device} {was} {next} {left} {root} {call} {reply} {an
 -- a call that placed or freed a block, by its events
 pub IsCalled-done : {old new : PmemState} {was done_left left : Volatile} {root : ℕ} {block : Option Range} {slab : ℕ → Option ℕ} {events : List Event} (call : Call) (reply : Reply) →
     IsDone old new done_left root block slab events → events ≡ call_events (words_of old) was.line root reply → left ≡ record done_left { line = left.line } → left.line ≡ turn_after was.line reply → left.line < 8 →
-    IsStepOf (words_of old) (words_of new) call reply → IsCalled old new was left root call reply
+    IsStepOfAny (words_of old) (words_of new) call reply → IsCalled old new was left root call reply
 IsCalled-done {old} {new} {was} {done_left} {left} {root} {block} {slab} {events} call reply done same left_is turn_is few step = record {
   appends = subst (λ (es : List Event). Appends old new es) same done.appends;
   arena = subst (IsArena new) (sym left_is) (record { kept = record { ready = done.kept.ready; exact = done.kept.exact; log = done.kept.log; index = done.kept.index }; normal = done.normal; slabs = done.slabs; few = few });
@@ -238,20 +238,19 @@ IsDone-large {old} {new} {was} {left} {root} {block} {events} arena same appends
 
 -- a free block of a slab may come to a root
 pub small_attachable : (words : List ℕ) (root size : ℕ) (block : SmallBlock) (class : ℕ) → IsExactImage words → HasNormalSlabs words → IsAskedOf (bounds_of words) (tables_of words) root size →
-    IsSmallPlacing (tables_of words) size block class → IsAttachable words root block
+    IsClearBlock (tables_of words) block class → IsAttachable words root block
 small_attachable words root size block class image normal asked placing =
-    let lowest = placing.lowest in
-    let same = sym lowest.class_is in
+    let same = sym placing.class_is in
     record {
       block_in = record {
         image = record { formed = image.formed; but = IsExactBut-exact image.exact block.start };
         rooted = asked.below;
-        slab = lowest.slab;
-        normal = normal.each block.start lowest.slab;
-        below = subst (λ c. block.number < class_capacity c) same lowest.below;
+        slab = placing.slab;
+        normal = normal.each block.start placing.slab;
+        below = subst (λ c. block.number < class_capacity c) same placing.below;
         at = placing.at ∙ ap (λ c. (slab_block block.start c block.number).at) same;
       };
-      clear = lowest.clear;
+      clear = placing.clear;
       none = asked.none;
     }
 
@@ -285,7 +284,7 @@ IsDone-small {old} {new} {was} {left} {root} {class} block arena left_is may cla
 
 -- a call that is refused
 pub IsCalled-refused : {old : PmemState} {was : Volatile} {root : ℕ} (call : Call) (reply : Reply) → IsArena old was →
-    call_events (words_of old) was.line root reply ≡ [] → turn_after was.line reply ≡ was.line → IsStepOf (words_of old) (words_of old) call reply → IsCalled old old was was root call reply
+    call_events (words_of old) was.line root reply ≡ [] → turn_after was.line reply ≡ was.line → IsStepOfAny (words_of old) (words_of old) call reply → IsCalled old old was was root call reply
 IsCalled-refused {old} {was} {root} call reply arena none stays step =
     let words = words_of old in
     let exact = arena.kept.exact in
@@ -302,7 +301,7 @@ IsCalled-refused {old} {was} {root} call reply arena none stays step =
 
 -- an arena answered a call
 pub record IsAnswered (old new : ArenaState) (left : Volatile) (root : ℕ) (call : Call) (reply : Reply) : Type 0 where
-  pub step : IsStepOf (words_of old.device) (words_of new.device) call reply
+  pub step : IsStepOfAny (words_of old.device) (words_of new.device) call reply
   pub device : new.device ≡ appended (began old.device) (call_events (words_of old.device) old.turn root reply)
   pub turn_is : new.turn ≡ turn_after old.turn reply
   pub keeps : KeepsBlocks (words_of old.device) (words_of new.device)
@@ -320,7 +319,7 @@ answered device begun new was left root call reply is called =
     let state : new ≡ appended (began device) (call_events (words_of device) was.line root reply) =
     called.appends.state ∙ (λ i. appended (is i) (call_events (same i) was.line root reply)) in
     record {
-      step = subst (λ (ws : List ℕ). IsStepOf ws (words_of new) call reply) same called.step;
+      step = subst (λ (ws : List ℕ). IsStepOfAny ws (words_of new) call reply) same called.step;
       device = state;
       turn_is = called.turn_is;
       keeps = subst (λ (ws : List ℕ). KeepsBlocks ws (words_of new)) same called.keeps;

@@ -1,6 +1,5 @@
 pub mod Stages
 pub mod Blocks
-pub mod Fits
 pub mod Giving
 pub mod Taking
 pub mod Arenas

@@ -1,13 +1,18 @@
 -- What the reads before a call say of the tables of an exact image: the slabs of the set, the best fits of the vacant
 -- granules, and what a root names.
-use Rattle.std.proofs.Common.{◌≡◌, ◌≢◌, ℕ, ◌+◌, ◌-◌, ◌*◌, ◌/◌, ◌<◌, ◌≤◌, Bool, true, false, not, refl, sym, ap, subst, ◌∙◌, arith, ⊎_elim, List, Option, Some, None, MatchOption}
+use Rattle.std.proofs.Common.{◌≡◌, ◌≢◌, ℕ, ◌+◌, ◌-◌, ◌*◌, ◌/◌, ◌<◌, ◌≤◌, Bool, true, false, not, refl, sym, ap, subst, ◌∙◌, arith, inl, inr, ⊎_elim, true≢false, List, Some, None}
+use Rattle.std.proofs.lemmas.Nat.{le-div}
 use Rattle.std.proofs.Math.Nat.{mul-div_cancel}
-use Rattle.std.proofs.lemmas.List.{get_or_past}
-use Rattle.std.proofs.lemmas.Bool.{cases_eq, cases_lt, cases_Bool, cond-true, cond-false}
-use Rattle.size_classes.specs.Classes.{sizes, class_size, class_capacity, IsClassOf, granules_of}
-use Rattle.size_classes.proofs.Spacing.{class_size-least}
+use Rattle.std.proofs.lemmas.Bool.{cases_eq, cases_Bool, cond-true, cond-false}
+use Rattle.size_classes.specs.Classes.{class_size, class_capacity, IsClassOf, granules_of}
+use Rattle.size_classes.proofs.Spacing.{class_size-least, class_size-most}
 use Rattle.image_tables.specs.Tables.{Tables, tables_of}
-use Rattle.heap_model.specs.Machine.{Bounds, Range}
+use Rattle.heap_model.specs.Machine.{Bounds, Range, slab_block}
+use Rattle.heap_model.specs.Policy.{plain}
+use Rattle.heap_model.specs.Choice.{View, IsUnusedBlock, HasUnusedBlock, HasNoSite, Agree}
+use Rattle.heap_model.specs.Choice.Site.{InSlab, InNewSlab}
+use Rattle.heap_model.proofs.Fits.{IsBestFit-same, HasNoFit-same, fit_free}
+use Rattle.heap_model.proofs.Views.{IsPlainSite-same, HasNoFitSlab-plain, HasNoSite-same}
 use Rattle.heap_model.specs.Runs.{IsBestFit, HasNoFit}
 use Rattle.slab_index.specs.declared.block.SlabBlock.{SlabBlock}
 use Rattle.slab_index.specs.SlabSet.{SlabSet, class_in, is_available, HasNoBlock, IsLowest}
@@ -20,29 +25,15 @@ use Rattle.heap_check.proofs.Claims.{plain_size, IsClaim-word}
 use Rattle.heap_check.proofs.Geometry.{granules_at-slab, granules_at-live, is_large-parts}
 use Rattle.heap_check.proofs.Within.{IsInSlab-held, IsWithin-claim}
 use Rattle.heap_check.proofs.SmallPlaces.{IsNormal, Holds-claim, Holds-normal}
-use Rattle.arena_core.specs.declared.plan.Place.{Place}
+use Rattle.arena_core.specs.declared.plan.Place.TheVariants.{Large, Small, Fresh}
 use Rattle.arena_core.specs.Arena.{HasNormalSlabs, IsIndexOf, IsSlabsOf}
-use Rattle.arena_core.specs.Plan.{IsInSlabOf, IsInNoSlabOf, IsAskedOf, IsVacantRow, IsLowestClear, HasNoClear, IsLargePlacing, IsPlacing, IsSmallPlan, IsLargePlan, HasNoSmall, HasNoLarge, IsTakable, IsNamedSmall}
+use Rattle.arena_core.specs.Plan.{IsInSlabOf, IsInNoSlabOf, IsAskedOf, IsVacantRow, tables_view, IsPlacing, IsTakable, IsNamedSmall}
 use Rattle.arena_core.proofs.Blocks.{large_many}
-use Rattle.arena_core.proofs.Fits.{IsBestFit-same, HasNoFit-same, fit_free}
-
--- classes
-
--- only a class has blocks in a slab
-pub class_known : (class number : ℕ) → number < class_capacity class → class < 36
-unfolding class_size sizes
-class_known class number below = ⊎_elim
-    (λ (is : class < 36). is)
-    (λ (past : 36 ≤ class).
-    let none : class_size class ≡ 0 = get_or_past sizes class 0 past in
-    let empty : class_capacity class ≡ 0 = ap (λ n. 63488 / n) none in
-    absurd (omega (arith, below, empty)))
-    (cases_lt class 36)
 
 -- slabs
 
 -- a slab of the tables' map is one, of its class
-slab_parts : (t : Tables) (start class : ℕ) → slabs t start ≡ Some class → (t.slab start ≡ true) × (t.class start ≡ class)
+pub slab_parts : (t : Tables) (start class : ℕ) → slabs t start ≡ Some class → (t.slab start ≡ true) × (t.class start ≡ class)
 slab_parts t start class is = ⊎_elim
     (λ (lives : t.slab start ≡ true). (lives, let here = cond-true (t.slab start) (Some (t.class start)) None lives in cc))
     (λ (none : t.slab start ≡ false). absurd (let nothing = cond-false (t.slab start) (Some (t.class start)) None none in cc))
@@ -52,9 +43,12 @@ not_true : (x : Bool) → not x ≡ true → x ≡ false
 not_true true is = cc
 not_true false is = refl
 
-not_false : (x : Bool) → not x ≡ false → x ≡ true
-not_false true is = refl
-not_false false is = cc
+-- a slab has a block
+class_capacity-some : (class : ℕ) → class < 36 → 0 < class_capacity class
+class_capacity-some class is_class = some (class_size class) (class_size-least class is_class) (class_size-most class is_class)
+  where
+    some : (size : ℕ) → 16 ≤ size → size ≤ 16384 → 0 < 63488 / size
+    some size least most = le-div 1 63488 size (omega (arith, least)) (omega (arith, most))
 
 module _ {set : SlabSet} {words : List ℕ} (parts : IsSlabsOf set words) where
   -- a slab of the set is one of the tables
@@ -70,67 +64,80 @@ module _ {set : SlabSet} {words : List ℕ} (parts : IsSlabsOf set words) where
   bit_is : (start class i : ℕ) → (tables_of words).slab start ≡ true → (tables_of words).class start ≡ class → i < class_capacity class → is_available set start i ≡ not ((tables_of words).bit start i)
   bit_is start class i slab is below = parts.blocks start i slab (subst (λ c. i < class_capacity c) (sym is) below)
 
-  -- the lowest block of the set is the lowest one whose bit is clear
-  pub IsLowestClear-of : (class : ℕ) (block : SlabBlock) → IsLowest set class block → IsLowestClear (tables_of words) class block.start block.number
-  IsLowestClear-of class block lowest =
-      let is = slab_of_set block.start class lowest.slab in
-      record {
-        slab = is.0;
-        class_is = is.1;
-        below = lowest.below;
-        clear = not_true _ (sym (bit_is block.start class block.number is.0 is.1 lowest.below) ∙ lowest.available);
-        first = λ lower before. not_false _ (sym (bit_is block.start class lower is.0 is.1 (omega (arith, before, lowest.below))) ∙ lowest.first lower before);
-        lowest = λ other i before slab same below.
-            not_false _ (sym (bit_is other class i slab same below) ∙ lowest.lower other i before (slab_in_set other class slab same));
-      }
-
-  -- where the set has no block, no bit is clear
-  pub HasNoClear-of : (class : ℕ) → HasNoBlock set class → HasNoClear (tables_of words) class
-  HasNoClear-of class none = record {
-    each = λ start i slab is below. not_false _ (sym (bit_is start class i slab is below) ∙ none.none start i (slab_in_set start class slab is));
-  }
-
--- fits
+-- the view of the sets that an arena keeps, where no slab takes another class
+abbrev sets_view : FreeSet → SlabSet → View
+sets_view set parts = record { free = IsFree set; slab = class_in parts; unused = λ s c number. is_available parts s number ≡ true; live = λ s. 0; in_transition = λ s. ⊥ }
 
 -- the granules of a best fit are vacant
-pub IsVacantRow-fit : (b : Bounds) (t : Tables) (n start : ℕ) → 0 < n → IsBestFit (IsVacant b t) n start → IsVacantRow b t start n
+IsVacantRow-fit : (b : Bounds) (t : Tables) (n start : ℕ) → 0 < n → IsBestFit (IsVacant b t) n start → IsVacantRow b t start n
 IsVacantRow-fit b t n start some fit =
     let vacant : (k : ℕ) → start ≤ k → k < start + n → IsVacant b t k = λ k low high. fit_free (IsVacant b t) n start k fit low high in
     let begin = vacant start (omega arith) (omega (arith, some)) in
     let end = vacant (start + n - 1) (omega (arith, some)) (omega (arith, some)) in
     record { low = begin.low; high = omega (arith, end.high, some); vacant = vacant }
 
-module _ {set : FreeSet} {words : List ℕ} (index : IsIndexOf set words) where
-  pub fit_of : (n start : ℕ) → IsBestFit (IsFree set) n start → IsBestFit (IsVacant (bounds_of words) (tables_of words)) n start
-  fit_of n start fit = IsBestFit-same (IsFree set) (IsVacant (bounds_of words) (tables_of words)) n start index.each fit
-
-  pub no_fit_of : (n : ℕ) → HasNoFit (IsFree set) n → HasNoFit (IsVacant (bounds_of words) (tables_of words)) n
-  no_fit_of n none = HasNoFit-same (IsFree set) (IsVacant (bounds_of words) (tables_of words)) n index.each none
-
+module _ {set : FreeSet} {words : List ℕ} (index : IsIndexOf set words) (root size : ℕ) where
   -- the best fit for a large request
-  pub IsLargePlacing-fit : (root size start count : ℕ) → 2 ≤ count → IsBestFit (IsFree set) count start → IsAskedOf (bounds_of words) (tables_of words) root size → 16384 < size → count ≡ granules_of size →
-      IsLargePlacing (bounds_of words) (tables_of words) root size start count
-  IsLargePlacing-fit root size start count many fit asked large is =
-      let vacant = fit_of count start fit in
+  pub IsPlacing-large : (start count : ℕ) → 2 ≤ count → IsBestFit (IsFree set) count start → IsAskedOf (bounds_of words) (tables_of words) root size → 16384 < size → count ≡ granules_of size →
+      IsPlacing (bounds_of words) (tables_of words) root size (Large start count)
+  IsPlacing-large start count many fit asked large is =
+      let vacant = IsBestFit-same (IsFree set) (IsVacant (bounds_of words) (tables_of words)) count start index.each fit in
       record {
-        large = large;
-        count_is = is;
-        fit = vacant;
-        givable = record { below = asked.below; none = asked.none; many = many; row = IsVacantRow-fit (bounds_of words) (tables_of words) count start (omega (arith, many)) vacant };
+        site = record { chosen = record { large = large; count_is = is; fit = vacant }; lowest = tt };
+        place_for = record { below = asked.below; none = asked.none; many = many; row = IsVacantRow-fit (bounds_of words) (tables_of words) count start (omega (arith, many)) vacant };
       }
 
--- places
+  pub HasNoSite-large : 16384 < size → HasNoFit (IsFree set) (granules_of size) → HasNoSite plain (tables_view (bounds_of words) (tables_of words)) size
+  HasNoSite-large large none = inr (record { large = large; no_run = HasNoFit-same (IsFree set) (IsVacant (bounds_of words) (tables_of words)) (granules_of size) index.each none })
 
--- what is found for a class is found for a request of that class
-pub small_found : (b : Bounds) (t : Tables) (root size class : ℕ) (found : Option Place) → IsClassOf size class → IsSmallPlan b t class found → MatchOption found (HasNoSmall b t size) (IsPlacing b t root size)
-small_found b t root size class None least plan = record { class = class; least = least; full = plan.is.0; no_run = plan.is.1 }
-small_found b t root size class (Some place) least plan = plan.is root size least
+  module _ {parts : SlabSet} (slabs : IsSlabsOf parts words) where
+    -- the sets say what the tables say
+    agree : Agree plain (sets_view set parts) (tables_view (bounds_of words) (tables_of words))
+    agree = record {
+      free = index.each;
+      slab = slabs.classes;
+      unused = λ s class number slab within.
+          let is = slab_of_set slabs s class slab in
+          let bit = bit_is slabs s class number is.0 is.1 within in
+          (λ available. not_true _ (sym bit ∙ available), λ clear. bit ∙ ap not clear);
+      fit = λ morphs. absurd (true≢false (sym morphs));
+    }
 
--- and what is found for so many granules for a request of as many
-pub large_found : (b : Bounds) (t : Tables) (root size count : ℕ) (found : Option Place) → IsAskedOf b t root size → 16384 < size → count ≡ granules_of size → IsLargePlan b t count found →
-    MatchOption found (HasNoLarge b t size) (IsPlacing b t root size)
-large_found b t root size count None asked large is plan = record { large = large; no_run = subst (HasNoFit (IsVacant b t)) is plan.is }
-large_found b t root size count (Some place) asked large is plan = plan.is root size asked large is
+    full : (class : ℕ) → HasNoBlock parts class → ¬ (HasUnusedBlock (sets_view set parts) class)
+    full class none has = true≢false (sym has.block.unused ∙ none.none has.start has.number has.slab)
+
+    -- the lowest block of a class
+    pub IsPlacing-small : (class at : ℕ) (block : SlabBlock) → IsClassOf size class → IsLowest parts class block → at ≡ (slab_block block.start class block.number).at →
+        IsPlacing (bounds_of words) (tables_of words) root size (Small (record { start = block.start; number = block.number; at = at }) class)
+    IsPlacing-small class at block least lowest at_is =
+        let is = slab_of_set slabs block.start class lowest.slab in
+        let unused : IsUnusedBlock (sets_view set parts) block.start class block.number = record { within = lowest.below; unused = lowest.available } in
+        record {
+          site = IsPlainSite-same (sets_view set parts) (tables_view (bounds_of words) (tables_of words)) size (InSlab block.start class block.number) agree (record {
+            chosen = record { least = least; slab = lowest.slab; block = unused };
+            lowest = record {
+              slab = lowest.slab;
+              block = unused;
+              first = λ lower less available. true≢false (sym available ∙ lowest.first lower less);
+              lowest = λ other i less slab found. true≢false (sym found.unused ∙ lowest.lower other i less slab);
+            };
+          });
+          place_for = record { slab = is.0; class_is = is.1; below = lowest.below; clear = not_true _ (sym (bit_is slabs block.start class block.number is.0 is.1 lowest.below) ∙ lowest.available); at = at_is };
+        }
+
+    -- a new slab for it
+    pub IsPlacing-fresh : (class start : ℕ) → IsClassOf size class → HasNoBlock parts class → IsBestFit (IsFree set) 4 start → IsPlacing (bounds_of words) (tables_of words) root size (Fresh start class)
+    IsPlacing-fresh class start least none fit = record {
+      site = IsPlainSite-same (sets_view set parts) (tables_view (bounds_of words) (tables_of words)) size (InNewSlab start class 0) agree (record {
+        chosen = record { least = least; full = full class none; no_fit = HasNoFitSlab-plain _ class; fit = fit; within = class_capacity-some class least.is_class };
+        lowest = refl;
+      });
+      place_for = IsVacantRow-fit (bounds_of words) (tables_of words) 4 start (omega arith) (IsBestFit-same (IsFree set) (IsVacant (bounds_of words) (tables_of words)) 4 start index.each fit);
+    }
+
+    pub HasNoSite-small : (class : ℕ) → IsClassOf size class → HasNoBlock parts class → HasNoFit (IsFree set) 4 → HasNoSite plain (tables_view (bounds_of words) (tables_of words)) size
+    HasNoSite-small class least none no_run = HasNoSite-same plain (sets_view set parts) (tables_view (bounds_of words) (tables_of words)) agree size
+        (inl (record { class = class; least = least; full = full class none; no_fit = HasNoFitSlab-plain _ class; no_run = no_run }))
 
 -- what a root names
 

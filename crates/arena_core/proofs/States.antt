@@ -1,16 +1,20 @@
 -- The state of the heap machine that an exact image has: what the image's tables say of its granules, slabs and blocks,
 -- and its state after a call. Slabs may live, and each is normal where a lemma says so.
-use Rattle.std.proofs.Common.{◌≡◌, ◌≢◌, ◌↔◌, ℕ, ◌+◌, ◌*◌, ◌/◌, ◌<◌, ◌≤◌, true, false, true≢false, eqb, refl, sym, ap, subst, ◌∙◌, arith, inl, inr, ⊎_elim, List, Option, Some, None}
+use Rattle.std.proofs.Common.{◌≡◌, ◌≢◌, ℕ, ◌+◌, ◌*◌, ◌/◌, ◌<◌, ◌≤◌, true, false, true≢false, eqb, refl, sym, ap, subst, ◌∙◌, arith, inl, inr, ⊎_elim, List, Option, Some, None}
 use Rattle.std.proofs.lemmas.Bool.{cases_eq, cases_lt, cases_Bool, cond-true, cond-false, eq-eqb, ne_eqb}
 use Rattle.size_classes.specs.Classes.{class_capacity}
 use Rattle.image_tables.specs.Tables.{Tables, tables_of}
 use Rattle.image_tables.proofs.Tables.{root_table-past}
-use Rattle.heap_model.specs.Machine.{Bounds, Range, Machine, with_key, slab_block, AreApart, IsFreeGranule}
-use Rattle.heap_model.specs.Slabs.{IsFreeBlock}
-use Rattle.heap_model.specs.Step.{slabs_without, forgotten, IsAsking, IsNamedAt}
+use Rattle.heap_model.specs.Policy.{plain}
+use Rattle.heap_model.specs.Machine.{Bounds, Range, Machine, with_key, slab_block, AreApart, IsUnused, IsFreeGranule}
+use Rattle.heap_model.specs.Choice.{Agree}
+use Rattle.heap_model.specs.Slabs.{view_of}
+use Rattle.heap_model.specs.Step.{slabs_without, forgotten}
+use Rattle.heap_model.proofs.Placing.{rows_apart}
+use Rattle.heap_model.proofs.Slabbing.{LiesIn-block}
 use Rattle.heap_model.proofs.Maps.{with_key-here, with_key-other}
 use Rattle.heap_model.proofs.Freeing.{BeginsIn, slabs_stay, slabs_stay-away, slabs_leave}
-use Rattle.heap_check.specs.Heap.{is_large, entry_at, heap, slabs, IsClaim, Holds}
+use Rattle.heap_check.specs.Heap.{is_large, entry_at, heap, slabs, IsClaim}
 use Rattle.heap_check.specs.Sound.{granules_at, Covers, IsVacant, IsInSlab, IsSound, HasOther}
 use Rattle.heap_check.specs.Image.{bounds_of, IsExactImage}
 use Rattle.heap_check.specs.State.{HasState, KeepsBlocks}
@@ -19,24 +23,12 @@ use Rattle.heap_check.proofs.Claims.{plain_size, IsNamed-claim}
 use Rattle.heap_check.proofs.Geometry.{granules_at-slab, granules_at-large, granules_at-live, Covers-slab, is_large-slab, is_large-start, granule_of-start}
 use Rattle.heap_check.proofs.Heaps.{heap-none, heap-some, heap-large, heap-claim, IsClaim-heap}
 use Rattle.heap_check.proofs.LargePlaces.{cases_run}
-use Rattle.heap_check.proofs.Within.{IsWithin, IsWithin-claim}
+use Rattle.heap_check.proofs.Within.{IsWithin, IsWithin-claim, Covers-within}
 use Rattle.heap_check.proofs.SmallPlaces.{one_slab, IsNormal, IsWithin-block, Holds-set, apart_free}
-use Rattle.arena_core.specs.Plan.{IsAskedOf}
+use Rattle.arena_core.specs.Arena.{HasNormalSlabs}
+use Rattle.arena_core.specs.Plan.{IsVacantRow, tables_view}
+use Rattle.arena_core.proofs.Plans.{slab_parts}
 use Rattle.arena_core.proofs.Blocks.{large_many}
-
--- a slab of the tables' map is one, of its class
-slab_says : (t : Tables) (start class : ℕ) → slabs t start ≡ Some class → (t.slab start ≡ true) × (t.class start ≡ class)
-slab_says t start class is = ⊎_elim
-    (λ (lives : t.slab start ≡ true). (lives, let here = cond-true (t.slab start) (Some (t.class start)) None lives in cc))
-    (λ (none : t.slab start ≡ false). absurd (let nothing = cond-false (t.slab start) (Some (t.class start)) None none in cc))
-    (cases_Bool (t.slab start))
-
--- the range is a block of the class in the slab, and its bit is clear
-pub record IsClearBlock (t : Tables) (start class : ℕ) (range : Range) : Type 0 where
-  pub number : ℕ
-  pub below : number < class_capacity class
-  pub is : range ≡ slab_block start class number
-  pub clear : t.bit start number ≡ false
 
 -- what is not forgotten is another root's
 not_forgotten : (value : ℕ → ℕ → Option ℕ) (root other index word : ℕ) → forgotten value root other index ≡ Some word → (other ≢ root) × (value other index ≡ Some word)
@@ -54,13 +46,9 @@ module _ {words : List ℕ} {m : Machine} (state : HasState words m) where
   pub nameless : (root : ℕ) → (tables_of words).root root ≡ 0 → m.block root ≡ None
   nameless root none = sym (state.blocks root) ∙ heap-none (tables_of words) root none
 
-  -- a request that passes the tests of the tables passes those of the state
-  pub asking : (root size : ℕ) → IsAskedOf (bounds_of words) (tables_of words) root size → IsAsking (bounds_of words) m root size
-  asking root size asked = record { below = asked.below; none = nameless root asked.none; some = asked.some; most = asked.most }
-
   -- a slab of the state is one of the tables
   pub slab_named : (start class : ℕ) → m.slab start ≡ Some class → ((tables_of words).slab start ≡ true) × ((tables_of words).class start ≡ class)
-  slab_named start class slab = slab_says (tables_of words) start class (state.slabs start ∙ slab)
+  slab_named start class slab = slab_parts (tables_of words) start class (state.slabs start ∙ slab)
 
   -- and a slab of the tables is one of the state
   pub naming_slab : (start : ℕ) → (tables_of words).slab start ≡ true → m.slab start ≡ Some ((tables_of words).class start)
@@ -115,12 +103,9 @@ module _ {words : List ℕ} (image : IsExactImage words) {m : Machine} (state : 
   block_word root range named = (IsNamed-claim t root range (unnamed root) (claim root range named)).word
 
   -- a root whose word is not 0 names a block there
-  pub named_at : (root at : ℕ) → (tables_of words).root root ≡ at → at ≢ 0 → IsNamedAt m root at
-  named_at root at is some = record {
-    size = plain_size t at;
-    named = naming state root (record { at = at; size = plain_size t at })
-        (heap-some t root (unnamed root) (λ none. some (sym is ∙ none)) ∙ ap (λ at. Some (record { at = at; size = plain_size t at })) is);
-  }
+  pub named_at : (root at : ℕ) → (tables_of words).root root ≡ at → at ≢ 0 → m.block root ≡ Some (record { at = at; size = plain_size (tables_of words) at })
+  named_at root at is some = naming state root (record { at = at; size = plain_size t at })
+      (heap-some t root (unnamed root) (λ none. some (sym is ∙ none)) ∙ ap (λ at. Some (record { at = at; size = plain_size t at })) is)
 
   -- a live large extent is the block of a root
   large_named : (start : ℕ) → 0 < t.large start → (root : ℕ) × (m.block root ≡ Some (record { at = 16384 * start; size = 16384 * t.large start }))
@@ -170,13 +155,18 @@ module _ {words : List ℕ} (image : IsExactImage words) {m : Machine} (state : 
         (cases_run start 4 k);
   }
 
-  -- the free granules of the state are the vacant ones of the words
-  pub free_vacant : (k : ℕ) → IsFreeGranule (bounds_of words) m k ↔ IsVacant (bounds_of words) (tables_of words) k
-  free_vacant k = (free_is_vacant k, vacant_is_free k)
-
-  -- the same, the other way round
-  pub vacant_free : (k : ℕ) → IsVacant (bounds_of words) (tables_of words) k ↔ IsFreeGranule (bounds_of words) m k
-  vacant_free k = (vacant_is_free k, free_is_vacant k)
+  -- four vacant granules have room for a slab's first block
+  pub vacant_clear : (start class : ℕ) → 0 < class_capacity class → IsVacantRow (bounds_of words) (tables_of words) start 4 → IsUnused m (slab_block start class 0)
+  vacant_clear start class some row = record {
+    each = λ root other named.
+        let within = IsWithin-claim sound root other (unnamed root) (claim root other named) in
+        let lies = LiesIn-block start class (slab_block start class 0) (record { number = 0; within = some; is = refl }) in
+        let first : Covers t within.0 (other.at / 16384) = Covers-within t within.0 other within.1 in
+        ⊎_elim
+        (λ before. inl (omega (arith, before, lies.high, within.1.low)))
+        (λ behind. inr (omega (arith, behind, within.1.high)))
+        (rows_apart start 4 within.0 (granules_at t within.0) (omega arith) (omega (arith, first.low, first.high)) (λ k from to low high. (row.vacant k from to).none within.0 (record { low = low; high = high })));
+  }
 
   -- a slab stays once a root has lost its block where that does not lie in it
   slab_elsewhere : (root : ℕ) (range : Range) (s : ℕ) → ¬ (IsInSlab t s range.at) → slabs_without b m root range s ≡ m.slab s
@@ -203,8 +193,7 @@ module _ {words : List ℕ} (image : IsExactImage words) {m : Machine} (state : 
   slabs_without-other root start range inside has s = ⊎_elim
       (λ (same : s ≡ start).
       let below : has.other < b.roots = ⊎_elim (λ less. less) (λ past. absurd (has.some (root_table-past words has.other past))) (cases_lt has.other b.roots) in
-      let its = named_at has.other (t.root has.other) refl has.some in
-      slabs_stay b m root has.other range s below has.differ (record { range = record { at = t.root has.other; size = its.size }; named = its.named; low = omega (arith, has.inside.low, same); high = omega (arith, has.inside.high, same) }))
+      slabs_stay b m root has.other range s below has.differ (record { range = _; named = named_at has.other (t.root has.other) refl has.some; low = omega (arith, has.inside.low, same); high = omega (arith, has.inside.high, same) }))
       (λ (differ : s ≢ start). slab_elsewhere root range s (λ there. differ (one_slab sound s start range.at there inside)))
       (cases_eq s start)
 
@@ -224,41 +213,38 @@ module _ {words : List ℕ} (image : IsExactImage words) {m : Machine} (state : 
       slab_elsewhere root range s (λ there. differ (one_slab sound s start range.at there inside)) ∙ sym (with_key-other m.slab start s None differ))
       (cases_eq s start)
 
-  -- where each slab is normal, a block whose bit is clear is free
-  pub block_free : ((start : ℕ) → (tables_of words).slab start ≡ true → (tables_of words).kind start ≡ 1) → (start class number : ℕ) → (tables_of words).slab start ≡ true →
-      (tables_of words).class start ≡ class → number < class_capacity class → (tables_of words).bit start number ≡ false → IsFreeBlock m start class (slab_block start class number)
-  block_free normal start class number slab is below clear =
-      let kind : IsNormal t start = record { slab = slab; kind = normal start slab } in
+  -- where each slab is normal, its block is unused where its bit is clear
+  clear_unused : HasNormalSlabs words → (start class number : ℕ) → t.slab start ≡ true → t.class start ≡ class → number < class_capacity class → t.bit start number ≡ false → IsUnused m (slab_block start class number)
+  clear_unused normal start class number slab is below clear =
+      let kind : IsNormal t start = record { slab = slab; kind = normal.each start slab } in
       let inside : number < class_capacity (t.class start) = subst (λ c. number < class_capacity c) (sym is) below in
       record {
-        block = record { number = number; within = below; is = refl };
-        unused = record {
-          each = λ root other named.
-              let apart = apart_free sound image.exact.closed start number kind inside clear root other (claim root other named) in
-              ⊎_elim (λ before. inr before) (λ behind. inl behind) (subst (λ c. AreApart other (slab_block start c number)) is apart);
-        };
+        each = λ root other named.
+            let apart = apart_free sound image.exact.closed start number kind inside clear root other (claim root other named) in
+            ⊎_elim (λ before. inr before) (λ behind. inl behind) (subst (λ c. AreApart other (slab_block start c number)) is apart);
       }
 
-  -- and the bit of a free block is clear
-  pub free_block : ((start : ℕ) → (tables_of words).slab start ≡ true → (tables_of words).kind start ≡ 1) → (start class : ℕ) (range : Range) → m.slab start ≡ Some class → IsFreeBlock m start class range →
-      IsClearBlock (tables_of words) start class range
-  free_block normal start class range slab free =
-      let number = free.block.number in
-      let is_slab = slab_named state start class slab in
-      let kind : IsNormal t start = record { slab = is_slab.0; kind = normal start is_slab.0 } in
-      let below : number < class_capacity (t.class start) = subst (λ c. number < class_capacity c) (sym is_slab.1) free.block.within in
-      let same : range ≡ slab_block start (t.class start) number = free.block.is ∙ ap (λ c. slab_block start c number) (sym is_slab.1) in
-      record {
-        number = number;
-        below = free.block.within;
-        is = free.block.is;
-        clear = ⊎_elim
-            (λ (set : t.bit start number ≡ true).
-            let holds : Holds t start range = subst (Holds t start) (sym same) (Holds-set sound image.exact.closed start number kind below set) in
-            let within : IsWithin t start range = subst (IsWithin t start) (sym same) (IsWithin-block sound image.exact.closed start number kind below) in
-            let owner = sound.claimed start range holds in
-            absurd (⊎_elim (λ x. omega (arith, x, within.some)) (λ x. omega (arith, x, within.some))
-            (free.unused.each owner.0 range (naming state owner.0 range (heap-claim t owner.0 range (unnamed owner.0) owner.1)))))
-            (λ (clear : t.bit start number ≡ false). clear)
-            (cases_Bool (t.bit start number));
-      }
+  -- and only there
+  unused_clear : HasNormalSlabs words → (start class number : ℕ) → t.slab start ≡ true → t.class start ≡ class → number < class_capacity class → IsUnused m (slab_block start class number) → t.bit start number ≡ false
+  unused_clear normal start class number slab is below unused = ⊎_elim
+      (λ (set : t.bit start number ≡ true).
+      let kind : IsNormal t start = record { slab = slab; kind = normal.each start slab } in
+      let inside : number < class_capacity (t.class start) = subst (λ c. number < class_capacity c) (sym is) below in
+      let range : Range = slab_block start (t.class start) number in
+      let within : IsWithin t start range = IsWithin-block sound image.exact.closed start number kind inside in
+      let owner = sound.claimed start range (Holds-set sound image.exact.closed start number kind inside set) in
+      let apart : AreApart range range = subst (λ c. AreApart (slab_block start c number) range) (sym is) (unused.each owner.0 range (naming state owner.0 range (heap-claim t owner.0 range (unnamed owner.0) owner.1))) in
+      absurd (⊎_elim (λ x. omega (arith, x, within.some)) (λ x. omega (arith, x, within.some)) apart))
+      (λ (clear : t.bit start number ≡ false). clear)
+      (cases_Bool (t.bit start number))
+
+  -- the tables say what the state says
+  pub tables_agree : HasNormalSlabs words → Agree plain (tables_view (bounds_of words) (tables_of words)) (view_of (bounds_of words) m)
+  tables_agree normal = record {
+    free = λ k. (vacant_is_free k, free_is_vacant k);
+    slab = state.slabs;
+    unused = λ start class number slab below.
+        let is = slab_parts t start class slab in
+        (clear_unused normal start class number is.0 is.1 below, unused_clear normal start class number is.0 is.1 below);
+    fit = λ morphs. absurd (true≢false (sym morphs));
+  }

@@ -12,7 +12,7 @@ use Rattle.heap_check.specs.Image.{bounds_of}
 use Rattle.heap_check.specs.State.{HaveSameHeap, KeepsBlocks, IsEitherHeap}
 use Rattle.arena_core.specs.declared.volatile.Volatile.{Volatile}
 use Rattle.arena_core.specs.Arena.{HasNormalSlabs, IsSlabsOf, IsKept, IsArena}
-use Rattle.arena_core.specs.Call.{IsStepOf}
+use Rattle.arena_core.specs.Call.{IsStepOfAny}
 use Rattle.arena_core.specs.Effect.{slabs_but, GivesRoot}
 use Rattle.arena_core.specs.Events.{holds_none, empty_events, call_events, turn_after}
 
@@ -42,6 +42,6 @@ pub record IsCalled (old new : PmemState) (was left : Volatile) (root : ℕ) (ca
   pub appends : Appends old new (call_events (words_of old) was.line root reply)
   pub arena : IsArena new left
   pub turn_is : left.line ≡ turn_after was.line reply
-  pub step : IsStepOf (words_of old) (words_of new) call reply
+  pub step : IsStepOfAny (words_of old) (words_of new) call reply
   pub keeps : KeepsBlocks (words_of old) (words_of new)
   pub crash : CrashOnly (words_of old) (call_events (words_of old) was.line root reply) (IsEitherHeap (words_of old) (words_of new))

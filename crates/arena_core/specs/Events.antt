@@ -95,6 +95,7 @@ call_events words line root (replies.Placed at size) = placed_events words line 
 call_events words line root (replies.Freed at size) = freed_events words line root at size
 call_events words line root replies.Wrote = []
 call_events words line root (replies.Value word) = []
+call_events words line root (replies.Moved at size) = []
 call_events words line root replies.NoRoot = []
 call_events words line root (replies.Occupied at) = []
 call_events words line root replies.Empty = []
@@ -103,12 +104,13 @@ call_events words line root replies.TooLarge = []
 call_events words line root replies.OutOfRange = []
 call_events words line root replies.NoSpace = []
 
--- the line of the next entry, behind a call with this reply: small blocks take the eight lines in turn
+-- the line of the next entry, behind a call with this reply: small blocks and moves take the eight lines in turn
 abbrev pub turn_after : ℕ → Reply → ℕ
 turn_after turn (replies.Placed at size) = if is_small size then (turn + 1) % 8 else turn
 turn_after turn (replies.Freed at size) = if is_small size then (turn + 1) % 8 else turn
 turn_after turn replies.Wrote = turn
 turn_after turn (replies.Value word) = turn
+turn_after turn (replies.Moved at size) = (turn + 1) % 8
 turn_after turn replies.NoRoot = turn
 turn_after turn (replies.Occupied at) = turn
 turn_after turn replies.Empty = turn

@@ -1,9 +1,14 @@
 -- What a call decides before its first store, over the tables of the image at its begin.
-use Rattle.std.specs.Prelude.{◌≡◌, ◌≢◌, ◌⊎◌, ℕ, ◌+◌, ◌-◌, ◌*◌, ◌<◌, ◌≤◌, true, false, Option, Some, None, MatchOption, Result, Ok, Err}
-use Rattle.size_classes.specs.Classes.{class_capacity, IsClassOf, granules_of}
+use Rattle.std.specs.Prelude.{◌≡◌, ◌≢◌, ℕ, ◌+◌, ◌-◌, ◌*◌, ◌<◌, ◌≤◌, true, false, Option, Some, None, MatchOption, Result, Ok, Err}
+use Rattle.size_classes.specs.Classes.{class_capacity}
 use Rattle.image_tables.specs.Tables.{Tables}
 use Rattle.heap_model.specs.Machine.{Bounds, Range, slab_block}
-use Rattle.heap_model.specs.Runs.{IsBestFit, HasNoFit}
+use Rattle.heap_model.specs.Policy.{plain}
+use Rattle.heap_model.specs.Choice.{View, Site, range_of, HasNoSite}
+use Rattle.heap_model.specs.Choice.Site.{Granules, InSlab, InNewSlab}
+use Rattle.heap_model.specs.Slabs.{live_below}
+use Rattle.heap_model.specs.Plain.{IsPlainSite}
+use Rattle.heap_check.specs.Heap.{heap, slabs}
 use Rattle.heap_check.specs.Sound.{IsVacant}
 use Rattle.attach_steps.specs.declared.block.SmallBlock.{SmallBlock}
 use Rattle.arena_core.specs.declared.plan.Place.{Place}
@@ -49,64 +54,45 @@ pub record IsGivable (b : Bounds) (t : Tables) (root start count : ℕ) : Type 0
   pub many : 2 ≤ count
   pub row : IsVacantRow b t start count
 
--- the lowest block of the lowest slab of the class that has one whose bit is clear
-pub record IsLowestClear (t : Tables) (class start number : ℕ) : Type 0 where
-  pub slab : t.slab start ≡ true
-  pub class_is : t.class start ≡ class
-  pub below : number < class_capacity class
-  pub clear : t.bit start number ≡ false
-  pub first : (lower : ℕ) → lower < number → t.bit start lower ≡ true
-  pub lowest : (other i : ℕ) → other < start → t.slab other ≡ true → t.class other ≡ class → i < class_capacity class → t.bit other i ≡ true
-
--- no slab of the class has such a block
-pub record HasNoClear (t : Tables) (class : ℕ) : Type 0 where
-  pub each : (start i : ℕ) → t.slab start ≡ true → t.class start ≡ class → i < class_capacity class → t.bit start i ≡ true
-
--- large granules for a request: the best fit
-pub record IsLargePlacing (b : Bounds) (t : Tables) (root size start count : ℕ) : Type 0 where
-  pub large : 16384 < size
-  pub count_is : count ≡ granules_of size
-  pub fit : IsBestFit (IsVacant b t) count start
-  pub givable : IsGivable b t root start count
-
--- a block of a slab for a request
-pub record IsSmallPlacing (t : Tables) (size : ℕ) (block : SmallBlock) (class : ℕ) : Type 0 where
-  pub least : IsClassOf size class
-  pub lowest : IsLowestClear t class block.start block.number
+-- a block of a slab of the class is to be given, whose bit is clear
+pub record IsClearBlock (t : Tables) (block : SmallBlock) (class : ℕ) : Type 0 where
+  pub slab : t.slab block.start ≡ true
+  pub class_is : t.class block.start ≡ class
+  pub below : block.number < class_capacity class
+  pub clear : t.bit block.start block.number ≡ false
   pub at : block.at ≡ (slab_block block.start class block.number).at
 
--- a new slab for a request: four granules at their best fit
-pub record IsFreshPlacing (b : Bounds) (t : Tables) (size start class : ℕ) : Type 0 where
-  pub least : IsClassOf size class
-  pub full : HasNoClear t class
-  pub fit : IsBestFit (IsVacant b t) 4 start
-  pub row : IsVacantRow b t start 4
+-- the view that the choice of a malloc has of the tables, where each slab is normal: a block of its slab's class is unused
+-- where its bit is clear
+abbrev pub tables_view : Bounds → Tables → View
+tables_view b t = record {
+  free = IsVacant b t;
+  slab = slabs t;
+  unused = λ s c number. t.bit s number ≡ false;
+  live = λ s. live_below (heap t) s b.roots;
+  in_transition = λ s. t.kind s ≢ 1;
+}
 
--- a place for a request
-abbrev pub IsPlacing : Bounds → Tables → ℕ → ℕ → Place → Type 0
-IsPlacing b t root size (Large start count) = IsLargePlacing b t root size start count
-IsPlacing b t root size (Small block class) = IsSmallPlacing t size block class
-IsPlacing b t root size (Fresh start class) = IsFreshPlacing b t size start class
+-- the site of a place
+abbrev pub site_of : Place → Site
+site_of (Large start count) = Granules start count
+site_of (Small block class) = InSlab block.start class block.number
+site_of (Fresh start class) = InNewSlab start class 0
 
--- what is found for requests of a class
-pub record IsSmallPlan (b : Bounds) (t : Tables) (class : ℕ) (found : Option Place) : Type 0 where
-  pub is : MatchOption found (HasNoClear t class × HasNoFit (IsVacant b t) 4) (λ place. (root size : ℕ) → IsClassOf size class → IsPlacing b t root size place)
+-- what a place has to be, to be given to a root
+abbrev pub IsPlaceFor : Bounds → Tables → ℕ → Place → Type 0
+IsPlaceFor b t root (Large start count) = IsGivable b t root start count
+IsPlaceFor b t root (Small block class) = IsClearBlock t block class
+IsPlaceFor b t root (Fresh start class) = IsVacantRow b t start 4
 
--- what is found for so many granules
-pub record IsLargePlan (b : Bounds) (t : Tables) (count : ℕ) (found : Option Place) : Type 0 where
-  pub is : MatchOption found (HasNoFit (IsVacant b t) count) (λ place. (root size : ℕ) → IsAskedOf b t root size → 16384 < size → count ≡ granules_of size → IsPlacing b t root size place)
+-- a place for a request: the lowest site, by the plain policy
+pub record IsPlacing (b : Bounds) (t : Tables) (root size : ℕ) (place : Place) : Type 0 where
+  pub site : IsPlainSite (tables_view b t) size (site_of place)
+  pub place_for : IsPlaceFor b t root place
 
--- no place for a small request
-pub record HasNoSmall (b : Bounds) (t : Tables) (size : ℕ) : Type 0 where
-  pub class : ℕ
-  pub least : IsClassOf size class
-  pub full : HasNoClear t class
-  pub no_run : HasNoFit (IsVacant b t) 4
-
--- no place for a large request
-pub record HasNoLarge (b : Bounds) (t : Tables) (size : ℕ) : Type 0 where
-  pub large : 16384 < size
-  pub no_run : HasNoFit (IsVacant b t) (granules_of size)
+-- what is found for a request: no place where it has no site
+abbrev pub IsFound : Bounds → Tables → ℕ → ℕ → Option Place → Type 0
+IsFound b t root size found = MatchOption found (HasNoSite plain (tables_view b t) size) (IsPlacing b t root size)
 
 abbrev pub IsMallocPlan : Bounds → Tables → ℕ → ℕ → Result Place MallocRefusal → Type 0
 IsMallocPlan b t root size (Ok place) = IsAskedOf b t root size × IsPlacing b t root size place
@@ -114,13 +100,11 @@ IsMallocPlan b t root size (Err NoRoot) = b.roots ≤ root
 IsMallocPlan b t root size (Err (Occupied at)) = (root < b.roots) × (t.root root ≡ at) × (at ≢ 0)
 IsMallocPlan b t root size (Err ZeroSize) = (root < b.roots) × (t.root root ≡ 0) × (size ≡ 0)
 IsMallocPlan b t root size (Err TooLarge) = (root < b.roots) × (t.root root ≡ 0) × ((b.granules - b.first) * 16384 < size)
-IsMallocPlan b t root size (Err NoSpace) = IsAskedOf b t root size × (HasNoSmall b t size ⊎ HasNoLarge b t size)
+IsMallocPlan b t root size (Err NoSpace) = IsAskedOf b t root size × HasNoSite plain (tables_view b t) size
 
 -- the block of a place
 abbrev pub range_at : Place → Range
-range_at (Large start count) = record { at = 16384 * start; size = 16384 * count }
-range_at (Small block class) = slab_block block.start class block.number
-range_at (Fresh start class) = slab_block start class 0
+range_at place = range_of (site_of place)
 
 -- free
 

@@ -108,7 +108,7 @@ impl<P: Pmem> Arena<P> {
     /// takes no memory. `seat` is the caller's, below 64.
     pub fn malloc_to(&mut self, seat: u32, root: u32, size: u64) -> Result<Placed, MallocRefusal>
         requires { seat < 64 }
-        ensures step { IsStepOf (words_of self.old.device) (words_of self.new.device) (calls.Malloc root size) (malloc_reply result) }
+        ensures step { IsStepOf seat (words_of self.old.device) (words_of self.new.device) (calls.Malloc root size) (malloc_reply result) }
         ensures device { self.new.device ≡ appended (began self.old.device) (call_events (words_of self.old.device) self.old.turn root (malloc_reply result)) }
         ensures turn { self.new.turn ≡ turn_after self.old.turn (malloc_reply result) }
         ensures keeps { KeepsBlocks (words_of self.old.device) (words_of self.new.device) }
@@ -135,7 +135,7 @@ impl<P: Pmem> Arena<P> {
     /// is the caller's, below 64.
     pub fn free_from(&mut self, seat: u32, root: u32) -> Result<Freed, FreeRefusal>
         requires { seat < 64 }
-        ensures step { IsStepOf (words_of self.old.device) (words_of self.new.device) (calls.Free root) (free_reply result) }
+        ensures step { IsStepOf seat (words_of self.old.device) (words_of self.new.device) (calls.Free root) (free_reply result) }
         ensures device { self.new.device ≡ appended (began self.old.device) (call_events (words_of self.old.device) self.old.turn root (free_reply result)) }
         ensures turn { self.new.turn ≡ turn_after self.old.turn (free_reply result) }
         ensures keeps { KeepsBlocks (words_of self.old.device) (words_of self.new.device) }

@@ -12,7 +12,7 @@ ghost use Rattle.heap_check.specs.Image.{bounds_of, IsFormed, IsExactImage};
 ghost use Rattle.slab_index.specs.SlabSet.{class_in};
 ghost use Rattle.log_steps.specs.Log.{IsBookOf};
 ghost use Rattle.arena_core.specs.Arena.{HasNormalSlabs, IsIndexOf, IsSlabsOf};
-ghost use Rattle.arena_core.specs.Plan.{IsMallocPlan, IsFreePlan, IsHeldBy, IsSmallPlan, IsLargePlan, IsInSlabOf, IsInNoSlabOf, range_at, range_held};
+ghost use Rattle.arena_core.specs.Plan.{IsMallocPlan, IsFreePlan, IsHeldBy, IsAskedOf, IsFound, IsInSlabOf, IsInNoSlabOf, range_at, range_held};
 
 use crate::{FreeRefusal, Freed, MallocRefusal, Placed};
 use attach_steps::SmallBlock;
@@ -95,7 +95,7 @@ pub(crate) fn plan_malloc<P: Pmem>(
 fn small_place(free: &ExtentIndex, slabs: &SlabIndex, class: u8) -> Option<Place>
     requires class { class < 36 }
     requires few { (start class : ℕ) → class_in slabs.now start ≡ Some class → start < 1024 }
-    ensures { (words : List ℕ) → IsExactImage words → HasNormalSlabs words → IsIndexOf free.now words → IsSlabsOf slabs.now words → IsSmallPlan (bounds_of words) (tables_of words) class result }
+    ensures { (words : List ℕ) → IsExactImage words → HasNormalSlabs words → IsIndexOf free.now words → IsSlabsOf slabs.now words → (root size : ℕ) → IsClassOf size class → IsFound (bounds_of words) (tables_of words) root size result }
 {
     match slabs.lowest(class) {
         Some(block) => {
@@ -117,7 +117,7 @@ fn small_place(free: &ExtentIndex, slabs: &SlabIndex, class: u8) -> Option<Place
 // A place for so many granules, two at least: their best fit.
 fn large_place(free: &ExtentIndex, granules: u32) -> Option<Place>
     requires { 2 ≤ granules }
-    ensures { (words : List ℕ) → IsExactImage words → IsIndexOf free.now words → IsLargePlan (bounds_of words) (tables_of words) granules result }
+    ensures { (words : List ℕ) → IsExactImage words → IsIndexOf free.now words → (root size : ℕ) → IsAskedOf (bounds_of words) (tables_of words) root size → 16384 < size → granules ≡ granules_of size → IsFound (bounds_of words) (tables_of words) root size result }
 {
     match free.best_fit(granules) {
         Some(start) => Some(Place::Large { start, granules }),

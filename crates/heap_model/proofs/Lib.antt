@@ -1,9 +1,12 @@
 pub mod Maps
+pub mod Fits
+pub mod Views
 pub mod Placing
 pub mod Freeing
 pub mod Slabbing
 pub mod Steps
-pub mod Rows
-pub mod SlabRows
+pub mod Sites
 pub mod Settled
 pub mod Placements
+pub mod Outcomes
+pub mod Plain

@@ -1,201 +1,181 @@
--- The placement leaves nothing open: mallocs and frees of the machine whose slabs keep their class, with the placement,
--- have one reply each, and lead to one state.
-use Rattle.std.proofs.Common.{◌≡◌, ◌⊎◌, ℕ, ◌*◌, ◌<◌, ◌≤◌, refl, sym, ap, ◌∙◌, subst, arith, ⊎_elim}
-use Rattle.std.proofs.lemmas.Bool.{cases_lt}
-use Rattle.size_classes.specs.Classes.{class_size, IsClassOf, granules_of}
-use Rattle.size_classes.proofs.Spacing.{class_size-most}
+-- The placement leaves nothing open: each call has one address for a small block, and leads to the same stacks.
+use Rattle.std.proofs.Common.{◌≡◌, ◌⊎◌, ℕ, ◌+◌, ◌-◌, List, [], ◌∷◌, refl, sym, ap, ◌∙◌, subst, arith, ⊎_elim}
+use Rattle.size_classes.specs.Classes.{class_size, IsClassOf}
+use Rattle.size_classes.proofs.Spacing.{class_size-rises}
 use Rattle.heap_model.specs.declared.call.Call.{Call}
-use Rattle.heap_model.specs.declared.call.Call.TheVariants.{Malloc, Free, Write, Read}
+use Rattle.heap_model.specs.declared.call.Call.TheVariants.{Malloc, Free, Write, Read, Move}
 use Rattle.heap_model.specs.declared.call.Reply.{Reply}
-use Rattle.heap_model.specs.declared.call.Reply.TheVariants.{Placed, Freed, Wrote, Value, NoRoot, Occupied, Empty, ZeroSize, TooLarge, OutOfRange, NoSpace}
-use Rattle.heap_model.specs.Machine.{Bounds, Range, Machine, slab_block, IsFreeGranule}
-use Rattle.heap_model.specs.Slabs.{IsFreeBlock, HasFreeBlock}
-use Rattle.heap_model.specs.Step.{with_block, with_slab_block, IsFromSlab, IsFromFreshSlab, IsKeptSmallGrant, IsLargeGrant, IsKeptGrant, HasNoKeptSmallPlace, HasNoKeptPlace, IsMalloc}
-use Rattle.heap_model.specs.Placement.{IsLowestBlock, IsAtLowestBlock, IsAtFreshSlab, IsAtSmall, IsAtLarge, IsPlacedAt, IsPlacedStep}
-use Rattle.heap_model.specs.Journal.{IsAllocation, LawOfOnePlacedJournal}
-use Rattle.heap_model.proofs.Settled.{best_once, granules_once, granules_none, AreSettled, malloc_once, free_once, journal_once}
+use Rattle.heap_model.specs.declared.call.Reply.TheVariants.{Placed, Freed}
+use Rattle.heap_model.specs.declared.call.Entry.{Entry}
+use Rattle.heap_model.specs.Policy.{Policy}
+use Rattle.heap_model.specs.Machine.{Bounds, Range, Machine, slab_block, IsBlockOf, IsFreeGranule}
+use Rattle.heap_model.specs.Choice.{View}
+use Rattle.heap_model.specs.Slabs.{view_of}
+use Rattle.heap_model.specs.Placement.{Stacks, PlacedState, with_stack, without_slab, without_left, with_class, addresses, IsAvailable, IsNext, AreLowest, IsRefill, HasTop, IsFirstSeat, HasStacked, IsPop, IsMorphRefill, IsNewRefill, IsWay, GaveSmall, IsKeepable, IsReturned, IsStacked, IsPlacedStep}
+use Rattle.heap_model.specs.Journal.{Leads, IsEntry, IsPlacedEntry, IsOfBlock, LawOfOneJournal}
+use Rattle.heap_model.proofs.Sites.{best_once, class_known, neither_below, class_once, best_slab_once}
+use Rattle.heap_model.proofs.Settled.{first_once, step_once}
 
--- the least class is one
-pub class_once : (size c d : ℕ) → IsClassOf size c → IsClassOf size d → c ≡ d
-class_once size c d p q = ⊎_elim
-    (λ (lower : c < d). absurd (omega (arith, q.least c lower, p.holds)))
-    (λ (from : d ≤ c). ⊎_elim
-    (λ (higher : d < c). absurd (omega (arith, p.least d higher, q.holds)))
-    (λ (to : c ≤ d). omega arith)
-    (cases_lt d c))
-    (cases_lt c d)
+-- the next number is one
+next_once : (Passes : ℕ → Type 0) (low number other : ℕ) → IsNext Passes low number → IsNext Passes low other → number ≡ other
+next_once Passes low number other one two = neither_below number other (λ less. two.first number one.from less one.passes) (λ less. one.first other two.from less two.passes)
 
--- no size has a class and is above the largest
-pub class_small : (size c : ℕ) → IsClassOf size c → 16384 < size → ⊥
-class_small size c least large = omega (arith, least.holds, class_size-most c least.is_class)
+-- the lowest numbers are one list
+lowest_once : (Passes : ℕ → Type 0) (low most : ℕ) (numbers others : List ℕ) → AreLowest Passes low most numbers → AreLowest Passes low most others → numbers ≡ others
+lowest_once Passes low most [] [] one two = refl
+lowest_once Passes low most [] (other ∷ others) one two = absurd (⊎_elim (λ none. omega (arith, none, two.0)) (λ none. none other two.1.from two.1.passes) one)
+lowest_once Passes low most (number ∷ numbers) [] one two = absurd (⊎_elim (λ none. omega (arith, none, one.0)) (λ none. none number one.1.from one.1.passes) two)
+lowest_once Passes low most (number ∷ numbers) (other ∷ others) one two =
+    let same = next_once Passes low number other one.1 two.1 in
+    let rest = lowest_once Passes (number + 1) (most - 1) numbers others one.2 (subst (λ (n : ℕ). AreLowest Passes (n + 1) (most - 1) others) (sym same) two.2) in
+    λ i. same i ∷ rest i
 
--- the lowest free block is free
-pub IsFreeBlock-lowest : (m : Machine) (class start number : ℕ) → IsLowestBlock m class start number → IsFreeBlock m start class (slab_block start class number)
-IsFreeBlock-lowest m class start number p = record { block = record { number = number; within = p.within; is = refl }; unused = p.unused }
+-- an address and the stacks behind it are one
+abbrev AreOne : ℕ → ℕ → Stacks → Stacks → Type 0
+AreOne at other after later = (at ≡ other) × (after ≡ later)
 
--- where it is, the class has a free block
-pub HasFreeBlock-lowest : (m : Machine) (class at : ℕ) → IsAtLowestBlock m class at → HasFreeBlock m class
-HasFreeBlock-lowest m class at p = record { start = p.start; slab = p.block.slab; range = slab_block p.start class p.number; free = IsFreeBlock-lowest m class p.start p.number p.block }
+-- the list behind the first of a list
+tail_of : List ℕ → List ℕ
+tail_of [] = []
+tail_of (top ∷ rest) = rest
 
--- its slab is no higher than another's
-slab_once : (m : Machine) (class start number other another : ℕ) → IsLowestBlock m class start number → IsLowestBlock m class other another → start ≤ other
-slab_once m class start number other another p q = ⊎_elim
-    (λ (higher : other < start). absurd (p.lowest other (slab_block other class another) higher q.slab (IsFreeBlock-lowest m class other another q)))
-    (λ (to : start ≤ other). to)
-    (cases_lt other start)
+head_of : List ℕ → ℕ
+head_of [] = 0
+head_of (top ∷ rest) = top
 
--- in one slab, nor is its number
-number_once : (m : Machine) (class start number another : ℕ) → IsLowestBlock m class start number → IsLowestBlock m class start another → number ≤ another
-number_once m class start number another p q = ⊎_elim
-    (λ (higher : another < number). absurd (p.first another higher q.unused))
-    (λ (to : number ≤ another). to)
-    (cases_lt another number)
+refill_once : (p : Policy) (v : View) (stacks : Stacks) (seat class at other : ℕ) (after later : Stacks) → IsRefill p v stacks seat class at after → IsRefill p v stacks seat class other later → AreOne at other after later
+unfolding head_of tail_of
+refill_once p v stacks seat class at other after later one two =
+    let start = neither_below one.start two.start (λ less. two.lowest one.start one.number less one.slab one.taken.1.passes) (λ less. one.lowest two.start two.number less two.slab two.taken.1.passes) in
+    let taken : AreLowest (IsAvailable v stacks one.start class) 0 p.refill (two.number ∷ two.rest) = subst (λ (s : ℕ). AreLowest (IsAvailable v stacks s class) 0 p.refill (two.number ∷ two.rest)) (sym start) two.taken in
+    let same = lowest_once (IsAvailable v stacks one.start class) 0 p.refill (one.number ∷ one.rest) (two.number ∷ two.rest) one.taken taken in (
+      one.is ∙ (λ i. (slab_block (start i) class (head_of (same i))).at) ∙ sym two.is,
+      one.after_is ∙ (λ i. with_stack stacks seat class (addresses (start i) class (tail_of (same i)))) ∙ sym two.after_is,
+    )
 
--- the lowest free block is one
-pub lowest_once : (m : Machine) (class start number other another : ℕ) → IsLowestBlock m class start number → IsLowestBlock m class other another → (start ≡ other) × (number ≡ another)
-lowest_once m class start number other another p q =
-    let same : other ≡ start = omega (arith, slab_once m class start number other another p q, slab_once m class other another start number q p) in
-    let here : IsLowestBlock m class start another = subst (λ (s : ℕ). IsLowestBlock m class s another) same q in
-    (sym same, omega (arith, number_once m class start number another p here, number_once m class start another number here p))
+-- a stack gives one top
+pop_once : {stacks : Stacks} {seat class : ℕ} (one two : HasTop stacks seat class) (at other : ℕ) (after later : Stacks) → IsPop one at after → IsPop two other later → AreOne at other after later
+unfolding head_of tail_of
+pop_once {stacks} {seat} {class} one two at other after later gives too =
+    let same = sym one.is ∙ two.is in (
+      gives.0 ∙ (λ i. head_of (same i)) ∙ sym too.0,
+      gives.1 ∙ (λ i. with_stack stacks seat class (tail_of (same i))) ∙ sym too.1,
+    )
 
--- the address of a class is one
-small_at_once : (b : Bounds) (m : Machine) (class at other : ℕ) → IsAtLowestBlock m class at ⊎ IsAtFreshSlab b m class at → IsAtLowestBlock m class other ⊎ IsAtFreshSlab b m class other → at ≡ other
-small_at_once b m class at other p q = ⊎_elim
-    (λ (low : IsAtLowestBlock m class at). ⊎_elim
-    (λ (also : IsAtLowestBlock m class other).
-    let same = lowest_once m class low.start low.number also.start also.number low.block also.block in
-    low.is ∙ ap (λ s. (slab_block s class low.number).at) same.0 ∙ ap (λ n. (slab_block also.start class n).at) same.1 ∙ sym also.is)
-    (λ (fresh : IsAtFreshSlab b m class other). absurd (fresh.full (HasFreeBlock-lowest m class at low)))
-    q)
-    (λ (fresh : IsAtFreshSlab b m class at). ⊎_elim
-    (λ (low : IsAtLowestBlock m class other). absurd (fresh.full (HasFreeBlock-lowest m class other low)))
-    (λ (also : IsAtFreshSlab b m class other). fresh.is ∙ ap (λ s. (slab_block s class 0).at) (best_once (IsFreeGranule b m) 4 fresh.start also.start fresh.fit also.fit) ∙ sym also.is)
-    q)
-    p
+-- the first seat is one
+seat_once : (stacks : Stacks) (class seat other : ℕ) → IsFirstSeat stacks class seat → IsFirstSeat stacks class other → seat ≡ other
+seat_once stacks class seat other one two = neither_below seat other (λ less. two.first seat less one.top) (λ less. one.first other less two.top)
 
--- the address of a request is one
-pub at_once : (b : Bounds) (m : Machine) (size at other : ℕ) → IsPlacedAt b m size at → IsPlacedAt b m size other → at ≡ other
-at_once b m size at other p q = ⊎_elim
-    (λ (small : IsAtSmall b m size at). ⊎_elim
-    (λ (also : IsAtSmall b m size other).
-    let same : also.class ≡ small.class = class_once size also.class small.class also.least small.least in
-    small_at_once b m small.class at other small.placed (subst (λ (c : ℕ). IsAtLowestBlock m c other ⊎ IsAtFreshSlab b m c other) same also.placed))
-    (λ (large : IsAtLarge b m size other). absurd (class_small size small.class small.least large.large))
-    q)
-    (λ (large : IsAtLarge b m size at). ⊎_elim
-    (λ (small : IsAtSmall b m size other). absurd (class_small size small.class small.least large.large))
-    (λ (also : IsAtLarge b m size other). large.is ∙ ap (λ s. 16384 * s) (best_once (IsFreeGranule b m) (granules_of size) large.start also.start large.fit also.fit) ∙ sym also.is)
-    q)
-    p
+stacked_once : (stacks : Stacks) (class : ℕ) (one two : HasStacked stacks class) (at other : ℕ) (after later : Stacks) → IsPop one.first.top at after → IsPop two.first.top other later → AreOne at other after later
+stacked_once stacks class one two at other after later gives too =
+    let Gives : ℕ → Type 0 = λ seat. (top : HasTop stacks seat class) × IsPop top other later in
+    let here = subst Gives (sym (seat_once stacks class one.seat two.seat one.first two.first)) (two.first.top, too) in
+    pop_once one.first.top here.0 at other after later gives here.1
 
--- a small request is given its class's size
-small_size : (b : Bounds) (m : Machine) (root class : ℕ) (range : Range) (next : Machine) → IsFromSlab m root class range next ⊎ IsFromFreshSlab b m root class range next → range.size ≡ class_size class
-small_size b m root class range next p = ⊎_elim
-    (λ (here : IsFromSlab m root class range next). ap (λ (r : Range). r.size) here.free.block.is)
-    (λ (new : IsFromFreshSlab b m root class range next). ap (λ (r : Range). r.size) new.block.is)
-    p
+module _ (p : Policy) (b : Bounds) (was : PlacedState) (seat class : ℕ) where
+  -- a slab takes a class, or is made, in one way
+  taken_once : (at other : ℕ) (after later : Stacks) → IsMorphRefill p b was seat class at after ⊎ IsNewRefill p b was seat class at after →
+      IsMorphRefill p b was seat class other later ⊎ IsNewRefill p b was seat class other later → AreOne at other after later
+  taken_once at other after later one two = ⊎_elim
+      (λ (morph : IsMorphRefill p b was seat class at after). ⊎_elim
+      (λ (also : IsMorphRefill p b was seat class other later).
+      let start = best_slab_once p (view_of b was.machine) class also.start morph.start also.best morph.best in
+      refill_once p (view_of b (with_class was.machine morph.start class)) (without_slab was.stacks morph.start) seat class at other after later morph.refill
+      (subst (λ (s : ℕ). IsRefill p (view_of b (with_class was.machine s class)) (without_slab was.stacks s) seat class other later) start also.refill))
+      (λ (new : IsNewRefill p b was seat class other later). absurd (new.no_fit.none morph.start morph.best.fit))
+      two)
+      (λ (new : IsNewRefill p b was seat class at after). ⊎_elim
+      (λ (morph : IsMorphRefill p b was seat class other later). absurd (new.no_fit.none morph.start morph.best.fit))
+      (λ (also : IsNewRefill p b was seat class other later).
+      let start = best_once (IsFreeGranule b was.machine) 4 also.start new.start also.fit new.fit in
+      refill_once p (view_of b (with_class was.machine new.start class)) was.stacks seat class at other after later new.refill
+      (subst (λ (s : ℕ). IsRefill p (view_of b (with_class was.machine s class)) was.stacks seat class other later) start also.refill))
+      two)
+      one
 
--- a class has a free block where one is given from a slab
-HasFreeBlock-given : (m : Machine) (root class : ℕ) (range : Range) (next : Machine) → IsFromSlab m root class range next → HasFreeBlock m class
-HasFreeBlock-given m root class range next p = record { start = p.start; slab = p.slab; range = range; free = p.free }
+  way_once : (at other : ℕ) (after later : Stacks) → IsWay p b was seat class at after → IsWay p b was seat class other later → AreOne at other after later
+  way_once at other after later one two =
+      first_once one two (λ top also x y. pop_once top also at other after later x y) (λ _ x y.
+      first_once x y (λ _ _. refill_once p (view_of b was.machine) was.stacks seat class at other after later) (λ _ x y.
+      first_once x y (λ stacked also x y. stacked_once was.stacks class stacked also at other after later x y) (λ _. taken_once at other after later)))
 
--- one block of a class leads to one state
-small_after : (b : Bounds) (m : Machine) (root class : ℕ) (range another : Range) (next last : Machine) → range ≡ another → IsFromSlab m root class range next ⊎ IsFromFreshSlab b m root class range next →
-    IsFromSlab m root class another last ⊎ IsFromFreshSlab b m root class another last → next ≡ last
-small_after b m root class range another next last same p q = ⊎_elim
-    (λ (here : IsFromSlab m root class range next). ⊎_elim
-    (λ (also : IsFromSlab m root class another last). here.after ∙ ap (λ (r : Range). with_block m root r) same ∙ sym also.after)
-    (λ (new : IsFromFreshSlab b m root class another last). absurd (new.full (HasFreeBlock-given m root class range next here)))
-    q)
-    (λ (new : IsFromFreshSlab b m root class range next). ⊎_elim
-    (λ (here : IsFromSlab m root class another last). absurd (new.full (HasFreeBlock-given m root class another last here)))
-    (λ (also : IsFromFreshSlab b m root class another last).
-    new.after ∙ ap (λ s. with_slab_block m s class root range) (best_once (IsFreeGranule b m) 4 new.start also.start new.fit also.fit)
-    ∙ ap (λ (r : Range). with_slab_block m also.start class root r) same ∙ sym also.after)
-    q)
-    p
+-- a block is of one class
+block_class : (range : Range) (s t c d : ℕ) → IsBlockOf s c range → IsBlockOf t d range → c ≡ d
+block_class range s t c d one two =
+    let size : class_size c ≡ class_size d = sym (ap (λ (r : Range). r.size) one.is) ∙ ap (λ (r : Range). r.size) two.is in
+    neither_below c d (λ less. omega (arith, size, class_size-rises c d less (class_known d two.number two.within))) (λ less. omega (arith, size, class_size-rises d c less (class_known c one.number one.within)))
 
--- a range is its two numbers
-range_once : (range another : Range) → range.at ≡ another.at → range.size ≡ another.size → range ≡ another
-range_once range another at size = λ i. record { at = at i; size = size i }
+-- a freed block goes on one stack
+returned_once : (p : Policy) (m : Machine) (stacks : Stacks) (seat : ℕ) (range : Range) (after later : Stacks) → IsReturned p m stacks seat range after → IsReturned p m stacks seat range later → after ≡ later
+returned_once p m stacks seat range after later one two =
+    first_once one two (λ (keep also : IsKeepable p m stacks seat range) x y. x ∙ ap (λ c. with_stack stacks seat c (range.at ∷ stacks seat c)) (block_class range keep.start also.start keep.class also.class keep.block also.block) ∙ sym y) (λ _ x y. x ∙ sym y)
 
--- two grants of a small request at one address
-small_once : (b : Bounds) (m : Machine) (root size : ℕ) (range another : Range) (next last : Machine) → range.at ≡ another.at → IsKeptSmallGrant b m root size range next → IsKeptSmallGrant b m root size another last →
-    (range ≡ another) × (next ≡ last)
-small_once b m root size range another next last at p q =
-    let class : q.class ≡ p.class = class_once size q.class p.class q.least p.least in
-    let granted : IsFromSlab m root p.class another last ⊎ IsFromFreshSlab b m root p.class another last =
-    subst (λ (c : ℕ). IsFromSlab m root c another last ⊎ IsFromFreshSlab b m root c another last) class q.granted in
-    let same : range ≡ another = range_once range another at (small_size b m root p.class range next p.granted ∙ sym (small_size b m root p.class another last granted)) in
-    (same, small_after b m root p.class range another next last same p.granted granted)
+-- two places of one state are one
+place_once : (one two : PlacedState) → one.machine ≡ two.machine → one.stacks ≡ two.stacks → one ≡ two
+place_once one two machine stacks = λ i. record { machine = machine i; stacks = stacks i }
 
--- a grant at the placement's address
-record IsPlacedGrant (b : Bounds) (m : Machine) (root size : ℕ) (range : Range) (next : Machine) : Type 0 where
-  grant : IsKeptGrant b m root size range next
-  place : IsPlacedAt b m size range.at
+module _ (p : Policy) (b : Bounds) (seat : ℕ) (was next last : PlacedState) where
+  -- two mallocs of one size that gave small blocks gave one, and left the same stacks
+  gave_once : (size : ℕ) (reply other : Reply) (gave : GaveSmall size reply) (also : GaveSmall size other) → IsWay p b was seat gave.class gave.at next.stacks → IsWay p b was seat also.class also.at last.stacks →
+      AreOne gave.at also.at next.stacks last.stacks
+  gave_once size reply other gave also one two =
+      way_once p b was seat gave.class gave.at also.at next.stacks last.stacks one
+      (subst (λ (c : ℕ). IsWay p b was seat c also.at last.stacks) (class_once size also.class gave.class also.least gave.least) two)
 
-grant_once : (b : Bounds) (m : Machine) (root size : ℕ) (range another : Range) (next last : Machine) → IsPlacedGrant b m root size range next → IsPlacedGrant b m root size another last → (range ≡ another) × (next ≡ last)
-grant_once b m root size range another next last p q = ⊎_elim
-    (λ (small : IsKeptSmallGrant b m root size range next). ⊎_elim
-    (λ (also : IsKeptSmallGrant b m root size another last). small_once b m root size range another next last (at_once b m size range.at another.at p.place q.place) small also)
-    (λ (large : IsLargeGrant b m root size another last). absurd (class_small size small.class small.least large.large))
-    q.grant)
-    (λ (large : IsLargeGrant b m root size range next). ⊎_elim
-    (λ (small : IsKeptSmallGrant b m root size another last). absurd (class_small size small.class small.least large.large))
-    (λ (also : IsLargeGrant b m root size another last). granules_once b m root (granules_of size) range another next last large.granted also.granted)
-    q.grant)
-    p.grant
+  malloc_place : (root size : ℕ) (reply other : Reply) → IsStacked p b seat was (Malloc root size) reply next → IsStacked p b seat was (Malloc root size) other last →
+      (class at given at' given' : ℕ) → IsClassOf size class → reply ≡ Placed at given → other ≡ Placed at' given' → at ≡ at'
+  malloc_place root size reply other one two class at given at' given' least is too = ⊎_elim
+      (λ gave. ⊎_elim
+      (λ also. let same = (gave_once size reply other gave.0 also.0 gave.1 also.1).0 in let first = gave.0.is in let second = also.0.is in cc)
+      (λ none. absurd (none.0 (record { class = class; least = least; at = at'; given = given'; is = too })))
+      two)
+      (λ none. absurd (none.0 (record { class = class; least = least; at = at; given = given; is = is })))
+      one
 
--- no small request is granted where it has no place
-small_apart : (b : Bounds) (m : Machine) (root size : ℕ) (range : Range) (next : Machine) → IsKeptSmallGrant b m root size range next → HasNoKeptSmallPlace b m size → ⊥
-small_apart b m root size range next p none =
-    let class : p.class ≡ none.class = class_once size p.class none.class p.least none.least in
-    ⊎_elim
-    (λ (here : IsFromSlab m root p.class range next). none.full (subst (λ (c : ℕ). HasFreeBlock m c) class (HasFreeBlock-given m root p.class range next here)))
-    (λ (new : IsFromFreshSlab b m root p.class range next). omega (arith, new.fit.enough, none.no_run.none new.start new.fit.length new.fit.run))
-    p.granted
+  -- calls with one reply that lead to one state leave the same stacks
+  stacks_once : (call : Call) (reply : Reply) → IsOfBlock call → IsStacked p b seat was call reply next → IsStacked p b seat was call reply last → next.machine ≡ last.machine → next.stacks ≡ last.stacks
+  stacks_once (Malloc root size) reply of one two same = first_once one two (λ gave also x y. (gave_once size reply reply gave also x y).1) (λ _ x y. x ∙ sym y)
+  stacks_once (Free root) reply of one two same =
+      first_once one two
+      (λ took also x y.
+      let both : Freed also.range.at also.range.size ≡ Freed took.range.at took.range.size = sym also.is ∙ took.is in
+      let at : also.range.at ≡ took.range.at = cc in
+      let size : also.range.size ≡ took.range.size = cc in
+      let range : also.range ≡ took.range = (λ i. record { at = at i; size = size i }) in
+      returned_once p next.machine (without_left b was.machine next.machine was.stacks) seat took.range next.stacks last.stacks x
+      (subst (λ (m : Machine). IsReturned p m (without_left b was.machine m was.stacks) seat took.range last.stacks) (sym same)
+      (subst (λ (r : Range). IsReturned p last.machine (without_left b was.machine last.machine was.stacks) seat r last.stacks) range y)))
+      (λ _ x y. x ∙ sym y)
+  stacks_once (Write root index word) reply of one two same = absurd of
+  stacks_once (Read root index) reply of one two same = absurd of
+  stacks_once (Move from to) reply of one two same = one ∙ sym two
 
-grant_apart : (b : Bounds) (m : Machine) (root size : ℕ) (range : Range) (next : Machine) → IsKeptGrant b m root size range next → HasNoKeptPlace b m size → ⊥
-grant_apart b m root size range next p none = ⊎_elim
-    (λ (small : IsKeptSmallGrant b m root size range next). ⊎_elim
-    (λ lacking. small_apart b m root size range next small lacking)
-    (λ large. class_small size small.class small.least large.large)
-    none)
-    (λ (large : IsLargeGrant b m root size range next). ⊎_elim
-    (λ lacking. class_small size lacking.class lacking.least large.large)
-    (λ lacking. granules_none b m root (granules_of size) range next large.granted lacking.no_run)
-    none)
-    p
+  placed_once : (call : Call) (reply other : Reply) → IsOfBlock call → IsPlacedStep p b seat was call reply next → IsPlacedStep p b seat was call other last → (reply ≡ other) × (next ≡ last)
+  placed_once call reply other of one two =
+      let same = step_once p b was.machine next.machine last.machine reply other call of (λ root size is. place call one two root size is) one.step two.step in
+      let stacked : IsStacked p b seat was call reply last = subst (λ (r : Reply). IsStacked p b seat was call r last) (sym same.0) two.stacked in
+      (same.0, place_once next last same.1 (stacks_once call reply of one.stacked stacked same.1))
+    where
+      place : (call : Call) → IsPlacedStep p b seat was call reply next → IsPlacedStep p b seat was call other last → (root size : ℕ) → call ≡ Malloc root size →
+          (class at given at' given' : ℕ) → IsClassOf size class → reply ≡ Placed at given → other ≡ Placed at' given' → at ≡ at'
+      place call one two root size is = malloc_place root size reply other (subst (λ (c : Call). IsStacked p b seat was c reply next) is one.stacked) (subst (λ (c : Call). IsStacked p b seat was c other last) is two.stacked)
 
-kept_settled : (b : Bounds) (m : Machine) → AreSettled IsPlacedGrant HasNoKeptPlace b m
-kept_settled b m = record {
-  once = λ root size range another next last p q. grant_once b m root size range another next last p q;
-  apart = λ root size range next p none. grant_apart b m root size range next p.grant none;
-}
+-- entries of the same seat, call and reply are one
+entry_once : (entry other : Entry) → entry.seat ≡ other.seat → entry.call ≡ other.call → entry.reply ≡ other.reply → entry ≡ other
+entry_once entry other seat call reply = λ i. record { seat = seat i; call = call i; reply = reply i }
 
--- a malloc whose block is where the placement says
-placed_malloc : (b : Bounds) (m : Machine) (root size : ℕ) (reply : Reply) (next : Machine) → IsMalloc IsKeptGrant HasNoKeptPlace b m root size reply next →
-    ((at given : ℕ) → reply ≡ Placed at given → IsPlacedAt b m size at) → IsMalloc IsPlacedGrant HasNoKeptPlace b m root size reply next
-placed_malloc b m root size NoRoot next p place = p
-placed_malloc b m root size (Occupied at) next p place = p
-placed_malloc b m root size ZeroSize next p place = p
-placed_malloc b m root size TooLarge next p place = p
-placed_malloc b m root size (Placed at given) next p place = (p.0, record { grant = p.1; place = place at given refl })
-placed_malloc b m root size NoSpace next p place = p
-placed_malloc b m root size (Freed at given) next p place = p
-placed_malloc b m root size Wrote next p place = p
-placed_malloc b m root size (Value word) next p place = p
-placed_malloc b m root size Empty next p place = p
-placed_malloc b m root size OutOfRange next p place = p
+pub law_of_one_journal : LawOfOneJournal
+law_of_one_journal p b s last other [] [] same first second = (refl, first ∙ sym second)
+law_of_one_journal p b s last other [] (entry ∷ others) same first second = absurd same
+law_of_one_journal p b s last other (entry ∷ entries) [] same first second = absurd same
+law_of_one_journal p b s last other (entry ∷ entries) (another ∷ others) same first second =
+    let seat : IsPlacedStep p b entry.seat s another.call another.reply second.0 = subst (λ (t : ℕ). IsPlacedStep p b t s another.call another.reply second.0) (sym same.0) second.1 in
+    let again : IsPlacedStep p b entry.seat s entry.call another.reply second.0 = subst (λ (c : Call). IsPlacedStep p b entry.seat s c another.reply second.0) (sym same.1) seat in
+    let step = placed_once p b entry.seat s first.0 second.0 entry.call entry.reply another.reply same.2 first.1 again in
+    let rest = law_of_one_journal p b first.0 last other entries others same.3 first.2 (subst (λ (n : PlacedState). Leads (IsPlacedEntry p b) n others other) (sym step.1) second.2) in
+    (λ i. entry_once entry another same.0 same.1 step.0 i ∷ rest.0 i, rest.1)
 
-placed_step_once : (b : Bounds) (m : Machine) (call : Call) (reply other : Reply) (next last : Machine) → IsAllocation call → IsPlacedStep b m call reply next → IsPlacedStep b m call other last → (reply ≡ other) × (next ≡ last)
-placed_step_once b m (Malloc root size) reply other next last alone p q =
-    malloc_once IsPlacedGrant HasNoKeptPlace b m (kept_settled b m) root size reply other next last
-    (placed_malloc b m root size reply next p.step (λ at given is. p.placed root size at given refl is))
-    (placed_malloc b m root size other last q.step (λ at given is. q.placed root size at given refl is))
-placed_step_once b m (Free root) reply other next last alone p q = free_once b m root reply other next last p.step q.step
-placed_step_once b m (Write root index word) reply other next last alone p q = absurd alone
-placed_step_once b m (Read root index) reply other next last alone p q = absurd alone
-
-pub law_of_one_placed_journal : LawOfOnePlacedJournal
-law_of_one_placed_journal b m last other entries others same first second = journal_once (IsPlacedStep b) (placed_step_once b) m last other entries others same first second
+-- a journal of the placement is one of the machine
+pub Leads-machine : (p : Policy) (b : Bounds) (s last : PlacedState) (entries : List Entry) → Leads (IsPlacedEntry p b) s entries last → Leads (IsEntry p b) s.machine entries last.machine
+Leads-machine p b s last [] leads = ap (λ (t : PlacedState). t.machine) leads
+Leads-machine p b s last (entry ∷ entries) leads = (leads.0.machine, leads.1.step, Leads-machine p b leads.0 last entries leads.2)

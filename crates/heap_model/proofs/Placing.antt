@@ -1,9 +1,10 @@
--- A machine stays free of overlaps where a block is placed that overlaps none and lies where its size says.
-use Rattle.std.proofs.Common.{◌≡◌, ◌⊎◌, ℕ, ◌+◌, ◌*◌, ◌<◌, ◌≤◌, sym, ◌∙◌, arith, subst, inl, inr, ⊎_elim, Some}
+-- A machine stays free of overlaps where a block is placed that overlaps none and lies where its size says, and where a
+-- block passes to another root.
+use Rattle.std.proofs.Common.{◌≡◌, ◌≢◌, ◌⊎◌, ℕ, ◌+◌, ◌*◌, ◌<◌, ◌≤◌, sym, ◌∙◌, arith, subst, inl, inr, ⊎_elim, Some, None}
 use Rattle.std.proofs.lemmas.Bool.{cases_lt}
-use Rattle.heap_model.specs.Machine.{Bounds, Range, Machine, AreApart, Meets, IsLarge, LiesIn, IsUnused, IsFreeGranule, IsWholeGranules, IsOverlapFree}
+use Rattle.heap_model.specs.Machine.{Bounds, Range, Machine, with_key, AreApart, Meets, IsLarge, LiesIn, IsUnused, IsFreeGranule, IsWholeGranules, IsOverlapFree}
 use Rattle.heap_model.specs.Runs.{IsFreeRow}
-use Rattle.heap_model.specs.Step.{with_block, with_value}
+use Rattle.heap_model.specs.Step.{forgotten, with_moved, with_value}
 use Rattle.heap_model.proofs.Maps.{with_key-cases}
 
 -- apart is apart the other way round
@@ -21,8 +22,11 @@ pub record IsProper (b : Bounds) (m : Machine) (range : Range) : Type 0 where
 some_same : {X : Type 0} (x y : X) → Some x ≡ Some y → x ≡ y
 some_same x y same = cc
 
--- a root is given a block
-pub IsOverlapFree-with : (b : Bounds) (m : Machine) (root : ℕ) (range : Range) → IsOverlapFree b m → root < b.roots → IsUnused m range → IsProper b m range → IsOverlapFree b (with_block m root range)
+-- a root is given a block, and the slabs stay
+abbrev pub with_range : Machine → ℕ → Range → Machine
+with_range m root range = record { block = with_key m.block root (Some range); slab = m.slab; value = forgotten m.value root }
+
+pub IsOverlapFree-with : (b : Bounds) (m : Machine) (root : ℕ) (range : Range) → IsOverlapFree b m → root < b.roots → IsUnused m range → IsProper b m range → IsOverlapFree b (with_range m root range)
 IsOverlapFree-with b m root range was below unused proper = record {
   apart = λ r o x y differ first second. ⊎_elim
       (λ here. ⊎_elim
@@ -71,8 +75,43 @@ IsOverlapFree-value b m root index word was = record {
   clear = was.clear;
 }
 
+-- what is named after a root's block has passed to another: the block that it had, or what was there
+moved_named : (m : Machine) (from to r : ℕ) (range x : Range) → m.block from ≡ Some range → with_key (with_key m.block from None) to (Some range) r ≡ Some x →
+    ((r ≡ to) × (m.block from ≡ Some x)) ⊎ ((r ≢ from) × (m.block r ≡ Some x))
+moved_named m from to r range x was named = ⊎_elim
+    (λ here. inl (here.0, was ∙ here.1))
+    (λ there. ⊎_elim
+    (λ gone. absurd (let none = gone.1 in cc))
+    (λ stays. inr stays)
+    (with_key-cases m.block from r None (Some x) there.1))
+    (with_key-cases (with_key m.block from None) to r (Some range) (Some x) named)
+
+-- a block passes to another root
+pub IsOverlapFree-moved : (b : Bounds) (m : Machine) (from to : ℕ) (range : Range) → IsOverlapFree b m → to < b.roots → m.block from ≡ Some range → IsOverlapFree b (with_moved m from to range)
+IsOverlapFree-moved b m from to range was below held =
+    let origin = λ (r : ℕ) (x : Range) (named : with_key (with_key m.block from None) to (Some range) r ≡ Some x). moved_named m from to r range x held named in
+    record {
+      apart = λ r o x y differ first second. ⊎_elim
+          (λ here. ⊎_elim
+          (λ also. absurd (differ (here.0 ∙ sym also.0)))
+          (λ there. was.apart from o x y (λ same. there.0 (sym same)) here.1 there.1)
+          (origin o y second))
+          (λ there. ⊎_elim
+          (λ here. was.apart r from x y there.0 there.1 here.1)
+          (λ too. was.apart r o x y differ there.1 too.1)
+          (origin o y second))
+          (origin r x first);
+      rooted = λ r x named. ⊎_elim (λ here. omega (arith, here.0)) (λ there. was.rooted r x there.1) (origin r x named);
+      sized = λ r x named. ⊎_elim (λ here. was.sized from x here.1) (λ there. was.sized r x there.1) (origin r x named);
+      slabs = was.slabs;
+      slabs_apart = was.slabs_apart;
+      small = λ r x named. ⊎_elim (λ here. was.small from x here.1) (λ there. was.small r x there.1) (origin r x named);
+      large = λ r x named. ⊎_elim (λ here. was.large from x here.1) (λ there. was.large r x there.1) (origin r x named);
+      clear = λ r x s c k named. ⊎_elim (λ here. was.clear from x s c k here.1) (λ there. was.clear r x s c k there.1) (origin r x named);
+    }
+
 -- two rows of granules share none, or one granule is in both
-rows_apart : (a m b n : ℕ) → 0 < m → 0 < n → ((k : ℕ) → a ≤ k → k < a + m → b ≤ k → k < b + n → ⊥) → (a + m ≤ b) ⊎ (b + n ≤ a)
+pub rows_apart : (a m b n : ℕ) → 0 < m → 0 < n → ((k : ℕ) → a ≤ k → k < a + m → b ≤ k → k < b + n → ⊥) → (a + m ≤ b) ⊎ (b + n ≤ a)
 rows_apart a m b n some more none = ⊎_elim
     (λ (low : b < a + m). ⊎_elim
     (λ (high : a < b + n). absurd (⊎_elim

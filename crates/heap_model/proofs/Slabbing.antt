@@ -6,11 +6,8 @@ use native.Mathlib.Nat.{mul-le-mul_right}
 use Rattle.size_classes.specs.Classes.{class_size}
 use Rattle.heap_model.specs.Machine.{Bounds, Range, Machine, with_key, Meets, IsLarge, LiesIn, IsBlockOf, IsFreeGranule, IsOverlapFree}
 use Rattle.heap_model.specs.Runs.{IsFreeRow}
+use Rattle.heap_model.specs.Placement.{with_class}
 use Rattle.heap_model.proofs.Maps.{with_key-here, with_key-other, with_key-cases}
-
--- the machine with this class at a slab's start
-abbrev pub with_class : Machine → ℕ → ℕ → Machine
-with_class m s c = record { block = m.block; slab = with_key m.slab s (Some c); value = m.value }
 
 -- what begins at a start after a slab took a class: that slab, or one that was there
 classes_of : (m : Machine) (s c t d : ℕ) → with_key m.slab s (Some c) t ≡ Some d → (t ≡ s) ⊎ (m.slab t ≡ Some d)

@@ -8,6 +8,7 @@ pub enum Call {
     Free { root: u32 },
     Write { root: u32, index: u32, value: u64 },
     Read { root: u32, index: u32 },
+    Move { from: u32, to: u32 },
 }
 
 /// What an arena answers. An address is in bytes from the arena's first one, and a size is in bytes.
@@ -21,6 +22,8 @@ pub enum Reply {
     Wrote,
     /// The word that stands there.
     Value { word: u64 },
+    /// The one root named this block, and the other one names it now.
+    Moved { at: u32, size: u32 },
     /// There is no such root word.
     NoRoot,
     /// The root names the block at this address already.

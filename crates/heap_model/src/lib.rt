@@ -1,10 +1,10 @@
-// The machine that an allocator must be, seen from its users: blocks, slabs, calls, replies and journals. It knows no
-// bitmap, log or list of free space, and no persistent memory.
+// The machine that an allocator must be, seen from its users: blocks, slabs, calls, replies and journals; and its placement:
+// which block is given where several may be. It knows no bitmap, log or list of free space, and no persistent memory.
 //
 // The crate has types, definitions and laws, and no call of the allocator: the layers above state their contracts in its
-// words. `specs/Machine.antt` has the state, `specs/Step.antt` the steps with slabs and without, `specs/Placement.antt`
-// which block is given where several may be, `specs/Journal.antt` the legal journals, and `specs/Runs.antt` what the best
-// fit is.
+// words. `specs/Machine.antt` has the state, `specs/Choice.antt` where a malloc's block may lie, `specs/Step.antt` the
+// steps, `specs/Placement.antt` the stacks of reserved blocks, `specs/Journal.antt` the legal journals, `specs/Policy.antt`
+// how much of it an arena serves, and `specs/Runs.antt` what the best fit is.
 #![tactic(auto)]
 
 mod block;
@@ -13,7 +13,4 @@ mod laws;
 
 pub use block::{Block, Slab};
 pub use call::{Call, Entry, Reply};
-pub use laws::{
-    law_of_kept_overlap, law_of_large_overlap, law_of_one_journal, law_of_one_placed_journal,
-    law_of_overlap,
-};
+pub use laws::{law_of_one_journal, law_of_overlap, law_of_plain_placement};

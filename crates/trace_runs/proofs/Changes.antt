@@ -11,11 +11,12 @@ use Rattle.image_tables.specs.Updates.{HasNoMove}
 use Rattle.image_tables.proofs.Tables.{root_table}
 use Rattle.heap_model.specs.declared.block.Block.{Block}
 use Rattle.heap_model.specs.declared.call.Call.{Call}
-use Rattle.heap_model.specs.declared.call.Call.TheVariants.{Malloc, Free, Write, Read}
 use Rattle.heap_model.specs.declared.call.Reply.{Reply}
-use Rattle.heap_model.specs.declared.call.Reply.TheVariants.{Placed, Freed, Wrote, Value, NoRoot, Occupied, Empty, ZeroSize, TooLarge, OutOfRange, NoSpace}
-use Rattle.heap_model.specs.Machine.{Bounds, Range, Machine, with_key}
-use Rattle.heap_model.specs.Step.{IsFromSlab, IsFromFreshSlab, IsKeptSmallGrant, IsLargeGrant, IsKeptGrant, IsKeptStep, root_of}
+use Rattle.heap_model.specs.declared.call.Reply.TheVariants.{Placed, Freed, Wrote, Value, Moved, NoRoot, Occupied, Empty, ZeroSize, TooLarge, OutOfRange, NoSpace}
+use Rattle.heap_model.specs.Machine.{Range, Machine, with_key}
+use Rattle.heap_model.specs.Policy.{plain}
+use Rattle.heap_model.specs.Step.{root_of}
+use Rattle.heap_model.proofs.Outcomes.{IsGift, IsLoss, gift, loss}
 use Rattle.heap_model.proofs.Maps.{with_key-here, with_key-other}
 use Rattle.heap_check.specs.Heap.{heap, slabs, size_at}
 use Rattle.heap_check.specs.Image.{bounds_of, IsFormed, IsExactImage}
@@ -43,53 +44,20 @@ HasState-machine_of : (words : List ℕ) → HasState words (machine_of words)
 unfolding machine_of
 HasState-machine_of words = record { blocks = λ root. refl; slabs = λ start. refl; values = λ root index word is. absurd (cc) }
 
--- a block is given to a root that has none
-pub record IsGift (b : Bounds) (m : Machine) (root : ℕ) (range : Range) (next : Machine) : Type 0 where
-  pub below : root < b.roots
-  pub none : m.block root ≡ None
-  pub after : next.block ≡ with_key m.block root (Some range)
-
--- whatever grants it: a slab that is there, a new one, or whole granules
-granted : (b : Bounds) (m next : Machine) (root asked : ℕ) (range : Range) → IsKeptGrant b m root asked range next → next.block ≡ with_key m.block root (Some range)
-granted b m next root asked range = ⊎_elim
-    (λ (small : IsKeptSmallGrant b m root asked range next). ⊎_elim
-    (λ (here : IsFromSlab m root small.class range next). ap (λ (n : Machine). n.block) here.after)
-    (λ (fresh : IsFromFreshSlab b m root small.class range next). ap (λ (n : Machine). n.block) fresh.after)
-    small.granted)
-    (λ (large : IsLargeGrant b m root asked range next). ap (λ (n : Machine). n.block) large.granted.after)
-
-placed : (b : Bounds) (m next : Machine) (call : Call) (at size : ℕ) → IsKeptStep b m call (Placed at size) next → IsGift b m (root_of call) (record { at = at; size = size }) next
-placed b m next (Malloc root asked) at size step = record { below = step.0.below; none = step.0.none; after = granted b m next root asked (record { at = at; size = size }) step.1 }
-placed b m next (Free root) at size step = absurd step
-placed b m next (Write root index word) at size step = ⊎_elim (λ done. let e : Placed at size ≡ Wrote = done.0 in absurd (cc)) (λ refused. absurd refused) step
-placed b m next (Read root index) at size step = ⊎_elim (λ done. let e : Placed at size ≡ Value done.0 = done.1 in absurd (cc)) (λ refused. absurd refused) step
-
--- a root loses its block
-pub record IsLoss (b : Bounds) (m : Machine) (root : ℕ) (range : Range) (next : Machine) : Type 0 where
-  pub below : root < b.roots
-  pub named : m.block root ≡ Some range
-  pub after : next.block ≡ with_key m.block root None
-
-freed : (b : Bounds) (m next : Machine) (call : Call) (at size : ℕ) → IsKeptStep b m call (Freed at size) next → IsLoss b m (root_of call) (record { at = at; size = size }) next
-freed b m next (Malloc root asked) at size step = absurd step
-freed b m next (Free root) at size step = record { below = step.0.below; named = step.0.named; after = ap (λ (n : Machine). n.block) step.1 }
-freed b m next (Write root index word) at size step = ⊎_elim (λ done. let e : Freed at size ≡ Wrote = done.0 in absurd (cc)) (λ refused. absurd refused) step
-freed b m next (Read root index) at size step = ⊎_elim (λ done. let e : Freed at size ≡ Value done.0 = done.1 in absurd (cc)) (λ refused. absurd refused) step
-
 -- the heap of words that have a state whose map has one key changed
 heap_with : (new : List ℕ) (next : Machine) (map : ℕ → Option Range) (key : ℕ) (value : Option Range) → HasState new next → next.block ≡ with_key map key value →
     (root : ℕ) → heap (tables_of new) root ≡ with_key map key value root
 heap_with new next map key value state after root = state.blocks root ∙ ap (λ (f : ℕ → Option Range). f root) after
 
 -- a call whose reply is a block that was given or taken changes the heap at its root alone
-pub IsChange-step : (old new : List ℕ) (call : Call) (reply : Reply) (block : Block) (given : Bool) → IsExactImage old → IsStepOf old new call reply →
+pub IsChange-step : (seat : ℕ) (old new : List ℕ) (call : Call) (reply : Reply) (block : Block) (given : Bool) → IsExactImage old → IsStepOf seat old new call reply →
     IsChangeBy (root_of call) reply block given → IsChange old new block given
 unfolding machine_of
-IsChange-step old new call (Placed at size) block given exact steps by =
+IsChange-step seat old new call (Placed at size) block given exact steps by =
     let m = machine_of old in
     let root = root_of call in
     let found = steps.each m (HasState-machine_of old) in
-    let gift : IsGift (bounds_of old) m root (record { at = at; size = size }) found.0 = placed (bounds_of old) m found.0 call at size found.1.step in
+    let gift : IsGift (bounds_of old) m root (record { at = at; size = size }) found.0 = gift plain (bounds_of old) m found.0 call at size found.1.step in
     let same = heap_with new found.0 m.block root (Some (record { at = at; size = size })) found.2 gift.after in
     let change : IsChange old new (record { root = root; at = at; size = size }) true = record {
       below = subst (λ v. root < (layout_of v).roots) (version-formed old exact.formed) gift.below;
@@ -98,11 +66,11 @@ IsChange-step old new call (Placed at size) block given exact steps by =
       others = λ other apart. same other ∙ with_key-other m.block root other (Some (record { at = at; size = size })) apart;
     } in
     rw (by.0, by.1) change
-IsChange-step old new call (Freed at size) block given exact steps by =
+IsChange-step seat old new call (Freed at size) block given exact steps by =
     let m = machine_of old in
     let root = root_of call in
     let found = steps.each m (HasState-machine_of old) in
-    let loss : IsLoss (bounds_of old) m root (record { at = at; size = size }) found.0 = freed (bounds_of old) m found.0 call at size found.1.step in
+    let loss : IsLoss (bounds_of old) m root (record { at = at; size = size }) found.0 = loss plain (bounds_of old) m found.0 call at size found.1.step in
     let same = heap_with new found.0 m.block root None found.2 loss.after in
     let change : IsChange old new (record { root = root; at = at; size = size }) false = record {
       below = subst (λ v. root < (layout_of v).roots) (version-formed old exact.formed) loss.below;
@@ -111,15 +79,16 @@ IsChange-step old new call (Freed at size) block given exact steps by =
       others = λ other apart. same other ∙ with_key-other m.block root other None apart;
     } in
     rw (by.0, by.1) change
-IsChange-step old new call Wrote block given exact steps by = absurd by
-IsChange-step old new call (Value word) block given exact steps by = absurd by
-IsChange-step old new call NoRoot block given exact steps by = absurd by
-IsChange-step old new call (Occupied at) block given exact steps by = absurd by
-IsChange-step old new call Empty block given exact steps by = absurd by
-IsChange-step old new call ZeroSize block given exact steps by = absurd by
-IsChange-step old new call TooLarge block given exact steps by = absurd by
-IsChange-step old new call OutOfRange block given exact steps by = absurd by
-IsChange-step old new call NoSpace block given exact steps by = absurd by
+IsChange-step seat old new call Wrote block given exact steps by = absurd by
+IsChange-step seat old new call (Value word) block given exact steps by = absurd by
+IsChange-step seat old new call (Moved at size) block given exact steps by = absurd by
+IsChange-step seat old new call NoRoot block given exact steps by = absurd by
+IsChange-step seat old new call (Occupied at) block given exact steps by = absurd by
+IsChange-step seat old new call Empty block given exact steps by = absurd by
+IsChange-step seat old new call ZeroSize block given exact steps by = absurd by
+IsChange-step seat old new call TooLarge block given exact steps by = absurd by
+IsChange-step seat old new call OutOfRange block given exact steps by = absurd by
+IsChange-step seat old new call NoSpace block given exact steps by = absurd by
 
 -- a root's word is what the tables say of it, while no move entry is open
 root_is : (words : List ℕ) (root : ℕ) → IsFormed words → HasNoMove (tables_of words).entry → root < (layout_of 1).roots → (tables_of words).root root ≡ word_at words (root_word root)

@@ -7,10 +7,12 @@ use Rattle.image_tables.specs.Tables.{tables_of}
 use Rattle.heap_model.specs.declared.call.Call.{Call}
 use Rattle.heap_model.specs.declared.call.Entry.{Entry}
 use Rattle.heap_model.specs.Machine.{Bounds, Machine, no_heap, IsOverlapFree}
-use Rattle.heap_model.specs.Step.{IsKeptStep, root_of}
-use Rattle.heap_model.specs.Placement.{IsPlacedStep}
-use Rattle.heap_model.specs.Journal.{Leads}
-use Rattle.heap_model.proofs.Steps.{law_of_kept_overlap}
+use Rattle.heap_model.specs.Policy.{plain}
+use Rattle.heap_model.specs.Step.{root_of}
+use Rattle.heap_model.specs.Placement.{bare}
+use Rattle.heap_model.specs.Journal.{Leads, IsPlacedEntry}
+use Rattle.heap_model.proofs.Steps.{law_of_overlap}
+use Rattle.heap_model.proofs.Placements.{Leads-machine}
 use Rattle.heap_check.specs.Heap.{heap}
 use Rattle.heap_check.specs.Image.{IsExactImage}
 use Rattle.heap_check.specs.State.{HasState}
@@ -19,7 +21,7 @@ use Rattle.arena_core.specs.Call.{IsReady}
 use Rattle.arena_core.specs.Events.{call_events, turn_after}
 use Rattle.trace_text.specs.declared.call.TraceCall.{TraceCall}
 use Rattle.trace_text.specs.Report.{arena_line, entry_line, heap_text}
-use Rattle.trace_runs.specs.Replay.{bounds_for, blocks_of, turn_behind, turn_of, AreAnswers, IsBehindCall}
+use Rattle.trace_runs.specs.Replay.{bounds_for, blocks_of, IsJournal, turn_behind, turn_of, AreAnswers, IsBehindCall}
 use Rattle.trace_runs.specs.Calls.{IsNewArena, HasAnswered, HasAnsweredAll, HasWrittenAll, IsReplayed}
 use Rattle.trace_runs.proofs.Listing.{blocks_of-same}
 
@@ -32,15 +34,9 @@ AreAnswers-more (c ∷ calls) [] call entry are seat asked = absurd are
 AreAnswers-more (c ∷ calls) (e ∷ journal) call entry are seat asked = (are.0, are.1, AreAnswers-more calls journal call entry are.2 seat asked)
 
 -- one step more
-Leads-more : (b : Bounds) (m middle next : Machine) (journal : List Entry) (entry : Entry) → Leads (IsPlacedStep b) m journal middle → IsPlacedStep b middle entry.call entry.reply next →
-    Leads (IsPlacedStep b) m (journal ++ entry ∷ []) next
-Leads-more b m middle next [] entry leads step = (next, subst (λ (n : Machine). IsPlacedStep b n entry.call entry.reply next) leads step, refl)
-Leads-more b m middle next (e ∷ journal) entry leads step = (leads.0, leads.1, Leads-more b leads.0 middle next journal entry leads.2 step)
-
--- a journal of the placement is one of the machine whose slabs keep their class
-Leads-kept : (b : Bounds) (m last : Machine) (journal : List Entry) → Leads (IsPlacedStep b) m journal last → Leads (IsKeptStep b) m journal last
-Leads-kept b m last [] leads = leads
-Leads-kept b m last (entry ∷ journal) leads = (leads.0, leads.1.step, Leads-kept b leads.0 last journal leads.2)
+Leads-more : {State : Type 0} (Steps : State → Entry → State → Type 0) (s middle next : State) (journal : List Entry) (entry : Entry) → Leads Steps s journal middle → Steps middle entry next → Leads Steps s (journal ++ entry ∷ []) next
+Leads-more Steps s middle next [] entry leads step = (next, subst (λ from. Steps from entry next) leads step, refl)
+Leads-more Steps s middle next (e ∷ journal) entry leads step = (leads.0, leads.1, Leads-more Steps leads.0 middle next journal entry leads.2 step)
 
 -- the write-ahead line, one entry further
 turn_behind-more : (turn : ℕ) (journal : List Entry) (entry : Entry) → turn_behind turn (journal ++ entry ∷ []) ≡ turn_after (turn_behind turn journal) entry.reply
@@ -61,8 +57,9 @@ IsOverlapFree-none b = record {
   clear = λ root range s c k named is_large slab low high. absurd (cc);
 }
 
-IsOverlapFree-journal : (b : Bounds) (journal : List Entry) (machine : Machine) → Leads (IsPlacedStep b) no_heap journal machine → IsOverlapFree b machine
-IsOverlapFree-journal b journal machine leads = law_of_kept_overlap b no_heap machine journal (IsOverlapFree-none b) (Leads-kept b no_heap machine journal leads)
+IsOverlapFree-journal : (granules : ℕ) (journal : List Entry) (machine : Machine) → IsJournal granules journal machine → IsOverlapFree (bounds_for granules) machine
+IsOverlapFree-journal granules journal machine leads =
+    law_of_overlap plain (bounds_for granules) no_heap machine journal (IsOverlapFree-none (bounds_for granules)) (Leads-machine plain (bounds_for granules) (bare no_heap) (bare machine) journal leads)
 
 -- nothing was asked yet
 HasAnsweredAll-none : (granules : ℕ) (arena : ArenaState) → IsNewArena granules arena → HasAnsweredAll granules arena [] [] no_heap
@@ -79,7 +76,7 @@ HasAnsweredAll-none granules arena new = record {
 
 -- the device behind a call that was answered
 behind_call : (granules : ℕ) (old new : ArenaState) (calls : List TraceCall) (journal : List Entry) (machine : Machine) (entry : Entry) →
-    HasAnsweredAll granules old calls journal machine → HasAnswered old new entry.call entry.reply → IsBehindCall granules new.device (journal ++ entry ∷ [])
+    HasAnsweredAll granules old calls journal machine → HasAnswered entry.seat old new entry.call entry.reply → IsBehindCall granules new.device (journal ++ entry ∷ [])
 behind_call granules old new calls journal machine entry all answered =
     let base : words_of old.device ≡ new.device.base = sym (ap (λ (s : PmemState). s.base) answered.device) in
     let events : new.device.events ≡ call_events (words_of old.device) (turn_of journal) (root_of entry.call) entry.reply =
@@ -97,19 +94,19 @@ behind_call granules old new calls journal machine entry all answered =
 
 -- one call more
 HasAnsweredAll-entry : (granules : ℕ) (old new : ArenaState) (calls : List TraceCall) (journal : List Entry) (machine : Machine) (call : TraceCall) (entry : Entry) →
-    HasAnsweredAll granules old calls journal machine → entry.seat ≡ call.thread → entry.call ≡ call.call → HasAnswered old new entry.call entry.reply → length journal < 2 ^ 63 →
+    HasAnsweredAll granules old calls journal machine → entry.seat ≡ call.thread → entry.call ≡ call.call → HasAnswered entry.seat old new entry.call entry.reply → length journal < 2 ^ 63 →
     (next : Machine) × HasAnsweredAll granules new (calls ++ call ∷ []) (journal ++ entry ∷ []) next
 HasAnsweredAll-entry granules old new calls journal machine call entry all seat asked answered few =
     let found = answered.step.each machine all.state in
-    let step : IsPlacedStep (bounds_for granules) machine entry.call entry.reply found.0 = subst (λ (b : Bounds). IsPlacedStep b machine entry.call entry.reply found.0) all.bounds found.1 in
+    let step : IsPlacedEntry plain (bounds_for granules) (bare machine) entry (bare found.0) = subst (λ (b : Bounds). IsPlacedEntry plain b (bare machine) entry (bare found.0)) all.bounds found.1 in
     let one = ap (λ (s : PmemState). s.begins) answered.device in
     let longer : length (journal ++ entry ∷ []) ≡ length journal + 1 = length-append journal (entry ∷ []) in
-    let leads = Leads-more (bounds_for granules) no_heap machine found.0 journal entry all.leads step in (
+    let leads = Leads-more (IsPlacedEntry plain (bounds_for granules)) (bare no_heap) (bare machine) (bare found.0) journal entry all.leads step in (
       found.0,
       record {
         answers = AreAnswers-more calls journal call entry all.answers seat asked;
         leads = leads;
-        apart = IsOverlapFree-journal (bounds_for granules) (journal ++ entry ∷ []) found.0 leads;
+        apart = IsOverlapFree-journal granules (journal ++ entry ∷ []) found.0 leads;
         state = found.2;
         bounds = answered.step.bounds ∙ all.bounds;
         begins = omega (arith, one, all.begins, longer);
@@ -138,14 +135,14 @@ HasWrittenAll-none granules arena text new = record {
 -- one call of a list more, and its line
 pub HasWrittenAll-more : (granules : ℕ) (old new : ArenaState) (calls : List TraceCall) (i : ℕ) (d : TraceCall) (text more further : List ℕ) (entry : Entry) →
     HasWrittenAll granules old (take i calls) text more → i < length calls → i < 2 ^ 63 → entry.seat ≡ (get_or calls i d).thread → entry.call ≡ (get_or calls i d).call →
-    HasAnswered old new (get_or calls i d).call entry.reply → further ≡ more ++ entry_line entry → HasWrittenAll granules new (take (i + 1) calls) text further
+    HasAnswered (get_or calls i d).thread old new (get_or calls i d).call entry.reply → further ≡ more ++ entry_line entry → HasWrittenAll granules new (take (i + 1) calls) text further
 HasWrittenAll-more granules old new calls i d text more further entry all here small seat asked answered is =
     let call = get_or calls i d in
     let one : suc i ≡ i + 1 = omega arith in
     let many : length all.journal ≡ i = AreAnswers-length (take i calls) all.journal all.answered.answers ∙ length-take-le i calls (omega (arith, here)) in
     let next =
     HasAnsweredAll-entry granules old new (take i calls) all.journal all.machine call entry all.answered seat asked
-    (subst (λ (c : Call). HasAnswered old new c entry.reply) (sym asked) answered) (omega (arith, many, small)) in
+    (subst (λ (t : ℕ). HasAnswered t old new entry.call entry.reply) (sym seat) (subst (λ (c : Call). HasAnswered call.thread old new c entry.reply) (sym asked) answered)) (omega (arith, many, small)) in
     record {
       journal = all.journal ++ entry ∷ [];
       machine = next.0;

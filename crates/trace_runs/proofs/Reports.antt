@@ -33,7 +33,7 @@ pub record IsChanged (device : PmemState) (image : List ℕ) (block : Block) (gi
 pub IsChanged-behind : (device : PmemState) (entry : Entry) (done : ℕ) (image : List ℕ) (block : Block) (given : Bool) → IsBehindEntry device entry →
     IsImage device.base (take done device.events) image → IsChangeBy (root_of entry.call) entry.reply block given → IsChanged device image block given
 IsChanged-behind device entry done image block given behind one by = record {
-  change = IsChange-step device.base (words_of device) entry.call entry.reply block given behind.exact behind.step by;
+  change = IsChange-step entry.seat device.base (words_of device) entry.call entry.reply block given behind.exact behind.step by;
   either = behind.crash.each done image one;
 }
 

@@ -5,7 +5,8 @@ use Rattle.std.proofs.lemmas.List.{append-nil}
 use Rattle.pmem_lines.specs.Pmem.{PmemState, words_of}
 use Rattle.heap_model.specs.declared.call.Reply.{Reply}
 use Rattle.heap_model.specs.Machine.{Bounds, Machine}
-use Rattle.heap_model.specs.Placement.{IsPlacedStep}
+use Rattle.heap_model.specs.Policy.{plain}
+use Rattle.heap_model.specs.Placement.{bare, IsPlacedStep}
 use Rattle.heap_check.specs.Image.{bounds_of}
 use Rattle.heap_check.specs.State.{HasState}
 use Rattle.arena_core.specs.Arena.{ArenaState}
@@ -36,8 +37,8 @@ IsRun-to b start first calls arena machine stages to =
     (subst (λ (ss : List Stage). IsRun b start 0 first (calls ++ []) ss) (append-nil stages) (to.run [] [] refl))
 
 -- a call that was answered is a stage
-pub IsStage-answered : (b : Bounds) (old new : ArenaState) (machine next : Machine) (call : TraceCall) (reply : Reply) → HasAnswered old new call.call reply →
-    IsPlacedStep b machine call.call reply next → HasState (words_of new.device) next → IsStage b (words_of old.device) old.turn machine call (last_stage new.device) new.turn next
+pub IsStage-answered : (b : Bounds) (old new : ArenaState) (machine next : Machine) (call : TraceCall) (reply : Reply) → HasAnswered call.thread old new call.call reply →
+    IsPlacedStep plain b call.thread (bare machine) call.call reply (bare next) → HasState (words_of new.device) next → IsStage b (words_of old.device) old.turn machine call (last_stage new.device) new.turn next
 IsStage-answered b old new machine next call reply answered step state = record {
   reply = reply;
   begins = ap (λ (s : PmemState). s.base) answered.device;
@@ -49,11 +50,11 @@ IsStage-answered b old new machine next call reply answered step state = record 
 
 -- one call further
 IsRunTo-call : (b : Bounds) (start : List ℕ) (first : Machine) (calls : List TraceCall) (old new : ArenaState) (machine : Machine) (call : TraceCall) (reply : Reply) (stages : List Stage) →
-    IsRunTo b start first calls old machine stages → HasAnswered old new call.call reply →
+    IsRunTo b start first calls old machine stages → HasAnswered call.thread old new call.call reply →
     (next : Machine) × IsRunTo b start first (calls ++ call ∷ []) new next (stages ++ last_stage new.device ∷ [])
 IsRunTo-call b start first calls old new machine call reply stages to answered =
     let found = answered.step.each machine to.state in
-    let step : IsPlacedStep b machine call.call reply found.0 = subst (λ (c : Bounds). IsPlacedStep c machine call.call reply found.0) to.bounds found.1 in
+    let step : IsPlacedStep plain b call.thread (bare machine) call.call reply (bare found.0) = subst (λ (c : Bounds). IsPlacedStep plain c call.thread (bare machine) call.call reply (bare found.0)) to.bounds found.1 in
     let stage : IsStage b (words_of old.device) old.turn machine call (last_stage new.device) new.turn found.0 = IsStage-answered b old new machine found.0 call reply answered step found.2 in (
       found.0,
       record {
@@ -68,7 +69,7 @@ IsRunTo-call b start first calls old new machine call reply stages to answered =
 
 -- the same, call by call of a list
 pub IsRunTo-more : (b : Bounds) (start : List ℕ) (first : Machine) (calls : List TraceCall) (old new : ArenaState) (machine : Machine) (i : ℕ) (d : TraceCall) (reply : Reply) (stages : List Stage) →
-    IsRunTo b start first (take i calls) old machine stages → i < length calls → HasAnswered old new (get_or calls i d).call reply →
+    IsRunTo b start first (take i calls) old machine stages → i < length calls → HasAnswered (get_or calls i d).thread old new (get_or calls i d).call reply →
     (next : Machine) × IsRunTo b start first (take (i + 1) calls) new next (stages ++ last_stage new.device ∷ [])
 IsRunTo-more b start first calls old new machine i d reply stages to here answered =
     let one : suc i ≡ i + 1 = omega arith in

@@ -54,7 +54,7 @@ not_under_way n event few = ⊎_elim
 
 -- one call further, where it is not under way
 pub Seeking-more : (granules : ℕ) (calls : List TraceCall) (event : ℕ) (old new : ArenaState) (i left events : ℕ) (d : TraceCall) (reply : Reply) →
-    Seeking granules calls event old i left events → i < length calls → HasAnswered old new (get_or calls i d).call reply → (0 < length new.device.events → length new.device.events < left) →
+    Seeking granules calls event old i left events → i < length calls → HasAnswered (get_or calls i d).thread old new (get_or calls i d).call reply → (0 < length new.device.events → length new.device.events < left) →
     Seeking granules calls event new (i + 1) (left - length new.device.events) (events + length new.device.events)
 Seeking-more granules calls event old new i left events d reply seeking here answered few =
     let next = IsRunTo-more (bounds_for granules) (formatted granules) no_heap calls old new seeking.machine i d reply seeking.stages seeking.to here answered in
@@ -73,7 +73,7 @@ Seeking-more granules calls event old new i left events d reply seeking here ans
 
 -- the call is the one under way
 pub IsBehindSought-here : (granules : ℕ) (calls : List TraceCall) (event : ℕ) (old new : ArenaState) (i left events : ℕ) (d : TraceCall) (reply : Reply) →
-    Seeking granules calls event old i left events → i < length calls → HasAnswered old new (get_or calls i d).call reply →
+    Seeking granules calls event old i left events → i < length calls → HasAnswered (get_or calls i d).thread old new (get_or calls i d).call reply →
     0 < length new.device.events → left ≤ length new.device.events → events + left ≡ event → IsBehindSought granules calls event new.device (i + 1) left
 IsBehindSought-here granules calls event old new i left events d reply seeking here answered some within sum =
     let next = IsRunTo-more (bounds_for granules) (formatted granules) no_heap calls old new seeking.machine i d reply seeking.stages seeking.to here answered in
@@ -90,13 +90,13 @@ IsBehindSought-here granules calls event old new i left events d reply seeking h
     }
 
 -- what the arena was asked last
-pub IsBehindEntry-answered : (old new : ArenaState) (entry : Entry) → HasAnswered old new entry.call entry.reply → 0 < length new.device.events → IsBehindEntry new.device entry
+pub IsBehindEntry-answered : (old new : ArenaState) (entry : Entry) → HasAnswered entry.seat old new entry.call entry.reply → 0 < length new.device.events → IsBehindEntry new.device entry
 IsBehindEntry-answered old new entry answered some =
     let base : words_of old.device ≡ new.device.base = sym (ap (λ (s : PmemState). s.base) answered.device) in
     let events : new.device.events ≡ call_events (words_of old.device) old.turn (root_of entry.call) entry.reply = ap (λ (s : PmemState). s.events) answered.device in
     record {
       exact = subst IsExactImage base answered.exact;
-      step = subst (λ (words : List ℕ). IsStepOf words (words_of new.device) entry.call entry.reply) base answered.step;
+      step = subst (λ (words : List ℕ). IsStepOf entry.seat words (words_of new.device) entry.call entry.reply) base answered.step;
       turn = old.turn;
       events = subst (λ (words : List ℕ). new.device.events ≡ call_events words old.turn (root_of entry.call) entry.reply) base events;
       some = some;

@@ -3,13 +3,15 @@ use Rattle.std.proofs.Common.{◌≡◌, ℕ, List, [], ◌∷◌, sym, ap, ◌�
 use Rattle.std.specs.List.{All}
 use Rattle.std.proofs.lemmas.List.Elements.{All-head, All-tail}
 use Rattle.heap_model.specs.declared.call.Call.{Call}
-use Rattle.heap_model.specs.declared.call.Call.TheVariants.{Malloc, Free, Write, Read}
+use Rattle.heap_model.specs.declared.call.Call.TheVariants.{Malloc, Free, Write, Read, Move}
 use Rattle.heap_model.specs.declared.call.Reply.{Reply}
 use Rattle.heap_model.specs.declared.call.Entry.{Entry}
 use Rattle.heap_model.specs.Machine.{Bounds, Machine, no_heap}
+use Rattle.heap_model.specs.Policy.{plain}
 use Rattle.heap_model.specs.Step.{root_of}
-use Rattle.heap_model.specs.Journal.{IsAllocation, AskTheSame}
-use Rattle.heap_model.proofs.Placements.{law_of_one_placed_journal}
+use Rattle.heap_model.specs.Placement.{PlacedState, bare}
+use Rattle.heap_model.specs.Journal.{IsOfBlock, AskTheSame}
+use Rattle.heap_model.proofs.Placements.{law_of_one_journal}
 use Rattle.arena_core.specs.Events.{call_events, turn_after}
 use Rattle.trace_text.specs.declared.call.TraceCall.{TraceCall}
 use Rattle.trace_text.specs.Grammar.{IsAsked, IsTraceCall}
@@ -19,11 +21,12 @@ use Rattle.trace_runs.specs.Crash.{Stage, IsStage, IsRun, words_after}
 use Rattle.trace_runs.specs.Laws.{LawOfOneReport, LawOfOneRun}
 
 -- a trace asks for mallocs and frees alone
-is_allocation : (call : Call) → IsAsked call → IsAllocation call
-is_allocation (Malloc root size) asked = tt
-is_allocation (Free root) asked = tt
-is_allocation (Write root index word) asked = absurd asked
-is_allocation (Read root index) asked = absurd asked
+is_of_block : (call : Call) → IsAsked call → IsOfBlock call
+is_of_block (Malloc root size) asked = tt
+is_of_block (Free root) asked = tt
+is_of_block (Write root index word) asked = absurd asked
+is_of_block (Read root index) asked = absurd asked
+is_of_block (Move from to) asked = absurd asked
 
 -- two journals of the calls ask the same
 ask_the_same : (calls : List TraceCall) (journal other : List Entry) → All IsTraceCall calls → AreAnswers calls journal → AreAnswers calls other → AskTheSame journal other
@@ -35,14 +38,14 @@ ask_the_same (call ∷ calls) (entry ∷ journal) [] valid one two = absurd two
 ask_the_same (call ∷ calls) (entry ∷ journal) (another ∷ other) valid one two = (
   one.0 ∙ sym two.0,
   one.1 ∙ sym two.1,
-  subst IsAllocation (sym one.1) (is_allocation call.call (All-head IsTraceCall call calls valid).asked),
+  subst IsOfBlock (sym one.1) (is_of_block call.call (All-head IsTraceCall call calls valid).asked),
   ask_the_same calls journal other (All-tail IsTraceCall call calls valid) one.2 two.2,
 )
 
 pub law_of_one_report : LawOfOneReport
 law_of_one_report granules calls journal other machine another text more valid first second =
-    let same = law_of_one_placed_journal (bounds_for granules) no_heap machine another journal other (ask_the_same calls journal other valid first.answers second.answers) first.legal second.legal in
-    first.is ∙ ap (λ (entries : List Entry). arena_text 0 entries (blocks_of machine.block)) same.0 ∙ ap (λ (m : Machine). arena_text 0 other (blocks_of m.block)) same.1 ∙ sym second.is
+    let same = law_of_one_journal plain (bounds_for granules) (bare no_heap) (bare machine) (bare another) journal other (ask_the_same calls journal other valid first.answers second.answers) first.legal second.legal in
+    first.is ∙ ap (λ (entries : List Entry). arena_text 0 entries (blocks_of machine.block)) same.0 ∙ ap (λ (s : PlacedState). arena_text 0 other (blocks_of s.machine.block)) same.1 ∙ sym second.is
 
 -- the entry of a stage
 entry_of : TraceCall → Reply → Entry
@@ -53,11 +56,11 @@ stage_once : (b : Bounds) (words : List ℕ) (turn : ℕ) (m next last : Machine
     (stage ≡ other) × (later ≡ after) × (next ≡ last)
 unfolding entry_of
 stage_once b words turn m next last later after call stage other valid one two =
-    let same = law_of_one_placed_journal b m next last (entry_of call one.reply ∷ []) (entry_of call two.reply ∷ []) (refl, refl, is_allocation call.call valid.asked, tt) (next, one.step, refl) (last, two.step, refl) in
+    let same = law_of_one_journal plain b (bare m) (bare next) (bare last) (entry_of call one.reply ∷ []) (entry_of call two.reply ∷ []) (refl, refl, is_of_block call.call valid.asked, tt) (bare next, one.step, refl) (bare last, two.step, refl) in
     let replies : one.reply ≡ two.reply = ap (λ (entries : List Entry). reply_of one.reply entries) same.0 in
     let events : stage.events ≡ other.events = one.events ∙ ap (λ reply. call_events words turn (root_of call.call) reply) replies ∙ sym two.events in
     let begins : stage.words ≡ other.words = one.begins ∙ sym two.begins in
-    (λ i. record { words = begins i; events = events i }, one.later_is ∙ ap (turn_after turn) replies ∙ sym two.later_is, same.1)
+    (λ i. record { words = begins i; events = events i }, one.later_is ∙ ap (turn_after turn) replies ∙ sym two.later_is, ap (λ (s : PlacedState). s.machine) same.1)
   where
     reply_of : Reply → List Entry → Reply
     reply_of none [] = none

@@ -3,7 +3,7 @@ use Rattle.std.specs.Prelude.{◌≡◌, ◌≢◌, ℕ, Bool, true, false, List
 use Rattle.image_tables.specs.Tables.{tables_of}
 use Rattle.heap_model.specs.declared.block.Block.{Block}
 use Rattle.heap_model.specs.declared.call.Reply.{Reply}
-use Rattle.heap_model.specs.declared.call.Reply.TheVariants.{Placed, Freed, Wrote, Value, NoRoot, Occupied, Empty, ZeroSize, TooLarge, OutOfRange, NoSpace}
+use Rattle.heap_model.specs.declared.call.Reply.TheVariants.{Placed, Freed, Wrote, Value, Moved, NoRoot, Occupied, Empty, ZeroSize, TooLarge, OutOfRange, NoSpace}
 use Rattle.heap_model.specs.Machine.{Range}
 use Rattle.heap_check.specs.Heap.{heap}
 use Rattle.trace_text.specs.declared.call.CrashSide.{CrashSide}
@@ -22,12 +22,13 @@ pub record IsHeapBut (words : List ℕ) (block : Block) (has : Bool) (other : �
   pub here : other block.root ≡ range_if block has
   pub others : (root : ℕ) → root ≢ block.root → other root ≡ heap (tables_of words) root
 
--- a reply that changes the heap
+-- a reply that changes the heap at one root; no call of a trace moves a block
 abbrev pub ChangesHeap : Reply → Type 0
 ChangesHeap (Placed at size) = Unit {0}
 ChangesHeap (Freed at size) = Unit {0}
 ChangesHeap Wrote = ⊥
 ChangesHeap (Value word) = ⊥
+ChangesHeap (Moved at size) = ⊥
 ChangesHeap NoRoot = ⊥
 ChangesHeap (Occupied at) = ⊥
 ChangesHeap Empty = ⊥
@@ -42,6 +43,7 @@ IsChangeBy root (Placed at size) block given = (block ≡ record { root = root; 
 IsChangeBy root (Freed at size) block given = (block ≡ record { root = root; at = at; size = size }) × (given ≡ false)
 IsChangeBy root Wrote block given = ⊥
 IsChangeBy root (Value word) block given = ⊥
+IsChangeBy root (Moved at size) block given = ⊥
 IsChangeBy root NoRoot block given = ⊥
 IsChangeBy root (Occupied at) block given = ⊥
 IsChangeBy root Empty block given = ⊥

@@ -8,8 +8,6 @@ use Rattle.heap_model.specs.declared.call.Entry.{Entry}
 use Rattle.heap_model.specs.declared.call.Reply.{Reply}
 use Rattle.heap_model.specs.Machine.{Machine, no_heap, IsOverlapFree}
 use Rattle.heap_model.specs.Step.{root_of}
-use Rattle.heap_model.specs.Placement.{IsPlacedStep}
-use Rattle.heap_model.specs.Journal.{Leads}
 use Rattle.heap_check.specs.Image.{bounds_of, IsExactImage}
 use Rattle.heap_check.specs.State.{HasState, IsEitherHeap}
 use Rattle.arena_core.specs.Arena.{ArenaState}
@@ -17,7 +15,7 @@ use Rattle.arena_core.specs.Call.{IsStepOf}
 use Rattle.arena_core.specs.Events.{format_events, call_events, turn_after}
 use Rattle.trace_text.specs.declared.call.TraceCall.{TraceCall}
 use Rattle.trace_text.specs.Report.{entry_line}
-use Rattle.trace_runs.specs.Replay.{header_for, bounds_for, formatted, AreAnswers, turn_of, IsBehindFormat, IsBehindCall, HasRun, IsReport}
+use Rattle.trace_runs.specs.Replay.{header_for, bounds_for, formatted, IsJournal, AreAnswers, turn_of, IsBehindFormat, IsBehindCall, HasRun, IsReport}
 
 -- the arena was formatted, and nothing was asked of it since
 pub record IsNewArena (granules : ℕ) (arena : ArenaState) : Type 0 where
@@ -29,10 +27,10 @@ pub record IsNewArena (granules : ℕ) (arena : ArenaState) : Type 0 where
   pub begins : arena.device.begins ≡ 1
   pub turn : arena.turn ≡ 0
 
--- From an exact image the arena answered a call: a step of the machine, with exactly the events of the reply. A crash
+-- From an exact image the arena answered a call of a seat: a step of the machine, with exactly the events of the reply. A crash
 -- within it leaves the heap before it or after it.
-pub record HasAnswered (old new : ArenaState) (call : Call) (reply : Reply) : Type 0 where
-  pub step : IsStepOf (words_of old.device) (words_of new.device) call reply
+pub record HasAnswered (seat : ℕ) (old new : ArenaState) (call : Call) (reply : Reply) : Type 0 where
+  pub step : IsStepOf seat (words_of old.device) (words_of new.device) call reply
   pub device : new.device ≡ appended (began old.device) (call_events (words_of old.device) old.turn (root_of call) reply)
   pub turn : new.turn ≡ turn_after old.turn reply
   pub exact : IsExactImage (words_of old.device)
@@ -41,7 +39,7 @@ pub record HasAnswered (old new : ArenaState) (call : Call) (reply : Reply) : Ty
 -- an arena that was new answered these calls with this journal, which leads to this state
 pub record HasAnsweredAll (granules : ℕ) (arena : ArenaState) (calls : List TraceCall) (journal : List Entry) (machine : Machine) : Type 0 where
   pub answers : AreAnswers calls journal
-  pub leads : Leads (IsPlacedStep (bounds_for granules)) no_heap journal machine
+  pub leads : IsJournal granules journal machine
   pub apart : IsOverlapFree (bounds_for granules) machine
   pub state : HasState (words_of arena.device) machine
   pub bounds : bounds_of (words_of arena.device) ≡ bounds_for granules

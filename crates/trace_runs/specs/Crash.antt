@@ -8,7 +8,8 @@ use Rattle.image_tables.specs.Tables.{tables_of}
 use Rattle.heap_model.specs.declared.call.Reply.{Reply}
 use Rattle.heap_model.specs.Machine.{Bounds, Machine, no_heap}
 use Rattle.heap_model.specs.Step.{root_of}
-use Rattle.heap_model.specs.Placement.{IsPlacedStep}
+use Rattle.heap_model.specs.Policy.{plain}
+use Rattle.heap_model.specs.Placement.{bare, IsPlacedStep}
 use Rattle.heap_check.specs.Heap.{heap}
 use Rattle.heap_check.specs.Image.{IsSteadyImage}
 use Rattle.heap_check.specs.State.{HasState, HaveSameHeap}
@@ -32,14 +33,14 @@ pub record Stage : Type 0 where
 abbrev pub words_after : Stage → List ℕ
 words_after stage = reading stage.words stage.events
 
--- from these words, this write-ahead line and this state on, a call makes this stage: the reply is the machine's, the
--- events are those of the reply, and behind it come the next line, and words with the state that the machine leads to
+-- from these words, this write-ahead line and this state on, a call makes this stage: the reply is the placement's, by
+-- the plain policy, in which no stack is filled and no slab takes another class; the events are those of the reply, and behind it come the next line, and words with the state that the machine leads to
 pub record IsStage (b : Bounds) (words : List ℕ) (turn : ℕ) (m : Machine) (call : TraceCall) (stage : Stage) (later : ℕ) (next : Machine) : Type 0 where
   pub reply : Reply
   pub begins : stage.words ≡ words
   pub events : stage.events ≡ call_events words turn (root_of call.call) reply
   pub later_is : later ≡ turn_after turn reply
-  pub step : IsPlacedStep b m call.call reply next
+  pub step : IsPlacedStep plain b call.thread (bare m) call.call reply (bare next)
   pub state : HasState (words_after stage) next
 
 -- from these words, this write-ahead line and this state on, calls make these stages, one after another

@@ -9,8 +9,9 @@ use Rattle.heap_model.specs.declared.block.Block.{Block}
 use Rattle.heap_model.specs.declared.call.Entry.{Entry}
 use Rattle.heap_model.specs.Machine.{Bounds, Range, Machine, no_heap, IsOverlapFree}
 use Rattle.heap_model.specs.Step.{root_of}
-use Rattle.heap_model.specs.Placement.{IsPlacedStep}
-use Rattle.heap_model.specs.Journal.{Leads}
+use Rattle.heap_model.specs.Policy.{plain}
+use Rattle.heap_model.specs.Placement.{bare}
+use Rattle.heap_model.specs.Journal.{Leads, IsPlacedEntry}
 use Rattle.heap_check.specs.Image.{IsExactImage}
 use Rattle.heap_check.specs.State.{HasState}
 use Rattle.arena_core.specs.Events.{format_events, call_events, turn_after}
@@ -28,6 +29,11 @@ bounds_for granules = record { roots = (layout_of 1).roots; first = (layout_of 1
 -- its words as it is formatted
 unfoldable pub formatted : ℕ → List ℕ
 formatted granules = reading (zeros (2048 * granules)) (format_events (header_for granules))
+
+-- The entries are a legal journal of an arena of so many granules, from the empty heap to this state: each block is given
+-- where the placement says, by the plain policy. No stack is filled, and no slab takes another class.
+abbrev pub IsJournal : ℕ → List Entry → Machine → Type 0
+IsJournal granules journal machine = Leads (IsPlacedEntry plain (bounds_for granules)) (bare no_heap) journal (bare machine)
 
 -- the entries answer the calls of a trace, in order, each once, and nothing else
 abbrev pub AreAnswers : List TraceCall → List Entry → Type 0
@@ -72,7 +78,7 @@ pub record IsBehindCall (granules : ℕ) (device : PmemState) (journal : List En
   pub entry : Entry
   pub last : journal ≡ before ++ entry ∷ []
   pub machine : Machine
-  pub leads : Leads (IsPlacedStep (bounds_for granules)) no_heap before machine
+  pub leads : IsJournal granules before machine
   pub exact : IsExactImage device.base
   pub state : HasState device.base machine
   pub events : device.events ≡ call_events device.base (turn_of before) (root_of entry.call) entry.reply
@@ -87,9 +93,9 @@ pub record HasRun (granules : ℕ) (device : PmemState) (journal : List Entry) (
   pub last : IsBehindFormat granules device journal ⊎ IsBehindCall granules device journal
 
 -- The text is the report of a legal journal of these calls, from the empty heap to this state, in which no two blocks
--- overlap. Each block is the one that the placement says.
+-- overlap.
 pub record IsReport (granules : ℕ) (calls : List TraceCall) (journal : List Entry) (machine : Machine) (text : List ℕ) : Type 0 where
-  pub legal : Leads (IsPlacedStep (bounds_for granules)) no_heap journal machine
+  pub legal : IsJournal granules journal machine
   pub answers : AreAnswers calls journal
   pub apart : IsOverlapFree (bounds_for granules) machine
   pub is : text ≡ arena_text 0 journal (blocks_of machine.block)

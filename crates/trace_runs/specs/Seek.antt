@@ -26,7 +26,7 @@ last_stage device = record { words = device.base; events = device.events }
 -- the device went through the call of this entry last, and that call has events
 pub record IsBehindEntry (device : PmemState) (entry : Entry) : Type 0 where
   pub exact : IsExactImage device.base
-  pub step : IsStepOf device.base (words_of device) entry.call entry.reply
+  pub step : IsStepOf entry.seat device.base (words_of device) entry.call entry.reply
   pub turn : ℕ
   pub events : device.events ≡ call_events device.base turn (root_of entry.call) entry.reply
   pub some : 0 < length device.events

@@ -220,6 +220,7 @@ fn root_of(call: &Call) -> u32
         Call::Free { root } => root,
         Call::Write { root, .. } => root,
         Call::Read { root, .. } => root,
+        Call::Move { to, .. } => to,
     }
 }
 

@@ -15,7 +15,7 @@ pub(crate) fn answer<P: Pmem>(arena: &mut Arena<P>, call: &TraceCall) -> Entry
     requires { IsTraceCall call.now }
     ensures seat { result.seat ≡ call.now.thread }
     ensures asked { result.call ≡ call.now.call }
-    ensures answered { HasAnswered arena.old arena.new call.now.call result.reply }
+    ensures answered { HasAnswered call.now.thread arena.old arena.new call.now.call result.reply }
 {
     Entry {
         seat: call.thread,
@@ -28,7 +28,7 @@ pub(crate) fn answer<P: Pmem>(arena: &mut Arena<P>, call: &TraceCall) -> Entry
 fn reply_to<P: Pmem>(arena: &mut Arena<P>, seat: u32, call: Call) -> Reply
     requires seat { seat < 64 }
     requires asked { IsAsked call }
-    ensures { HasAnswered arena.old arena.new call result }
+    ensures { HasAnswered seat arena.old arena.new call result }
 {
     match call {
         Call::Malloc { root, size } => malloc_reply(arena.malloc_to(seat, root, size)),

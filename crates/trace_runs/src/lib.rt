@@ -3,8 +3,9 @@
 // `replay` makes all calls and gives the report and the device that went through them; `crash` makes the calls up to the
 // one under way at an event, takes the image that a seed picks, and reports the heap of the image. What they promise
 // stands in `specs/Replay.antt` (`IsReport`, `HasRun`) and `specs/Crash.antt` (`IsCrashReport`, `HasFewer`), in the words
-// of the heap machine and of images: each call is a step of the machine that gives the lowest block (`IsPlacedStep`). The
-// calls settle both: `law_of_one_report`, `law_of_one_run`. The rest of `specs/` is for the functions below them.
+// of the heap machine and of images: each call is a step of the placement for its thread (`IsPlacedStep`), by the plain
+// policy: no stack is filled, and no slab takes another class. The calls settle both: `law_of_one_report`,
+// `law_of_one_run`. The rest of `specs/` is for the functions below them.
 //
 // The layer above has a parsed trace and knows where devices come from and where bytes go.
 #![tactic(auto)]

@@ -5,7 +5,7 @@ use Rattle.std.specs.Str.Parse.{AllDigits}
 use Rattle.std.proofs.lemmas.Str.Parse.{digit_from_value}
 use Rattle.std.proofs.lemmas.Fmt.{decimal_is_IsNumeral, decimal_injective}
 use Rattle.heap_model.specs.declared.call.Call.{Call}
-use Rattle.heap_model.specs.declared.call.Call.TheVariants.{Malloc, Free, Write, Read}
+use Rattle.heap_model.specs.declared.call.Call.TheVariants.{Malloc, Free, Write, Read, Move}
 use Rattle.trace_text.specs.declared.call.TraceCall.{TraceCall}
 use Rattle.trace_text.specs.Words.{call_text}
 use Rattle.trace_text.specs.Grammar.{lines_of, IsPassedOver, IsAsked, IsPoolLine, IsCallLine, AreCalls, AreTrace, IsNoCallAt, IsNoTraceAt}
@@ -56,10 +56,13 @@ one_asked (Free r) (Free t) p q e =
     cc
 one_asked (Malloc r s) (Write t i v) p q e = absurd q
 one_asked (Malloc r s) (Read t i) p q e = absurd q
+one_asked (Malloc r s) (Move t i) p q e = absurd q
 one_asked (Free r) (Write t i v) p q e = absurd q
 one_asked (Free r) (Read t i) p q e = absurd q
+one_asked (Free r) (Move t i) p q e = absurd q
 one_asked (Write r i v) b p q e = absurd p
 one_asked (Read r i) b p q e = absurd p
+one_asked (Move r i) b p q e = absurd p
 
 -- calls that agree in all parts are one
 same_call : (a b : TraceCall) → a.thread ≡ b.thread → a.arena ≡ b.arena → a.call ≡ b.call → a ≡ b

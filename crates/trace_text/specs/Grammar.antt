@@ -3,7 +3,7 @@
 use Rattle.std.specs.Prelude.{◌≡◌, ◌==◌, ◌⊎◌, ℕ, zero, suc, ◌+◌, ◌<◌, ◌≤◌, ◌^◌, List, [], ◌∷◌, ◌++◌, length, decimal, codes, if◌then◌else◌}
 use Rattle.std.specs.List.{slice_split}
 use Rattle.heap_model.specs.declared.call.Call.{Call}
-use Rattle.heap_model.specs.declared.call.Call.TheVariants.{Malloc, Free, Write, Read}
+use Rattle.heap_model.specs.declared.call.Call.TheVariants.{Malloc, Free, Write, Read, Move}
 use Rattle.trace_text.specs.declared.call.TraceCall.{TraceCall}
 use Rattle.trace_text.specs.declared.trace.TraceFault.{TraceFault}
 use Rattle.trace_text.specs.declared.trace.TraceFault.TheVariants.{Memory, BadLine}
@@ -36,6 +36,7 @@ IsAsked (Malloc root size) = (root < 2 ^ 32) × (size < 2 ^ 64)
 IsAsked (Free root) = root < 2 ^ 32
 IsAsked (Write root index value) = ⊥
 IsAsked (Read root index) = ⊥
+IsAsked (Move from to) = ⊥
 
 -- a call that a trace may have
 pub record IsTraceCall (call : TraceCall) : Type 0 where

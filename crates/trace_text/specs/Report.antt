@@ -2,7 +2,7 @@
 use Rattle.std.specs.Prelude.{ℕ, List, [], ◌∷◌, ◌++◌, length, decimal, codes, flat_map}
 use Rattle.heap_model.specs.declared.block.Block.{Block}
 use Rattle.heap_model.specs.declared.call.Reply.{Reply}
-use Rattle.heap_model.specs.declared.call.Reply.TheVariants.{Placed, Freed, Wrote, Value, NoRoot, Occupied, Empty, ZeroSize, TooLarge, OutOfRange, NoSpace}
+use Rattle.heap_model.specs.declared.call.Reply.TheVariants.{Placed, Freed, Wrote, Value, Moved, NoRoot, Occupied, Empty, ZeroSize, TooLarge, OutOfRange, NoSpace}
 use Rattle.heap_model.specs.declared.call.Entry.{Entry}
 use Rattle.trace_text.specs.declared.call.CrashSide.{CrashSide}
 use Rattle.trace_text.specs.declared.call.CrashSide.TheVariants.{Same, Before, After}
@@ -16,6 +16,7 @@ reply_text (Placed at size) = codes "placed " ++ decimal at ++ 32 ∷ decimal si
 reply_text (Freed at size) = codes "freed " ++ decimal at ++ 32 ∷ decimal size
 reply_text Wrote = codes "wrote"
 reply_text (Value word) = codes "value " ++ decimal word
+reply_text (Moved at size) = codes "moved " ++ decimal at ++ 32 ∷ decimal size
 reply_text NoRoot = codes "no root"
 reply_text (Occupied at) = codes "occupied " ++ decimal at
 reply_text Empty = codes "empty"

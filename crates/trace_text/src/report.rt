@@ -33,6 +33,7 @@ fn write_call(out: &mut Vec<u8>, call: Call) -> Result<(), OutOfMemory>
             write_word(out, b" ", value)
         }
         Call::Read { root, index } => write_pair(out, b"r ", u64::from(root), u64::from(index)),
+        Call::Move { from, to } => write_pair(out, b"v ", u64::from(from), u64::from(to)),
     }
 }
 
@@ -46,6 +47,7 @@ fn write_reply(out: &mut Vec<u8>, reply: Reply) -> Result<(), OutOfMemory>
         Reply::Freed { at, size } => write_pair(out, b"freed ", u64::from(at), u64::from(size)),
         Reply::Wrote => write_bytes(out, b"wrote"),
         Reply::Value { word } => write_word(out, b"value ", word),
+        Reply::Moved { at, size } => write_pair(out, b"moved ", u64::from(at), u64::from(size)),
         Reply::NoRoot => write_bytes(out, b"no root"),
         Reply::Occupied { at } => write_word(out, b"occupied ", u64::from(at)),
         Reply::Empty => write_bytes(out, b"empty"),

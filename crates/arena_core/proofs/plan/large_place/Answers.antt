@@ -1,9 +1,11 @@
-use Rattle.arena_core.proofs.Plans.{no_fit_of, IsLargePlacing-fit}
+use Rattle.std.proofs.Common.{subst}
+use Rattle.heap_model.specs.Runs.{HasNoFit}
+use Rattle.extent_index.specs.FreeSet.{IsFree}
+use Rattle.arena_core.proofs.Plans.{IsPlacing-large, HasNoSite-large}
 use Rattle.arena_core.proofs.plan.large_place.Goals as goal
 
 pub returns-in-Some : goal.returns-in-Some
-returns-in-Some c words image index =
-    record { is = λ root size asked large count. IsLargePlacing-fit index root size c.in-Some.start c.args.granules c.requires c.in-Some.ensures asked large count }
+returns-in-Some c words image index root size asked large count = IsPlacing-large index root size c.in-Some.start c.args.granules c.requires c.in-Some.ensures asked large count
 
 pub returns-in-None : goal.returns-in-None
-returns-in-None c words image index = record { is = no_fit_of index c.args.granules c.in-None.ensures }
+returns-in-None c words image index root size asked large count = HasNoSite-large index root size large (subst (HasNoFit (IsFree c.args.free.now)) count c.in-None.ensures)

@@ -1,13 +1,13 @@
-use Rattle.std.proofs.Common.{◌≡◌, ◌≢◌, ◌<◌, ◌≤◌, ◌-◌, ◌*◌, ℕ, List, refl, sym, ap, ◌∙◌, subst, arith, inl, inr, ⊎_elim, MatchOption}
+use Rattle.std.proofs.Common.{◌≡◌, ◌≢◌, ◌<◌, ◌≤◌, ◌-◌, ◌*◌, ℕ, List, refl, sym, ap, ◌∙◌, subst, arith, ⊎_elim}
 use Rattle.pmem_lines.specs.Pmem.{words_of}
 use Rattle.pool_layout.specs.declared.layout.Layout.{Layout}
 use Rattle.pool_layout.specs.Layout.{layout_of}
 use Rattle.pool_layout.specs.Header.{version_in, granules_in}
 use Rattle.image_tables.specs.Tables.{tables_of}
 use Rattle.heap_check.specs.Image.{bounds_of}
-use Rattle.arena_core.specs.Plan.{IsAskedOf, IsPlacing, HasNoSmall, HasNoLarge}
+use Rattle.arena_core.specs.Plan.{IsAskedOf, IsFound}
 use Rattle.heap_check.proofs.Sizes.{sizes_of}
-use Rattle.arena_core.proofs.Plans.{small_found, large_found, slab_few}
+use Rattle.arena_core.proofs.Plans.{slab_few}
 use Rattle.arena_core.proofs.plan.plan_malloc.Goals as goal
 use Rattle.arena_core.proofs.plan.plan_malloc.Goals.{in-Some, in-None}
 
@@ -29,38 +29,34 @@ asked_of words root size held granules bytes layout row all word heap below none
 pub returns-in-Some-place : goal.returns-in-Some-place
 returns-in-Some-place g c =
     let words = words_of (g.P.Pmem.state c.args.device.now) in
-    let b = bounds_of words in
-    let t = tables_of words in
     let asked = asked_of words c.args.root c.args.size c.root_word-held.result c.granules_in.result c.from.result c.layout_in-layout.result
     c.layout_in-layout.ensures c.granules_in.ensures c.root_word-held.ensures c.from.ensures c.if-root-layout.false c.if-held-ne0.false c.if-size-eq0.false c.if-size-from.false in (
       asked,
       elim c.match-class_of.branch [
         | in-Some w ↦
-            subst (λ o. MatchOption o (HasNoSmall b t c.args.size) (IsPlacing b t c.args.root c.args.size)) (sym w.place-is ∙ c.in-Some-place.is)
-            (small_found b t c.args.root c.args.size w.in-Some.class w.small_place-place.result w.in-Some.ensures.class (w.small_place-place.ensures words c.requires.exact c.requires.normal c.requires.index c.requires.slabs))
+            subst (IsFound (bounds_of words) (tables_of words) c.args.root c.args.size) (sym w.place-is ∙ c.in-Some-place.is)
+            (w.small_place-place.ensures words c.requires.exact c.requires.normal c.requires.index c.requires.slabs c.args.root c.args.size w.in-Some.ensures.class)
         | in-None w ↦
             let large : 16384 < c.args.size = ⊎_elim (λ zero. absurd (c.if-size-eq0.false zero)) (λ large. large) (w.in-None.ensures.none.0 refl) in
-            subst (λ o. MatchOption o (HasNoLarge b t c.args.size) (IsPlacing b t c.args.root c.args.size)) (sym w.place-is ∙ c.in-Some-place.is)
-            (large_found b t c.args.root c.args.size w.granules.result w.large_place-place.result asked large w.granules.ensures (w.large_place-place.ensures words c.requires.exact c.requires.index))
+            subst (IsFound (bounds_of words) (tables_of words) c.args.root c.args.size) (sym w.place-is ∙ c.in-Some-place.is)
+            (w.large_place-place.ensures words c.requires.exact c.requires.index c.args.root c.args.size asked large w.granules.ensures)
       ],
     )
 
 pub returns-in-None-place : goal.returns-in-None-place
 returns-in-None-place g c =
     let words = words_of (g.P.Pmem.state c.args.device.now) in
-    let b = bounds_of words in
-    let t = tables_of words in
     let asked = asked_of words c.args.root c.args.size c.root_word-held.result c.granules_in.result c.from.result c.layout_in-layout.result
     c.layout_in-layout.ensures c.granules_in.ensures c.root_word-held.ensures c.from.ensures c.if-root-layout.false c.if-held-ne0.false c.if-size-eq0.false c.if-size-from.false in (
       asked,
       elim c.match-class_of.branch [
         | in-Some w ↦
-            inl (subst (λ o. MatchOption o (HasNoSmall b t c.args.size) (IsPlacing b t c.args.root c.args.size)) (sym w.place-is ∙ c.in-None-place.is)
-            (small_found b t c.args.root c.args.size w.in-Some.class w.small_place-place.result w.in-Some.ensures.class (w.small_place-place.ensures words c.requires.exact c.requires.normal c.requires.index c.requires.slabs)))
+            subst (IsFound (bounds_of words) (tables_of words) c.args.root c.args.size) (sym w.place-is ∙ c.in-None-place.is)
+            (w.small_place-place.ensures words c.requires.exact c.requires.normal c.requires.index c.requires.slabs c.args.root c.args.size w.in-Some.ensures.class)
         | in-None w ↦
             let large : 16384 < c.args.size = ⊎_elim (λ zero. absurd (c.if-size-eq0.false zero)) (λ large. large) (w.in-None.ensures.none.0 refl) in
-            inr (subst (λ o. MatchOption o (HasNoLarge b t c.args.size) (IsPlacing b t c.args.root c.args.size)) (sym w.place-is ∙ c.in-None-place.is)
-            (large_found b t c.args.root c.args.size w.granules.result w.large_place-place.result asked large w.granules.ensures (w.large_place-place.ensures words c.requires.exact c.requires.index)))
+            subst (IsFound (bounds_of words) (tables_of words) c.args.root c.args.size) (sym w.place-is ∙ c.in-None-place.is)
+            (w.large_place-place.ensures words c.requires.exact c.requires.index c.args.root c.args.size asked large w.granules.ensures)
       ],
     )
 

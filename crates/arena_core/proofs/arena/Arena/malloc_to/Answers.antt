@@ -24,7 +24,7 @@ pub invariant_of-self : goal.invariant_of-self
 invariant_of-self g c = (answered g c).arena
 
 pub returns-clause-step : goal.returns-clause-step
-returns-clause-step g c = (answered g c).step
+returns-clause-step g c = (answered g c).step c.args.seat
 
 pub returns-clause-device : goal.returns-clause-device
 returns-clause-device g c = (answered g c).device

@@ -34,7 +34,7 @@ returns g c size plan =
           let range : Range = record { at = 16384 * start; size = 16384 * count } in
           let new = words_of (state w.give_large.new.device) in
           let placing : IsPlacing b t root size (places.Large start count) = subst (IsPlacing b t root size) w.in-Large.is made.1 in
-          let many = placing.givable.many in
+          let many = placing.place_for.many in
           let done = w.give_large.ensures.done in
           let step = placed_step words new root size (places.Large start count) exact arena.normal made.0 placing done.gives in
           IsCalled-same (ap state w.device-is) w.self-is
@@ -46,15 +46,15 @@ returns g c size plan =
           let range : Range = slab_block block.start class block.number in
           let new = words_of (state w.give_small.new.device) in
           let placing : IsPlacing b t root size (places.Small block class) = subst (IsPlacing b t root size) w.in-Small.is made.1 in
-          let is_class = placing.least.is_class in
-          let may = small_attachable words root size block class exact arena.normal made.0 placing in
+          let is_class = placing.site.chosen.least.is_class in
+          let may = small_attachable words root size block class exact arena.normal made.0 placing.place_for in
           let given = w.give_small.ensures in
-          let done = IsDone-small block arena given.rest may placing.lowest.class_is given.appends given.quiet given.attached given.normal given.slabs given.crash in
+          let done = IsDone-small block arena given.rest may placing.place_for.class_is given.appends given.quiet given.attached given.normal given.slabs given.crash in
           let step = placed_step words new root size (places.Small block class) exact arena.normal made.0 placing done.gives in
           IsCalled-same (ap state w.device-is) w.self-is
           (λ i. replies.Placed ((c.placed_at.ensures.0 ∙ ap (λ (p : Place). (range_at p).at) w.place-is) i) ((c.placed_at.ensures.1 ∙ ap (λ (p : Place). (range_at p).size) w.place-is) i))
           (IsCalled-done (calls.Malloc root size) (replies.Placed range.at range.size) done
-          (placed_there words turn root block class is_class placing.at (start_is exact.exact.sound block.start class block.number placing.lowest.slab is_class placing.lowest.below) placing.lowest.slab)
+          (placed_there words turn root block class is_class placing.place_for.at (start_is exact.exact.sound block.start class block.number placing.place_for.slab is_class placing.place_for.below) placing.place_for.slab)
           refl (ap (λ (v : Volatile). (v.line + 1) % 8) given.rest ∙ sym (turn_small turn range.at class is_class).0) (omega arith) step)
       | in-Fresh w ↦
           let start = w.in-Fresh.start in
@@ -62,14 +62,14 @@ returns g c size plan =
           let range : Range = slab_block start class 0 in
           let new = words_of (state w.give_fresh.new.device) in
           let placing : IsPlacing b t root size (places.Fresh start class) = subst (IsPlacing b t root size) w.in-Fresh.is made.1 in
-          let is_class = placing.least.is_class in
+          let is_class = placing.site.chosen.least.is_class in
           let done = w.give_fresh.ensures.done in
           let step = placed_step words new root size (places.Fresh start class) exact arena.normal made.0 placing done.gives in
-          let high : 3 ≤ start = omega (arith, placing.row.low, (sizes_of words exact.formed).first) in
+          let high : 3 ≤ start = omega (arith, placing.place_for.low, (sizes_of words exact.formed).first) in
           IsCalled-same (ap state w.device-is) w.self-is
           (λ i. replies.Placed ((c.placed_at.ensures.0 ∙ ap (λ (p : Place). (range_at p).at) w.place-is) i) ((c.placed_at.ensures.1 ∙ ap (λ (p : Place). (range_at p).size) w.place-is) i))
           (IsCalled-done (calls.Malloc root size) (replies.Placed range.at range.size) done
-          (placed_fresh b words turn root start class is_class high (placing.row.vacant start (omega arith) (omega arith)))
+          (placed_fresh b words turn root start class is_class high (placing.place_for.vacant start (omega arith) (omega arith)))
           refl (ap (λ n. (n + 1) % 8) w.give_fresh.ensures.line ∙ sym (turn_small turn range.at class is_class).0) (omega arith) step)
     ]
 
@@ -83,7 +83,7 @@ give_small-requires-clause-attachable g c =
     let size = c.requires.plan.0 in
     let made : IsAskedOf b t root size × IsPlacing b t root size c.args.place = c.requires.plan.1 in
     let placing : IsPlacing b t root size (places.Small c.in-Small.block c.in-Small.class) = subst (IsPlacing b t root size) c.in-Small.is made.1 in
-    small_attachable words root size c.in-Small.block c.in-Small.class arena.kept.exact arena.normal made.0 placing
+    small_attachable words root size c.in-Small.block c.in-Small.class arena.kept.exact arena.normal made.0 placing.place_for
 
 pub placed_at-requires : goal.placed_at-requires
 placed_at-requires g c =

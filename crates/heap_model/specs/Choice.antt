@@ -1,0 +1,164 @@
+-- The choice of a malloc: where its block may lie. It is stated over a view, which says all that the choice looks at: the
+-- state of the machine has one (`State.antt`), and so has whatever else says as much of an arena, as its tables.
+use Rattle.std.specs.Prelude.{◌≡◌, ◌≢◌, ◌⊎◌, ◌↔◌, ℕ, ◌*◌, ◌<◌, ◌≤◌, true, Option, Some}
+use Rattle.size_classes.specs.Classes.{class_capacity, IsClassOf, granules_of}
+use Rattle.heap_model.specs.Policy.{Policy}
+use Rattle.heap_model.specs.Machine.{Range, slab_block, with_key}
+use Rattle.heap_model.specs.Runs.{IsBestFit, HasNoFit}
+
+pub record View : Type 1 where
+  -- a granule lies in the heap, and in no large block and no slab
+  pub free : ℕ → Type 0
+  -- the class of the slab that begins at a granule
+  pub slab : ℕ → Option ℕ
+  -- in the slab that begins at a granule, the block of a class with a number overlaps no live block
+  pub unused : ℕ → ℕ → ℕ → Type 0
+  -- how many live blocks lie in the slab that begins at a granule
+  pub live : ℕ → ℕ
+  -- one of them has another size than that of the slab's class
+  pub in_transition : ℕ → Type 0
+
+-- blocks of slabs
+
+-- block `number` of class c in the slab at s is one, and unused
+pub record IsUnusedBlock (v : View) (s c number : ℕ) : Type 0 where
+  pub within : number < class_capacity c
+  pub unused : v.unused s c number
+
+-- a slab of class c has an unused block of its class
+pub record HasUnusedBlock (v : View) (c : ℕ) : Type 0 where
+  pub start : ℕ
+  pub slab : v.slab start ≡ Some c
+  pub number : ℕ
+  pub block : IsUnusedBlock v start c number
+
+-- the slab at s is fit for class c: it is not in transition and has another class d; at most 64 blocks live in it, and at
+-- most a fifth of those that it holds; and some block of class c in it is unused
+pub record IsFit (p : Policy) (v : View) (c s : ℕ) : Type 0 where
+  pub allowed : p.morphs ≡ true
+  pub class : ℕ
+  pub slab : v.slab s ≡ Some class
+  pub calm : ¬ (v.in_transition s)
+  pub differs : c ≢ class
+  pub few : v.live s ≤ 64
+  pub sparse : 5 * v.live s ≤ class_capacity class
+  pub number : ℕ
+  pub block : IsUnusedBlock v s c number
+
+-- the fit slab with the fewest live blocks, the lowest among equals
+pub record IsBestSlab (p : Policy) (v : View) (c s : ℕ) : Type 0 where
+  pub fit : IsFit p v c s
+  pub fewest : (t : ℕ) → IsFit p v c t → v.live s ≤ v.live t
+  pub lowest : (t : ℕ) → IsFit p v c t → v.live t ≡ v.live s → s ≤ t
+
+-- no slab is fit for class c
+pub record HasNoFitSlab (p : Policy) (v : View) (c : ℕ) : Type 0 where
+  pub none : (s : ℕ) → ¬ (IsFit p v c s)
+
+-- sites
+
+-- where a block lies
+pub data Site : Type 0 where
+  -- on so many whole granules from one on
+  Granules : (start count : ℕ) → Site
+  -- in the slab at a start, which has the class: the block with this number
+  InSlab : (start class number : ℕ) → Site
+  -- in a slab that takes the class for it
+  InMorph : (start class number : ℕ) → Site
+  -- in a slab that is made for it
+  InNewSlab : (start class number : ℕ) → Site
+
+-- its bytes
+abbrev pub range_of : Site → Range
+range_of (Granules start count) = record { at = 16384 * start; size = 16384 * count }
+range_of (InSlab start class number) = slab_block start class number
+range_of (InMorph start class number) = slab_block start class number
+range_of (InNewSlab start class number) = slab_block start class number
+
+-- the slabs, once it is given
+abbrev pub slabs_with : (ℕ → Option ℕ) → Site → ℕ → Option ℕ
+slabs_with slab (Granules start count) = slab
+slabs_with slab (InSlab start class number) = slab
+slabs_with slab (InMorph start class number) = with_key slab start (Some class)
+slabs_with slab (InNewSlab start class number) = with_key slab start (Some class)
+
+-- a request above the largest class takes its granules at their best fit
+pub record IsFromGranules (v : View) (size start count : ℕ) : Type 0 where
+  pub large : 16384 < size
+  pub count_is : count ≡ granules_of size
+  pub fit : IsBestFit v.free count start
+
+-- every other one takes a block of the least class that holds it: any unused one of a slab of the class
+pub record IsFromSlab (v : View) (size start class number : ℕ) : Type 0 where
+  pub least : IsClassOf size class
+  pub slab : v.slab start ≡ Some class
+  pub block : IsUnusedBlock v start class number
+
+-- where there is none, any unused one of the best slab that is fit for the class
+pub record IsFromMorph (p : Policy) (v : View) (size start class number : ℕ) : Type 0 where
+  pub least : IsClassOf size class
+  pub full : ¬ (HasUnusedBlock v class)
+  pub best : IsBestSlab p v class start
+  pub block : IsUnusedBlock v start class number
+
+-- where there is none either, any one of a new slab at the best fit of four granules
+pub record IsFromNewSlab (p : Policy) (v : View) (size start class number : ℕ) : Type 0 where
+  pub least : IsClassOf size class
+  pub full : ¬ (HasUnusedBlock v class)
+  pub no_fit : HasNoFitSlab p v class
+  pub fit : IsBestFit v.free 4 start
+  pub within : number < class_capacity class
+
+-- a site for a request of so many bytes
+abbrev pub IsSite : Policy → View → ℕ → Site → Type 0
+IsSite p v size (Granules start count) = IsFromGranules v size start count
+IsSite p v size (InSlab start class number) = IsFromSlab v size start class number
+IsSite p v size (InMorph start class number) = IsFromMorph p v size start class number
+IsSite p v size (InNewSlab start class number) = IsFromNewSlab p v size start class number
+
+-- a small request has no site
+pub record HasNoSmallSite (p : Policy) (v : View) (size : ℕ) : Type 0 where
+  pub class : ℕ
+  pub least : IsClassOf size class
+  pub full : ¬ (HasUnusedBlock v class)
+  pub no_fit : HasNoFitSlab p v class
+  pub no_run : HasNoFit v.free 4
+
+-- a large one has none
+pub record HasNoLargeSite (v : View) (size : ℕ) : Type 0 where
+  pub large : 16384 < size
+  pub no_run : HasNoFit v.free (granules_of size)
+
+abbrev pub HasNoSite : Policy → View → ℕ → Type 0
+HasNoSite p v size = HasNoSmallSite p v size ⊎ HasNoLargeSite v size
+
+-- the lowest
+
+-- the lowest unused block of the class: in the lowest slab that has one, the one of the lowest number
+pub record IsLowestBlock (v : View) (start class number : ℕ) : Type 0 where
+  pub slab : v.slab start ≡ Some class
+  pub block : IsUnusedBlock v start class number
+  pub first : (lower : ℕ) → lower < number → ¬ (v.unused start class lower)
+  pub lowest : (other i : ℕ) → other < start → v.slab other ≡ Some class → ¬ (IsUnusedBlock v other class i)
+
+-- a site is the lowest of those for a request: the lowest unused block, or block 0 of a new slab
+abbrev pub IsLowestSite : View → Site → Type 0
+IsLowestSite v (Granules start count) = Unit {0}
+IsLowestSite v (InSlab start class number) = IsLowestBlock v start class number
+IsLowestSite v (InMorph start class number) = ⊥
+IsLowestSite v (InNewSlab start class number) = number ≡ 0
+
+-- views that agree
+
+-- two views say the same of what a slab is fit for
+pub record AgreeOnFit (v w : View) : Type 0 where
+  pub live : (s : ℕ) → v.live s ≡ w.live s
+  pub in_transition : (s : ℕ) → v.in_transition s ↔ w.in_transition s
+  pub unused : (s c number : ℕ) → v.unused s c number ↔ w.unused s c number
+
+-- two views say the same of all that a choice by a policy looks at
+pub record Agree (p : Policy) (v w : View) : Type 0 where
+  pub free : (k : ℕ) → v.free k ↔ w.free k
+  pub slab : (s : ℕ) → v.slab s ≡ w.slab s
+  pub unused : (s c number : ℕ) → v.slab s ≡ Some c → number < class_capacity c → v.unused s c number ↔ w.unused s c number
+  pub fit : p.morphs ≡ true → AgreeOnFit v w
