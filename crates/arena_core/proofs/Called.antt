@@ -1,6 +1,6 @@
 -- What a call has done, put together: by the place of its block.
-use Rattle.std.proofs.Common.{◌≡◌, ◌≢◌, ◌*◌, ◌/◌, ◌+◌, ◌-◌, ◌%◌, ◌<◌, ◌≤◌, ℕ, true, false, cond, leb, List, [], Option, Some, refl, sym, ap, subst, ◌∙◌, arith, inl}
-use Rattle.std.proofs.lemmas.Bool.{cond-true, cond-false, le-leb, lt-leb, false_from_ne_true}
+use Rattle.std.proofs.Common.{◌==◌, ◌≡◌, ◌≢◌, ◌*◌, ◌/◌, ◌+◌, ◌-◌, ◌%◌, ◌<◌, ◌≤◌, ℕ, true, false, cond, leb, List, [], Option, Some, refl, sym, ap, subst, ◌∙◌, arith, inl}
+use Rattle.std.proofs.lemmas.Bool.{cond-true, cond-false, eq-eqb, le-leb, lt-leb, false_from_ne_true}
 use Rattle.std.proofs.lemmas.Nat.{div-mul-add}
 use Rattle.size_classes.specs.Classes.{class_size, class_capacity}
 use Rattle.size_classes.proofs.Spacing.{class_size-least, class_size-most, class_size-rises}
@@ -17,7 +17,7 @@ use Rattle.heap_model.specs.declared.call.Reply.{Reply}
 use Rattle.heap_model.specs.declared.call.Reply.TheVariants as replies
 use Rattle.heap_model.specs.Machine.{Bounds, Range, slab_block}
 use Rattle.heap_model.proofs.Slabbing.{LiesIn-block}
-use Rattle.heap_check.specs.Heap.{slab_of, entry_at, heap, slabs, IsClaim, Holds}
+use Rattle.heap_check.specs.Heap.{is_old, slab_of, entry_at, heap, slabs, IsClaim, Holds}
 use Rattle.heap_check.specs.Sound.{IsVacant, IsInSlab, IsSound}
 use Rattle.pmem_lines.proofs.Images.{by_none}
 use Rattle.pmem_lines.proofs.States.{appended_none, Appends-state}
@@ -47,16 +47,16 @@ use Rattle.arena_core.proofs.Arenas.{normal_kept, slabs_kept}
 use Rattle.arena_core.specs.Events.{is_small, class_for, start_at, in_slab, block_at, place_events, take_events, fresh_events, unsmall_events, placed_events, freed_events, call_events, turn_after}
 
 -- equal ends
-pub IsCalled-same : {old new device : PmemState} {was next left : Volatile} {root : ℕ} {call : Call} {reply answer : Reply} → device ≡ new → left ≡ next → answer ≡ reply → IsCalled old new was next root call reply → IsCalled old device was left root call answer
-IsCalled-same {old} {new} {device} {was} {next} {left} {root} {call} {reply} {answer} d v r called =
-    subst (λ (x : PmemState). IsCalled old x was left root call answer) (sym d)
-    (subst (λ (x : Volatile). IsCalled old new was x root call answer) (sym v)
-    (subst (λ (x : Reply). IsCalled old new was next root call x) (sym r) called))
+pub IsCalled-same : {old new device : PmemState} {was next left : Volatile} {call : Call} {reply answer : Reply} → device ≡ new → left ≡ next → answer ≡ reply → IsCalled old new was next call reply → IsCalled old device was left call answer
+IsCalled-same {old} {new} {device} {was} {next} {left} {call} {reply} {answer} d v r called =
+    subst (λ (x : PmemState). IsCalled old x was left call answer) (sym d)
+    (subst (λ (x : Volatile). IsCalled old new was x call answer) (sym v)
+    (subst (λ (x : Reply). IsCalled old new was next call x) (sym r) called))
 
 -- a call that placed or freed a block, by its events
 pub IsCalled-done : {old new : PmemState} {was done_left left : Volatile} {root : ℕ} {block : Option Range} {slab : ℕ → Option ℕ} {events : List Event} (call : Call) (reply : Reply) →
-    IsDone old new done_left root block slab events → events ≡ call_events (words_of old) was.line root reply → left ≡ record done_left { line = left.line } → left.line ≡ turn_after was.line reply → left.line < 8 →
-    IsStepOfAny (words_of old) (words_of new) call reply → IsCalled old new was left root call reply
+    IsDone old new done_left root block slab events → events ≡ call_events (words_of old) was.line call reply → left ≡ record done_left { line = left.line } → left.line ≡ turn_after was.line reply → left.line < 8 →
+    IsStepOfAny (words_of old) (words_of new) call reply → IsCalled old new was left call reply
 IsCalled-done {old} {new} {was} {done_left} {left} {root} {block} {slab} {events} call reply done same left_is turn_is few step = record {
   appends = subst (λ (es : List Event). Appends old new es) same done.appends;
   arena = subst (IsArena new) (sym left_is) (record { kept = record { ready = done.kept.ready; exact = done.kept.exact; log = done.kept.log; index = done.kept.index }; normal = done.normal; slabs = done.slabs; few = few });
@@ -98,6 +98,18 @@ module _ (words : List ℕ) (line root start count : ℕ) (many : 2 ≤ count) w
   pub turn_freed : (turn : ℕ) → turn_after turn (replies.Freed (16384 * start) (16384 * count)) ≡ turn
   turn_freed turn = cond-false (is_small (16384 * count)) _ _ big
 
+-- a class is the least that holds its size
+
+abbrev too_little : ℕ → ℕ → ℕ
+too_little size class = cond (leb size (class_size class)) 0 1
+
+class_is : (class : ℕ) → class < 36 → class_for (class_size class) ≡ class
+class_is class is_class = first_zero-is (too_little (class_size class)) 36 class is_class
+    (cond-true (leb (class_size class) (class_size class)) 0 1 (le-leb (class_size class) (class_size class) (omega arith)))
+    (λ earlier before none.
+    let one : too_little (class_size class) earlier ≡ 1 = cond-false (leb (class_size class) (class_size earlier)) 0 1 (lt-leb (class_size class) (class_size earlier) (class_size-rises earlier class before is_class)) in
+    omega (arith, none, one))
+
 -- small blocks
 
 -- the number of a block, by its address
@@ -127,13 +139,16 @@ module _ (words : List ℕ) (line root : ℕ) (block : SmallBlock) (class : ℕ)
     found : block_at (start_at t range.at) range.at (class_size class) ≡ block
     found = ap (λ s. block_at s range.at (class_size class)) here ∙ block_is
 
-    pub placed_there : t.slab block.start ≡ true → attach_events words line root block ≡ placed_events words line root range.at (class_size class)
-    placed_there slab =
+    pub placed_there : t.slab block.start ≡ true → t.class block.start ≡ class → attach_events words line root block ≡ placed_events words line root range.at (class_size class)
+    placed_there slab of_class =
         let inside : in_slab t range.at ≡ true = ap t.slab here ∙ slab in
-        sym (cond-true (is_small (class_size class)) _ _ little ∙ cond-true (in_slab t range.at) _ _ inside ∙ ap (attach_events words line root) found)
+        let same : (t.class (start_at t range.at) == class_for (class_size class)) ≡ true = eq-eqb _ _ (ap t.class here ∙ of_class ∙ sym (class_is class is_class)) in
+        sym (cond-true (is_small (class_size class)) _ _ little ∙ cond-true (in_slab t range.at) _ _ inside ∙ cond-true _ _ _ same ∙ ap (attach_events words line root) found)
 
-    pub freed_there : unsmall_events words line root block ≡ freed_events words line root range.at (class_size class)
-    freed_there = sym (cond-true (is_small (class_size class)) _ _ little ∙ ap (unsmall_events words line root) found)
+    pub freed_there : is_old t block.start range.at ≡ false → unsmall_events words line root block ≡ freed_events words line root range.at (class_size class)
+    freed_there new =
+        let none : is_old t (start_at t range.at) range.at ≡ false = ap (λ s. is_old t s range.at) here ∙ new in
+        sym (cond-true (is_small (class_size class)) _ _ little ∙ cond-false (is_old t (start_at t range.at) range.at) _ _ none ∙ ap (unsmall_events words line root) found)
 
 -- the slab of a block
 pub start_is : {b : Bounds} {t : Tables} → IsSound b t → (start class number : ℕ) → t.slab start ≡ true → class < 36 → number < class_capacity class → start_at t (slab_block start class number).at ≡ start
@@ -141,18 +156,6 @@ start_is {b} {t} sound start class number slab is_class below =
     let lies = LiesIn-block start class (slab_block start class number) (record { number = number; within = below; is = refl }) in
     let some = class_size-least class is_class in
     slab_of-here sound start ((slab_block start class number).at / 16384) slab (omega (arith, lies.low)) (omega (arith, lies.high, some))
-
--- the class of a slab that is opened
-
-abbrev too_little : ℕ → ℕ → ℕ
-too_little size class = cond (leb size (class_size class)) 0 1
-
-class_is : (class : ℕ) → class < 36 → class_for (class_size class) ≡ class
-class_is class is_class = first_zero-is (too_little (class_size class)) 36 class is_class
-    (cond-true (leb (class_size class) (class_size class)) 0 1 (le-leb (class_size class) (class_size class) (omega arith)))
-    (λ earlier before none.
-    let one : too_little (class_size class) earlier ≡ 1 = cond-false (leb (class_size class) (class_size earlier)) 0 1 (lt-leb (class_size class) (class_size earlier) (class_size-rises earlier class before is_class)) in
-    omega (arith, none, one))
 
 -- no slab has a vacant granule
 vacant_none : {b : Bounds} (t : Tables) (start : ℕ) → 3 ≤ start → IsVacant b t start → t.slab (slab_of t.slab start) ≡ false
@@ -283,9 +286,9 @@ IsDone-small {old} {new} {was} {left} {root} {class} block arena left_is may cla
     }
 
 -- a call that is refused
-pub IsCalled-refused : {old : PmemState} {was : Volatile} {root : ℕ} (call : Call) (reply : Reply) → IsArena old was →
-    call_events (words_of old) was.line root reply ≡ [] → turn_after was.line reply ≡ was.line → IsStepOfAny (words_of old) (words_of old) call reply → IsCalled old old was was root call reply
-IsCalled-refused {old} {was} {root} call reply arena none stays step =
+pub IsCalled-refused : {old : PmemState} {was : Volatile} (call : Call) (reply : Reply) → IsArena old was →
+    call_events (words_of old) was.line call reply ≡ [] → turn_after was.line reply ≡ was.line → IsStepOfAny (words_of old) (words_of old) call reply → IsCalled old old was was call reply
+IsCalled-refused {old} {was} call reply arena none stays step =
     let words = words_of old in
     let exact = arena.kept.exact in
     let keeps : KeepsBlocks words words = record { each = λ r other range k was is word. refl } in
@@ -300,9 +303,9 @@ IsCalled-refused {old} {was} {root} call reply arena none stays step =
     }
 
 -- an arena answered a call
-pub record IsAnswered (old new : ArenaState) (left : Volatile) (root : ℕ) (call : Call) (reply : Reply) : Type 0 where
+pub record IsAnswered (old new : ArenaState) (left : Volatile) (call : Call) (reply : Reply) : Type 0 where
   pub step : IsStepOfAny (words_of old.device) (words_of new.device) call reply
-  pub device : new.device ≡ appended (began old.device) (call_events (words_of old.device) old.turn root reply)
+  pub device : new.device ≡ appended (began old.device) (call_events (words_of old.device) old.turn call reply)
   pub turn_is : new.turn ≡ turn_after old.turn reply
   pub keeps : KeepsBlocks (words_of old.device) (words_of new.device)
   pub arena : IsArena new.device left
@@ -313,11 +316,11 @@ abbrev pub meant : PmemState → Volatile → ArenaState
 meant device volatile = record { device = device; turn = volatile.line }
 
 -- by what was done behind its begin
-answered : (device begun new : PmemState) (was left : Volatile) (root : ℕ) (call : Call) (reply : Reply) → begun ≡ began device → IsCalled begun new was left root call reply → IsAnswered (meant device was) (meant new left) left root call reply
-answered device begun new was left root call reply is called =
+answered : (device begun new : PmemState) (was left : Volatile) (call : Call) (reply : Reply) → begun ≡ began device → IsCalled begun new was left call reply → IsAnswered (meant device was) (meant new left) left call reply
+answered device begun new was left call reply is called =
     let same : words_of begun ≡ words_of device = ap (λ (s : PmemState). words_of s) is in
-    let state : new ≡ appended (began device) (call_events (words_of device) was.line root reply) =
-    called.appends.state ∙ (λ i. appended (is i) (call_events (same i) was.line root reply)) in
+    let state : new ≡ appended (began device) (call_events (words_of device) was.line call reply) =
+    called.appends.state ∙ (λ i. appended (is i) (call_events (same i) was.line call reply)) in
     record {
       step = subst (λ (ws : List ℕ). IsStepOfAny ws (words_of new) call reply) same called.step;
       device = state;
@@ -325,12 +328,12 @@ answered device begun new was left root call reply is called =
       keeps = subst (λ (ws : List ℕ). KeepsBlocks ws (words_of new)) same called.keeps;
       arena = called.arena;
       crash = subst (λ (s : PmemState). CrashOnly s.base s.events (IsEitherHeap (words_of device) (words_of new))) (sym state)
-          (subst (λ (ws : List ℕ). CrashOnly (words_of device) (call_events (words_of device) was.line root reply) (IsEitherHeap ws (words_of new))) same
-          (subst (λ (ws : List ℕ). CrashOnly ws (call_events ws was.line root reply) (IsEitherHeap (words_of begun) (words_of new))) same called.crash));
+          (subst (λ (ws : List ℕ). CrashOnly (words_of device) (call_events (words_of device) was.line call reply) (IsEitherHeap ws (words_of new))) same
+          (subst (λ (ws : List ℕ). CrashOnly ws (call_events ws was.line call reply) (IsEitherHeap (words_of begun) (words_of new))) same called.crash));
     }
 
 -- of an arena by what it means
-pub answered_by : (device begun new : PmemState) (was left : Volatile) (now : ArenaState) (root : ℕ) (call : Call) (reply : Reply) → meant device was ≡ now → begun ≡ began device →
-    IsCalled begun new was left root call reply → IsAnswered now (meant new left) left root call reply
-answered_by device begun new was left now root call reply view is called =
-    subst (λ (s : ArenaState). IsAnswered s (meant new left) left root call reply) view (answered device begun new was left root call reply is called)
+pub answered_by : (device begun new : PmemState) (was left : Volatile) (now : ArenaState) (call : Call) (reply : Reply) → meant device was ≡ now → begun ≡ began device →
+    IsCalled begun new was left call reply → IsAnswered now (meant new left) left call reply
+answered_by device begun new was left now call reply view is called =
+    subst (λ (s : ArenaState). IsAnswered s (meant new left) left call reply) view (answered device begun new was left call reply is called)

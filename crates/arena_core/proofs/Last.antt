@@ -22,7 +22,7 @@ use Rattle.arena_core.specs.Arena.{HasNormalSlabs}
 use Rattle.arena_core.specs.Effect.{IsLastOf}
 use Rattle.arena_core.specs.Events.{holds_none}
 use Rattle.arena_core.specs.Plan.{IsNamedSmall}
-use Rattle.arena_core.proofs.Slabbed.{any_below-each, any_below-some}
+use Rattle.arena_core.proofs.Slabbed.{any_below-each, any_below-some, holds_none-normal}
 
 module _ (words : List ℕ) (line root : ℕ) (block : SmallBlock) (class : ℕ) (image : IsExactImage words) (normal : HasNormalSlabs words) (named : IsNamedSmall (bounds_of words) (tables_of words) root block class)
     (left : List ℕ) (detached : IsDetached words line root block left) where
@@ -89,10 +89,17 @@ module _ (words : List ℕ) (line root : ℕ) (block : SmallBlock) (class : ℕ)
         inside = subst (IsInSlab t start) (sym its.word) inside;
       }
 
+  -- it has no index entries
+  none_old : (tables_of left).entries start ≡ 0
+  none_old = ap (λ (x : Tables). x.entries start) detached.tables ∙ ((image.exact.sound.slabs start named.slab).state.none (normal.each start named.slab)).1
+
   pub last_of : IsLastOf t root start (holds_none (tables_of left) start)
-  last_of = record {
-    is = ⊎_elim
-        (λ (full : any_below ((tables_of left).bit start) (class_capacity ((tables_of left).class start)) ≡ true). inr (ap not full, some_left full))
-        (λ (empty : any_below ((tables_of left).bit start) (class_capacity ((tables_of left).class start)) ≡ false). inl (ap not empty, none_left empty))
-        (cases_Bool (any_below ((tables_of left).bit start) (class_capacity ((tables_of left).class start))));
-  }
+  last_of =
+      let bits = any_below ((tables_of left).bit start) (class_capacity ((tables_of left).class start)) in
+      let holds = holds_none-normal (tables_of left) start none_old in
+      record {
+        is = ⊎_elim
+            (λ (full : bits ≡ true). inr (holds ∙ ap not full, some_left full))
+            (λ (empty : bits ≡ false). inl (holds ∙ ap not empty, none_left empty))
+            (cases_Bool bits);
+      }

@@ -1,5 +1,5 @@
 -- A slab comes or goes: what an arena keeps holds again.
-use Rattle.std.proofs.Common.{◌≡◌, ◌≢◌, ◌⊎◌, ◌↔◌, ◌==◌, nat_lt, ℕ, zero, suc, ◌+◌, ◌*◌, ◌<◌, ◌≤◌, Bool, true, false, true≢false, not, List, [], refl, sym, ap, subst, ◌∙◌, arith, inl, inr, ⊎_elim, Some, None, if◌then◌else◌}
+use Rattle.std.proofs.Common.{◌≡◌, ◌≢◌, ◌⊎◌, ◌↔◌, ◌==◌, ◌&&◌, ◌||◌, nat_lt, ℕ, zero, suc, ◌+◌, ◌*◌, ◌<◌, ◌≤◌, Bool, true, false, true≢false, not, List, [], refl, sym, ap, subst, ◌∙◌, arith, inl, inr, ⊎_elim, Some, None, if◌then◌else◌}
 use Rattle.std.proofs.lemmas.Bool.{cases_eq, cases_lt, eq-eqb, ne_eqb, lt-ltb, cond-true, cond-false, or_parts, or_cases, or_from, false_from_ne_true, true_from_ne_false}
 use Rattle.std.proofs.lemmas.Nat.{le-div}
 use Rattle.pmem_lines.specs.declared.event.Event.{Event}
@@ -38,7 +38,7 @@ use Rattle.arena_core.specs.Arena.{HasNormalSlabs, IsIndexOf, IsSlabsOf}
 use Rattle.arena_core.specs.Call.{IsReady}
 use Rattle.arena_core.specs.Carried.{IsTidied}
 use Rattle.arena_core.specs.Effect.{slabs_but}
-use Rattle.arena_core.specs.Events.{holds_none, empty_events}
+use Rattle.arena_core.specs.Events.{holds_none, is_done, tidy_events}
 use Rattle.arena_core.specs.Plan.{IsVacantRow}
 
 -- numbers that pass a test
@@ -253,6 +253,20 @@ exact_held words start number image slab kind below set =
       };
     }
 
+-- of a slab without index entries the bits alone say whether it holds a block
+pub holds_none-normal : (t : Tables) (start : ℕ) → t.entries start ≡ 0 → holds_none t start ≡ not (any_below (t.bit start) (class_capacity (t.class start)))
+holds_none-normal t start none =
+    let bits = any_below (t.bit start) (class_capacity (t.class start)) in
+    ap (λ n. not (bits || any_below (t.live start) n)) none ∙ ap not (or_nothing bits)
+  where
+    or_nothing : (b : Bool) → (b || false) ≡ b
+    or_nothing true = refl
+    or_nothing false = refl
+
+-- a normal slab has not taken its class
+pub is_done-normal : (t : Tables) (start : ℕ) → t.kind start ≡ 1 → is_done t start ≡ false
+is_done-normal t start normal = let other : (t.kind start == 3) ≡ false = ne_eqb (t.kind start) 3 (λ e. omega (arith, e, normal)) in ap (λ b. b && not (any_below (t.live start) (t.entries start))) other
+
 -- the blocks of a slab in the set
 
 -- each is available: no bit is set
@@ -262,10 +276,10 @@ clear_of words set start was slab whole i below =
     let block : IsBlock set start i = record { class = t.class start; slab = was.classes start ∙ cond-true (t.slab start) (Some (t.class start)) None slab; below = below } in
     false_from_ne_true (t.bit start i) (λ on. true≢false (sym (whole.each i block) ∙ was.blocks start i slab below ∙ ap not on))
 
-pub none_held : (words : List ℕ) (set : SlabSet) (start : ℕ) → IsSlabsOf set words → (tables_of words).slab start ≡ true → IsWhole set start → holds_none (tables_of words) start ≡ true
-none_held words set start was slab whole =
+pub none_held : (words : List ℕ) (set : SlabSet) (start : ℕ) → IsSlabsOf set words → (tables_of words).slab start ≡ true → (tables_of words).entries start ≡ 0 → IsWhole set start → holds_none (tables_of words) start ≡ true
+none_held words set start was slab none whole =
     let t = tables_of words in
-    ap not (any_below-none (t.bit start) (class_capacity (t.class start)) (clear_of words set start was slab whole))
+    holds_none-normal t start none ∙ ap not (any_below-none (t.bit start) (class_capacity (t.class start)) (clear_of words set start was slab whole))
 
 -- some is not: a bit is set
 pub some_held : (words : List ℕ) (set : SlabSet) (start : ℕ) → IsSlabsOf set words → (tables_of words).slab start ≡ true → ¬ (IsWhole set start) → any_below ((tables_of words).bit start) (class_capacity ((tables_of words).class start)) ≡ true
@@ -303,8 +317,9 @@ tidied_none s volatile start image ready log index normal was slab other =
     let some = some_held words volatile.slabs start was slab other in
     let held = any_below-some (t.bit start) (class_capacity (t.class start)) some in
     let exact = exact_held words start held.0 image slab (normal.each start slab) held.1 held.2 in
-    let none : holds_none t start ≡ false = ap not some in
-    let events : empty_events words start ≡ [] = cond-false (holds_none t start) (drop_events words start) [] none in
+    let few = (image.but.sound.slabs start slab).state.none (normal.each start slab) in
+    let none : holds_none t start ≡ false = holds_none-normal t start few.1 ∙ ap not some in
+    let events : tidy_events words start ≡ [] = cond-false (holds_none t start) _ _ none ∙ cond-false (is_done t start) _ [] (is_done-normal t start (normal.each start slab)) in
     record {
       appends = subst (λ (es : List Event). Appends s s es) (sym events) (Appends-state s s [] (sym (appended_none s)));
       kept = record { ready = ready; exact = exact; log = log; index = index };

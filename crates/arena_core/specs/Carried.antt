@@ -14,7 +14,7 @@ use Rattle.arena_core.specs.declared.volatile.Volatile.{Volatile}
 use Rattle.arena_core.specs.Arena.{HasNormalSlabs, IsSlabsOf, IsKept, IsArena}
 use Rattle.arena_core.specs.Call.{IsStepOfAny}
 use Rattle.arena_core.specs.Effect.{slabs_but, GivesRoot}
-use Rattle.arena_core.specs.Events.{holds_none, empty_events, call_events, turn_after}
+use Rattle.arena_core.specs.Events.{holds_none, tidy_events, call_events, turn_after}
 
 -- a root was given a block, or lost its own: the events, what is kept, and what a crash leaves
 pub record IsDone (old new : PmemState) (left : Volatile) (root : ℕ) (block : Option Range) (slab : ℕ → Option ℕ) (events : List Event) : Type 0 where
@@ -27,7 +27,7 @@ pub record IsDone (old new : PmemState) (left : Volatile) (root : ℕ) (block : 
 
 -- a slab was dropped, where it held no block: the image is exact
 pub record IsTidied (old new : PmemState) (left : Volatile) (start : ℕ) : Type 0 where
-  pub appends : Appends old new (empty_events (words_of old) start)
+  pub appends : Appends old new (tidy_events (words_of old) start)
   pub kept : IsKept new left
   pub normal : HasNormalSlabs (words_of new)
   pub slabs : IsSlabsOf left.slabs (words_of new)
@@ -35,13 +35,13 @@ pub record IsTidied (old new : PmemState) (left : Volatile) (start : ℕ) : Type
   pub heap : HaveSameHeap (words_of old) (words_of new)
   pub slab : (other : ℕ) → Heap.slabs (tables_of (words_of new)) other ≡ slabs_but (Heap.slabs (tables_of (words_of old))) start (holds_none (tables_of (words_of old)) start) other
   pub keeps : KeepsBlocks (words_of old) (words_of new)
-  pub crash : CrashOnly (words_of old) (empty_events (words_of old) start) (IsEitherHeap (words_of old) (words_of new))
+  pub crash : CrashOnly (words_of old) (tidy_events (words_of old) start) (IsEitherHeap (words_of old) (words_of new))
 
 -- a call was answered
-pub record IsCalled (old new : PmemState) (was left : Volatile) (root : ℕ) (call : Call) (reply : Reply) : Type 0 where
-  pub appends : Appends old new (call_events (words_of old) was.line root reply)
+pub record IsCalled (old new : PmemState) (was left : Volatile) (call : Call) (reply : Reply) : Type 0 where
+  pub appends : Appends old new (call_events (words_of old) was.line call reply)
   pub arena : IsArena new left
   pub turn_is : left.line ≡ turn_after was.line reply
   pub step : IsStepOfAny (words_of old) (words_of new) call reply
   pub keeps : KeepsBlocks (words_of old) (words_of new)
-  pub crash : CrashOnly (words_of old) (call_events (words_of old) was.line root reply) (IsEitherHeap (words_of old) (words_of new))
+  pub crash : CrashOnly (words_of old) (call_events (words_of old) was.line call reply) (IsEitherHeap (words_of old) (words_of new))

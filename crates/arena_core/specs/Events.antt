@@ -1,21 +1,27 @@
 -- The exact events of a call, as a function of the words at its begin.
-use Rattle.std.specs.Prelude.{nat_le, ℕ, ◌+◌, ◌-◌, ◌*◌, ◌/◌, ◌%◌, Bool, not, List, [], ◌∷◌, ◌++◌, if◌then◌else◌}
+use Rattle.std.specs.Prelude.{◌==◌, ◌&&◌, ◌||◌, nat_le, ℕ, ◌+◌, ◌-◌, ◌*◌, ◌/◌, ◌%◌, Bool, not, List, [], ◌∷◌, ◌++◌, if◌then◌else◌}
 use Rattle.pmem_lines.specs.Words.{put_word}
 use Rattle.pmem_lines.specs.declared.event.Event.{Event}
 use Rattle.pmem_lines.specs.declared.event.Event.TheVariants.{Store, Flush, Fence}
 use Rattle.pmem_lines.specs.Events.{reading}
 use Rattle.durable_steps.specs.Steps.{word_events}
+use Rattle.durable_steps.specs.Rows.{row_events}
 use Rattle.pool_layout.specs.declared.header.PoolHeader.{PoolHeader}
 use Rattle.pool_layout.specs.Places.{text_word, fields_word, directory_word, root_word}
 use Rattle.pool_layout.specs.Header.{header_text, header_word}
 use Rattle.size_classes.specs.Classes.{class_size, class_capacity}
+use Rattle.image_tables.specs.Forms.{morphed_kind}
 use Rattle.image_tables.specs.Tables.{Tables, tables_of}
+use Rattle.slab_header.specs.Morph.{morph_events, finish_old_events}
 use Rattle.book_log.specs.declared.entry.LogEntry.TheVariants.{Large, Tomb}
 use Rattle.log_steps.specs.Events.{first_zero, log_events}
 use Rattle.slab_steps.specs.Steps.{open_events, drop_events}
 use Rattle.attach_steps.specs.declared.block.SmallBlock.{SmallBlock}
-use Rattle.attach_steps.specs.Steps.{attach_events, detach_events}
-use Rattle.heap_check.specs.Heap.{slab_of, any_below}
+use Rattle.attach_steps.specs.Steps.{attach_events, detach_events, detach_old_events, move_events}
+use Rattle.heap_check.specs.Heap.{slab_of, any_below, is_old}
+use Rattle.heap_model.specs.Machine.{slab_block}
+use Rattle.heap_model.specs.declared.call.Call.{Call}
+use Rattle.heap_model.specs.declared.call.Call.TheVariants as calls
 use Rattle.heap_model.specs.declared.call.Reply.{Reply}
 use Rattle.heap_model.specs.declared.call.Reply.TheVariants as replies
 
@@ -60,23 +66,48 @@ first_block start = record { start = start; number = 0; at = 16384 * start + 204
 abbrev pub fresh_events : List ℕ → ℕ → ℕ → ℕ → ℕ → List Event
 fresh_events words line root start class = open_events words start class ++ attach_events (reading words (open_events words start class)) line root (first_block start)
 
--- A small block comes to a root: from a slab that is there, or from one that is opened for it.
+-- a slab takes the class, and a block of it comes to a root
+abbrev pub morphed_events : List ℕ → ℕ → ℕ → SmallBlock → ℕ → List Event
+morphed_events words line root block class =
+    let morph = morph_events (tables_of words) block.start class in morph ++ attach_events (reading words morph) line root block
+
+-- A small block comes to a root: from a slab that has its class, from one that takes it, or from one that is opened.
 abbrev pub small_events : List ℕ → ℕ → ℕ → ℕ → ℕ → List Event
 small_events words line root at size =
-    if in_slab (tables_of words) at then attach_events words line root (block_at (start_at (tables_of words) at) at size)
+    let t = tables_of words in
+    if in_slab t at then
+    (if t.class (start_at t at) == class_for size then attach_events words line root (block_at (start_at t at) at size)
+    else morphed_events words line root (block_at (start_at t at) at size) (class_for size))
     else fresh_events words line root (at / 16384) (class_for size)
 
--- the slab at a start holds no block of its class
+-- the slab at a start holds no block, of its class or old
 abbrev pub holds_none : Tables → ℕ → Bool
-holds_none t start = not (any_below (t.bit start) (class_capacity (t.class start)))
+holds_none t start = not (any_below (t.bit start) (class_capacity (t.class start)) || any_below (t.live start) (t.entries start))
 
--- a slab that holds no block any more is dropped
-abbrev pub empty_events : List ℕ → ℕ → List Event
-empty_events words start = if holds_none (tables_of words) start then drop_events words start else []
+-- it took its class, and no old block lives in it
+abbrev pub is_done : Tables → ℕ → Bool
+is_done t start = (t.kind start == morphed_kind) && not (any_below (t.live start) (t.entries start))
 
--- A small block goes from a root, and its slab with it, where it was the last one there.
+-- behind a block that went, a slab that holds none is dropped, and one whose last old block it was is normal again
+abbrev pub tidy_events : List ℕ → ℕ → List Event
+tidy_events words start =
+    let t = tables_of words in
+    if holds_none t start then drop_events words start else (if is_done t start then finish_old_events start (t.class start) else [])
+
+-- a block of its slab's class goes from a root
 abbrev pub unsmall_events : List ℕ → ℕ → ℕ → SmallBlock → List Event
-unsmall_events words line root block = detach_events words line root block ++ empty_events (reading words (detach_events words line root block)) block.start
+unsmall_events words line root block = detach_events words line root block ++ tidy_events (reading words (detach_events words line root block)) block.start
+
+-- the place of the live old block at an address in its slab's index table
+abbrev pub old_place : Tables → ℕ → ℕ → ℕ
+old_place t start at = first_zero (λ place. if t.live start place && ((slab_block start (t.old start) (t.number start place)).at == at) then 0 else 1) (t.entries start)
+
+-- an old block goes from a root
+abbrev pub unold_events : List ℕ → ℕ → ℕ → ℕ → ℕ → List Event
+unold_events words line root at start =
+    let t = tables_of words in
+    let detach = detach_old_events t line root at start (old_place t start at) in
+    detach ++ tidy_events (reading words detach) start
 
 -- calls
 
@@ -87,37 +118,30 @@ placed_events words line root at size = if is_small size then small_events words
 -- it goes from the root
 abbrev pub freed_events : List ℕ → ℕ → ℕ → ℕ → ℕ → List Event
 freed_events words line root at size =
-    if is_small size then unsmall_events words line root (block_at (start_at (tables_of words) at) at size) else take_events words root (at / 16384)
+    let t = tables_of words in
+    if is_small size then
+    (if is_old t (start_at t at) at then unold_events words line root at (start_at t at) else unsmall_events words line root (block_at (start_at t at) at size))
+    else take_events words root (at / 16384)
 
--- the events of a call with this reply about a root, of which the entry goes to a write-ahead line: a refusal has none
-abbrev pub call_events : List ℕ → ℕ → ℕ → Reply → List Event
-call_events words line root (replies.Placed at size) = placed_events words line root at size
-call_events words line root (replies.Freed at size) = freed_events words line root at size
-call_events words line root replies.Wrote = []
-call_events words line root (replies.Value word) = []
-call_events words line root (replies.Moved at size) = []
-call_events words line root replies.NoRoot = []
-call_events words line root (replies.Occupied at) = []
-call_events words line root replies.Empty = []
-call_events words line root replies.ZeroSize = []
-call_events words line root replies.TooLarge = []
-call_events words line root replies.OutOfRange = []
-call_events words line root replies.NoSpace = []
+-- words are written into a root's block from an index on: a row of events, and none where there are no words
+abbrev pub write_events : Tables → ℕ → ℕ → List ℕ → List Event
+write_events t root index [] = []
+write_events t root index (word ∷ words) = row_events (t.root root + 8 * index) (word ∷ words)
+
+-- The events of a call with this reply, of which the entry goes to a write-ahead line. A refusal and a read have none.
+abbrev pub call_events : List ℕ → ℕ → Call → Reply → List Event
+call_events words line (calls.Malloc root size) (replies.Placed at given) = placed_events words line root at given
+call_events words line (calls.Free root) (replies.Freed at size) = freed_events words line root at size
+call_events words line (calls.Write root index word) replies.Wrote = write_events (tables_of words) root index (word ∷ [])
+call_events words line (calls.Move from to) (replies.Moved at size) = move_events line from to at
+call_events words line call reply = []
 
 -- the line of the next entry, behind a call with this reply: small blocks and moves take the eight lines in turn
 abbrev pub turn_after : ℕ → Reply → ℕ
 turn_after turn (replies.Placed at size) = if is_small size then (turn + 1) % 8 else turn
 turn_after turn (replies.Freed at size) = if is_small size then (turn + 1) % 8 else turn
-turn_after turn replies.Wrote = turn
-turn_after turn (replies.Value word) = turn
 turn_after turn (replies.Moved at size) = (turn + 1) % 8
-turn_after turn replies.NoRoot = turn
-turn_after turn (replies.Occupied at) = turn
-turn_after turn replies.Empty = turn
-turn_after turn replies.ZeroSize = turn
-turn_after turn replies.TooLarge = turn
-turn_after turn replies.OutOfRange = turn
-turn_after turn replies.NoSpace = turn
+turn_after turn reply = turn
 
 -- An arena is formatted: all of it stands in the header line, and its text comes last, so that no crash leaves a header
 -- that is good and incomplete. The directory has chunk 0.

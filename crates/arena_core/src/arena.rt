@@ -109,7 +109,7 @@ impl<P: Pmem> Arena<P> {
     pub fn malloc_to(&mut self, seat: u32, root: u32, size: u64) -> Result<Placed, MallocRefusal>
         requires { seat < 64 }
         ensures step { IsStepOf seat (words_of self.old.device) (words_of self.new.device) (calls.Malloc root size) (malloc_reply result) }
-        ensures device { self.new.device ≡ appended (began self.old.device) (call_events (words_of self.old.device) self.old.turn root (malloc_reply result)) }
+        ensures device { self.new.device ≡ appended (began self.old.device) (call_events (words_of self.old.device) self.old.turn (calls.Malloc root size) (malloc_reply result)) }
         ensures turn { self.new.turn ≡ turn_after self.old.turn (malloc_reply result) }
         ensures keeps { KeepsBlocks (words_of self.old.device) (words_of self.new.device) }
         ensures was_exact { IsExactImage (words_of self.old.device) }
@@ -136,7 +136,7 @@ impl<P: Pmem> Arena<P> {
     pub fn free_from(&mut self, seat: u32, root: u32) -> Result<Freed, FreeRefusal>
         requires { seat < 64 }
         ensures step { IsStepOf seat (words_of self.old.device) (words_of self.new.device) (calls.Free root) (free_reply result) }
-        ensures device { self.new.device ≡ appended (began self.old.device) (call_events (words_of self.old.device) self.old.turn root (free_reply result)) }
+        ensures device { self.new.device ≡ appended (began self.old.device) (call_events (words_of self.old.device) self.old.turn (calls.Free root) (free_reply result)) }
         ensures turn { self.new.turn ≡ turn_after self.old.turn (free_reply result) }
         ensures keeps { KeepsBlocks (words_of self.old.device) (words_of self.new.device) }
         ensures was_exact { IsExactImage (words_of self.old.device) }

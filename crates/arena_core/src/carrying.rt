@@ -42,7 +42,7 @@ impl Volatile {
         requires arena { IsArena (P.state device.old) self.old }
         requires fresh { (P.state device.old).events ≡ [] }
         requires plan { (size : ℕ) × IsMallocPlan (bounds_of (words_of (P.state device.old))) (tables_of (words_of (P.state device.old))) root size plan }
-        ensures { (size : ℕ) → IsMallocPlan (bounds_of (words_of (P.state device.old))) (tables_of (words_of (P.state device.old))) root size plan → IsCalled (P.state device.old) (P.state device.new) self.old self.new root (calls.Malloc root size) (malloc_reply result) }
+        ensures { (size : ℕ) → IsMallocPlan (bounds_of (words_of (P.state device.old))) (tables_of (words_of (P.state device.old))) root size plan → IsCalled (P.state device.old) (P.state device.new) self.old self.new (calls.Malloc root size) (malloc_reply result) }
     {
         match plan {
             Ok(place) => Ok(self.carry_out_place(device, root, place)),
@@ -60,7 +60,7 @@ impl Volatile {
         requires arena { IsArena (P.state device.old) self.old }
         requires fresh { (P.state device.old).events ≡ [] }
         requires plan { (size : ℕ) × IsMallocPlan (bounds_of (words_of (P.state device.old))) (tables_of (words_of (P.state device.old))) root size (Ok place) }
-        ensures { (size : ℕ) → IsMallocPlan (bounds_of (words_of (P.state device.old))) (tables_of (words_of (P.state device.old))) root size (Ok place) → IsCalled (P.state device.old) (P.state device.new) self.old self.new root (calls.Malloc root size) (replies.Placed result.at result.size) }
+        ensures { (size : ℕ) → IsMallocPlan (bounds_of (words_of (P.state device.old))) (tables_of (words_of (P.state device.old))) root size (Ok place) → IsCalled (P.state device.old) (P.state device.new) self.old self.new (calls.Malloc root size) (replies.Placed result.at result.size) }
     {
         match place {
             Place::Large { start, granules } => self.give_large(device, root, start, granules),
@@ -86,7 +86,7 @@ impl Volatile {
         requires arena { IsArena (P.state device.old) self.old }
         requires fresh { (P.state device.old).events ≡ [] }
         requires plan { IsFreePlan (bounds_of (words_of (P.state device.old))) (tables_of (words_of (P.state device.old))) root plan }
-        ensures { IsCalled (P.state device.old) (P.state device.new) self.old self.new root (calls.Free root) (free_reply result) }
+        ensures { IsCalled (P.state device.old) (P.state device.new) self.old self.new (calls.Free root) (free_reply result) }
     {
         match plan {
             Ok(held) => Ok(self.carry_out_held(device, root, held)),
@@ -104,7 +104,7 @@ impl Volatile {
         requires arena { IsArena (P.state device.old) self.old }
         requires fresh { (P.state device.old).events ≡ [] }
         requires plan { IsHeldBy (bounds_of (words_of (P.state device.old))) (tables_of (words_of (P.state device.old))) root held }
-        ensures { IsCalled (P.state device.old) (P.state device.new) self.old self.new root (calls.Free root) (replies.Freed result.at result.size) }
+        ensures { IsCalled (P.state device.old) (P.state device.new) self.old self.new (calls.Free root) (replies.Freed result.at result.size) }
     {
         match held {
             Held::Large { start, granules } => self.take_large(device, root, start, granules),

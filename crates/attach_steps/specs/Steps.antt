@@ -5,11 +5,12 @@ use Rattle.pmem_lines.specs.declared.event.Event.{Event}
 use Rattle.durable_steps.specs.Steps.{word_events, pair_events}
 use Rattle.size_classes.specs.Classes.{class_capacity}
 use Rattle.pool_layout.specs.Places.{root_word, wal_word}
-use Rattle.image_tables.specs.Tables.{bitmap_word, tables_of}
+use Rattle.image_tables.specs.Tables.{Tables, bitmap_word, index_word, tables_of}
 use Rattle.image_tables.specs.Updates.{with_small}
+use Rattle.slab_header.specs.Index.{word_of_index}
 use Rattle.slab_header.specs.Steps.{with_bit}
 use Rattle.image_tables.specs.declared.entry.WalEntry.{WalEntry}
-use Rattle.image_tables.specs.declared.entry.WalEntry.TheVariants.{Place}
+use Rattle.image_tables.specs.declared.entry.WalEntry.TheVariants.{Place, Move}
 use Rattle.attach_wal.specs.Entry.{entry_word}
 use Rattle.heap_model.specs.Machine.{Range, slab_block}
 use Rattle.heap_check.specs.Heap.{heap}
@@ -50,6 +51,24 @@ attach_events words line root block = under_entry line root block (mark_events w
 -- it goes from the root
 abbrev pub detach_events : List ℕ → ℕ → ℕ → SmallBlock → List Event
 detach_events words line root block = under_entry line root block (unmark_events words root block)
+
+-- old blocks, and moves: no call makes these entries yet
+
+-- the entry of a root's old block, which has this place in its slab's index table
+abbrev pub old_entry_for : ℕ → ℕ → ℕ → WalEntry
+old_entry_for root at place = Place root at true place
+
+-- an old block goes from its root: under an entry, the root's word becomes 0 and then the index entry is dead
+abbrev pub detach_old_events : Tables → ℕ → ℕ → ℕ → ℕ → ℕ → List Event
+detach_old_events t line root at start place =
+    word_events (8 * wal_word line) (entry_word (old_entry_for root at place))
+    ++ pair_events (8 * root_word root) 0 (8 * index_word start place) (word_of_index (record { live = false; number = t.number start place }))
+    ++ word_events (8 * wal_word line) 0
+
+-- A block moves from a root to another: under an entry, the one has its address before the other has it no more.
+abbrev pub move_events : ℕ → ℕ → ℕ → ℕ → List Event
+move_events line from to at =
+    word_events (8 * wal_word line) (entry_word (Move from to)) ++ word_events (8 * root_word to) at ++ word_events (8 * root_word from) 0 ++ word_events (8 * wal_word line) 0
 
 -- when a block may come or go
 

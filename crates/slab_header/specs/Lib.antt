@@ -1,3 +1,4 @@
 pub mod State
 pub mod Index
 pub mod Steps
+pub mod Morph

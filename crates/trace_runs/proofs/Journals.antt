@@ -79,8 +79,8 @@ behind_call : (granules : ℕ) (old new : ArenaState) (calls : List TraceCall) (
     HasAnsweredAll granules old calls journal machine → HasAnswered entry.seat old new entry.call entry.reply → IsBehindCall granules new.device (journal ++ entry ∷ [])
 behind_call granules old new calls journal machine entry all answered =
     let base : words_of old.device ≡ new.device.base = sym (ap (λ (s : PmemState). s.base) answered.device) in
-    let events : new.device.events ≡ call_events (words_of old.device) (turn_of journal) (root_of entry.call) entry.reply =
-    ap (λ (s : PmemState). s.events) answered.device ∙ ap (λ turn. call_events (words_of old.device) turn (root_of entry.call) entry.reply) all.turn in
+    let events : new.device.events ≡ call_events (words_of old.device) (turn_of journal) entry.call entry.reply =
+    ap (λ (s : PmemState). s.events) answered.device ∙ ap (λ turn. call_events (words_of old.device) turn entry.call entry.reply) all.turn in
     record {
       before = journal;
       entry = entry;
@@ -89,7 +89,7 @@ behind_call granules old new calls journal machine entry all answered =
       leads = all.leads;
       exact = subst IsExactImage base answered.exact;
       state = subst (λ (words : List ℕ). HasState words machine) base all.state;
-      events = subst (λ (words : List ℕ). new.device.events ≡ call_events words (turn_of journal) (root_of entry.call) entry.reply) base events;
+      events = subst (λ (words : List ℕ). new.device.events ≡ call_events words (turn_of journal) entry.call entry.reply) base events;
     }
 
 -- one call more

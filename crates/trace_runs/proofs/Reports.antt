@@ -1,5 +1,5 @@
 -- The report of a crash within the call that a device went through last.
-use Rattle.std.proofs.Common.{◌≡◌, ◌≢◌, ◌↔◌, ℕ, zero, suc, ◌<◌, ◌≤◌, Bool, IsTrue, List, [], ◌∷◌, ◌++◌, take, Option, sym, ap, ◌∙◌, refl, arith, subst}
+use Rattle.std.proofs.Common.{◌≡◌, ◌≢◌, ◌↔◌, ℕ, zero, suc, ◌<◌, ◌≤◌, Bool, IsTrue, List, [], ◌∷◌, ◌++◌, length, take, Option, sym, ap, ◌∙◌, refl, arith, subst}
 use Rattle.pmem_lines.specs.Words.{word_at}
 use Rattle.pmem_lines.specs.Events.{IsImage}
 use Rattle.pmem_lines.specs.Pmem.{PmemState, words_of}
@@ -17,10 +17,17 @@ use Rattle.trace_text.specs.declared.call.TraceCall.{TraceCall}
 use Rattle.trace_text.specs.Report.{crash_text}
 use Rattle.heap_check.specs.State.{HasState, IsEitherHeap}
 use Rattle.arena_core.specs.Arena.{ArenaState}
+use Rattle.pmem_lines.specs.declared.event.Event.{Event}
+use Rattle.heap_model.specs.declared.call.Call.{Call}
+use Rattle.heap_model.specs.declared.call.Call.TheVariants.{Malloc, Free, Write, Read, Move}
+use Rattle.heap_model.specs.declared.call.Reply.{Reply}
+use Rattle.heap_model.specs.declared.call.Reply.TheVariants.{Placed, Freed}
+use Rattle.arena_core.specs.Events.{call_events}
+use Rattle.trace_text.specs.Grammar.{IsAsked}
 use Rattle.trace_runs.specs.Replay.{blocks_of, formatted}
 use Rattle.trace_runs.specs.Calls.{IsNewArena}
 use Rattle.trace_runs.specs.Crash.{Stage, IsRunOf, calls_up_to, CrashLeft, IsCrashReport, IsSide, crash_image}
-use Rattle.trace_runs.specs.Blocks.{IsChangeBy, IsHeapBut, side_of}
+use Rattle.trace_runs.specs.Blocks.{ChangesHeap, IsChangeBy, IsHeapBut, side_of}
 use Rattle.trace_runs.specs.Seek.{last_stage, IsBehindEntry, IsBehindSought, IsBehindAll, IsReportWithin, IsLeftBy}
 use Rattle.trace_runs.proofs.Listing.{blocks_of-none}
 use Rattle.trace_runs.proofs.Changes.{IsChange, IsChange-step, IsToldBy, IsToldBy-heap, heap-some, heap-zero, zero_or}
@@ -29,6 +36,21 @@ use Rattle.trace_runs.proofs.Changes.{IsChange, IsChange-step, IsToldBy, IsToldB
 pub record IsChanged (device : PmemState) (image : List ℕ) (block : Block) (given : Bool) : Type 0 where
   pub change : IsChange device.base (words_of device) block given
   pub either : IsEitherHeap device.base (words_of device) image
+
+-- of the calls that a trace may ask for, those that have events change the heap
+changes_by : (words : List ℕ) (turn : ℕ) (call : Call) (reply : Reply) (events : List Event) → IsAsked call → 0 < length events → events ≡ call_events words turn call reply → ChangesHeap reply
+changes_by words turn (Malloc root size) (Placed at given) events asked some is = tt
+changes_by words turn (Malloc root size) (Freed at given) events asked some is = tt
+changes_by words turn (Malloc root size) reply events asked some is = absurd (omega (arith, some, ap length is))
+changes_by words turn (Free root) (Placed at given) events asked some is = tt
+changes_by words turn (Free root) (Freed at given) events asked some is = tt
+changes_by words turn (Free root) reply events asked some is = absurd (omega (arith, some, ap length is))
+changes_by words turn (Write root index word) reply events asked some is = absurd asked
+changes_by words turn (Read root index) reply events asked some is = absurd asked
+changes_by words turn (Move from to) reply events asked some is = absurd asked
+
+pub changes_behind : (device : PmemState) (entry : Entry) → IsBehindEntry device entry → ChangesHeap entry.reply
+changes_behind device entry behind = changes_by device.base behind.turn entry.call entry.reply device.events behind.asked behind.some behind.events
 
 pub IsChanged-behind : (device : PmemState) (entry : Entry) (done : ℕ) (image : List ℕ) (block : Block) (given : Bool) → IsBehindEntry device entry →
     IsImage device.base (take done device.events) image → IsChangeBy (root_of entry.call) entry.reply block given → IsChanged device image block given

@@ -93,12 +93,13 @@ IsBehindSought-here granules calls event old new i left events d reply seeking h
 pub IsBehindEntry-answered : (old new : ArenaState) (entry : Entry) → HasAnswered entry.seat old new entry.call entry.reply → 0 < length new.device.events → IsBehindEntry new.device entry
 IsBehindEntry-answered old new entry answered some =
     let base : words_of old.device ≡ new.device.base = sym (ap (λ (s : PmemState). s.base) answered.device) in
-    let events : new.device.events ≡ call_events (words_of old.device) old.turn (root_of entry.call) entry.reply = ap (λ (s : PmemState). s.events) answered.device in
+    let events : new.device.events ≡ call_events (words_of old.device) old.turn entry.call entry.reply = ap (λ (s : PmemState). s.events) answered.device in
     record {
+      asked = answered.asked;
       exact = subst IsExactImage base answered.exact;
       step = subst (λ (words : List ℕ). IsStepOf entry.seat words (words_of new.device) entry.call entry.reply) base answered.step;
       turn = old.turn;
-      events = subst (λ (words : List ℕ). new.device.events ≡ call_events words old.turn (root_of entry.call) entry.reply) base events;
+      events = subst (λ (words : List ℕ). new.device.events ≡ call_events words old.turn entry.call entry.reply) base events;
       some = some;
       crash = subst (λ (words : List ℕ). CrashOnly new.device.base new.device.events (IsEitherHeap words (words_of new.device))) base answered.crash;
     }

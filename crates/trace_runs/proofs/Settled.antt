@@ -58,7 +58,7 @@ unfolding entry_of
 stage_once b words turn m next last later after call stage other valid one two =
     let same = law_of_one_journal plain b (bare m) (bare next) (bare last) (entry_of call one.reply ∷ []) (entry_of call two.reply ∷ []) (refl, refl, is_of_block call.call valid.asked, tt) (bare next, one.step, refl) (bare last, two.step, refl) in
     let replies : one.reply ≡ two.reply = ap (λ (entries : List Entry). reply_of one.reply entries) same.0 in
-    let events : stage.events ≡ other.events = one.events ∙ ap (λ reply. call_events words turn (root_of call.call) reply) replies ∙ sym two.events in
+    let events : stage.events ≡ other.events = one.events ∙ ap (λ reply. call_events words turn call.call reply) replies ∙ sym two.events in
     let begins : stage.words ≡ other.words = one.begins ∙ sym two.begins in
     (λ i. record { words = begins i; events = events i }, one.later_is ∙ ap (turn_after turn) replies ∙ sym two.later_is, ap (λ (s : PlacedState). s.machine) same.1)
   where

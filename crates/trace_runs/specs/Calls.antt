@@ -14,6 +14,7 @@ use Rattle.arena_core.specs.Arena.{ArenaState}
 use Rattle.arena_core.specs.Call.{IsStepOf}
 use Rattle.arena_core.specs.Events.{format_events, call_events, turn_after}
 use Rattle.trace_text.specs.declared.call.TraceCall.{TraceCall}
+use Rattle.trace_text.specs.Grammar.{IsAsked}
 use Rattle.trace_text.specs.Report.{entry_line}
 use Rattle.trace_runs.specs.Replay.{header_for, bounds_for, formatted, IsJournal, AreAnswers, turn_of, IsBehindFormat, IsBehindCall, HasRun, IsReport}
 
@@ -27,11 +28,12 @@ pub record IsNewArena (granules : ℕ) (arena : ArenaState) : Type 0 where
   pub begins : arena.device.begins ≡ 1
   pub turn : arena.turn ≡ 0
 
--- From an exact image the arena answered a call of a seat: a step of the machine, with exactly the events of the reply. A crash
--- within it leaves the heap before it or after it.
+-- From an exact image the arena answered a call of a seat, one that a trace may ask for: a step of the machine, with
+-- exactly the events of the call. A crash within it leaves the heap before it or after it.
 pub record HasAnswered (seat : ℕ) (old new : ArenaState) (call : Call) (reply : Reply) : Type 0 where
+  pub asked : IsAsked call
   pub step : IsStepOf seat (words_of old.device) (words_of new.device) call reply
-  pub device : new.device ≡ appended (began old.device) (call_events (words_of old.device) old.turn (root_of call) reply)
+  pub device : new.device ≡ appended (began old.device) (call_events (words_of old.device) old.turn call reply)
   pub turn : new.turn ≡ turn_after old.turn reply
   pub exact : IsExactImage (words_of old.device)
   pub crash : CrashOnly new.device.base new.device.events (IsEitherHeap (words_of old.device) (words_of new.device))

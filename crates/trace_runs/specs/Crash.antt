@@ -38,7 +38,7 @@ words_after stage = reading stage.words stage.events
 pub record IsStage (b : Bounds) (words : List ℕ) (turn : ℕ) (m : Machine) (call : TraceCall) (stage : Stage) (later : ℕ) (next : Machine) : Type 0 where
   pub reply : Reply
   pub begins : stage.words ≡ words
-  pub events : stage.events ≡ call_events words turn (root_of call.call) reply
+  pub events : stage.events ≡ call_events words turn call.call reply
   pub later_is : later ≡ turn_after turn reply
   pub step : IsPlacedStep plain b call.thread (bare m) call.call reply (bare next)
   pub state : HasState (words_after stage) next

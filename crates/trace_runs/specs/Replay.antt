@@ -81,7 +81,7 @@ pub record IsBehindCall (granules : ℕ) (device : PmemState) (journal : List En
   pub leads : IsJournal granules before machine
   pub exact : IsExactImage device.base
   pub state : HasState device.base machine
-  pub events : device.events ≡ call_events device.base (turn_of before) (root_of entry.call) entry.reply
+  pub events : device.events ≡ call_events device.base (turn_of before) entry.call entry.reply
 
 -- a device went through the journal, which leads to this state: it is quiet and exact with that state, each call began
 -- once, formatting among them, and its base and events are those of the last call

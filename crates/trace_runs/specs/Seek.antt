@@ -17,18 +17,20 @@ use Rattle.trace_text.specs.Report.{crash_text}
 use Rattle.trace_runs.specs.declared.crashing.Sought.{Sought}
 use Rattle.trace_runs.specs.declared.crashing.Sought.TheVariants.{UnderWay, Past}
 use Rattle.trace_runs.specs.Replay.{blocks_of, formatted}
+use Rattle.trace_text.specs.Grammar.{IsAsked}
 use Rattle.trace_runs.specs.Crash.{Stage, IsRunOf, CrashLeft, IsLeft, IsLeftWithin, IsLeftIdle, IsSide, words_after, crash_image, total_events}
 
 -- the call that a device went through last
 abbrev pub last_stage : PmemState → Stage
 last_stage device = record { words = device.base; events = device.events }
 
--- the device went through the call of this entry last, and that call has events
+-- the device went through the call of this entry last, one that a trace may ask for, and that call has events
 pub record IsBehindEntry (device : PmemState) (entry : Entry) : Type 0 where
+  pub asked : IsAsked entry.call
   pub exact : IsExactImage device.base
   pub step : IsStepOf entry.seat device.base (words_of device) entry.call entry.reply
   pub turn : ℕ
-  pub events : device.events ≡ call_events device.base turn (root_of entry.call) entry.reply
+  pub events : device.events ≡ call_events device.base turn entry.call entry.reply
   pub some : 0 < length device.events
   pub crash : CrashOnly device.base device.events (IsEitherHeap device.base (words_of device))
 

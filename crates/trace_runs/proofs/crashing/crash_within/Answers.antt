@@ -1,8 +1,11 @@
 use Rattle.std.proofs.Common.{◌<◌, length, subst, sym, List, ℕ}
 use Rattle.pool_layout.specs.Places.{root_word}
 use Rattle.trace_runs.proofs.Changes.{root-fits, root-inside}
-use Rattle.trace_runs.proofs.Reports.{IsChanged-behind, IsLeftBy-changed}
+use Rattle.trace_runs.proofs.Reports.{changes_behind, IsChanged-behind, IsLeftBy-changed}
 use Rattle.trace_runs.proofs.crashing.crash_within.Goals as goal
+
+pub change_of-change-requires : goal.change_of-change-requires
+change_of-change-requires c = changes_behind c.args.arena.now.device c.args.entry.now c.requires.behind
 
 pub has_block-has-requires-clause-root : goal.has_block-has-requires-clause-root
 has_block-has-requires-clause-root c =

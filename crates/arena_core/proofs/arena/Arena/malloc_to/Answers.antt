@@ -14,10 +14,10 @@ carry_out_malloc-requires-clause-plan g c = (c.args.size, subst (λ (s : PmemSta
 
 -- the arena answered the call
 answered : (g : given.Over) (c : goal.After-carry_out_malloc g) →
-    let state = g.P.Pmem.state in IsAnswered c.args.self.now (meant (state c.carry_out_malloc.new.device) c.carry_out_malloc.new.self) c.carry_out_malloc.new.self c.args.root (calls.Malloc c.args.root c.args.size) (malloc_reply c.carry_out_malloc.result)
+    let state = g.P.Pmem.state in IsAnswered c.args.self.now (meant (state c.carry_out_malloc.new.device) c.carry_out_malloc.new.self) c.carry_out_malloc.new.self (calls.Malloc c.args.root c.args.size) (malloc_reply c.carry_out_malloc.result)
 answered g c =
     let state = g.P.Pmem.state in
-    answered_by (state c.self.inside.device) (state c.begin.new.self) (state c.carry_out_malloc.new.device) c.self.inside.volatile c.carry_out_malloc.new.self c.args.self.now c.args.root (calls.Malloc c.args.root c.args.size) (malloc_reply c.carry_out_malloc.result)
+    answered_by (state c.self.inside.device) (state c.begin.new.self) (state c.carry_out_malloc.new.device) c.self.inside.volatile c.carry_out_malloc.new.self c.args.self.now (calls.Malloc c.args.root c.args.size) (malloc_reply c.carry_out_malloc.result)
     c.self.view_is c.begin.ensures.state (c.carry_out_malloc.ensures c.args.size (subst (λ (s : PmemState). IsMallocPlan (bounds_of (words_of s)) (tables_of (words_of s)) c.args.root c.args.size c.plan_malloc-plan.result) (sym c.begin.ensures.state) c.plan_malloc-plan.ensures))
 
 pub invariant_of-self : goal.invariant_of-self

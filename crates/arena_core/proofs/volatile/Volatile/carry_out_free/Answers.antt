@@ -23,8 +23,8 @@ returns-in-Err g c =
     let root = c.args.root in
     let turn = c.args.self.now.line in
     let refused = subst (IsFreePlan (bounds_of words) (tables_of words) root) c.in-Err.is c.requires.plan in
-    let stays : (refusal : FreeRefusal) → (call_events words turn root (free_reply (Err refusal)) ≡ []) × (turn_after turn (free_reply (Err refusal)) ≡ turn) =
-    λ refusal. elim refusal as (λ refusal. (call_events words turn root (free_reply (Err refusal)) ≡ []) × (turn_after turn (free_reply (Err refusal)) ≡ turn)) [
+    let stays : (refusal : FreeRefusal) → (call_events words turn (calls.Free root) (free_reply (Err refusal)) ≡ []) × (turn_after turn (free_reply (Err refusal)) ≡ turn) =
+    λ refusal. elim refusal as (λ refusal. (call_events words turn (calls.Free root) (free_reply (Err refusal)) ≡ []) × (turn_after turn (free_reply (Err refusal)) ≡ turn)) [
       | refusals.NoRoot ↦ (refl, refl)
       | refusals.Empty ↦ (refl, refl)
     ] in

@@ -23,8 +23,8 @@ returns-in-Err g c size plan =
     let root = c.args.root in
     let turn = c.args.self.now.line in
     let refused = subst (IsMallocPlan (bounds_of words) (tables_of words) root size) c.in-Err.is plan in
-    let stays : (refusal : MallocRefusal) → (call_events words turn root (malloc_reply (Err refusal)) ≡ []) × (turn_after turn (malloc_reply (Err refusal)) ≡ turn) =
-    λ refusal. elim refusal as (λ refusal. (call_events words turn root (malloc_reply (Err refusal)) ≡ []) × (turn_after turn (malloc_reply (Err refusal)) ≡ turn)) [
+    let stays : (refusal : MallocRefusal) → (call_events words turn (calls.Malloc root size) (malloc_reply (Err refusal)) ≡ []) × (turn_after turn (malloc_reply (Err refusal)) ≡ turn) =
+    λ refusal. elim refusal as (λ refusal. (call_events words turn (calls.Malloc root size) (malloc_reply (Err refusal)) ≡ []) × (turn_after turn (malloc_reply (Err refusal)) ≡ turn)) [
       | refusals.NoRoot ↦ (refl, refl)
       | refusals.Occupied at ↦ (refl, refl)
       | refusals.ZeroSize ↦ (refl, refl)

@@ -54,7 +54,7 @@ returns g c size plan =
           IsCalled-same (ap state w.device-is) w.self-is
           (λ i. replies.Placed ((c.placed_at.ensures.0 ∙ ap (λ (p : Place). (range_at p).at) w.place-is) i) ((c.placed_at.ensures.1 ∙ ap (λ (p : Place). (range_at p).size) w.place-is) i))
           (IsCalled-done (calls.Malloc root size) (replies.Placed range.at range.size) done
-          (placed_there words turn root block class is_class placing.place_for.at (start_is exact.exact.sound block.start class block.number placing.place_for.slab is_class placing.place_for.below) placing.place_for.slab)
+          (placed_there words turn root block class is_class placing.place_for.at (start_is exact.exact.sound block.start class block.number placing.place_for.slab is_class placing.place_for.below) placing.place_for.slab placing.place_for.class_is)
           refl (ap (λ (v : Volatile). (v.line + 1) % 8) given.rest ∙ sym (turn_small turn range.at class is_class).0) (omega arith) step)
       | in-Fresh w ↦
           let start = w.in-Fresh.start in

@@ -8,7 +8,7 @@ use Rattle.heap_check.specs.Heap.{slabs}
 use Rattle.heap_check.specs.State.{IsEitherHeap}
 use Rattle.slab_steps.specs.Steps.{drop_events}
 use Rattle.arena_core.specs.Effect.{slabs_but}
-use Rattle.arena_core.specs.Events.{holds_none, empty_events}
+use Rattle.arena_core.specs.Events.{holds_none, tidy_events}
 use Rattle.arena_core.proofs.Slabbed.{none_held, held_row, classes_dropped, normal_dropped, index_dropped, slabs_dropped, keeps_dropped, tidied_none}
 use Rattle.arena_core.proofs.volatile.Volatile.drop_if_empty.Goals as goal
 
@@ -26,8 +26,9 @@ returns-then-is_whole-clause-tidied g c =
     let image = c.requires.image in
     let drop = c.drop_slab.ensures in
     let dropped = drop.dropped in
-    let none = none_held words c.args.self.now.slabs start c.requires.slabs c.requires.slab (c.is_whole.ensures.0 c.if-is_whole.true) in
-    let events : empty_events words start ≡ drop_events words start = cond-true (holds_none (tables_of words) start) (drop_events words start) [] none in
+    let few = (image.but.sound.slabs start c.requires.slab).state.none (c.requires.normal.each start c.requires.slab) in
+    let none = none_held words c.args.self.now.slabs start c.requires.slabs c.requires.slab few.1 (c.is_whole.ensures.0 c.if-is_whole.true) in
+    let events : tidy_events words start ≡ drop_events words start = cond-true (holds_none (tables_of words) start) (drop_events words start) _ none in
     record {
       appends = subst (λ (es : List Event). Appends old left es) (sym events) drop.appends;
       kept = record {

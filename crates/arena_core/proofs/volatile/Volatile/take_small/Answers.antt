@@ -12,7 +12,7 @@ use Rattle.arena_core.specs.declared.volatile.Volatile.{Volatile}
 use Rattle.arena_core.specs.Arena.{IsIndexOf}
 use Rattle.arena_core.specs.Effect.{slabs_but, IsLastOf}
 use Rattle.arena_core.proofs.Last.{last_of}
-use Rattle.arena_core.specs.Events.{holds_none, empty_events, unsmall_events}
+use Rattle.arena_core.specs.Events.{holds_none, tidy_events, unsmall_events}
 use Rattle.arena_core.proofs.Smalls.{classes_small, index_small, book_small, keeps_small, named_in, keeps_both, crash_then}
 use Rattle.arena_core.proofs.volatile.Volatile.take_small.Goals as goal
 
@@ -49,8 +49,8 @@ returns-clause-done g c =
     let tidied = c.drop_if_empty.ensures.tidied in
     let block_in = named_in words root block c.args.class arena.kept.exact arena.normal c.requires.named in
     let mid_is : mid ≡ reading words (detach_events words c.args.self.now.line root block) = take.appends.words in
-    let events : (detach_events words c.args.self.now.line root block ++ empty_events mid start) ≡ unsmall_events words c.args.self.now.line root block =
-    λ i. detach_events words c.args.self.now.line root block ++ empty_events (mid_is i) start in
+    let events : (detach_events words c.args.self.now.line root block ++ tidy_events mid start) ≡ unsmall_events words c.args.self.now.line root block =
+    λ i. detach_events words c.args.self.now.line root block ++ tidy_events (mid_is i) start in
     let kept_words = keeps_small words c.args.self.now.line root block block_in arena.few mid detached.rest in
     record {
       appends = subst (λ (es : List Event). Appends (state c.args.device.now) (state c.drop_if_empty.new.device) es) events (then_step take.appends tidied.appends);
@@ -66,7 +66,7 @@ returns-clause-done g c =
         bounds = tidied.bounds ∙ detached.bounds;
       };
       crash = subst (λ (es : List Event). CrashOnly words es (IsEitherHeap words new)) events
-          (crash_then words mid new (inr tidied.heap) (detach_events words c.args.self.now.line root block) (empty_events mid start) (quiet_step take.appends take.quiet) mid_is kept_words take.crash tidied.crash);
+          (crash_then words mid new (inr tidied.heap) (detach_events words c.args.self.now.line root block) (tidy_events mid start) (quiet_step take.appends take.quiet) mid_is kept_words take.crash tidied.crash);
     }
 
 pub returns-clause-last : goal.returns-clause-last
