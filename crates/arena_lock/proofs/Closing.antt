@@ -1,4 +1,4 @@
--- The value at the end, and the seats that are joined for it.
+-- The value at the end, and the seats that are joined_view for it.
 use Rattle.std.proofs.Common.{◌≡◌, ℕ, ◌≤◌, ◌==◌, ◌||◌, Bool, true, false, List, [], ◌∷◌, ◌++◌, length, refl, ap, sym, ◌∙◌, subst, arith, append_assoc, Option, Some, None, get_or}
 use Rattle.std.proofs.lemmas.Bool.{false≢true}
 use Rattle.std.proofs.lemmas.List.{append-nil}
@@ -10,14 +10,16 @@ use lib.ListN.{get_elem?}
 use Rattle.atomic_table.specs.Table.{Final, Seen}
 use Rattle.atomic_table.specs.Seated.{TableId}
 use Rattle.heap_model.specs.declared.call.Entry.{Entry}
-use Rattle.arena_lock.specs.declared.view.Opening.{Opening}
+use Rattle.arena_lock.specs.declared.opening.Opening.{Opening}
 use Rattle.arena_lock.specs.declared.view.SeatView.{SeatView}
-use Rattle.arena_lock.specs.Journal.{calls_by, IsLegal, owns, Each, calls_of, Since}
-use Rattle.arena_lock.specs.Ticketed.{Ticketed, IsIdle, joined}
+use Rattle.arena_lock.specs.Journal.{calls_by, owns, Each, calls_of, Since}
+use Rattle.arena_lock.specs.Legality.{IsLegal}
+use Rattle.arena_lock.specs.Tickets.{IsTicketed, IsIdle}
+use Rattle.arena_lock.specs.TicketSteps.{joined_view}
 use Rattle.atomic_table.specs.declared.badge.Badge.{Badge}
-use Rattle.arena_lock.specs.Known.{Lock, Known, view_or, known_in, known_of, both, AllAt, all_numbers, Covers, AllFit, Taken, AllTold}
-use Rattle.arena_lock.proofs.Fronts.{prefix_self, prefix_trans}
-use Rattle.arena_lock.proofs.Calls.{each_map, each_owned, each_front, each_back, same_calls, each_same, split_calls}
+use Rattle.arena_lock.specs.Known.{Lock, Known, view_or, known_in, known_of, after_join, AllAt, all_numbers, Covers, AllFit, HasNumbers, KnowsAll}
+use Rattle.arena_lock.proofs.Prefixes.{prefix_self, prefix_trans}
+use Rattle.arena_lock.proofs.Entries.{each_map, each_owned, each_front, each_back, same_calls, each_same, split_calls}
 
 or_assoc : (a b c : Bool) → a || (b || c) ≡ (a || b) || c
 or_assoc true b c = refl
@@ -31,23 +33,23 @@ or_left : (a b c : Bool) → b ≡ true → (a || b) || c ≡ true
 or_left true b c e = refl
 or_left false b c e = ap (λ (z : Bool). z || c) e
 
-owns_infix : (n : ℕ) (v p : Known) → Taken v p → owns n p.numbers ≡ true → owns n v.numbers ≡ true
+owns_infix : (n : ℕ) (v p : Known) → HasNumbers v p → owns n p.numbers ≡ true → owns n v.numbers ≡ true
 owns_infix n v p i e = ap (owns n) (sym i.2) ∙ (owns-append n (i.0 ++ p.numbers) i.1 ∙ (ap (λ b. b || owns n i.1) (owns-append n i.0 p.numbers) ∙ or_left (owns n i.0) (owns n p.numbers) (owns n i.1) e))
 
 or_case : (a b c : Bool) → (a ≡ true → c ≡ true) → (b ≡ true → c ≡ true) → a || b ≡ true → c ≡ true
 or_case true b c f g e = f refl
 or_case false b c f g e = g e
 
-owns_all : (n : ℕ) (v : Known) (ps : List Known) → AllTold v ps → owns n (all_numbers ps) ≡ true → owns n v.numbers ≡ true
+owns_all : (n : ℕ) (v : Known) (ps : List Known) → KnowsAll v ps → owns n (all_numbers ps) ≡ true → owns n v.numbers ≡ true
 owns_all n v [] t e = absurd (false≢true e)
 owns_all n v (p ∷ ps) t e = or_case (owns n p.numbers) (owns n (all_numbers ps)) (owns n v.numbers) (owns_infix n v p t.0.2) (owns_all n v ps t.1) (sym (owns-append n p.numbers (all_numbers ps)) ∙ e)
 
 -- where two journals have the same calls of v's numbers, they have those of p
-same_taken : (v p : Known) (log log' : List Entry) → Taken v p → Each (λ n. calls_by n log ≡ calls_by n log') v.numbers → calls_of log p.numbers ≡ calls_of log' p.numbers
+same_taken : (v p : Known) (log log' : List Entry) → HasNumbers v p → Each (λ n. calls_by n log ≡ calls_by n log') v.numbers → calls_of log p.numbers ≡ calls_of log' p.numbers
 same_taken v p log log' i h = let P : ℕ → Type 0 = λ n. calls_by n log ≡ calls_by n log' in
     same_calls log log' p.numbers (each_back P i.0 p.numbers (each_front P (i.0 ++ p.numbers) i.1 (subst (Each P) (sym i.2) h)))
 
-all_fit : (log : List Entry) (v : Known) (ps : List Known) → IsPrefix v.seen log → v.known ≤ length log → Each (λ n. calls_by n log ≡ calls_by n v.seen) v.numbers → AllTold v ps → AllFit log ps
+all_fit : (log : List Entry) (v : Known) (ps : List Known) → IsPrefix v.seen log → v.known ≤ length log → Each (λ n. calls_by n log ≡ calls_by n v.seen) v.numbers → KnowsAll v ps → AllFit log ps
 all_fit log v [] s k e t = tt
 all_fit log v (p ∷ ps) s k e t = (record { seen = prefix_trans p.seen v.seen log t.0.0 s; mine = same_taken v p log v.seen t.0.2 e ∙ t.0.2.3; known = omega (arith, k, t.0.1) }, all_fit log v ps s k e t.1)
 
@@ -56,7 +58,7 @@ Ended op jr o start seats ps x = (op x ≡ o) × IsLegal (op x) (jr x) × Since 
 
 -- the value at the end, where the seat owns all numbers
 closes : {T : Type 0} (op : T → Opening) (jr : T → List Entry) (o : Opening) (start : List Entry) (seats id : ℕ) (z : TableId) (v : SeatView) (ws : List ℕ) (xs : List (Option T)) (ps : List Known)
-    → Final (Seen (Ticketed op jr o start seats) id v) ws xs → IsIdle v → AllTold (known_in z v) ps → Covers seats ps
+    → Final (Seen (IsTicketed op jr o start seats) id v) ws xs → IsIdle v → KnowsAll (known_in z v) ps → Covers seats ps
     → (x : T) × (get_elem? xs 0 ≡ some (Some x)) × Ended op jr o start seats ps x
 closes op jr o start seats id z v ws xs ps f idle told all =
     let s = f.0 in let r = f.1.0 in let at = f.1.1 in let k = r.each_seat id v at idle.live in let p = known_in z v in
@@ -78,14 +80,14 @@ closes op jr o start seats id z v ws xs ps f idle told all =
     )
 
 -- after a join
-pub told_calls : (z v w : SeatView) (t u : TableId) (p q : Known) → known_in t v ≡ p → known_in u w ≡ q → z ≡ joined v w → z.mine ≡ calls_of z.seen z.numbers → v.mine ≡ calls_of v.seen v.numbers → w.mine ≡ calls_of w.seen w.numbers
+pub told_calls : (z v w : SeatView) (t u : TableId) (p q : Known) → known_in t v ≡ p → known_in u w ≡ q → z ≡ joined_view v w → z.mine ≡ calls_of z.seen z.numbers → v.mine ≡ calls_of v.seen v.numbers → w.mine ≡ calls_of w.seen w.numbers
     → (calls_of z.seen p.numbers ≡ p.mine) × (calls_of z.seen q.numbers ≡ q.mine)
 told_calls z v w t u p q vp wq is agrees mine mine' =
     let all : calls_of v.seen v.numbers ++ calls_of w.seen w.numbers ≡ calls_of z.seen (v.numbers ++ w.numbers) = (λ i. sym mine i ++ sym mine' i) ∙ (sym (ap (λ y. y.mine) is) ∙ (agrees ∙ ap (λ (l : List ℕ). calls_of z.seen l) (ap (λ y. y.numbers) is))) in
     let both = split_calls z.seen v.seen w.seen v.numbers w.numbers all in
     (ap (λ (l : List ℕ). calls_of z.seen l) (sym (ap (λ y. y.numbers) vp)) ∙ (both.0 ∙ (sym mine ∙ ap (λ y. y.mine) vp)), ap (λ (l : List ℕ). calls_of z.seen l) (sym (ap (λ y. y.numbers) wq)) ∙ (both.1 ∙ (sym mine' ∙ ap (λ y. y.mine) wq)))
 
-told_more : (v w u : Known) (ps : List Known) → u ≡ both v w → IsPrefix v.seen u.seen → calls_of u.seen v.numbers ≡ calls_of v.seen v.numbers → AllTold v ps → AllTold u ps
+told_more : (v w u : Known) (ps : List Known) → u ≡ after_join v w → IsPrefix v.seen u.seen → calls_of u.seen v.numbers ≡ calls_of v.seen v.numbers → KnowsAll v ps → KnowsAll u ps
 told_more v w u [] is s e t = tt
 told_more v w u (p ∷ ps) is s e t = let i = t.0.2 in (
   (
@@ -97,13 +99,13 @@ told_more v w u (p ∷ ps) is s e t = let i = t.0.2 in (
 )
 
 -- after the join with w
-pub told_both : (v w u : Known) (ps : List Known) → u ≡ both v w → IsPrefix v.seen u.seen × IsPrefix w.seen u.seen → (calls_of u.seen v.numbers ≡ v.mine) × (calls_of u.seen w.numbers ≡ w.mine) → v.mine ≡ calls_of v.seen v.numbers → AllTold v ps → AllTold u (w ∷ ps)
+pub told_both : (v w u : Known) (ps : List Known) → u ≡ after_join v w → IsPrefix v.seen u.seen × IsPrefix w.seen u.seen → (calls_of u.seen v.numbers ≡ v.mine) × (calls_of u.seen w.numbers ≡ w.mine) → v.mine ≡ calls_of v.seen v.numbers → KnowsAll v ps → KnowsAll u (w ∷ ps)
 told_both v w u ps is s e mine t = (
   (s.1, subst (λ y. w.known ≤ y.known) (sym is) (omega arith), (v.numbers, [], append-nil (v.numbers ++ w.numbers) ∙ sym (ap (λ y. y.numbers) is), e.1)),
   told_more v w u ps is s.0 (e.0 ∙ mine) t,
 )
 
-pub told_self : (v : Known) → v.mine ≡ calls_of v.seen v.numbers → AllTold v (v ∷ [])
+pub told_self : (v : Known) → v.mine ≡ calls_of v.seen v.numbers → KnowsAll v (v ∷ [])
 told_self v mine = ((prefix_self v.seen, omega arith, ([], [], append-nil v.numbers, sym mine)), tt)
 
 at_front : (z : TableId) (xs ys : List Known) → AllAt z (xs ++ ys) → AllAt z xs
@@ -129,10 +131,10 @@ is_some_some (some (Some x)) = true
 is_some_some _ = false
 
 module _ {T : Type 0} (op : T → Opening) (jr : T → List Entry) (o : Opening) (start : List Entry) (seats id : ℕ) (v : SeatView) (ws : List ℕ) (xs : List (Option T)) (ps : List Known) (b : Badge SeatView) (q : Known) (z : TableId) (l : Lock)
-    (f : Final (Seen (Ticketed op jr o start seats) id v) ws xs) (one : b.views ≡ v ∷ []) (idle : IsIdle (view_or b.views)) (badge_is : known_of b ≡ q) (lock_is : record { id = z; opening = o; start = start; seats = seats } ≡ l)
-    (told : AllTold q ps) (all : Covers l.seats ps) where
+    (f : Final (Seen (IsTicketed op jr o start seats) id v) ws xs) (one : b.views ≡ v ∷ []) (idle : IsIdle (view_or b.views)) (badge_is : known_of b ≡ q) (lock_is : record { id = z; opening = o; start = start; seats = seats } ≡ l)
+    (told : KnowsAll q ps) (all : Covers l.seats ps) where
   whole : (x : T) × (get_elem? xs 0 ≡ some (Some x)) × Ended op jr o start seats ps x
-  whole = closes op jr o start seats id b.table_id v ws xs ps f (subst IsIdle (ap view_or one) idle) (subst (λ p. AllTold p ps) (sym badge_is ∙ ap (λ vs. known_in b.table_id (view_or vs)) one) told) (subst (λ n. Covers n ps) (sym (ap (λ y. y.seats) lock_is)) all)
+  whole = closes op jr o start seats id b.table_id v ws xs ps f (subst IsIdle (ap view_or one) idle) (subst (λ p. KnowsAll p ps) (sym badge_is ∙ ap (λ vs. known_in b.table_id (view_or vs)) one) told) (subst (λ n. Covers n ps) (sym (ap (λ y. y.seats) lock_is)) all)
 
   pub ended : (y : T) → get_elem? xs 0 ≡ some (Some y) → Ended op jr l.opening l.start l.seats ps y
   ended y e = subst (λ (t : T × Lock). Ended op jr t.1.opening t.1.start t.1.seats ps t.0) (λ i. (ap (value_or y) (sym whole.1 ∙ e) i, lock_is i)) whole.2

@@ -1,30 +1,39 @@
-//! Values that keep a journal, and what may be done to them in one turn.
+// Values that keep a journal, and what may be done to them in one turn.
 ghost use Rattle.std.specs.Prelude.{◌≡◌, ℕ, List, length};
 ghost use Rattle.heap_model.specs.declared.call.Entry.{Entry};
-ghost use Rattle.arena_lock.specs.declared.view.Opening.{Opening};
-ghost use Rattle.arena_lock.specs.Journal.{IsLegal, Grows};
+ghost use Rattle.arena_lock.specs.declared.opening.Opening.{Opening};
+ghost use Rattle.arena_lock.specs.Journal.{Grows};
+ghost use Rattle.arena_lock.specs.Legality.{IsLegal};
 
-/// A value with an opening state and a journal.
+/// A value that may stand behind a lock: it has a journal, and the state that this began at.
 pub trait Logged {
+    /// The state that the journal began at.
     ghost opening: { Self → Opening };
 
+    /// The journal, first entry first.
     ghost journal: { Self → List Entry };
 
-    /// The journal's length.
+    /// How many entries the journal has. It waits for nobody.
     fn count(&self) -> u64
         ensures { result ≡ length (journal self.now) };
 }
 
-/// What one turn does.
+/// What is done to the value in one turn.
 pub trait Job<T: Logged> {
+    /// What the job answers.
     type Out;
 
+    /// The number that its entry bears, where it makes one.
     ghost number: { Self → ℕ };
 
+    /// The job's own condition.
     ghost allowed: { Self → Type 0 };
 
+    /// How the journal before, the journal after and the answer go together.
     ghost relation: { Self → List Entry → List Entry → Self.Out → Type 0 };
 
+    /// Runs the job on the value. The opening stays, and the journal stays or grows by one entry, which bears the job's
+    /// number; a journal that was legal is legal afterwards.
     fn run(self, value: &mut T) -> Self::Out
         requires allowed { allowed self }
         requires legal { IsLegal (T.opening value.old) (T.journal value.old) }

@@ -1,40 +1,37 @@
-//! What a seat knows. No value of `SeatView` is made.
+// What the holder of a seat knows.
+use crate::opening::Opening;
 use heap_model::Entry;
-use pmem_lines::Event;
 use std::collections::LinkedList;
 
-/// The opening state: the memory when it was handed over, and the write-ahead line of the next entry then.
-pub struct Opening {
-    pub base: LinkedList<u64>,
-    pub events: LinkedList<Event>,
-    pub room: u32,
-    pub begins: u64,
-    pub made: u64,
-    pub turn: u32,
-}
-
+/// The view of a seat at the lock's table. No value of it is made: it changes at the steps of its seat, and stands in
+/// proofs alone.
 pub struct SeatView {
-    /// False for the view of a seat that was joined into another.
+    /// False for what a seat leaves that was joined into another.
     pub live: bool,
     pub opening: Opening,
+    /// What the holder has seen: a beginning of the journal.
     pub seen: LinkedList<Entry>,
     /// The numbers that the seat owns.
     pub numbers: LinkedList<u32>,
-    /// For each of these numbers its calls.
+    /// For each of these numbers the entries of `seen` that bear it.
     pub mine: LinkedList<LinkedList<Entry>>,
+    /// How many exchanges of this seat lost: they found another number than the one that it had looked at.
     pub lost: u64,
+    /// How many times it loaded the published length.
     pub reads: u64,
+    /// The greatest length that it found there, and 0 at first.
     pub known: u64,
-    /// The turns that are left.
+    /// How many turns are left to it.
     pub turns: u64,
-    /// What the last join was told, the shorter of two prefixes.
+    /// The shorter of the two lists that were seen at the last join.
     pub told: LinkedList<Entry>,
     pub has_ticket: bool,
+    /// The ticket in hand, where there is one.
     pub ticket: u64,
     pub looked: bool,
-    /// The ticket that was served at the look.
+    /// The ticket that was served at the look, where there was one in this call.
     pub at: u64,
     pub in_turn: bool,
-    /// The journal when the turn began, and from the publishing on the one that was published.
+    /// In a turn: the journal when it began, and from the publishing on the journal that was published.
     pub base: LinkedList<Entry>,
 }

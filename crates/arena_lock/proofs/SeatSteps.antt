@@ -1,4 +1,4 @@
--- Seats are made and joined.
+-- Seats are made and joined_view.
 use Rattle.std.proofs.Common.{◌≡◌, ◌≢◌, ℕ, zero, suc, ◌+◌, ◌^◌, ◌≤◌, eqb, ltb, max, Bool, true, false, if◌then◌else◌, List, [], ◌∷◌, ◌++◌, length, get_or, set, refl, ap, sym, ◌∙◌, subst, ⊎_elim, arith, length-set, ne_eqb, eq-eqb, ltb-false, ltb-true, Option, Some}
 use Rattle.std.proofs.lemmas.Bool.{false≢true}
 use Rattle.std.proofs.lemmas.List.{append-nil}
@@ -9,13 +9,15 @@ use prog.Atomic.{either}
 use Rattle.atomic_table.specs.Table.{State, opening, Splits, Joins}
 use Rattle.atomic_table.proofs.Lists.{set_else, set_again, at_longer, at_snoc}
 use Rattle.heap_model.specs.declared.call.Entry.{Entry}
-use Rattle.arena_lock.specs.declared.view.Opening.{Opening}
+use Rattle.arena_lock.specs.declared.opening.Opening.{Opening}
 use Rattle.arena_lock.specs.declared.view.SeatView.{SeatView}
-use Rattle.arena_lock.specs.Journal.{longer, shorter, calls_by, IsLegal, Each, calls_of, numbers, only_first, all_but_first}
-use Rattle.arena_lock.specs.Ticketed.{Owned, Knows, all_turns, Ticketed, IsIdle, first_view, spent_view, joined, guest, rest_of, dealt}
-use Rattle.arena_lock.proofs.Calls.{calls_by-between, each_map, each_both, each_append, same_calls, each_number, above}
-use Rattle.arena_lock.proofs.Fronts.{prefix_self, prefix_shorter}
-use Rattle.arena_lock.proofs.Keeps.{Live, not_held, seats_stay, turns_set}
+use Rattle.arena_lock.specs.Journal.{longer, shorter, calls_by, Each, calls_of, numbers, only_first, all_but_first}
+use Rattle.arena_lock.specs.Legality.{IsLegal}
+use Rattle.arena_lock.specs.Tickets.{Owned, Knows, all_turns, IsTicketed, IsIdle, first_view, spent_view}
+use Rattle.arena_lock.specs.TicketSteps.{joined_view, guest_view, rest_view, dealt_view}
+use Rattle.arena_lock.proofs.Entries.{calls_by-between, each_map, each_both, each_append, same_calls, each_number, above}
+use Rattle.arena_lock.proofs.Prefixes.{prefix_self, prefix_shorter}
+use Rattle.arena_lock.proofs.WordSteps.{Live, not_held, seats_stay, turns_set}
 
 turns-append : (vs : List SeatView) (w : SeatView) → all_turns (vs ++ w ∷ []) ≡ all_turns vs + w.turns
 turns-append [] w = omega arith
@@ -56,26 +58,26 @@ most a b c p q = omega (arith)
 
 module _ {T : Type 0} (op : T → Opening) (jr : T → List Entry) (o : Opening) (start : List Entry) (seats : ℕ) where
   abbrev R : State (Option T) SeatView → Type 0
-  R = Ticketed op jr o start seats
+  R = IsTicketed op jr o start seats
 
-  pub splits : (id : ℕ) (v : SeatView) → v.live ≡ true → Splits R id v v (guest v)
+  pub splits : (id : ℕ) (v : SeatView) → v.live ≡ true → Splits R id v v (guest_view v)
   splits id v live s r at = let k = r.each_seat id v at live in let room = r.room in
-      subst (λ (vs : List SeatView). R record { words = s.words; homes = s.homes; views = vs ++ guest v ∷ [] }) (sym (set_again s.views id v at)) record {
+      subst (λ (vs : List SeatView). R record { words = s.words; homes = s.homes; views = vs ++ guest_view v ∷ [] }) (sym (set_again s.views id v at)) record {
         log = r.log;
         owner = r.owner;
         holder = r.holder;
         home = r.home;
         wide = r.wide;
         order = r.order;
-        room = omega (arith, turns-append s.views (guest v));
+        room = omega (arith, turns-append s.views (guest_view v));
         published = r.published;
         legal = r.legal;
         since = r.since;
         home_is = r.home_is;
         free = r.free;
-        held = λ h. let t = r.held h in ((t.0.0, at_longer s.views (guest v ∷ []) (r.holder (get_or s.words 1 0)) t.0.0 t.0.1, t.0.2, t.0.3), t.1, t.2);
-        each_seat = λ j d e. ⊎_elim (r.each_seat j d) (λ (t : guest v ≡ d). subst (λ (z : SeatView). Live op jr o start seats r.log (get_or s.words 0 0) (get_or s.words 1 0) r.home r.owner r.holder j z) t
-            (λ _. record { opens = k.opens; seen = k.seen; told = (v.seen, refl); owned = tt; mine = refl; known = k.known; ticket = λ u. absurd (false≢true u); looked = λ u. absurd (false≢true u); in_turn = λ u. absurd (false≢true u) })) (at_snoc s.views (guest v) d j e);
+        held = λ h. let t = r.held h in ((t.0.0, at_longer s.views (guest_view v ∷ []) (r.holder (get_or s.words 1 0)) t.0.0 t.0.1, t.0.2, t.0.3), t.1, t.2);
+        each_seat = λ j d e. ⊎_elim (r.each_seat j d) (λ (t : guest_view v ≡ d). subst (λ (z : SeatView). Live op jr o start seats r.log (get_or s.words 0 0) (get_or s.words 1 0) r.home r.owner r.holder j z) t
+            (λ _. record { opens = k.opens; seen = k.seen; told = (v.seen, refl); owned = tt; mine = refl; known = k.known; ticket = λ u. absurd (false≢true u); looked = λ u. absurd (false≢true u); in_turn = λ u. absurd (false≢true u) })) (at_snoc s.views (guest_view v) d j e);
       }
 
   pub starts : (x : T) → op x ≡ o → jr x ≡ start → IsLegal o start → seats ≤ 64 → R (opening (0 ∷ 0 ∷ length start ∷ []) (Some x ∷ []) (first_view o start seats))
@@ -97,14 +99,14 @@ module _ {T : Type 0} (op : T → Opening) (jr : T → List Entry) (o : Opening)
         record { opens = refl; seen = prefix_self start; told = (start, refl); owned = each_number (Owned start start (λ _. 0) seats 0) 0 seats seats (omega arith) (λ m l. (refl, refl, l)); mine = refl; known = omega arith; ticket = λ u. absurd (false≢true u); looked = λ u. absurd (false≢true u); in_turn = λ u. absurd (false≢true u) };
   }
 
-  pub joins : (id : ℕ) (v : SeatView) (other : ℕ) (w : SeatView) → IsIdle v → IsIdle w → Joins R id v other w (joined v w) spent_view
+  pub joins : (id : ℕ) (v : SeatView) (other : ℕ) (w : SeatView) → IsIdle v → IsIdle w → Joins R id v other w (joined_view v w) spent_view
   joins id v other w idle idle' s r at apart there =
-      let at' : get_elem? s.views other ≡ some w = sym (set_else s.views id other (joined v w) apart) ∙ there in
+      let at' : get_elem? s.views other ≡ some w = sym (set_else s.views id other (joined_view v w) apart) ∙ there in
       let k = r.each_seat id v at idle.live in let k' = r.each_seat other w at' idle'.live in let served : ℕ = get_or s.words 1 0 in let next : ℕ = get_or s.words 0 0 in
       let owner' : ℕ → ℕ = moved r.owner other id in let e = ends v.seen w.seen r.log k.seen k'.seen in let long : List Entry = longer v.seen w.seen in let room = r.room in
       let as_v : Each (λ n. calls_by n long ≡ calls_by n v.seen) v.numbers = each_map _ (λ n. calls_by n long ≡ calls_by n v.seen) (λ n t. calls_by-between n v.seen long r.log e.0 e.2 (sym t.0) ∙ t.0) v.numbers k.owned in
       let as_w : Each (λ n. calls_by n long ≡ calls_by n w.seen) w.numbers = each_map _ (λ n. calls_by n long ≡ calls_by n w.seen) (λ n t. calls_by-between n w.seen long r.log e.1 e.2 (sym t.0) ∙ t.0) w.numbers k'.owned in
-      let first = turns_set s.views id v (joined v w) at in let second = turns_set (set s.views id (joined v w)) other w spent_view there in
+      let first = turns_set s.views id v (joined_view v w) at in let second = turns_set (set s.views id (joined_view v w)) other w spent_view there in
       record {
         log = r.log;
         owner = owner';
@@ -119,12 +121,12 @@ module _ {T : Type 0} (op : T → Opening) (jr : T → List Entry) (o : Opening)
         home_is = r.home_is;
         free = r.free;
         held = λ h. let t = r.held h in let not_w = not_held op jr o start seats s r other w at' idle'.no_turn h in let not_v = not_held op jr o start seats s r id v at idle.no_turn h in (
-          (t.0.0, set_else (set s.views id (joined v w)) other (r.holder served) spent_view not_w ∙ (set_else s.views id (r.holder served) (joined v w) not_v ∙ t.0.1), t.0.2, t.0.3),
+          (t.0.0, set_else (set s.views id (joined_view v w)) other (r.holder served) spent_view not_w ∙ (set_else s.views id (r.holder served) (joined_view v w) not_v ∙ t.0.1), t.0.2, t.0.3),
           t.1,
           (t.2.0, t.2.1, moved_else r.owner other id t.2.0 (λ is. not_w (sym t.2.2 ∙ is)) ∙ t.2.2),
         );
-        each_seat = seats_stay (Live op jr o start seats r.log next served r.home owner' r.holder) (set s.views id (joined v w)) other spent_view (λ l. absurd (false≢true l))
-            (λ j d not there'. seats_stay (λ i z. i ≢ other → Live op jr o start seats r.log next served r.home owner' r.holder i z) s.views id (joined v w)
+        each_seat = seats_stay (Live op jr o start seats r.log next served r.home owner' r.holder) (set s.views id (joined_view v w)) other spent_view (λ l. absurd (false≢true l))
+            (λ j d not there'. seats_stay (λ i z. i ≢ other → Live op jr o start seats r.log next served r.home owner' r.holder i z) s.views id (joined_view v w)
             (λ _ _. record {
               opens = k.opens;
               seen = e.2;
@@ -143,7 +145,7 @@ module _ {T : Type 0} (op : T → Opening) (jr : T → List Entry) (o : Opening)
       }
 
   -- the seat hands its first number to a new one, with its turns
-  pub deals : (id : ℕ) (v : SeatView) (k n : ℕ) → IsIdle v → v.numbers ≡ numbers k (suc n) → 2 ^ 57 ≤ v.turns → Splits R id v (rest_of v) (dealt v)
+  pub deals : (id : ℕ) (v : SeatView) (k n : ℕ) → IsIdle v → v.numbers ≡ numbers k (suc n) → 2 ^ 57 ≤ v.turns → Splits R id v (rest_view v) (dealt_view v)
   deals id v k n idle is enough s r at =
       let q = r.each_seat id v at idle.live in let served : ℕ = get_or s.words 1 0 in let next : ℕ = get_or s.words 0 0 in let place : ℕ = length s.views in
       let owner' : ℕ → ℕ = λ m. either (eqb m k) place (r.owner m) in let room = r.room in
@@ -154,7 +156,7 @@ module _ {T : Type 0} (op : T → Opening) (jr : T → List Entry) (o : Opening)
       let tail_is : all_but_first v.numbers ≡ numbers (suc k) n = ap all_but_first is in
       let head_is : only_first v.numbers ≡ k ∷ [] = ap only_first is in
       let calls_is : all_but_first v.mine ≡ calls_of v.seen (all_but_first v.numbers) = ap all_but_first (q.mine ∙ ap (calls_of v.seen) is) ∙ sym (ap (calls_of v.seen) tail_is) in
-      let first = turns_set s.views id v (rest_of v) at in let second = turns-append (set s.views id (rest_of v)) (dealt v) in record {
+      let first = turns_set s.views id v (rest_view v) at in let second = turns-append (set s.views id (rest_view v)) (dealt_view v) in record {
         log = r.log;
         owner = owner';
         holder = r.holder;
@@ -168,12 +170,12 @@ module _ {T : Type 0} (op : T → Opening) (jr : T → List Entry) (o : Opening)
         home_is = r.home_is;
         free = r.free;
         held = λ h. let t = r.held h in let not_v = not_held op jr o start seats s r id v at idle.no_turn h in (
-          (t.0.0, at_longer (set s.views id (rest_of v)) (dealt v ∷ []) (r.holder served) t.0.0 (set_else s.views id (r.holder served) (rest_of v) not_v ∙ t.0.1), t.0.2, t.0.3),
+          (t.0.0, at_longer (set s.views id (rest_view v)) (dealt_view v ∷ []) (r.holder served) t.0.0 (set_else s.views id (r.holder served) (rest_view v) not_v ∙ t.0.1), t.0.2, t.0.3),
           t.1,
           (t.2.0, t.2.1, miss t.2.0 (λ e. not_v (sym t.2.2 ∙ (ap r.owner e ∙ mine_is))) ∙ t.2.2),
         );
-        each_seat = λ j d e. new_or (set s.views id (rest_of v)) (dealt v) d j (Live op jr o start seats r.log next served r.home owner' r.holder j d)
-            (seats_stay (Live op jr o start seats r.log next served r.home owner' r.holder) s.views id (rest_of v)
+        each_seat = λ j d e. new_or (set s.views id (rest_view v)) (dealt_view v) d j (Live op jr o start seats r.log next served r.home owner' r.holder j d)
+            (seats_stay (Live op jr o start seats r.log next served r.home owner' r.holder) s.views id (rest_view v)
             (λ _. record {
               opens = q.opens;
               seen = q.seen;
@@ -191,7 +193,7 @@ module _ {T : Type 0} (op : T → Opening) (jr : T → List Entry) (o : Opening)
               opens = q.opens;
               seen = q.seen;
               told = (v.seen, refl);
-              owned = subst (Each (Owned r.log v.seen owner' seats j)) (sym head_is) ((mine.0.0, hit k refl ∙ (sym (length-set s.views id (rest_of v)) ∙ sym at_end), mine.0.2), tt);
+              owned = subst (Each (Owned r.log v.seen owner' seats j)) (sym head_is) ((mine.0.0, hit k refl ∙ (sym (length-set s.views id (rest_view v)) ∙ sym at_end), mine.0.2), tt);
               mine = refl;
               known = omega arith;
               ticket = λ u. absurd (false≢true u);

@@ -1,4 +1,4 @@
--- Each step keeps the rule.
+-- Each step on a word keeps the rule, and tells what it is to tell.
 use Rattle.std.proofs.Common.{◌≡◌, ◌≢◌, ℕ, zero, suc, ◌+◌, ◌%◌, ◌^◌, ◌<◌, ◌≤◌, eqb, Bool, true, false, List, [], ◌∷◌, length, get_or, set, refl, ap, sym, ◌∙◌, subst, ⊎_elim, arith, length-set, get_or-set_same, get_or-set_other, ne_eqb, eq-eqb, Option, Some, None}
 use Rattle.std.proofs.lemmas.Bool.{false≢true}
 use mathlib.Core.Logic.{dite}
@@ -11,12 +11,15 @@ use prog.Atomic.{either}
 use Rattle.atomic_table.specs.Table.{State, Me, step, keeps, takes, gives, stepped, put_back, rest, Allows}
 use Rattle.atomic_table.proofs.Lists.{at_set, set_else, set_again, set_here}
 use Rattle.heap_model.specs.declared.call.Entry.{Entry}
-use Rattle.arena_lock.specs.declared.view.Opening.{Opening}
+use Rattle.arena_lock.specs.declared.opening.Opening.{Opening}
 use Rattle.arena_lock.specs.declared.view.SeatView.{SeatView}
-use Rattle.arena_lock.specs.Journal.{calls_by, IsLegal, Grows, owns, calls_of}
-use Rattle.arena_lock.specs.Ticketed.{Owned, Knows, all_turns, Ticketed, IsIdle, Begins, drawn, drew, glanced, glances, lost_once, begun, waited, tried, told_all, publishes, passed, passes, counted, counts, settles}
-use Rattle.arena_lock.proofs.Calls.{each_map, each_owned, same_calls, legal_prefix, grown, others_calls, since_grows}
-use Rattle.arena_lock.proofs.Fronts.{prefix_self, prefix_trans, prefix_length}
+use Rattle.arena_lock.specs.Journal.{calls_by, Grows, owns, calls_of}
+use Rattle.arena_lock.specs.Legality.{IsLegal}
+use Rattle.arena_lock.specs.Tickets.{Owned, Knows, all_turns, IsTicketed, IsIdle}
+use Rattle.arena_lock.specs.TicketSteps.{Begins, drawn_view, drew, glanced_view, glanced, lost_view, begun_view, waited, tried, published_view, published, passed_view, passed_on, counted_view, counted, settled}
+use Rattle.arena_lock.proofs.Entries.{each_map, each_owned, same_calls, grown, others_calls, since_grows}
+use Rattle.arena_lock.proofs.LegalBeginnings.{legal_prefix}
+use Rattle.arena_lock.proofs.Prefixes.{prefix_self, prefix_trans, prefix_length}
 
 pub set_at : {A : Type 0} (l : List A) (i : ℕ) (a b : A) → get_elem? l i ≡ some b → get_elem? (set l i a) i ≡ some a
 set_at [] i a b e = absurd (some-ne-none b (sym e))
@@ -66,7 +69,7 @@ module _ {T : Type 0} (op : T → Opening) (jr : T → List Entry) (o : Opening)
   M = Me (Option T) SeatView
 
   abbrev Rule : St → Type 0
-  Rule = Ticketed op jr o start seats
+  Rule = IsTicketed op jr o start seats
 
   abbrev next_of : St → ℕ
   next_of s = get_or s.words 0 0
@@ -124,7 +127,7 @@ module _ {T : Type 0} (op : T → Opening) (jr : T → List Entry) (o : Opening)
   pub draws : (slots id : ℕ) (me : M) → IsIdle me.0 → 0 < me.0.turns
       → Allows Rule slots id me 0 (λ n. (n + 1) % 2 ^ 64) (drew (step slots 0 1 0 none) me)
   draws slots id me idle some_left s r _ at small =
-      let v : SeatView = me.0 in let k = r.each_seat id v at idle.live in let n : ℕ = next_of s in let served : ℕ = served_of s in let w : SeatView = drawn v n in
+      let v : SeatView = me.0 in let k = r.each_seat id v at idle.live in let n : ℕ = next_of s in let served : ℕ = served_of s in let w : SeatView = drawn_view v n in
       let sum = turns_set s.views id v w at in let mine = turns_at s.views id v at in let room = r.room in let order = r.order in let wide = r.wide in
       let up : (n + 1) % 2 ^ 64 ≡ n + 1 = omega arith in
       let ws : List ℕ = set s.words 0 ((n + 1) % 2 ^ 64) in
@@ -159,9 +162,9 @@ module _ {T : Type 0} (op : T → Opening) (jr : T → List Entry) (o : Opening)
         (refl, omega arith),
       )
 
-  pub looks : (slots id : ℕ) (me : M) → IsIdle me.0 → 0 < me.0.turns → Allows Rule slots id me 1 (λ x. x) (glances (step slots 1 0 0 none) me)
+  pub looks : (slots id : ℕ) (me : M) → IsIdle me.0 → 0 < me.0.turns → Allows Rule slots id me 1 (λ x. x) (glanced (step slots 1 0 0 none) me)
   looks slots id me idle some_left s r _ at small =
-      let v : SeatView = me.0 in let k = r.each_seat id v at idle.live in let served : ℕ = served_of s in let w : SeatView = glanced v served in
+      let v : SeatView = me.0 in let k = r.each_seat id v at idle.live in let served : ℕ = served_of s in let w : SeatView = glanced_view v served in
       let mine = turns_at s.views id v at in let room = r.room in let order = r.order in (
         w,
         keeps,
@@ -176,7 +179,7 @@ module _ {T : Type 0} (op : T → Opening) (jr : T → List Entry) (o : Opening)
       let v : SeatView = me.0 in let k = r.each_seat id v at live in let next : ℕ = next_of s in let served : ℕ = served_of s in
       let seen_at : at' ≤ served = omega (arith, at_is, k.looked looked) in let order = r.order in let wide = r.wide in let room = r.room in dite (ℕ_discrete next at')
       (λ hit. let home : r.home ≡ 1 = dite (ℕ_discrete r.home 0) (λ z. let t = r.held z in absurd (omega (arith, t.1))) (λ nz. omega (arith, r.home_is)) in
-      let h = r.free home in let x : T = h.0 in let w : SeatView = begun (drawn v at') (jr x) in let sum = turns_set s.views id v w at in
+      let h = r.free home in let x : T = h.0 in let w : SeatView = begun_view (drawn_view v at') (jr x) in let sum = turns_set s.views id v w at in
       let ws : List ℕ = set s.words 0 (at' + 1) in
       let now : get_or ws 0 0 ≡ at' + 1 = get_or-set_same s.words 0 _ 0 (omega arith) in
       let same : get_or ws 1 0 ≡ served = get_or-set_other s.words 0 1 _ 0 (λ e. omega (arith, e)) in
@@ -217,7 +220,7 @@ module _ {T : Type 0} (op : T → Opening) (jr : T → List Entry) (o : Opening)
         },
         ((λ _. (x, refl, h.2 ∙ sym k.opens, begins s r id v x k h.3)), λ nohit. absurd (nohit hit)),
       ))
-      (λ miss. let w : SeatView = lost_once v in (
+      (λ miss. let w : SeatView = lost_view v in (
         w,
         keeps,
         tt,
@@ -232,7 +235,7 @@ module _ {T : Type 0} (op : T → Opening) (jr : T → List Entry) (o : Opening)
       let v : SeatView = me.0 in let k = r.each_seat id v at live in let served : ℕ = served_of s in let next : ℕ = next_of s in let mine = k.ticket has in dite (ℕ_discrete served v.ticket)
       (λ hit. let here : r.holder served ≡ id = ap r.holder hit ∙ mine.2 in
       let home : r.home ≡ 1 = dite (ℕ_discrete r.home 0) (λ z. absurd (not_held s r id v at idle z here)) (λ nz. omega (arith, r.home_is)) in
-      let h = r.free home in let x : T = h.0 in let w : SeatView = begun v (jr x) in let owned = each_owned _ n v.numbers own k.owned in (
+      let h = r.free home in let x : T = h.0 in let w : SeatView = begun_view v (jr x) in let owned = each_owned _ n v.numbers own k.owned in (
         w,
         takes 0 (Some x),
         h.1,
@@ -266,9 +269,9 @@ module _ {T : Type 0} (op : T → Opening) (jr : T → List Entry) (o : Opening)
 
   -- the journal's new length is shown, and the value is in its slot
   pub shows : (slots id : ℕ) (me : M) (n new : ℕ) (x : T) → me.1 ≡ (0, Some x) ∷ [] → me.0.live ≡ true → me.0.in_turn ≡ true → owns n me.0.numbers ≡ true → Grows n me.0.base (jr x) → new ≡ length (jr x) → IsLegal me.0.opening (jr x)
-      → Allows Rule slots id me 2 (λ _. new) (λ _. publishes op jr (step slots 2 new 0 none) me new)
+      → Allows Rule slots id me 2 (λ _. new) (λ _. published op jr (step slots 2 new 0 none) me new)
   shows slots id me n new x is live turn own grows is_new legal s r deep at _ =
-      let v : SeatView = me.0 in let k = r.each_seat id v at live in let t = k.in_turn turn in let tk = k.ticket t.0 in let log : List Entry = jr x in let w : SeatView = told_all v log in let wide = r.wide in
+      let v : SeatView = me.0 in let k = r.each_seat id v at live in let t = k.in_turn turn in let tk = k.ticket t.0 in let log : List Entry = jr x in let w : SeatView = published_view v log in let wide = r.wide in
       let served : ℕ = served_of s in let next : ℕ = next_of s in
       let here : r.holder served ≡ id = ap r.holder (sym t.1) ∙ tk.2 in
       let grows' : Grows n r.log log = subst (λ l. Grows n l log) t.3 grows in let more : IsPrefix r.log log = grown n r.log log grows' in
@@ -319,13 +322,13 @@ module _ {T : Type 0} (op : T → Opening) (jr : T → List Entry) (o : Opening)
                 in_turn = λ e. let u = q.in_turn e in absurd (other (sym (ap r.holder (sym u.1) ∙ (q.ticket u.0).2) ∙ here));
               }));
         },
-        λ y is'. let same : x ≡ y = ap (held_or x) (sym is ∙ is') in λ i. (told_all v (jr (same i)), me.1),
+        λ y is'. let same : x ≡ y = ap (held_or x) (sym is ∙ is') in λ i. (published_view v (jr (same i)), me.1),
       )
 
   pub goes_on : (slots id : ℕ) (me : M) (new : ℕ) (x : T) → slots ≡ 1 → me.1 ≡ (0, Some x) ∷ [] → me.0.live ≡ true → me.0.in_turn ≡ true → new ≡ me.0.ticket + 1 → jr x ≡ me.0.base → op x ≡ me.0.opening
-      → Allows Rule slots id me 1 (λ _. new) (λ _. passes (step slots 1 new 0 none) me new)
+      → Allows Rule slots id me 1 (λ _. new) (λ _. passed_on (step slots 1 new 0 none) me new)
   goes_on slots id me new x one is live turn is_new base opens s r deep at _ =
-      let v : SeatView = me.0 in let k = r.each_seat id v at live in let t = k.in_turn turn in let tk = k.ticket t.0 in let w : SeatView = passed v in let wide = r.wide in
+      let v : SeatView = me.0 in let k = r.each_seat id v at live in let t = k.in_turn turn in let tk = k.ticket t.0 in let w : SeatView = passed_view v in let wide = r.wide in
       let served : ℕ = served_of s in let next : ℕ = next_of s in
       let here : r.holder served ≡ id = ap r.holder (sym t.1) ∙ tk.2 in
       let w0 : get_or (set s.words 1 new) 0 0 ≡ next = get_or-set_other s.words 1 0 new 0 (λ e. omega (arith, e)) in
@@ -366,9 +369,9 @@ module _ {T : Type 0} (op : T → Opening) (jr : T → List Entry) (o : Opening)
         λ i. (w, rest (is i)),
       )
 
-  pub reads : (slots id : ℕ) (me : M) → me.0.live ≡ true → Allows Rule slots id me 2 (λ x. x) (counts (step slots 2 0 0 none) me)
+  pub reads : (slots id : ℕ) (me : M) → me.0.live ≡ true → Allows Rule slots id me 2 (λ x. x) (counted (step slots 2 0 0 none) me)
   reads slots id me live s r _ at small =
-      let v : SeatView = me.0 in let k = r.each_seat id v at live in let n : ℕ = get_or s.words 2 0 in let w : SeatView = counted v n in
+      let v : SeatView = me.0 in let k = r.each_seat id v at live in let n : ℕ = get_or s.words 2 0 in let w : SeatView = counted_view v n in
       let len : n ≡ length r.log = r.published in let seen = prefix_length v.seen r.log k.seen in let known = k.known in (
         w,
         keeps,
@@ -377,7 +380,7 @@ module _ {T : Type 0} (op : T → Opening) (jr : T → List Entry) (o : Opening)
         (refl, omega arith, omega arith),
       )
 
-  pub tells : (slots id : ℕ) (me : M) → me.0.live ≡ true → Allows Rule slots id me 0 (λ x. x) (settles (step slots 0 0 0 none) me)
+  pub tells : (slots id : ℕ) (me : M) → me.0.live ≡ true → Allows Rule slots id me 0 (λ x. x) (settled (step slots 0 0 0 none) me)
   tells slots id me live s r _ at _ = let v : SeatView = me.0 in let k = r.each_seat id v at live in (
     v,
     keeps,

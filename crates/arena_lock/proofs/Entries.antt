@@ -1,14 +1,10 @@
--- The calls of a number in a journal.
+-- The entries of a number in a journal, and facts of each of several numbers.
 use Rattle.std.proofs.Common.{◌≡◌, ◌≢◌, ℕ, zero, suc, ◌+◌, ◌≤◌, ◌<◌, ◌==◌, ◌||◌, Bool, true, false, if◌then◌else◌, List, [], ◌∷◌, ◌++◌, length, refl, ap, sym, ◌∙◌, subst, ⊎_elim, arith, append_assoc, length-append, ne_eqb, eqb-true}
 use Rattle.std.proofs.lemmas.Bool.{false≢true}
 use mathlib.Core.List.{IsPrefix}
 use Rattle.std.proofs.lemmas.List.{append-nil}
 use Rattle.heap_model.specs.declared.call.Entry.{Entry}
-use Rattle.arena_lock.specs.declared.view.Opening.{Opening}
-use Rattle.heap_model.specs.Machine.{Bounds, Machine}
-use Rattle.heap_model.specs.Placement.{IsPlacedStep}
-use Rattle.heap_model.specs.Journal.{Leads}
-use Rattle.arena_lock.specs.Journal.{calls_by, IsLegal, Grows, owns, Each, calls_of, AllBelow, Since, numbers}
+use Rattle.arena_lock.specs.Journal.{calls_by, Grows, owns, Each, calls_of, AllBelow, Since, numbers}
 
 put_if-append : (b : Bool) (e : Entry) (xs ys : List Entry) → (if b then e ∷ (xs ++ ys) else (xs ++ ys)) ≡ (if b then e ∷ xs else xs) ++ ys
 put_if-append true e xs ys = refl
@@ -69,16 +65,6 @@ same_calls log log' (n ∷ ns) h = λ i. h.0 i ∷ same_calls log log' ns h.1 i
 pub each_same : (log log' : List Entry) (ns : List ℕ) → calls_of log ns ≡ calls_of log' ns → Each (λ n. calls_by n log ≡ calls_by n log') ns
 each_same log log' [] h = tt
 each_same log log' (n ∷ ns) h = (cc (h), each_same log log' ns (cc (h)))
-
-leads_start : (b : Bounds) (m : Machine) (xs rest : List Entry) (last : Machine) → Leads (IsPlacedStep b) m (xs ++ rest) last → (mid : Machine) × Leads (IsPlacedStep b) m xs mid
-leads_start b m [] rest last h = (m, refl)
-leads_start b m (e ∷ es) rest last h = let r = leads_start b h.0 es rest last h.2 in (r.0, (h.0, h.1, r.1))
-
-pub legal_start : (o : Opening) (xs rest : List Entry) → IsLegal o (xs ++ rest) → IsLegal o xs
-legal_start o xs rest h = leads_start _ _ xs rest h.0 h.1
-
-pub legal_prefix : (o : Opening) (xs ys : List Entry) → IsPrefix xs ys → IsLegal o ys → IsLegal o xs
-legal_prefix o xs ys p h = legal_start o xs p.0 (subst (IsLegal o) (sym p.1) h)
 
 pub grown : (n : ℕ) (before after : List Entry) → Grows n before after → IsPrefix before after
 grown n before after g = ⊎_elim (λ e. ([], append-nil before ∙ sym e)) (λ t. (t.0 ∷ [], sym t.2)) g

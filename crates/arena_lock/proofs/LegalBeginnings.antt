@@ -1,0 +1,20 @@
+-- Each beginning of a legal journal is legal. No other proof looks into what makes a journal legal.
+use Rattle.std.proofs.Common.{◌≡◌, List, [], ◌∷◌, ◌++◌, refl, sym, subst}
+use mathlib.Core.List.{IsPrefix}
+use Rattle.heap_model.specs.declared.call.Entry.{Entry}
+use Rattle.heap_model.specs.Machine.{Bounds, Machine}
+use Rattle.heap_model.specs.Placement.{IsPlacedStep}
+use Rattle.heap_model.specs.Journal.{Leads}
+use Rattle.arena_lock.specs.declared.opening.Opening.{Opening}
+use Rattle.arena_lock.specs.Legality.{IsLegal}
+
+-- the first entries lead somewhere too
+leads_start : (b : Bounds) (m : Machine) (xs rest : List Entry) (last : Machine) → Leads (IsPlacedStep b) m (xs ++ rest) last → (mid : Machine) × Leads (IsPlacedStep b) m xs mid
+leads_start b m [] rest last h = (m, refl)
+leads_start b m (e ∷ es) rest last h = let r = leads_start b h.0 es rest last h.2 in (r.0, (h.0, h.1, r.1))
+
+pub legal_start : (o : Opening) (xs rest : List Entry) → IsLegal o (xs ++ rest) → IsLegal o xs
+legal_start o xs rest h = leads_start _ _ xs rest h.0 h.1
+
+pub legal_prefix : (o : Opening) (xs ys : List Entry) → IsPrefix xs ys → IsLegal o ys → IsLegal o xs
+legal_prefix o xs ys p h = legal_start o xs p.0 (subst (IsLegal o) (sym p.1) h)
