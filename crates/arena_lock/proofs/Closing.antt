@@ -14,7 +14,7 @@ use Rattle.arena_lock.specs.declared.opening.Opening.{Opening}
 use Rattle.arena_lock.specs.declared.view.SeatView.{SeatView}
 use Rattle.arena_lock.specs.Journal.{calls_by, owns, Each, calls_of, Since}
 use Rattle.arena_lock.specs.Legality.{IsLegal}
-use Rattle.arena_lock.specs.Tickets.{IsTicketed, IsIdle}
+use Rattle.arena_lock.specs.Tickets.{in_turn, IsTicketed, IsIdle}
 use Rattle.arena_lock.specs.TicketSteps.{joined_view}
 use Rattle.atomic_table.specs.declared.badge.Badge.{Badge}
 use Rattle.arena_lock.specs.Known.{Lock, Known, view_or, known_in, known_of, after_join, AllAt, all_numbers, Covers, AllFit, HasNumbers, KnowsAll}
@@ -61,12 +61,12 @@ closes : {T : Type 0} (op : T → Opening) (jr : T → List Entry) (o : Opening)
     → Final (Seen (IsTicketed op jr o start seats) id v) ws xs → IsIdle v → KnowsAll (known_in z v) ps → Covers seats ps
     → (x : T) × (get_elem? xs 0 ≡ some (Some x)) × Ended op jr o start seats ps x
 closes op jr o start seats id z v ws xs ps f idle told all =
-    let s = f.0 in let r = f.1.0 in let at = f.1.1 in let k = r.each_seat id v at idle.live in let p = known_in z v in
+    let s = f.0 in let r = f.1.0 in let at = f.1.1 in let k = (r.each_seat id v at idle.live).past in let p = known_in z v in
     let home : r.home ≡ 1 = dite (ℕ_discrete r.home 0)
     (λ out. let h = r.held out in
-    let owned = each_owned _ h.2.0 v.numbers (owns_all h.2.0 p ps told (all h.2.0 h.2.1)) k.owned in
+    let owned = each_owned _ h.2.0 v.past.numbers (owns_all h.2.0 p ps told (all h.2.0 h.2.1)) k.owned in
     let here : r.holder (get_or s.words 1 0) ≡ id = sym h.2.2 ∙ owned.1 in
-    absurd (false≢true (sym idle.no_turn ∙ (ap (λ (y : SeatView). y.in_turn) (some-injective _ _ (sym at ∙ (ap (get_elem? s.views) (sym here) ∙ h.0.1))) ∙ h.0.3))))
+    absurd (false≢true (sym (ap in_turn idle.idle) ∙ (ap (λ (y : SeatView). in_turn y.standing) (some-injective _ _ (sym at ∙ (ap (get_elem? s.views) (sym here) ∙ h.0.1))) ∙ h.0.3))))
     (λ no. omega (arith, r.home_is)) in
     let t = r.free home in let x = t.0 in (
       x,
@@ -75,17 +75,17 @@ closes op jr o start seats id z v ws xs ps f idle told all =
         t.2,
         subst (λ (y : Opening × List Entry). IsLegal y.0 y.1) {y = (op x, jr x)} (λ i. (sym t.2 i, sym t.3 i)) r.legal,
         subst (Since seats start) {y = jr x} (sym t.3) r.since,
-        subst (λ l. AllFit l ps) {y = jr x} (sym t.3) (all_fit r.log p ps k.seen k.known (each_map _ (λ n. calls_by n r.log ≡ calls_by n v.seen) (λ n t. t.0) v.numbers k.owned) told),
+        subst (λ l. AllFit l ps) {y = jr x} (sym t.3) (all_fit r.log p ps k.seen k.known (each_map _ (λ n. calls_by n r.log ≡ calls_by n v.past.seen) (λ n t. t.0) v.past.numbers k.owned) told),
       ),
     )
 
 -- after a join
-pub told_calls : (z v w : SeatView) (t u : TableId) (p q : Known) → known_in t v ≡ p → known_in u w ≡ q → z ≡ joined_view v w → z.mine ≡ calls_of z.seen z.numbers → v.mine ≡ calls_of v.seen v.numbers → w.mine ≡ calls_of w.seen w.numbers
-    → (calls_of z.seen p.numbers ≡ p.mine) × (calls_of z.seen q.numbers ≡ q.mine)
+pub told_calls : (z v w : SeatView) (t u : TableId) (p q : Known) → known_in t v ≡ p → known_in u w ≡ q → z ≡ joined_view v w → z.past.mine ≡ calls_of z.past.seen z.past.numbers → v.past.mine ≡ calls_of v.past.seen v.past.numbers → w.past.mine ≡ calls_of w.past.seen w.past.numbers
+    → (calls_of z.past.seen p.numbers ≡ p.mine) × (calls_of z.past.seen q.numbers ≡ q.mine)
 told_calls z v w t u p q vp wq is agrees mine mine' =
-    let all : calls_of v.seen v.numbers ++ calls_of w.seen w.numbers ≡ calls_of z.seen (v.numbers ++ w.numbers) = (λ i. sym mine i ++ sym mine' i) ∙ (sym (ap (λ y. y.mine) is) ∙ (agrees ∙ ap (λ (l : List ℕ). calls_of z.seen l) (ap (λ y. y.numbers) is))) in
-    let both = split_calls z.seen v.seen w.seen v.numbers w.numbers all in
-    (ap (λ (l : List ℕ). calls_of z.seen l) (sym (ap (λ y. y.numbers) vp)) ∙ (both.0 ∙ (sym mine ∙ ap (λ y. y.mine) vp)), ap (λ (l : List ℕ). calls_of z.seen l) (sym (ap (λ y. y.numbers) wq)) ∙ (both.1 ∙ (sym mine' ∙ ap (λ y. y.mine) wq)))
+    let all : calls_of v.past.seen v.past.numbers ++ calls_of w.past.seen w.past.numbers ≡ calls_of z.past.seen (v.past.numbers ++ w.past.numbers) = (λ i. sym mine i ++ sym mine' i) ∙ (sym (ap (λ y. y.past.mine) is) ∙ (agrees ∙ ap (λ (l : List ℕ). calls_of z.past.seen l) (ap (λ y. y.past.numbers) is))) in
+    let both = split_calls z.past.seen v.past.seen w.past.seen v.past.numbers w.past.numbers all in
+    (ap (λ (l : List ℕ). calls_of z.past.seen l) (sym (ap (λ y. y.numbers) vp)) ∙ (both.0 ∙ (sym mine ∙ ap (λ y. y.mine) vp)), ap (λ (l : List ℕ). calls_of z.past.seen l) (sym (ap (λ y. y.numbers) wq)) ∙ (both.1 ∙ (sym mine' ∙ ap (λ y. y.mine) wq)))
 
 told_more : (v w u : Known) (ps : List Known) → u ≡ after_join v w → IsPrefix v.seen u.seen → calls_of u.seen v.numbers ≡ calls_of v.seen v.numbers → KnowsAll v ps → KnowsAll u ps
 told_more v w u [] is s e t = tt

@@ -19,7 +19,7 @@ pub deals_next : {T : Type 0} (op : T → Opening) (jr : T → List Entry) (o' :
     → Splits (IsTicketed op jr o' start seats) id v (rest_view v) (dealt_view v)
 deals_next op jr o' start seats id v o log k zero m l e is = absurd (omega arith)
 deals_next op jr o' start seats id v o log k (suc n) m l e is =
-    deals op jr o' start seats id v k n (subst IsIdle (sym is) record { live = refl; no_ticket = refl; no_look = refl; no_turn = refl }) (ap (λ z. z.numbers) is) (omega (arith, ap (λ z. z.turns) is))
+    deals op jr o' start seats id v k n (subst IsIdle (sym is) record { live = refl; idle = refl }) (ap (λ z. z.past.numbers) is) (omega (arith, ap (λ z. z.turns) is))
 
 abbrev pub Goes : TableId → Opening → List Entry → ℕ → ℕ → List Known → SeatView → Type 0
 Goes z o log k m xs v = (n : ℕ) × (k + n ≡ m) × (v ≡ dealer o log k n) × (xs ++ new_seats z o log k n ≡ new_seats z o log 0 m)

@@ -1,5 +1,5 @@
 -- Each beginning of a legal journal is legal. No other proof looks into what makes a journal legal.
-use Rattle.std.proofs.Common.{◌≡◌, List, [], ◌∷◌, ◌++◌, refl, sym, subst}
+use Rattle.std.proofs.Common.{List, [], ◌∷◌, ◌++◌, refl, sym, subst}
 use mathlib.Core.List.{IsPrefix}
 use Rattle.heap_model.specs.declared.call.Entry.{Entry}
 use Rattle.heap_model.specs.Machine.{Bounds, Machine}

@@ -45,7 +45,7 @@ view_or (v ∷ vs) = v
 
 -- what is said of a seat with this view at the lock z
 abbrev pub known_in : TableId → SeatView → Known
-known_in z v = record { lock = z; opening = v.opening; seen = v.seen; numbers = v.numbers; mine = v.mine; lost = v.lost; reads = v.reads; known = v.known; turns = v.turns }
+known_in z v = record { lock = z; opening = v.past.opening; seen = v.past.seen; numbers = v.past.numbers; mine = v.past.mine; lost = v.lost; reads = v.reads; known = v.past.known; turns = v.turns }
 
 abbrev pub known_of : Badge SeatView → Known
 known_of b = known_in b.table_id (view_or b.views)
@@ -54,8 +54,8 @@ known_of b = known_in b.table_id (view_or b.views)
 pub record IsSeat (b : Badge SeatView) : Type 0 where
   pub one : b.views ≡ view_or b.views ∷ []
   pub idle : IsIdle (view_or b.views)
-  pub mine : (view_or b.views).mine ≡ calls_of (view_or b.views).seen (view_or b.views).numbers
-  pub legal : IsLegal (view_or b.views).opening (view_or b.views).seen
+  pub mine : (view_or b.views).past.mine ≡ calls_of (view_or b.views).past.seen (view_or b.views).past.numbers
+  pub legal : IsLegal (view_or b.views).past.opening (view_or b.views).past.seen
 
 -- new seats
 

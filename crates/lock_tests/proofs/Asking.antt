@@ -1,5 +1,5 @@
 -- Requests that are refused: they leave the state, and are what a number gains in its turns.
-use Rattle.std.proofs.Common.{◌≡◌, ℕ, ◌≤◌, Bool, if◌then◌else◌, List, [], ◌∷◌, ◌++◌, length, refl, ap, sym, ◌∙◌, subst, arith, eq-eqb, Ok}
+use Rattle.std.proofs.Common.{◌≡◌, ℕ, ◌≤◌, Bool, if◌then◌else◌, List, [], ◌∷◌, ◌++◌, refl, ap, sym, ◌∙◌, subst, arith, eq-eqb, Ok}
 use Rattle.heap_model.specs.declared.call.Entry.{Entry}
 use Rattle.heap_model.specs.Machine.{Bounds, Machine}
 use Rattle.heap_model.specs.Placement.{IsPlacedStep}
