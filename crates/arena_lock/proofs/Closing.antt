@@ -1,4 +1,4 @@
--- The value at the end, and the seats that are joined_view for it.
+-- The value at the end, and the seats that are joined for it.
 use Rattle.std.proofs.Common.{◌≡◌, ℕ, ◌≤◌, ◌==◌, ◌||◌, Bool, true, false, List, [], ◌∷◌, ◌++◌, length, refl, ap, sym, ◌∙◌, subst, arith, append_assoc, Option, Some, None, get_or}
 use Rattle.std.proofs.lemmas.Bool.{false≢true}
 use Rattle.std.proofs.lemmas.List.{append-nil}
@@ -21,6 +21,8 @@ use Rattle.arena_lock.specs.Known.{Lock, Known, view_or, known_in, known_of, aft
 use Rattle.arena_lock.proofs.Prefixes.{prefix_self, prefix_trans}
 use Rattle.arena_lock.proofs.Entries.{each_map, each_owned, each_front, each_back, same_calls, each_same, split_calls}
 
+-- which numbers seats own
+
 or_assoc : (a b c : Bool) → a || (b || c) ≡ (a || b) || c
 or_assoc true b c = refl
 or_assoc false b c = refl
@@ -33,6 +35,7 @@ or_left : (a b c : Bool) → b ≡ true → (a || b) || c ≡ true
 or_left true b c e = refl
 or_left false b c e = ap (λ (z : Bool). z || c) e
 
+-- a seat that has the numbers of p owns those that p owns
 owns_infix : (n : ℕ) (v p : Known) → HasNumbers v p → owns n p.numbers ≡ true → owns n v.numbers ≡ true
 owns_infix n v p i e = ap (owns n) (sym i.2) ∙ (owns-append n (i.0 ++ p.numbers) i.1 ∙ (ap (λ b. b || owns n i.1) (owns-append n i.0 p.numbers) ∙ or_left (owns n i.0) (owns n p.numbers) (owns n i.1) e))
 
@@ -40,19 +43,22 @@ or_case : (a b c : Bool) → (a ≡ true → c ≡ true) → (b ≡ true → c �
 or_case true b c f g e = f refl
 or_case false b c f g e = g e
 
+-- a seat that knows all that these did owns every number of theirs
 owns_all : (n : ℕ) (v : Known) (ps : List Known) → KnowsAll v ps → owns n (all_numbers ps) ≡ true → owns n v.numbers ≡ true
 owns_all n v [] t e = absurd (false≢true e)
 owns_all n v (p ∷ ps) t e = or_case (owns n p.numbers) (owns n (all_numbers ps)) (owns n v.numbers) (owns_infix n v p t.0.2) (owns_all n v ps t.1) (sym (owns-append n p.numbers (all_numbers ps)) ∙ e)
 
 -- where two journals have the same calls of v's numbers, they have those of p
-same_taken : (v p : Known) (log log' : List Entry) → HasNumbers v p → Each (λ n. calls_by n log ≡ calls_by n log') v.numbers → calls_of log p.numbers ≡ calls_of log' p.numbers
-same_taken v p log log' i h = let P : ℕ → Type 0 = λ n. calls_by n log ≡ calls_by n log' in
+same_numbers : (v p : Known) (log log' : List Entry) → HasNumbers v p → Each (λ n. calls_by n log ≡ calls_by n log') v.numbers → calls_of log p.numbers ≡ calls_of log' p.numbers
+same_numbers v p log log' i h = let P : ℕ → Type 0 = λ n. calls_by n log ≡ calls_by n log' in
     same_calls log log' p.numbers (each_back P i.0 p.numbers (each_front P (i.0 ++ p.numbers) i.1 (subst (Each P) (sym i.2) h)))
 
+-- at the end each of the seats fits, where the one that knows all of them does
 all_fit : (log : List Entry) (v : Known) (ps : List Known) → IsPrefix v.seen log → v.known ≤ length log → Each (λ n. calls_by n log ≡ calls_by n v.seen) v.numbers → KnowsAll v ps → AllFit log ps
 all_fit log v [] s k e t = tt
-all_fit log v (p ∷ ps) s k e t = (record { seen = prefix_trans p.seen v.seen log t.0.0 s; mine = same_taken v p log v.seen t.0.2 e ∙ t.0.2.3; known = omega (arith, k, t.0.1) }, all_fit log v ps s k e t.1)
+all_fit log v (p ∷ ps) s k e t = (record { seen = prefix_trans p.seen v.seen log t.0.0 s; mine = same_numbers v p log v.seen t.0.2 e ∙ t.0.2.3; known = omega (arith, k, t.0.1) }, all_fit log v ps s k e t.1)
 
+-- what is promised of the value and of the seats at the end
 abbrev pub Ended : {T : Type 0} → (T → Opening) → (T → List Entry) → Opening → List Entry → ℕ → List Known → T → Type 0
 Ended op jr o start seats ps x = (op x ≡ o) × IsLegal (op x) (jr x) × Since seats start (jr x) × AllFit (jr x) ps
 
@@ -79,7 +85,7 @@ closes op jr o start seats id z v ws xs ps f idle told all =
       ),
     )
 
--- after a join
+-- after a join the numbers of both seats have just the entries that they had
 pub told_calls : (z v w : SeatView) (t u : TableId) (p q : Known) → known_in t v ≡ p → known_in u w ≡ q → z ≡ joined_view v w → z.past.mine ≡ calls_of z.past.seen z.past.numbers → v.past.mine ≡ calls_of v.past.seen v.past.numbers → w.past.mine ≡ calls_of w.past.seen w.past.numbers
     → (calls_of z.past.seen p.numbers ≡ p.mine) × (calls_of z.past.seen q.numbers ≡ q.mine)
 told_calls z v w t u p q vp wq is agrees mine mine' =
@@ -87,27 +93,30 @@ told_calls z v w t u p q vp wq is agrees mine mine' =
     let both = split_calls z.past.seen v.past.seen w.past.seen v.past.numbers w.past.numbers all in
     (ap (λ (l : List ℕ). calls_of z.past.seen l) (sym (ap (λ y. y.numbers) vp)) ∙ (both.0 ∙ (sym mine ∙ ap (λ y. y.mine) vp)), ap (λ (l : List ℕ). calls_of z.past.seen l) (sym (ap (λ y. y.numbers) wq)) ∙ (both.1 ∙ (sym mine' ∙ ap (λ y. y.mine) wq)))
 
+-- what was known of some seats is known after a join
 told_more : (v w u : Known) (ps : List Known) → u ≡ after_join v w → IsPrefix v.seen u.seen → calls_of u.seen v.numbers ≡ calls_of v.seen v.numbers → KnowsAll v ps → KnowsAll u ps
 told_more v w u [] is s e t = tt
 told_more v w u (p ∷ ps) is s e t = let i = t.0.2 in (
   (
     prefix_trans p.seen v.seen u.seen t.0.0 s,
     subst (λ y. p.known ≤ y.known) (sym is) (omega (arith, t.0.1)),
-    (i.0, i.1 ++ w.numbers, sym (append_assoc (i.0 ++ p.numbers) i.1 w.numbers) ∙ (ap (λ l. l ++ w.numbers) i.2 ∙ sym (ap (λ y. y.numbers) is)), same_taken v p u.seen v.seen i (each_same u.seen v.seen v.numbers e) ∙ i.3),
+    (i.0, i.1 ++ w.numbers, sym (append_assoc (i.0 ++ p.numbers) i.1 w.numbers) ∙ (ap (λ l. l ++ w.numbers) i.2 ∙ sym (ap (λ y. y.numbers) is)), same_numbers v p u.seen v.seen i (each_same u.seen v.seen v.numbers e) ∙ i.3),
   ),
   told_more v w u ps is s e t.1,
 )
 
--- after the join with w
+-- after the join with w the seat knows all that w did too
 pub told_both : (v w u : Known) (ps : List Known) → u ≡ after_join v w → IsPrefix v.seen u.seen × IsPrefix w.seen u.seen → (calls_of u.seen v.numbers ≡ v.mine) × (calls_of u.seen w.numbers ≡ w.mine) → v.mine ≡ calls_of v.seen v.numbers → KnowsAll v ps → KnowsAll u (w ∷ ps)
 told_both v w u ps is s e mine t = (
   (s.1, subst (λ y. w.known ≤ y.known) (sym is) (omega arith), (v.numbers, [], append-nil (v.numbers ++ w.numbers) ∙ sym (ap (λ y. y.numbers) is), e.1)),
   told_more v w u ps is s.0 (e.0 ∙ mine) t,
 )
 
+-- a seat knows all that it did itself
 pub told_self : (v : Known) → v.mine ≡ calls_of v.seen v.numbers → KnowsAll v (v ∷ [])
 told_self v mine = ((prefix_self v.seen, omega arith, ([], [], append-nil v.numbers, sym mine)), tt)
 
+-- all seats of a list are of the lock: those of its beginning, those of its end, and its last one
 at_front : (z : TableId) (xs ys : List Known) → AllAt z (xs ++ ys) → AllAt z xs
 at_front z [] ys h = tt
 at_front z (x ∷ xs) ys h = (h.0, at_front z xs ys h.1)

@@ -15,15 +15,18 @@ use Rattle.arena_lock.proofs.SeatSteps.{deals}
 abbrev pub dealer : Opening → List Entry → ℕ → ℕ → SeatView
 dealer o log k n = new_view o log (numbers k n) 0 (n * 2 ^ 57)
 
+-- a dealer with a number left may deal it
 pub deals_next : {T : Type 0} (op : T → Opening) (jr : T → List Entry) (o' : Opening) (start : List Entry) (seats : ℕ) (id : ℕ) (v : SeatView) (o : Opening) (log : List Entry) (k n m : ℕ) → k < m → k + n ≡ m → v ≡ dealer o log k n
     → Splits (IsTicketed op jr o' start seats) id v (rest_view v) (dealt_view v)
 deals_next op jr o' start seats id v o log k zero m l e is = absurd (omega arith)
 deals_next op jr o' start seats id v o log k (suc n) m l e is =
     deals op jr o' start seats id v k n (subst IsIdle (sym is) record { live = refl; idle = refl }) (ap (λ z. z.past.numbers) is) (omega (arith, ap (λ z. z.turns) is))
 
+-- the seats that were dealt, and those that the dealer has still to deal, are all of them
 abbrev pub Goes : TableId → Opening → List Entry → ℕ → ℕ → List Known → SeatView → Type 0
 Goes z o log k m xs v = (n : ℕ) × (k + n ≡ m) × (v ≡ dealer o log k n) × (xs ++ new_seats z o log k n ≡ new_seats z o log 0 m)
 
+-- the same after one more
 pub goes_on : (z : TableId) (o : Opening) (log : List Entry) (k m : ℕ) (xs : List Known) (v : SeatView) → k < m → Goes z o log k m xs v → Goes z o log (k + 1) m (xs ++ known_in z (dealt_view v) ∷ []) (rest_view v)
 goes_on z o log k m xs v l (zero, e, is, all) = absurd (omega arith)
 goes_on z o log k m xs v l (suc n, e, is, all) =

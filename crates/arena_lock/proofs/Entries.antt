@@ -10,10 +10,12 @@ put_if-append : (b : Bool) (e : Entry) (xs ys : List Entry) → (if b then e ∷
 put_if-append true e xs ys = refl
 put_if-append false e xs ys = refl
 
+-- the entries of a number in two lists, one behind the other
 pub calls_by-append : (n : ℕ) (xs ys : List Entry) → calls_by n (xs ++ ys) ≡ calls_by n xs ++ calls_by n ys
 calls_by-append n [] ys = refl
 calls_by-append n (e ∷ es) ys = ap (λ (l : List Entry). if e.seat == n then e ∷ l else l) (calls_by-append n es ys) ∙ put_if-append (e.seat == n) e (calls_by n es) (calls_by n ys)
 
+-- an entry of another number changes nothing
 pub calls_by-other : (n : ℕ) (xs : List Entry) (e : Entry) → e.seat ≢ n → calls_by n (xs ++ e ∷ []) ≡ calls_by n xs
 calls_by-other n xs e ne = calls_by-append n xs (e ∷ []) ∙ (ap (λ (b : Bool). calls_by n xs ++ (if b then e ∷ [] else [])) (ne_eqb e.seat n ne) ∙ append-nil (calls_by n xs))
 
@@ -28,6 +30,8 @@ calls_by-between n xs ys zs p q e =
     let b : calls_by n zs ≡ calls_by n ys ++ calls_by n q.0 = ap (calls_by n) (sym q.1) ∙ calls_by-append n ys q.0 in
     let nothing : calls_by n q.0 ≡ [] = none_left (calls_by n ys) (calls_by n q.0) (omega (arith, ap length a, ap length b, ap length e, length-append (calls_by n xs) (calls_by n p.0), length-append (calls_by n ys) (calls_by n q.0))) in
     sym (b ∙ (ap (λ l. calls_by n ys ++ l) nothing ∙ append-nil (calls_by n ys)))
+
+-- facts of each of several numbers
 
 pub each_map : (P Q : ℕ → Type 0) → ((n : ℕ) → P n → Q n) → (ns : List ℕ) → Each P ns → Each Q ns
 each_map P Q f [] h = tt
@@ -66,9 +70,11 @@ pub each_same : (log log' : List Entry) (ns : List ℕ) → calls_of log ns ≡ 
 each_same log log' [] h = tt
 each_same log log' (n ∷ ns) h = (cc (h), each_same log log' ns (cc (h)))
 
+-- the journal before begins the one after
 pub grown : (n : ℕ) (before after : List Entry) → Grows n before after → IsPrefix before after
 grown n before after g = ⊎_elim (λ e. ([], append-nil before ∙ sym e)) (λ t. (t.0 ∷ [], sym t.2)) g
 
+-- the entries of another number stay
 pub others_calls : (n m : ℕ) (before after : List Entry) → m ≢ n → Grows n before after → calls_by m after ≡ calls_by m before
 others_calls n m before after ne g = ⊎_elim (λ e. ap (calls_by m) e) (λ t. ap (calls_by m) t.2 ∙ calls_by-other m before t.0 (λ is. ne (sym is ∙ t.1))) g
 
@@ -76,6 +82,7 @@ below_append : (n : ℕ) (xs : List Entry) (e : Entry) → AllBelow n xs → e.s
 below_append n [] e h l = (l, tt)
 below_append n (x ∷ xs) e h l = (h.0, below_append n xs e h.1 l)
 
+-- the journal still begins as it did, and the entries since bear numbers below n
 pub since_grows : (k n : ℕ) (start before after : List Entry) → Grows k before after → k < n → Since n start before → Since n start after
 since_grows k n start before after g l h = ⊎_elim (λ e. subst (Since n start) (sym e) h)
     (λ t. (h.0 ++ t.0 ∷ [], sym (append_assoc start h.0 (t.0 ∷ [])) ∙ (ap (λ z. z ++ t.0 ∷ []) h.1 ∙ sym t.2), below_append n h.0 t.0 h.2 (subst (λ z. z < n) (sym t.1) l))) g
@@ -85,6 +92,7 @@ pub each_number : (P : ℕ → Type 0) (k n seats : ℕ) → k + n ≤ seats →
 each_number P k zero seats h f = tt
 each_number P k (suc n) seats h f = (f k (omega arith), each_number P (suc k) n seats (omega arith) f)
 
+-- none of the numbers from i on is a smaller one
 pub above : (k i n : ℕ) → k < i → Each (λ m. m ≢ k) (numbers i n)
 above k i zero h = tt
 above k i (suc n) h = ((λ e. omega (arith, e)), above k (suc i) n (omega arith))

@@ -13,8 +13,10 @@ leads_start : (b : Bounds) (m : Machine) (xs rest : List Entry) (last : Machine)
 leads_start b m [] rest last h = (m, refl)
 leads_start b m (e ∷ es) rest last h = let r = leads_start b h.0 es rest last h.2 in (r.0, (h.0, h.1, r.1))
 
+-- the entries of a legal journal up to any of them
 pub legal_start : (o : Opening) (xs rest : List Entry) → IsLegal o (xs ++ rest) → IsLegal o xs
 legal_start o xs rest h = leads_start _ _ xs rest h.0 h.1
 
+-- the same of a journal that another one begins with
 pub legal_prefix : (o : Opening) (xs ys : List Entry) → IsPrefix xs ys → IsLegal o ys → IsLegal o xs
 legal_prefix o xs ys p h = legal_start o xs p.0 (subst (IsLegal o) (sym p.1) h)

@@ -1,4 +1,4 @@
--- Seats are made and joined_view.
+-- Seats are made, split, dealt and joined: each of these keeps the rule.
 use Rattle.std.proofs.Common.{◌≡◌, ◌≢◌, ℕ, zero, suc, ◌+◌, ◌^◌, ◌≤◌, eqb, ltb, max, Bool, true, false, if◌then◌else◌, List, [], ◌∷◌, ◌++◌, length, get_or, set, refl, ap, sym, ◌∙◌, subst, ⊎_elim, arith, length-set, ne_eqb, eq-eqb, ltb-false, ltb-true, Option, Some}
 use Rattle.std.proofs.lemmas.Bool.{false≢true}
 use Rattle.std.proofs.lemmas.List.{append-nil}
@@ -19,10 +19,12 @@ use Rattle.arena_lock.proofs.Entries.{calls_by-between, each_map, each_both, eac
 use Rattle.arena_lock.proofs.Prefixes.{prefix_self, prefix_shorter}
 use Rattle.arena_lock.proofs.Views.{Live, not_held, seats_stay, turns_set}
 
+-- the turns of all seats with one more
 turns-append : (vs : List SeatView) (w : SeatView) → all_turns (vs ++ w ∷ []) ≡ all_turns vs + w.turns
 turns-append [] w = omega arith
 turns-append (v ∷ vs) w = omega (arith, turns-append vs w)
 
+-- a map of numbers to places in which all of one place go to another
 abbrev moved : (ℕ → ℕ) → ℕ → ℕ → ℕ → ℕ
 moved owner other id n = either (eqb (owner n) other) id (owner n)
 
@@ -32,6 +34,7 @@ moved_from owner other id n e = ap (λ (b : Bool). either b id (owner n)) (eq-eq
 moved_else : (owner : ℕ → ℕ) (other id n : ℕ) → owner n ≢ other → moved owner other id n ≡ owner n
 moved_else owner other id n e = ap (λ (b : Bool). either b id (owner n)) (ne_eqb (owner n) other e)
 
+-- of two beginnings of one list: the longer one, which both of them begin, and the shorter
 abbrev Ends : (xs ys zs long short : List Entry) → Type 0
 Ends xs ys zs long short = IsPrefix xs long × IsPrefix ys long × IsPrefix long zs × IsPrefix short long
 

@@ -59,8 +59,8 @@ all_turns [] = 0
 all_turns (v ∷ vs) = v.turns + all_turns vs
 
 -- The rule. `log` is the journal of which the length is published. `home` is 1 while the value lies in its slot, which is
--- while no seat has the turn, and else 0. `owner` of a number and `holder` of a ticket are places of seats. While turns
--- are left no ticket is as large as 2^63, so that no word wraps.
+-- while no seat has the turn, and else 0. `owner` of a number and `holder` of a ticket are places of seats. The next
+-- ticket and the turns that are left to all seats make 2^63 at most, so that no word wraps.
 pub record IsTicketed {T : Type 0} (opening_of : T → Opening) (journal : T → List Entry) (opening : Opening) (start : List Entry) (seats : ℕ) (s : State (Option T) SeatView) : Type 0 where
   pub log : List Entry
   pub owner : ℕ → ℕ
