@@ -1,0 +1,16 @@
+// Tests of the lock of `arena_lock`, over a value that needs no arena.
+//
+// `Tally` keeps a journal of requests that are all refused, so that it is legal from a memory without words. `jobs` has what
+// is done to it in a turn, `threads` two threads that take turns at one lock, of which a contract says what each made. The
+// crate stands apart from `arena_lock`, since a crate with tests is proved twice.
+#![tactic(auto)]
+
+mod jobs;
+mod tally;
+mod threads;
+#[cfg(test)]
+mod turns;
+
+pub use jobs::{Ask, Look, LookBeside, TryBeside};
+pub use tally::Tally;
+pub use threads::{ask_all, ask_on_two_threads, lock_of_two};
