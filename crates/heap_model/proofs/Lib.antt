@@ -10,3 +10,7 @@ pub mod Settled
 pub mod Placements
 pub mod Outcomes
 pub mod Plain
+pub mod Counts
+pub mod Morphs
+pub mod MorphRows
+pub mod WorkedRows

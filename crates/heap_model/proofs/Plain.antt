@@ -21,7 +21,7 @@ use Rattle.heap_model.proofs.Slabbing.{LiesIn-block}
 use Rattle.heap_model.proofs.Steps.{row_of_fit}
 use Rattle.heap_model.proofs.Outcomes.{IsOfHeap, outcome}
 use Rattle.heap_model.proofs.Outcomes.Outcome.{Kept, Given, Taken, Written, Passed}
-use Rattle.heap_model.proofs.Sites.{class_small}
+use Rattle.heap_model.proofs.Sites.{class_small, IsStep-granted}
 
 -- an empty stack in the place of an empty one
 no_stacks-with : (seat class : ℕ) → with_stack no_stacks seat class [] ≡ no_stacks
@@ -32,10 +32,10 @@ no_stacks-with seat class = λ i other c. either ((other == seat) && (c == class
     either false = refl
 
 -- no stack has a top
-no_top : (seat class : ℕ) → ¬ (HasTop no_stacks seat class)
+pub no_top : (seat class : ℕ) → ¬ (HasTop no_stacks seat class)
 no_top seat class top = let is = top.is in absurd (cc)
 
-no_stacked : (class : ℕ) → ¬ (HasStacked no_stacks class)
+pub no_stacked : (class : ℕ) → ¬ (HasStacked no_stacks class)
 no_stacked class stacked = no_top stacked.seat class stacked.first.top
 
 -- an unused block is available, where no stack has a block
@@ -111,13 +111,7 @@ module _ (b : Bounds) (seat : ℕ) (m : Machine) where
   pub IsPlacedStep-malloc : (root size : ℕ) (site : Site) → root < b.roots → m.block root ≡ None → size ≢ 0 → size ≤ (b.granules - b.first) * 16384 → IsPlainSite (view_of b m) size site → IsClear m site →
       IsPlacedStep plain b seat (bare m) (Malloc root size) (Placed (range_of site).at (range_of site).size) (bare (with_block m root site))
   IsPlacedStep-malloc root size site below none some most is unused = record {
-    step = inr (
-      λ past. omega (arith, past, below),
-      inr (
-        λ held. absurd (let named = held.named in cc),
-        inr (some, inr (λ large. omega (arith, large, most), inl (record { site = site; chosen = is.chosen; is = refl; after = refl }))),
-      ),
-    );
+    step = IsStep-granted plain b m root size below none some most site is.chosen;
     stacked = stacked root size site is unused;
   }
 

@@ -1,12 +1,17 @@
 -- Sites of a malloc: two for one request that begin at one address are one block and leave the same slabs, and none is
 -- where there is said to be none.
-use Rattle.std.proofs.Common.{◌≡◌, ℕ, ◌<◌, ◌≤◌, ◌*◌, ◌/◌, Option, Some, refl, sym, ap, ◌∙◌, subst, arith, ⊎_elim}
+use Rattle.std.proofs.Common.{◌≡◌, ◌≢◌, ◌⊎◌, ℕ, ◌<◌, ◌≤◌, ◌-◌, ◌*◌, ◌/◌, Option, Some, None, inl, inr, refl, sym, ap, ◌∙◌, subst, arith, ⊎_elim}
 use Rattle.std.proofs.lemmas.Bool.{cases_lt}
 use Rattle.std.proofs.lemmas.List.{get_or_past}
 use Rattle.size_classes.specs.Classes.{sizes, class_capacity, class_size, IsClassOf}
 use Rattle.size_classes.proofs.Spacing.{class_size-most}
+use Rattle.heap_model.specs.declared.call.Call.TheVariants.{Malloc}
+use Rattle.heap_model.specs.declared.call.Reply.{Reply}
+use Rattle.heap_model.specs.declared.call.Reply.TheVariants.{Placed, NoSpace}
 use Rattle.heap_model.specs.Policy.{Policy}
-use Rattle.heap_model.specs.Machine.{slab_block, with_key}
+use Rattle.heap_model.specs.Machine.{Bounds, Machine, slab_block, with_key}
+use Rattle.heap_model.specs.Slabs.{view_of}
+use Rattle.heap_model.specs.Step.{IsRefused, IsGrant, with_block, IsStep}
 use Rattle.heap_model.specs.Runs.{IsFreeRun, IsBestFit}
 use Rattle.heap_model.specs.Choice.{View, HasUnusedBlock, IsBestSlab, Site, range_of, slabs_with, IsSite, HasNoSite}
 use Rattle.heap_model.specs.Choice.Site.{Granules, InSlab, InMorph, InNewSlab}
@@ -113,3 +118,17 @@ module _ (p : Policy) (v : View) (size : ℕ) where
       (λ small. omega (arith, is.fit.enough, small.no_run.none s is.fit.length is.fit.run))
       (λ large. class_small size c is.least large.large)
       none
+
+-- a request that passes the tests is granted a site, or finds none
+module _ (p : Policy) (b : Bounds) (m : Machine) (root size : ℕ) (below : root < b.roots) (none : m.block root ≡ None) (some : size ≢ 0) (most : size ≤ (b.granules - b.first) * 16384) where
+  abbrev pub Rest : Reply → Machine → Type 0
+  Rest reply next = IsGrant p b m root size reply next ⊎ (HasNoSite p (view_of b m) size × IsRefused m NoSpace reply next)
+
+  asked : (reply : Reply) (next : Machine) → Rest reply next → IsStep p b m (Malloc root size) reply next
+  asked reply next rest = inr (λ past. omega (arith, past, below), inr (λ held. absurd (let named = held.named in cc), inr (some, inr (λ large. omega (arith, large, most), rest))))
+
+  pub IsStep-granted : (site : Site) → IsSite p (view_of b m) size site → IsStep p b m (Malloc root size) (Placed (range_of site).at (range_of site).size) (with_block m root site)
+  IsStep-granted site is = asked _ _ (inl (record { site = site; chosen = is; is = refl; after = refl }))
+
+  pub IsStep-no_space : HasNoSite p (view_of b m) size → IsStep p b m (Malloc root size) NoSpace m
+  IsStep-no_space lacks = asked _ _ (inr (lacks, (refl, refl)))
