@@ -1,8 +1,8 @@
 use Rattle.std.proofs.Common.{◌^◌, ◌<◌, w64, arith, refl, get_or}
 use Rattle.std.specs.Int.{trailing_zeros}
 use Rattle.std.proofs.lemmas.Nat.Bits.{bit_at-trailing_zeros}
-use Rattle.slab_index.proofs.Bits.{least_in_word}
-use Rattle.slab_index.proofs.numbers.least_of.Goals as goal
+use Rattle.bit_words.proofs.Bits.{least_in_word}
+use Rattle.bit_words.proofs.numbers.least_of.Goals as goal
 
 pub returns : goal.returns
 returns c =

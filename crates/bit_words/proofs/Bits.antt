@@ -7,7 +7,7 @@ use Rattle.std.proofs.Math.Nat.{pow-le-pow_right}
 use Rattle.std.proofs.lemmas.Nat.{pow_pos}
 use Rattle.std.proofs.lemmas.Grind.{common_steps}
 use Rattle.std.proofs.lemmas.Nat.Bits.{bit_at-zero, bit_at_set_same, bit_at_set_other, bit_at_clear_same, bit_at_clear_other, bit_at_ones, bit_at_ones_above, shr_and_one}
-use Rattle.slab_index.specs.Numbers.{has, ones, IsWithBit, IsPut, IsLeastIn}
+use Rattle.bit_words.specs.Numbers.{has, ones, IsWithBit, IsPut, IsLeastIn}
 
 -- a number by its word
 pub has_in_word : (words : List ℕ) (k word : ℕ) → get_or words (k / 64) 0 ≡ word → has words k ≡ eqb (bit_at word (k % 64)) 1
@@ -143,3 +143,18 @@ unfolding ones
 ones_all n past =
     let least : 64 ≡ min n 64 = omega arith in
     ap (λ m. 2 ^ m - 1) least
+
+-- a number put into a set, or out of it, at that number and elsewhere
+pub put_here : {old new : List ℕ} {k : ℕ} {on : Bool} → IsPut old k on new → has new k ≡ on
+put_here {old} {new} {k} {on} put = put.each k ∙ cond-true (eqb k k) on (has old k) (eq-eqb k k refl)
+
+pub put_beside : {old new : List ℕ} {k : ℕ} {on : Bool} → IsPut old k on new → (j : ℕ) → j ≢ k → has new j ≡ has old j
+put_beside {old} {new} {k} {on} put j apart = put.each j ∙ cond-false (eqb j k) on (has old j) (ne_eqb j k apart)
+
+-- a set that a test tells, after one number was put in or out
+pub told_after : {old new : List ℕ} {k : ℕ} {on : Bool} (before after : ℕ → Bool) → IsPut old k on new → ((j : ℕ) → has old j ≡ before j) → on ≡ after k → ((j : ℕ) → j ≢ k → before j ≡ after j) →
+    (j : ℕ) → has new j ≡ after j
+told_after {old} {new} {k} {on} before after put told here others j = ⊎_elim
+    (λ (same : j ≡ k). ap (has new) same ∙ put_here put ∙ here ∙ ap after (sym same))
+    (λ (apart : j ≢ k). put_beside put j apart ∙ told j ∙ others j apart)
+    (cases_eq j k)

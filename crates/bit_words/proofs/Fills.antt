@@ -3,8 +3,8 @@ use Rattle.std.proofs.Common.{◌≡◌, ◌≢◌, ℕ, ◌+◌, ◌-◌, ◌*�
 use Rattle.std.specs.Int.{bit_at}
 use Rattle.std.proofs.lemmas.Bool.{cases_lt, cases_eq, eq-eqb, ne_eqb, lt-ltb, le-ltb, cond-true, cond-false, and_from, and_left, and_right}
 use Rattle.std.proofs.lemmas.List.{get_or-set_same, get_or-set_other}
-use Rattle.slab_index.specs.Numbers.{has, ones, IsFilled}
-use Rattle.slab_index.proofs.Bits.{has_in_word, has_same, has-set, bit_of_ones, ones_fit, ones-none}
+use Rattle.bit_words.specs.Numbers.{has, ones, IsFilled}
+use Rattle.bit_words.proofs.Bits.{has_in_word, has_same, has-set, bit_of_ones, ones_fit, ones-none}
 
 -- two tests of one meaning
 pub same_ltb : (a b m n : ℕ) → (a < b → m < n) → (m < n → a < b) → ltb a b ≡ ltb m n

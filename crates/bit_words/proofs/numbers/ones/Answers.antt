@@ -1,5 +1,5 @@
-use Rattle.slab_index.proofs.Bits.{ones_shifted, ones_all}
-use Rattle.slab_index.proofs.numbers.ones.Goals as goal
+use Rattle.bit_words.proofs.Bits.{ones_shifted, ones_all}
+use Rattle.bit_words.proofs.numbers.ones.Goals as goal
 
 pub returns-then-n-lt64 : goal.returns-then-n-lt64
 returns-then-n-lt64 c = ones_shifted c.args.n c.if-n-lt64.true

@@ -1,7 +1,7 @@
 use Rattle.std.proofs.Common.{◌≡◌, ◌-◌, ◌*◌, get_or, set, ◌∙◌, ap, arith, ◌+◌}
-use Rattle.slab_index.specs.Numbers.{ones}
-use Rattle.slab_index.proofs.Fills.{fill_none, fill_more, fill_all}
-use Rattle.slab_index.proofs.numbers.fill.Goals as goal
+use Rattle.bit_words.specs.Numbers.{ones}
+use Rattle.bit_words.proofs.Fills.{fill_none, fill_more, fill_all}
+use Rattle.bit_words.proofs.numbers.fill.Goals as goal
 
 pub loop-i-init : goal.loop-i-init
 loop-i-init c = fill_none c.args.words.now c.args.place c.args.n

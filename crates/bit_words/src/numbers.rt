@@ -1,9 +1,9 @@
 // Sets of numbers, kept as the bits of words.
 ghost use Rattle.std.specs.Prelude.{◌≡◌, ◌+◌, ◌*◌, ◌/◌, ◌<◌, ◌≤◌, length, slice_index, MatchOption};
-ghost use Rattle.slab_index.specs.Numbers.{has, ones, IsWithBit, IsPut, IsFilled, HasNoneIn, IsLeastIn};
+ghost use Rattle.bit_words.specs.Numbers.{has, ones, IsWithBit, IsPut, IsFilled, HasNoneIn, IsLeastIn};
 
 /// Whether the number is in the set.
-pub(crate) fn has(words: &[u64], k: u32) -> bool
+pub fn has(words: &[u64], k: u32) -> bool
     requires { k / 64 < length words.now }
     ensures { result ≡ has words.now k }
 {
@@ -23,7 +23,7 @@ fn with_bit(word: u64, bit: u32, on: bool) -> u64
 }
 
 /// Puts the number into the set, or out of it.
-pub(crate) fn put(words: &mut [u64], k: u32, on: bool)
+pub fn put(words: &mut [u64], k: u32, on: bool)
     requires { k / 64 < length words.old }
     ensures { IsPut words.old k on words.new }
 {
@@ -32,14 +32,14 @@ pub(crate) fn put(words: &mut [u64], k: u32, on: bool)
 }
 
 /// The word with the numbers below `n`, or all of 64.
-pub(crate) fn ones(n: u32) -> u64
+pub fn ones(n: u32) -> u64
     ensures { result ≡ ones n }
 {
     if n < 64 { (1 << n) - 1 } else { u64::MAX }
 }
 
 /// Of the 4096 numbers from 4096 times `place` on, puts the first `n` into the set and the others out of it.
-pub(crate) fn fill(words: &mut [u64], place: u32, n: u32)
+pub fn fill(words: &mut [u64], place: u32, n: u32)
     requires few { place < 1024 }
     requires within { 64 * place + 64 ≤ length words.old }
     ensures { IsFilled words.old place n words.new }
@@ -50,7 +50,7 @@ pub(crate) fn fill(words: &mut [u64], place: u32, n: u32)
 }
 
 /// The lowest number that a word has, which is not 0.
-pub(crate) fn least_of(words: &[u64], at: usize) -> Option<u32>
+pub fn least_of(words: &[u64], at: usize) -> Option<u32>
     requires within { at < length words.now }
     requires few { length words.now ≤ 65536 }
     ensures { MatchOption result (slice_index words.now at ≡ 0) (IsLeastIn words.now (64 * at) 64) }
@@ -63,7 +63,7 @@ pub(crate) fn least_of(words: &[u64], at: usize) -> Option<u32>
 }
 
 /// The lowest number that `n` words from `at` on have.
-pub(crate) fn least_in(words: &[u64], at: usize, n: usize) -> Option<u32>
+pub fn least_in(words: &[u64], at: usize, n: usize) -> Option<u32>
     requires within { at + n ≤ length words.now }
     requires few { length words.now ≤ 65536 }
     ensures { MatchOption result (HasNoneIn words.now (64 * at) (64 * n)) (IsLeastIn words.now (64 * at) (64 * n)) }
