@@ -20,3 +20,35 @@ fn best_fit_by_hand(rt: HostRuntime) -> Result<(), Fail> {
     assert_eq!(rt; (index.best_fit(13), index.best_fit(14)), (Some(10), None));
     Ok(())
 }
+
+// A heap of 1024 granules whose free runs are 5 granules at 10, 4 at 100 and 4 at 50: the lowest of the shortest that fits
+// is given. Once the rows between them come back one run is left.
+#[test]
+fn best_fit_in_words(rt: HostRuntime) -> Result<(), Fail> {
+    let mut index = ExtentIndex::new(rt.alloc(), 1024)?;
+    for (start, granules) in [(4, 6), (15, 35), (54, 46), (104, 920)] {
+        index.take(start, granules);
+    }
+    for (granules, start) in [(3, Some(50)), (4, Some(50)), (5, Some(10)), (6, None), (5000, None)] {
+        assert_eq!(rt; index.best_fit(granules), start, "for {granules}");
+    }
+    index.give(15, 35);
+    index.give(54, 46);
+    assert_eq!(rt; (index.best_fit(94), index.best_fit(95)), (Some(10), None));
+    Ok(())
+}
+
+// The largest heap: one run, then two, of which one is cut in its middle and made whole again.
+#[test]
+fn best_fit_in_the_largest_heap(rt: HostRuntime) -> Result<(), Fail> {
+    let mut index = ExtentIndex::new(rt.alloc(), 4096)?;
+    assert_eq!(rt; (index.best_fit(4092), index.best_fit(4093)), (Some(4), None));
+    index.take(2000, 1);
+    assert_eq!(rt; (index.best_fit(1996), index.best_fit(2095)), (Some(4), Some(2001)));
+    index.take(3000, 95);
+    assert_eq!(rt; (index.best_fit(999), index.best_fit(1001)), (Some(2001), Some(3095)));
+    index.give(3000, 95);
+    index.give(2000, 1);
+    assert_eq!(rt; (index.best_fit(4092), index.best_fit(4093)), (Some(4), None));
+    Ok(())
+}
