@@ -1,6 +1,6 @@
 -- The best fit, from the least length that a run has and the lowest start of the runs that have it.
-use Rattle.std.proofs.Common.{◌≡◌, ◌≢◌, ℕ, ◌+◌, ◌-◌, ◌*◌, ◌<◌, ◌≤◌, ⊎_elim, List, true, false, ltb, eqb, ◌&&◌, get_or, sym, ap, ◌∙◌, arith, subst}
-use Rattle.std.proofs.lemmas.Bool.{cases_lt, eq-eqb, eqb-true, lt-ltb, and_from, and_parts, false≢true, both_ways}
+use Rattle.std.proofs.Common.{◌≡◌, ℕ, ◌+◌, ◌-◌, ◌*◌, ◌<◌, ◌≤◌, ⊎_elim, List, true, ltb, eqb, get_or, sym, ap, ◌∙◌, arith, subst}
+use Rattle.std.proofs.lemmas.Bool.{cases_lt, eq-eqb, eqb-true, lt-ltb, and_from, and_parts, false≢true}
 use Rattle.bit_words.specs.Numbers.{has, HasNoneIn, IsLeastIn}
 use Rattle.heap_model.specs.Runs.{IsFreeRun, IsBestFit, HasNoFit}
 use Rattle.extent_index.specs.FreeSet.{FreeSet, IsFree}

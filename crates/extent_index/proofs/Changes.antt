@@ -1,5 +1,5 @@
 -- An index after a whole run was taken out, and after one was put in.
-use Rattle.std.proofs.Common.{◌≡◌, ◌≢◌, ℕ, ◌+◌, ◌-◌, ◌*◌, ◌<◌, ◌≤◌, ◌⊎◌, ◌↔◌, ⊎_elim, inl, inr, Bool, true, false, ltb, eqb, ◌&&◌, List, Option, Some, None, length, get_or, set, replicate, refl, sym, ap, ◌∙◌, subst, arith}
+use Rattle.std.proofs.Common.{◌≡◌, ◌≢◌, ℕ, ◌+◌, ◌-◌, ◌*◌, ◌<◌, ◌≤◌, ◌⊎◌, ◌↔◌, ⊎_elim, inl, inr, Bool, true, false, ltb, eqb, ◌&&◌, List, Option, Some, None, length, get_or, set, replicate, refl, sym, ap, ◌∙◌, arith}
 use Rattle.std.specs.Option.{MatchOption, is_some}
 use Rattle.std.proofs.lemmas.Bool.{cases_lt, cases_eq, eq-eqb, eqb-true, ne_eqb, lt-ltb, and_from, and_parts, and_right, false≢true, true_from_ne_false, false_from_ne_true}
 use Rattle.std.proofs.lemmas.List.{get_or-set_same, get_or-set_other, length-set, length-replicate}
@@ -7,8 +7,7 @@ use Rattle.bit_words.specs.Numbers.{has, IsPut, HasNoneIn, IsLeastIn}
 use Rattle.bit_words.proofs.Bits.{put_here, put_beside, get_or-zeros, has-zeros}
 use Rattle.extent_index.specs.FreeSet.{FreeSet, IsFree}
 use Rattle.extent_index.specs.Runs.{words_of, run_number, set_of, IsIndex, IsRoomFor}
-use Rattle.extent_index.proofs.Members.{AreRuns, runs_of, run_of, free_by, in_run, free_in, free_inside, granules_of}
-use Rattle.extent_index.proofs.Best.{start_of}
+use Rattle.extent_index.proofs.Members.{AreRuns, run_of, free_by, in_run, free_in, granules_of}
 use Rattle.extent_index.proofs.Numbers.{enough_words, same_run}
 
 -- one number of the list is another
@@ -253,41 +252,43 @@ IsIndex-inserted {granules} {s} {n} {starts} {lengths} {length_at} {start_at} st
 pub free_removed : {granules s n : ℕ} {length_at length_at' : List ℕ} {set : FreeSet} → set_of granules length_at ≡ set → AreRuns granules length_at → AreRuns granules length_at' → 0 < n → get_or length_at s 0 ≡ n → IsReplaced length_at s 0 length_at' →
     (k : ℕ) → IsFree (set_of granules length_at') k ↔ (IsFree set k × ((k < s) ⊎ (s + n ≤ k)))
 free_removed {granules} {s} {n} {length_at} {length_at'} {set} view are are' some is replaced k = (
-    λ free.
-        let run = in_run granules length_at' k free in
-        let was = left_of replaced run.start (omega (arith, run.low, run.high)) in
-        let more : 0 < get_or length_at run.start 0 = omega (arith, run.low, run.high, was) in
-        (free_by view are run.start k run.low (omega (arith, run.high, was)), ⊎_elim
+  λ free.
+      let run = in_run granules length_at' k free in
+      let was = left_of replaced run.start (omega (arith, run.low, run.high)) in
+      let more : 0 < get_or length_at run.start 0 = omega (arith, run.low, run.high, was) in (
+        free_by view are run.start k run.low (omega (arith, run.high, was)),
+        ⊎_elim
             (λ (lower : run.start < s). inl (omega (arith, run.high, was, are.apart run.start s lower more (omega arith))))
             (λ (higher : s ≤ run.start). inr (omega (arith, run.low, are.apart s run.start (omega (arith, was)) (omega arith) more)))
-            (cases_lt run.start s)),
-    λ h.
-        let run = run_of view are k h.0 in
-        let apart : run.start ≢ s = λ at. ⊎_elim
-            (λ (lower : k < s). absurd (omega (arith, run.low)))
-            (λ (higher : s + n ≤ k). absurd (omega (arith, run.high, ap (λ i. get_or length_at i 0) at)))
-            h.1 in
-        free_in granules length_at' run.start k are' run.low (omega (arith, run.high, replaced.others run.start apart)),
-    )
+            (cases_lt run.start s),
+      ),
+  λ h.
+      let run = run_of view are k h.0 in
+      let apart : run.start ≢ s = λ at. ⊎_elim
+      (λ (lower : k < s). absurd (omega (arith, run.low)))
+      (λ (higher : s + n ≤ k). absurd (omega (arith, run.high, ap (λ i. get_or length_at i 0) at)))
+      h.1 in
+      free_in granules length_at' run.start k are' run.low (omega (arith, run.high, replaced.others run.start apart)),
+)
 
 -- and after one was put in
 pub free_inserted : {granules s n : ℕ} {length_at length_at' : List ℕ} {set : FreeSet} → set_of granules length_at ≡ set → AreRuns granules length_at → AreRuns granules length_at' → get_or length_at s 0 ≡ 0 → IsReplaced length_at s n length_at' →
     (k : ℕ) → IsFree (set_of granules length_at') k ↔ (IsFree set k ⊎ ((s ≤ k) × (k < s + n)))
 free_inserted {granules} {s} {n} {length_at} {length_at'} {set} view are are' none replaced k = (
-    λ free.
-        let run = in_run granules length_at' k free in
-        ⊎_elim
-        (λ (at : run.start ≡ s). inr (omega (arith, run.low), omega (arith, run.high, replaced.here, ap (λ i. get_or length_at' i 0) at)))
-        (λ (elsewhere : run.start ≢ s). inl (free_by view are run.start k run.low (omega (arith, run.high, replaced.others run.start elsewhere))))
-        (cases_eq run.start s),
-    λ h. ⊎_elim
-        (λ (free : IsFree set k).
-        let run = run_of view are k free in
-        let apart : run.start ≢ s = λ at. absurd (omega (arith, run.low, run.high, ap (λ i. get_or length_at i 0) at, none)) in
-        free_in granules length_at' run.start k are' run.low (omega (arith, run.high, replaced.others run.start apart)))
-        (λ (here : (s ≤ k) × (k < s + n)). free_in granules length_at' s k are' here.0 (omega (arith, here, replaced.here)))
-        h,
-    )
+  λ free.
+      let run = in_run granules length_at' k free in
+      ⊎_elim
+      (λ (at : run.start ≡ s). inr (omega (arith, run.low), omega (arith, run.high, replaced.here, ap (λ i. get_or length_at' i 0) at)))
+      (λ (elsewhere : run.start ≢ s). inl (free_by view are run.start k run.low (omega (arith, run.high, replaced.others run.start elsewhere))))
+      (cases_eq run.start s),
+  λ h. ⊎_elim
+      (λ (free : IsFree set k).
+      let run = run_of view are k free in
+      let apart : run.start ≢ s = λ at. absurd (omega (arith, run.low, run.high, ap (λ i. get_or length_at i 0) at, none)) in
+      free_in granules length_at' run.start k are' run.low (omega (arith, run.high, replaced.others run.start apart)))
+      (λ (here : (s ≤ k) × (k < s + n)). free_in granules length_at' s k are' here.0 (omega (arith, here, replaced.here)))
+      h,
+)
 
 -- where there is room for granules, no run has one of them or lies beside them
 pub is_clear : {granules s n : ℕ} {length_at : List ℕ} {set : FreeSet} → set_of granules length_at ≡ set → AreRuns granules length_at → 0 < n → IsRoomFor set s n → IsClear granules length_at s n

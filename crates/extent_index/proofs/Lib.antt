@@ -1,7 +1,6 @@
 pub mod Best
 pub mod Changes
-pub mod Gives
 pub mod Members
 pub mod Numbers
+pub mod Rows
 pub mod Searches
-pub mod Takes

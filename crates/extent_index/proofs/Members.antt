@@ -1,5 +1,5 @@
 -- The free runs of an index's set are those whose lengths it keeps.
-use Rattle.std.proofs.Common.{◌≡◌, ◌≢◌, ℕ, zero, suc, ◌+◌, ◌-◌, ◌<◌, ◌≤◌, ◌⊎◌, ◌||◌, ⊎_elim, inl, inr, List, length, true, false, ltb, map, refl, sym, ◌∙◌, ap, subst, arith, get_or}
+use Rattle.std.proofs.Common.{◌≡◌, ◌≢◌, ℕ, zero, suc, ◌+◌, ◌-◌, ◌<◌, ◌≤◌, ◌⊎◌, ⊎_elim, List, true, false, ltb, map, refl, sym, ◌∙◌, ap, subst, arith, get_or}
 use Rattle.std.specs.List.{range_with_len}
 use Rattle.std.proofs.lemmas.Bool.{cases_lt, cases_eq, cases_order, or_cases, or_left, or_right, ltb-true, lt-ltb}
 use Rattle.std.proofs.lemmas.List.{get_or_past}
@@ -139,15 +139,17 @@ module _ {granules : ℕ} {length_at : List ℕ} {set : FreeSet} (is : set_of gr
   -- free granules up to granule k, the first of which begins no run, go on below it
   pub row_down : (k s : ℕ) → s ≤ k → IsFreeRow (IsFree set) s (k + 1 - s) → get_or length_at s 0 ≡ 0 → (0 < s) × IsFreeRow (IsFree set) (s - 1) (k + 1 - (s - 1))
   row_down k s low row none =
-      let below = free_below s (row.each s (omega arith) (omega arith)) none in
-      (below.0, record {
-        each = λ j first last. ⊎_elim
-            (λ (here : j < s).
-            let next : s - 1 ≡ j = omega arith in
-            subst (IsFree set) next below.1)
-            (λ (there : s ≤ j). row.each j there (omega arith))
-            (cases_lt j s);
-      })
+      let below = free_below s (row.each s (omega arith) (omega arith)) none in (
+        below.0,
+        record {
+          each = λ j first last. ⊎_elim
+              (λ (here : j < s).
+              let next : s - 1 ≡ j = omega arith in
+              subst (IsFree set) next below.1)
+              (λ (there : s ≤ j). row.each j there (omega arith))
+              (cases_lt j s);
+        },
+      )
 
   -- free granules up to granule k, the first of which begins a run, lie in that run
   pub is_run_with : (k s n : ℕ) → s ≤ k → IsFreeRow (IsFree set) s (k + 1 - s) → n ≡ get_or length_at s 0 → 0 < n → IsRunWith set k s n

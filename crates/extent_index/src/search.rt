@@ -8,7 +8,12 @@ use std::sync::ledger::{Blank, Ledger};
 
 /// The lowest number from `from` on that the words below `end` have. It looks at each word from that of `from` on at most
 /// once.
-pub(crate) fn lowest_from<L: Ledger>(table: &WordTable, from: u32, end: u32, steps: &mut Steps<L>) -> Option<u32>
+pub(crate) fn lowest_from<L: Ledger>(
+    table: &WordTable,
+    from: u32,
+    end: u32,
+    steps: &mut Steps<L>,
+) -> Option<u32>
     requires from { from ≤ 64 * end }
     requires within { end ≤ length table.now }
     requires few { length table.now ≤ 2 ^ 18 }

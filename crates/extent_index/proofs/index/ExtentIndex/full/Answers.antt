@@ -1,4 +1,4 @@
-use Rattle.std.proofs.Common.{◌≡◌, ◌*◌, ℕ, replicate, ap, ◌∙◌}
+use Rattle.std.proofs.Common.{◌≡◌, ◌*◌, replicate, ap, ◌∙◌}
 use Rattle.extent_index.specs.Runs.{words_of}
 use Rattle.extent_index.proofs.Changes.{IsIndex-full, none_free}
 use Rattle.extent_index.proofs.index.ExtentIndex.full.Goals as goal

@@ -1,5 +1,5 @@
 use Rattle.std.proofs.Common.{arith}
-use Rattle.extent_index.proofs.Gives.{row_in_heap, last_held, still_above, room_for_all, given}
+use Rattle.extent_index.proofs.Rows.{row_in_heap}
 use Rattle.extent_index.proofs.index.ExtentIndex.give.Goals as goal
 
 pub overflow_add-start : goal.overflow_add-start

@@ -1,4 +1,4 @@
-use Rattle.std.proofs.Common.{arith, ◌<◌, ◌+◌, ◌-◌, refl}
+use Rattle.std.proofs.Common.{arith, ◌+◌, ◌-◌}
 use Rattle.extent_index.proofs.Changes.{is_clear, IsReplaced-set, IsIndex-inserted, free_inserted}
 use Rattle.extent_index.proofs.Members.{runs_of}
 use Rattle.extent_index.proofs.Numbers.{enough_words}

@@ -1,4 +1,4 @@
-use Rattle.std.proofs.Common.{arith, ◌≡◌, ◌<◌, ◌≤◌, ◌+◌, ◌-◌, ap, ◌∙◌, get_or}
+use Rattle.std.proofs.Common.{arith, ◌+◌, ◌-◌, ap}
 use Rattle.extent_index.proofs.Changes.{is_left, IsReplaced-set, IsIndex-removed, free_removed}
 use Rattle.extent_index.proofs.Members.{runs_of, high_of_run, free_inside, length_of_run}
 use Rattle.extent_index.proofs.Numbers.{enough_words}

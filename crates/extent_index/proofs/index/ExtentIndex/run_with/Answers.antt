@@ -1,4 +1,4 @@
-use Rattle.std.proofs.Common.{◌≡◌, ◌+◌, ◌-◌, ◌<◌, sym, ◌∙◌, arith, get_or}
+use Rattle.std.proofs.Common.{◌<◌, sym, ◌∙◌, arith}
 use Rattle.std.proofs.lemmas.List.{get_or_read}
 use Rattle.extent_index.proofs.Members.{runs_of, granules_of, free_inside, row_down, is_run_with, high_of_run}
 use Rattle.extent_index.proofs.index.ExtentIndex.run_with.Goals as goal

@@ -1,4 +1,4 @@
-use Rattle.std.proofs.Common.{◌≡◌, ◌+◌, ◌-◌, ◌≤◌}
+use Rattle.std.proofs.Common.{◌+◌, ◌-◌, ◌≤◌}
 use Rattle.heap_model.specs.Runs.{IsFreeRow}
 use Rattle.extent_index.specs.FreeSet.{IsFree}
 use Rattle.extent_index.proofs.index.ExtentIndex.run_with.Given as goal
