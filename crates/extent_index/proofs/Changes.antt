@@ -1,9 +1,8 @@
 -- An index after a whole run was taken out, and after one was put in.
-use Rattle.std.proofs.Common.{◌≡◌, ◌≢◌, ℕ, ◌+◌, ◌-◌, ◌*◌, ◌<◌, ◌≤◌, ◌⊎◌, ◌↔◌, ⊎_elim, inl, inr, Bool, true, false, ltb, eqb, ◌&&◌, List, Option, Some, None, length, get_or, set, replicate, refl, sym, ap, ◌∙◌, arith}
-use Rattle.std.specs.Option.{MatchOption, is_some}
-use Rattle.std.proofs.lemmas.Bool.{cases_lt, cases_eq, eq-eqb, eqb-true, ne_eqb, lt-ltb, and_from, and_parts, and_right, false≢true, true_from_ne_false, false_from_ne_true}
+use Rattle.std.proofs.Common.{◌≡◌, ◌≢◌, ℕ, ◌+◌, ◌-◌, ◌*◌, ◌<◌, ◌≤◌, ◌⊎◌, ◌↔◌, ⊎_elim, inl, inr, Bool, true, false, ltb, eqb, ◌&&◌, List, length, get_or, set, replicate, refl, sym, ap, ◌∙◌, arith}
+use Rattle.std.proofs.lemmas.Bool.{cases_lt, cases_eq, eq-eqb, eqb-true, ne_eqb, lt-ltb, and_from, and_parts, and_right, both_ways, false≢true, true_from_ne_false, false_from_ne_true}
 use Rattle.std.proofs.lemmas.List.{get_or-set_same, get_or-set_other, length-set, length-replicate}
-use Rattle.bit_words.specs.Numbers.{has, IsPut, HasNoneIn, IsLeastIn}
+use Rattle.bit_words.specs.Numbers.{has, IsPut, HasNoneIn}
 use Rattle.bit_words.proofs.Bits.{put_here, put_beside, get_or-zeros, has-zeros}
 use Rattle.extent_index.specs.FreeSet.{FreeSet, IsFree}
 use Rattle.extent_index.specs.Runs.{words_of, run_number, set_of, IsIndex, IsRoomFor}
@@ -76,20 +75,18 @@ left_of {s} {length_at} {length_at'} replaced t some =
 -- whether the row of a length has a number left
 pub record IsLeft (granules n : ℕ) (starts : List ℕ) (left : Bool) : Type 0 where
   pub none : left ≡ false → (t : ℕ) → t < 64 * words_of granules → has starts (run_number granules n t) ≡ false
-  pub some : left ≡ true → (t : ℕ) × (t < 64 * words_of granules) × (has starts (run_number granules n t) ≡ true)
+  pub some : left ≡ true → ¬ ((t : ℕ) → t < 64 * words_of granules → has starts (run_number granules n t) ≡ false)
 
--- the lowest number of a row, or that there is none, tells whether it has one
-pub is_left : {granules n : ℕ} {starts : List ℕ} (row end : ℕ) (found : Option ℕ) (left : Bool) → row ≡ words_of granules * n → end ≡ row + words_of granules → left ≡ is_some found →
-    MatchOption found (HasNoneIn starts (64 * row) (64 * end - 64 * row)) (IsLeastIn starts (64 * row) (64 * end - 64 * row)) → IsLeft granules n starts left
-is_left {granules} {n} {starts} row end None left row_is end_is is none = record {
-  none = λ _ t inside. none.none (run_number granules n t) (omega arith) (omega arith);
-  some = λ yes'. absurd (false≢true (sym is ∙ yes'));
-}
-is_left {granules} {n} {starts} row end (Some k) left row_is end_is is least = record {
-  none = λ no'. absurd (false≢true (sym no' ∙ is));
-  some = λ _.
-      let number : run_number granules n (k - 64 * row) ≡ k = omega (arith, least.low) in
-      (k - 64 * row, omega (arith, least.low, least.high), ap (has starts) number ∙ least.is);
+-- whether the words of a length have a number tells it
+pub is_left : {granules n : ℕ} {starts : List ℕ} (row end : ℕ) (left : Bool) → row ≡ words_of granules * n → end ≡ row + words_of granules → (left ≡ false) ↔ HasNoneIn starts (64 * row) (64 * end - 64 * row) → IsLeft granules n starts left
+is_left {granules} {n} {starts} row end left row_is end_is tells = record {
+  none = λ no' t inside. (tells.0 no').none (run_number granules n t) (omega arith) (omega arith);
+  some = λ yes' all.
+      both_ways left (tells.1 (record {
+        none = λ k low high.
+            let number : run_number granules n (k - 64 * row) ≡ k = omega arith in
+            sym (ap (has starts) number) ∙ all (k - 64 * row) (omega arith);
+      })) yes';
 }
 
 -- no run has one of the granules from s on or lies beside them
@@ -149,10 +146,9 @@ IsIndex-removed {granules} {s} {n} {left} {starts} {lengths} {length_at} {start_
           (λ (one : m ≡ n).
           ap (has lengths') one
           ∙ put_here put_length
-          ∙ false_from_ne_true left (λ is_left.
-          let found = rest.some is_left in
-          let is_run : get_or length_at' found.0 0 ≡ n = eqb-true (get_or length_at' found.0 0) n (and_parts (ltb 0 n) (eqb (get_or length_at' found.0 0) n) (sym (told n found.0 below found.1) ∙ found.2)).1 in
-          all found.0 (is_run ∙ sym one)))
+          ∙ false_from_ne_true left (λ is_left. rest.some is_left (λ t inside. false_from_ne_true (has starts' (run_number granules n t)) (λ found.
+          let is_run : get_or length_at' t 0 ≡ n = eqb-true (get_or length_at' t 0) n (and_parts (ltb 0 n) (eqb (get_or length_at' t 0) n) (sym (told n t below inside) ∙ found)).1 in
+          all t (is_run ∙ sym one)))))
           (λ (other : m ≢ n).
           put_beside put_length m other
           ∙ index.none m more (λ t is_run. ⊎_elim

@@ -5,7 +5,7 @@ ghost use Rattle.extent_index.specs.FreeSet.{IsFree, IsHeldRow};
 ghost use Rattle.extent_index.specs.Runs.{words_of, IsRunOrNone, IsRunBelow, IsRunAbove, IsRunWith, IsRoomFor};
 
 use crate::run::Run;
-use crate::search::{lowest_from, lowest_uncounted};
+use crate::search::{has_any, lowest_from};
 use crate::word_table::{Steps, WordTable};
 use pmem_lines::OutOfMemory;
 use std::alloc::Global;
@@ -227,7 +227,7 @@ impl ExtentIndex {
         self.length_at[run.start as usize] = 0;
         self.start_at[(run.start + run.granules - 1) as usize] = 0;
         self.starts.put(64 * row + run.start, false);
-        let left = lowest_uncounted(&self.starts, 64 * row, end).is_some();
+        let left = has_any(&self.starts, row, end);
         self.lengths.put(run.granules, left);
     }
 

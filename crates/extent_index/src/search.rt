@@ -1,5 +1,5 @@
-// The lowest number of a table from a number on, found word by word.
-ghost use Rattle.std.specs.Prelude.{◌≡◌, ◌+◌, ◌-◌, ◌*◌, ◌/◌, ◌%◌, ◌^◌, ◌<◌, ◌≤◌, length, MatchOption};
+// The lowest number of a table from a number on, found word by word, and whether words have one at all.
+ghost use Rattle.std.specs.Prelude.{◌≡◌, ◌+◌, ◌-◌, ◌*◌, ◌/◌, ◌%◌, ◌^◌, ◌<◌, ◌≤◌, ◌↔◌, false, length, MatchOption};
 ghost use Rattle.bit_words.specs.Numbers.{HasNoneIn, IsLeastIn};
 
 use crate::word_table::{Steps, WordTable};
@@ -14,42 +14,47 @@ pub(crate) fn lowest_from<L: Ledger>(
     end: u32,
     steps: &mut Steps<L>,
 ) -> Option<u32>
-    requires from { from ≤ 64 * end }
+    requires from { from / 64 < end }
     requires within { end ≤ length table.now }
     requires few { length table.now ≤ 2 ^ 18 }
     ensures found { MatchOption result (HasNoneIn table.now from (64 * end - from)) (IsLeastIn table.now from (64 * end - from)) }
     ensures steps { steps.new ≤ steps.old + (end - from / 64) }
 {
-    for i in from / 64..end {
-        if let Some(k) = lowest_in_word(table, from.max(64 * i), steps) {
+    if let Some(k) = lowest_in_word(table, from, steps) {
+        return Some(k);
+    }
+    for i in from / 64 + 1..end {
+        if let Some(k) = lowest_in_word(table, 64 * i, steps) {
             return Some(k);
         }
     }
     None
 }
 
-/// The same, where nobody counts.
-pub(crate) fn lowest_uncounted(table: &WordTable, from: u32, end: u32) -> Option<u32>
-    requires from { from ≤ 64 * end }
+/// Whether the words from `first` on and below `end` have a number.
+pub(crate) fn has_any(table: &WordTable, first: u32, end: u32) -> bool
+    requires order { first ≤ end }
     requires within { end ≤ length table.now }
-    requires few { length table.now ≤ 2 ^ 18 }
-    ensures { MatchOption result (HasNoneIn table.now from (64 * end - from)) (IsLeastIn table.now from (64 * end - from)) }
+    ensures { (result ≡ false) ↔ HasNoneIn table.now (64 * first) (64 * end - 64 * first) }
 {
-    lowest_by::<Brand>(table, from, end, Blank::new(1))
+    has_any_by::<Brand>(table, first, end, Blank::new(1))
 }
 
-// The same, with a counter of its own.
-fn lowest_by<L: Ledger>(table: &WordTable, from: u32, end: u32, blank: Blank) -> Option<u32>
-    requires from { from ≤ 64 * end }
+// The same, with a counter of its own. All words are looked at, so that nothing hangs on what each is.
+fn has_any_by<L: Ledger>(table: &WordTable, first: u32, end: u32, blank: Blank) -> bool
+    requires order { first ≤ end }
     requires within { end ≤ length table.now }
-    requires few { length table.now ≤ 2 ^ 18 }
     requires name { blank.name ≡ L.name }
     requires parts { blank.parts ≡ L.parts }
     requires some { 0 < blank.parts }
-    ensures { MatchOption result (HasNoneIn table.now from (64 * end - from)) (IsLeastIn table.now from (64 * end - from)) }
+    ensures { (result ≡ false) ↔ HasNoneIn table.now (64 * first) (64 * end - 64 * first) }
 {
     let mut steps = Steps::<L>::new(blank);
-    lowest_from(table, from, end, &mut steps)
+    let mut all = 0;
+    for i in first..end {
+        all |= table.look(i, &mut steps);
+    }
+    all != 0
 }
 
 // The lowest number from `from` on that the word of `from` has.

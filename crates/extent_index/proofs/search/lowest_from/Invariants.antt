@@ -5,5 +5,5 @@ use Rattle.extent_index.proofs.search.lowest_from.Given as goal
 abbrev pub invariant-loop-i : goal.invariant-loop-i
 invariant-loop-i g l = record {
   none : (k : ℕ) → l.from ≤ k → k < 64 * l.i → has l.table k ≡ false;
-  steps : l.steps ≤ l.initial.steps + (l.i - l.from / 64);
+  steps : l.steps ≤ l.fn.steps + (l.i - l.from / 64);
 }

@@ -35,7 +35,7 @@ invariant_of-self c =
     (IsReplaced-set s.length_at.items run.start 0 (omega (arith, high, c.self.invariant.length_at_size)))
     (IsReplaced-set s.start_at.items (run.start + run.granules - 1) 0 (omega (arith, high, c.self.invariant.start_at_size)))
     (rw c.row_for-row.ensures.value at c.put.ensures)
-    (is_left c.row_for-row.result (c.row_for-row.result + c.words_for.result) c.lowest_uncounted.result c.is_some-left.result c.row_for-row.ensures.value (ap (λ words. c.row_for-row.result + words) c.words_for.ensures.value) c.is_some-left.ensures c.lowest_uncounted.ensures)
+    (is_left c.row_for-row.result (c.row_for-row.result + c.words_for.result) c.has_any-left.result c.row_for-row.ensures.value (ap (λ words. c.row_for-row.result + words) c.words_for.ensures.value) c.has_any-left.ensures)
     c.put-2.ensures
 
 pub returns-clause-free : goal.returns-clause-free
