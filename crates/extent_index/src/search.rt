@@ -40,7 +40,8 @@ pub(crate) fn has_any(table: &WordTable, first: u32, end: u32) -> bool
     has_any_by::<Brand>(table, first, end, Blank::new(1))
 }
 
-// The same, with a counter of its own. All words are looked at, so that nothing hangs on what each is.
+// The same, with a counter of its own. It looks at all words and branches on none, since where the first number stands
+// cannot be foretold.
 fn has_any_by<L: Ledger>(table: &WordTable, first: u32, end: u32, blank: Blank) -> bool
     requires order { first ≤ end }
     requires within { end ≤ length table.now }
