@@ -43,9 +43,9 @@ impl Model for ExtentIndex {
 }
 
 impl ExtentIndex {
-    /// An index of an arena of 16 to 4096 granules, in which all of the heap is free. With as many words as have a bit for
-    /// each granule it takes 8 bytes for each of these words, and for each granule 8 times as much and 8 bytes beside. It
-    /// refuses where there is no memory for them; no later call takes any.
+    /// An index of an arena of 16 to 4096 granules, in which all of the heap is free. Where `w` words have a bit for each
+    /// granule, it takes `8 * w` bytes, and `8 * w + 8` more for each granule. It refuses where there is no memory for
+    /// them; no later call takes any.
     pub fn new(alloc: Global, granules: u32) -> Result<ExtentIndex, OutOfMemory>
         requires least { 16 ≤ granules }
         requires most { granules ≤ 4096 }
