@@ -1,9 +1,6 @@
 pub mod Best
-pub mod Bounds
-pub mod Cuts
-pub mod Fits
-pub mod Joins
+pub mod Changes
 pub mod Members
-pub mod Puts
-pub mod Steps
-pub mod Views
+pub mod Numbers
+pub mod Rows
+pub mod Searches

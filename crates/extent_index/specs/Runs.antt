@@ -1,84 +1,78 @@
--- A list of runs by rising start, in which each run is as long as it can be.
-use Rattle.std.specs.Prelude.{◌==◌, ℕ, ◌+◌, ◌*◌, ◌<◌, ◌≤◌, suc, nat_lt, nat_le, Bool, false, ◌&&◌, ◌||◌, map, List, [], ◌∷◌, Option, Some, None, drop, slice_index_or, if◌then◌else◌}
-use Rattle.std.specs.List.{insert, remove, range_with_len}
-use Rattle.extent_index.specs.declared.run.Run.{Run}
-use Rattle.extent_index.specs.FreeSet.{FreeSet}
+-- The free runs of a heap as an index keeps them: the length of each at its first granule, and beside that where each
+-- ends and which runs each length has.
+use Rattle.std.specs.Prelude.{◌≡◌, ◌≢◌, ◌==◌, ℕ, suc, zero, ◌+◌, ◌-◌, ◌*◌, ◌/◌, ◌<◌, ◌≤◌, nat_lt, Bool, true, false, ◌&&◌, ◌||◌, map, List, length, slice_index}
+use Rattle.std.specs.List.{range_with_len}
+use Rattle.bit_words.specs.Numbers.{has}
+use Rattle.heap_model.specs.Runs.{IsFreeRun}
+use Rattle.extent_index.specs.FreeSet.{FreeSet, IsFree, IsHeldRow}
 
--- the granule behind a run
-abbrev pub end_of : Run → ℕ
-end_of run = run.start + run.granules
-
--- the run has granules, none before the first and none from the end on
-pub record IsRunWithin (first end : ℕ) (run : Run) : Type 0 where
-  pub low : first ≤ run.start
-  pub some : 0 < run.granules
-  pub high : end_of run ≤ end
-
--- runs by rising start, with a granule or more between neighbours
-abbrev pub AreRuns : ℕ → ℕ → List Run → Type 0
-AreRuns first end [] = Unit {0}
-AreRuns first end (run ∷ runs) = IsRunWithin first end run × AreRuns (end_of run + 1) end runs
+-- a run that begins at granule s or below reaches beyond granule k
+abbrev pub reaches : List ℕ → ℕ → ℕ → Bool
+reaches length_at zero k = nat_lt k (slice_index length_at 0)
+reaches length_at (suc s) k = nat_lt k (suc s + slice_index length_at (suc s)) || reaches length_at s k
 
 -- one of the runs has granule k
-abbrev pub is_in_runs : List Run → ℕ → Bool
-is_in_runs [] k = false
-is_in_runs (run ∷ runs) k = (nat_le run.start k && nat_lt k (end_of run)) || is_in_runs runs k
+abbrev pub is_in_run : List ℕ → ℕ → Bool
+is_in_run length_at k = reaches length_at k k
 
 -- which of so many granules are in the runs
-unfoldable pub marks_of : ℕ → List Run → List Bool
-marks_of granules runs = map (is_in_runs runs) (range_with_len 0 granules)
+unfoldable pub marks_of : ℕ → List ℕ → List Bool
+marks_of granules length_at = map (is_in_run length_at) (range_with_len 0 granules)
 
--- the free granules of an arena of so many, of which these are the free runs
-abbrev pub set_of : ℕ → List Run → FreeSet
-set_of granules runs = record { granules = granules; marks = marks_of granules runs }
+-- the free granules of an arena of so many, of which the free runs have these lengths at their first granules
+abbrev pub set_of : ℕ → List ℕ → FreeSet
+set_of granules length_at = record { granules = granules; marks = marks_of granules length_at }
 
--- what an index keeps: the runs of a heap, and room for one more than there can be
-pub record IsIndex (granules : ℕ) (runs : List Run) (capacity : ℕ) : Type 0 where
+-- how many words have a bit for each of so many granules
+unfoldable pub words_of : ℕ → ℕ
+words_of granules = (granules + 63) / 64
+
+-- the number of a run among the starts: its first granule, behind the words of the shorter lengths
+abbrev pub run_number : ℕ → ℕ → ℕ → ℕ
+run_number granules run_length start = 64 * (words_of granules * run_length) + start
+
+-- what an index keeps: at the first granule of each free run its length and at its last granule its first, and 0 elsewhere;
+-- for each length the first granules of the runs that have it; and the lengths that a run has
+pub record IsIndex (granules : ℕ) (starts lengths length_at start_at : List ℕ) : Type 0 where
   pub least : 16 ≤ granules
-  pub most : granules ≤ 1024
-  pub apart : AreRuns 4 granules runs
-  pub room : granules ≤ 2 * capacity + 1
+  pub most : granules ≤ 4096
+  pub starts_size : length starts ≡ words_of granules * granules
+  pub lengths_size : length lengths ≡ words_of granules
+  pub length_at_size : length length_at ≡ granules
+  pub start_at_size : length start_at ≡ granules
+  pub low : (s : ℕ) → 0 < slice_index length_at s → 4 ≤ s
+  pub high : (s : ℕ) → 0 < slice_index length_at s → s + slice_index length_at s ≤ granules
+  pub apart : (s t : ℕ) → s < t → 0 < slice_index length_at s → 0 < slice_index length_at t → s + slice_index length_at s < t
+  pub ends : (s : ℕ) → 0 < slice_index length_at s → slice_index start_at (s + slice_index length_at s - 1) ≡ s
+  pub begins : (e : ℕ) → 0 < slice_index start_at e → 0 < slice_index length_at (slice_index start_at e)
+  pub reach : (e : ℕ) → 0 < slice_index start_at e → slice_index start_at e + slice_index length_at (slice_index start_at e) ≡ e + 1
+  pub starts_are : (n s : ℕ) → n < granules → s < 64 * words_of granules → has starts (run_number granules n s) ≡ (nat_lt 0 n && slice_index length_at s == n)
+  pub some : (s : ℕ) → 0 < slice_index length_at s → has lengths (slice_index length_at s) ≡ true
+  pub none : (n : ℕ) → 0 < n → ((s : ℕ) → slice_index length_at s ≢ n) → has lengths n ≡ false
 
--- where the first run stands that reaches to a granule or beyond
-abbrev pub place_of : ℕ → List Run → ℕ
-place_of start [] = 0
-place_of start (run ∷ runs) = if nat_lt (end_of run) start then suc (place_of start runs) else 0
+-- a free run, or no granule at all
+pub record IsRunOrNone (set : FreeSet) (start n : ℕ) : Type 0 where
+  pub run : 0 < n → IsFreeRun (IsFree set) start n
 
--- the runs with one more, unless it is empty
-abbrev pub put_at : List Run → ℕ → Run → List Run
-put_at runs at run = if run.granules == 0 then runs else insert runs at run
+-- the free run that ends where granule k begins, or none where no free granule lies there
+pub record IsRunBelow (set : FreeSet) (k start n : ℕ) : Type 0 where
+  pub meets : start + n ≡ k
+  pub run : 0 < n → IsFreeRun (IsFree set) start n
+  pub low : (j : ℕ) → j + 1 ≡ start → ¬ (IsFree set j)
 
--- the first of the runs ends at this granule
-abbrev pub ends_at : List Run → ℕ → Bool
-ends_at [] granule = false
-ends_at (run ∷ runs) granule = end_of run == granule
+-- the free run that begins at granule k, or none where it is not free
+pub record IsRunAbove (set : FreeSet) (k n : ℕ) : Type 0 where
+  pub run : 0 < n → IsFreeRun (IsFree set) k n
+  pub high : ¬ (IsFree set (k + n))
 
--- the first of the runs begins at this granule
-abbrev pub begins_at : List Run → ℕ → Bool
-begins_at [] granule = false
-begins_at (run ∷ runs) granule = run.start == granule
+-- the free run that has granule k
+pub record IsRunWith (set : FreeSet) (k start n : ℕ) : Type 0 where
+  pub run : IsFreeRun (IsFree set) start n
+  pub low : start ≤ k
+  pub high : k < start + n
 
--- the better of two runs for n granules, where the first has so many
-abbrev pub better : ℕ → Option Run → Run → Option Run
-better n None run = if nat_le n run.granules then Some run else None
-better n (Some best) run = if nat_le n run.granules && nat_lt run.granules best.granules then Some run else Some best
-
--- two runs of which the second begins where the first ends, as one
-abbrev pub merged : Run → Run → Run
-merged low high = record { start = low.start; granules = low.granules + high.granules }
-
--- a run, joined to the run at a place if that ends where it begins
-abbrev pub run_before : List Run → ℕ → Run → Run
-run_before runs at run = if ends_at (drop at runs) run.start then merged (slice_index_or runs at run) run else run
-
--- the runs without the one at a place if that ends where a run begins
-abbrev pub rest_before : List Run → ℕ → Run → List Run
-rest_before runs at run = if ends_at (drop at runs) run.start then remove runs at else runs
-
--- a run, joined to the run at a place if that begins where it ends
-abbrev pub run_after : List Run → ℕ → Run → Run
-run_after runs at run = if begins_at (drop at runs) (end_of run) then merged run (slice_index_or runs at run) else run
-
--- the runs without the one at a place if that begins where a run ends
-abbrev pub rest_after : List Run → ℕ → Run → List Run
-rest_after runs at run = if begins_at (drop at runs) (end_of run) then remove runs at else runs
+-- granules that are not free, with none beside them that is, or none at all
+pub record IsRoomFor (set : FreeSet) (start n : ℕ) : Type 0 where
+  pub held : IsHeldRow set start n
+  pub before : 0 < n → (j : ℕ) → j + 1 ≡ start → ¬ (IsFree set j)
+  pub behind : 0 < n → ¬ (IsFree set (start + n))

@@ -1,9 +1,12 @@
-// A heap of 28 granules, of which some are taken and given back.
+// Heaps of which some granules are taken and given back.
+ghost use Rattle.std.specs.Prelude.{◌≡◌, ◌<◌, ◌≤◌};
 
-use extent_index::ExtentIndex;
+use extent_index::{ExtentIndex, Steps};
+use std::marker::Brand;
+use std::sync::ledger::{Blank, Ledger};
 use std::test::Fail;
 
-// The heap has the granules 4 to 31. Held rows leave the free runs 4 to 6, 10 to 13, 20 to 22 and 30 to 31.
+// The heap has the 28 granules from 4 to 31. Held rows leave the free runs 4 to 6, 10 to 13, 20 to 22 and 30 to 31.
 #[test]
 fn best_fit_by_hand(rt: HostRuntime) -> Result<(), Fail> {
     let mut index = ExtentIndex::new(rt.alloc(), 32)?;
@@ -18,5 +21,68 @@ fn best_fit_by_hand(rt: HostRuntime) -> Result<(), Fail> {
     assert_eq!(rt; index.best_fit(1), Some(6));
     index.give(14, 6);
     assert_eq!(rt; (index.best_fit(13), index.best_fit(14)), (Some(10), None));
+    Ok(())
+}
+
+// The best fit by the call that counts its looks.
+fn counted<L: Ledger>(index: &ExtentIndex, granules: u32, blank: Blank) -> Option<u32>
+    requires granules { 1 ≤ granules }
+    requires name { blank.name ≡ L.name }
+    requires parts { blank.parts ≡ L.parts }
+    requires some { 0 < blank.parts }
+{
+    let mut steps = Steps::<L>::new(blank);
+    index.best_fit_counted(granules, &mut steps)
+}
+
+// A heap of 1024 granules whose free runs are 5 granules at 10, 4 at 100 and 4 at 50: the lowest of the shortest that fits
+// is given. Once the rows between them come back one run is left.
+#[test]
+fn best_fit_in_words(rt: HostRuntime) -> Result<(), Fail> {
+    let mut index = ExtentIndex::new(rt.alloc(), 1024)?;
+    index.take(4, 6);
+    index.take(104, 920);
+    index.take(54, 46);
+    index.take(15, 35);
+    for (granules, start) in [
+        (3, Some(50)),
+        (4, Some(50)),
+        (5, Some(10)),
+        (6, None),
+        (5000, None),
+    ] {
+        assert_eq!(rt; index.best_fit(granules), start, "for {granules}");
+    }
+    assert_eq!(rt; counted::<Brand>(&index, 3, Blank::new(1)), Some(50));
+    index.give(15, 35);
+    index.give(54, 46);
+    assert_eq!(rt; (index.best_fit(94), index.best_fit(95)), (Some(10), None));
+    Ok(())
+}
+
+// The largest heap: one run, then two, of which one is cut in its middle and made whole again.
+#[test]
+fn best_fit_in_the_largest_heap(rt: HostRuntime) -> Result<(), Fail> {
+    let mut index = ExtentIndex::new(rt.alloc(), 4096)?;
+    assert_eq!(rt;
+        (index.best_fit(4092), index.best_fit(4093)),
+        (Some(4), None)
+    );
+    index.take(2000, 1);
+    assert_eq!(rt;
+        (index.best_fit(1996), index.best_fit(2095)),
+        (Some(4), Some(2001))
+    );
+    index.take(3000, 95);
+    assert_eq!(rt;
+        (index.best_fit(999), index.best_fit(1001)),
+        (Some(2001), Some(3095))
+    );
+    index.give(3000, 95);
+    index.give(2000, 1);
+    assert_eq!(rt;
+        (index.best_fit(4092), index.best_fit(4093)),
+        (Some(4), None)
+    );
     Ok(())
 }

@@ -2,10 +2,10 @@
 use Rattle.std.proofs.Common.{◌≡◌, ℕ, ◌+◌, ◌-◌, ◌*◌, ◌/◌, ◌%◌, ◌<◌, ◌≤◌, ⊎_elim, false, ltb, not, ◌&&◌, List, Option, None, get_or, replicate, sym, ap, ◌∙◌, arith}
 use Rattle.std.proofs.lemmas.Bool.{cases_lt, eq-eqb, and_right, false≢true}
 use Rattle.std.proofs.lemmas.List.{get_or-replicate, get_or_past, length-replicate}
-use Rattle.slab_index.specs.Numbers.{has, ones}
+use Rattle.bit_words.specs.Numbers.{has, ones}
 use Rattle.slab_index.specs.SlabSet.{class_in, is_available}
 use Rattle.slab_index.specs.Kept.{set_of, capacity_or_none, capacity_at, is_class, IsIndex}
-use Rattle.slab_index.proofs.Bits.{has-zeros, get_or-zeros, ones-none}
+use Rattle.bit_words.proofs.Bits.{has-zeros, get_or-zeros, ones-none}
 
 -- no slab is in a list of none
 pub get_or-nones : (n i : ℕ) → get_or {A = Option ℕ} (replicate n None) i None ≡ None

@@ -1,5 +1,3 @@
-pub mod Bits
-pub mod Fills
 pub mod Fresh
 pub mod Lowest
 pub mod Steps

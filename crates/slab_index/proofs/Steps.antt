@@ -5,25 +5,10 @@ use Rattle.std.proofs.lemmas.Bool.{cases_eq, eq-eqb, ne_eqb, lt-ltb, le-ltb, ltb
 use Rattle.std.proofs.lemmas.List.{get_or_read, get_or-set_same, get_or-set_other, length-set}
 use Rattle.std.proofs.lemmas.Nat.Bits.{bit_at-zero}
 use Rattle.size_classes.specs.Classes.{class_capacity}
-use Rattle.slab_index.specs.Numbers.{has, ones, IsPut, IsFilled}
+use Rattle.bit_words.specs.Numbers.{has, ones, IsPut, IsFilled}
 use Rattle.slab_index.specs.Kept.{capacity_or_none, capacity_at, is_class, lacks, has_block, IsIndex}
-use Rattle.slab_index.proofs.Bits.{has-set}
-use Rattle.slab_index.proofs.Fills.{word_filled, word_beside, fits_filled, has_filled, some_filled}
-
--- a number put into a set, or out of it, at that number and elsewhere
-pub put_here : {old new : List ℕ} {k : ℕ} {on : Bool} → IsPut old k on new → has new k ≡ on
-put_here {old} {new} {k} {on} put = put.each k ∙ cond-true (eqb k k) on (has old k) (eq-eqb k k refl)
-
-pub put_beside : {old new : List ℕ} {k : ℕ} {on : Bool} → IsPut old k on new → (j : ℕ) → j ≢ k → has new j ≡ has old j
-put_beside {old} {new} {k} {on} put j apart = put.each j ∙ cond-false (eqb j k) on (has old j) (ne_eqb j k apart)
-
--- a set that a test tells, after one number was put in or out
-pub told_after : {old new : List ℕ} {k : ℕ} {on : Bool} (before after : ℕ → Bool) → IsPut old k on new → ((j : ℕ) → has old j ≡ before j) → on ≡ after k → ((j : ℕ) → j ≢ k → before j ≡ after j) →
-    (j : ℕ) → has new j ≡ after j
-told_after {old} {new} {k} {on} before after put told here others j = ⊎_elim
-    (λ (same : j ≡ k). ap (has new) same ∙ put_here put ∙ here ∙ ap after (sym same))
-    (λ (apart : j ≢ k). put_beside put j apart ∙ told j ∙ others j apart)
-    (cases_eq j k)
+use Rattle.bit_words.proofs.Bits.{has-set, put_beside, told_after}
+use Rattle.bit_words.proofs.Fills.{word_filled, word_beside, fits_filled, has_filled, some_filled}
 
 -- one slab of the list is another
 pub record IsReplaced (old : List (Option ℕ)) (start : ℕ) (slab : Option ℕ) (new : List (Option ℕ)) : Type 0 where

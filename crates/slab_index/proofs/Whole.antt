@@ -4,10 +4,10 @@ use Rattle.std.specs.Int.{bit_at}
 use Rattle.std.specs.Option.{MatchOption, is_some}
 use Rattle.std.proofs.lemmas.Bool.{cases_lt, eq-eqb, eqb-true, lt-ltb, le-ltb, not-false, false≢true, false_from_ne_true}
 use Rattle.std.proofs.lemmas.Nat.Bits.{bit_at-lt, bit_at_above, bit_at_ones_above, same_from_bits}
-use Rattle.slab_index.specs.Numbers.{has, ones, IsLeastIn}
+use Rattle.bit_words.specs.Numbers.{has, ones, IsLeastIn}
 use Rattle.slab_index.specs.SlabSet.{SlabSet, IsWhole}
 use Rattle.slab_index.specs.Kept.{set_of, capacity_at, IsIndex}
-use Rattle.slab_index.proofs.Bits.{has_in_word, has-zero, bit_of_ones}
+use Rattle.bit_words.proofs.Bits.{has_in_word, has-zero, bit_of_ones}
 use Rattle.slab_index.proofs.Views.{available_within, capacity_of_block, block_by_capacity}
 
 -- a bit by its test

@@ -2,7 +2,7 @@
 -- each class have an available block.
 use Rattle.std.specs.Prelude.{◌≡◌, ◌==◌, ℕ, ◌-◌, ◌*◌, ◌/◌, ◌%◌, ◌^◌, ◌<◌, ◌≤◌, Bool, true, false, ◌&&◌, not, nat_lt, List, length, Option, Some, None, slice_index, slice_index_or}
 use Rattle.size_classes.specs.Classes.{class_capacity}
-use Rattle.slab_index.specs.Numbers.{has, ones}
+use Rattle.bit_words.specs.Numbers.{has, ones}
 use Rattle.slab_index.specs.SlabSet.{SlabSet}
 
 -- the slabs that these lists say

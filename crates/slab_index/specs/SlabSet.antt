@@ -3,7 +3,7 @@
 use Rattle.std.specs.Prelude.{◌≡◌, ℕ, ◌+◌, ◌*◌, ◌<◌, Bool, true, false, ◌&&◌, nat_lt, List, Option, Some, None, slice_index_or}
 use Rattle.size_classes.specs.Classes.{class_capacity}
 use Rattle.slab_index.specs.declared.block.SlabBlock.{SlabBlock}
-use Rattle.slab_index.specs.Numbers.{has}
+use Rattle.bit_words.specs.Numbers.{has}
 
 -- the class of the slab that begins at each of so many granules, and the available blocks, with 4096 numbers a granule
 pub record SlabSet : Type 0 where

@@ -5,7 +5,7 @@ ghost use Rattle.heap_model.specs.Machine.{with_key};
 ghost use Rattle.slab_index.specs.SlabSet.{class_in, is_available, IsSlab, IsBlock, IsWhole, HasNoBlock, IsLowest};
 
 use crate::SlabBlock;
-use crate::numbers::{fill, has, least_in, least_of, ones, put};
+use bit_words::{fill, has, least_in, least_of, ones, put};
 use pmem_lines::OutOfMemory;
 use size_classes::capacity;
 use std::alloc::Global;

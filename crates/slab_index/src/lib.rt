@@ -11,7 +11,6 @@
 
 mod block;
 mod index;
-mod numbers;
 
 pub use block::SlabBlock;
 pub use index::SlabIndex;

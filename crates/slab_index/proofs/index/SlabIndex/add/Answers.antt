@@ -3,8 +3,8 @@ use Rattle.std.specs.Vec.{with_items}
 use Rattle.std.proofs.lemmas.Bool.{eq-eqb, and_from}
 use Rattle.std.proofs.lemmas.List.{with_items_is}
 use Rattle.std.proofs.lemmas.Option.{same_Some}
-use Rattle.slab_index.specs.Numbers.{ones}
-use Rattle.slab_index.proofs.Fills.{some_if_more}
+use Rattle.bit_words.specs.Numbers.{ones}
+use Rattle.bit_words.proofs.Fills.{some_if_more}
 use Rattle.slab_index.proofs.Steps.{IsReplaced-set, HasOnly-none, HasOnly-some, IsIndex-filled}
 use Rattle.slab_index.proofs.Views.{class_of_list, granules_of, classes_after, blocks_after}
 use Rattle.slab_index.proofs.index.SlabIndex.add.Goals as goal

@@ -1,5 +1,5 @@
 use Rattle.std.proofs.Common.{◌+◌, ◌*◌, ⊎_elim, inl, inr, sym, ap, ◌∙◌, arith}
-use Rattle.slab_index.specs.Numbers.{has}
+use Rattle.bit_words.specs.Numbers.{has}
 use Rattle.slab_index.proofs.Views.{available_within, none_outside}
 use Rattle.slab_index.proofs.index.SlabIndex.is_available.Goals as goal
 

@@ -4,7 +4,7 @@ use Rattle.std.proofs.lemmas.Bool.{le-ltb}
 use Rattle.std.proofs.lemmas.List.{with_items_is}
 use Rattle.std.proofs.lemmas.Option.{none-some}
 use Rattle.slab_index.specs.SlabSet.{is_available}
-use Rattle.slab_index.proofs.Bits.{ones-none}
+use Rattle.bit_words.proofs.Bits.{ones-none}
 use Rattle.slab_index.proofs.Steps.{IsReplaced-set, HasOnly-none, HasOnly-some, IsIndex-filled}
 use Rattle.slab_index.proofs.Views.{class_of_list, granules_of, classes_after, blocks_after}
 use Rattle.slab_index.proofs.index.SlabIndex.remove.Goals as goal

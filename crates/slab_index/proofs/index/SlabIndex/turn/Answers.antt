@@ -1,7 +1,7 @@
 use Rattle.std.proofs.Common.{◌≡◌, ◌+◌, ◌-◌, ◌*◌, ◌/◌, ◌<◌, Some, refl, sym, ap, ◌∙◌, arith, get_or}
 use Rattle.std.specs.Vec.{with_items}
 use Rattle.std.proofs.lemmas.List.{with_items_is}
-use Rattle.slab_index.specs.Numbers.{ones}
+use Rattle.bit_words.specs.Numbers.{ones}
 use Rattle.slab_index.proofs.Steps.{word_read, some_by_word, lacks_by_word, IsIndex-turned}
 use Rattle.slab_index.proofs.Views.{class_of_list, granules_of, capacity_of_block, block_after}
 use Rattle.slab_index.proofs.index.SlabIndex.turn.Goals as goal

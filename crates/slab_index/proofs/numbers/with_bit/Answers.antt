@@ -1,8 +1,0 @@
-use Rattle.slab_index.proofs.Bits.{with_bit_set, with_bit_clear}
-use Rattle.slab_index.proofs.numbers.with_bit.Goals as goal
-
-pub returns-then-on : goal.returns-then-on
-returns-then-on c = with_bit_set c.args.word c.args.bit c.args.on c.requires c.if-on.true
-
-pub returns-else-on : goal.returns-else-on
-returns-else-on c = with_bit_clear c.args.word c.args.bit c.args.on c.requires c.if-on.false
