@@ -14,3 +14,4 @@ pub mod Counts
 pub mod Morphs
 pub mod MorphRows
 pub mod WorkedRows
+pub mod FreeRows

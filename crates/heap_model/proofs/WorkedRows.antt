@@ -47,6 +47,14 @@ only_fit Vacant start length n some enough within all = record {
 by_seat : ℕ → Call → Reply → Entry
 by_seat seat call reply = record { seat = seat; call = call; reply = reply }
 
+-- the heap but for four granules, a block of 64 bytes, and the slab takes the class of 1000 bytes
+abbrev pub morphed : Machine
+morphed = with_block (filled 3 0) 2 (InMorph 12 19 1)
+
+-- behind that seven more blocks are on the stack of the seat
+abbrev pub reserved : Stacks
+reserved = with_stack no_stacks 0 19 (200704 ∷ 201728 ∷ 202752 ∷ 203776 ∷ 204800 ∷ 205824 ∷ 206848 ∷ [])
+
 module _ (roots : ℕ) (many : 2001 ≤ roots) where
   abbrev b : Bounds
   b = small roots
@@ -135,10 +143,6 @@ module _ (roots : ℕ) (many : 2001 ≤ roots) where
   unfolding class_size sizes
   morph_site = takes_class roots 3 0 (lit< tt) (lit< tt) (omega (arith, many)) 19 1 1000 (lit≤ tt) (lit≤ tt) (λ same. omega (arith, same)) (class_above 1000 18 (lit< tt) (lit< tt) (lit≤ tt)) (lit< tt) (lit≤ tt)
 
-  -- the heap but for four granules, a block of 64 bytes, and the slab takes the class of 1000 bytes
-  abbrev morphed : Machine
-  morphed = with_block (filled 3 0) 2 (InMorph 12 19 1)
-
   morph_row : Leads (IsEntry whole b) no_heap (by_seat 0 (Malloc 0 131072) (Placed 65536 131072) ∷ by_seat 0 (Malloc 1 64) (Placed 198656 64) ∷ by_seat 0 (Malloc 2 1000) (Placed 199680 1024) ∷ []) morphed
   unfolding class_size sizes by_seat
   morph_row = (
@@ -196,10 +200,6 @@ module _ (roots : ℕ) (many : 2001 ≤ roots) where
           (with_key-cases morphed.block 1 root None (Some range) named)
 
   -- stacks
-
-  -- behind the morph seven more blocks are on the stack of the seat
-  abbrev reserved : Stacks
-  reserved = with_stack no_stacks 0 19 (200704 ∷ 201728 ∷ 202752 ∷ 203776 ∷ 204800 ∷ 205824 ∷ 206848 ∷ [])
 
   morph_fills : IsPlacedStep whole b 0 (bare (filled 3 0)) (Malloc 2 1000) (Placed 199680 1024) (record { machine = morphed; stacks = reserved })
   unfolding class_size sizes
