@@ -18,7 +18,7 @@ use Rattle.size_classes.specs.Classes.{class_capacity}
 use Rattle.slab_index.specs.SlabSet.{SlabSet}
 use Rattle.arena_core.specs.Arena.{HasNormalSlabs, IsIndexOf, IsSlabsOf}
 use Rattle.arena_core.specs.Effect.{KeepsSlabs}
-use Rattle.arena_core.proofs.Stages.{IsStageOf}
+use Rattle.arena_core.proofs.LargeStages.{IsStageOf}
 
 -- a log reads the same where a root's word is stored
 pub book_root : (book : Book) (words : List ℕ) (root value : ℕ) → root < (layout_of (version_in words)).roots → IsBookOf book words → IsBookOf book (put_word words (root_word root) value)

@@ -18,7 +18,7 @@ use Rattle.arena_core.specs.Call.{IsReady}
 -- what an arena means: the state of its memory, and the write-ahead line that its next entry goes to
 pub record ArenaState : Type 0 where
   pub device : PmemState
-  pub turn : ℕ
+  pub line : ℕ
 
 -- each slab is normal: it takes no other class
 pub record HasNormalSlabs (words : List ℕ) : Type 0 where

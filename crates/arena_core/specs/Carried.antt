@@ -14,7 +14,7 @@ use Rattle.arena_core.specs.declared.volatile.Volatile.{Volatile}
 use Rattle.arena_core.specs.Arena.{HasNormalSlabs, IsSlabsOf, IsKept, IsArena}
 use Rattle.arena_core.specs.Call.{IsStepOfAny}
 use Rattle.arena_core.specs.Effect.{slabs_but, GivesRoot}
-use Rattle.arena_core.specs.Events.{holds_none, tidy_events, call_events, turn_after}
+use Rattle.arena_core.specs.Events.{holds_none, tidy_events, call_events, line_after}
 
 -- a root was given a block, or lost its own: the events, what is kept, and what a crash leaves
 pub record IsDone (old new : PmemState) (left : Volatile) (root : ℕ) (block : Option Range) (slab : ℕ → Option ℕ) (events : List Event) : Type 0 where
@@ -41,7 +41,7 @@ pub record IsTidied (old new : PmemState) (left : Volatile) (start : ℕ) : Type
 pub record IsCalled (old new : PmemState) (was left : Volatile) (call : Call) (reply : Reply) : Type 0 where
   pub appends : Appends old new (call_events (words_of old) was.line call reply)
   pub arena : IsArena new left
-  pub turn_is : left.line ≡ turn_after was.line reply
+  pub line_is : left.line ≡ line_after was.line reply
   pub step : IsStepOfAny (words_of old) (words_of new) call reply
   pub keeps : KeepsBlocks (words_of old) (words_of new)
   pub crash : CrashOnly (words_of old) (call_events (words_of old) was.line call reply) (IsEitherHeap (words_of old) (words_of new))

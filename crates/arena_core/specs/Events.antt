@@ -137,11 +137,11 @@ call_events words line (calls.Move from to) (replies.Moved at size) = move_event
 call_events words line call reply = []
 
 -- the line of the next entry, behind a call with this reply: small blocks and moves take the eight lines in turn
-abbrev pub turn_after : ℕ → Reply → ℕ
-turn_after turn (replies.Placed at size) = if is_small size then (turn + 1) % 8 else turn
-turn_after turn (replies.Freed at size) = if is_small size then (turn + 1) % 8 else turn
-turn_after turn (replies.Moved at size) = (turn + 1) % 8
-turn_after turn reply = turn
+abbrev pub line_after : ℕ → Reply → ℕ
+line_after line (replies.Placed at size) = if is_small size then (line + 1) % 8 else line
+line_after line (replies.Freed at size) = if is_small size then (line + 1) % 8 else line
+line_after line (replies.Moved at size) = (line + 1) % 8
+line_after line reply = line
 
 -- An arena is formatted: all of it stands in the header line, and its text comes last, so that no crash leaves a header
 -- that is good and incomplete. The directory has chunk 0.

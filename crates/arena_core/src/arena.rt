@@ -11,7 +11,7 @@ ghost use Rattle.heap_check.specs.State.{HasState, KeepsBlocks, IsEitherHeap};
 ghost use Rattle.arena_core.specs.Answer.{malloc_reply, free_reply};
 ghost use Rattle.arena_core.specs.Arena.{HasNormalSlabs, IsBlockOfRoot};
 ghost use Rattle.arena_core.specs.Call.{IsReady, IsStepOf, IsFormattedOrNot};
-ghost use Rattle.arena_core.specs.Events.{call_events, turn_after, format_events};
+ghost use Rattle.arena_core.specs.Events.{call_events, line_after, format_events};
 
 use crate::adopting::read_image;
 use crate::formatting::write_header;
@@ -40,7 +40,7 @@ impl<P: Pmem> Model for Arena<P> {
 
     ghost Value = { ArenaState };
 
-    ghost view = { λ a. record { device = P.state a.device; turn = a.volatile.line } };
+    ghost view = { λ a. record { device = P.state a.device; line = a.volatile.line } };
 
     ghost invariant = { λ a. IsArena (P.state a.device) a.volatile };
 }
@@ -57,7 +57,7 @@ impl<P: Pmem> Arena<P> {
         requires number { number < arenas }
         requires few { arenas ≤ 16 }
         ensures device { result.device ≡ appended (began (P.state device)) (format_events (record { version = 1; number = number; arenas = arenas; granules = room })) }
-        ensures turn { result.turn ≡ 0 }
+        ensures line { result.line ≡ 0 }
         ensures ready { IsReady result.device }
         ensures exact { IsExactImage (words_of result.device) }
         ensures empty { HasState (words_of result.device) no_heap }
@@ -85,7 +85,7 @@ impl<P: Pmem> Arena<P> {
         requires normal { HasNormalSlabs (words_of (P.state device)) }
         requires size { granules_in (words_of (P.state device)) ≡ room }
         ensures device { result.device ≡ P.state device }
-        ensures turn { result.turn ≡ 0 }
+        ensures line { result.line ≡ 0 }
         ensures ready { IsReady result.device }
     {
         let ArenaRoom { mut volatile } = room;
@@ -109,8 +109,8 @@ impl<P: Pmem> Arena<P> {
     pub fn malloc_to(&mut self, seat: u32, root: u32, size: u64) -> Result<Placed, MallocRefusal>
         requires { seat < 64 }
         ensures step { IsStepOf seat (words_of self.old.device) (words_of self.new.device) (calls.Malloc root size) (malloc_reply result) }
-        ensures device { self.new.device ≡ appended (began self.old.device) (call_events (words_of self.old.device) self.old.turn (calls.Malloc root size) (malloc_reply result)) }
-        ensures turn { self.new.turn ≡ turn_after self.old.turn (malloc_reply result) }
+        ensures device { self.new.device ≡ appended (began self.old.device) (call_events (words_of self.old.device) self.old.line (calls.Malloc root size) (malloc_reply result)) }
+        ensures line { self.new.line ≡ line_after self.old.line (malloc_reply result) }
         ensures keeps { KeepsBlocks (words_of self.old.device) (words_of self.new.device) }
         ensures was_exact { IsExactImage (words_of self.old.device) }
         ensures exact { IsExactImage (words_of self.new.device) }
@@ -136,8 +136,8 @@ impl<P: Pmem> Arena<P> {
     pub fn free_from(&mut self, seat: u32, root: u32) -> Result<Freed, FreeRefusal>
         requires { seat < 64 }
         ensures step { IsStepOf seat (words_of self.old.device) (words_of self.new.device) (calls.Free root) (free_reply result) }
-        ensures device { self.new.device ≡ appended (began self.old.device) (call_events (words_of self.old.device) self.old.turn (calls.Free root) (free_reply result)) }
-        ensures turn { self.new.turn ≡ turn_after self.old.turn (free_reply result) }
+        ensures device { self.new.device ≡ appended (began self.old.device) (call_events (words_of self.old.device) self.old.line (calls.Free root) (free_reply result)) }
+        ensures line { self.new.line ≡ line_after self.old.line (free_reply result) }
         ensures keeps { KeepsBlocks (words_of self.old.device) (words_of self.new.device) }
         ensures was_exact { IsExactImage (words_of self.old.device) }
         ensures exact { IsExactImage (words_of self.new.device) }

@@ -32,7 +32,7 @@ use pool_layout::{SLAB_GRANULES, blocks_at, granule_at, root_at};
 use slab_steps::{drop_slab, open_slab};
 
 impl Volatile {
-    /// Does what the plan of a malloc says, and answers the call. `turn` is the write-ahead line of the next entry.
+    /// Does what the plan of a malloc says, and answers the call.
     pub(crate) fn carry_out_malloc<P: Pmem>(
         &mut self,
         device: &mut P,
@@ -76,7 +76,7 @@ impl Volatile {
         placed_at(place)
     }
 
-    /// Does what the plan of a free says, and answers the call. `turn` is the write-ahead line of the next entry.
+    /// Does what the plan of a free says, and answers the call.
     pub(crate) fn carry_out_free<P: Pmem>(
         &mut self,
         device: &mut P,

@@ -24,7 +24,7 @@ bounds-formed words granules formed size =
 
 -- over a memory of zeros
 made_new : (granules : ℕ) (arena : ArenaState) → arena.device ≡ appended (began (fresh (zeros (2048 * granules)) 2048)) (format_events (header_for granules)) →
-    arena.turn ≡ 0 → IsExactImage (words_of arena.device) → HasState (words_of arena.device) no_heap → IsNewArena granules arena
+    arena.line ≡ 0 → IsExactImage (words_of arena.device) → HasState (words_of arena.device) no_heap → IsNewArena granules arena
 unfolding formatted
 made_new granules arena made first exact empty =
     let words : words_of arena.device ≡ formatted granules = ap (λ (s : PmemState). words_of s) made in
@@ -37,12 +37,12 @@ made_new granules arena made first exact empty =
       base = ap (λ (s : PmemState). s.base) made;
       events = ap (λ (s : PmemState). s.events) made;
       begins = ap (λ (s : PmemState). s.begins) made;
-      turn = first;
+      line = first;
     }
 
 pub IsNewArena-format : (granules : ℕ) (device : PmemState) (arena : ArenaState) → IsZeroed device (256 * granules) 2048 → arena.device ≡ appended (began device) (format_events (header_for granules)) →
-    arena.turn ≡ 0 → IsExactImage (words_of arena.device) → HasState (words_of arena.device) no_heap → IsNewArena granules arena
-IsNewArena-format granules device arena zeroed made turn exact empty =
+    arena.line ≡ 0 → IsExactImage (words_of arena.device) → HasState (words_of arena.device) no_heap → IsNewArena granules arena
+IsNewArena-format granules device arena zeroed made line exact empty =
     let lines : 8 * (256 * granules) ≡ 2048 * granules = omega arith in
     let first : device ≡ fresh (zeros (2048 * granules)) 2048 = zeroed.state ∙ ap (λ n. fresh (zeros n) 2048) lines in
-    made_new granules arena (made ∙ ap (λ (s : PmemState). appended (began s) (format_events (header_for granules))) first) turn exact empty
+    made_new granules arena (made ∙ ap (λ (s : PmemState). appended (began s) (format_events (header_for granules))) first) line exact empty

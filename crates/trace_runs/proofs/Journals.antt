@@ -18,10 +18,10 @@ use Rattle.heap_check.specs.Image.{IsExactImage}
 use Rattle.heap_check.specs.State.{HasState}
 use Rattle.arena_core.specs.Arena.{ArenaState}
 use Rattle.arena_core.specs.Call.{IsReady}
-use Rattle.arena_core.specs.Events.{call_events, turn_after}
+use Rattle.arena_core.specs.Events.{call_events, line_after}
 use Rattle.trace_text.specs.declared.call.TraceCall.{TraceCall}
 use Rattle.trace_text.specs.Report.{arena_line, entry_line, heap_text}
-use Rattle.trace_runs.specs.Replay.{bounds_for, blocks_of, IsJournal, turn_behind, turn_of, AreAnswers, IsBehindCall}
+use Rattle.trace_runs.specs.Replay.{bounds_for, blocks_of, IsJournal, line_behind, line_of, AreAnswers, IsBehindCall}
 use Rattle.trace_runs.specs.Calls.{IsNewArena, HasAnswered, HasAnsweredAll, HasWrittenAll, IsReplayed}
 use Rattle.trace_runs.proofs.Listing.{blocks_of-same}
 
@@ -39,9 +39,9 @@ Leads-more Steps s middle next [] entry leads step = (next, subst (λ from. Step
 Leads-more Steps s middle next (e ∷ journal) entry leads step = (leads.0, leads.1, Leads-more Steps leads.0 middle next journal entry leads.2 step)
 
 -- the write-ahead line, one entry further
-turn_behind-more : (turn : ℕ) (journal : List Entry) (entry : Entry) → turn_behind turn (journal ++ entry ∷ []) ≡ turn_after (turn_behind turn journal) entry.reply
-turn_behind-more turn [] entry = refl
-turn_behind-more turn (e ∷ journal) entry = turn_behind-more (turn_after turn e.reply) journal entry
+line_behind-more : (line : ℕ) (journal : List Entry) (entry : Entry) → line_behind line (journal ++ entry ∷ []) ≡ line_after (line_behind line journal) entry.reply
+line_behind-more line [] entry = refl
+line_behind-more line (e ∷ journal) entry = line_behind-more (line_after line e.reply) journal entry
 
 -- no block overlaps another in a state that the empty heap leads to
 
@@ -70,7 +70,7 @@ HasAnsweredAll-none granules arena new = record {
   state = new.empty;
   bounds = new.bounds;
   begins = new.begins;
-  turn = new.turn;
+  line = new.line;
   last = inl (record { none = refl; base = new.base; events = new.events });
 }
 
@@ -79,8 +79,8 @@ behind_call : (granules : ℕ) (old new : ArenaState) (calls : List TraceCall) (
     HasAnsweredAll granules old calls journal machine → HasAnswered entry.seat old new entry.call entry.reply → IsBehindCall granules new.device (journal ++ entry ∷ [])
 behind_call granules old new calls journal machine entry all answered =
     let base : words_of old.device ≡ new.device.base = sym (ap (λ (s : PmemState). s.base) answered.device) in
-    let events : new.device.events ≡ call_events (words_of old.device) (turn_of journal) entry.call entry.reply =
-    ap (λ (s : PmemState). s.events) answered.device ∙ ap (λ turn. call_events (words_of old.device) turn entry.call entry.reply) all.turn in
+    let events : new.device.events ≡ call_events (words_of old.device) (line_of journal) entry.call entry.reply =
+    ap (λ (s : PmemState). s.events) answered.device ∙ ap (λ line. call_events (words_of old.device) line entry.call entry.reply) all.line in
     record {
       before = journal;
       entry = entry;
@@ -89,7 +89,7 @@ behind_call granules old new calls journal machine entry all answered =
       leads = all.leads;
       exact = subst IsExactImage base answered.exact;
       state = subst (λ (words : List ℕ). HasState words machine) base all.state;
-      events = subst (λ (words : List ℕ). new.device.events ≡ call_events words (turn_of journal) entry.call entry.reply) base events;
+      events = subst (λ (words : List ℕ). new.device.events ≡ call_events words (line_of journal) entry.call entry.reply) base events;
     }
 
 -- one call more
@@ -110,7 +110,7 @@ HasAnsweredAll-entry granules old new calls journal machine call entry all seat 
         state = found.2;
         bounds = answered.step.bounds ∙ all.bounds;
         begins = omega (arith, one, all.begins, longer);
-        turn = answered.turn ∙ ap (λ turn. turn_after turn entry.reply) all.turn ∙ sym (turn_behind-more 0 journal entry);
+        line = answered.line ∙ ap (λ line. line_after line entry.reply) all.line ∙ sym (line_behind-more 0 journal entry);
         last = inr (behind_call granules old new calls journal machine entry all answered);
       },
     )

@@ -38,19 +38,19 @@ pub record IsChanged (device : PmemState) (image : List ℕ) (block : Block) (gi
   pub either : IsEitherHeap device.base (words_of device) image
 
 -- of the calls that a trace may ask for, those that have events change the heap
-changes_by : (words : List ℕ) (turn : ℕ) (call : Call) (reply : Reply) (events : List Event) → IsAsked call → 0 < length events → events ≡ call_events words turn call reply → ChangesHeap reply
-changes_by words turn (Malloc root size) (Placed at given) events asked some is = tt
-changes_by words turn (Malloc root size) (Freed at given) events asked some is = tt
-changes_by words turn (Malloc root size) reply events asked some is = absurd (omega (arith, some, ap length is))
-changes_by words turn (Free root) (Placed at given) events asked some is = tt
-changes_by words turn (Free root) (Freed at given) events asked some is = tt
-changes_by words turn (Free root) reply events asked some is = absurd (omega (arith, some, ap length is))
-changes_by words turn (Write root index word) reply events asked some is = absurd asked
-changes_by words turn (Read root index) reply events asked some is = absurd asked
-changes_by words turn (Move from to) reply events asked some is = absurd asked
+changes_by : (words : List ℕ) (line : ℕ) (call : Call) (reply : Reply) (events : List Event) → IsAsked call → 0 < length events → events ≡ call_events words line call reply → ChangesHeap reply
+changes_by words line (Malloc root size) (Placed at given) events asked some is = tt
+changes_by words line (Malloc root size) (Freed at given) events asked some is = tt
+changes_by words line (Malloc root size) reply events asked some is = absurd (omega (arith, some, ap length is))
+changes_by words line (Free root) (Placed at given) events asked some is = tt
+changes_by words line (Free root) (Freed at given) events asked some is = tt
+changes_by words line (Free root) reply events asked some is = absurd (omega (arith, some, ap length is))
+changes_by words line (Write root index word) reply events asked some is = absurd asked
+changes_by words line (Read root index) reply events asked some is = absurd asked
+changes_by words line (Move from to) reply events asked some is = absurd asked
 
 pub changes_behind : (device : PmemState) (entry : Entry) → IsBehindEntry device entry → ChangesHeap entry.reply
-changes_behind device entry behind = changes_by device.base behind.turn entry.call entry.reply device.events behind.asked behind.some behind.events
+changes_behind device entry behind = changes_by device.base behind.line entry.call entry.reply device.events behind.asked behind.some behind.events
 
 pub IsChanged-behind : (device : PmemState) (entry : Entry) (done : ℕ) (image : List ℕ) (block : Block) (given : Bool) → IsBehindEntry device entry →
     IsImage device.base (take done device.events) image → IsChangeBy (root_of entry.call) entry.reply block given → IsChanged device image block given

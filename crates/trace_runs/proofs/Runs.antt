@@ -19,15 +19,15 @@ use Rattle.trace_runs.specs.Seek.{last_stage}
 pub record IsRunTo (b : Bounds) (start : List ℕ) (first : Machine) (calls : List TraceCall) (arena : ArenaState) (machine : Machine) (stages : List Stage) : Type 0 where
   pub state : HasState (words_of arena.device) machine
   pub bounds : bounds_of (words_of arena.device) ≡ b
-  pub run : (rest : List TraceCall) (more : List Stage) → IsRun b (words_of arena.device) arena.turn machine rest more → IsRun b start 0 first (calls ++ rest) (stages ++ more)
+  pub run : (rest : List TraceCall) (more : List Stage) → IsRun b (words_of arena.device) arena.line machine rest more → IsRun b start 0 first (calls ++ rest) (stages ++ more)
 
 -- no call was made yet
-pub IsRunTo-none : (b : Bounds) (arena : ArenaState) (first : Machine) → HasState (words_of arena.device) first → bounds_of (words_of arena.device) ≡ b → arena.turn ≡ 0 →
+pub IsRunTo-none : (b : Bounds) (arena : ArenaState) (first : Machine) → HasState (words_of arena.device) first → bounds_of (words_of arena.device) ≡ b → arena.line ≡ 0 →
     IsRunTo b (words_of arena.device) first [] arena first []
-IsRunTo-none b arena first state bounds turn = record {
+IsRunTo-none b arena first state bounds line = record {
   state = state;
   bounds = bounds;
-  run = λ rest more run. subst (λ n. IsRun b (words_of arena.device) n first rest more) turn run;
+  run = λ rest more run. subst (λ n. IsRun b (words_of arena.device) n first rest more) line run;
 }
 
 -- their run
@@ -38,12 +38,12 @@ IsRun-to b start first calls arena machine stages to =
 
 -- a call that was answered is a stage
 pub IsStage-answered : (b : Bounds) (old new : ArenaState) (machine next : Machine) (call : TraceCall) (reply : Reply) → HasAnswered call.thread old new call.call reply →
-    IsPlacedStep plain b call.thread (bare machine) call.call reply (bare next) → HasState (words_of new.device) next → IsStage b (words_of old.device) old.turn machine call (last_stage new.device) new.turn next
+    IsPlacedStep plain b call.thread (bare machine) call.call reply (bare next) → HasState (words_of new.device) next → IsStage b (words_of old.device) old.line machine call (last_stage new.device) new.line next
 IsStage-answered b old new machine next call reply answered step state = record {
   reply = reply;
   begins = ap (λ (s : PmemState). s.base) answered.device;
   events = ap (λ (s : PmemState). s.events) answered.device;
-  later_is = answered.turn;
+  later_is = answered.line;
   step = step;
   state = state;
 }
@@ -55,7 +55,7 @@ IsRunTo-call : (b : Bounds) (start : List ℕ) (first : Machine) (calls : List T
 IsRunTo-call b start first calls old new machine call reply stages to answered =
     let found = answered.step.each machine to.state in
     let step : IsPlacedStep plain b call.thread (bare machine) call.call reply (bare found.0) = subst (λ (c : Bounds). IsPlacedStep plain c call.thread (bare machine) call.call reply (bare found.0)) to.bounds found.1 in
-    let stage : IsStage b (words_of old.device) old.turn machine call (last_stage new.device) new.turn found.0 = IsStage-answered b old new machine found.0 call reply answered step found.2 in (
+    let stage : IsStage b (words_of old.device) old.line machine call (last_stage new.device) new.line found.0 = IsStage-answered b old new machine found.0 call reply answered step found.2 in (
       found.0,
       record {
         state = found.2;
@@ -63,7 +63,7 @@ IsRunTo-call b start first calls old new machine call reply stages to answered =
         run = λ rest more run.
             subst (λ (cs : List TraceCall). IsRun b start 0 first cs (stages ++ last_stage new.device ∷ [] ++ more)) (sym (append_assoc calls (call ∷ []) rest))
             (subst (λ (ss : List Stage). IsRun b start 0 first (calls ++ (call ∷ rest)) ss) (sym (append_assoc stages (last_stage new.device ∷ []) more))
-            (to.run (call ∷ rest) (last_stage new.device ∷ more) (new.turn, found.0, stage, run)));
+            (to.run (call ∷ rest) (last_stage new.device ∷ more) (new.line, found.0, stage, run)));
       },
     )
 

@@ -36,7 +36,7 @@ total_events-append (stage ∷ stages) more = omega (arith, total_events-append 
 -- at the start
 pub Seeking-none : (granules : ℕ) (calls : List TraceCall) (event : ℕ) (arena : ArenaState) → IsNewArena granules arena → Seeking granules calls event arena 0 event 0
 Seeking-none granules calls event arena new =
-    let to : IsRunTo (bounds_for granules) (words_of arena.device) no_heap [] arena no_heap [] = IsRunTo-none (bounds_for granules) arena no_heap new.empty new.bounds new.turn in
+    let to : IsRunTo (bounds_for granules) (words_of arena.device) no_heap [] arena no_heap [] = IsRunTo-none (bounds_for granules) arena no_heap new.empty new.bounds new.line in
     record {
       stages = [];
       machine = no_heap;
@@ -93,13 +93,13 @@ IsBehindSought-here granules calls event old new i left events d reply seeking h
 pub IsBehindEntry-answered : (old new : ArenaState) (entry : Entry) → HasAnswered entry.seat old new entry.call entry.reply → 0 < length new.device.events → IsBehindEntry new.device entry
 IsBehindEntry-answered old new entry answered some =
     let base : words_of old.device ≡ new.device.base = sym (ap (λ (s : PmemState). s.base) answered.device) in
-    let events : new.device.events ≡ call_events (words_of old.device) old.turn entry.call entry.reply = ap (λ (s : PmemState). s.events) answered.device in
+    let events : new.device.events ≡ call_events (words_of old.device) old.line entry.call entry.reply = ap (λ (s : PmemState). s.events) answered.device in
     record {
       asked = answered.asked;
       exact = subst IsExactImage base answered.exact;
       step = subst (λ (words : List ℕ). IsStepOf entry.seat words (words_of new.device) entry.call entry.reply) base answered.step;
-      turn = old.turn;
-      events = subst (λ (words : List ℕ). new.device.events ≡ call_events words old.turn entry.call entry.reply) base events;
+      line = old.line;
+      events = subst (λ (words : List ℕ). new.device.events ≡ call_events words old.line entry.call entry.reply) base events;
       some = some;
       crash = subst (λ (words : List ℕ). CrashOnly new.device.base new.device.events (IsEitherHeap words (words_of new.device))) base answered.crash;
     }

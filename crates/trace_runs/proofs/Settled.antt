@@ -12,7 +12,7 @@ use Rattle.heap_model.specs.Step.{root_of}
 use Rattle.heap_model.specs.Placement.{PlacedState, bare}
 use Rattle.heap_model.specs.Journal.{IsOfBlock, AskTheSame}
 use Rattle.heap_model.proofs.Placements.{law_of_one_journal}
-use Rattle.arena_core.specs.Events.{call_events, turn_after}
+use Rattle.arena_core.specs.Events.{call_events, line_after}
 use Rattle.trace_text.specs.declared.call.TraceCall.{TraceCall}
 use Rattle.trace_text.specs.Grammar.{IsAsked, IsTraceCall}
 use Rattle.trace_text.specs.Report.{arena_text}
@@ -52,29 +52,29 @@ entry_of : TraceCall → Reply → Entry
 entry_of call reply = record { seat = call.thread; call = call.call; reply = reply }
 
 -- one call, from the same words, line and state, makes one stage
-stage_once : (b : Bounds) (words : List ℕ) (turn : ℕ) (m next last : Machine) (later after : ℕ) (call : TraceCall) (stage other : Stage) → IsTraceCall call → IsStage b words turn m call stage later next → IsStage b words turn m call other after last →
+stage_once : (b : Bounds) (words : List ℕ) (line : ℕ) (m next last : Machine) (later after : ℕ) (call : TraceCall) (stage other : Stage) → IsTraceCall call → IsStage b words line m call stage later next → IsStage b words line m call other after last →
     (stage ≡ other) × (later ≡ after) × (next ≡ last)
 unfolding entry_of
-stage_once b words turn m next last later after call stage other valid one two =
+stage_once b words line m next last later after call stage other valid one two =
     let same = law_of_one_journal plain b (bare m) (bare next) (bare last) (entry_of call one.reply ∷ []) (entry_of call two.reply ∷ []) (refl, refl, is_of_block call.call valid.asked, tt) (bare next, one.step, refl) (bare last, two.step, refl) in
     let replies : one.reply ≡ two.reply = ap (λ (entries : List Entry). reply_of one.reply entries) same.0 in
-    let events : stage.events ≡ other.events = one.events ∙ ap (λ reply. call_events words turn call.call reply) replies ∙ sym two.events in
+    let events : stage.events ≡ other.events = one.events ∙ ap (λ reply. call_events words line call.call reply) replies ∙ sym two.events in
     let begins : stage.words ≡ other.words = one.begins ∙ sym two.begins in
-    (λ i. record { words = begins i; events = events i }, one.later_is ∙ ap (turn_after turn) replies ∙ sym two.later_is, ap (λ (s : PlacedState). s.machine) same.1)
+    (λ i. record { words = begins i; events = events i }, one.later_is ∙ ap (line_after line) replies ∙ sym two.later_is, ap (λ (s : PlacedState). s.machine) same.1)
   where
     reply_of : Reply → List Entry → Reply
     reply_of none [] = none
     reply_of none (entry ∷ entries) = entry.reply
 
-run_once : (b : Bounds) (words : List ℕ) (turn : ℕ) (m : Machine) (calls : List TraceCall) (stages others : List Stage) → All IsTraceCall calls → IsRun b words turn m calls stages → IsRun b words turn m calls others → stages ≡ others
-run_once b words turn m [] stages others valid one two = one ∙ sym two
-run_once b words turn m (call ∷ calls) [] others valid one two = absurd one
-run_once b words turn m (call ∷ calls) (stage ∷ stages) [] valid one two = absurd two
-run_once b words turn m (call ∷ calls) (stage ∷ stages) (other ∷ others) valid one two =
-    let same = stage_once b words turn m one.1 two.1 one.0 two.0 call stage other (All-head IsTraceCall call calls valid) one.2 two.2 in
+run_once : (b : Bounds) (words : List ℕ) (line : ℕ) (m : Machine) (calls : List TraceCall) (stages others : List Stage) → All IsTraceCall calls → IsRun b words line m calls stages → IsRun b words line m calls others → stages ≡ others
+run_once b words line m [] stages others valid one two = one ∙ sym two
+run_once b words line m (call ∷ calls) [] others valid one two = absurd one
+run_once b words line m (call ∷ calls) (stage ∷ stages) [] valid one two = absurd two
+run_once b words line m (call ∷ calls) (stage ∷ stages) (other ∷ others) valid one two =
+    let same = stage_once b words line m one.1 two.1 one.0 two.0 call stage other (All-head IsTraceCall call calls valid) one.2 two.2 in
     let rest : stages ≡ others = run_once b (words_after stage) one.0 one.1 calls stages others (All-tail IsTraceCall call calls valid) one.3
     (subst (λ (n : Machine). IsRun b (words_after stage) one.0 n calls others) (sym same.2)
-    (subst (λ turn. IsRun b (words_after stage) turn two.1 calls others) (sym same.1) (subst (λ (s : Stage). IsRun b (words_after s) two.0 two.1 calls others) (sym same.0) two.3))) in
+    (subst (λ line. IsRun b (words_after stage) line two.1 calls others) (sym same.1) (subst (λ (s : Stage). IsRun b (words_after s) two.0 two.1 calls others) (sym same.0) two.3))) in
     λ i. same.0 i ∷ rest i
 
 pub law_of_one_run : LawOfOneRun

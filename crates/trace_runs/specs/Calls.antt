@@ -12,11 +12,11 @@ use Rattle.heap_check.specs.Image.{bounds_of, IsExactImage}
 use Rattle.heap_check.specs.State.{HasState, IsEitherHeap}
 use Rattle.arena_core.specs.Arena.{ArenaState}
 use Rattle.arena_core.specs.Call.{IsStepOf}
-use Rattle.arena_core.specs.Events.{format_events, call_events, turn_after}
+use Rattle.arena_core.specs.Events.{format_events, call_events, line_after}
 use Rattle.trace_text.specs.declared.call.TraceCall.{TraceCall}
 use Rattle.trace_text.specs.Grammar.{IsAsked}
 use Rattle.trace_text.specs.Report.{entry_line}
-use Rattle.trace_runs.specs.Replay.{header_for, bounds_for, formatted, IsJournal, AreAnswers, turn_of, IsBehindFormat, IsBehindCall, HasRun, IsReport}
+use Rattle.trace_runs.specs.Replay.{header_for, bounds_for, formatted, IsJournal, AreAnswers, line_of, IsBehindFormat, IsBehindCall, HasRun, IsReport}
 
 -- the arena was formatted, and nothing was asked of it since
 pub record IsNewArena (granules : ℕ) (arena : ArenaState) : Type 0 where
@@ -26,15 +26,15 @@ pub record IsNewArena (granules : ℕ) (arena : ArenaState) : Type 0 where
   pub base : arena.device.base ≡ zeros (2048 * granules)
   pub events : arena.device.events ≡ format_events (header_for granules)
   pub begins : arena.device.begins ≡ 1
-  pub turn : arena.turn ≡ 0
+  pub line : arena.line ≡ 0
 
 -- From an exact image the arena answered a call of a seat, one that a trace may ask for: a step of the machine, with
 -- exactly the events of the call. A crash within it leaves the heap before it or after it.
 pub record HasAnswered (seat : ℕ) (old new : ArenaState) (call : Call) (reply : Reply) : Type 0 where
   pub asked : IsAsked call
   pub step : IsStepOf seat (words_of old.device) (words_of new.device) call reply
-  pub device : new.device ≡ appended (began old.device) (call_events (words_of old.device) old.turn call reply)
-  pub turn : new.turn ≡ turn_after old.turn reply
+  pub device : new.device ≡ appended (began old.device) (call_events (words_of old.device) old.line call reply)
+  pub line : new.line ≡ line_after old.line reply
   pub exact : IsExactImage (words_of old.device)
   pub crash : CrashOnly new.device.base new.device.events (IsEitherHeap (words_of old.device) (words_of new.device))
 
@@ -46,7 +46,7 @@ pub record HasAnsweredAll (granules : ℕ) (arena : ArenaState) (calls : List Tr
   pub state : HasState (words_of arena.device) machine
   pub bounds : bounds_of (words_of arena.device) ≡ bounds_for granules
   pub begins : arena.device.begins ≡ 1 + length journal
-  pub turn : arena.turn ≡ turn_of journal
+  pub line : arena.line ≡ line_of journal
   pub last : IsBehindFormat granules arena.device journal ⊎ IsBehindCall granules arena.device journal
 
 -- the same, and the lines of the journal stand behind what stood in a text

@@ -13,7 +13,7 @@ use Rattle.heap_model.specs.Placement.{bare, IsPlacedStep}
 use Rattle.heap_check.specs.Heap.{heap}
 use Rattle.heap_check.specs.Image.{IsSteadyImage}
 use Rattle.heap_check.specs.State.{HasState, HaveSameHeap}
-use Rattle.arena_core.specs.Events.{call_events, turn_after}
+use Rattle.arena_core.specs.Events.{call_events, line_after}
 use Rattle.trace_text.specs.declared.call.CrashSide.{CrashSide}
 use Rattle.trace_text.specs.declared.call.CrashSide.TheVariants.{Same, Before, After}
 use Rattle.trace_text.specs.declared.call.TraceCall.{TraceCall}
@@ -35,20 +35,20 @@ words_after stage = reading stage.words stage.events
 
 -- from these words, this write-ahead line and this state on, a call makes this stage: the reply is the placement's, by
 -- the plain policy, in which no stack is filled and no slab takes another class; the events are those of the reply, and behind it come the next line, and words with the state that the machine leads to
-pub record IsStage (b : Bounds) (words : List ℕ) (turn : ℕ) (m : Machine) (call : TraceCall) (stage : Stage) (later : ℕ) (next : Machine) : Type 0 where
+pub record IsStage (b : Bounds) (words : List ℕ) (line : ℕ) (m : Machine) (call : TraceCall) (stage : Stage) (later : ℕ) (next : Machine) : Type 0 where
   pub reply : Reply
   pub begins : stage.words ≡ words
-  pub events : stage.events ≡ call_events words turn call.call reply
-  pub later_is : later ≡ turn_after turn reply
+  pub events : stage.events ≡ call_events words line call.call reply
+  pub later_is : later ≡ line_after line reply
   pub step : IsPlacedStep plain b call.thread (bare m) call.call reply (bare next)
   pub state : HasState (words_after stage) next
 
 -- from these words, this write-ahead line and this state on, calls make these stages, one after another
 abbrev pub IsRun : Bounds → List ℕ → ℕ → Machine → List TraceCall → List Stage → Type 0
-IsRun b words turn m [] stages = stages ≡ []
-IsRun b words turn m (call ∷ calls) [] = ⊥
-IsRun b words turn m (call ∷ calls) (stage ∷ stages) =
-    (later : ℕ) × (next : Machine) × IsStage b words turn m call stage later next × IsRun b (words_after stage) later next calls stages
+IsRun b words line m [] stages = stages ≡ []
+IsRun b words line m (call ∷ calls) [] = ⊥
+IsRun b words line m (call ∷ calls) (stage ∷ stages) =
+    (later : ℕ) × (next : Machine) × IsStage b words line m call stage later next × IsRun b (words_after stage) later next calls stages
 
 -- how many events they have
 abbrev pub total_events : List Stage → ℕ

@@ -14,7 +14,7 @@ use Rattle.heap_model.specs.Placement.{bare}
 use Rattle.heap_model.specs.Journal.{Leads, IsPlacedEntry}
 use Rattle.heap_check.specs.Image.{IsExactImage}
 use Rattle.heap_check.specs.State.{HasState}
-use Rattle.arena_core.specs.Events.{format_events, call_events, turn_after}
+use Rattle.arena_core.specs.Events.{format_events, call_events, line_after}
 use Rattle.trace_text.specs.declared.call.TraceCall.{TraceCall}
 use Rattle.trace_text.specs.Report.{arena_text}
 
@@ -57,13 +57,13 @@ abbrev pub blocks_of : (ℕ → Option Range) → List Block
 blocks_of heap = blocks_from heap 0 (layout_of 1).roots
 
 -- the write-ahead line of the next entry, behind entries before which it was this one
-abbrev pub turn_behind : ℕ → List Entry → ℕ
-turn_behind turn [] = turn
-turn_behind turn (entry ∷ entries) = turn_behind (turn_after turn entry.reply) entries
+abbrev pub line_behind : ℕ → List Entry → ℕ
+line_behind line [] = line
+line_behind line (entry ∷ entries) = line_behind (line_after line entry.reply) entries
 
 -- the write-ahead line of the next entry, behind a journal from the empty heap: the first one's is 0
-abbrev pub turn_of : List Entry → ℕ
-turn_of journal = turn_behind 0 journal
+abbrev pub line_of : List Entry → ℕ
+line_of journal = line_behind 0 journal
 
 -- the device was formatted, and nothing was asked of it since
 pub record IsBehindFormat (granules : ℕ) (device : PmemState) (journal : List Entry) : Type 0 where
@@ -81,7 +81,7 @@ pub record IsBehindCall (granules : ℕ) (device : PmemState) (journal : List En
   pub leads : IsJournal granules before machine
   pub exact : IsExactImage device.base
   pub state : HasState device.base machine
-  pub events : device.events ≡ call_events device.base (turn_of before) entry.call entry.reply
+  pub events : device.events ≡ call_events device.base (line_of before) entry.call entry.reply
 
 -- a device went through the journal, which leads to this state: it is quiet and exact with that state, each call began
 -- once, formatting among them, and its base and events are those of the last call

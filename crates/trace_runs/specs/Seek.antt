@@ -29,8 +29,8 @@ pub record IsBehindEntry (device : PmemState) (entry : Entry) : Type 0 where
   pub asked : IsAsked entry.call
   pub exact : IsExactImage device.base
   pub step : IsStepOf entry.seat device.base (words_of device) entry.call entry.reply
-  pub turn : ℕ
-  pub events : device.events ≡ call_events device.base turn entry.call entry.reply
+  pub line : ℕ
+  pub events : device.events ≡ call_events device.base line entry.call entry.reply
   pub some : 0 < length device.events
   pub crash : CrashOnly device.base device.events (IsEitherHeap device.base (words_of device))
 

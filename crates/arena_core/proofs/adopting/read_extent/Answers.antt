@@ -6,7 +6,7 @@ use Rattle.book_log.specs.Entry.{start_of}
 use Rattle.heap_model.specs.Runs.{IsFreeRow}
 use Rattle.extent_index.specs.FreeSet.{IsFree}
 use Rattle.arena_core.specs.Adopting.{IsReadBelow}
-use Rattle.arena_core.proofs.Adopted.{not_below, next_large, next_slab, extent_some, large_size, slab_size, slab_is, read_row, IsReadBelow-large, IsReadBelow-slab}
+use Rattle.arena_core.proofs.AdoptedExtents.{not_below, next_large, next_slab, extent_some, large_size, slab_size, slab_is, read_row, IsReadBelow-large, IsReadBelow-slab}
 use Rattle.arena_core.proofs.adopting.read_extent.Goals as goal
 
 pub take-requires : goal.take-requires

@@ -2,7 +2,7 @@ use Rattle.std.proofs.Common.{◌+◌, ◌<◌, subst, sym, arith}
 use Rattle.pmem_lines.specs.Pmem.{words_of}
 use Rattle.arena_core.specs.Adopting.{IsReadBelow}
 use Rattle.heap_check.proofs.Sizes.{sizes_of}
-use Rattle.arena_core.proofs.Adopted.{IsReadBelow-first, extent_below, index_read, slabs_read}
+use Rattle.arena_core.proofs.AdoptedExtents.{IsReadBelow-first, extent_below, index_read, slabs_read}
 use Rattle.arena_core.proofs.adopting.read_image.Given as given
 use Rattle.arena_core.proofs.adopting.read_image.Goals as goal
 use Rattle.arena_core.proofs.adopting.read_image.Goals.{After-start-from}

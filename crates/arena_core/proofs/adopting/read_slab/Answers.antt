@@ -1,6 +1,6 @@
 use Rattle.std.proofs.Common.{◌+◌, ◌∙◌, sym, subst, arith}
 use Rattle.pmem_lines.specs.Pmem.{words_of}
-use Rattle.arena_core.proofs.Adopted.{class_read, bit_read, IsReading, IsReading-first, IsReading-clear, IsReading-set, IsReading-all}
+use Rattle.arena_core.proofs.AdoptedExtents.{class_read, bit_read, IsReading, IsReading-first, IsReading-clear, IsReading-set, IsReading-all}
 use Rattle.arena_core.proofs.adopting.read_slab.Goals as goal
 use Rattle.arena_core.proofs.adopting.read_slab.Goals.{then-bit_at, else-bit_at}
 

@@ -9,4 +9,4 @@ pub returns : goal.returns
 returns g c =
     let device : PmemState = g.P.Pmem.state c.args.device in
     IsNewArena-format c.args.granules device c.format.result c.requires.zeroed
-    (subst (λ n. c.format.result.device ≡ appended (began device) (format_events (header_for n))) c.in_ok-room.ensures c.format.ensures.device) c.format.ensures.turn c.format.ensures.exact c.format.ensures.empty
+    (subst (λ n. c.format.result.device ≡ appended (began device) (format_events (header_for n))) c.in_ok-room.ensures c.format.ensures.device) c.format.ensures.line c.format.ensures.exact c.format.ensures.empty

@@ -9,7 +9,7 @@ use Rattle.heap_check.specs.Image.{bounds_of}
 use Rattle.heap_check.proofs.Heaps.{heap-none}
 use Rattle.heap_check.proofs.Sizes.{sizes_of}
 use Rattle.arena_core.specs.Arena.{ArenaState}
-use Rattle.arena_core.proofs.Called.{held_heap}
+use Rattle.arena_core.proofs.CallEvents.{held_heap}
 use Rattle.arena_core.proofs.arena.Arena.block.Goals as goal
 
 pub returns-then-root-layout_in : goal.returns-then-root-layout_in

@@ -5,7 +5,7 @@ use Rattle.heap_model.specs.declared.call.Call.TheVariants as calls
 use Rattle.heap_check.specs.Image.{bounds_of}
 use Rattle.arena_core.specs.Answer.{malloc_reply}
 use Rattle.arena_core.specs.Plan.{IsMallocPlan}
-use Rattle.arena_core.proofs.Called.{IsAnswered, meant, answered_by}
+use Rattle.arena_core.proofs.CallEvents.{IsAnswered, meant, answered_by}
 use Rattle.arena_core.proofs.arena.Arena.malloc_to.Given as given
 use Rattle.arena_core.proofs.arena.Arena.malloc_to.Goals as goal
 
@@ -29,8 +29,8 @@ returns-clause-step g c = (answered g c).step c.args.seat
 pub returns-clause-device : goal.returns-clause-device
 returns-clause-device g c = (answered g c).device
 
-pub returns-clause-turn : goal.returns-clause-turn
-returns-clause-turn g c = (answered g c).turn_is
+pub returns-clause-line : goal.returns-clause-line
+returns-clause-line g c = (answered g c).line_is
 
 pub returns-clause-keeps : goal.returns-clause-keeps
 returns-clause-keeps g c = (answered g c).keeps

@@ -1,5 +1,5 @@
 use Rattle.pmem_lines.specs.Pmem.{words_of}
-use Rattle.arena_core.proofs.Slabbed.{normal_opened, index_opened, slabs_opened}
+use Rattle.arena_core.proofs.SlabChanges.{normal_opened, index_opened, slabs_opened}
 use Rattle.arena_core.proofs.volatile.Volatile.add_slab.Goals as goal
 
 pub take-requires : goal.take-requires

@@ -6,10 +6,10 @@ use Rattle.heap_check.specs.Image.{bounds_of}
 use Rattle.arena_core.specs.declared.answer.FreeRefusal.{FreeRefusal}
 use Rattle.arena_core.specs.declared.answer.FreeRefusal.TheVariants as refusals
 use Rattle.arena_core.specs.Answer.{free_reply}
-use Rattle.arena_core.specs.Events.{call_events, turn_after}
+use Rattle.arena_core.specs.Events.{call_events, line_after}
 use Rattle.arena_core.specs.Plan.{IsFreePlan}
-use Rattle.arena_core.proofs.Called.{IsCalled-refused}
-use Rattle.arena_core.proofs.Machines.{refused_free}
+use Rattle.arena_core.proofs.CallEvents.{IsCalled-refused}
+use Rattle.arena_core.proofs.MachineSteps.{refused_free}
 use Rattle.arena_core.proofs.volatile.Volatile.carry_out_free.Goals as goal
 
 pub carry_out_held-requires-clause-plan : goal.carry_out_held-requires-clause-plan
@@ -21,10 +21,10 @@ pub returns-in-Err : goal.returns-in-Err
 returns-in-Err g c =
     let words = words_of (g.P.Pmem.state c.args.device.now) in
     let root = c.args.root in
-    let turn = c.args.self.now.line in
+    let line = c.args.self.now.line in
     let refused = subst (IsFreePlan (bounds_of words) (tables_of words) root) c.in-Err.is c.requires.plan in
-    let stays : (refusal : FreeRefusal) → (call_events words turn (calls.Free root) (free_reply (Err refusal)) ≡ []) × (turn_after turn (free_reply (Err refusal)) ≡ turn) =
-    λ refusal. elim refusal as (λ refusal. (call_events words turn (calls.Free root) (free_reply (Err refusal)) ≡ []) × (turn_after turn (free_reply (Err refusal)) ≡ turn)) [
+    let stays : (refusal : FreeRefusal) → (call_events words line (calls.Free root) (free_reply (Err refusal)) ≡ []) × (line_after line (free_reply (Err refusal)) ≡ line) =
+    λ refusal. elim refusal as (λ refusal. (call_events words line (calls.Free root) (free_reply (Err refusal)) ≡ []) × (line_after line (free_reply (Err refusal)) ≡ line)) [
       | refusals.NoRoot ↦ (refl, refl)
       | refusals.Empty ↦ (refl, refl)
     ] in

@@ -10,9 +10,9 @@ use Rattle.heap_check.proofs.Sizes.{sizes_of}
 use Rattle.arena_core.specs.declared.plan.Held.{Held}
 use Rattle.arena_core.specs.Plan.{IsTakable, IsNamedSmall, IsHeldBy, range_held}
 use Rattle.arena_core.proofs.Blocks.{heap-takable}
-use Rattle.arena_core.proofs.Called.{IsCalled-same, IsCalled-done, IsDone-large, freed_large, turn_freed, freed_there, start_is, turn_small, named_class, named_inside, named_heap}
+use Rattle.arena_core.proofs.CallEvents.{IsCalled-same, IsCalled-done, IsDone-large, freed_large, line_freed, freed_there, start_is, line_small, named_class, named_inside, named_heap}
 use Rattle.heap_check.proofs.SmallPlaces.{no_old-normal}
-use Rattle.arena_core.proofs.Machines.{freed_step, large_stays, small_stays}
+use Rattle.arena_core.proofs.MachineSteps.{freed_step, large_stays, small_stays}
 use Rattle.arena_core.proofs.volatile.Volatile.carry_out_held.Goals as goal
 use Rattle.arena_core.proofs.volatile.Volatile.carry_out_held.Goals.{in-Large, in-Small}
 
@@ -37,7 +37,7 @@ returns g c =
           let step = freed_step words new root range (slabs t) taken.below (heap-takable b t root start count (omega (arith, (sizes_of words exact.formed).first)) taken) (large_stays words root start count exact taken) done.gives in
           IsCalled-same (ap state w.device-is) w.self-is
           (λ i. replies.Freed ((c.freed_of.ensures.0 ∙ ap (λ (h : Held). (range_held h).at) w.held-is) i) ((c.freed_of.ensures.1 ∙ ap (λ (h : Held). (range_held h).size) w.held-is) i))
-          (IsCalled-done (calls.Free root) (replies.Freed range.at range.size) done (sym (freed_large words c.args.self.now.line root start count taken.many)) refl (w.take_large.ensures.line ∙ sym (turn_freed words c.args.self.now.line root start count taken.many c.args.self.now.line)) (omega (arith, w.take_large.ensures.line, arena.few)) step)
+          (IsCalled-done (calls.Free root) (replies.Freed range.at range.size) done (sym (freed_large words c.args.self.now.line root start count taken.many)) refl (w.take_large.ensures.line ∙ sym (line_freed words c.args.self.now.line root start count taken.many c.args.self.now.line)) (omega (arith, w.take_large.ensures.line, arena.few)) step)
       | in-Small w ↦
           let block = w.in-Small.block in
           let class = w.in-Small.class in
@@ -53,7 +53,7 @@ returns g c =
           (IsCalled-done (calls.Free root) (replies.Freed range.at range.size) done
           (freed_there words c.args.self.now.line root block class is_class named.at (start_is exact.exact.sound block.start class block.number named.slab is_class named.below)
           (no_old-normal exact.exact.sound block.start range.at (record { slab = named.slab; kind = arena.normal.each block.start named.slab })))
-          refl (ap (λ n. (n + 1) % 8) w.take_small.ensures.line ∙ sym (turn_small c.args.self.now.line range.at class is_class).1) (omega arith) step)
+          refl (ap (λ n. (n + 1) % 8) w.take_small.ensures.line ∙ sym (line_small c.args.self.now.line range.at class is_class).1) (omega arith) step)
     ]
 
 pub freed_of-requires : goal.freed_of-requires

@@ -6,10 +6,10 @@ use Rattle.heap_check.specs.Image.{bounds_of}
 use Rattle.arena_core.specs.declared.answer.MallocRefusal.{MallocRefusal}
 use Rattle.arena_core.specs.declared.answer.MallocRefusal.TheVariants as refusals
 use Rattle.arena_core.specs.Answer.{malloc_reply}
-use Rattle.arena_core.specs.Events.{call_events, turn_after}
+use Rattle.arena_core.specs.Events.{call_events, line_after}
 use Rattle.arena_core.specs.Plan.{IsMallocPlan}
-use Rattle.arena_core.proofs.Called.{IsCalled-refused}
-use Rattle.arena_core.proofs.Machines.{refused_malloc}
+use Rattle.arena_core.proofs.CallEvents.{IsCalled-refused}
+use Rattle.arena_core.proofs.MachineSteps.{refused_malloc}
 use Rattle.arena_core.proofs.volatile.Volatile.carry_out_malloc.Goals as goal
 
 pub returns-in-Ok : goal.returns-in-Ok
@@ -21,10 +21,10 @@ pub returns-in-Err : goal.returns-in-Err
 returns-in-Err g c size plan =
     let words = words_of (g.P.Pmem.state c.args.device.now) in
     let root = c.args.root in
-    let turn = c.args.self.now.line in
+    let line = c.args.self.now.line in
     let refused = subst (IsMallocPlan (bounds_of words) (tables_of words) root size) c.in-Err.is plan in
-    let stays : (refusal : MallocRefusal) → (call_events words turn (calls.Malloc root size) (malloc_reply (Err refusal)) ≡ []) × (turn_after turn (malloc_reply (Err refusal)) ≡ turn) =
-    λ refusal. elim refusal as (λ refusal. (call_events words turn (calls.Malloc root size) (malloc_reply (Err refusal)) ≡ []) × (turn_after turn (malloc_reply (Err refusal)) ≡ turn)) [
+    let stays : (refusal : MallocRefusal) → (call_events words line (calls.Malloc root size) (malloc_reply (Err refusal)) ≡ []) × (line_after line (malloc_reply (Err refusal)) ≡ line) =
+    λ refusal. elim refusal as (λ refusal. (call_events words line (calls.Malloc root size) (malloc_reply (Err refusal)) ≡ []) × (line_after line (malloc_reply (Err refusal)) ≡ line)) [
       | refusals.NoRoot ↦ (refl, refl)
       | refusals.Occupied at ↦ (refl, refl)
       | refusals.ZeroSize ↦ (refl, refl)

@@ -10,8 +10,8 @@ use Rattle.arena_core.specs.declared.volatile.Volatile.{Volatile}
 use Rattle.arena_core.specs.declared.plan.Place.{Place}
 use Rattle.arena_core.specs.declared.plan.Place.TheVariants as places
 use Rattle.arena_core.specs.Plan.{IsAskedOf, IsPlacing, range_at}
-use Rattle.arena_core.proofs.Called.{IsCalled-same, IsCalled-done, IsDone-large, IsDone-small, placed_large, turn_placed, placed_there, placed_fresh, start_is, turn_small, small_attachable}
-use Rattle.arena_core.proofs.Machines.{placed_step}
+use Rattle.arena_core.proofs.CallEvents.{IsCalled-same, IsCalled-done, IsDone-large, IsDone-small, placed_large, line_placed, placed_there, placed_fresh, start_is, line_small, small_attachable}
+use Rattle.arena_core.proofs.MachineSteps.{placed_step}
 use Rattle.arena_core.proofs.volatile.Volatile.carry_out_place.Goals as goal
 use Rattle.arena_core.proofs.volatile.Volatile.carry_out_place.Goals.{in-Large, in-Small, in-Fresh}
 
@@ -22,7 +22,7 @@ returns g c size plan =
     let b = bounds_of words in
     let t = tables_of words in
     let root = c.args.root in
-    let turn = c.args.self.now.line in
+    let line = c.args.self.now.line in
     let arena = c.requires.arena in
     let exact = arena.kept.exact in
     let state = g.P.Pmem.state in
@@ -39,7 +39,7 @@ returns g c size plan =
           let step = placed_step words new root size (places.Large start count) exact arena.normal made.0 placing done.gives in
           IsCalled-same (ap state w.device-is) w.self-is
           (λ i. replies.Placed ((c.placed_at.ensures.0 ∙ ap (λ (p : Place). (range_at p).at) w.place-is) i) ((c.placed_at.ensures.1 ∙ ap (λ (p : Place). (range_at p).size) w.place-is) i))
-          (IsCalled-done (calls.Malloc root size) (replies.Placed range.at range.size) done (sym (placed_large words turn root start count many)) refl (w.give_large.ensures.line ∙ sym (turn_placed words turn root start count many turn)) (omega (arith, w.give_large.ensures.line, arena.few)) step)
+          (IsCalled-done (calls.Malloc root size) (replies.Placed range.at range.size) done (sym (placed_large words line root start count many)) refl (w.give_large.ensures.line ∙ sym (line_placed words line root start count many line)) (omega (arith, w.give_large.ensures.line, arena.few)) step)
       | in-Small w ↦
           let block = w.in-Small.block in
           let class = w.in-Small.class in
@@ -54,8 +54,8 @@ returns g c size plan =
           IsCalled-same (ap state w.device-is) w.self-is
           (λ i. replies.Placed ((c.placed_at.ensures.0 ∙ ap (λ (p : Place). (range_at p).at) w.place-is) i) ((c.placed_at.ensures.1 ∙ ap (λ (p : Place). (range_at p).size) w.place-is) i))
           (IsCalled-done (calls.Malloc root size) (replies.Placed range.at range.size) done
-          (placed_there words turn root block class is_class placing.place_for.at (start_is exact.exact.sound block.start class block.number placing.place_for.slab is_class placing.place_for.below) placing.place_for.slab placing.place_for.class_is)
-          refl (ap (λ (v : Volatile). (v.line + 1) % 8) given.rest ∙ sym (turn_small turn range.at class is_class).0) (omega arith) step)
+          (placed_there words line root block class is_class placing.place_for.at (start_is exact.exact.sound block.start class block.number placing.place_for.slab is_class placing.place_for.below) placing.place_for.slab placing.place_for.class_is)
+          refl (ap (λ (v : Volatile). (v.line + 1) % 8) given.rest ∙ sym (line_small line range.at class is_class).0) (omega arith) step)
       | in-Fresh w ↦
           let start = w.in-Fresh.start in
           let class = w.in-Fresh.class in
@@ -69,8 +69,8 @@ returns g c size plan =
           IsCalled-same (ap state w.device-is) w.self-is
           (λ i. replies.Placed ((c.placed_at.ensures.0 ∙ ap (λ (p : Place). (range_at p).at) w.place-is) i) ((c.placed_at.ensures.1 ∙ ap (λ (p : Place). (range_at p).size) w.place-is) i))
           (IsCalled-done (calls.Malloc root size) (replies.Placed range.at range.size) done
-          (placed_fresh b words turn root start class is_class high (placing.place_for.vacant start (omega arith) (omega arith)))
-          refl (ap (λ n. (n + 1) % 8) w.give_fresh.ensures.line ∙ sym (turn_small turn range.at class is_class).0) (omega arith) step)
+          (placed_fresh b words line root start class is_class high (placing.place_for.vacant start (omega arith) (omega arith)))
+          refl (ap (λ n. (n + 1) % 8) w.give_fresh.ensures.line ∙ sym (line_small line range.at class is_class).0) (omega arith) step)
     ]
 
 pub give_small-requires-clause-attachable : goal.give_small-requires-clause-attachable

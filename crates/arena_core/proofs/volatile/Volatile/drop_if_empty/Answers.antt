@@ -9,7 +9,7 @@ use Rattle.heap_check.specs.State.{IsEitherHeap}
 use Rattle.slab_steps.specs.Steps.{drop_events}
 use Rattle.arena_core.specs.Effect.{slabs_but}
 use Rattle.arena_core.specs.Events.{holds_none, tidy_events}
-use Rattle.arena_core.proofs.Slabbed.{none_held, held_row, classes_dropped, normal_dropped, index_dropped, slabs_dropped, keeps_dropped, tidied_none}
+use Rattle.arena_core.proofs.SlabChanges.{none_held, held_row, classes_dropped, normal_dropped, index_dropped, slabs_dropped, keeps_dropped, tidied_none}
 use Rattle.arena_core.proofs.volatile.Volatile.drop_if_empty.Goals as goal
 
 pub give-requires : goal.give-requires

@@ -11,8 +11,8 @@ use Rattle.attach_steps.specs.declared.block.SmallBlock.{SmallBlock}
 use Rattle.attach_steps.specs.Steps.{attach_events}
 use Rattle.arena_core.specs.Arena.{IsKept}
 use Rattle.arena_core.specs.Events.{first_block, fresh_events}
-use Rattle.arena_core.proofs.Smalls.{classes_small, index_small, book_small, keeps_small, keeps_both, crash_then}
-use Rattle.arena_core.proofs.Slabbed.{classes_opened, keeps_opened, first_attachable}
+use Rattle.arena_core.proofs.SmallCalls.{classes_small, index_small, book_small, keeps_small, keeps_both, crash_then}
+use Rattle.arena_core.proofs.SlabChanges.{classes_opened, keeps_opened, first_attachable}
 use Rattle.arena_core.proofs.volatile.Volatile.give_fresh.Goals as goal
 
 pub give_small-requires-clause-attachable : goal.give_small-requires-clause-attachable

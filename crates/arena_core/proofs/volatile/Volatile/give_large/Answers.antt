@@ -7,7 +7,7 @@ use Rattle.durable_steps.specs.Steps.{word_events}
 use Rattle.book_log.specs.declared.entry.LogEntry.TheVariants.{Large}
 use Rattle.log_steps.specs.Events.{log_events}
 use Rattle.arena_core.specs.Events.{place_events}
-use Rattle.arena_core.proofs.Called.{IsDone-large}
+use Rattle.arena_core.proofs.CallEvents.{IsDone-large}
 use Rattle.pool_layout.specs.Layout.{layout_of}
 use Rattle.pool_layout.specs.Places.{root_word}
 use Rattle.pool_layout.specs.Header.{version_in}
@@ -21,8 +21,8 @@ use Rattle.arena_core.proofs.Arenas.{book_root, slabs_stage, index_stage, index_
 use Rattle.log_steps.proofs.Disjoint.{disjoint_of}
 use Rattle.log_steps.proofs.Entries.{quiet_step}
 use Rattle.heap_check.proofs.Sizes.{sizes_of, root_inside}
-use Rattle.arena_core.proofs.Giving.{word_stored, word_crash, give_place, nothing, given_extent, given, give_crash}
-use Rattle.arena_core.proofs.Stages.{IsStageOf, exact_stage, gives_some}
+use Rattle.arena_core.proofs.LargeCalls.{word_stored, word_crash, give_place, nothing, given_extent, given, give_crash}
+use Rattle.arena_core.proofs.LargeStages.{IsStageOf, exact_stage, gives_some}
 use Rattle.arena_core.proofs.volatile.Volatile.give_large.Goals as goal
 
 pub log_entry-requires-clause-disjoint : goal.log_entry-requires-clause-disjoint

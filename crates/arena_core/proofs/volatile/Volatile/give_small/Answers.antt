@@ -1,6 +1,6 @@
 use Rattle.std.proofs.Common.{true, not, ap, ◌∙◌, arith}
 use Rattle.pmem_lines.specs.Pmem.{words_of}
-use Rattle.arena_core.proofs.Smalls.{normal_small, slabs_small}
+use Rattle.arena_core.proofs.SmallCalls.{normal_small, slabs_small}
 use Rattle.arena_core.proofs.volatile.Volatile.give_small.Goals as goal
 
 pub attach-requires-clause-room : goal.attach-requires-clause-room

@@ -2,7 +2,7 @@ use Rattle.std.proofs.Common.{false, not, ap, ◌∙◌, arith, Some, None, leng
 use Rattle.std.proofs.lemmas.Bool.{cond-true}
 use Rattle.pmem_lines.specs.Pmem.{words_of}
 use Rattle.image_tables.specs.Tables.{tables_of}
-use Rattle.arena_core.proofs.Smalls.{normal_small, slabs_small}
+use Rattle.arena_core.proofs.SmallCalls.{normal_small, slabs_small}
 use Rattle.arena_core.proofs.volatile.Volatile.take_block.Goals as goal
 
 pub detach-requires-clause-room : goal.detach-requires-clause-room

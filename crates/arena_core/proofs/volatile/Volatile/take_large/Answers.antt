@@ -6,7 +6,7 @@ use Rattle.durable_steps.specs.Steps.{word_events}
 use Rattle.book_log.specs.declared.entry.LogEntry.TheVariants.{Tomb}
 use Rattle.log_steps.specs.Events.{log_events}
 use Rattle.arena_core.specs.Events.{take_events}
-use Rattle.arena_core.proofs.Called.{IsDone-large}
+use Rattle.arena_core.proofs.CallEvents.{IsDone-large}
 use Rattle.pool_layout.specs.Places.{root_word}
 use Rattle.image_tables.specs.Tables.{tables_of}
 use Rattle.heap_model.specs.Machine.{Bounds}
@@ -17,9 +17,8 @@ use Rattle.log_steps.specs.Log.{IsBookOf}
 use Rattle.arena_core.proofs.Arenas.{book_root, slabs_stage, index_stage, index_more}
 use Rattle.log_steps.proofs.Disjoint.{disjoint_of}
 use Rattle.heap_check.proofs.Sizes.{sizes_of, root_inside}
-use Rattle.arena_core.proofs.Giving.{word_stored, word_crash}
-use Rattle.arena_core.proofs.Stages.{IsStageOf, steady_stage, exact_stage, gives_none}
-use Rattle.arena_core.proofs.Taking.{take_place, taken_root, taken_extent, taken_covers, take_crash}
+use Rattle.arena_core.proofs.LargeStages.{IsStageOf, steady_stage, exact_stage, gives_none}
+use Rattle.arena_core.proofs.LargeCalls.{word_stored, word_crash, take_place, taken_root, taken_extent, taken_covers, take_crash}
 use Rattle.arena_core.proofs.volatile.Volatile.take_large.Goals as goal
 
 pub root_at-requires : goal.root_at-requires

@@ -11,9 +11,9 @@ use Rattle.log_steps.specs.Log.{IsBookOf}
 use Rattle.arena_core.specs.declared.volatile.Volatile.{Volatile}
 use Rattle.arena_core.specs.Arena.{IsIndexOf}
 use Rattle.arena_core.specs.Effect.{slabs_but, IsLastOf}
-use Rattle.arena_core.proofs.Last.{last_of}
+use Rattle.arena_core.proofs.LastBlocks.{last_of}
 use Rattle.arena_core.specs.Events.{holds_none, tidy_events, unsmall_events}
-use Rattle.arena_core.proofs.Smalls.{classes_small, index_small, book_small, keeps_small, named_in, keeps_both, crash_then}
+use Rattle.arena_core.proofs.SmallCalls.{classes_small, index_small, book_small, keeps_small, named_in, keeps_both, crash_then}
 use Rattle.arena_core.proofs.volatile.Volatile.take_small.Goals as goal
 
 pub drop_if_empty-requires-clause-book : goal.drop_if_empty-requires-clause-book

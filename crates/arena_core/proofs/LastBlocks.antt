@@ -22,7 +22,7 @@ use Rattle.arena_core.specs.Arena.{HasNormalSlabs}
 use Rattle.arena_core.specs.Effect.{IsLastOf}
 use Rattle.arena_core.specs.Events.{holds_none}
 use Rattle.arena_core.specs.Plan.{IsNamedSmall}
-use Rattle.arena_core.proofs.Slabbed.{any_below-each, any_below-some, holds_none-normal}
+use Rattle.arena_core.proofs.SlabChanges.{any_below-each, any_below-some, holds_none-normal}
 
 module _ (words : List ℕ) (line root : ℕ) (block : SmallBlock) (class : ℕ) (image : IsExactImage words) (normal : HasNormalSlabs words) (named : IsNamedSmall (bounds_of words) (tables_of words) root block class)
     (left : List ℕ) (detached : IsDetached words line root block left) where

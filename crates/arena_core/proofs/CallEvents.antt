@@ -30,7 +30,7 @@ use Rattle.log_steps.proofs.Entries.{first_zero-is}
 use Rattle.attach_steps.specs.declared.block.SmallBlock.{SmallBlock}
 use Rattle.attach_steps.specs.Steps.{attach_events, IsAttachable, IsAttached}
 use Rattle.heap_check.proofs.Loose.{IsExactBut-exact}
-use Rattle.arena_core.proofs.Smalls.{classes_small, index_small, book_small, keeps_small}
+use Rattle.arena_core.proofs.SmallCalls.{classes_small, index_small, book_small, keeps_small}
 use Rattle.heap_check.specs.Image.{bounds_of, IsExactImage}
 use Rattle.heap_check.specs.State.{KeepsBlocks, IsEitherHeap}
 use Rattle.arena_core.specs.Arena.{ArenaState, HasNormalSlabs, IsSlabsOf, IsKept, IsArena}
@@ -44,7 +44,7 @@ use Rattle.arena_core.specs.Plan.{IsAskedOf, IsClearBlock, IsNamedSmall, IsHeldB
 use Rattle.heap_check.proofs.Sizes.{sizes_of}
 use Rattle.arena_core.proofs.Blocks.{heap-takable}
 use Rattle.arena_core.proofs.Arenas.{normal_kept, slabs_kept}
-use Rattle.arena_core.specs.Events.{is_small, class_for, start_at, in_slab, block_at, place_events, take_events, fresh_events, unsmall_events, placed_events, freed_events, call_events, turn_after}
+use Rattle.arena_core.specs.Events.{is_small, class_for, start_at, in_slab, block_at, place_events, take_events, fresh_events, unsmall_events, placed_events, freed_events, call_events, line_after}
 
 -- equal ends
 pub IsCalled-same : {old new device : PmemState} {was next left : Volatile} {call : Call} {reply answer : Reply} → device ≡ new → left ≡ next → answer ≡ reply → IsCalled old new was next call reply → IsCalled old device was left call answer
@@ -55,12 +55,12 @@ IsCalled-same {old} {new} {device} {was} {next} {left} {call} {reply} {answer} d
 
 -- a call that placed or freed a block, by its events
 pub IsCalled-done : {old new : PmemState} {was done_left left : Volatile} {root : ℕ} {block : Option Range} {slab : ℕ → Option ℕ} {events : List Event} (call : Call) (reply : Reply) →
-    IsDone old new done_left root block slab events → events ≡ call_events (words_of old) was.line call reply → left ≡ record done_left { line = left.line } → left.line ≡ turn_after was.line reply → left.line < 8 →
+    IsDone old new done_left root block slab events → events ≡ call_events (words_of old) was.line call reply → left ≡ record done_left { line = left.line } → left.line ≡ line_after was.line reply → left.line < 8 →
     IsStepOfAny (words_of old) (words_of new) call reply → IsCalled old new was left call reply
-IsCalled-done {old} {new} {was} {done_left} {left} {root} {block} {slab} {events} call reply done same left_is turn_is few step = record {
+IsCalled-done {old} {new} {was} {done_left} {left} {root} {block} {slab} {events} call reply done same left_is line_is few step = record {
   appends = subst (λ (es : List Event). Appends old new es) same done.appends;
   arena = subst (IsArena new) (sym left_is) (record { kept = record { ready = done.kept.ready; exact = done.kept.exact; log = done.kept.log; index = done.kept.index }; normal = done.normal; slabs = done.slabs; few = few });
-  turn_is = turn_is;
+  line_is = line_is;
   step = step;
   keeps = done.gives.keeps;
   crash = subst (λ (es : List Event). CrashOnly (words_of old) es (IsEitherHeap (words_of old) (words_of new))) same done.crash;
@@ -92,11 +92,11 @@ module _ (words : List ℕ) (line root start count : ℕ) (many : 2 ≤ count) w
   pub freed_large : freed_events words line root (16384 * start) (16384 * count) ≡ take_events words root start
   freed_large = cond-false (is_small (16384 * count)) _ _ big ∙ ap (take_events words root) granule_is
 
-  pub turn_placed : (turn : ℕ) → turn_after turn (replies.Placed (16384 * start) (16384 * count)) ≡ turn
-  turn_placed turn = cond-false (is_small (16384 * count)) _ _ big
+  pub line_placed : (line : ℕ) → line_after line (replies.Placed (16384 * start) (16384 * count)) ≡ line
+  line_placed line = cond-false (is_small (16384 * count)) _ _ big
 
-  pub turn_freed : (turn : ℕ) → turn_after turn (replies.Freed (16384 * start) (16384 * count)) ≡ turn
-  turn_freed turn = cond-false (is_small (16384 * count)) _ _ big
+  pub line_freed : (line : ℕ) → line_after line (replies.Freed (16384 * start) (16384 * count)) ≡ line
+  line_freed line = cond-false (is_small (16384 * count)) _ _ big
 
 -- a class is the least that holds its size
 
@@ -176,9 +176,9 @@ placed_fresh b words line root start class is_class high vacant =
     ∙ cond-false (in_slab t at) _ _ outside
     ∙ (λ i. fresh_events words line root (granule i) (class_is class is_class i)))
 
--- the turn behind a small block
-pub turn_small : (turn at class : ℕ) → class < 36 → (turn_after turn (replies.Placed at (class_size class)) ≡ (turn + 1) % 8) × (turn_after turn (replies.Freed at (class_size class)) ≡ (turn + 1) % 8)
-turn_small turn at class is_class =
+-- the line behind a small block
+pub line_small : (line at class : ℕ) → class < 36 → (line_after line (replies.Placed at (class_size class)) ≡ (line + 1) % 8) × (line_after line (replies.Freed at (class_size class)) ≡ (line + 1) % 8)
+line_small line at class is_class =
     let small = small_size (class_size class) (class_size-most class is_class) in
     (cond-true (is_small (class_size class)) _ _ small, cond-true (is_small (class_size class)) _ _ small)
 
@@ -287,7 +287,7 @@ IsDone-small {old} {new} {was} {left} {root} {class} block arena left_is may cla
 
 -- a call that is refused
 pub IsCalled-refused : {old : PmemState} {was : Volatile} (call : Call) (reply : Reply) → IsArena old was →
-    call_events (words_of old) was.line call reply ≡ [] → turn_after was.line reply ≡ was.line → IsStepOfAny (words_of old) (words_of old) call reply → IsCalled old old was was call reply
+    call_events (words_of old) was.line call reply ≡ [] → line_after was.line reply ≡ was.line → IsStepOfAny (words_of old) (words_of old) call reply → IsCalled old old was was call reply
 IsCalled-refused {old} {was} call reply arena none stays step =
     let words = words_of old in
     let exact = arena.kept.exact in
@@ -295,7 +295,7 @@ IsCalled-refused {old} {was} call reply arena none stays step =
     record {
       appends = subst (λ (es : List Event). Appends old old es) (sym none) (Appends-state old old [] (sym (appended_none old)));
       arena = arena;
-      turn_is = sym stays;
+      line_is = sym stays;
       step = step;
       keeps = keeps;
       crash = subst (λ (es : List Event). CrashOnly words es (IsEitherHeap words words)) (sym none)
@@ -305,15 +305,15 @@ IsCalled-refused {old} {was} call reply arena none stays step =
 -- an arena answered a call
 pub record IsAnswered (old new : ArenaState) (left : Volatile) (call : Call) (reply : Reply) : Type 0 where
   pub step : IsStepOfAny (words_of old.device) (words_of new.device) call reply
-  pub device : new.device ≡ appended (began old.device) (call_events (words_of old.device) old.turn call reply)
-  pub turn_is : new.turn ≡ turn_after old.turn reply
+  pub device : new.device ≡ appended (began old.device) (call_events (words_of old.device) old.line call reply)
+  pub line_is : new.line ≡ line_after old.line reply
   pub keeps : KeepsBlocks (words_of old.device) (words_of new.device)
   pub arena : IsArena new.device left
   pub crash : CrashOnly new.device.base new.device.events (IsEitherHeap (words_of old.device) (words_of new.device))
 
 -- what an arena means
 abbrev pub meant : PmemState → Volatile → ArenaState
-meant device volatile = record { device = device; turn = volatile.line }
+meant device volatile = record { device = device; line = volatile.line }
 
 -- by what was done behind its begin
 answered : (device begun new : PmemState) (was left : Volatile) (call : Call) (reply : Reply) → begun ≡ began device → IsCalled begun new was left call reply → IsAnswered (meant device was) (meant new left) left call reply
@@ -324,7 +324,7 @@ answered device begun new was left call reply is called =
     record {
       step = subst (λ (ws : List ℕ). IsStepOfAny ws (words_of new) call reply) same called.step;
       device = state;
-      turn_is = called.turn_is;
+      line_is = called.line_is;
       keeps = subst (λ (ws : List ℕ). KeepsBlocks ws (words_of new)) same called.keeps;
       arena = called.arena;
       crash = subst (λ (s : PmemState). CrashOnly s.base s.events (IsEitherHeap (words_of device) (words_of new))) (sym state)
