@@ -1,5 +1,5 @@
 -- Where the chunks of a well-formed log lie among the words.
-use Rattle.std.proofs.Common.{◌≡◌, ◌<◌, ◌≤◌, ◌+◌, ◌-◌, ◌*◌, ◌/◌, ℕ, List, length, get_or, ap, arith, subst, sym}
+use Rattle.std.proofs.Common.{◌≡◌, ◌<◌, ◌≤◌, ◌+◌, ◌-◌, ◌*◌, ◌/◌, ℕ, List, length, get_or, ap, arith, subst, sym, ◌∙◌}
 use Rattle.std.proofs.Math.Nat.{mul-le-mul_left}
 use Rattle.std.proofs.lemmas.List.{take_all}
 use Rattle.std.specs.List.{All}
@@ -25,6 +25,10 @@ word_of_place words at k is = let e : at / 8 ≡ k = omega arith in ap (word_at 
 pub words_at-whole : (words : List ℕ) (n : ℕ) → n ≡ length words → words_at words 0 n ≡ words
 unfolding words_at
 words_at-whole words n is = take_all n words (omega (arith, is))
+
+-- what a device lends from its first word on, as many words as it has, is all of them
+pub lent_whole : (words lent : List ℕ) (n : ℕ) → lent ≡ words_at words 0 n → n ≡ length words → lent ≡ words
+lent_whole words lent n is all = is ∙ words_at-whole words n all
 
 -- an entry lies in its chunk
 pub entry_word-within : (version chunk entry : ℕ) → entry < (layout_of version).chunk_entries → entry_word version chunk entry < chunk_word version (chunk + 1)

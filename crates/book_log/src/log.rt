@@ -14,7 +14,7 @@ ghost use Rattle.book_log.specs.Book.{live_at, IsArenaSize, IsBlank, HasLog, Are
 
 use crate::append::append_at;
 use crate::live::{extent_in, next_in, no_extents};
-use crate::taking::take_log;
+use crate::taking::{next_place, take_log};
 use crate::{EntryPlace, LogEntry};
 use image_tables::Extent;
 use pmem_lines::{OutOfMemory, Pmem};
@@ -80,6 +80,19 @@ impl BookLog {
         ensures granules { self.new.granules ≡ self.old.granules }
     {
         self.next = take_log(&mut self.live, words);
+    }
+
+    /// Takes over where the next entry goes in the log that the device has. That log is well formed for the granules that
+    /// were given to `new`, its active chunks lie inside, and it has the live extents that are known here already. It looks
+    /// at the last active chunk alone.
+    pub fn load_next<P: Pmem>(&mut self, p: &P)
+        requires log { HasLog self.old.granules (words_of (P.state p.now)) }
+        requires inside { AreWithin (words_of (P.state p.now)) }
+        requires live { (start : ℕ) → live_at self.old start ≡ extent_at (words_of (P.state p.now)) start }
+        ensures reads { Reads self.new (words_of (P.state p.now)) }
+        ensures granules { self.new.granules ≡ self.old.granules }
+    {
+        self.next = next_place(p.words(0, p.size_words()));
     }
 
     /// The live extent that starts at a granule, if one does; none starts past the arena.

@@ -107,6 +107,18 @@ pub(crate) fn take_log(live: &mut [Option<Extent>], words: &[u64]) -> Option<Ent
     for chunk in chunks {
         take_chunk(live, words, version, *chunk);
     }
+    next_place(words)
+}
+
+/// Where the next entry goes.
+pub(crate) fn next_place(words: &[u64]) -> Option<EntryPlace>
+    requires log { (granules : ℕ) × HasLog granules words.now }
+    requires inside { AreWithin words.now }
+    ensures { IsNextOf words.now result }
+{
+    let version = version_in(words);
+    let directory = active_chunks(word_at(words, directory_at()));
+    let chunks = directory.as_slice();
     let chunk = chunks[chunks.len() - 1];
     let entry = first_free(words, version, chunk)?;
     Some(EntryPlace { chunk, entry })

@@ -63,7 +63,7 @@ pub fn make_room<P: Pmem>(log: &mut BookLog, p: &mut P) -> Rolled
     }
     let way = choose_way(log, p);
     take_way(log, p, way);
-    log.load(p);
+    log.load_next(p);
     way
 }
 

@@ -32,9 +32,5 @@ returns-clause-live c start =
     c.as_slice-chunks.ensures.value ∙ c.active_chunks-directory.ensures ∙ ap active_chunks (c.word_at.ensures ∙ word_of_place words c.directory_at.result directory_word c.directory_at.ensures) in
     c.loop-chunk.invariant start ∙ behind_all words c.version_in-version.result c.as_slice-chunks.result.now c.loop-chunk.chunk-index start c.version_in-version.ensures chunks c.loop-chunk-test.false
 
-pub returns-in_err-entry-clause-live : goal.returns-in_err-entry-clause-live
-returns-in_err-entry-clause-live c start =
-    let words = c.args.words.now in
-    let chunks : c.as_slice-chunks.result.now ≡ chunks_of words =
-    c.as_slice-chunks.ensures.value ∙ c.active_chunks-directory.ensures ∙ ap active_chunks (c.word_at.ensures ∙ word_of_place words c.directory_at.result directory_word c.directory_at.ensures) in
-    c.loop-chunk.invariant start ∙ behind_all words c.version_in-version.result c.as_slice-chunks.result.now c.loop-chunk.chunk-index start c.version_in-version.ensures chunks c.loop-chunk-test.false
+pub next_place-requires-clause-log : goal.next_place-requires-clause-log
+next_place-requires-clause-log c = (length c.args.live.now, c.requires.log)

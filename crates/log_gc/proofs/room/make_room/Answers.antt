@@ -1,4 +1,4 @@
-use Rattle.std.proofs.Common.{sym, subst, refl}
+use Rattle.std.proofs.Common.{sym, subst, refl, ◌∙◌}
 use Rattle.pmem_lines.specs.Pmem.{words_of}
 use Rattle.pmem_lines.proofs.States.{quiet_after}
 use Rattle.book_log.specs.Book.{HasLog, HasFreeEntry, AreWithin, chunks_of}
@@ -30,29 +30,21 @@ choose_way-way-requires-clause-full g c =
     let words = words_of (g.P.Pmem.state c.args.p.now) in
     no_space c.args.log.now.granules words c.requires.reads.log (λ free. let never = (c.if-has_room.ensures.reads words c.requires.reads).1 free in absurd (cc))
 
-pub load-requires-clause-log : goal.load-requires-clause-log
-load-requires-clause-log g c =
+pub load_next-requires-clause-log : goal.load_next-requires-clause-log
+load_next-requires-clause-log g c =
     let state = g.P.Pmem.state in
     let words = words_of (state c.args.p.now) in
     let granules = c.args.log.now.granules in
     let arena : IsArenaLog granules words (chunks_of words) = record { log = c.requires.reads.log; inside = c.requires.inside; few = c.choose_way-way.ensures.few } in
     subst (HasLog granules) (sym c.take_way.ensures.words) (made granules words arena c.requires.disjoint).keeps.log
 
-pub load-requires-clause-inside : goal.load-requires-clause-inside
-load-requires-clause-inside g c =
+pub load_next-requires-clause-inside : goal.load_next-requires-clause-inside
+load_next-requires-clause-inside g c =
     let state = g.P.Pmem.state in
     let words = words_of (state c.args.p.now) in
     let granules = c.args.log.now.granules in
     let arena : IsArenaLog granules words (chunks_of words) = record { log = c.requires.reads.log; inside = c.requires.inside; few = c.choose_way-way.ensures.few } in
     subst AreWithin (sym c.take_way.ensures.words) (made granules words arena c.requires.disjoint).within
-
-pub returns-clause-room : goal.returns-clause-room
-returns-clause-room g c =
-    let state = g.P.Pmem.state in
-    let words = words_of (state c.args.p.now) in
-    let granules = c.args.log.now.granules in
-    let arena : IsArenaLog granules words (chunks_of words) = record { log = c.requires.reads.log; inside = c.requires.inside; few = c.choose_way-way.ensures.few } in
-    next_some c.load.new.self (words_of (state c.take_way.new.p)) c.load.ensures.reads (subst HasFreeEntry (sym c.take_way.ensures.words) (made granules words arena c.requires.disjoint).free)
 
 pub returns-clause-keeps : goal.returns-clause-keeps
 returns-clause-keeps g c =
@@ -61,6 +53,22 @@ returns-clause-keeps g c =
     let granules = c.args.log.now.granules in
     let arena : IsArenaLog granules words (chunks_of words) = record { log = c.requires.reads.log; inside = c.requires.inside; few = c.choose_way-way.ensures.few } in
     subst (KeepsLog granules words) (sym c.take_way.ensures.words) (made granules words arena c.requires.disjoint).keeps
+
+pub load_next-requires-clause-live : goal.load_next-requires-clause-live
+load_next-requires-clause-live g c start =
+    let state = g.P.Pmem.state in
+    let words = words_of (state c.args.p.now) in
+    let granules = c.args.log.now.granules in
+    let arena : IsArenaLog granules words (chunks_of words) = record { log = c.requires.reads.log; inside = c.requires.inside; few = c.choose_way-way.ensures.few } in
+    c.requires.reads.live start ∙ sym ((subst (KeepsLog granules words) (sym c.take_way.ensures.words) (made granules words arena c.requires.disjoint).keeps).extents start)
+
+pub returns-clause-room : goal.returns-clause-room
+returns-clause-room g c =
+    let state = g.P.Pmem.state in
+    let words = words_of (state c.args.p.now) in
+    let granules = c.args.log.now.granules in
+    let arena : IsArenaLog granules words (chunks_of words) = record { log = c.requires.reads.log; inside = c.requires.inside; few = c.choose_way-way.ensures.few } in
+    next_some c.load_next.new.self (words_of (state c.take_way.new.p)) c.load_next.ensures.reads (subst HasFreeEntry (sym c.take_way.ensures.words) (made granules words arena c.requires.disjoint).free)
 
 pub returns-clause-version : goal.returns-clause-version
 returns-clause-version g c =
