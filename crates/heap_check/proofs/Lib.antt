@@ -23,3 +23,5 @@ pub mod SlabPlaces
 pub mod SlabHeaps
 pub mod BlockWords
 pub mod SlabLogs
+pub mod LargeLogs
+pub mod ExactStates
