@@ -2,7 +2,9 @@ pub mod Blank
 pub mod Sizes
 pub mod Forms
 pub mod Formatted
+pub mod HandMadeParts
 pub mod HandMade
+pub mod HandMadeMorphed
 pub mod Claims
 pub mod Touch
 pub mod Geometry
