@@ -5,8 +5,9 @@ use Rattle.std.proofs.lemmas.Bool.{cases_eq, cases_Bool, cases_lt, ne_eqb, eqb-t
 use Rattle.image_tables.specs.declared.entry.WalEntry.{WalEntry}
 use Rattle.image_tables.specs.Tables.{Tables}
 use Rattle.heap_model.specs.Machine.{Bounds, Range, AreApart}
-use Rattle.heap_check.specs.Heap.{IsClaim, Holds}
+use Rattle.heap_check.specs.Heap.{entry_at, IsClaim, Holds}
 use Rattle.heap_check.specs.Sound.{granules_at, Covers, IsSlab, IsOpen, IsStanding, IsSound, IsSteady}
+use Rattle.heap_check.proofs.Claims.{IsNamed-claim}
 use Rattle.heap_check.proofs.Geometry.{granules_at-slab, granules_at-large}
 
 -- a number for one key, and 0 for the others
@@ -15,6 +16,10 @@ only key value k = cond (k == key) value 0
 
 abbrev pub bounds : Bounds
 bounds = record { roots = 4096; first = 4; granules = 16 }
+
+-- a root without a word that the open entry does not name has no block
+pub no_claim : (t : Tables) (root : ℕ) (range : Range) → t.root root ≡ 0 → entry_at t.entry root ≡ 0 → ¬ (IsClaim t root range)
+no_claim t root range none unnamed claim = let is = IsNamed-claim t root range unnamed claim in is.some (sym is.word ∙ none)
 
 -- one slab starts, and one large extent, or none where it has no granules
 pub record HasExtents (t : Tables) (start count : ℕ) : Type 0 where

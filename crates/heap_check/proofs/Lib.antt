@@ -4,7 +4,10 @@ pub mod Forms
 pub mod Formatted
 pub mod HandMadeParts
 pub mod HandMade
+pub mod HandMadeSlab
 pub mod HandMadeMorphed
+pub mod HandMadeMorphing
+pub mod HandMadeMove
 pub mod Claims
 pub mod Touch
 pub mod Geometry
