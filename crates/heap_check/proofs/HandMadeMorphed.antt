@@ -3,16 +3,15 @@
 -- The tables are those of `HandMadeSlab`. Root 1 names the old block and root 2 that of the new class. While the old
 -- block is freed, root 1 names nothing and an open entry names the block: the image is steady then, and its heap has the
 -- other two.
-use Rattle.std.proofs.Common.{◌≡◌, ◌≢◌, ◌⊎◌, ◌==◌, ◌&&◌, ℕ, zero, suc, ◌+◌, ◌<◌, ◌≤◌, Bool, true, false, true≢false, Option, Some, None, refl, sym, ap, ◌∙◌, arith, subst, inl, inr, ⊎_elim}
-use Rattle.std.proofs.lemmas.Bool.{cases_lt, eqb-true, ne_eqb}
+use Rattle.std.proofs.Common.{◌≡◌, ◌≢◌, ◌==◌, ℕ, zero, suc, true, false, true≢false, Some, None, refl, sym, ap, ◌∙◌, arith, subst, inl, inr, ⊎_elim}
+use Rattle.std.proofs.lemmas.Bool.{ne_eqb}
 use Rattle.size_classes.specs.Classes.{class_size, sizes}
 use Rattle.image_tables.specs.declared.entry.WalEntry.{WalEntry}
 use Rattle.image_tables.specs.declared.entry.WalEntry.TheVariants.{Place}
-use Rattle.image_tables.specs.Tables.{Tables, held_of}
-use Rattle.heap_model.specs.Machine.{Range, AreApart, slab_block}
-use Rattle.heap_check.specs.Heap.{slab_of, is_old_of, is_large, entry_at, heap, IsClaim, Holds, HoldsBit, HoldsOld}
-use Rattle.heap_check.specs.Sound.{IsInSlab, IsSlab, IsOpen, IsStanding, IsLeaving, IsNearlyDone, IsSteady, IsSound, IsExact}
-use Rattle.heap_check.proofs.Claims.{IsNamed-claim}
+use Rattle.image_tables.specs.Tables.{Tables}
+use Rattle.heap_model.specs.Machine.{Range}
+use Rattle.heap_check.specs.Heap.{slab_of, is_old_of, is_large, heap, IsClaim}
+use Rattle.heap_check.specs.Sound.{IsInSlab, IsOpen, IsStanding, IsLeaving, IsNearlyDone, IsSteady, IsExact}
 use Rattle.heap_check.proofs.HandMadeParts.{bounds, HasBlocks, no_claim, slab_is, large_is, sound_by, steady_by}
 use Rattle.heap_check.proofs.HandMadeSlab.{words_of, tables, old_block, new_block, extents, slab_valid, Holds-old, Holds-new, held_is, IsBlock, apart_by}
 

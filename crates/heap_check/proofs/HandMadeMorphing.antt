@@ -2,18 +2,14 @@
 --
 -- The tables are those of `HandMadeSlab`. The slab's bitmap is not read, so root 2 has no block, and the block that the
 -- bitmap has is none of the heap. The old block is live, so the slab is not nearly done.
-use Rattle.std.proofs.Common.{◌≡◌, ◌≢◌, ◌⊎◌, ◌==◌, ◌&&◌, ℕ, zero, suc, ◌+◌, ◌<◌, ◌≤◌, Bool, true, false, true≢false, Option, Some, None, refl, sym, ap, ◌∙◌, arith, subst, inl, inr, ⊎_elim}
-use Rattle.std.proofs.lemmas.Bool.{cases_lt, eqb-true, ne_eqb}
+use Rattle.std.proofs.Common.{◌≡◌, ◌≢◌, ℕ, zero, suc, Some, None, refl, sym, ap, arith, subst, inl, inr, ⊎_elim}
 use Rattle.size_classes.specs.Classes.{class_size, sizes}
-use Rattle.image_tables.specs.declared.entry.WalEntry.{WalEntry}
-use Rattle.image_tables.specs.declared.entry.WalEntry.TheVariants.{Place}
-use Rattle.image_tables.specs.Tables.{Tables, held_of}
-use Rattle.heap_model.specs.Machine.{Range, AreApart, slab_block}
-use Rattle.heap_check.specs.Heap.{slab_of, is_old_of, is_large, entry_at, heap, IsClaim, Holds, HoldsBit, HoldsOld}
-use Rattle.heap_check.specs.Sound.{IsInSlab, IsSlab, IsOpen, IsStanding, IsMorphing, IsLeaving, IsNearlyDone, IsSteady, IsSound, IsExact}
-use Rattle.heap_check.proofs.Claims.{IsNamed-claim}
-use Rattle.heap_check.proofs.HandMadeParts.{bounds, HasBlocks, no_claim, slab_is, large_is, sound_by, steady_by}
-use Rattle.heap_check.proofs.HandMadeSlab.{words_of, tables, old_block, new_block, extents, slab_valid, Holds-old, Holds-new, held_is, IsBlock, apart_by}
+use Rattle.image_tables.specs.Tables.{Tables}
+use Rattle.heap_model.specs.Machine.{Range}
+use Rattle.heap_check.specs.Heap.{slab_of, is_old_of, is_large, heap, IsClaim}
+use Rattle.heap_check.specs.Sound.{IsStanding, IsMorphing, IsNearlyDone, IsSteady}
+use Rattle.heap_check.proofs.HandMadeParts.{bounds, HasBlocks, slab_is, steady_by}
+use Rattle.heap_check.proofs.HandMadeSlab.{words_of, tables, old_block, extents, slab_valid, Holds-old, held_is, IsBlock, apart_by}
 
 morphing : Tables
 morphing = tables 2 198656 0 None

@@ -3,17 +3,17 @@
 --
 -- In an arena of 16 granules a slab of class 6, of blocks of 112 bytes, is at granule 4. Roots 5 and 9 both have the word
 -- of its block 0, and an open entry moves it from root 5 to root 9: so root 5 is not held.
-use Rattle.std.proofs.Common.{◌≡◌, ◌≢◌, ◌⊎◌, ◌==◌, ◌&&◌, ℕ, ◌+◌, ◌<◌, ◌≤◌, true, false, cond, Some, None, refl, sym, ap, ◌∙◌, arith, subst, inl, inr, ⊎_elim}
+use Rattle.std.proofs.Common.{◌≡◌, ◌≢◌, ◌==◌, ◌&&◌, ℕ, ◌+◌, false, Some, None, refl, sym, ap, ◌∙◌, arith, subst, inl, inr, ⊎_elim}
 use Rattle.std.proofs.lemmas.Bool.{cases_eq, eqb-true, ne_eqb}
 use Rattle.size_classes.specs.Classes.{class_size, sizes}
 use Rattle.image_tables.specs.declared.entry.WalEntry.{WalEntry}
 use Rattle.image_tables.specs.declared.entry.WalEntry.TheVariants.{Move}
 use Rattle.image_tables.specs.Tables.{Tables, held_of}
-use Rattle.heap_model.specs.Machine.{Range, AreApart, slab_block}
+use Rattle.heap_model.specs.Machine.{Range, slab_block}
 use Rattle.heap_check.specs.Heap.{slab_of, is_old_of, is_large, heap, IsClaim, Holds, HoldsBit, HoldsOld}
 use Rattle.heap_check.specs.Sound.{IsSlab, IsOpen, IsStanding, IsSteady}
 use Rattle.heap_check.proofs.Heaps.{heap-none}
-use Rattle.heap_check.proofs.HandMadeParts.{only, bounds, HasExtents, HasBlocks, no_claim, slab_is, steady_by}
+use Rattle.heap_check.proofs.HandMadeParts.{only, bounds, HasExtents, no_claim, normal_slab, slab_is, steady_by}
 
 abbrev entry : WalEntry
 entry = Move 5 9
@@ -82,18 +82,7 @@ held range holds = ⊎_elim
 
 image_slab : IsSlab image 4
 unfolding image
-image_slab = record {
-  state = record {
-    kinds = inl refl;
-    is_class = omega arith;
-    is_old_class = omega arith;
-    none = λ normal. (refl, refl);
-    differ = λ other. absurd (other refl);
-    number = λ other. absurd (other refl);
-  };
-  small = λ place below. absurd (omega arith);
-  once = λ place other below. absurd (omega arith);
-}
+image_slab = normal_slab image 4 refl (omega arith) refl refl
 
 image_open : IsOpen bounds image entry
 unfolding image words_of

@@ -1,6 +1,6 @@
 -- What the images that are made by hand share: an arena of 16 granules with one slab, and with one large extent from the
 -- first granule of its heap on, or none.
-use Rattle.std.proofs.Common.{◌≡◌, ◌≢◌, ◌⊎◌, ◌==◌, ℕ, ◌+◌, ◌<◌, ◌≤◌, Bool, true, false, cond, Some, refl, sym, ap, ◌∙◌, arith, subst, inl, inr, ⊎_elim}
+use Rattle.std.proofs.Common.{◌≡◌, ◌≢◌, ◌⊎◌, ◌==◌, ℕ, ◌+◌, ◌<◌, ◌≤◌, true, false, cond, Some, refl, sym, ap, ◌∙◌, arith, subst, inl, inr, ⊎_elim}
 use Rattle.std.proofs.lemmas.Bool.{cases_eq, cases_Bool, cases_lt, ne_eqb, eqb-true}
 use Rattle.image_tables.specs.declared.entry.WalEntry.{WalEntry}
 use Rattle.image_tables.specs.Tables.{Tables}
@@ -20,6 +20,21 @@ bounds = record { roots = 4096; first = 4; granules = 16 }
 -- a root without a word that the open entry does not name has no block
 pub no_claim : (t : Tables) (root : ℕ) (range : Range) → t.root root ≡ 0 → entry_at t.entry root ≡ 0 → ¬ (IsClaim t root range)
 no_claim t root range none unnamed claim = let is = IsNamed-claim t root range unnamed claim in is.some (sym is.word ∙ none)
+
+-- a slab that took no class after its first is valid
+pub normal_slab : (t : Tables) (start : ℕ) → t.kind start ≡ 1 → t.class start < 36 → t.old start ≡ 0 → t.entries start ≡ 0 → IsSlab t start
+normal_slab t start normal is_class no_old no_entries = record {
+  state = record {
+    kinds = inl normal;
+    is_class = is_class;
+    is_old_class = omega (arith, no_old);
+    none = λ kind. (no_old, no_entries);
+    differ = λ other. absurd (other normal);
+    number = λ other. absurd (other normal);
+  };
+  small = λ place below. absurd (omega (arith, below, no_entries));
+  once = λ place other below. absurd (omega (arith, below, no_entries));
+}
 
 -- one slab starts, and one large extent, or none where it has no granules
 pub record HasExtents (t : Tables) (start count : ℕ) : Type 0 where

@@ -3,17 +3,15 @@
 -- In an arena of 16 granules root 0 names eight granules from granule 4 on. The slab at granule 12 was of class 3, of
 -- blocks of 64 bytes, and comes to be of class 19, of 1024 bytes. Its index table has the old block 0, which is root 1's,
 -- and its bitmap the block 1, which is root 2's once it is read.
-use Rattle.std.proofs.Common.{◌≡◌, ◌≢◌, ◌⊎◌, ◌==◌, ◌&&◌, ℕ, zero, suc, ◌+◌, ◌<◌, ◌≤◌, Bool, true, false, true≢false, Option, Some, None, refl, sym, ap, ◌∙◌, arith, subst, inl, inr, ⊎_elim}
-use Rattle.std.proofs.lemmas.Bool.{cases_lt, eqb-true, ne_eqb}
+use Rattle.std.proofs.Common.{◌≡◌, ◌≢◌, ◌⊎◌, ◌==◌, ◌&&◌, ℕ, zero, suc, ◌+◌, ◌<◌, ◌≤◌, Option, refl, ap, ◌∙◌, arith, inl, inr, ⊎_elim}
+use Rattle.std.proofs.lemmas.Bool.{cases_lt, eqb-true}
 use Rattle.size_classes.specs.Classes.{class_size, sizes}
 use Rattle.image_tables.specs.declared.entry.WalEntry.{WalEntry}
-use Rattle.image_tables.specs.declared.entry.WalEntry.TheVariants.{Place}
 use Rattle.image_tables.specs.Tables.{Tables, held_of}
 use Rattle.heap_model.specs.Machine.{Range, AreApart, slab_block}
-use Rattle.heap_check.specs.Heap.{slab_of, is_old_of, is_large, entry_at, heap, IsClaim, Holds, HoldsBit, HoldsOld}
-use Rattle.heap_check.specs.Sound.{IsInSlab, IsSlab, IsOpen, IsStanding, IsLeaving, IsNearlyDone, IsSteady, IsSound, IsExact}
-use Rattle.heap_check.proofs.Claims.{IsNamed-claim}
-use Rattle.heap_check.proofs.HandMadeParts.{only, bounds, HasExtents, HasBlocks, slab_is, large_is, sound_by, steady_by}
+use Rattle.heap_check.specs.Heap.{IsClaim, Holds, HoldsBit, HoldsOld}
+use Rattle.heap_check.specs.Sound.{IsSlab}
+use Rattle.heap_check.proofs.HandMadeParts.{only, HasExtents}
 
 -- by the slab's kind, the words of roots 1 and 2, and the open entry
 

@@ -21,20 +21,20 @@ use Rattle.book_log.specs.Log.{IsChunk, logged}
 abbrev IsMany : Option Extent → Type 0
 IsMany extent = large_of extent ≢ 1
 
--- such is what each entry in the heap says
+-- nor does an entry in the heap say so
 many_entry : (first granules : ℕ) (entry : LogEntry) → FitsWord entry → IsInHeap first granules entry → IsMany (extent_of_entry (log_word entry))
 many_entry first granules (Large start size) fits in_heap one =
     let kind : log_word (Large start size) % 2 ^ 8 ≡ 1 = omega arith in
     let same : log_word (Large start size) / 2 ^ 24 % 2 ^ 16 ≡ size = omega (arith, fits.0, fits.1) in
-    let is : large_of (extent_of_entry (log_word (Large start size))) ≡ size = rw (kind) same in
+    let is : large_of (extent_of_entry (log_word (Large start size))) ≡ size = rw kind same in
     omega (arith, is, one, in_heap.1)
 many_entry first granules (Slab start) fits in_heap one =
     let kind : log_word (Slab start) % 2 ^ 8 ≡ 2 = omega arith in
-    let is : large_of (extent_of_entry (log_word (Slab start))) ≡ 0 = rw (kind) refl in
+    let is : large_of (extent_of_entry (log_word (Slab start))) ≡ 0 = rw kind refl in
     omega (arith, is, one)
 many_entry first granules (Tomb start) fits in_heap one =
     let kind : log_word (Tomb start) % 2 ^ 8 ≡ 3 = omega arith in
-    let is : large_of (extent_of_entry (log_word (Tomb start))) ≡ 0 = rw (kind) refl in
+    let is : large_of (extent_of_entry (log_word (Tomb start))) ≡ 0 = rw kind refl in
     omega (arith, is, one)
 
 many_word : (first granules word : ℕ) → (entry : LogEntry) × IsEntryWord first granules word entry → IsMany (extent_of_entry word)
@@ -47,7 +47,7 @@ many_after word start before here was = by (start_of_entry word == start)
     by true = here
     by false = was
 
--- and what starts behind such entries, of a row of words, and of chunks
+-- nor do several entries: those of a row of words, and of chunks
 
 many_row : (row : ℕ → ℕ) (n start : ℕ) (before : Option Extent) → ((i : ℕ) → i < n → row i ≢ 0 → IsMany (extent_of_entry (row i))) → IsMany before → IsMany (extent_behind (entries_below row n) start before)
 many_row row zero start before each was = was
