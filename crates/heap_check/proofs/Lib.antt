@@ -2,7 +2,12 @@ pub mod Blank
 pub mod Sizes
 pub mod Forms
 pub mod Formatted
+pub mod HandMadeParts
 pub mod HandMade
+pub mod HandMadeSlab
+pub mod HandMadeMorphed
+pub mod HandMadeMorphing
+pub mod HandMadeMove
 pub mod Claims
 pub mod Touch
 pub mod Geometry
@@ -23,3 +28,5 @@ pub mod SlabPlaces
 pub mod SlabHeaps
 pub mod BlockWords
 pub mod SlabLogs
+pub mod LargeLogs
+pub mod ExactStates

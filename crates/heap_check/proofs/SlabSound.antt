@@ -1,5 +1,5 @@
 -- An empty slab comes and goes: the image stays sound and steady, and is as exact as before but for the slab.
-use Rattle.std.proofs.Common.{◌≡◌, ◌≢◌, ◌⊎◌, ℕ, ◌<◌, sym, ap, subst, ◌∙◌, arith, inl, ⊎_elim, Bool}
+use Rattle.std.proofs.Common.{◌≡◌, ◌≢◌, ℕ, ◌<◌, sym, ap, subst, ◌∙◌, arith, inl, ⊎_elim, Bool}
 use Rattle.std.proofs.lemmas.Bool.{cases_eq}
 use Rattle.size_classes.specs.Classes.{class_capacity}
 use Rattle.image_tables.specs.Forms.{IsState}

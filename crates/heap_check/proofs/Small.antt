@@ -5,7 +5,7 @@ use native.Mathlib.Nat.{mul-le-mul_right}
 use Rattle.size_classes.specs.Classes.{class_size, class_capacity}
 use Rattle.size_classes.proofs.Spacing.{class_size-least}
 use Rattle.image_tables.specs.declared.entry.WalEntry.{WalEntry}
-use Rattle.image_tables.specs.declared.entry.WalEntry.TheVariants.{Place, Move}
+use Rattle.image_tables.specs.declared.entry.WalEntry.TheVariants.{Place}
 use Rattle.image_tables.specs.Tables.{Tables}
 use Rattle.heap_model.specs.Machine.{Bounds, Range, AreApart, LiesIn, slab_block}
 use Rattle.heap_model.proofs.Slabbing.{LiesIn-block}

@@ -8,4 +8,4 @@
 
 mod laws;
 
-pub use laws::{law_of_empty_heap, law_of_formatted, law_of_steady};
+pub use laws::{law_of_empty_heap, law_of_exact_state, law_of_formatted, law_of_steady};

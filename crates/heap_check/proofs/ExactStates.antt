@@ -1,0 +1,116 @@
+-- The state of an exact image is free of overlaps.
+use Rattle.std.proofs.Common.{◌≡◌, ◌≢◌, ◌⊎◌, ℕ, ◌+◌, ◌*◌, ◌<◌, ◌≤◌, Bool, true, false, cond, refl, sym, ap, ◌∙◌, arith, inl, inr, ⊎_elim, Some, None}
+use Rattle.std.proofs.lemmas.Bool.{cases_Bool, cases_lt}
+use Rattle.size_classes.proofs.Spacing.{class_size-most}
+use Rattle.image_tables.specs.Tables.{Tables, tables_of}
+use Rattle.image_tables.proofs.Tables.{root_table-past}
+use Rattle.heap_model.specs.Machine.{Bounds, Range, Machine, IsLarge, LiesIn, IsOverlapFree}
+use Rattle.heap_check.specs.Heap.{entry_at, heap, slabs, IsClaim, HoldsBit, HoldsOld}
+use Rattle.heap_check.specs.Laws.{LawOfExactState}
+use Rattle.heap_check.specs.Sound.{IsSound}
+use Rattle.heap_check.proofs.Claims.{plain_size, IsNamed-claim}
+use Rattle.heap_check.proofs.Geometry.{granules_at-slab, granules_at-large, Covers-slab, plain_size-start}
+use Rattle.heap_check.proofs.Heaps.{IsClaim-heap}
+use Rattle.heap_check.proofs.LargeLogs.{large_many}
+use Rattle.heap_check.proofs.SmallPlaces.{Holds-claim}
+use Rattle.heap_check.proofs.Within.{IsWithin-claim, IsWithin-start}
+
+-- a block in a slab
+record IsSmall (t : Tables) (range : Range) : Type 0 where
+  start : ℕ
+  slab : t.slab start ≡ true
+  lies : LiesIn start range
+  size : range.size ≤ 16384
+
+-- the block of a large extent
+record IsWhole (t : Tables) (range : Range) : Type 0 where
+  start : ℕ
+  no_slab : t.slab start ≡ false
+  many : 2 ≤ t.large start
+  at : range.at ≡ 16384 * start
+  size : range.size ≡ 16384 * t.large start
+
+-- sound tables in which no entry is open, each large extent has two granules at least, and only so many roots have a word
+module _ {b : Bounds} {t : Tables} (sound : IsSound b t) (unnamed : (root : ℕ) → entry_at t.entry root ≡ 0) (many : (start : ℕ) → 0 < t.large start → 2 ≤ t.large start) (past : (root : ℕ) → b.roots ≤ root → t.root root ≡ 0) where
+  -- each block is one of these two
+  block_kinds : (root : ℕ) (range : Range) → IsClaim t root range → IsSmall t range ⊎ IsWhole t range
+  block_kinds root range claim =
+      let within = IsWithin-claim sound root range (unnamed root) claim in
+      let start = within.0 in
+      let lies = within.1 in
+      ⊎_elim
+      (λ (slab : t.slab start ≡ true).
+      let four = granules_at-slab t start slab in
+      let state = (sound.slabs start slab).state in
+      let holds = Holds-claim sound root start range (unnamed root) claim (record { slab = slab; low = lies.low; high = omega (arith, lies.high, lies.some, four) }) in
+      inl (record {
+        start = start;
+        slab = slab;
+        lies = record { low = lies.low; high = omega (arith, lies.high, four) };
+        size = ⊎_elim
+            (λ (bit : HoldsBit t start range). omega (arith, ap (λ (x : Range). x.size) bit.is, class_size-most (t.class start) state.is_class))
+            (λ (old : HoldsOld t start range). omega (arith, ap (λ (x : Range). x.size) old.is, class_size-most (t.old start) state.is_old_class))
+            holds.block;
+      }))
+      (λ (no_slab : t.slab start ≡ false).
+      let whole = granules_at-large t start no_slab in
+      let live : 0 < t.large start = omega (arith, lies.low, lies.high, lies.some, whole) in
+      let at = IsWithin-start sound root start range (unnamed root) claim (λ slab. cc) lies in
+      let wide = (IsNamed-claim t root range (unnamed root) claim).wide in
+      inr (record { start = start; no_slab = no_slab; many = many start live; at = at; size = sym wide ∙ ap (plain_size t) at ∙ plain_size-start t start (t.large start) refl live }))
+      (cases_Bool (t.slab start))
+
+  module _ (m : Machine) (blocks : (root : ℕ) → heap t root ≡ m.block root) (classes : (start : ℕ) → slabs t start ≡ m.slab start) where
+    claim : (root : ℕ) (range : Range) → m.block root ≡ Some range → IsClaim t root range
+    claim root range named = IsClaim-heap t root range (unnamed root) (blocks root ∙ named)
+
+    large_kind : (root : ℕ) (range : Range) → m.block root ≡ Some range → IsLarge range → IsWhole t range
+    large_kind root range named large = ⊎_elim (λ (small : IsSmall t range). absurd (omega (arith, large, small.size))) (λ whole. whole) (block_kinds root range (claim root range named))
+
+    slab : (start class : ℕ) → m.slab start ≡ Some class → t.slab start ≡ true
+    slab start class named = by (t.slab start) (classes start ∙ named)
+      where
+        by : (is : Bool) → cond is (Some (t.class start)) None ≡ Some class → is ≡ true
+        by true named = refl
+        by false named = cc
+
+    slab_apart : (s k c d : ℕ) → s ≢ k → m.slab s ≡ Some c → m.slab k ≡ Some d → s ≤ k → s + 4 ≤ k
+    slab_apart s k c d differ first second before = ⊎_elim
+        (λ (meets : k < s + 4). absurd (differ (sound.disjoint s k k (Covers-slab t s k (slab s c first) before meets) (Covers-slab t k k (slab k d second) (omega arith) (omega arith)))))
+        (λ past. past)
+        (cases_lt k (s + 4))
+
+    pub IsOverlapFree-sound : IsOverlapFree b m
+    IsOverlapFree-sound = record {
+      apart = λ root other range another differ first second. sound.apart root other range another differ (claim root range first) (claim other another second);
+      rooted = λ root range named. ⊎_elim
+          (λ below. below)
+          (λ (beyond : b.roots ≤ root). let is = IsNamed-claim t root range (unnamed root) (claim root range named) in absurd (is.some (sym is.word ∙ past root beyond)))
+          (cases_lt root b.roots);
+      sized = λ root range named. (IsWithin-claim sound root range (unnamed root) (claim root range named)).1.some;
+      slabs = λ s c named. let four = granules_at-slab t s (slab s c named) in let bounds = sound.starts s (omega (arith, four)) in (bounds.0, omega (arith, bounds.1, four));
+      slabs_apart = λ s k c d differ first second. ⊎_elim
+          (λ (before : s < k). inl (slab_apart s k c d differ first second (omega arith)))
+          (λ (behind : k ≤ s). inr (slab_apart k s d c (λ same. differ (sym same)) second first behind))
+          (cases_lt s k);
+      small = λ root range named little. ⊎_elim
+          (λ (small : IsSmall t range). (small.start, t.class small.start, sym (classes small.start) ∙ ap (λ is. cond is (Some (t.class small.start)) None) small.slab, small.lies))
+          (λ (whole : IsWhole t range). absurd (little (omega (arith, whole.size, whole.many))))
+          (block_kinds root range (claim root range named));
+      large = λ root range named large.
+          let whole = large_kind root range named large in
+          let size = granules_at-large t whole.start whole.no_slab in
+          let bounds = sound.starts whole.start (omega (arith, size, whole.many)) in
+          record { start = whole.start; count = t.large whole.start; at = whole.at; size = whole.size; low = bounds.0; high = omega (arith, bounds.1, size) };
+      clear = λ root range s c k named large is low high meets.
+          let whole = large_kind root range named large in
+          let size = granules_at-large t whole.start whole.no_slab in
+          let slab = slab s c is in
+          let same = sound.disjoint s whole.start k (Covers-slab t s k slab low high) (record { low = omega (arith, meets.begins, meets.ends, whole.at, whole.size); high = omega (arith, meets.ends, whole.at, whole.size, size) }) in
+          omega (arith, whole.many, ap t.large same, sound.one_kind s slab);
+    }
+
+pub law_of_exact_state : LawOfExactState
+law_of_exact_state words m image state =
+    let t = tables_of words in
+    IsOverlapFree-sound image.exact.sound (λ root. ap (λ e. entry_at e root) image.exact.closed) (λ start some. large_many words start image.formed.log some) (root_table-past words) m state.blocks state.slabs

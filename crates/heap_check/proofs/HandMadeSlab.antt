@@ -1,0 +1,99 @@
+-- Images that are made by hand, with a slab that takes or took another class: what their tables share.
+--
+-- In an arena of 16 granules root 0 names eight granules from granule 4 on. The slab at granule 12 was of class 3, of
+-- blocks of 64 bytes, and comes to be of class 19, of 1024 bytes. Its index table has the old block 0, which is root 1's,
+-- and its bitmap the block 1, which is root 2's once it is read.
+use Rattle.std.proofs.Common.{◌≡◌, ◌≢◌, ◌⊎◌, ◌==◌, ◌&&◌, ℕ, zero, suc, ◌+◌, ◌<◌, ◌≤◌, Option, refl, ap, ◌∙◌, arith, inl, inr, ⊎_elim}
+use Rattle.std.proofs.lemmas.Bool.{cases_lt, eqb-true}
+use Rattle.size_classes.specs.Classes.{class_size, sizes}
+use Rattle.image_tables.specs.declared.entry.WalEntry.{WalEntry}
+use Rattle.image_tables.specs.Tables.{Tables, held_of}
+use Rattle.heap_model.specs.Machine.{Range, AreApart, slab_block}
+use Rattle.heap_check.specs.Heap.{IsClaim, Holds, HoldsBit, HoldsOld}
+use Rattle.heap_check.specs.Sound.{IsSlab}
+use Rattle.heap_check.proofs.HandMadeParts.{only, HasExtents}
+
+-- by the slab's kind, the words of roots 1 and 2, and the open entry
+
+unfoldable pub words_of : ℕ → ℕ → ℕ → ℕ
+words_of old_word new_word zero = 65536
+words_of old_word new_word (suc zero) = old_word
+words_of old_word new_word (suc (suc zero)) = new_word
+words_of old_word new_word (suc (suc (suc r))) = 0
+
+unfoldable pub tables : ℕ → ℕ → ℕ → Option WalEntry → Tables
+tables kind old_word new_word entry = record {
+  word = words_of old_word new_word;
+  root = held_of entry (words_of old_word new_word);
+  entry = entry;
+  large = λ g. only 4 8 g;
+  slab = λ g. g == 12;
+  kind = λ g. only 12 kind g;
+  class = λ g. only 12 19 g;
+  old = λ g. only 12 3 g;
+  entries = λ g. only 12 1 g;
+  bit = λ g i. (g == 12) && (i == 1);
+  live = λ g place. (g == 12) && (place == 0);
+  number = λ g place. 0;
+}
+
+abbrev pub old_block : Range
+old_block = slab_block 12 3 0
+
+abbrev pub new_block : Range
+new_block = slab_block 12 19 1
+
+module _ (kind old_word new_word : ℕ) (entry : Option WalEntry) where
+  abbrev image : Tables
+  image = tables kind old_word new_word entry
+
+  pub extents : HasExtents (tables kind old_word new_word entry) 12 8
+  unfolding tables
+  extents = record { slab = λ g. refl; large = λ g. refl; before = omega arith; behind = omega arith }
+
+  pub slab_valid : (kind ≡ 2) ⊎ (kind ≡ 3) → IsSlab (tables kind old_word new_word entry) 12
+  unfolding tables class_size sizes
+  slab_valid transit = record {
+    state = record {
+      kinds = inr transit;
+      is_class = omega arith;
+      is_old_class = omega arith;
+      none = λ normal. absurd (⊎_elim (λ is. omega (arith, normal, is)) (λ is. omega (arith, normal, is)) transit);
+      differ = λ other same. omega (arith, same);
+      number = λ other. (omega arith, omega arith);
+    };
+    small = λ place below. omega arith;
+    once = λ place other below also same. omega (arith, below, also);
+  }
+
+  -- what the slab holds
+
+  pub Holds-old : Holds (tables kind old_word new_word entry) 12 old_block
+  unfolding tables
+  Holds-old = record { slab = refl; block = inr (record { place = 0; below = omega arith; live = refl; is = refl }) }
+
+  pub Holds-new : kind ≢ 2 → Holds (tables kind old_word new_word entry) 12 new_block
+  unfolding tables class_size sizes
+  Holds-new read = record { slab = refl; block = inl (record { number = 1; below = omega arith; read = read; set = refl; is = refl }) }
+
+  pub held_is : (range : Range) → Holds (tables kind old_word new_word entry) 12 range → (range ≡ old_block) ⊎ ((kind ≢ 2) × (range ≡ new_block))
+  unfolding tables
+  held_is range holds = ⊎_elim
+      (λ (bit : HoldsBit image 12 range). inr (bit.read, bit.is ∙ ap (slab_block 12 19) (eqb-true bit.number 1 bit.set)))
+      (λ (old : HoldsOld image 12 range). inl old.is)
+      holds.block
+
+-- The blocks of roots are these at most, and then they are apart, one behind the other.
+
+abbrev pub IsBlock : ℕ → Range → Type 0
+IsBlock root range =
+    ((root ≡ 0) × (range.at ≡ 65536) × (range.size ≡ 131072)) ⊎ (((root ≡ 1) × (range.at ≡ 198656) × (range.size ≡ 64)) ⊎ ((root ≡ 2) × (range.at ≡ 199680) × (range.size ≡ 1024)))
+
+in_order : (root other : ℕ) (range another : Range) → IsBlock root range → IsBlock other another → root < other → range.at + range.size ≤ another.at
+in_order root other range another first second less = grind (arith, first, second)
+
+pub apart_by : (t : Tables) → ((root : ℕ) (range : Range) → IsClaim t root range → IsBlock root range) → (root other : ℕ) (range another : Range) → root ≢ other → IsClaim t root range → IsClaim t other another → AreApart range another
+apart_by t is root other range another differ first second = ⊎_elim
+    (λ (before : root < other). inl (in_order root other range another (is root range first) (is other another second) before))
+    (λ (behind : other ≤ root). inr (in_order other root another range (is other another second) (is root range first) (omega arith)))
+    (cases_lt root other)
