@@ -13,7 +13,7 @@ use Rattle.book_log.specs.declared.entry.LogEntry.TheVariants.{Large, Slab}
 use Rattle.book_log.specs.Book.{chunks_of}
 use Rattle.book_log.specs.Entry.{start_of, extent_of}
 use Rattle.book_log.specs.Table.{IsNextLive}
-use Rattle.log_gc.proofs.Live.{live_extents}
+use Rattle.book_log.proofs.LiveExtents.{live_extents}
 use Rattle.heap_model.specs.Machine.{Bounds, with_key}
 use Rattle.heap_model.specs.Runs.{IsFreeRow}
 use Rattle.extent_index.specs.FreeSet.{FreeSet, IsFree}

@@ -1,35 +1,19 @@
 -- What the roots of an exact image without slabs name: large extents, each of two granules at least, in the heap.
-use Rattle.std.proofs.Common.{MatchOption, ◌≡◌, ◌≢◌, ◌*◌, ◌/◌, ◌<◌, ◌≤◌, ℕ, true, List, Option, Some, None, refl, sym, ap, ◌∙◌, subst, arith, ⊎_elim}
+use Rattle.std.proofs.Common.{MatchOption, ◌≡◌, ◌≢◌, ◌*◌, ◌/◌, ◌<◌, ℕ, true, List, Option, Some, None, refl, sym, ap, ◌∙◌, subst, arith, ⊎_elim}
 use Rattle.std.proofs.lemmas.Bool.{ne_eqb, cases_eq}
-use Rattle.pool_layout.specs.Header.{granules_in}
 use Rattle.image_tables.specs.declared.extent.Extent.{Extent}
 use Rattle.image_tables.specs.declared.extent.Extent.TheVariants as extent
 use Rattle.image_tables.specs.Extents.{extent_at}
-use Rattle.image_tables.specs.Tables.{Tables, large_of, tables_of}
-use Rattle.image_tables.proofs.Tables.{large_table}
+use Rattle.image_tables.specs.Tables.{Tables, tables_of}
 use Rattle.book_log.specs.declared.entry.LogEntry.{LogEntry}
 use Rattle.book_log.specs.declared.entry.LogEntry.TheVariants as entry
-use Rattle.book_log.specs.Book.{chunks_of}
 use Rattle.book_log.specs.Entry.{start_of, extent_of}
 use Rattle.book_log.specs.Table.{IsNextLive, IsNoneLive}
-use Rattle.log_gc.proofs.Live.{live_extents}
 use Rattle.heap_model.specs.Machine.{Bounds}
 use Rattle.heap_check.specs.Heap.{is_large, heap}
-use Rattle.heap_check.specs.Image.{IsExactImage}
+use Rattle.heap_check.proofs.LargeLogs.{live_large}
 use Rattle.heap_check.proofs.Geometry.{is_large-start}
 use Rattle.arena_core.specs.Plan.{IsTakable}
-use Rattle.heap_check.proofs.Sizes.{sizes_of}
-
--- what is live and large is an extent of so many granules
-some_large : (x : Option Extent) → 0 < large_of x → x ≡ Some (extent.Large (large_of x))
-some_large None some = absurd (omega arith)
-some_large (Some (extent.Large granules)) some = refl
-some_large (Some extent.Slab) some = absurd (omega arith)
-
-pub live_large : (words : List ℕ) (start : ℕ) → 0 < (tables_of words).large start → extent_at words start ≡ Some (extent.Large ((tables_of words).large start))
-live_large words start some =
-    let is : (tables_of words).large start ≡ large_of (extent_at words start) = large_table words start in
-    some_large (extent_at words start) (omega (arith, is, some)) ∙ ap (λ n. Some (extent.Large n)) (sym is)
 
 -- the entry of the next live extent, where one starts right here
 next_here : (table : ℕ → Option Extent) (start : ℕ) (extent : Extent) (next : LogEntry) → table start ≡ Some extent → IsNextLive table start next → extent_of next ≡ Some extent
@@ -51,13 +35,6 @@ next_large words start (Some next) some live =
     let granules = (tables_of words).large start in
     let is = large_entry next granules (next_here (extent_at words) start (extent.Large granules) next (live_large words start some) live) in
     (is.0, ap (λ (e : LogEntry). Some e) is.1)
-
--- a live large extent has two granules at least
-pub large_many : (words : List ℕ) → IsExactImage words → (start : ℕ) → 0 < (tables_of words).large start → 2 ≤ (tables_of words).large start
-large_many words image start some =
-    let sizes = sizes_of words image.formed in
-    let live = live_extents (granules_in words) words (chunks_of words) (omega (arith, sizes.most)) image.formed.log in
-    (live.each start (extent.Large ((tables_of words).large start)) (live_large words start some)).some
 
 -- the heap of such tables
 

@@ -8,8 +8,6 @@ use Rattle.pmem_lines.specs.declared.event.Event.{Event}
 use Rattle.pmem_lines.specs.Events.{IsQuiet, CrashOnly}
 use Rattle.pmem_lines.specs.Pmem.{PmemState, words_of, began, appended, Appends}
 use Rattle.image_tables.specs.Tables.{Tables, tables_of}
-use Rattle.book_log.specs.Book.{Book}
-use Rattle.extent_index.specs.FreeSet.{FreeSet}
 use Rattle.slab_index.specs.SlabSet.{SlabSet}
 use Rattle.image_tables.proofs.Stores.{HasNoMove-closed}
 use Rattle.heap_model.specs.declared.call.Call.{Call}

@@ -14,13 +14,13 @@ use Rattle.pool_layout.specs.Layout.{layout_of}
 use Rattle.pool_layout.specs.Places.{text_word, fields_word, directory_word}
 use Rattle.pool_layout.specs.Header.{granules_in, header_text, header_word, IsPoolHeader}
 use Rattle.image_tables.specs.Tables.{tables_of}
-use Rattle.book_log.specs.Book.{Book, HasLog, AreWithin, Reads}
+use Rattle.book_log.specs.Book.{HasLog, AreWithin, Reads}
 use Rattle.book_log.proofs.Places.{within_heap}
 use Rattle.heap_model.specs.Machine.{no_heap}
 use Rattle.heap_check.specs.Image.{IsExactImage}
 use Rattle.heap_check.specs.State.{HasState}
-use Rattle.extent_index.specs.FreeSet.{FreeSet, IsFree}
-use Rattle.slab_index.specs.SlabSet.{SlabSet, class_in}
+use Rattle.extent_index.specs.FreeSet.{IsFree}
+use Rattle.slab_index.specs.SlabSet.{class_in}
 use Rattle.heap_check.specs.Formatted.{IsFormatted}
 use Rattle.heap_check.proofs.Geometry.{granules_at-large}
 use Rattle.heap_check.proofs.Formatted.{AreBlank-formatted, header_in-formatted, IsFormed-formatted, law_of_formatted}

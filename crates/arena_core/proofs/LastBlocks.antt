@@ -7,7 +7,8 @@ use Rattle.image_tables.specs.Tables.{Tables, tables_of}
 use Rattle.image_tables.specs.Updates.{put_in}
 use Rattle.image_tables.proofs.Updates.{put_in-same, put_in-other}
 use Rattle.heap_model.specs.Machine.{Range, slab_block}
-use Rattle.heap_check.specs.Heap.{any_below, entry_at, Holds}
+use Rattle.heap_model.specs.Below.{any_below}
+use Rattle.heap_check.specs.Heap.{entry_at, Holds}
 use Rattle.heap_check.specs.Sound.{IsInSlab, HasOther}
 use Rattle.heap_check.specs.Image.{bounds_of, IsExactImage}
 use Rattle.heap_check.proofs.Claims.{plain_size, IsNamed-claim, IsClaim-word}

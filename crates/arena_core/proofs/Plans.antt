@@ -28,7 +28,7 @@ use Rattle.heap_check.proofs.SmallPlaces.{IsNormal, Holds-claim, Holds-normal}
 use Rattle.arena_core.specs.declared.plan.Place.TheVariants.{Large, Small, Fresh}
 use Rattle.arena_core.specs.Arena.{HasNormalSlabs, IsIndexOf, IsSlabsOf}
 use Rattle.arena_core.specs.Plan.{IsInSlabOf, IsInNoSlabOf, IsAskedOf, IsVacantRow, tables_view, IsPlacing, IsTakable, IsNamedSmall}
-use Rattle.arena_core.proofs.Blocks.{large_many}
+use Rattle.heap_check.proofs.LargeLogs.{large_many}
 
 -- slabs
 
@@ -252,7 +252,7 @@ module _ {words : List ℕ} (image : IsExactImage words) where
         below = rooted;
         named = is.0;
         live = refl;
-        many = large_many words image start is.1;
+        many = large_many words start (omega (arith, (sizes_of words image.formed).most)) image.formed.log is.1;
         low = lies.0;
         high = omega (arith, lies.1, count);
       }

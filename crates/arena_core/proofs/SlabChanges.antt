@@ -14,7 +14,8 @@ use Rattle.extent_index.specs.FreeSet.{FreeSet, IsFree, IsHeldRow}
 use Rattle.slab_index.specs.SlabSet.{SlabSet, class_in, is_available, IsBlock, IsWhole}
 use Rattle.image_tables.proofs.Stores.{HasNoMove-closed}
 use Rattle.heap_model.specs.Machine.{Bounds, Range, slab_block, with_key}
-use Rattle.heap_check.specs.Heap.{any_below, entry_at, slabs, Holds, HoldsBit}
+use Rattle.heap_model.specs.Below.{any_below}
+use Rattle.heap_check.specs.Heap.{entry_at, slabs, Holds, HoldsBit}
 use Rattle.heap_check.specs.Sound.{IsVacant, IsInSlab, IsExactBut}
 use Rattle.heap_check.specs.Slabs.{IsWithSlab}
 use Rattle.heap_check.specs.Image.{bounds_of, IsExactImage, IsExactButImage}
@@ -30,7 +31,7 @@ use Rattle.heap_check.proofs.Slabs.{IsSlabPlace}
 use Rattle.heap_check.proofs.SmallPlaces.{Holds-normal, Holds-claim}
 use Rattle.heap_check.proofs.Within.{IsInSlab-held}
 use Rattle.log_steps.specs.Log.{IsBookOf}
-use Rattle.slab_steps.specs.Steps.{drop_events, IsOpened, IsDropped}
+use Rattle.slab_steps.specs.Steps.{IsOpened, IsDropped}
 use Rattle.slab_steps.proofs.Images.{keeps_blocks}
 use Rattle.attach_steps.specs.Steps.{IsAttachable}
 use Rattle.arena_core.specs.declared.volatile.Volatile.{Volatile}

@@ -21,7 +21,7 @@ use Rattle.book_log.specs.Book.{Book}
 use Rattle.book_log.proofs.Books.{Reads-same}
 use Rattle.extent_index.specs.FreeSet.{FreeSet, IsFree}
 use Rattle.slab_index.specs.SlabSet.{SlabSet, class_in, is_available}
-use Rattle.heap_model.specs.Machine.{Bounds, Range, slab_block}
+use Rattle.heap_model.specs.Machine.{Bounds, slab_block}
 use Rattle.heap_check.specs.Heap.{heap, slabs}
 use Rattle.heap_check.specs.Sound.{IsVacant}
 use Rattle.heap_check.specs.Image.{bounds_of, IsExactImage}

@@ -28,7 +28,7 @@ use Rattle.heap_check.proofs.SmallPlaces.{one_slab, IsNormal, IsWithin-block, Ho
 use Rattle.arena_core.specs.Arena.{HasNormalSlabs}
 use Rattle.arena_core.specs.Plan.{IsVacantRow, tables_view}
 use Rattle.arena_core.proofs.Plans.{slab_parts}
-use Rattle.arena_core.proofs.Blocks.{large_many}
+use Rattle.heap_check.proofs.LargeLogs.{large_many}
 
 -- what is not forgotten is another root's
 not_forgotten : (value : ℕ → ℕ → Option ℕ) (root other index word : ℕ) → forgotten value root other index ≡ Some word → (other ≢ root) × (value other index ≡ Some word)
@@ -137,7 +137,7 @@ module _ {words : List ℕ} (image : IsExactImage words) {m : Machine} (state : 
           let live : 0 < t.large start = omega (arith, size, covers.low, covers.high) in
           let rooted = large_named start live in
           free.no_block rooted.0 (record { at = 16384 * start; size = 16384 * t.large start }) rooted.1
-          (omega (arith, large_many words image start live))
+          (omega (arith, large_many words start (omega (arith, (sizes_of words image.formed).most)) image.formed.log live))
           (record { begins = omega (arith, covers.low); ends = omega (arith, covers.high, size) }))
           (cases_Bool (t.slab start))
 

@@ -18,7 +18,8 @@ use Rattle.log_steps.specs.Events.{first_zero, log_events}
 use Rattle.slab_steps.specs.Steps.{open_events, drop_events}
 use Rattle.attach_steps.specs.declared.block.SmallBlock.{SmallBlock}
 use Rattle.attach_steps.specs.Steps.{attach_events, detach_events, detach_old_events, move_events}
-use Rattle.heap_check.specs.Heap.{slab_of, any_below, is_old}
+use Rattle.heap_model.specs.Below.{any_below}
+use Rattle.heap_check.specs.Heap.{slab_of, is_old}
 use Rattle.heap_model.specs.Machine.{slab_block}
 use Rattle.heap_model.specs.declared.call.Call.{Call}
 use Rattle.heap_model.specs.declared.call.Call.TheVariants as calls

@@ -144,12 +144,7 @@ impl<P: Pmem> Arena<P> {
         ensures ready { IsReady self.new.device }
         ensures crash { CrashOnly self.new.device.base self.new.device.events (IsEitherHeap (words_of self.old.device) (words_of self.new.device)) }
     {
-        let plan = plan_free(
-            &self.device,
-            &self.volatile.log,
-            &self.volatile.slabs,
-            root,
-        );
+        let plan = plan_free(&self.device, &self.volatile.log, &self.volatile.slabs, root);
         self.device.begin();
         self.volatile.carry_out_free(&mut self.device, root, plan)
     }
@@ -161,12 +156,7 @@ impl<P: Pmem> Arena<P> {
         if root >= layout_in(&self.device).roots {
             return None;
         }
-        match held_by(
-            &self.device,
-            &self.volatile.log,
-            &self.volatile.slabs,
-            root,
-        ) {
+        match held_by(&self.device, &self.volatile.log, &self.volatile.slabs, root) {
             Some(held) => {
                 let block = freed_of(held);
                 Some(Block {

@@ -20,8 +20,8 @@ ghost use Rattle.arena_core.specs.Effect.{GivesRoot, KeepsSlabs, IsLastOf, slabs
 ghost use Rattle.arena_core.specs.Events.{place_events, take_events, fresh_events, unsmall_events, holds_none};
 ghost use Rattle.arena_core.specs.Plan.{IsAskedOf, IsVacantRow, IsGivable, IsTakable, IsNamedSmall, IsHeldBy, IsMallocPlan, IsFreePlan};
 
-use crate::volatile::Volatile;
 use crate::plan::{Held, Place, freed_of, placed_at};
+use crate::volatile::Volatile;
 use crate::{FreeRefusal, Freed, MallocRefusal, Placed};
 use attach_steps::{SmallBlock, attach, detach};
 use book_log::LogEntry;
@@ -51,12 +51,7 @@ impl Volatile {
     }
 
     // Gives a root the block at a place.
-    fn carry_out_place<P: Pmem>(
-        &mut self,
-        device: &mut P,
-        root: u32,
-        place: Place,
-    ) -> Placed
+    fn carry_out_place<P: Pmem>(&mut self, device: &mut P, root: u32, place: Place) -> Placed
         requires arena { IsArena (P.state device.old) self.old }
         requires fresh { (P.state device.old).events ≡ [] }
         requires plan { (size : ℕ) × IsMallocPlan (bounds_of (words_of (P.state device.old))) (tables_of (words_of (P.state device.old))) root size (Ok place) }
@@ -95,12 +90,7 @@ impl Volatile {
     }
 
     // Takes what it holds from a root.
-    fn carry_out_held<P: Pmem>(
-        &mut self,
-        device: &mut P,
-        root: u32,
-        held: Held,
-    ) -> Freed
+    fn carry_out_held<P: Pmem>(&mut self, device: &mut P, root: u32, held: Held) -> Freed
         requires arena { IsArena (P.state device.old) self.old }
         requires fresh { (P.state device.old).events ≡ [] }
         requires plan { IsHeldBy (bounds_of (words_of (P.state device.old))) (tables_of (words_of (P.state device.old))) root held }
@@ -117,13 +107,7 @@ impl Volatile {
     }
 
     // Gives granules to a root: their extent goes into the log, and then the root gets its address.
-    fn give_large<P: Pmem>(
-        &mut self,
-        device: &mut P,
-        root: u32,
-        start: u32,
-        granules: u32,
-    )
+    fn give_large<P: Pmem>(&mut self, device: &mut P, root: u32, start: u32, granules: u32)
         requires arena { IsArena (P.state device.old) self.old }
         requires fresh { (P.state device.old).events ≡ [] }
         requires givable { IsGivable (bounds_of (words_of (P.state device.old))) (tables_of (words_of (P.state device.old))) root start granules }
@@ -136,13 +120,7 @@ impl Volatile {
     }
 
     // Takes granules from a root: the root's word becomes 0, and then a Tomb for their extent goes into the log.
-    fn take_large<P: Pmem>(
-        &mut self,
-        device: &mut P,
-        root: u32,
-        start: u32,
-        granules: u32,
-    )
+    fn take_large<P: Pmem>(&mut self, device: &mut P, root: u32, start: u32, granules: u32)
         requires arena { IsArena (P.state device.old) self.old }
         requires fresh { (P.state device.old).events ≡ [] }
         requires takable { IsTakable (bounds_of (words_of (P.state device.old))) (tables_of (words_of (P.state device.old))) root start granules }
@@ -155,12 +133,7 @@ impl Volatile {
     }
 
     // Gives a free block of a slab to a root.
-    fn give_small<P: Pmem>(
-        &mut self,
-        device: &mut P,
-        root: u32,
-        block: SmallBlock,
-    )
+    fn give_small<P: Pmem>(&mut self, device: &mut P, root: u32, block: SmallBlock)
         requires ready { IsReady (P.state device.old) }
         requires few { length (P.state device.old).events ≤ 757 }
         requires line { self.old.line < 8 }
@@ -180,12 +153,7 @@ impl Volatile {
     }
 
     // Opens a slab on vacant granules.
-    fn add_slab<P: Pmem>(
-        &mut self,
-        device: &mut P,
-        start: u32,
-        class: u8,
-    )
+    fn add_slab<P: Pmem>(&mut self, device: &mut P, start: u32, class: u8)
         requires kept { IsKept (P.state device.old) self.old }
         requires fresh { (P.state device.old).events ≡ [] }
         requires row { IsVacantRow (bounds_of (words_of (P.state device.old))) (tables_of (words_of (P.state device.old))) start 4 }
@@ -209,13 +177,7 @@ impl Volatile {
     }
 
     // Opens a slab, and gives its first block to a root.
-    fn give_fresh<P: Pmem>(
-        &mut self,
-        device: &mut P,
-        root: u32,
-        start: u32,
-        class: u8,
-    )
+    fn give_fresh<P: Pmem>(&mut self, device: &mut P, root: u32, start: u32, class: u8)
         requires arena { IsArena (P.state device.old) self.old }
         requires fresh { (P.state device.old).events ≡ [] }
         requires asked { (size : ℕ) × IsAskedOf (bounds_of (words_of (P.state device.old))) (tables_of (words_of (P.state device.old))) root size }
@@ -234,13 +196,7 @@ impl Volatile {
     }
 
     // Takes a block of a slab from a root, and drops the slab where it holds no other.
-    fn take_small<P: Pmem>(
-        &mut self,
-        device: &mut P,
-        root: u32,
-        block: SmallBlock,
-        class: u8,
-    )
+    fn take_small<P: Pmem>(&mut self, device: &mut P, root: u32, block: SmallBlock, class: u8)
         requires arena { IsArena (P.state device.old) self.old }
         requires fresh { (P.state device.old).events ≡ [] }
         requires named { IsNamedSmall (bounds_of (words_of (P.state device.old))) (tables_of (words_of (P.state device.old))) root block class }
@@ -253,12 +209,7 @@ impl Volatile {
     }
 
     // Takes a block of a slab from a root.
-    fn take_block<P: Pmem>(
-        &mut self,
-        device: &mut P,
-        root: u32,
-        block: SmallBlock,
-    )
+    fn take_block<P: Pmem>(&mut self, device: &mut P, root: u32, block: SmallBlock)
         requires ready { IsReady (P.state device.old) }
         requires fresh { (P.state device.old).events ≡ [] }
         requires line { self.old.line < 8 }
@@ -278,12 +229,7 @@ impl Volatile {
     }
 
     // Drops a slab that holds no block.
-    fn drop_if_empty<P: Pmem>(
-        &mut self,
-        device: &mut P,
-        start: u32,
-        class: u8,
-    )
+    fn drop_if_empty<P: Pmem>(&mut self, device: &mut P, start: u32, class: u8)
         requires image { IsExactButImage (words_of (P.state device.old)) start }
         requires quiet { IsQuiet (P.state device.old).events }
         requires few { length (P.state device.old).events ≤ 11 }

@@ -1,10 +1,7 @@
 -- A small block comes or goes: the image at each of the stores.
 use Rattle.std.proofs.Common.{◌≡◌, ◌≢◌, ◌⊎◌, ℕ, ◌+◌, ◌*◌, ◌<◌, ◌≤◌, Bool, true, List, length, refl, sym, ap, subst, ◌∙◌, arith, inl, inr, ⊎_elim, Option, Some, None}
-use Rattle.std.proofs.lemmas.Nat.{mul-le}
 use Rattle.pmem_lines.specs.Words.{put_word}
 use Rattle.pmem_lines.proofs.Words.{word_at-put_other, length-put_word}
-use Rattle.size_classes.specs.Classes.{class_size}
-use Rattle.size_classes.proofs.Spacing.{class_size-least}
 use Rattle.pool_layout.specs.Layout.{layout_of}
 use Rattle.pool_layout.specs.Places.{fields_word, root_word, wal_word}
 use Rattle.pool_layout.specs.Header.{version_in}
@@ -21,8 +18,7 @@ use Rattle.slab_header.specs.Steps.{PutsBit}
 use Rattle.attach_wal.specs.Entry.{entry_word}
 use Rattle.attach_wal.proofs.Words.{IsWalWord-entry}
 use Rattle.attach_wal.specs.Wal.{HasNoOther, Opens, Closes}
-use Rattle.heap_model.specs.Machine.{Bounds, LiesIn, slab_block}
-use Rattle.heap_model.proofs.Slabbing.{LiesIn-block}
+use Rattle.heap_model.specs.Machine.{Bounds}
 use Rattle.heap_check.specs.Sound.{IsSound}
 use Rattle.heap_check.specs.Image.{bounds_of, IsFormed}
 use Rattle.heap_check.proofs.Forms.{AreSlabsInHeap-sound, bounds_of-put_word, IsFormed-put_root, IsFormed-put_wal, IsFormed-put_bitmap}

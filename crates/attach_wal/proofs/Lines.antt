@@ -1,5 +1,5 @@
 -- What a store to a write-ahead line changes of the tables of an image.
-use Rattle.std.proofs.Common.{◌≡◌, ◌≢◌, ⊎_elim, inl, ℕ, zero, suc, ◌<◌, ◌≤◌, cond, eqb, ltb, Option, Some, None, List, length, refl, ap, ◌∙◌, arith}
+use Rattle.std.proofs.Common.{◌≡◌, ◌≢◌, ⊎_elim, ℕ, zero, suc, ◌<◌, ◌≤◌, cond, eqb, ltb, Option, Some, None, List, length, refl, ap, ◌∙◌, arith}
 use Rattle.std.proofs.lemmas.Bool.{cases_eq, eq-eqb, cond-true}
 use Rattle.pmem_lines.specs.Words.{word_at, put_word}
 use Rattle.pmem_lines.proofs.Words.{word_at-put_same, word_at-put_other}

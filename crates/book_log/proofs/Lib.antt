@@ -5,3 +5,4 @@ pub mod Takings
 pub mod Puts
 pub mod Books
 pub mod Fresh
+pub mod LiveExtents

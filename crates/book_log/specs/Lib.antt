@@ -2,3 +2,4 @@ pub mod Book
 pub mod Entry
 pub mod Log
 pub mod Table
+pub mod Live

@@ -5,6 +5,7 @@ use Rattle.size_classes.proofs.Spacing.{class_size-most}
 use Rattle.image_tables.specs.Tables.{Tables, tables_of}
 use Rattle.image_tables.proofs.Tables.{root_table-past}
 use Rattle.heap_model.specs.Machine.{Bounds, Range, Machine, IsLarge, LiesIn, IsOverlapFree}
+use Rattle.heap_check.proofs.Sizes.{sizes_of}
 use Rattle.heap_check.specs.Heap.{entry_at, heap, slabs, IsClaim, HoldsBit, HoldsOld}
 use Rattle.heap_check.specs.Laws.{LawOfExactState}
 use Rattle.heap_check.specs.Sound.{IsSound}
@@ -113,4 +114,4 @@ module _ {b : Bounds} {t : Tables} (sound : IsSound b t) (unnamed : (root : ℕ)
 pub law_of_exact_state : LawOfExactState
 law_of_exact_state words m image state =
     let t = tables_of words in
-    IsOverlapFree-sound image.exact.sound (λ root. ap (λ e. entry_at e root) image.exact.closed) (λ start some. large_many words start image.formed.log some) (root_table-past words) m state.blocks state.slabs
+    IsOverlapFree-sound image.exact.sound (λ root. ap (λ e. entry_at e root) image.exact.closed) (λ start some. large_many words start (omega (arith, (sizes_of words image.formed).most)) image.formed.log some) (root_table-past words) m state.blocks state.slabs

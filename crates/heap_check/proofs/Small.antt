@@ -9,7 +9,8 @@ use Rattle.image_tables.specs.declared.entry.WalEntry.TheVariants.{Place}
 use Rattle.image_tables.specs.Tables.{Tables}
 use Rattle.heap_model.specs.Machine.{Bounds, Range, AreApart, LiesIn, slab_block}
 use Rattle.heap_model.proofs.Slabbing.{LiesIn-block}
-use Rattle.heap_check.specs.Heap.{slab_of, any_below, is_old_of, is_old, size_at, entry_at, IsClaim, Holds, HoldsBit, HoldsOld}
+use Rattle.heap_model.specs.Below.{any_below}
+use Rattle.heap_check.specs.Heap.{slab_of, is_old_of, is_old, size_at, entry_at, IsClaim, Holds, HoldsBit, HoldsOld}
 use Rattle.heap_check.specs.Sound.{Covers, IsInSlab, IsEmptySlab, IsSound}
 use Rattle.image_tables.specs.Updates.{put_in, with_small}
 use Rattle.image_tables.proofs.Updates.{put_in-same, put_in-other}

@@ -1,21 +1,17 @@
 -- The heap that an image has: the block of each root, with its size. All of it is read off the tables of the image, and of
 -- roots it is what they hold that counts (`root`), not their words.
-use Rattle.std.specs.Prelude.{◌≡◌, ◌≢◌, ◌⊎◌, ◌==◌, ◌&&◌, ◌||◌, nat_lt, ℕ, zero, suc, ◌*◌, ◌/◌, ◌%◌, ◌-◌, ◌<◌, Bool, true, false, Option, Some, None, if◌then◌else◌}
+use Rattle.std.specs.Prelude.{◌≡◌, ◌≢◌, ◌⊎◌, ◌==◌, ◌&&◌, nat_lt, ℕ, ◌*◌, ◌/◌, ◌%◌, ◌-◌, ◌<◌, Bool, true, false, Option, Some, None, if◌then◌else◌}
 use Rattle.size_classes.specs.Classes.{class_size, class_capacity}
 use Rattle.image_tables.specs.declared.entry.WalEntry.{WalEntry}
 use Rattle.image_tables.specs.declared.entry.WalEntry.TheVariants.{Place, Move}
 use Rattle.image_tables.specs.Forms.{morphing_kind}
 use Rattle.image_tables.specs.Tables.{Tables}
+use Rattle.heap_model.specs.Below.{any_below}
 use Rattle.heap_model.specs.Machine.{Range, slab_block}
 
 -- the start of the slab that has a granule, where one has it
 unfoldable pub slab_of : (ℕ → Bool) → ℕ → ℕ
 slab_of slab k = if slab k then k else if slab (k - 1) then k - 1 else if slab (k - 2) then k - 2 else k - 3
-
--- some number below n passes the test
-abbrev pub any_below : (ℕ → Bool) → ℕ → Bool
-any_below test zero = false
-any_below test (suc n) = test n || any_below test n
 
 -- a live place of a slab's index table, of which n are read, has its block of class c at this address
 unfoldable pub is_old_of : ℕ → ℕ → (ℕ → Bool) → (ℕ → ℕ) → ℕ → ℕ → Bool

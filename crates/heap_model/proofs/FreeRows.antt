@@ -6,11 +6,12 @@ use Rattle.std.specs.List.{filter}
 use Rattle.size_classes.specs.Classes.{sizes, class_size}
 use Rattle.heap_model.specs.declared.call.Call.TheVariants.{Free}
 use Rattle.heap_model.specs.declared.call.Reply.TheVariants.{Freed}
+use Rattle.heap_model.specs.Below.{any_below}
 use Rattle.heap_model.specs.Policy.{whole}
 use Rattle.heap_model.specs.Machine.{Bounds, Machine, slab_block}
 use Rattle.heap_model.specs.Slabs.{is_within}
 use Rattle.heap_model.specs.Step.{without_block}
-use Rattle.heap_model.specs.Placement.{Stacks, with_stack, any_below, has_left, without_left, IsReturned, IsPlacedStep}
+use Rattle.heap_model.specs.Placement.{Stacks, with_stack, has_left, without_left, IsReturned, IsPlacedStep}
 use Rattle.heap_model.proofs.Maps.{with_key-cases}
 use Rattle.heap_model.proofs.Freeing.{slabs_stay, slabs_stay-away}
 use Rattle.heap_model.proofs.Morphs.{small, filled, one_slab}

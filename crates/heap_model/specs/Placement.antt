@@ -1,13 +1,14 @@
 -- Placement: which block is given for a small request, of those that the machine allows. Each seat has for each class a
 -- stack of blocks that are reserved for it: their addresses, the top one first. Seats are numbered below 64; the stacks of
 -- all others stay empty.
-use Rattle.std.specs.Prelude.{◌≡◌, ◌⊎◌, ◌==◌, ◌&&◌, ◌||◌, not, ℕ, zero, suc, ◌+◌, ◌-◌, ◌<◌, ◌≤◌, Bool, false, true, List, [], ◌∷◌, length, map, Option, Some, None, if◌then◌else◌}
+use Rattle.std.specs.Prelude.{◌≡◌, ◌⊎◌, ◌==◌, ◌&&◌, not, ℕ, ◌+◌, ◌-◌, ◌<◌, ◌≤◌, Bool, false, true, List, [], ◌∷◌, length, map, Option, Some, None, if◌then◌else◌}
 use Rattle.std.specs.List.{filter}
 use Rattle.size_classes.specs.Classes.{class_capacity, IsClassOf}
 use Rattle.heap_model.specs.declared.call.Call.{Call}
 use Rattle.heap_model.specs.declared.call.Call.TheVariants.{Malloc, Free, Write, Read, Move}
 use Rattle.heap_model.specs.declared.call.Reply.{Reply}
 use Rattle.heap_model.specs.declared.call.Reply.TheVariants.{Placed, Freed}
+use Rattle.heap_model.specs.Below.{any_below}
 use Rattle.heap_model.specs.Policy.{Policy}
 use Rattle.heap_model.specs.Machine.{Bounds, Range, Machine, with_key, slab_block, IsBlockOf, IsUnused, IsFreeGranule}
 use Rattle.heap_model.specs.Runs.{IsBestFit}
@@ -150,11 +151,6 @@ pub record GaveSmall (size : ℕ) (reply : Reply) : Type 0 where
   pub is : reply ≡ Placed at given
 
 -- free
-
--- some number below n passes
-abbrev pub any_below : (ℕ → Bool) → ℕ → Bool
-any_below test zero = false
-any_below test (suc n) = test n || any_below test n
 
 -- it was a slab, and is none now
 abbrev pub has_left : Option ℕ → Option ℕ → Bool

@@ -12,5 +12,8 @@ pub enum WalEntry {
         place: u32,
     },
     /// A block of any size moves from a root to another.
-    Move { from: u32, to: u32 },
+    Move {
+        from: u32,
+        to: u32,
+    },
 }

@@ -5,7 +5,7 @@ use Rattle.image_tables.specs.declared.extent.Extent.{Extent}
 use Rattle.image_tables.specs.declared.extent.Extent.TheVariants as kinds
 use Rattle.book_log.specs.declared.entry.LogEntry.TheVariants.{Large}
 use Rattle.book_log.specs.Log.{with_entry}
-use Rattle.log_gc.specs.Live.{granules_of, AreDisjoint}
+use Rattle.book_log.specs.Live.{granules_of, AreDisjoint}
 
 pub record AreEven (extents : ℕ → Option Extent) : Type 0 where
   pub start : (start : ℕ) (x : Extent) → extents start ≡ Some x → start % 2 ≡ 0

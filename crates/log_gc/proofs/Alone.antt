@@ -13,10 +13,9 @@ use Rattle.book_log.specs.declared.entry.LogEntry.{LogEntry}
 use Rattle.book_log.specs.declared.entry.LogEntry.TheVariants.{Large, Slab}
 use Rattle.book_log.specs.Entry.{log_word, FitsWord, IsInHeap, start_of, extent_of}
 use Rattle.log_gc.specs.Room.{chunks_for}
-use Rattle.log_gc.specs.Live.{live_word, live_words, AreDisjoint}
-use Rattle.log_gc.proofs.Filled.{IsValid}
-use Rattle.log_gc.proofs.Live.{says_of}
-use Rattle.log_gc.specs.Live.{IsLive, AreLive}
+use Rattle.book_log.specs.Live.{live_word, live_words, AreDisjoint}
+use Rattle.book_log.proofs.LiveExtents.{IsValid, says_of}
+use Rattle.book_log.specs.Live.{IsLive, AreLive}
 
 -- the entry of an extent that starts there
 abbrev entry_for : ℕ → Extent → LogEntry

@@ -14,12 +14,12 @@ use Rattle.book_log.specs.Book.{Book, HasLog, HasFreeEntry, Reads, live_at, chun
 use Rattle.log_gc.specs.declared.room.Rolled.{Rolled}
 use Rattle.log_gc.specs.declared.room.Rolled.TheVariants as rolled
 use Rattle.log_gc.specs.Chunks.{has_space, spare_chunks}
-use Rattle.log_gc.specs.Live.{AreDisjoint, AreLive, live_words}
+use Rattle.book_log.specs.Live.{AreDisjoint, AreLive, live_words}
 use Rattle.log_gc.specs.Needless.{is_needless}
 use Rattle.log_gc.specs.Copies.{switch_count}
 use Rattle.log_gc.specs.Room.{live_log, chunks_for, kept_chunks, way_of, room_events, KeepsLog}
 use Rattle.log_gc.proofs.Choices.{length-spare, length-without_one}
-use Rattle.log_gc.proofs.Live.{live_extents}
+use Rattle.book_log.proofs.LiveExtents.{live_extents}
 use Rattle.log_gc.proofs.Next.{same_words}
 use Rattle.log_gc.proofs.Flushes.{length-switch}
 use Rattle.log_gc.proofs.Ways.{IsArenaLog, first_passes, rewrite_most}

@@ -15,8 +15,7 @@ use Rattle.image_tables.specs.Log.{entry_or_none, entries_below, chunk_log}
 use Rattle.image_tables.proofs.Chunks.{entries_below-same}
 use Rattle.image_tables.proofs.Places.{entry_word-same, entry_word-high}
 use Rattle.durable_steps.specs.Rows.{flushes_of}
-use Rattle.book_log.specs.declared.entry.LogEntry.{LogEntry}
-use Rattle.book_log.specs.Entry.{IsEntryWord}
+use Rattle.book_log.proofs.LiveExtents.{IsValid}
 use Rattle.book_log.specs.Log.{IsChunk}
 use Rattle.book_log.proofs.Appending.{log_word-some}
 use Rattle.log_gc.specs.Copies.{entry_stores, fill_events, copy_events}
@@ -126,10 +125,6 @@ read_log version words (chunk ∷ chunks) entries reads some fits =
     ap (λ xs. xs ++ flat_map (chunk_log version words) chunks) (read_chunk version words chunk entries reads.0 some)
     ∙ ap (λ xs. take n entries ++ xs) (read_log version words chunks (drop n entries) reads.1 (All-drop (λ w. w ≢ 0) n entries some) (omega (arith, length-drop n entries)))
     ∙ take-append-drop n entries
-
--- the word is that of an entry in the heap
-abbrev pub IsValid : ℕ → ℕ → ℕ → Type 0
-IsValid first granules word = (entry : LogEntry) × IsEntryWord first granules word entry
 
 -- such a word is not 0
 pub valid_some : (first granules word : ℕ) → IsValid first granules word → word ≢ 0

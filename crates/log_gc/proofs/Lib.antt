@@ -6,7 +6,6 @@ pub mod Switches
 pub mod Flushes
 pub mod Choices
 pub mod Listing
-pub mod Live
 pub mod Alone
 pub mod Ways
 pub mod Next

@@ -23,7 +23,7 @@ use Rattle.book_log.proofs.Places.{within_heap}
 use Rattle.log_gc.specs.declared.room.Rolled.{Rolled}
 use Rattle.log_gc.specs.declared.room.Rolled.TheVariants as rolled
 use Rattle.log_gc.specs.Chunks.{has_zero, has_space, spare_chunks}
-use Rattle.log_gc.specs.Live.{AreDisjoint}
+use Rattle.book_log.specs.Live.{AreDisjoint}
 use Rattle.log_gc.specs.Needless.{first_needless}
 use Rattle.log_gc.specs.Copies.{copy_events, switch_events}
 use Rattle.log_gc.specs.Room.{live_log, chunks_for, kept_chunks, way_of, events_among, room_events, KeepsLog}

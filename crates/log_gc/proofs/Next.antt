@@ -5,7 +5,7 @@ use Rattle.book_log.specs.declared.entry.LogEntry.{LogEntry}
 use Rattle.book_log.specs.declared.entry.LogEntry.TheVariants.{Large, Slab, Tomb}
 use Rattle.book_log.specs.Entry.{log_word, FitsWord, start_of, extent_of}
 use Rattle.book_log.specs.Table.{IsNextLive, IsNoneLive}
-use Rattle.log_gc.specs.Live.{live_word, live_words, granules_of, IsLive, AreLive}
+use Rattle.book_log.specs.Live.{live_word, live_words, granules_of, IsLive, AreLive}
 
 -- an entry that says what is live is the entry of it
 word_is : (entry : LogEntry) (x : Extent) → extent_of entry ≡ Some x → live_word (start_of entry) (Some x) ≡ log_word entry ∷ []

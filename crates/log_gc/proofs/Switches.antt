@@ -21,6 +21,7 @@ use Rattle.image_tables.proofs.Logs.{SameChunk, chunk_log-same}
 use Rattle.image_tables.proofs.Extents.{extent_at-same, extent_at-directory}
 use Rattle.durable_steps.specs.Steps.{word_events}
 use Rattle.durable_steps.proofs.Steps.{word_crash, IsQuiet-word}
+use Rattle.book_log.proofs.LiveExtents.{IsValid}
 use Rattle.book_log.specs.Entry.{IsEntryWord}
 use Rattle.book_log.specs.Log.{directory_of, IsDirectory, IsChunk, IsLog}
 use Rattle.book_log.proofs.Directories.{active_chunks-directory}
@@ -29,7 +30,7 @@ use Rattle.log_gc.specs.Copies.{copy_events, switch_events}
 use Rattle.log_gc.specs.Room.{KeepsLog}
 use Rattle.log_gc.proofs.Events.{reading-other, IsStored-append}
 use Rattle.log_gc.proofs.Copies.{IsEntryAmong, stored_copy, quiet_copy}
-use Rattle.log_gc.proofs.Filled.{ReadAs, IsValid, valid_some, read_copy, read_log, chunks_read}
+use Rattle.log_gc.proofs.Filled.{ReadAs, valid_some, read_copy, read_log, chunks_read}
 
 -- a log whose directory is about to name other chunks: some of the active ones, and fresh ones that get entries
 pub record IsSwitch (granules : ℕ) (words active kept fresh entries : List ℕ) : Type 0 where

@@ -17,10 +17,9 @@ use Rattle.book_log.specs.Log.{directory_of, IsDirectory, IsChunk, IsLog}
 use Rattle.log_gc.specs.Chunks.{without, spare_chunks}
 use Rattle.log_gc.specs.Needless.{extent_over, same_extent, same_extents, is_needless, first_of, first_needless}
 use Rattle.log_gc.specs.Room.{live_log, chunks_for, kept_chunks}
-use Rattle.log_gc.specs.Live.{AreDisjoint, AreLive}
+use Rattle.book_log.specs.Live.{AreDisjoint, AreLive}
 use Rattle.log_gc.proofs.Choices.{AreSpare, spare_taken, length-spare, length-without_one}
-use Rattle.log_gc.proofs.Filled.{IsValid}
-use Rattle.log_gc.proofs.Live.{live_over, live_extents, extent_at-active}
+use Rattle.book_log.proofs.LiveExtents.{IsValid, live_over, live_extents, extent_at-active}
 use Rattle.log_gc.proofs.Alone.{words_valid, words_say, words_few, none_past, rewrite_few}
 use Rattle.log_gc.proofs.Switches.{IsSwitch}
 

@@ -13,7 +13,7 @@ use Rattle.log_gc.specs.declared.room.Rolled.TheVariants as rolled
 use Rattle.log_gc.specs.Chunks.{without, spare_chunks, has_space}
 use Rattle.log_gc.specs.Needless.{first_needless}
 use Rattle.log_gc.specs.Copies.{switch_events}
-use Rattle.log_gc.specs.Live.{live_words}
+use Rattle.book_log.specs.Live.{live_words}
 
 -- the entries of the live extents of an arena of so many granules, by rising start
 unfoldable pub live_log : ℕ → List ℕ → List ℕ

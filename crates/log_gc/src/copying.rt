@@ -6,7 +6,7 @@ ghost use Rattle.pmem_lines.specs.Pmem.{words_of, HasRoom, Appends};
 ghost use Rattle.pool_layout.specs.Layout.{layout_of};
 ghost use Rattle.pool_layout.specs.Places.{heap_word};
 ghost use Rattle.book_log.specs.Book.{live_at};
-ghost use Rattle.log_gc.specs.Live.{AreLive, live_words};
+ghost use Rattle.book_log.specs.Live.{AreLive, live_words};
 ghost use Rattle.log_gc.specs.Copies.{entry_stores, fill_events, fill_count, copy_events};
 
 use crate::filling::flush_chunk;

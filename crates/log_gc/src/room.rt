@@ -8,7 +8,7 @@ ghost use Rattle.pool_layout.specs.Header.{version_in};
 ghost use Rattle.image_tables.specs.Extents.{extent_at};
 ghost use Rattle.book_log.specs.Book.{Reads, chunks_of};
 ghost use Rattle.log_gc.specs.Chunks.{has_space};
-ghost use Rattle.log_gc.specs.Live.{AreDisjoint};
+ghost use Rattle.book_log.specs.Live.{AreDisjoint};
 ghost use Rattle.log_gc.specs.Room.{way_of, room_events, KeepsLog};
 
 use crate::census::first_needless;

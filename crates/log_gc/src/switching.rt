@@ -7,7 +7,7 @@ ghost use Rattle.pmem_lines.specs.Pmem.{words_of, HasRoom, Appends};
 ghost use Rattle.pool_layout.specs.Places.{heap_word};
 ghost use Rattle.book_log.specs.Book.{live_at};
 ghost use Rattle.log_gc.specs.Chunks.{spare_chunks};
-ghost use Rattle.log_gc.specs.Live.{AreLive, live_words};
+ghost use Rattle.book_log.specs.Live.{AreLive, live_words};
 ghost use Rattle.log_gc.specs.Copies.{IsFlushed, directory_events, switch_events, switch_count};
 ghost use Rattle.log_gc.specs.Room.{kept_chunks};
 

@@ -9,8 +9,8 @@ use Rattle.image_tables.specs.Extents.{extent_at}
 use Rattle.image_tables.specs.Tables.{large_of, is_slab_of, tables_of}
 use Rattle.image_tables.proofs.Tables.{large_table, slab_table}
 use Rattle.book_log.specs.Book.{chunks_of}
-use Rattle.log_gc.specs.Live.{AreLive, AreDisjoint, granules_of}
-use Rattle.log_gc.proofs.Live.{live_extents}
+use Rattle.book_log.specs.Live.{AreLive, AreDisjoint, granules_of}
+use Rattle.book_log.proofs.LiveExtents.{live_extents}
 use Rattle.heap_check.specs.Sound.{granules_at, IsSound}
 use Rattle.heap_check.specs.Image.{bounds_of, IsFormed}
 use Rattle.heap_check.proofs.Geometry.{granules_at-slab, granules_at-large}

@@ -19,7 +19,7 @@ use Rattle.book_log.specs.declared.place.EntryPlace.{EntryPlace}
 use Rattle.book_log.specs.Entry.{log_word as word_of_entry}
 use Rattle.book_log.specs.Log.{logged, with_entry}
 use Rattle.book_log.specs.Book.{Book, HasLog, Reads, IsNextOf, IsInLog, IsEntryOrNot, last_chunk, place_word, append_events}
-use Rattle.log_gc.specs.Live.{AreDisjoint}
+use Rattle.book_log.specs.Live.{AreDisjoint}
 use Rattle.log_gc.specs.Room.{room_events, KeepsLog}
 use Rattle.log_gc.proofs.Booked.{room_most}
 use Rattle.heap_check.specs.Image.{IsFormed}

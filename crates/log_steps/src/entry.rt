@@ -6,7 +6,7 @@ ghost use Rattle.pool_layout.specs.Layout.{layout_of};
 ghost use Rattle.pool_layout.specs.Header.{version_in, granules_in};
 ghost use Rattle.image_tables.specs.Extents.{extent_at};
 ghost use Rattle.book_log.specs.Entry.{IsInHeap};
-ghost use Rattle.log_gc.specs.Live.{AreDisjoint};
+ghost use Rattle.book_log.specs.Live.{AreDisjoint};
 ghost use Rattle.heap_check.specs.Image.{IsFormed};
 ghost use Rattle.log_steps.specs.Events.{log_events};
 ghost use Rattle.log_steps.specs.Log.{IsLogged, IsLoggedOrNot, IsBookOf};

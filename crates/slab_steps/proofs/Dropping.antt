@@ -14,7 +14,7 @@ use Rattle.image_tables.specs.Tables.{Tables, AreSlabsInHeap, large_of, is_slab_
 use Rattle.image_tables.proofs.Stores.{IsSameOffLog, IsSameOffLog-back, version_in-off_log, tables_off_log-same}
 use Rattle.image_tables.proofs.Tables.{slab_table}
 use Rattle.book_log.specs.declared.entry.LogEntry.TheVariants.{Tomb}
-use Rattle.log_gc.specs.Live.{AreDisjoint}
+use Rattle.book_log.specs.Live.{AreDisjoint}
 use Rattle.log_steps.specs.Log.{KeepsRest, IsLogged, IsLoggedOrNot}
 use Rattle.log_steps.proofs.Entries.{off_log}
 use Rattle.log_steps.proofs.Disjoint.{disjoint_of}

@@ -17,7 +17,7 @@ use Rattle.slab_header.specs.Steps.{make_events, KeepsOutside, IsMade}
 use Rattle.book_log.specs.declared.entry.LogEntry.TheVariants.{Slab}
 use Rattle.book_log.specs.Book.{Book}
 use Rattle.book_log.proofs.Books.{Reads-same}
-use Rattle.log_gc.specs.Live.{AreDisjoint}
+use Rattle.book_log.specs.Live.{AreDisjoint}
 use Rattle.log_steps.specs.Events.{log_events}
 use Rattle.log_steps.specs.Log.{KeepsRest, IsLogged, IsLoggedOrNot, IsBookOf}
 use Rattle.log_steps.proofs.Entries.{off_log}

@@ -1,6 +1,6 @@
 -- What a call changes of the heap, and how an image that a crash within it leaves is read.
 use Rattle.std.proofs.Common.{◌≡◌, ◌≢◌, ◌⊎◌, ℕ, ◌<◌, ◌≤◌, ◌^◌, Bool, true, false, IsTrue, List, length, Option, Some, None, if◌then◌else◌, sym, ap, ◌∙◌, refl, arith, subst, ⊎_elim}
-use Rattle.std.proofs.lemmas.Bool.{cond-true, cond-false, eq-eqb, ne_eqb, lt-ltb, cases_eq}
+use Rattle.std.proofs.lemmas.Bool.{cond-true, cond-false, eq-eqb, ne_eqb, cases_eq}
 use Rattle.pmem_lines.specs.Words.{word_at}
 use Rattle.pool_layout.specs.Layout.{layout_of, IsLayout}
 use Rattle.pool_layout.specs.Places.{root_word}

@@ -8,7 +8,6 @@ use Rattle.heap_model.specs.declared.call.Call.{Call}
 use Rattle.heap_model.specs.declared.call.Entry.{Entry}
 use Rattle.heap_model.specs.Machine.{Bounds, Machine, no_heap, IsOverlapFree}
 use Rattle.heap_model.specs.Policy.{plain}
-use Rattle.heap_model.specs.Step.{root_of}
 use Rattle.heap_model.specs.Placement.{bare}
 use Rattle.heap_model.specs.Journal.{Leads, IsPlacedEntry}
 use Rattle.heap_model.proofs.Steps.{law_of_overlap}

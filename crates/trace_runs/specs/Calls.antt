@@ -7,7 +7,6 @@ use Rattle.heap_model.specs.declared.call.Call.{Call}
 use Rattle.heap_model.specs.declared.call.Entry.{Entry}
 use Rattle.heap_model.specs.declared.call.Reply.{Reply}
 use Rattle.heap_model.specs.Machine.{Machine, no_heap, IsOverlapFree}
-use Rattle.heap_model.specs.Step.{root_of}
 use Rattle.heap_check.specs.Image.{bounds_of, IsExactImage}
 use Rattle.heap_check.specs.State.{HasState, IsEitherHeap}
 use Rattle.arena_core.specs.Arena.{ArenaState}

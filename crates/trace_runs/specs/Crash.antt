@@ -7,7 +7,6 @@ use Rattle.pmem_lines.specs.Picks.{picked_image}
 use Rattle.image_tables.specs.Tables.{tables_of}
 use Rattle.heap_model.specs.declared.call.Reply.{Reply}
 use Rattle.heap_model.specs.Machine.{Bounds, Machine, no_heap}
-use Rattle.heap_model.specs.Step.{root_of}
 use Rattle.heap_model.specs.Policy.{plain}
 use Rattle.heap_model.specs.Placement.{bare, IsPlacedStep}
 use Rattle.heap_check.specs.Heap.{heap}

@@ -8,7 +8,6 @@ use Rattle.pool_layout.specs.Layout.{layout_of}
 use Rattle.heap_model.specs.declared.block.Block.{Block}
 use Rattle.heap_model.specs.declared.call.Entry.{Entry}
 use Rattle.heap_model.specs.Machine.{Bounds, Range, Machine, no_heap, IsOverlapFree}
-use Rattle.heap_model.specs.Step.{root_of}
 use Rattle.heap_model.specs.Policy.{plain}
 use Rattle.heap_model.specs.Placement.{bare}
 use Rattle.heap_model.specs.Journal.{Leads, IsPlacedEntry}

@@ -5,7 +5,6 @@ use Rattle.pmem_lines.specs.Pmem.{PmemState, words_of}
 use Rattle.image_tables.specs.Tables.{tables_of}
 use Rattle.heap_model.specs.declared.block.Block.{Block}
 use Rattle.heap_model.specs.declared.call.Entry.{Entry}
-use Rattle.heap_model.specs.Step.{root_of}
 use Rattle.heap_check.specs.Heap.{heap}
 use Rattle.heap_check.specs.Image.{IsExactImage, IsSteadyImage}
 use Rattle.heap_check.specs.State.{IsEitherHeap}

@@ -1,6 +1,6 @@
-use Rattle.std.proofs.Common.{◌≡◌, ℕ, ◌+◌, sym, subst, arith}
+use Rattle.std.proofs.Common.{subst, arith}
 use Rattle.std.proofs.lemmas.Grind.{common_steps}
-use Rattle.attach_wal.specs.Entry.{entry_word, IsEntryWord}
+use Rattle.attach_wal.specs.Entry.{IsEntryWord}
 use Rattle.attach_wal.proofs.Words.{IsEntryWord-entry}
 use Rattle.attach_wal.proofs.entry.entry_word.Goals as goal
 

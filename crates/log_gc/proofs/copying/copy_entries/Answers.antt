@@ -5,7 +5,7 @@ use Rattle.pool_layout.specs.Layout.{layout_of}
 use Rattle.pool_layout.specs.Places.{entry_word}
 use Rattle.image_tables.proofs.Places.{entry_word-high}
 use Rattle.book_log.specs.Book.{live_at}
-use Rattle.log_gc.specs.Live.{live_words}
+use Rattle.book_log.specs.Live.{live_words}
 use Rattle.log_gc.specs.Copies.{entry_stores}
 use Rattle.log_gc.proofs.Storing.{store_more, entries_more, entries_done, next_value, next_rest}
 use Rattle.log_gc.proofs.copying.copy_entries.Goals as goal

@@ -2,7 +2,7 @@ use Rattle.std.proofs.Common.{◌≡◌, ◌+◌, ◌-◌, drop, length, slice_i
 use Rattle.pmem_lines.specs.Pmem.{words_of, appended}
 use Rattle.pool_layout.specs.Layout.{layout_of}
 use Rattle.book_log.specs.Book.{live_at}
-use Rattle.log_gc.specs.Live.{live_words}
+use Rattle.book_log.specs.Live.{live_words}
 use Rattle.log_gc.specs.Copies.{entry_stores}
 use Rattle.log_gc.proofs.copying.copy_entries.Given as goal
 

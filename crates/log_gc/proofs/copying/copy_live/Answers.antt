@@ -1,7 +1,7 @@
 use Rattle.std.proofs.Common.{◌-◌, ap, arith, drop}
 use Rattle.std.proofs.lemmas.List.{drop_all}
 use Rattle.book_log.specs.Book.{live_at}
-use Rattle.log_gc.specs.Live.{live_words}
+use Rattle.book_log.specs.Live.{live_words}
 use Rattle.log_gc.specs.Copies.{copy_events}
 use Rattle.log_gc.proofs.Storing.{events_done}
 use Rattle.log_gc.proofs.copying.copy_live.Goals as goal

@@ -1,7 +1,7 @@
 use Rattle.std.proofs.Common.{◌≡◌, ◌+◌, ◌-◌, ◌*◌, drop, length}
 use Rattle.pmem_lines.specs.Pmem.{words_of, appended}
 use Rattle.book_log.specs.Book.{live_at}
-use Rattle.log_gc.specs.Live.{live_words}
+use Rattle.book_log.specs.Live.{live_words}
 use Rattle.log_gc.specs.Copies.{copy_events, fill_count}
 use Rattle.log_gc.proofs.copying.copy_live.Given as goal
 

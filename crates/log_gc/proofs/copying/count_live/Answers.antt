@@ -1,6 +1,6 @@
 use Rattle.std.proofs.Common.{◌+◌, ◌-◌, ap, arith, length}
 use Rattle.book_log.specs.Book.{live_at}
-use Rattle.log_gc.specs.Live.{live_words}
+use Rattle.book_log.specs.Live.{live_words}
 use Rattle.log_gc.proofs.Next.{next_below, count_next, no_words}
 use Rattle.log_gc.proofs.copying.count_live.Goals as goal
 

@@ -1,6 +1,6 @@
 use Rattle.std.proofs.Common.{◌∙◌, ◌+◌, ◌-◌, ap, sym, arith, drop, get_or}
 use Rattle.book_log.specs.Book.{live_at}
-use Rattle.log_gc.specs.Live.{live_words}
+use Rattle.book_log.specs.Live.{live_words}
 use Rattle.log_gc.proofs.Next.{next_fits, next_below, next_words, no_words}
 use Rattle.log_gc.proofs.copying.next_entry.Goals as goal
 

@@ -7,7 +7,7 @@ use Rattle.image_tables.specs.Log.{active_chunks}
 use Rattle.book_log.specs.Book.{chunks_of, live_at}
 use Rattle.log_gc.specs.declared.room.Rolled.TheVariants as rolled
 use Rattle.log_gc.specs.Chunks.{spare_chunks}
-use Rattle.log_gc.specs.Live.{live_words}
+use Rattle.book_log.specs.Live.{live_words}
 use Rattle.log_gc.specs.Copies.{switch_count, switch_events}
 use Rattle.log_gc.specs.Room.{kept_chunks, live_log, room_events}
 use Rattle.log_gc.proofs.Flushes.{directory_inside}

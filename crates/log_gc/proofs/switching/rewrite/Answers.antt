@@ -4,7 +4,7 @@ use Rattle.pmem_lines.specs.Pmem.{words_of, Appends}
 use Rattle.pmem_lines.proofs.States.{then_step}
 use Rattle.book_log.specs.Book.{live_at}
 use Rattle.log_gc.specs.Chunks.{spare_chunks}
-use Rattle.log_gc.specs.Live.{live_words}
+use Rattle.book_log.specs.Live.{live_words}
 use Rattle.log_gc.specs.Copies.{copy_events, directory_events}
 use Rattle.log_gc.proofs.Choices.{spare_taken}
 use Rattle.log_gc.proofs.Flushes.{flushed_copy, directory_inside}

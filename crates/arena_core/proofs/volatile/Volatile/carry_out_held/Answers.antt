@@ -10,7 +10,7 @@ use Rattle.heap_check.proofs.Sizes.{sizes_of}
 use Rattle.arena_core.specs.declared.plan.Held.{Held}
 use Rattle.arena_core.specs.Plan.{IsTakable, IsNamedSmall, IsHeldBy, range_held}
 use Rattle.arena_core.proofs.Blocks.{heap-takable}
-use Rattle.arena_core.proofs.CallEvents.{IsCalled-same, IsCalled-done, IsDone-large, freed_large, line_freed, freed_there, start_is, line_small, named_class, named_inside, named_heap}
+use Rattle.arena_core.proofs.CallEvents.{IsCalled-same, IsCalled-done, freed_large, line_freed, freed_there, start_is, line_small, named_class, named_inside, named_heap}
 use Rattle.heap_check.proofs.SmallPlaces.{no_old-normal}
 use Rattle.arena_core.proofs.MachineSteps.{freed_step, large_stays, small_stays}
 use Rattle.arena_core.proofs.volatile.Volatile.carry_out_held.Goals as goal

@@ -10,7 +10,7 @@ use Rattle.arena_core.specs.declared.volatile.Volatile.{Volatile}
 use Rattle.arena_core.specs.declared.plan.Place.{Place}
 use Rattle.arena_core.specs.declared.plan.Place.TheVariants as places
 use Rattle.arena_core.specs.Plan.{IsAskedOf, IsPlacing, range_at}
-use Rattle.arena_core.proofs.CallEvents.{IsCalled-same, IsCalled-done, IsDone-large, IsDone-small, placed_large, line_placed, placed_there, placed_fresh, start_is, line_small, small_attachable}
+use Rattle.arena_core.proofs.CallEvents.{IsCalled-same, IsCalled-done, IsDone-small, placed_large, line_placed, placed_there, placed_fresh, start_is, line_small, small_attachable}
 use Rattle.arena_core.proofs.MachineSteps.{placed_step}
 use Rattle.arena_core.proofs.volatile.Volatile.carry_out_place.Goals as goal
 use Rattle.arena_core.proofs.volatile.Volatile.carry_out_place.Goals.{in-Large, in-Small, in-Fresh}

@@ -15,11 +15,14 @@ use Rattle.image_tables.specs.Extents.{start_of_entry, extent_after, extent_behi
 use Rattle.image_tables.proofs.Extents.{extent_after-named, extent_after-other}
 use Rattle.book_log.specs.declared.entry.LogEntry.{LogEntry}
 use Rattle.book_log.specs.declared.entry.LogEntry.TheVariants.{Large, Slab, Tomb}
-use Rattle.book_log.specs.Entry.{log_word, FitsWord, IsInHeap, SaysOf, start_of, extent_of}
+use Rattle.book_log.specs.Entry.{log_word, FitsWord, IsInHeap, SaysOf, start_of, extent_of, IsEntryWord}
 use Rattle.book_log.specs.Log.{IsChunk, IsLog, logged}
 use Rattle.book_log.proofs.Directories.{active_chunks-directory}
-use Rattle.log_gc.specs.Live.{IsLive, AreLive}
-use Rattle.log_gc.proofs.Filled.{IsValid}
+use Rattle.book_log.specs.Live.{IsLive, AreLive}
+
+-- the word is that of an entry in the heap
+abbrev pub IsValid : ℕ → ℕ → ℕ → Type 0
+IsValid first granules word = (entry : LogEntry) × IsEntryWord first granules word entry
 
 -- the word of an entry says what the entry says
 pub says_of : (entry : LogEntry) → FitsWord entry → SaysOf (log_word entry) entry
