@@ -1,6 +1,6 @@
 -- Which journals are legal behind a lock: the entries lead from the state that the arena had at the opening, each by a
--- step of the placement, by the policy that arenas serve. All that is said here of a journal's opening and its steps is said in this file; the rest of
--- the crate asks only that each beginning of a legal journal is legal.
+-- step of the placement, by the policy that arenas serve. All that is said here of a journal's opening and its steps is
+-- said in this file; the rest of the crate asks only that each beginning of a legal journal is legal.
 use Rattle.std.specs.Prelude.{ℕ, None, List, []}
 use Rattle.pmem_lines.specs.Events.{reading}
 use Rattle.image_tables.specs.Tables.{tables_of}

@@ -33,7 +33,8 @@ abbrev pub words_after : Stage → List ℕ
 words_after stage = reading stage.words stage.events
 
 -- from these words, this write-ahead line and this state on, a call makes this stage: the reply is the placement's, by
--- the plain policy, in which no stack is filled and no slab takes another class; the events are those of the reply, and behind it come the next line, and words with the state that the machine leads to
+-- the plain policy, in which no stack is filled and no slab takes another class; the events are those of the reply, and
+-- behind it come the next line, and words with the state that the machine leads to
 pub record IsStage (b : Bounds) (words : List ℕ) (line : ℕ) (m : Machine) (call : TraceCall) (stage : Stage) (later : ℕ) (next : Machine) : Type 0 where
   pub reply : Reply
   pub begins : stage.words ≡ words
