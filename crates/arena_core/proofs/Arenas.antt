@@ -1,17 +1,19 @@
 -- What an arena keeps holds again once a block was given or taken.
-use Rattle.std.proofs.Common.{◌≡◌, ◌↔◌, ◌⊎◌, ℕ, ◌+◌, ◌<◌, ◌≤◌, List, Bool, not, cond, Some, None, sym, ap, subst, ◌∙◌, inl, inr, ⊎_elim}
+use Rattle.std.proofs.Common.{◌≡◌, ◌↔◌, ◌⊎◌, ℕ, ◌+◌, ◌<◌, ◌≤◌, List, Bool, not, cond, Some, None, refl, sym, ap, subst, ◌∙◌, inl, inr, ⊎_elim}
 use Rattle.pmem_lines.specs.Words.{put_word}
 use Rattle.pool_layout.specs.Layout.{layout_of}
 use Rattle.pool_layout.specs.Places.{root_word}
 use Rattle.pool_layout.specs.Header.{version_in, granules_in}
 use Rattle.image_tables.specs.Tables.{Tables, tables_of}
-use Rattle.image_tables.proofs.Stores.{IsOffLog-root, granules_in-put_root}
+use Rattle.image_tables.proofs.Stores.{IsOffLog-root, granules_in-put_root, HasNoMove-closed}
 use Rattle.book_log.specs.Book.{Book}
 use Rattle.book_log.proofs.Books.{Reads-elsewhere}
 use Rattle.extent_index.specs.FreeSet.{FreeSet, IsFree}
 use Rattle.heap_model.specs.Machine.{Bounds}
 use Rattle.heap_check.specs.Sound.{IsVacant}
-use Rattle.heap_check.specs.Image.{bounds_of}
+use Rattle.heap_check.specs.Image.{bounds_of, IsExactImage}
+use Rattle.heap_check.specs.State.{IsEitherHeap}
+use Rattle.heap_check.proofs.Blank.{law_of_steady}
 use Rattle.heap_check.proofs.Large.{with_large}
 use Rattle.log_steps.specs.Log.{IsBookOf}
 use Rattle.size_classes.specs.Classes.{class_capacity}
@@ -80,3 +82,12 @@ index_more set new b t after start count was given vacant k = (
   λ free. ⊎_elim (λ old. (vacant k).1 (inl ((was k).0 old))) (λ more. (vacant k).1 (inr more)) ((given k).0 free),
   λ is. ⊎_elim (λ old. (given k).1 (inl ((was k).1 old))) (λ more. (given k).1 (inr more)) ((vacant k).0 is),
 )
+
+-- nothing was done: the heap is the one from before
+pub same_heap : (words new : List ℕ) → IsExactImage words → IsEitherHeap words new words
+same_heap words new exact = record {
+  steady = record { formed = exact.formed; steady = law_of_steady (bounds_of words) (tables_of words) exact.exact };
+  heap = inl (record { each = λ root. refl });
+  words = record { each = λ root other range k here is word. refl };
+  still = HasNoMove-closed exact.exact.closed;
+}

@@ -5,11 +5,12 @@ use Rattle.std.proofs.lemmas.Nat.{div-mul-add}
 use Rattle.size_classes.specs.Classes.{class_size, class_capacity}
 use Rattle.size_classes.proofs.Spacing.{class_size-least, class_size-most, class_size-rises}
 use Rattle.pmem_lines.specs.declared.event.Event.{Event}
-use Rattle.pmem_lines.specs.Events.{IsQuiet, CrashOnly}
-use Rattle.pmem_lines.specs.Pmem.{PmemState, words_of, began, appended, Appends}
+use Rattle.pmem_lines.specs.Events.{CrashOnly}
+use Rattle.pmem_lines.specs.Pmem.{PmemState, words_of, began, appended}
+use Rattle.pmem_lines.specs.Steps.{IsQuietStep}
+use Rattle.pmem_lines.proofs.Steps.{step_by, step_none}
 use Rattle.image_tables.specs.Tables.{Tables, tables_of}
 use Rattle.slab_index.specs.SlabSet.{SlabSet}
-use Rattle.image_tables.proofs.Stores.{HasNoMove-closed}
 use Rattle.heap_model.specs.declared.call.Call.{Call}
 use Rattle.heap_model.specs.declared.call.Reply.{Reply}
 use Rattle.heap_model.specs.declared.call.Reply.TheVariants as replies
@@ -17,9 +18,6 @@ use Rattle.heap_model.specs.Machine.{Bounds, Range, slab_block}
 use Rattle.heap_model.proofs.Slabbing.{LiesIn-block}
 use Rattle.heap_check.specs.Heap.{is_old, slab_of, entry_at, heap, slabs, IsClaim, Holds}
 use Rattle.heap_check.specs.Sound.{IsVacant, IsInSlab, IsSound}
-use Rattle.pmem_lines.proofs.Images.{by_none}
-use Rattle.pmem_lines.proofs.States.{appended_none, Appends-state}
-use Rattle.heap_check.proofs.Blank.{law_of_steady}
 use Rattle.heap_check.proofs.Claims.{IsNamed-claim, IsClaim-word}
 use Rattle.heap_check.proofs.Geometry.{Covers-slab, slab_of-here, plain_size-some}
 use Rattle.heap_check.proofs.Heaps.{heap-claim}
@@ -31,7 +29,7 @@ use Rattle.heap_check.proofs.Loose.{IsExactBut-exact}
 use Rattle.arena_core.proofs.SmallCalls.{classes_small, index_small, book_small, keeps_small}
 use Rattle.heap_check.specs.Image.{bounds_of, IsExactImage}
 use Rattle.heap_check.specs.State.{KeepsBlocks, IsEitherHeap}
-use Rattle.arena_core.specs.Arena.{ArenaState, HasNormalSlabs, IsSlabsOf, IsKept, IsArena}
+use Rattle.arena_core.specs.Arena.{ArenaState, HasNormalSlabs, IsSlabsOf, IsCurrent, IsArena}
 use Rattle.arena_core.specs.declared.volatile.Volatile.{Volatile}
 use Rattle.arena_core.specs.Call.{IsStepOfAny}
 use Rattle.arena_core.specs.Carried.{IsDone, IsCalled}
@@ -41,7 +39,7 @@ use Rattle.arena_core.specs.declared.plan.Held.TheVariants as holding
 use Rattle.arena_core.specs.Plan.{IsAskedOf, IsClearBlock, IsNamedSmall, IsHeldBy, range_held}
 use Rattle.heap_check.proofs.Sizes.{sizes_of}
 use Rattle.arena_core.proofs.Blocks.{heap-takable}
-use Rattle.arena_core.proofs.Arenas.{normal_kept, slabs_kept}
+use Rattle.arena_core.proofs.Arenas.{normal_kept, slabs_kept, same_heap}
 use Rattle.arena_core.specs.Events.{is_small, class_for, start_at, in_slab, block_at, place_events, take_events, fresh_events, unsmall_events, placed_events, freed_events, call_events, line_after}
 
 -- equal ends
@@ -56,12 +54,11 @@ pub IsCalled-done : {old new : PmemState} {was done_left left : Volatile} {root 
     IsDone old new done_left root block slab events → events ≡ call_events (words_of old) was.line call reply → left ≡ record done_left { line = left.line } → left.line ≡ line_after was.line reply → left.line < 8 →
     IsStepOfAny (words_of old) (words_of new) call reply → IsCalled old new was left call reply
 IsCalled-done {old} {new} {was} {done_left} {left} {root} {block} {slab} {events} call reply done same left_is line_is few step = record {
-  appends = subst (λ (es : List Event). Appends old new es) same done.appends;
-  arena = subst (IsArena new) (sym left_is) (record { kept = record { ready = done.kept.ready; exact = done.kept.exact; log = done.kept.log; index = done.kept.index }; normal = done.normal; slabs = done.slabs; few = few });
+  carried = step_by events (call_events (words_of old) was.line call reply) same done.step;
+  arena = subst (IsArena new) (sym left_is) (record { current = record { ready = done.current.ready; exact = done.current.exact; log = done.current.log; index = done.current.index }; normal = done.normal; slabs = done.slabs; few = few });
   line_is = line_is;
   step = step;
   keeps = done.gives.keeps;
-  crash = subst (λ (es : List Event). CrashOnly (words_of old) es (IsEitherHeap (words_of old) (words_of new))) same done.crash;
 }
 
 -- sizes
@@ -226,15 +223,14 @@ held_heap words image normal root (holding.Small block class) named = named_heap
 
 -- a large block was given or taken
 pub IsDone-large : {old new : PmemState} {was left : Volatile} {root : ℕ} {block : Option Range} {events : List Event} → IsArena old was → left.slabs ≡ was.slabs →
-    Appends old new events → IsKept new left → GivesRoot (words_of old) root block (slabs (tables_of (words_of old))) (words_of new) → KeepsSlabs (words_of old) (words_of new) →
-    CrashOnly (words_of old) events (IsEitherHeap (words_of old) (words_of new)) → IsDone old new left root block (slabs (tables_of (words_of old))) events
-IsDone-large {old} {new} {was} {left} {root} {block} {events} arena same appends kept gives keeps crash = record {
-  appends = appends;
-  kept = kept;
+    IsQuietStep old new events (IsEitherHeap (words_of old) (words_of new)) → IsCurrent new left → GivesRoot (words_of old) root block (slabs (tables_of (words_of old))) (words_of new) → KeepsSlabs (words_of old) (words_of new) →
+    IsDone old new left root block (slabs (tables_of (words_of old))) events
+IsDone-large {old} {new} {was} {left} {root} {block} {events} arena same step kept gives keeps = record {
+  step = step;
+  current = kept;
   normal = normal_kept keeps arena.normal;
   slabs = subst (λ (set : SlabSet). IsSlabsOf set (words_of new)) (sym same) (slabs_kept was.slabs keeps (ap (λ (b : Bounds). b.granules) gives.bounds) arena.slabs);
   gives = gives;
-  crash = crash;
 }
 
 -- a free block of a slab may come to a root
@@ -257,19 +253,19 @@ small_attachable words root size block class image normal asked placing =
 
 -- it came
 pub IsDone-small : {old new : PmemState} {was left : Volatile} {root class : ℕ} (block : SmallBlock) → IsArena old was → left ≡ record was { slabs = left.slabs } → IsAttachable (words_of old) root block →
-    (tables_of (words_of old)).class block.start ≡ class → Appends old new (attach_events (words_of old) was.line root block) → IsQuiet new.events → IsAttached (words_of old) was.line root block (words_of new) →
-    HasNormalSlabs (words_of new) → IsSlabsOf left.slabs (words_of new) → CrashOnly (words_of old) (attach_events (words_of old) was.line root block) (IsEitherHeap (words_of old) (words_of new)) →
+    (tables_of (words_of old)).class block.start ≡ class → IsQuietStep old new (attach_events (words_of old) was.line root block) (IsEitherHeap (words_of old) (words_of new)) → IsAttached (words_of old) was.line root block (words_of new) →
+    HasNormalSlabs (words_of new) → IsSlabsOf left.slabs (words_of new) →
     IsDone old new left root (Some (slab_block block.start class block.number)) (slabs (tables_of (words_of old))) (attach_events (words_of old) was.line root block)
-IsDone-small {old} {new} {was} {left} {root} {class} block arena left_is may class_is appends quiet attached normal slabs crash =
+IsDone-small {old} {new} {was} {left} {root} {class} block arena left_is may class_is step attached normal slabs =
     let words = words_of old in
     let after = words_of new in
     record {
-      appends = appends;
-      kept = subst (IsKept new) (sym left_is) (record {
-        ready = record { quiet = quiet; room = omega (arith, arena.kept.ready.room, appends.room) };
+      step = step;
+      current = subst (IsCurrent new) (sym left_is) (record {
+        ready = record { quiet = step.quiet; room = omega (arith, arena.current.ready.room, step.appends.room) };
         exact = attached.exact;
-        log = book_small words was.line root block may.block_in arena.few after attached.rest attached.bounds was.log arena.kept.log;
-        index = index_small words root block.start block.number true block.at after attached.bounds attached.tables was.free arena.kept.index;
+        log = book_small words was.line root block may.block_in arena.few after attached.rest attached.bounds was.log arena.current.log;
+        index = index_small words root block.start block.number true block.at after attached.bounds attached.tables was.free arena.current.index;
       });
       normal = normal;
       slabs = slabs;
@@ -280,24 +276,18 @@ IsDone-small {old} {new} {was} {left} {root} {class} block arena left_is may cla
         keeps = keeps_small words was.line root block may.block_in arena.few after attached.rest;
         bounds = attached.bounds;
       };
-      crash = crash;
     }
 
 -- a call that is refused
 pub IsCalled-refused : {old : PmemState} {was : Volatile} (call : Call) (reply : Reply) → IsArena old was →
     call_events (words_of old) was.line call reply ≡ [] → line_after was.line reply ≡ was.line → IsStepOfAny (words_of old) (words_of old) call reply → IsCalled old old was was call reply
 IsCalled-refused {old} {was} call reply arena none stays step =
-    let words = words_of old in
-    let exact = arena.kept.exact in
-    let keeps : KeepsBlocks words words = record { each = λ r other range k was is word. refl } in
     record {
-      appends = subst (λ (es : List Event). Appends old old es) (sym none) (Appends-state old old [] (sym (appended_none old)));
+      carried = step_by [] (call_events (words_of old) was.line call reply) (sym none) (step_none arena.current.ready.quiet (same_heap (words_of old) (words_of old) arena.current.exact));
       arena = arena;
       line_is = sym stays;
       step = step;
-      keeps = keeps;
-      crash = subst (λ (es : List Event). CrashOnly words es (IsEitherHeap words words)) (sym none)
-          (by_none words (IsEitherHeap words words) (record { steady = record { formed = exact.formed; steady = law_of_steady (bounds_of words) (tables_of words) exact.exact }; heap = inl (record { each = λ r. refl }); words = keeps; still = HasNoMove-closed exact.exact.closed }));
+      keeps = record { each = λ r other range k here is word. refl };
     }
 
 -- an arena answered a call
@@ -318,7 +308,7 @@ answered : (device begun new : PmemState) (was left : Volatile) (call : Call) (r
 answered device begun new was left call reply is called =
     let same : words_of begun ≡ words_of device = ap (λ (s : PmemState). words_of s) is in
     let state : new ≡ appended (began device) (call_events (words_of device) was.line call reply) =
-    called.appends.state ∙ (λ i. appended (is i) (call_events (same i) was.line call reply)) in
+    called.carried.appends.state ∙ (λ i. appended (is i) (call_events (same i) was.line call reply)) in
     record {
       step = subst (λ (ws : List ℕ). IsStepOfAny ws (words_of new) call reply) same called.step;
       device = state;
@@ -327,7 +317,7 @@ answered device begun new was left call reply is called =
       arena = called.arena;
       crash = subst (λ (s : PmemState). CrashOnly s.base s.events (IsEitherHeap (words_of device) (words_of new))) (sym state)
           (subst (λ (ws : List ℕ). CrashOnly (words_of device) (call_events (words_of device) was.line call reply) (IsEitherHeap ws (words_of new))) same
-          (subst (λ (ws : List ℕ). CrashOnly ws (call_events ws was.line call reply) (IsEitherHeap (words_of begun) (words_of new))) same called.crash));
+          (subst (λ (ws : List ℕ). CrashOnly ws (call_events ws was.line call reply) (IsEitherHeap (words_of begun) (words_of new))) same called.carried.crash));
     }
 
 -- of an arena by what it means

@@ -178,7 +178,7 @@ formatted_arena device header volatile ready formatted reads size index each par
     let granules : granules_in words ≡ header.granules = ap (λ (h : PoolHeader). h.granules) (header_in-formatted words header formatted) in
     let none : (s : ℕ) → (tables_of words).slab s ≢ true = λ s slab. true≢false (sym slab ∙ blank.no_slab s) in
     record {
-      kept = record {
+      current = record {
         ready = ready;
         exact = (law_of_formatted words header formatted).0;
         log = record { reads = reads; granules = size ∙ sym granules };

@@ -1,39 +1,34 @@
 -- A large block is given to a root, or taken from it: the image at each of the stores, and what a crash leaves.
-use Rattle.std.proofs.Common.{◌≡◌, ◌⊎◌, ℕ, ◌*◌, ◌/◌, List, refl, sym, ap, subst, ◌∙◌, arith, inl, inr, ⊎_elim, ◌+◌, ◌<◌, ◌≤◌, rules}
+use Rattle.std.proofs.Common.{ap, ◌∙◌, ◌≡◌, ◌≢◌, ◌⊎◌, ℕ, ◌*◌, List, ◌++◌, refl, sym, subst, arith, inl, inr, ⊎_elim, ◌+◌, ◌<◌, ◌≤◌}
+use Rattle.std.proofs.lemmas.Bool.{cases_eq}
 use Rattle.pmem_lines.specs.Words.{put_word}
-use Rattle.pmem_lines.specs.Events.{reading, IsQuiet, CrashOnly}
-use Rattle.pmem_lines.proofs.Images.{then, weaker}
-use Rattle.durable_steps.specs.Steps.{IsOldOrNewWord, word_events}
+use Rattle.pmem_lines.specs.Events.{reading}
+use Rattle.pmem_lines.specs.Pmem.{PmemState, words_of}
+use Rattle.pmem_lines.specs.Steps.{IsQuietStep}
+use Rattle.pmem_lines.proofs.Steps.{step_by, step_then, step_wider}
 use Rattle.pool_layout.specs.Places.{root_word}
-use Rattle.image_tables.specs.Tables.{tables_of}
+use Rattle.image_tables.specs.Tables.{Tables, tables_of}
+use Rattle.image_tables.specs.Updates.{put_at}
+use Rattle.image_tables.proofs.Updates.{put_at-same, put_at-other}
+use Rattle.extent_steps.specs.Large.{IsLooseExtent}
+use Rattle.arena_core.proofs.Arenas.{same_heap}
+use Rattle.arena_core.proofs.HeapSteps.{steps_then}
 use Rattle.book_log.specs.declared.entry.LogEntry.TheVariants.{Large, Tomb}
 use Rattle.heap_check.specs.Image.{bounds_of, IsExactImage}
 use Rattle.heap_check.proofs.Forms.{AreSlabsInHeap-sound}
 use Rattle.heap_check.proofs.Geometry.{granules_at-large}
 use Rattle.heap_check.proofs.Large.{IsLargePlace}
 use Rattle.heap_check.proofs.LargePlaces.{IsLargePlace-vacant, IsLargePlace-named}
-use Rattle.heap_check.specs.State.{IsEitherHeap}
+use Rattle.heap_check.specs.State.{HaveSameHeap, KeepsBlocks, IsEitherHeap}
 use Rattle.log_steps.specs.Events.{log_events}
-use Rattle.arena_core.specs.Events.{root_events, place_events, take_events}
+use Rattle.attach_steps.specs.Steps.{root_events, PutsRootOrNot}
+use Rattle.arena_core.specs.Events.{place_events, take_events}
 use Rattle.log_steps.specs.Log.{IsLogged, IsLoggedOrNot}
 use Rattle.arena_core.specs.Plan.{IsGivable, IsTakable}
 use Rattle.heap_check.proofs.Sizes.{sizes_of, root_inside}
 use Rattle.image_tables.proofs.Stores.{HasNoMove-closed}
 use Rattle.arena_core.proofs.LargeStages.{IsStageOf, stage_none, stage_root, stage_same, stage_entry, steady_stage, same_none, same_some, keeps_stage, still_stage}
 use Rattle.heap_check.specs.Sound.{Covers}
-
--- a word at an address
-pub put_byte : (words : List ℕ) (k value : ℕ) → put_word words (8 * k / 8) value ≡ put_word words k value
-put_byte words k value = ap (λ i. put_word words i value) (omega arith)
-
--- a word at an address, by its number
-pub word_stored : (made new : List ℕ) (at value k stored : ℕ) → new ≡ put_word made (at / 8) value → at ≡ 8 * k → value ≡ stored → new ≡ put_word made k stored
-word_stored made new at value k stored is place word = is ∙ ap (λ a. put_word made (a / 8) value) place ∙ put_byte made k value ∙ ap (put_word made k) word
-
--- a crash within the store of a word, by its number
-pub word_crash : (made : List ℕ) (at value other stored : ℕ) → at ≡ other → value ≡ stored → CrashOnly made (word_events at value) (IsOldOrNewWord made at value) → CrashOnly made (word_events other stored) (IsOldOrNewWord made other stored)
-word_crash made at value other stored place word crash =
-    subst (λ a. CrashOnly made (word_events a stored) (IsOldOrNewWord made a stored)) place (subst (λ v. CrashOnly made (word_events at v) (IsOldOrNewWord made at v)) word crash)
 
 module _ (words : List ℕ) (root start count : ℕ) (exact : IsExactImage words) (givable : IsGivable (bounds_of words) (tables_of words) root start count) where
   pub give_place : IsLargePlace (bounds_of words) (tables_of words) root start count
@@ -90,23 +85,16 @@ module _ (words : List ℕ) (root start count : ℕ) (exact : IsExactImage words
         (λ more. before count image (inr refl) (given_extent image (record { rest = either.rest; extents = more })))
         either.extents
 
-    crash_root : (made : List ℕ) → IsStageOf words root start count 0 made → (image : List ℕ) → IsOldOrNewWord made (8 * root_word root) (16384 * start) image → IsEitherHeap words new image
+    crash_root : (made : List ℕ) → IsStageOf words root start count 0 made → (image : List ℕ) → PutsRootOrNot made root (16384 * start) image → IsEitherHeap words new image
     crash_root made stage image either = ⊎_elim
         (λ (old : image ≡ made). before count image (inr refl) (subst (λ (ws : List ℕ). IsStageOf words root start count 0 ws) (sym old) stage))
-        (λ (put : image ≡ put_word made (8 * root_word root / 8) (16384 * start)).
-        after image (subst (λ (ws : List ℕ). IsStageOf words root start count (16384 * start) ws) (sym (put ∙ put_byte made (root_word root) (16384 * start))) (given_root made stage)))
-        either.is
+        (λ (put : image ≡ put_word made (root_word root) (16384 * start)).
+        after image (subst (λ (ws : List ℕ). IsStageOf words root start count (16384 * start) ws) (sym put) (given_root made stage)))
+        either
 
-    pub give_crash : (made : List ℕ) → IsStageOf words root start count 0 made → made ≡ reading words (log_events words (Large start count)) → IsQuiet (log_events words (Large start count)) →
-        CrashOnly words (log_events words (Large start count)) (IsLoggedOrNot words (Large start count)) → CrashOnly made (root_events root (16384 * start)) (IsOldOrNewWord made (8 * root_word root) (16384 * start)) →
-        CrashOnly words (place_events words root start count) (IsEitherHeap words new)
-    give_crash made stage is quiet first second =
-        let P : List ℕ → Type 0 = IsEitherHeap words new in
-        let entry = log_events words (Large start count) in
-        then words entry (root_events root (16384 * start)) P quiet
-        (weaker words entry (IsLoggedOrNot words (Large start count)) P crash_extent first)
-        (subst (λ (ws : List ℕ). CrashOnly ws (root_events root (16384 * start)) P) is
-        (weaker made (root_events root (16384 * start)) (IsOldOrNewWord made (8 * root_word root) (16384 * start)) P (crash_root made stage) second))
+    pub give_step : {s t u : PmemState} (made : List ℕ) → IsStageOf words root start count 0 made → IsQuietStep s t (log_events words (Large start count)) (IsLoggedOrNot words (Large start count)) →
+        IsQuietStep t u (root_events root (16384 * start)) (PutsRootOrNot made root (16384 * start)) → IsQuietStep s u (place_events words root start count) (IsEitherHeap words new)
+    give_step made stage first second = step_then (IsEitherHeap words new) (λ ws. root_events root (16384 * start)) first second crash_extent (crash_root made stage)
 
 module _ (words : List ℕ) (root start count : ℕ) (exact : IsExactImage words) (takable : IsTakable (bounds_of words) (tables_of words) root start count) where
   pub take_place : IsLargePlace (bounds_of words) (tables_of words) root start count
@@ -122,54 +110,48 @@ module _ (words : List ℕ) (root start count : ℕ) (exact : IsExactImage words
   pub taken_root : IsStageOf words root start count 0 (put_word words (root_word root) 0)
   taken_root = stage_root words root start count (16384 * start) words 0 held takable.below (root_inside words root exact.formed takable.below)
 
-  -- a Tomb is in the log
-  pub taken_extent : (made image : List ℕ) → IsStageOf words root start count 0 made → IsLogged made (Tomb start) image → IsStageOf words root start 0 0 image
-  taken_extent made image stage logged = stage_entry words root start count 0 made image (Tomb start) 0 stage logged.rest logged.extents refl refl refl take_place.no_slab
+  -- and its extent is loose
+  pub taken_loose : IsLooseExtent (put_word words (root_word root) 0) start
+  taken_loose =
+      let made = put_word words (root_word root) 0 in
+      let stage = taken_root in
+      let root_of : (r : ℕ) → (tables_of made).root r ≡ put_at (tables_of words).root root 0 r = λ r. ap (λ (t : Tables). t.root r) stage.tables in
+      record {
+        image = steady_stage exact take_place count 0 made (record { is = inr (refl, inl refl) }) stage;
+        closed = ap (λ (t : Tables). t.open_entry) stage.tables ∙ exact.exact.closed;
+        loose = record {
+          live = omega (arith, ap (λ (t : Tables). t.large start) stage.tables, put_at-same (tables_of words).large start count, takable.many);
+          unnamed = λ r is. ⊎_elim
+              (λ (same : r ≡ root). omega (arith, is, root_of r, ap (put_at (tables_of words).root root 0) same, put_at-same (tables_of words).root root 0, take_place.low, take_place.first))
+              (λ (differ : r ≢ root). take_place.lone r differ (sym (root_of r ∙ put_at-other (tables_of words).root root r 0 differ) ∙ is))
+              (cases_eq r root);
+        };
+      }
 
   -- a granule of the block is covered by its extent
   pub taken_covers : (k : ℕ) → start ≤ k → k < start + count → Covers (tables_of words) start k
   taken_covers k low high = record { low = low; high = omega (arith, high, granules_at-large (tables_of words) start take_place.no_slab, takable.live) }
 
   -- crashes
-  module _ (new : List ℕ) (done : IsStageOf words root start 0 0 new) where
-    while_held : (image : List ℕ) → IsStageOf words root start count (16384 * start) image → IsEitherHeap words new image
-    while_held image stage = record {
-      steady = steady_stage exact take_place count (16384 * start) image (record { is = inr (refl, inr refl) }) stage;
-      heap = inl (same_some exact take_place words image held stage);
-      words = keeps_stage exact take_place count (16384 * start) image stage;
-      still = still_stage stage;
-    }
+  crash_cleared : (image : List ℕ) → PutsRootOrNot words root 0 image → IsEitherHeap words (put_word words (root_word root) 0) image
+  crash_cleared image either = ⊎_elim
+      (λ (old : image ≡ words). subst (IsEitherHeap words (put_word words (root_word root) 0)) (sym old) (same_heap words (put_word words (root_word root) 0) exact))
+      (λ (put : image ≡ put_word words (root_word root) 0).
+      let stage = subst (λ (ws : List ℕ). IsStageOf words root start count 0 ws) (sym put) taken_root in
+      record {
+        steady = steady_stage exact take_place count 0 image (record { is = inr (refl, inl refl) }) stage;
+        heap = inr (same_none exact take_place count count (put_word words (root_word root) 0) image taken_root stage);
+        words = keeps_stage exact take_place count 0 image stage;
+        still = still_stage stage;
+      })
+      either
 
-    once_taken : (here : ℕ) (image : List ℕ) → (here ≡ 0) ⊎ (here ≡ count) → IsStageOf words root start here 0 image → IsEitherHeap words new image
-    once_taken here image either stage = record {
-      steady = steady_stage exact take_place here 0 image (record { is = ⊎_elim (λ none. inl (none, refl)) (λ all. inr (all, inl refl)) either }) stage;
-      heap = inr (same_none exact take_place 0 here new image done stage);
-      words = keeps_stage exact take_place here 0 image stage;
-      still = still_stage stage;
-    }
-
-    crash_cleared : (image : List ℕ) → IsOldOrNewWord words (8 * root_word root) 0 image → IsEitherHeap words new image
-    crash_cleared image either = ⊎_elim
-        (λ (old : image ≡ words). while_held image (subst (λ (ws : List ℕ). IsStageOf words root start count (16384 * start) ws) (sym old) held))
-        (λ (put : image ≡ put_word words (8 * root_word root / 8) 0).
-        once_taken count image (inr refl) (subst (λ (ws : List ℕ). IsStageOf words root start count 0 ws) (sym (put ∙ put_byte words (root_word root) 0)) taken_root))
-        either.is
-
-    crash_tomb : (made : List ℕ) → IsStageOf words root start count 0 made → (image : List ℕ) → IsLoggedOrNot made (Tomb start) image → IsEitherHeap words new image
-    crash_tomb made stage image either = ⊎_elim
-        (λ same. once_taken count image (inr refl) (stage_same words root start count 0 made image stage either.rest same))
-        (λ less. once_taken 0 image (inl refl) (taken_extent made image stage (record { rest = either.rest; extents = less })))
-        either.extents
-
-    pub take_crash : (made : List ℕ) → made ≡ put_word words (root_word root) 0 →
-        CrashOnly words (root_events root 0) (IsOldOrNewWord words (8 * root_word root) 0) → CrashOnly made (log_events made (Tomb start)) (IsLoggedOrNot made (Tomb start)) →
-        CrashOnly words (take_events words root start) (IsEitherHeap words new)
-    take_crash made is first second =
-        let P : List ℕ → Type 0 = IsEitherHeap words new in
-        let put = put_word words (root_word root) 0 in
-        let stage : IsStageOf words root start count 0 made = subst (λ (ws : List ℕ). IsStageOf words root start count 0 ws) (sym is) taken_root in
-        let rest : CrashOnly made (log_events made (Tomb start)) P = weaker made (log_events made (Tomb start)) (IsLoggedOrNot made (Tomb start)) P (crash_tomb made stage) second in
-        then words (root_events root 0) (log_events put (Tomb start)) P (search rules)
-        (weaker words (root_events root 0) (IsOldOrNewWord words (8 * root_word root) 0) P crash_cleared first)
-        (subst (λ (ws : List ℕ). CrashOnly ws (log_events put (Tomb start)) P) (sym (put_byte words (root_word root) 0))
-        (subst (λ (ws : List ℕ). CrashOnly ws (log_events ws (Tomb start)) P) is rest))
+  pub take_step : {s t u : PmemState} (new : List ℕ) → words_of t ≡ put_word words (root_word root) 0 → HaveSameHeap (words_of t) new → IsQuietStep s t (root_events root 0) (PutsRootOrNot words root 0) →
+      IsQuietStep t u (log_events (words_of t) (Tomb start)) (IsEitherHeap (words_of t) new) → IsQuietStep s u (take_events words root start) (IsEitherHeap words new)
+  take_step {s} {t} {u} new is same first second =
+      let made = put_word words (root_word root) 0 in
+      let keeps : KeepsBlocks words (words_of t) = subst (KeepsBlocks words) (sym is) (keeps_stage exact take_place count 0 made taken_root) in
+      step_by (root_events root 0 ++ log_events (reading (words_of s) (root_events root 0)) (Tomb start)) (take_events words root start)
+      (ap (λ (ws : List ℕ). root_events root 0 ++ log_events ws (Tomb start)) (sym first.appends.words ∙ is))
+      (steps_then words (words_of t) new (inr same) (λ ws. log_events ws (Tomb start)) keeps
+      (step_wider (λ image either. subst (λ (ws : List ℕ). IsEitherHeap words ws image) (sym is) (crash_cleared image either)) first) second)

@@ -1,6 +1,6 @@
 -- A large extent and its root come and go: the words of the image at each stage.
-use Rattle.std.proofs.Common.{◌≡◌, ◌≢◌, ℕ, ◌*◌, ◌<◌, ◌≤◌, false, eqb, List, length, refl, sym, ap, subst, ◌∙◌, arith, ⊎_elim, Some, None}
-use Rattle.std.proofs.lemmas.Bool.{cases_eq, cond-true, cond-false, eq-eqb, ne_eqb}
+use Rattle.std.proofs.Common.{◌≡◌, ◌≢◌, ℕ, ◌*◌, ◌<◌, ◌≤◌, false, List, length, refl, sym, ap, subst, ◌∙◌, arith, ⊎_elim, Some, None}
+use Rattle.std.proofs.lemmas.Bool.{cases_eq}
 use Rattle.pmem_lines.specs.Words.{word_at, put_word}
 use Rattle.pmem_lines.proofs.Words.{length-put_word}
 use Rattle.pool_layout.specs.Layout.{layout_of}
@@ -9,12 +9,11 @@ use Rattle.pool_layout.specs.Header.{version_in}
 use Rattle.image_tables.specs.Extents.{extent_at}
 use Rattle.image_tables.specs.Tables.{Tables, large_of, is_slab_of, is_slab, AreSlabsInHeap, tables_of}
 use Rattle.image_tables.specs.Updates.{put_at, with_root, HasNoMove}
-use Rattle.image_tables.proofs.Updates.{put_at-same, put_at-other, put_at-twice, put_at-own}
+use Rattle.image_tables.proofs.Updates.{put_at-same, put_at-twice, put_at-own}
 use Rattle.image_tables.proofs.Stores.{version_in-off_log, heap_word-off_log, tables_off_log, roots_plain, version_in-put_root, heap_word-put_root, extent_at-put_root, tables_put_root}
 use Rattle.image_tables.proofs.Tables.{large_table, slab_table}
 use Rattle.book_log.specs.declared.entry.LogEntry.{LogEntry}
 use Rattle.book_log.specs.Entry.{start_of, extent_of}
-use Rattle.book_log.specs.Log.{with_entry}
 use Rattle.heap_model.specs.Machine.{Bounds, Range}
 use Rattle.heap_check.specs.Heap.{heap, slabs}
 use Rattle.heap_check.specs.Sound.{IsExact, IsSteady}
@@ -29,7 +28,10 @@ use Rattle.heap_check.proofs.LargeSound.{IsLargeEnd, IsSteady-large, IsExact-lar
 use Rattle.heap_check.proofs.LargeHeaps.{heap-large_other, heap-large_none, heap-large_some}
 use Rattle.arena_core.specs.Effect.{GivesRoot}
 use Rattle.log_steps.specs.Log.{KeepsRest, HasSameExtents, HasExtentsWith}
+use Rattle.heap_check.proofs.Forms.{AreSlabsInHeap-sound}
 use Rattle.log_steps.proofs.Entries.{off_log}
+use Rattle.extent_steps.specs.Large.{IsExtentGone}
+use Rattle.log_steps.proofs.LargeEntries.{slab_entry, large_entry}
 
 -- The image is as the words are, but that the extent at a start has so many granules, and a root this word.
 pub record IsStageOf (words : List ℕ) (root start here word : ℕ) (image : List ℕ) : Type 0 where
@@ -37,12 +39,12 @@ pub record IsStageOf (words : List ℕ) (root start here word : ℕ) (image : Li
   pub bounds : bounds_of image ≡ bounds_of words
   pub slabs : AreSlabsInHeap image
   pub size : length image ≡ length words
-  pub plain : HasNoMove (tables_of words).entry
+  pub plain : HasNoMove (tables_of words).open_entry
   pub tables : tables_of image ≡ with_large (tables_of words) start here root word
   pub heap : (k : ℕ) → heap_word (version_in words) ≤ k → word_at image k ≡ word_at words k
 
 -- the words as they are
-pub stage_none : (words : List ℕ) (root start : ℕ) → IsFormed words → AreSlabsInHeap words → HasNoMove (tables_of words).entry → IsStageOf words root start ((tables_of words).large start) ((tables_of words).root root) words
+pub stage_none : (words : List ℕ) (root start : ℕ) → IsFormed words → AreSlabsInHeap words → HasNoMove (tables_of words).open_entry → IsStageOf words root start ((tables_of words).large start) ((tables_of words).root root) words
 stage_none words root start formed slabs plain =
     let t = tables_of words in
     let own_word : put_at t.word root (t.root root) ≡ t.word = ap (λ (held : ℕ → ℕ). put_at t.word root (held root)) (roots_plain words plain) ∙ put_at-own t.word root in
@@ -77,7 +79,7 @@ stage_root words root start here word made value stage below inside =
       };
       size = length-put_word made (root_word root) value ∙ stage.size;
       plain = stage.plain;
-      tables = tables_put_root made root value among within stage.slabs (subst HasNoMove (sym (ap (λ (s : Tables). s.entry) stage.tables)) stage.plain)
+      tables = tables_put_root made root value among within stage.slabs (subst HasNoMove (sym (ap (λ (s : Tables). s.open_entry) stage.tables)) stage.plain)
           ∙ ap (λ (s : Tables). with_root s root value) stage.tables
           ∙ (λ i. record t { large = put_at t.large start here; word = put_at-twice t.word root word value i; root = put_at-twice t.root root word value i });
       heap = λ k high. heap_word-put_root made root value k among (omega (arith, high, same_heap_word words made stage.bounds)) ∙ stage.heap k high;
@@ -119,36 +121,30 @@ pub stage_entry : (words : List ℕ) (root start here word : ℕ) (made image : 
     IsStageOf words root start after word image
 stage_entry words root start here word made image entry after stage rest extents names large no_slab none =
     let made_none : is_slab made start ≡ false = sym (slab_table made start) ∙ ap (λ (s : Tables). s.slab start) stage.tables ∙ none in
+    let larges : put_at (tables_of made).large (start_of entry) (large_of (extent_of entry)) ≡ put_at (tables_of made).large start after = λ i. put_at (tables_of made).large (names i) (large i) in
     stage_log words root start here word made image after stage rest
-    (λ other. ap is_slab_of (extents other) ∙ slab other made_none)
-    (λ other. ap large_of (extents other) ∙ larges other)
-  where
-    slab : (other : ℕ) → is_slab made start ≡ false → is_slab_of (with_entry (extent_at made) entry other) ≡ is_slab made other
-    slab other made_none = ⊎_elim
-        (λ (same : other ≡ start_of entry).
-        ap is_slab_of (with_here other same) ∙ no_slab ∙ sym (ap (is_slab made) (same ∙ names) ∙ made_none))
-        (λ (differ : other ≢ start_of entry). ap is_slab_of (with_there other differ))
-        (cases_eq other (start_of entry))
-      where
-        with_here : (other : ℕ) → other ≡ start_of entry → with_entry (extent_at made) entry other ≡ extent_of entry
-        with_here other same = cond-true (eqb other (start_of entry)) (extent_of entry) (extent_at made other) (eq-eqb other (start_of entry) same)
+    (λ other. ap is_slab_of (extents other) ∙ slab_entry made entry other no_slab (ap (is_slab made) names ∙ made_none))
+    (λ other. ap large_of (extents other) ∙ large_entry made entry other ∙ ap (λ (f : ℕ → ℕ). f other) larges)
 
-        with_there : (other : ℕ) → other ≢ start_of entry → with_entry (extent_at made) entry other ≡ extent_at made other
-        with_there other differ = cond-false (eqb other (start_of entry)) (extent_of entry) (extent_at made other) (ne_eqb other (start_of entry) differ)
-
-    larges : (other : ℕ) → large_of (with_entry (extent_at made) entry other) ≡ put_at (tables_of made).large start after other
-    larges other = ⊎_elim
-        (λ (same : other ≡ start_of entry).
-        ap large_of (cond-true (eqb other (start_of entry)) (extent_of entry) (extent_at made other) (eq-eqb other (start_of entry) same)) ∙ large
-        ∙ sym (put_at-same (tables_of made).large start after) ∙ ap (put_at (tables_of made).large start after) (sym (same ∙ names)))
-        (λ (differ : other ≢ start_of entry).
-        ap large_of (cond-false (eqb other (start_of entry)) (extent_of entry) (extent_at made other) (ne_eqb other (start_of entry) differ)) ∙ sym (large_table made other)
-        ∙ sym (put_at-other (tables_of made).large start other after (λ same. differ (same ∙ sym names))))
-        (cases_eq other (start_of entry))
+-- a loose extent is gone
+pub stage_gone : (words : List ℕ) (root start here word : ℕ) (made image : List ℕ) → IsStageOf words root start here word made → IsExtentGone made start image → IsStageOf words root start 0 word image
+stage_gone words root start here word made image stage gone =
+    let t = tables_of words in
+    record {
+      formed = gone.image.formed;
+      bounds = gone.bounds ∙ stage.bounds;
+      slabs = AreSlabsInHeap-sound image gone.image.steady.sound;
+      size = gone.rest.same_length ∙ stage.size;
+      plain = stage.plain;
+      tables = gone.tables
+          ∙ ap (λ (s : Tables). record s { large = put_at s.large start 0 }) stage.tables
+          ∙ ap (λ (larges : ℕ → ℕ). record (with_root t root word) { large = larges }) (put_at-twice t.large start here 0);
+      heap = λ k high. heap_word-off_log made image k (off_log made image gone.rest) (omega (arith, high, same_heap_word words made stage.bounds)) ∙ stage.heap k high;
+    }
 
 -- no move entry is open in it
-pub still_stage : {words : List ℕ} {root start here word : ℕ} {image : List ℕ} → IsStageOf words root start here word image → HasNoMove (tables_of image).entry
-still_stage {words} {root} {start} {here} {word} {image} stage = subst HasNoMove (sym (ap (λ (t : Tables). t.entry) stage.tables)) stage.plain
+pub still_stage : {words : List ℕ} {root start here word : ℕ} {image : List ℕ} → IsStageOf words root start here word image → HasNoMove (tables_of image).open_entry
+still_stage {words} {root} {start} {here} {word} {image} stage = subst HasNoMove (sym (ap (λ (t : Tables). t.open_entry) stage.tables)) stage.plain
 
 -- what a stage has
 

@@ -46,7 +46,7 @@ module _ (words : List ℕ) (line root : ℕ) (block : SmallBlock) (class : ℕ)
   place = IsSmallPlace-named root start block.number (IsExactBut-exact image.exact start) (omega (arith, (sizes_of words image.formed).first)) named.rooted
       (record { slab = named.slab; kind = normal.each start named.slab }) below named.set at_here
 
-  unnamed : (r : ℕ) → entry_at t.entry r ≡ 0
+  unnamed : (r : ℕ) → entry_at t.open_entry r ≡ 0
   unnamed r = ap (λ e. entry_at e r) image.exact.closed
 
   -- the bits that are left
@@ -91,8 +91,8 @@ module _ (words : List ℕ) (line root : ℕ) (block : SmallBlock) (class : ℕ)
       }
 
   -- it has no index entries
-  none_old : (tables_of left).entries start ≡ 0
-  none_old = ap (λ (x : Tables). x.entries start) detached.tables ∙ ((image.exact.sound.slabs start named.slab).state.none (normal.each start named.slab)).1
+  none_old : (tables_of left).index_count start ≡ 0
+  none_old = ap (λ (x : Tables). x.index_count start) detached.tables ∙ ((image.exact.sound.slabs start named.slab).state.none (normal.each start named.slab)).1
 
   pub last_of : IsLastOf t root start (holds_none (tables_of left) start)
   last_of =

@@ -6,6 +6,7 @@ pub mod Formats
 pub mod States
 pub mod MachineSteps
 pub mod CallEvents
+pub mod HeapSteps
 pub mod SmallCalls
 pub mod SlabChanges
 pub mod Plans

@@ -151,7 +151,7 @@ module _ {words : List ℕ} (image : IsExactImage words) where
   abbrev exact : IsExact (bounds_of words) (tables_of words)
   exact = image.exact
 
-  unnamed : (root : ℕ) → entry_at (tables_of words).entry root ≡ 0
+  unnamed : (root : ℕ) → entry_at (tables_of words).open_entry root ≡ 0
   unnamed root = ap (λ e. entry_at e root) image.exact.closed
 
   -- a root's word is below that of the largest arena's end

@@ -2,25 +2,22 @@
 use Rattle.std.proofs.Common.{◌≡◌, ◌≢◌, ◌⊎◌, ◌↔◌, ◌==◌, ◌&&◌, ◌||◌, nat_lt, ℕ, zero, suc, ◌+◌, ◌*◌, ◌<◌, ◌≤◌, Bool, true, false, true≢false, not, List, [], refl, sym, ap, subst, ◌∙◌, arith, inl, inr, ⊎_elim, Some, None, if◌then◌else◌}
 use Rattle.std.proofs.lemmas.Bool.{cases_eq, cases_lt, eq-eqb, ne_eqb, lt-ltb, cond-true, cond-false, or_parts, or_cases, or_from, false_from_ne_true, true_from_ne_false}
 use Rattle.std.proofs.lemmas.Nat.{le-div}
-use Rattle.pmem_lines.specs.declared.event.Event.{Event}
-use Rattle.pmem_lines.specs.Events.{CrashOnly}
-use Rattle.pmem_lines.specs.Pmem.{PmemState, words_of, Appends}
-use Rattle.pmem_lines.proofs.Images.{by_none}
-use Rattle.pmem_lines.proofs.States.{appended_none, Appends-state}
+use Rattle.pmem_lines.specs.Pmem.{PmemState, words_of}
+use Rattle.pmem_lines.proofs.Steps.{step_by, step_none}
 use Rattle.size_classes.specs.Classes.{class_size, class_capacity}
 use Rattle.size_classes.proofs.Spacing.{class_size-least, class_size-most}
+use Rattle.image_tables.specs.Forms.{normal_kind}
 use Rattle.image_tables.specs.Tables.{Tables, tables_of}
 use Rattle.extent_index.specs.FreeSet.{FreeSet, IsFree, IsHeldRow}
 use Rattle.slab_index.specs.SlabSet.{SlabSet, class_in, is_available, IsBlock, IsWhole}
-use Rattle.image_tables.proofs.Stores.{HasNoMove-closed}
 use Rattle.heap_model.specs.Machine.{Bounds, Range, slab_block, with_key}
 use Rattle.heap_model.specs.Below.{any_below}
 use Rattle.heap_check.specs.Heap.{entry_at, slabs, Holds, HoldsBit}
-use Rattle.heap_check.specs.Sound.{IsVacant, IsInSlab, IsExactBut}
-use Rattle.heap_check.specs.Slabs.{IsWithSlab}
+use Rattle.heap_check.specs.Sound.{IsVacant, IsInSlab, IsEmptySlab, IsExactBut}
+use Rattle.heap_check.specs.Slabs.{IsSlabMore, IsWithSlab}
 use Rattle.heap_check.specs.Image.{bounds_of, IsExactImage, IsExactButImage}
-use Rattle.heap_check.specs.State.{KeepsBlocks, IsEitherHeap}
-use Rattle.heap_check.proofs.Blank.{law_of_steady}
+use Rattle.heap_check.specs.State.{KeepsBlocks}
+use Rattle.arena_core.proofs.Arenas.{same_heap}
 use Rattle.heap_check.proofs.BlockWords.{block_word-header, block_word-vacant}
 use Rattle.heap_check.proofs.Claims.{plain_size, IsNamed-claim, IsClaim-word}
 use Rattle.heap_check.proofs.Geometry.{granules_at-slab, Covers-slab}
@@ -31,8 +28,8 @@ use Rattle.heap_check.proofs.Slabs.{IsSlabPlace}
 use Rattle.heap_check.proofs.SmallPlaces.{Holds-normal, Holds-claim}
 use Rattle.heap_check.proofs.Within.{IsInSlab-held}
 use Rattle.log_steps.specs.Log.{IsBookOf}
-use Rattle.slab_steps.specs.Steps.{IsOpened, IsDropped}
-use Rattle.slab_steps.proofs.Images.{keeps_blocks}
+use Rattle.extent_steps.specs.Slabs.{IsOpened, IsDropped}
+use Rattle.extent_steps.proofs.Images.{keeps_blocks}
 use Rattle.attach_steps.specs.Steps.{IsAttachable}
 use Rattle.arena_core.specs.declared.volatile.Volatile.{Volatile}
 use Rattle.arena_core.specs.Arena.{HasNormalSlabs, IsIndexOf, IsSlabsOf}
@@ -87,20 +84,20 @@ module _ (words : List ℕ) (start class : ℕ) (exact : IsExactImage words) (ro
   abbrev with_it : IsWithSlab (tables_of words) (tables_of new) start class
   with_it = opened.slab
 
-  open_place : IsSlabPlace (bounds_of words) (tables_of words) (tables_of new) start class
-  open_place = IsSlabPlace-vacant exact.exact.sound exact.exact.closed (omega (arith, (sizes_of words exact.formed).first)) class_below opened.slab row.vacant
+  open_place : IsSlabPlace (bounds_of words) (tables_of words) (tables_of new) start
+  open_place = IsSlabPlace-vacant exact.exact.sound exact.exact.closed (omega (arith, (sizes_of words exact.formed).first)) opened.slab row.vacant
 
   pub classes_opened : (s : ℕ) → slabs (tables_of new) s ≡ with_key (slabs (tables_of words)) start (Some class) s
   classes_opened s = ⊎_elim
-      (λ (same : s ≡ start). ap (slabs after) same ∙ slabs-slab open_place ∙ sym (cond-true (s == start) (Some class) (slabs t s) (eq-eqb s start same)))
+      (λ (same : s ≡ start). ap (slabs after) same ∙ slabs-slab open_place class with_it.fresh ∙ sym (cond-true (s == start) (Some class) (slabs t s) (eq-eqb s start same)))
       (λ (differ : s ≢ start). slabs-other open_place s differ ∙ sym (cond-false (s == start) (Some class) (slabs t s) (ne_eqb s start differ)))
       (cases_eq s start)
 
   pub normal_opened : HasNormalSlabs words → HasNormalSlabs new
   normal_opened normal = record {
     each = λ s slab. ⊎_elim
-        (λ (same : s ≡ start). ap after.kind same ∙ with_it.kind)
-        (λ (differ : s ≢ start). let it = with_it.others s differ in it.kind ∙ normal.each s (sym it.slab ∙ slab))
+        (λ (same : s ≡ start). ap after.kind same ∙ with_it.fresh.kind)
+        (λ (differ : s ≢ start). let it = with_it.more.others s differ in it.kind ∙ normal.each s (sym it.slab ∙ slab))
         (cases_eq s start);
   }
 
@@ -118,19 +115,19 @@ module _ (words : List ℕ) (start class : ℕ) (exact : IsExactImage words) (ro
   slabs_opened set more added was = record {
     granules = added.granules ∙ was.granules ∙ ap (λ (b : Bounds). b.granules) (sym opened.bounds);
     classes = λ s. ⊎_elim
-        (λ (same : s ≡ start). added.classes s ∙ cond-true (s == start) (Some class) (class_in set s) (eq-eqb s start same) ∙ sym (slabs-slab open_place) ∙ ap (slabs after) (sym same))
+        (λ (same : s ≡ start). added.classes s ∙ cond-true (s == start) (Some class) (class_in set s) (eq-eqb s start same) ∙ sym (slabs-slab open_place class with_it.fresh) ∙ ap (slabs after) (sym same))
         (λ (differ : s ≢ start). added.classes s ∙ cond-false (s == start) (Some class) (class_in set s) (ne_eqb s start differ) ∙ was.classes s ∙ sym (slabs-other open_place s differ))
         (cases_eq s start);
     blocks = λ s i slab below. ⊎_elim
         (λ (same : s ≡ start).
-        let among : i < class_capacity class = subst (λ c. i < class_capacity c) (ap after.class same ∙ with_it.class_is) below in
+        let among : i < class_capacity class = subst (λ c. i < class_capacity c) (ap after.class same ∙ with_it.fresh.class_is) below in
         added.blocks s i
         ∙ cond-true (s == start) (nat_lt i (class_capacity class)) (is_available set s i) (eq-eqb s start same)
         ∙ lt-ltb i (class_capacity class) among
-        ∙ ap not (sym (with_it.clear i among))
+        ∙ ap not (sym (with_it.fresh.clear i among))
         ∙ ap (λ x. not (after.bit x i)) (sym same))
         (λ (differ : s ≢ start).
-        let it = with_it.others s differ in
+        let it = with_it.more.others s differ in
         added.blocks s i
         ∙ cond-false (s == start) (nat_lt i (class_capacity class)) (is_available set s i) (ne_eqb s start differ)
         ∙ was.blocks s i (sym it.slab ∙ slab) (subst (λ c. i < class_capacity c) it.class below)
@@ -151,40 +148,47 @@ module _ (words : List ℕ) (start class : ℕ) (exact : IsExactImage words) (ro
         block_in = record {
           image = opened.image;
           rooted = subst (λ (b : Bounds). root < b.roots) (sym opened.bounds) rooted;
-          slab = with_it.slab;
-          normal = with_it.kind;
-          below = subst (λ c. 0 < class_capacity c) (sym with_it.class_is) some;
+          slab = with_it.more.slab;
+          normal = with_it.fresh.kind;
+          below = subst (λ c. 0 < class_capacity c) (sym with_it.fresh.class_is) some;
           at = omega (arith, is);
         };
-        clear = with_it.clear 0 some;
-        none = ap (λ (row : ℕ → ℕ). row root) with_it.root ∙ none;
+        clear = with_it.fresh.clear 0 some;
+        none = ap (λ (row : ℕ → ℕ). row root) with_it.more.root ∙ none;
       }
 
+-- no root has a block in a normal slab whose bits are clear
+pub clear_empty : (words : List ℕ) (start : ℕ) → IsExactButImage words start → (tables_of words).slab start ≡ true → (tables_of words).kind start ≡ normal_kind →
+    ((i : ℕ) → i < class_capacity ((tables_of words).class start) → (tables_of words).bit start i ≡ false) → IsEmptySlab (tables_of words) start
+clear_empty words start image slab kind clear =
+    let t = tables_of words in
+    let but = image.but in
+    record {
+      slab = slab;
+      none = λ root some inside.
+          let unnamed : entry_at t.open_entry root ≡ 0 = ap (λ e. entry_at e root) but.closed in
+          let range : Range = record { at = t.root root; size = plain_size t (t.root root) } in
+          let holds = Holds-claim but.sound root start range unnamed (IsClaim-word t root unnamed some) inside in
+          let bit : HoldsBit t start range = Holds-normal but.sound start range (record { slab = slab; kind = kind }) holds in
+          true≢false (sym bit.set ∙ clear bit.number bit.below);
+    }
+
 -- a slab is dropped
-module _ (words : List ℕ) (start class : ℕ) (image : IsExactButImage words start) (new : List ℕ) (dropped : IsDropped words start class new) where
+module _ (words : List ℕ) (start : ℕ) (image : IsExactButImage words start) (empty : IsEmptySlab (tables_of words) start) (new : List ℕ) (dropped : IsDropped words start new) where
   abbrev full : Tables
   full = tables_of words
 
   abbrev less : Tables
   less = tables_of new
 
-  abbrev it : IsWithSlab (tables_of new) (tables_of words) start class
+  abbrev it : IsSlabMore (tables_of new) (tables_of words) start
   it = dropped.slab
 
   abbrev but : IsExactBut (bounds_of words) (tables_of words) start
   but = image.but
 
-  -- no root has a block in the slab
-  none_in : (root : ℕ) → full.root root ≢ 0 → ¬ (IsInSlab full start (full.root root))
-  none_in root some inside =
-      let unnamed : entry_at full.entry root ≡ 0 = ap (λ e. entry_at e root) but.closed in
-      let range : Range = record { at = full.root root; size = plain_size full (full.root root) } in
-      let holds = Holds-claim but.sound root start range unnamed (IsClaim-word full root unnamed some) inside in
-      let bit : HoldsBit full start range = Holds-normal but.sound start range (record { slab = it.slab; kind = it.kind }) holds in
-      true≢false (sym bit.set ∙ it.clear bit.number (subst (λ c. bit.number < class_capacity c) it.class_is bit.below))
-
-  drop_place : IsSlabPlace (bounds_of words) (tables_of new) (tables_of words) start class
-  drop_place = IsSlabPlace-empty but.sound but.closed (omega (arith, (sizes_of words image.formed).first)) (omega (arith, it.class_is, (but.sound.slabs start it.slab).state.is_class)) it none_in
+  drop_place : IsSlabPlace (bounds_of words) (tables_of new) (tables_of words) start
+  drop_place = IsSlabPlace-empty but.sound but.closed (omega (arith, (sizes_of words image.formed).first)) it empty
 
   pub classes_dropped : (s : ℕ) → slabs (tables_of new) s ≡ with_key (slabs (tables_of words)) start None s
   classes_dropped s = ⊎_elim
@@ -236,7 +240,7 @@ exact_held words start number image slab kind below set =
     let block : Range = slab_block start (t.class start) number in
     let holds : Holds t start block = record { slab = slab; block = inl (record { number = number; below = below; read = λ other. omega (arith, kind, other); set = set; is = refl }) } in
     let owner = but.sound.claimed start block holds in
-    let unnamed : entry_at t.entry owner.0 ≡ 0 = ap (λ e. entry_at e owner.0) but.closed in
+    let unnamed : entry_at t.open_entry owner.0 ≡ 0 = ap (λ e. entry_at e owner.0) but.closed in
     let its = IsNamed-claim t owner.0 block unnamed owner.1 in
     let inside : IsInSlab t start (t.root owner.0) = subst (IsInSlab t start) (sym its.word) (IsInSlab-held but.sound start block holds) in
     record {
@@ -255,7 +259,7 @@ exact_held words start number image slab kind below set =
     }
 
 -- of a slab without index entries the bits alone say whether it holds a block
-pub holds_none-normal : (t : Tables) (start : ℕ) → t.entries start ≡ 0 → holds_none t start ≡ not (any_below (t.bit start) (class_capacity (t.class start)))
+pub holds_none-normal : (t : Tables) (start : ℕ) → t.index_count start ≡ 0 → holds_none t start ≡ not (any_below (t.bit start) (class_capacity (t.class start)))
 holds_none-normal t start none =
     let bits = any_below (t.bit start) (class_capacity (t.class start)) in
     ap (λ n. not (bits || any_below (t.live start) n)) none ∙ ap not (or_nothing bits)
@@ -266,7 +270,7 @@ holds_none-normal t start none =
 
 -- a normal slab has not taken its class
 pub is_done-normal : (t : Tables) (start : ℕ) → t.kind start ≡ 1 → is_done t start ≡ false
-is_done-normal t start normal = let other : (t.kind start == 3) ≡ false = ne_eqb (t.kind start) 3 (λ e. omega (arith, e, normal)) in ap (λ b. b && not (any_below (t.live start) (t.entries start))) other
+is_done-normal t start normal = let other : (t.kind start == 3) ≡ false = ne_eqb (t.kind start) 3 (λ e. omega (arith, e, normal)) in ap (λ b. b && not (any_below (t.live start) (t.index_count start))) other
 
 -- the blocks of a slab in the set
 
@@ -277,7 +281,7 @@ clear_of words set start was slab whole i below =
     let block : IsBlock set start i = record { class = t.class start; slab = was.classes start ∙ cond-true (t.slab start) (Some (t.class start)) None slab; below = below } in
     false_from_ne_true (t.bit start i) (λ on. true≢false (sym (whole.each i block) ∙ was.blocks start i slab below ∙ ap not on))
 
-pub none_held : (words : List ℕ) (set : SlabSet) (start : ℕ) → IsSlabsOf set words → (tables_of words).slab start ≡ true → (tables_of words).entries start ≡ 0 → IsWhole set start → holds_none (tables_of words) start ≡ true
+pub none_held : (words : List ℕ) (set : SlabSet) (start : ℕ) → IsSlabsOf set words → (tables_of words).slab start ≡ true → (tables_of words).index_count start ≡ 0 → IsWhole set start → holds_none (tables_of words) start ≡ true
 none_held words set start was slab none whole =
     let t = tables_of words in
     holds_none-normal t start none ∙ ap not (any_below-none (t.bit start) (class_capacity (t.class start)) (clear_of words set start was slab whole))
@@ -322,18 +326,12 @@ tidied_none s volatile start image ready log index normal was slab other =
     let none : holds_none t start ≡ false = holds_none-normal t start few.1 ∙ ap not some in
     let events : tidy_events words start ≡ [] = cond-false (holds_none t start) _ _ none ∙ cond-false (is_done t start) _ [] (is_done-normal t start (normal.each start slab)) in
     record {
-      appends = subst (λ (es : List Event). Appends s s es) (sym events) (Appends-state s s [] (sym (appended_none s)));
-      kept = record { ready = ready; exact = exact; log = log; index = index };
+      step = step_by [] (tidy_events words start) (sym events) (step_none ready.quiet (same_heap words words exact));
+      current = record { ready = ready; exact = exact; log = log; index = index };
       normal = normal;
       slabs = was;
       bounds = refl;
       heap = record { each = λ root. refl };
       slab = λ o. sym (ap (λ gone. slabs_but (slabs t) start gone o) none);
       keeps = record { each = λ root other range k first second word. refl };
-      crash = subst (λ (es : List Event). CrashOnly words es (IsEitherHeap words words)) (sym events) (by_none words (IsEitherHeap words words) (record {
-        steady = record { formed = exact.formed; steady = law_of_steady (bounds_of words) t exact.exact };
-        heap = inl (record { each = λ root. refl });
-        words = record { each = λ root other range k first second word. refl };
-        still = HasNoMove-closed exact.exact.closed;
-      }));
     }

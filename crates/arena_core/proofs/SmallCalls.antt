@@ -1,11 +1,8 @@
 -- A small block and its root come or go: what an arena keeps holds again.
-use Rattle.std.proofs.Common.{refl, ◌≡◌, ◌≢◌, ◌⊎◌, ◌↔◌, ◌==◌, ◌&&◌, ℕ, ◌<◌, Bool, not, List, ◌++◌, sym, ap, subst, ◌∙◌, arith, inl, inr, ⊎_elim, Some, None, if◌then◌else◌}
+use Rattle.std.proofs.Common.{◌≡◌, ◌≢◌, ◌⊎◌, ◌↔◌, ◌==◌, ◌&&◌, ℕ, ◌<◌, Bool, not, List, sym, ap, subst, ◌∙◌, arith, inl, inr, ⊎_elim, None, if◌then◌else◌}
 use Rattle.std.proofs.lemmas.Bool.{cases_eq, eq-eqb, ne_eqb, cond-true, cond-false, and_from, and_left, and_right}
 use Rattle.std.proofs.lemmas.List.Elements.{All-weaker}
 use Rattle.pmem_lines.specs.Words.{word_at}
-use Rattle.pmem_lines.specs.declared.event.Event.{Event}
-use Rattle.pmem_lines.specs.Events.{reading, IsQuiet, CrashOnly}
-use Rattle.pmem_lines.proofs.Images.{then as crash_append, weaker}
 use Rattle.pool_layout.specs.Places.{fields_word, directory_word, entry_word}
 use Rattle.pool_layout.specs.Header.{version_in}
 use Rattle.size_classes.specs.Classes.{class_capacity}
@@ -22,10 +19,10 @@ use Rattle.book_log.proofs.Books.{Reads-same}
 use Rattle.extent_index.specs.FreeSet.{FreeSet, IsFree}
 use Rattle.slab_index.specs.SlabSet.{SlabSet, class_in, is_available}
 use Rattle.heap_model.specs.Machine.{Bounds, slab_block}
-use Rattle.heap_check.specs.Heap.{heap, slabs}
+use Rattle.heap_check.specs.Heap.{slabs}
 use Rattle.heap_check.specs.Sound.{IsVacant}
 use Rattle.heap_check.specs.Image.{bounds_of, IsExactImage}
-use Rattle.heap_check.specs.State.{HaveSameHeap, KeepsBlocks, IsEitherHeap}
+use Rattle.heap_check.specs.State.{KeepsBlocks}
 use Rattle.heap_check.proofs.BlockWords.{block_word-heap, block_word-header}
 use Rattle.heap_check.proofs.Loose.{IsExactBut-exact}
 use Rattle.heap_check.proofs.Sizes.{sizes_of}
@@ -151,55 +148,3 @@ named_in words root block class exact normal named = record {
   below = subst (λ c. block.number < class_capacity c) (sym named.class_is) named.below;
   at = named.at ∙ ap (λ c. (slab_block block.start c block.number).at) (sym named.class_is);
 }
-
--- two steps, of which one leaves the heap
-module _ (old mid new : List ℕ) (which : HaveSameHeap old mid ⊎ HaveSameHeap mid new) where
-  -- a block from before that an image of the second step has keeps its words
-  keeps_then : (image : List ℕ) → HaveSameHeap mid image ⊎ HaveSameHeap new image → KeepsBlocks old mid → KeepsBlocks mid image → KeepsBlocks old image
-  keeps_then image left first second = record {
-    each = λ root other range k was is word. ⊎_elim
-        (λ (same : HaveSameHeap old mid).
-        let there = same.each root ∙ was in
-        second.each root other range k there is word ∙ first.each root root range k was there word)
-        (λ (same : HaveSameHeap mid new).
-        let there : heap (tables_of mid) other ≡ Some range = ⊎_elim
-        (λ (here : HaveSameHeap mid image). sym (here.each other) ∙ is)
-        (λ (after : HaveSameHeap new image). sym (same.each other) ∙ sym (after.each other) ∙ is)
-        left in
-        second.each other other range k there is word ∙ first.each root other range k was there word)
-        which;
-  }
-
-  -- so it does at the end
-  pub keeps_both : KeepsBlocks old mid → KeepsBlocks mid new → KeepsBlocks old new
-  keeps_both first second = keeps_then new (inr (record { each = λ root. refl })) first second
-
-  -- the heap from between is the one from before or from after
-  ends : (image : List ℕ) → HaveSameHeap mid image → HaveSameHeap old image ⊎ HaveSameHeap new image
-  ends image there = ⊎_elim
-      (λ (same : HaveSameHeap old mid). inl (record { each = λ root. there.each root ∙ same.each root }))
-      (λ (same : HaveSameHeap mid new). inr (record { each = λ root. there.each root ∙ sym (same.each root) }))
-      which
-
-  either_first : (image : List ℕ) → IsEitherHeap old mid image → IsEitherHeap old new image
-  either_first image left = record {
-    steady = left.steady;
-    heap = ⊎_elim (λ (before : HaveSameHeap old image). inl before) (λ (there : HaveSameHeap mid image). ends image there) left.heap;
-    words = left.words;
-    still = left.still;
-  }
-
-  either_second : KeepsBlocks old mid → (image : List ℕ) → IsEitherHeap mid new image → IsEitherHeap old new image
-  either_second keeps image left = record {
-    steady = left.steady;
-    heap = ⊎_elim (λ (there : HaveSameHeap mid image). ends image there) (λ (after : HaveSameHeap new image). inr after) left.heap;
-    words = keeps_then image left.heap keeps left.words;
-    still = left.still;
-  }
-
-  pub crash_then : (e f : List Event) → IsQuiet e → mid ≡ reading old e → KeepsBlocks old mid → CrashOnly old e (IsEitherHeap old mid) → CrashOnly mid f (IsEitherHeap mid new) → CrashOnly old (e ++ f) (IsEitherHeap old new)
-  crash_then e f quiet is keeps first second =
-      let P : List ℕ → Type 0 = IsEitherHeap old new in
-      crash_append old e f P quiet
-      (weaker old e (IsEitherHeap old mid) P either_first first)
-      (subst (λ (ws : List ℕ). CrashOnly ws f P) is (weaker mid f (IsEitherHeap mid new) P (either_second keeps) second))

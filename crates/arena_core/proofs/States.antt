@@ -88,7 +88,7 @@ module _ {words : List ℕ} (image : IsExactImage words) {m : Machine} (state : 
   sound : IsSound b t
   sound = image.exact.sound
 
-  unnamed : (root : ℕ) → entry_at t.entry root ≡ 0
+  unnamed : (root : ℕ) → entry_at t.open_entry root ≡ 0
   unnamed root = ap (λ e. entry_at e root) image.exact.closed
 
   first : 0 < b.first

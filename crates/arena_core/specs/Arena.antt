@@ -37,7 +37,7 @@ pub record IsSlabsOf (set : SlabSet) (words : List ℕ) : Type 0 where
 
 -- what an arena keeps, whatever slabs there are: its memory is ready and its image exact, and log and index are those of
 -- the image
-pub record IsKept (device : PmemState) (volatile : Volatile) : Type 0 where
+pub record IsCurrent (device : PmemState) (volatile : Volatile) : Type 0 where
   pub ready : IsReady device
   pub exact : IsExactImage (words_of device)
   pub log : IsBookOf volatile.log (words_of device)
@@ -45,7 +45,7 @@ pub record IsKept (device : PmemState) (volatile : Volatile) : Type 0 where
 
 -- what an arena keeps: what stands beside its words is what they say
 pub record IsArena (device : PmemState) (volatile : Volatile) : Type 0 where
-  pub kept : IsKept device volatile
+  pub current : IsCurrent device volatile
   pub normal : HasNormalSlabs (words_of device)
   pub slabs : IsSlabsOf volatile.slabs (words_of device)
   pub few : volatile.line < 8

@@ -1,8 +1,8 @@
 -- What a call has done once it is carried out.
 use Rattle.std.specs.Prelude.{◌≡◌, ℕ, List, Option}
 use Rattle.pmem_lines.specs.declared.event.Event.{Event}
-use Rattle.pmem_lines.specs.Events.{CrashOnly}
-use Rattle.pmem_lines.specs.Pmem.{PmemState, words_of, Appends}
+use Rattle.pmem_lines.specs.Pmem.{PmemState, words_of}
+use Rattle.pmem_lines.specs.Steps.{IsQuietStep}
 use Rattle.image_tables.specs.Tables.{tables_of}
 use Rattle.heap_model.specs.declared.call.Call.{Call}
 use Rattle.heap_model.specs.declared.call.Reply.{Reply}
@@ -11,37 +11,34 @@ use Rattle.heap_check.specs.Heap as Heap
 use Rattle.heap_check.specs.Image.{bounds_of}
 use Rattle.heap_check.specs.State.{HaveSameHeap, KeepsBlocks, IsEitherHeap}
 use Rattle.arena_core.specs.declared.volatile.Volatile.{Volatile}
-use Rattle.arena_core.specs.Arena.{HasNormalSlabs, IsSlabsOf, IsKept, IsArena}
+use Rattle.arena_core.specs.Arena.{HasNormalSlabs, IsSlabsOf, IsCurrent, IsArena}
 use Rattle.arena_core.specs.Call.{IsStepOfAny}
 use Rattle.arena_core.specs.Effect.{slabs_but, GivesRoot}
 use Rattle.arena_core.specs.Events.{holds_none, tidy_events, call_events, line_after}
 
 -- a root was given a block, or lost its own: the events, what is kept, and what a crash leaves
 pub record IsDone (old new : PmemState) (left : Volatile) (root : ℕ) (block : Option Range) (slab : ℕ → Option ℕ) (events : List Event) : Type 0 where
-  pub appends : Appends old new events
-  pub kept : IsKept new left
+  pub step : IsQuietStep old new events (IsEitherHeap (words_of old) (words_of new))
+  pub current : IsCurrent new left
   pub normal : HasNormalSlabs (words_of new)
   pub slabs : IsSlabsOf left.slabs (words_of new)
   pub gives : GivesRoot (words_of old) root block slab (words_of new)
-  pub crash : CrashOnly (words_of old) events (IsEitherHeap (words_of old) (words_of new))
 
 -- a slab was dropped, where it held no block: the image is exact
 pub record IsTidied (old new : PmemState) (left : Volatile) (start : ℕ) : Type 0 where
-  pub appends : Appends old new (tidy_events (words_of old) start)
-  pub kept : IsKept new left
+  pub step : IsQuietStep old new (tidy_events (words_of old) start) (IsEitherHeap (words_of old) (words_of new))
+  pub current : IsCurrent new left
   pub normal : HasNormalSlabs (words_of new)
   pub slabs : IsSlabsOf left.slabs (words_of new)
   pub bounds : bounds_of (words_of new) ≡ bounds_of (words_of old)
   pub heap : HaveSameHeap (words_of old) (words_of new)
   pub slab : (other : ℕ) → Heap.slabs (tables_of (words_of new)) other ≡ slabs_but (Heap.slabs (tables_of (words_of old))) start (holds_none (tables_of (words_of old)) start) other
   pub keeps : KeepsBlocks (words_of old) (words_of new)
-  pub crash : CrashOnly (words_of old) (tidy_events (words_of old) start) (IsEitherHeap (words_of old) (words_of new))
 
 -- a call was answered
 pub record IsCalled (old new : PmemState) (was left : Volatile) (call : Call) (reply : Reply) : Type 0 where
-  pub appends : Appends old new (call_events (words_of old) was.line call reply)
+  pub carried : IsQuietStep old new (call_events (words_of old) was.line call reply) (IsEitherHeap (words_of old) (words_of new))
   pub arena : IsArena new left
   pub line_is : left.line ≡ line_after was.line reply
   pub step : IsStepOfAny (words_of old) (words_of new) call reply
   pub keeps : KeepsBlocks (words_of old) (words_of new)
-  pub crash : CrashOnly (words_of old) (call_events (words_of old) was.line call reply) (IsEitherHeap (words_of old) (words_of new))

@@ -4,7 +4,6 @@ use Rattle.pmem_lines.specs.Words.{put_word}
 use Rattle.pmem_lines.specs.declared.event.Event.{Event}
 use Rattle.pmem_lines.specs.declared.event.Event.TheVariants.{Store, Flush, Fence}
 use Rattle.pmem_lines.specs.Events.{reading}
-use Rattle.durable_steps.specs.Steps.{word_events}
 use Rattle.durable_steps.specs.Rows.{row_events}
 use Rattle.pool_layout.specs.declared.header.PoolHeader.{PoolHeader}
 use Rattle.pool_layout.specs.Places.{text_word, fields_word, directory_word, root_word}
@@ -15,9 +14,9 @@ use Rattle.image_tables.specs.Tables.{Tables, tables_of}
 use Rattle.slab_header.specs.Morph.{morph_events, finish_old_events}
 use Rattle.book_log.specs.declared.entry.LogEntry.TheVariants.{Large, Tomb}
 use Rattle.log_steps.specs.Events.{first_zero, log_events}
-use Rattle.slab_steps.specs.Steps.{open_events, drop_events}
+use Rattle.extent_steps.specs.Slabs.{open_events, drop_events}
 use Rattle.attach_steps.specs.declared.block.SmallBlock.{SmallBlock}
-use Rattle.attach_steps.specs.Steps.{attach_events, detach_events, detach_old_events, move_events}
+use Rattle.attach_steps.specs.Steps.{root_events, attach_events, detach_events, detach_old_events, move_events}
 use Rattle.heap_model.specs.Below.{any_below}
 use Rattle.heap_check.specs.Heap.{slab_of, is_old}
 use Rattle.heap_model.specs.Machine.{slab_block}
@@ -25,10 +24,6 @@ use Rattle.heap_model.specs.declared.call.Call.{Call}
 use Rattle.heap_model.specs.declared.call.Call.TheVariants as calls
 use Rattle.heap_model.specs.declared.call.Reply.{Reply}
 use Rattle.heap_model.specs.declared.call.Reply.TheVariants as replies
-
--- a root's word is stored and made durable
-abbrev pub root_events : ℕ → ℕ → List Event
-root_events root at = word_events (8 * root_word root) at
 
 -- A large block is given to a root: its extent goes into the log, and then the root gets its address.
 abbrev pub place_events : List ℕ → ℕ → ℕ → ℕ → List Event
@@ -83,11 +78,11 @@ small_events words line root at size =
 
 -- the slab at a start holds no block, of its class or old
 abbrev pub holds_none : Tables → ℕ → Bool
-holds_none t start = not (any_below (t.bit start) (class_capacity (t.class start)) || any_below (t.live start) (t.entries start))
+holds_none t start = not (any_below (t.bit start) (class_capacity (t.class start)) || any_below (t.live start) (t.index_count start))
 
 -- it took its class, and no old block lives in it
 abbrev pub is_done : Tables → ℕ → Bool
-is_done t start = (t.kind start == morphed_kind) && not (any_below (t.live start) (t.entries start))
+is_done t start = (t.kind start == morphed_kind) && not (any_below (t.live start) (t.index_count start))
 
 -- behind a block that went, a slab that holds none is dropped, and one whose last old block it was is normal again
 abbrev pub tidy_events : List ℕ → ℕ → List Event
@@ -101,7 +96,7 @@ unsmall_events words line root block = detach_events words line root block ++ ti
 
 -- the place of the live old block at an address in its slab's index table
 abbrev pub old_place : Tables → ℕ → ℕ → ℕ
-old_place t start at = first_zero (λ place. if t.live start place && ((slab_block start (t.old start) (t.number start place)).at == at) then 0 else 1) (t.entries start)
+old_place t start at = first_zero (λ place. if t.live start place && ((slab_block start (t.old start) (t.number start place)).at == at) then 0 else 1) (t.index_count start)
 
 -- an old block goes from a root
 abbrev pub unold_events : List ℕ → ℕ → ℕ → ℕ → ℕ → List Event

@@ -1,7 +1,8 @@
 // What a call does, once it has begun: it changes the words and what stands beside them together.
 ghost use Rattle.std.specs.Prelude.{◌≡◌, ◌<◌, ◌≤◌, ◌*◌, ℕ, true, [], Some, None, Ok, length};
-ghost use Rattle.pmem_lines.specs.Events.{reading, IsQuiet, CrashOnly};
-ghost use Rattle.pmem_lines.specs.Pmem.{words_of, Appends};
+ghost use Rattle.pmem_lines.specs.Events.{reading, IsQuiet};
+ghost use Rattle.pmem_lines.specs.Steps.{IsQuietStep};
+ghost use Rattle.pmem_lines.specs.Pmem.{words_of};
 ghost use Rattle.image_tables.specs.Tables.{tables_of};
 ghost use Rattle.heap_model.specs.declared.call.Call.TheVariants as calls;
 ghost use Rattle.heap_model.specs.declared.call.Reply.TheVariants as replies;
@@ -10,10 +11,10 @@ ghost use Rattle.heap_check.specs.Heap.{slabs as classes_of};
 ghost use Rattle.heap_check.specs.Image.{bounds_of, IsExactButImage};
 ghost use Rattle.heap_check.specs.State.{IsEitherHeap};
 ghost use Rattle.log_steps.specs.Log.{IsBookOf};
-ghost use Rattle.slab_steps.specs.Steps.{open_events, IsOpened};
+ghost use Rattle.extent_steps.specs.Slabs.{open_events, IsOpened};
 ghost use Rattle.attach_steps.specs.Steps.{attach_events, detach_events, IsAttachable, IsDetachable, IsAttached, IsDetached};
 ghost use Rattle.arena_core.specs.Answer.{malloc_reply, free_reply};
-ghost use Rattle.arena_core.specs.Arena.{HasNormalSlabs, IsIndexOf, IsSlabsOf, IsKept, IsArena};
+ghost use Rattle.arena_core.specs.Arena.{HasNormalSlabs, IsIndexOf, IsSlabsOf, IsCurrent, IsArena};
 ghost use Rattle.arena_core.specs.Call.{IsReady};
 ghost use Rattle.arena_core.specs.Carried.{IsDone, IsTidied, IsCalled};
 ghost use Rattle.arena_core.specs.Effect.{GivesRoot, KeepsSlabs, IsLastOf, slabs_but};
@@ -23,13 +24,12 @@ ghost use Rattle.arena_core.specs.Plan.{IsAskedOf, IsVacantRow, IsGivable, IsTak
 use crate::plan::{Held, Place, freed_of, placed_at};
 use crate::volatile::Volatile;
 use crate::{FreeRefusal, Freed, MallocRefusal, Placed};
-use attach_steps::{SmallBlock, attach, detach};
+use attach_steps::{SmallBlock, attach, detach, put_root};
 use book_log::LogEntry;
-use durable_steps::write_word;
+use extent_steps::{drop_extent, drop_slab, open_slab};
 use log_steps::log_entry;
 use pmem_lines::Pmem;
 use pool_layout::{SLAB_GRANULES, blocks_at, granule_at, root_at};
-use slab_steps::{drop_slab, open_slab};
 
 impl Volatile {
     /// Does what the plan of a malloc says, and answers the call.
@@ -115,7 +115,7 @@ impl Volatile {
         ensures line { self.new.line ≡ self.old.line }
     {
         log_entry(&mut self.log, device, LogEntry::Large { start, granules });
-        write_word(device, root_at(root), u64::from(granule_at(start)));
+        put_root(device, root, granule_at(start));
         self.free.take(start, granules);
     }
 
@@ -127,8 +127,8 @@ impl Volatile {
         ensures done { IsDone (P.state device.old) (P.state device.new) self.new root None (classes_of (tables_of (words_of (P.state device.old)))) (take_events (words_of (P.state device.old)) root start) }
         ensures line { self.new.line ≡ self.old.line }
     {
-        write_word(device, root_at(root), 0);
-        log_entry(&mut self.log, device, LogEntry::Tomb { start });
+        put_root(device, root, 0);
+        drop_extent(device, &mut self.log, start);
         self.free.give(start, granules);
     }
 
@@ -140,12 +140,10 @@ impl Volatile {
         requires attachable { IsAttachable (words_of (P.state device.old)) root block }
         requires normal { HasNormalSlabs (words_of (P.state device.old)) }
         requires slabs { IsSlabsOf self.old.slabs (words_of (P.state device.old)) }
-        ensures appends { Appends (P.state device.old) (P.state device.new) (attach_events (words_of (P.state device.old)) self.old.line root block) }
-        ensures quiet { IsQuiet (P.state device.new).events }
+        ensures step { IsQuietStep (P.state device.old) (P.state device.new) (attach_events (words_of (P.state device.old)) self.old.line root block) (IsEitherHeap (words_of (P.state device.old)) (words_of (P.state device.new))) }
         ensures attached { IsAttached (words_of (P.state device.old)) self.old.line root block (words_of (P.state device.new)) }
         ensures normal { HasNormalSlabs (words_of (P.state device.new)) }
         ensures slabs { IsSlabsOf self.new.slabs (words_of (P.state device.new)) }
-        ensures crash { CrashOnly (words_of (P.state device.old)) (attach_events (words_of (P.state device.old)) self.old.line root block) (IsEitherHeap (words_of (P.state device.old)) (words_of (P.state device.new))) }
         ensures rest { self.new ≡ record self.old { slabs = self.new.slabs } }
     {
         attach(device, self.line, root, block);
@@ -154,21 +152,19 @@ impl Volatile {
 
     // Opens a slab on vacant granules.
     fn add_slab<P: Pmem>(&mut self, device: &mut P, start: u32, class: u8)
-        requires kept { IsKept (P.state device.old) self.old }
+        requires current { IsCurrent (P.state device.old) self.old }
         requires fresh { (P.state device.old).events ≡ [] }
         requires row { IsVacantRow (bounds_of (words_of (P.state device.old))) (tables_of (words_of (P.state device.old))) start 4 }
         requires class { class < 36 }
         requires normal { HasNormalSlabs (words_of (P.state device.old)) }
         requires slabs { IsSlabsOf self.old.slabs (words_of (P.state device.old)) }
-        ensures appends { Appends (P.state device.old) (P.state device.new) (open_events (words_of (P.state device.old)) start class) }
-        ensures quiet { IsQuiet (P.state device.new).events }
+        ensures step { IsQuietStep (P.state device.old) (P.state device.new) (open_events (words_of (P.state device.old)) start class) (IsEitherHeap (words_of (P.state device.old)) (words_of (P.state device.new))) }
         ensures few { length (P.state device.new).events ≤ 757 }
         ensures opened { IsOpened (words_of (P.state device.old)) start class (words_of (P.state device.new)) }
         ensures book { IsBookOf self.new.log (words_of (P.state device.new)) }
         ensures index { IsIndexOf self.new.free (words_of (P.state device.new)) }
         ensures normal { HasNormalSlabs (words_of (P.state device.new)) }
         ensures slabs { IsSlabsOf self.new.slabs (words_of (P.state device.new)) }
-        ensures crash { CrashOnly (words_of (P.state device.old)) (open_events (words_of (P.state device.old)) start class) (IsEitherHeap (words_of (P.state device.old)) (words_of (P.state device.new))) }
         ensures line { self.new.line ≡ self.old.line }
     {
         open_slab(device, &mut self.log, start, class);
@@ -205,7 +201,7 @@ impl Volatile {
         ensures line { self.new.line ≡ self.old.line }
     {
         self.take_block(device, root, block);
-        self.drop_if_empty(device, block.start, class);
+        self.drop_if_empty(device, block.start);
     }
 
     // Takes a block of a slab from a root.
@@ -216,12 +212,10 @@ impl Volatile {
         requires detachable { IsDetachable (words_of (P.state device.old)) root block }
         requires normal { HasNormalSlabs (words_of (P.state device.old)) }
         requires slabs { IsSlabsOf self.old.slabs (words_of (P.state device.old)) }
-        ensures appends { Appends (P.state device.old) (P.state device.new) (detach_events (words_of (P.state device.old)) self.old.line root block) }
-        ensures quiet { IsQuiet (P.state device.new).events }
+        ensures step { IsQuietStep (P.state device.old) (P.state device.new) (detach_events (words_of (P.state device.old)) self.old.line root block) (IsEitherHeap (words_of (P.state device.old)) (words_of (P.state device.new))) }
         ensures detached { IsDetached (words_of (P.state device.old)) self.old.line root block (words_of (P.state device.new)) }
         ensures normal { HasNormalSlabs (words_of (P.state device.new)) }
         ensures slabs { IsSlabsOf self.new.slabs (words_of (P.state device.new)) }
-        ensures crash { CrashOnly (words_of (P.state device.old)) (detach_events (words_of (P.state device.old)) self.old.line root block) (IsEitherHeap (words_of (P.state device.old)) (words_of (P.state device.new))) }
         ensures rest { self.new ≡ record self.old { slabs = self.new.slabs } }
     {
         detach(device, self.line, root, block);
@@ -229,7 +223,7 @@ impl Volatile {
     }
 
     // Drops a slab that holds no block.
-    fn drop_if_empty<P: Pmem>(&mut self, device: &mut P, start: u32, class: u8)
+    fn drop_if_empty<P: Pmem>(&mut self, device: &mut P, start: u32)
         requires image { IsExactButImage (words_of (P.state device.old)) start }
         requires quiet { IsQuiet (P.state device.old).events }
         requires few { length (P.state device.old).events ≤ 11 }
@@ -239,12 +233,11 @@ impl Volatile {
         requires normal { HasNormalSlabs (words_of (P.state device.old)) }
         requires slabs { IsSlabsOf self.old.slabs (words_of (P.state device.old)) }
         requires slab { (tables_of (words_of (P.state device.old))).slab start ≡ true }
-        requires class { (tables_of (words_of (P.state device.old))).class start ≡ class }
         ensures tidied { IsTidied (P.state device.old) (P.state device.new) self.new start }
         ensures line { self.new.line ≡ self.old.line }
     {
         if self.slabs.is_whole(start) {
-            drop_slab(device, &mut self.log, start, class);
+            drop_slab(device, &mut self.log, start);
             self.free.give(start, SLAB_GRANULES);
             self.slabs.remove(start);
         }

@@ -1,3 +1,5 @@
 pub mod Stages
 pub mod Crashes
-pub mod Whole
+pub mod Pairs
+pub mod ClassBlocks
+pub mod OldBlocks

@@ -12,7 +12,7 @@ use Rattle.image_tables.specs.Tables.{entry_of_word, entry_among, root_in, wal_l
 use Rattle.image_tables.proofs.Places.{log_word-low}
 use Rattle.image_tables.proofs.Extents.{extent_at-elsewhere}
 use Rattle.image_tables.proofs.Stores.{IsOffLog-wal, tables_but, wal_word-low, log_word-high, state_word-high, bitmap_word-high, index_word-high, bit_at-same, slab_bit-same}
-use Rattle.image_tables.specs.Updates.{with_entry}
+use Rattle.image_tables.specs.Updates.{with_open_entry}
 use Rattle.attach_wal.specs.Wal.{HasNoOther}
 
 -- the entry of a word, if it is not 0
@@ -42,7 +42,7 @@ entry_among-one row (suc n) line below closed = ⊎_elim
 
 -- a store to a write-ahead word changes the open entry, and nothing else
 pub tables_put_wal : (words : List ℕ) (line value : ℕ) → line < wal_lines → wal_word line < length words → AreSlabsInHeap words → HasNoOther words line →
-    tables_of (put_word words (wal_word line) value) ≡ with_entry (tables_of words) (entry_or_none value)
+    tables_of (put_word words (wal_word line) value) ≡ with_open_entry (tables_of words) (entry_or_none value)
 unfolding tables_of
 tables_put_wal words line value below inside slabs alone =
     let at = wal_word line in

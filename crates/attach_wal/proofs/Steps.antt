@@ -8,7 +8,7 @@ use Rattle.image_tables.proofs.Stores.{closed_words}
 use Rattle.pmem_lines.specs.Events.{reading}
 use Rattle.durable_steps.specs.Steps.{word_events, IsOldOrNewWord}
 use Rattle.image_tables.specs.declared.entry.WalEntry.{WalEntry}
-use Rattle.image_tables.specs.Updates.{with_entry}
+use Rattle.image_tables.specs.Updates.{with_open_entry}
 use Rattle.attach_wal.specs.Entry.{entry_word, FitsWord}
 use Rattle.attach_wal.specs.Wal.{HasNoOther, Opens, Closes, OpensOrNot, ClosesOrNot}
 use Rattle.attach_wal.proofs.Words.{entry_word-some, entry_of_word-back}
@@ -21,7 +21,7 @@ Opens-put words line entry below inside says = record {
   tables = λ slabs closed.
       let alone : HasNoOther words line = record { closed = λ other less apart. closed_words words closed other less } in
       tables_put_wal words line (entry_word entry) below inside slabs alone
-      ∙ ap (with_entry (tables_of words))
+      ∙ ap (with_open_entry (tables_of words))
       (cond-false (eqb (entry_word entry) 0) None (Some (entry_of_word (entry_word entry))) (ne_eqb (entry_word entry) 0 (entry_word-some entry)) ∙ ap Some says);
 }
 

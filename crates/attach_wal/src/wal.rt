@@ -1,7 +1,8 @@
 // Opening an entry, and closing it.
 ghost use Rattle.std.specs.Prelude.{◌<◌, ◌*◌, length};
-ghost use Rattle.pmem_lines.specs.Pmem.{words_of, HasRoom, Appends};
-ghost use Rattle.pmem_lines.specs.Events.{IsQuiet, CrashOnly};
+ghost use Rattle.pmem_lines.specs.Pmem.{words_of, HasRoom};
+ghost use Rattle.pmem_lines.specs.Events.{IsQuiet};
+ghost use Rattle.pmem_lines.specs.Steps.{IsQuietStep};
 ghost use Rattle.durable_steps.specs.Steps.{word_events};
 ghost use Rattle.pool_layout.specs.Places.{wal_word};
 ghost use Rattle.attach_wal.specs.Entry.{entry_word, FitsWord};
@@ -21,10 +22,8 @@ pub fn write_entry<P: Pmem>(device: &mut P, line: u32, entry: WalEntry)
     requires inside { wal_word line < length (words_of (P.state device.old)) }
     requires quiet { IsQuiet (P.state device.old).events }
     requires room { HasRoom (P.state device.old) 3 }
-    ensures appends { Appends (P.state device.old) (P.state device.new) (word_events (8 * wal_word line) (entry_word entry)) }
-    ensures quiet { IsQuiet (P.state device.new).events }
+    ensures step { IsQuietStep (P.state device.old) (P.state device.new) (word_events (8 * wal_word line) (entry_word entry)) (OpensOrNot (words_of (P.state device.old)) line entry) }
     ensures opens { Opens (words_of (P.state device.old)) line entry (words_of (P.state device.new)) }
-    ensures crash { CrashOnly (words_of (P.state device.old)) (word_events (8 * wal_word line) (entry_word entry)) (OpensOrNot (words_of (P.state device.old)) line entry) }
 {
     write_word(device, wal_at(line), entry_word(entry));
 }
@@ -36,10 +35,8 @@ pub fn close_entry<P: Pmem>(device: &mut P, line: u32)
     requires inside { wal_word line < length (words_of (P.state device.old)) }
     requires quiet { IsQuiet (P.state device.old).events }
     requires room { HasRoom (P.state device.old) 3 }
-    ensures appends { Appends (P.state device.old) (P.state device.new) (word_events (8 * wal_word line) 0) }
-    ensures quiet { IsQuiet (P.state device.new).events }
+    ensures step { IsQuietStep (P.state device.old) (P.state device.new) (word_events (8 * wal_word line) 0) (ClosesOrNot (words_of (P.state device.old)) line) }
     ensures closes { Closes (words_of (P.state device.old)) line (words_of (P.state device.new)) }
-    ensures crash { CrashOnly (words_of (P.state device.old)) (word_events (8 * wal_word line) 0) (ClosesOrNot (words_of (P.state device.old)) line) }
 {
     write_word(device, wal_at(line), 0);
 }

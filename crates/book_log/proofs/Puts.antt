@@ -3,10 +3,8 @@ use Rattle.std.proofs.Common.{◌≡◌, ◌≢◌, ◌<◌, ◌≤◌, ◌+◌,
 use Rattle.std.proofs.lemmas.Bool.{cases_eq}
 use Rattle.std.proofs.lemmas.List.{take_more, take_all}
 use Rattle.pmem_lines.specs.Words.{word_at, put_word}
-use Rattle.pmem_lines.specs.Events.{CrashOnly}
-use Rattle.pmem_lines.proofs.Images.{weaker}
 use Rattle.pmem_lines.proofs.Words.{word_at-put_same, word_at-put_other, length-put_word}
-use Rattle.durable_steps.specs.Steps.{word_events, IsOldOrNewWord}
+use Rattle.durable_steps.specs.Steps.{IsOldOrNewWord}
 use Rattle.pool_layout.specs.Layout.{layout_of}
 use Rattle.pool_layout.specs.Places.{fields_word, directory_word, entry_word}
 use Rattle.pool_layout.specs.Header.{version_field, version_in}
@@ -76,49 +74,49 @@ place_in_log {granules} {words} {place} {entry} can =
     }
 
 -- the words with the entry at its place
-abbrev pub put_at : List ℕ → EntryPlace → LogEntry → List ℕ
-put_at words place entry = put_word words (entry_word (version_in words) place.chunk place.entry) (log_word entry)
+abbrev pub put_entry_word : List ℕ → EntryPlace → LogEntry → List ℕ
+put_entry_word words place entry = put_word words (entry_word (version_in words) place.chunk place.entry) (log_word entry)
 
 -- header line
-other_word : (words : List ℕ) (place : EntryPlace) (entry : LogEntry) (i : ℕ) → i ≤ 2048 → word_at (put_at words place entry) i ≡ word_at words i
+other_word : (words : List ℕ) (place : EntryPlace) (entry : LogEntry) (i : ℕ) → i ≤ 2048 → word_at (put_entry_word words place entry) i ≡ word_at words i
 other_word words place entry i low =
     let version = version_in words in
     let k = entry_word version place.chunk place.entry in
     let apart : i ≢ k = λ e. omega (arith, e, entry_word-low version place.chunk place.entry, log_word-low version) in
     word_at-put_other words k i (log_word entry) apart
 
-pub version_put : (words : List ℕ) (place : EntryPlace) (entry : LogEntry) → version_in (put_at words place entry) ≡ version_in words
+pub version_put : (words : List ℕ) (place : EntryPlace) (entry : LogEntry) → version_in (put_entry_word words place entry) ≡ version_in words
 version_put words place entry = ap version_field (other_word words place entry fields_word (omega arith))
 
-pub chunks_put : (words : List ℕ) (place : EntryPlace) (entry : LogEntry) → chunks_of (put_at words place entry) ≡ chunks_of words
+pub chunks_put : (words : List ℕ) (place : EntryPlace) (entry : LogEntry) → chunks_of (put_entry_word words place entry) ≡ chunks_of words
 chunks_put words place entry = ap active_chunks (other_word words place entry directory_word (omega arith))
 
-pub log_put : {granules : ℕ} {words : List ℕ} {place : EntryPlace} {entry : LogEntry} → CanTake granules words place entry → HasLog granules (put_at words place entry)
+pub log_put : {granules : ℕ} {words : List ℕ} {place : EntryPlace} {entry : LogEntry} → CanTake granules words place entry → HasLog granules (put_entry_word words place entry)
 log_put {granules} {words} {place} {entry} can =
     let all = front_and_last words place.chunk can.log.directory.some can.next.0 in
-    subst (IsLog granules (put_at words place entry)) (sym (chunks_put words place entry ∙ all))
+    subst (IsLog granules (put_entry_word words place entry)) (sym (chunks_put words place entry ∙ all))
     (log_appended granules words (front_chunks words) place.chunk place.entry (log_word entry) entry (append_of can) (valid_of can))
 
-pub within_put : {granules : ℕ} {words : List ℕ} {place : EntryPlace} {entry : LogEntry} → CanTake granules words place entry → AreWithin (put_at words place entry)
+pub within_put : {granules : ℕ} {words : List ℕ} {place : EntryPlace} {entry : LogEntry} → CanTake granules words place entry → AreWithin (put_entry_word words place entry)
 within_put {granules} {words} {place} {entry} can =
-    within_same words (put_at words place entry) (version_put words place entry) (chunks_put words place entry)
+    within_same words (put_entry_word words place entry) (version_put words place entry) (chunks_put words place entry)
     (length-put_word words (entry_word (version_in words) place.chunk place.entry) (log_word entry)) can.inside
 
 pub extents_put : {granules : ℕ} {words : List ℕ} {place : EntryPlace} {entry : LogEntry} → CanTake granules words place entry → SaysOf (log_word entry) entry →
-    (start : ℕ) → extent_at (put_at words place entry) start ≡ with_entry (extent_at words) entry start
+    (start : ℕ) → extent_at (put_entry_word words place entry) start ≡ with_entry (extent_at words) entry start
 extents_put {granules} {words} {place} {entry} can says start =
     extent_at-entry words (front_chunks words) place.chunk place.entry (log_word entry) entry start (front_of (append_of can)) (log_word-some entry) says
 
 -- the entries of the chunk
 put_here : {granules : ℕ} {words : List ℕ} {place : EntryPlace} {entry : LogEntry} → CanTake granules words place entry →
-    logged (version_in words) (put_at words place entry) place.chunk place.entry ≡ log_word entry
+    logged (version_in words) (put_entry_word words place entry) place.chunk place.entry ≡ log_word entry
 put_here {granules} {words} {place} {entry} can =
     let k = entry_word (version_in words) place.chunk place.entry in
     word_at-put_same words k k (log_word entry) refl (append_of can).inside
 
 put_there : {granules : ℕ} {words : List ℕ} {place : EntryPlace} {entry : LogEntry} (other : ℕ) → CanTake granules words place entry →
     other < (layout_of (version_in words)).chunk_entries → other ≢ place.entry →
-    logged (version_in words) (put_at words place entry) place.chunk other ≡ logged (version_in words) words place.chunk other
+    logged (version_in words) (put_entry_word words place entry) place.chunk other ≡ logged (version_in words) words place.chunk other
 put_there {granules} {words} {place} {entry} other can below apart =
     let version = version_in words in
     let k = entry_word version place.chunk place.entry in
@@ -126,21 +124,21 @@ put_there {granules} {words} {place} {entry} other can below apart =
 
 -- up to the place and with it the chunk has no 0
 put_some : {granules : ℕ} {words : List ℕ} {place : EntryPlace} {entry : LogEntry} (other : ℕ) → CanTake granules words place entry →
-    other ≤ place.entry → logged (version_in words) (put_at words place entry) place.chunk other ≢ 0
+    other ≤ place.entry → logged (version_in words) (put_entry_word words place entry) place.chunk other ≢ 0
 put_some {granules} {words} {place} {entry} other can within none = ⊎_elim
-    (λ (same : other ≡ place.entry). log_word-some entry (sym (ap (logged (version_in words) (put_at words place entry) place.chunk) same ∙ put_here can) ∙ none))
+    (λ (same : other ≡ place.entry). log_word-some entry (sym (ap (logged (version_in words) (put_entry_word words place entry) place.chunk) same ∙ put_here can) ∙ none))
     (λ (apart : other ≢ place.entry). can.next.1.first other (omega arith) (sym (put_there other can (omega (arith, can.next.1.below)) apart) ∙ none))
     (cases_eq other place.entry)
 
 pub next_put : {granules : ℕ} {words : List ℕ} {place : EntryPlace} {entry : LogEntry} (next : Option EntryPlace) → CanTake granules words place entry →
-    IsPlaceAfter (layout_of (version_in words)).chunk_entries place next → IsNextOf (put_at words place entry) next
+    IsPlaceAfter (layout_of (version_in words)).chunk_entries place next → IsNextOf (put_entry_word words place entry) next
 next_put {granules} {words} {place} {entry} None can after =
-    let new = put_at words place entry in
+    let new = put_entry_word words place entry in
     let last : place.chunk ≡ last_chunk new = can.next.0 ∙ sym (last_chunk-same words new (chunks_put words place entry)) in
     let full : IsFull (version_in words) new place.chunk = record { each = λ other below. put_some other can (omega arith) } in
     subst (λ v. IsFull v new (last_chunk new)) (sym (version_put words place entry)) (subst (IsFull (version_in words) new) last full)
 next_put {granules} {words} {place} {entry} (Some next) can after =
-    let new = put_at words place entry in
+    let new = put_entry_word words place entry in
     let version = version_in words in
     let last : next.chunk ≡ last_chunk new = after.0 ∙ can.next.0 ∙ sym (last_chunk-same words new (chunks_put words place entry)) in
     let below : place.entry + 1 < (layout_of version).chunk_entries = omega (arith, after.1, after.2) in
@@ -178,26 +176,16 @@ crash_put {granules} {words} {place} {entry} can says image crash =
     }))
     crash.is
 
--- the step that stores an entry to its place
-pub record IsStep (words : List ℕ) (place : EntryPlace) (entry : LogEntry) (at value : ℕ) : Type 0 where
+-- what is stored, and where
+pub record IsPut (words : List ℕ) (place : EntryPlace) (entry : LogEntry) (at value : ℕ) : Type 0 where
   pub at_is : at ≡ 8 * entry_word (version_in words) place.chunk place.entry
   pub value_is : value ≡ log_word entry
   pub says : SaysOf value entry
 
-pub says_step : {words : List ℕ} {place : EntryPlace} {entry : LogEntry} {at value : ℕ} → IsStep words place entry at value → SaysOf (log_word entry) entry
-says_step {words} {place} {entry} {at} {value} step = subst (λ v. SaysOf v entry) step.value_is step.says
+pub says_put : {words : List ℕ} {place : EntryPlace} {entry : LogEntry} {at value : ℕ} → IsPut words place entry at value → SaysOf (log_word entry) entry
+says_put {words} {place} {entry} {at} {value} put = subst (λ v. SaysOf v entry) put.value_is put.says
 
-pub words_step : {words : List ℕ} {place : EntryPlace} {entry : LogEntry} {at value : ℕ} → IsStep words place entry at value → put_word words (at / 8) value ≡ put_at words place entry
-words_step {words} {place} {entry} {at} {value} step =
+pub words_put : {words : List ℕ} {place : EntryPlace} {entry : LogEntry} {at value : ℕ} → IsPut words place entry at value → put_word words (at / 8) value ≡ put_entry_word words place entry
+words_put {words} {place} {entry} {at} {value} put =
     let k = entry_word (version_in words) place.chunk place.entry in
-    ap (λ a. put_word words (a / 8) value) step.at_is ∙ ap (λ i. put_word words i value) (eight_of k) ∙ ap (put_word words k) step.value_is
-
-pub crash_step : {granules : ℕ} {words : List ℕ} {place : EntryPlace} {entry : LogEntry} {at value : ℕ} → CanTake granules words place entry → IsStep words place entry at value →
-    CrashOnly words (word_events at value) (IsOldOrNewWord words at value) →
-    CrashOnly words (word_events (8 * entry_word (version_in words) place.chunk place.entry) (log_word entry)) (IsEntryOrNot granules words (entry_word (version_in words) place.chunk place.entry) entry)
-crash_step {granules} {words} {place} {entry} {at} {value} can step crash =
-    let a = 8 * entry_word (version_in words) place.chunk place.entry in
-    weaker words (word_events a (log_word entry)) (IsOldOrNewWord words a (log_word entry)) (IsEntryOrNot granules words (entry_word (version_in words) place.chunk place.entry) entry)
-    (crash_put can (says_step step))
-    (subst (λ b. CrashOnly words (word_events b (log_word entry)) (IsOldOrNewWord words b (log_word entry))) step.at_is
-    (subst (λ v. CrashOnly words (word_events at v) (IsOldOrNewWord words at v)) step.value_is crash))
+    ap (λ a. put_word words (a / 8) value) put.at_is ∙ ap (λ i. put_word words i value) (eight_of k) ∙ ap (put_word words k) put.value_is

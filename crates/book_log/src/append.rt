@@ -2,8 +2,9 @@
 
 ghost use Rattle.std.specs.Prelude.{◌≡◌, ℕ, ◌*◌, ◌<◌, length, Some};
 ghost use Rattle.pmem_lines.specs.Words.{put_word};
-ghost use Rattle.pmem_lines.specs.Events.{IsQuiet, CrashOnly};
-ghost use Rattle.pmem_lines.specs.Pmem.{words_of, HasRoom, Appends};
+ghost use Rattle.pmem_lines.specs.Events.{IsQuiet};
+ghost use Rattle.pmem_lines.specs.Steps.{IsQuietStep};
+ghost use Rattle.pmem_lines.specs.Pmem.{words_of, HasRoom};
 ghost use Rattle.durable_steps.specs.Steps.{word_events};
 ghost use Rattle.pool_layout.specs.Layout.{layout_of};
 ghost use Rattle.pool_layout.specs.Places.{entry_word};
@@ -49,18 +50,16 @@ pub(crate) fn append_at<P: Pmem>(
     requires live { (start : ℕ) → extent_in live.old start ≡ extent_at (words_of (P.state device.old)) start }
     requires quiet { IsQuiet (P.state device.old).events }
     requires room { HasRoom (P.state device.old) 3 }
-    ensures appends { Appends (P.state device.old) (P.state device.new) (word_events (8 * entry_word (version_in (words_of (P.state device.old))) place.chunk place.entry) (log_word entry)) }
+    ensures step { IsQuietStep (P.state device.old) (P.state device.new) (word_events (8 * entry_word (version_in (words_of (P.state device.old))) place.chunk place.entry) (log_word entry)) (IsEntryOrNot (length live.old) (words_of (P.state device.old)) (entry_word (version_in (words_of (P.state device.old))) place.chunk place.entry) entry) }
     ensures words { words_of (P.state device.new) ≡ put_word (words_of (P.state device.old)) (entry_word (version_in (words_of (P.state device.old))) place.chunk place.entry) (log_word entry) }
     ensures place { IsInLog (version_in (words_of (P.state device.old))) (entry_word (version_in (words_of (P.state device.old))) place.chunk place.entry) }
     ensures version { version_in (words_of (P.state device.new)) ≡ version_in (words_of (P.state device.old)) }
     ensures chunks { chunks_of (words_of (P.state device.new)) ≡ chunks_of (words_of (P.state device.old)) }
-    ensures quiet { IsQuiet (P.state device.new).events }
     ensures extents { (start : ℕ) → extent_at (words_of (P.state device.new)) start ≡ with_entry (extent_at (words_of (P.state device.old))) entry start }
     ensures live { (start : ℕ) → extent_in live.new start ≡ extent_at (words_of (P.state device.new)) start }
     ensures log { HasLog (length live.new) (words_of (P.state device.new)) }
     ensures inside { AreWithin (words_of (P.state device.new)) }
     ensures next { IsNextOf (words_of (P.state device.new)) result }
-    ensures crash { CrashOnly (words_of (P.state device.old)) (word_events (8 * entry_word (version_in (words_of (P.state device.old))) place.chunk place.entry) (log_word entry)) (IsEntryOrNot (length live.old) (words_of (P.state device.old)) (entry_word (version_in (words_of (P.state device.old))) place.chunk place.entry) entry) }
 {
     let version = version_of(device);
     let word = log_word(entry);

@@ -2,8 +2,9 @@
 
 ghost use Rattle.std.specs.Prelude.{◌≡◌, ◌↔◌, ℕ, ◌≤◌, List, IsTrue, IsSome, IfOk, MatchOption};
 ghost use Rattle.pmem_lines.specs.Words.{put_word};
-ghost use Rattle.pmem_lines.specs.Events.{IsQuiet, CrashOnly};
-ghost use Rattle.pmem_lines.specs.Pmem.{words_of, HasRoom, Appends};
+ghost use Rattle.pmem_lines.specs.Events.{IsQuiet};
+ghost use Rattle.pmem_lines.specs.Steps.{IsQuietStep};
+ghost use Rattle.pmem_lines.specs.Pmem.{words_of, HasRoom};
 ghost use Rattle.pool_layout.specs.Layout.{layout_of};
 ghost use Rattle.pool_layout.specs.Header.{version_in};
 ghost use Rattle.image_tables.specs.Extents.{extent_at};
@@ -120,7 +121,7 @@ impl BookLog {
         requires valid { IsInHeap (layout_of (version_in (words_of (P.state p.old)))).first_granule self.old.granules e }
         requires quiet { IsQuiet (P.state p.old).events }
         requires left { HasRoom (P.state p.old) 3 }
-        ensures appends { Appends (P.state p.old) (P.state p.new) (append_events self.old (words_of (P.state p.old)) e) }
+        ensures step { IsQuietStep (P.state p.old) (P.state p.new) (append_events self.old (words_of (P.state p.old)) e) (IsEntryOrNot self.old.granules (words_of (P.state p.old)) (next_word self.old (words_of (P.state p.old))) e) }
         ensures words { words_of (P.state p.new) ≡ put_word (words_of (P.state p.old)) (next_word self.old (words_of (P.state p.old))) (log_word e) }
         ensures extents { (start : ℕ) → extent_at (words_of (P.state p.new)) start ≡ with_entry (extent_at (words_of (P.state p.old))) e start }
         ensures reads { Reads self.new (words_of (P.state p.new)) }
@@ -128,8 +129,6 @@ impl BookLog {
         ensures place { IsInLog (version_in (words_of (P.state p.old))) (next_word self.old (words_of (P.state p.old))) }
         ensures version { version_in (words_of (P.state p.new)) ≡ version_in (words_of (P.state p.old)) }
         ensures chunks { chunks_of (words_of (P.state p.new)) ≡ chunks_of (words_of (P.state p.old)) }
-        ensures quiet { IsQuiet (P.state p.new).events }
-        ensures crash { CrashOnly (words_of (P.state p.old)) (append_events self.old (words_of (P.state p.old)) e) (IsEntryOrNot self.old.granules (words_of (P.state p.old)) (next_word self.old (words_of (P.state p.old))) e) }
     {
         let place = self.next.unwrap();
         self.next = append_at(&mut self.live, p, place, e);

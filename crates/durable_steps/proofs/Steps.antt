@@ -1,11 +1,14 @@
 -- What holds of the steps of one word and of two.
-use Rattle.std.proofs.Common.{◌≡◌, ℕ, ◌/◌, List, [], ◌∷◌, refl, inl, inr, true}
+use Rattle.std.proofs.Common.{◌≡◌, ℕ, ◌/◌, List, [], ◌∷◌, refl, inl, inr, subst, true}
 use Rattle.std.proofs.lemmas.Bool.{eq-eqb}
 use Rattle.pmem_lines.specs.declared.event.Event.{Event}
 use Rattle.pmem_lines.specs.declared.event.Event.TheVariants.{Store, Flush, Fence}
 use Rattle.pmem_lines.specs.Words.{put_word}
 use Rattle.pmem_lines.specs.Events.{IsQuiet, is_flushed, is_fenced, CrashOnly}
+use Rattle.pmem_lines.specs.Pmem.{PmemState, words_of}
+use Rattle.pmem_lines.specs.Steps.{IsQuietStep}
 use Rattle.pmem_lines.proofs.Images.{by_stores}
+use Rattle.pmem_lines.proofs.Steps.{step_wider}
 use Rattle.durable_steps.specs.Steps.{word_events, pair_events, IsOldOrNewWord, IsOldOrNewPair}
 
 -- a line that is flushed before a fence
@@ -41,3 +44,11 @@ pair_crash base first a second b =
         record { between = with_first; first_word = record { is = inr refl }; second_word = record { is = inr refl } },
       ),
     )
+
+-- the step of one word, by other names of its address and value, and what follows from its word old or new
+pub word_step : {s t : PmemState} {P : List ℕ → Type 0} (at value : ℕ) {place stored : ℕ} → at ≡ place → value ≡ stored → ((image : List ℕ) → IsOldOrNewWord (words_of s) place stored image → P image) →
+    IsQuietStep s t (word_events at value) (IsOldOrNewWord (words_of s) at value) → IsQuietStep s t (word_events place stored) P
+word_step {s} {t} {P} at value {place} {stored} at_is value_is implies step =
+    step_wider implies
+    (subst (λ a. IsQuietStep s t (word_events a stored) (IsOldOrNewWord (words_of s) a stored)) at_is
+    (subst (λ v. IsQuietStep s t (word_events at v) (IsOldOrNewWord (words_of s) at v)) value_is step))

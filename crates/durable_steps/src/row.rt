@@ -2,7 +2,8 @@
 
 ghost use Rattle.std.specs.Prelude.{◌≡◌, ◌+◌, ◌*◌, ◌/◌, ◌%◌, ◌^◌, ◌<◌, ◌≤◌, [], ◌∷◌, ◌++◌, length};
 ghost use Rattle.pmem_lines.specs.Pmem.{words_of, HasRoom, Appends};
-ghost use Rattle.pmem_lines.specs.Events.{IsQuiet, CrashOnly};
+ghost use Rattle.pmem_lines.specs.Steps.{IsQuietStep};
+ghost use Rattle.pmem_lines.specs.Events.{IsQuiet};
 ghost use Rattle.durable_steps.specs.Rows.{IsOldOrNewRow, stores_at, flushes_of, lines_of, row_events};
 
 use pmem_lines::Pmem;
@@ -47,10 +48,8 @@ pub fn write_row<P: Pmem>(device: &mut P, from: u32, words: &[u64])
     requires some { 0 < length words.now }
     requires quiet { IsQuiet (P.state device.old).events }
     requires room { HasRoom (P.state device.old) (length words.now + lines_of from (length words.now) + 1) }
-    ensures appends { Appends (P.state device.old) (P.state device.new) (row_events from words.now) }
+    ensures step { IsQuietStep (P.state device.old) (P.state device.new) (row_events from words.now) (IsOldOrNewRow (words_of (P.state device.old)) from words.now) }
     ensures count { length (P.state device.new).events ≡ length (P.state device.old).events + (length words.now + lines_of from (length words.now) + 1) }
-    ensures quiet { IsQuiet (P.state device.new).events }
-    ensures crash { CrashOnly (words_of (P.state device.old)) (row_events from words.now) (IsOldOrNewRow (words_of (P.state device.old)) from words.now) }
 {
     store_words(device, from, words);
     let first = from / 64;

@@ -1,8 +1,9 @@
 // One word, or two, made durable.
 
 ghost use Rattle.std.specs.Prelude.{◌≡◌};
-ghost use Rattle.pmem_lines.specs.Pmem.{words_of, HasRoom, Appends, IsPlace};
-ghost use Rattle.pmem_lines.specs.Events.{IsQuiet, CrashOnly};
+ghost use Rattle.pmem_lines.specs.Pmem.{words_of, HasRoom, IsPlace};
+ghost use Rattle.pmem_lines.specs.Steps.{IsQuietStep};
+ghost use Rattle.pmem_lines.specs.Events.{IsQuiet};
 ghost use Rattle.durable_steps.specs.Steps.{word_events, pair_events, IsOldOrNewWord, IsOldOrNewPair};
 
 use pmem_lines::Pmem;
@@ -13,9 +14,7 @@ pub fn write_word<P: Pmem>(device: &mut P, at: u32, value: u64)
     requires place { IsPlace (P.state device.old) at }
     requires quiet { IsQuiet (P.state device.old).events }
     requires room { HasRoom (P.state device.old) 3 }
-    ensures appends { Appends (P.state device.old) (P.state device.new) (word_events at value) }
-    ensures quiet { IsQuiet (P.state device.new).events }
-    ensures crash { CrashOnly (words_of (P.state device.old)) (word_events at value) (IsOldOrNewWord (words_of (P.state device.old)) at value) }
+    ensures { IsQuietStep (P.state device.old) (P.state device.new) (word_events at value) (IsOldOrNewWord (words_of (P.state device.old)) at value) }
 {
     device.store(at, value);
     device.flush(at / 64);
@@ -30,9 +29,7 @@ pub fn write_pair<P: Pmem>(device: &mut P, first: u32, a: u64, second: u32, b: u
     requires second { IsPlace (P.state device.old) second }
     requires quiet { IsQuiet (P.state device.old).events }
     requires room { HasRoom (P.state device.old) 5 }
-    ensures appends { Appends (P.state device.old) (P.state device.new) (pair_events first a second b) }
-    ensures quiet { IsQuiet (P.state device.new).events }
-    ensures crash { CrashOnly (words_of (P.state device.old)) (pair_events first a second b) (IsOldOrNewPair (words_of (P.state device.old)) first a second b) }
+    ensures { IsQuietStep (P.state device.old) (P.state device.new) (pair_events first a second b) (IsOldOrNewPair (words_of (P.state device.old)) first a second b) }
 {
     device.store(first, a);
     device.flush(first / 64);

@@ -1,12 +1,12 @@
 -- An image without anything in it, and exact images.
 use Rattle.std.proofs.Common.{◌≡◌, ◌≢◌, ℕ, true, sym, ◌∙◌, refl, arith, ⊎_elim}
-use Rattle.std.proofs.lemmas.Bool.{cases_Bool}
+use Rattle.std.proofs.lemmas.Bool.{cases_Bool, cases_eq}
 use Rattle.image_tables.specs.Tables.{Tables}
 use Rattle.heap_model.specs.Machine.{Bounds, Range}
 use Rattle.heap_check.specs.Heap.{IsClaim, claim_at}
 use Rattle.heap_check.specs.Sound.{granules_at, IsNearlyDone, IsSound, IsExact, IsExactBut, IsSteady}
 use Rattle.heap_check.specs.Laws.{AreBlank, LawOfEmptyHeap, LawOfSteady}
-use Rattle.heap_check.proofs.Loose.{IsExactBut-exact}
+use Rattle.heap_check.proofs.Loose.{AtMostOne-one, IsExactBut-exact}
 
 module _ (b : Bounds) (t : Tables) (blank : AreBlank t) where
   no_granules : (start : ℕ) → granules_at t start ≡ 0
@@ -47,19 +47,19 @@ module _ (b : Bounds) (t : Tables) (blank : AreBlank t) where
 pub law_of_empty_heap : LawOfEmptyHeap
 law_of_empty_heap b t blank = (blank_exact b t blank, λ root. rw (blank.roots root) refl)
 
--- an image that is exact but for one slab is steady: no slab is nearly done
+-- an image that is exact but for one slab is steady: no other is nearly done
 pub IsSteady-but : {b : Bounds} {t : Tables} {start : ℕ} → IsExactBut b t start → IsSteady b t
 IsSteady-but {b} {t} {start} but = record {
   sound = but.sound;
-  one_done = record { same = λ one other first second. absurd (nearly_none one first) };
+  one_done = AtMostOne-one start (λ other nearly. ⊎_elim (λ (same : other ≡ start). same) (λ (differ : other ≢ start). absurd (nearly_none other differ nearly)) (cases_eq other start));
 }
   where
-    nearly_none : (other : ℕ) → ¬ (IsNearlyDone t other)
-    nearly_none other nearly = ⊎_elim
+    nearly_none : (other : ℕ) → other ≢ start → ¬ (IsNearlyDone t other)
+    nearly_none other differ nearly = ⊎_elim
         (λ (normal : t.kind other ≡ 1). nearly.kind normal)
         (λ rest. ⊎_elim
         (λ (morphing : t.kind other ≡ 2). but.calm other (record { slab = nearly.slab; kind = morphing }))
-        (λ (morphed : t.kind other ≡ 3). but.none_done other (record {
+        (λ (morphed : t.kind other ≡ 3). but.none_done other differ (record {
           slab = nearly.slab;
           kind = morphed;
           none = λ place below. ⊎_elim

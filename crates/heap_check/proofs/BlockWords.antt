@@ -18,8 +18,8 @@ behind_header t start range holds = ⊎_elim
     (λ (old : HoldsOld t start range). omega (arith, ap (λ (x : Range). x.at) old.is))
     holds.block
 
-module _ {b : Bounds} {t : Tables} (sound : IsSound b t) (closed : t.entry ≡ None) (root : ℕ) (range : Range) (named : heap t root ≡ Some range) (k : ℕ) (word : IsWordOf range k) where
-  unnamed : entry_at t.entry root ≡ 0
+module _ {b : Bounds} {t : Tables} (sound : IsSound b t) (closed : t.open_entry ≡ None) (root : ℕ) (range : Range) (named : heap t root ≡ Some range) (k : ℕ) (word : IsWordOf range k) where
+  unnamed : entry_at t.open_entry root ≡ 0
   unnamed = ap (λ e. entry_at e root) closed
 
   claim : IsClaim t root range

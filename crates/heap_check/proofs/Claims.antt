@@ -32,25 +32,25 @@ is_unnamed named at none = false_from_ne_true _ (λ both.
     let parts = and_parts (named == at) (ltb 0 at) both in
     omega (arith, eqb-true named at parts.0, ltb-true 0 at parts.1))
 
-pub size_at-unnamed : (t : Tables) (root at : ℕ) → entry_at t.entry root ≡ 0 → size_at t root at ≡ plain_size t at
+pub size_at-unnamed : (t : Tables) (root at : ℕ) → entry_at t.open_entry root ≡ 0 → size_at t root at ≡ plain_size t at
 size_at-unnamed t root at none =
-    ap (λ b. cond (is_large t.large at) (16384 * t.large (at / 16384)) (cond b (size_by t at (entry_old t.entry)) (size_by t at (is_old t (slab_of t.slab (at / 16384)) at))))
-    (is_unnamed (entry_at t.entry root) at none)
+    ap (λ b. cond (is_large t.large at) (16384 * t.large (at / 16384)) (cond b (size_by t at (entry_old t.open_entry)) (size_by t at (is_old t (slab_of t.slab (at / 16384)) at))))
+    (is_unnamed (entry_at t.open_entry root) at none)
 
-pub claim_at-unnamed : (t : Tables) (root : ℕ) → entry_at t.entry root ≡ 0 → claim_at t root ≡ t.root root
+pub claim_at-unnamed : (t : Tables) (root : ℕ) → entry_at t.open_entry root ≡ 0 → claim_at t root ≡ t.root root
 claim_at-unnamed t root none = ⊎_elim
-    (λ (no_word : (t.root root == 0) ≡ true). cond-true (t.root root == 0) (entry_at t.entry root) (t.root root) no_word ∙ none ∙ sym (eqb-true (t.root root) 0 no_word))
-    (λ (a_word : (t.root root == 0) ≡ false). cond-false (t.root root == 0) (entry_at t.entry root) (t.root root) a_word)
+    (λ (no_word : (t.root root == 0) ≡ true). cond-true (t.root root == 0) (entry_at t.open_entry root) (t.root root) no_word ∙ none ∙ sym (eqb-true (t.root root) 0 no_word))
+    (λ (a_word : (t.root root == 0) ≡ false). cond-false (t.root root == 0) (entry_at t.open_entry root) (t.root root) a_word)
     (cases_Bool (t.root root == 0))
 
-pub IsNamed-claim : (t : Tables) (root : ℕ) (range : Range) → entry_at t.entry root ≡ 0 → IsClaim t root range → IsNamed t root range
+pub IsNamed-claim : (t : Tables) (root : ℕ) (range : Range) → entry_at t.open_entry root ≡ 0 → IsClaim t root range → IsNamed t root range
 IsNamed-claim t root range none claim = record {
   some = claim.some;
   word = sym (claim_at-unnamed t root none) ∙ claim.place;
   wide = ap (λ at. plain_size t at) (sym claim.place) ∙ sym (size_at-unnamed t root (claim_at t root) none) ∙ claim.wide;
 }
 
-pub IsClaim-named : (t : Tables) (root : ℕ) (range : Range) → entry_at t.entry root ≡ 0 → IsNamed t root range → IsClaim t root range
+pub IsClaim-named : (t : Tables) (root : ℕ) (range : Range) → entry_at t.open_entry root ≡ 0 → IsNamed t root range → IsClaim t root range
 IsClaim-named t root range none named =
     let place = claim_at-unnamed t root none ∙ named.word in
     record {
@@ -60,5 +60,5 @@ IsClaim-named t root range none named =
     }
 
 -- the claim of a root whose word is not 0
-pub IsClaim-word : (t : Tables) (root : ℕ) → entry_at t.entry root ≡ 0 → t.root root ≢ 0 → IsClaim t root (record { at = t.root root; size = plain_size t (t.root root) })
+pub IsClaim-word : (t : Tables) (root : ℕ) → entry_at t.open_entry root ≡ 0 → t.root root ≢ 0 → IsClaim t root (record { at = t.root root; size = plain_size t (t.root root) })
 IsClaim-word t root none some = IsClaim-named t root _ none (record { some = some; word = refl; wide = refl })

@@ -32,7 +32,7 @@ record IsWhole (t : Tables) (range : Range) : Type 0 where
   size : range.size ≡ 16384 * t.large start
 
 -- sound tables in which no entry is open, each large extent has two granules at least, and only so many roots have a word
-module _ {b : Bounds} {t : Tables} (sound : IsSound b t) (unnamed : (root : ℕ) → entry_at t.entry root ≡ 0) (many : (start : ℕ) → 0 < t.large start → 2 ≤ t.large start) (past : (root : ℕ) → b.roots ≤ root → t.root root ≡ 0) where
+module _ {b : Bounds} {t : Tables} (sound : IsSound b t) (unnamed : (root : ℕ) → entry_at t.open_entry root ≡ 0) (many : (start : ℕ) → 0 < t.large start → 2 ≤ t.large start) (past : (root : ℕ) → b.roots ≤ root → t.root root ≡ 0) where
   -- each block is one of these two
   block_kinds : (root : ℕ) (range : Range) → IsClaim t root range → IsSmall t range ⊎ IsWhole t range
   block_kinds root range claim =

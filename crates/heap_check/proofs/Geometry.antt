@@ -8,7 +8,7 @@ use Rattle.image_tables.specs.Tables.{Tables}
 use Rattle.heap_model.specs.Machine.{Bounds, slab_block}
 use Rattle.heap_model.proofs.Slabbing.{LiesIn-block}
 use Rattle.heap_check.specs.Heap.{slab_of, is_large, is_old}
-use Rattle.heap_check.specs.Sound.{granules_at, Covers, IsInSlab, IsSlab, IsSound}
+use Rattle.heap_check.specs.Sound.{granules_at, Covers, IsInSlab, IsValidSlab, IsSound}
 use Rattle.image_tables.specs.Updates.{put_at}
 use Rattle.image_tables.proofs.Updates.{put_at-other}
 use Rattle.heap_check.proofs.Claims.{plain_size}
@@ -25,8 +25,8 @@ pub Covers-slab : (t : Tables) (start k : ℕ) → t.slab start ≡ true → sta
 Covers-slab t start k slab low high = record { low = low; high = omega (arith, high, granules_at-slab t start slab) }
 
 -- a valid slab has 64 index entries at most
-pub entries_few : {t : Tables} {start : ℕ} → IsSlab t start → t.entries start ≤ 64
-entries_few {t} {start} is = ⊎_elim (λ (normal : t.kind start ≡ 1). omega (arith, (is.state.none normal).1)) (λ (other : t.kind start ≢ 1). (is.state.number other).1) (cases_eq (t.kind start) 1)
+pub index_count_few : {t : Tables} {start : ℕ} → IsValidSlab t start → t.index_count start ≤ 64
+index_count_few {t} {start} is = ⊎_elim (λ (normal : t.kind start ≡ 1). omega (arith, (is.state.none normal).1)) (λ (other : t.kind start ≢ 1). (is.state.number other).1) (cases_eq (t.kind start) 1)
 
 -- numbers of blocks are below 4096
 pub number_few : (class i : ℕ) → class < 36 → i < class_capacity class → i < 4096
@@ -109,3 +109,9 @@ is_large-put large start count at other = by (at % 16384 == 0) refl
     by : (aligned : Bool) → (at % 16384 == 0) ≡ aligned → (aligned && ltb 0 (put_at large start count (at / 16384))) ≡ (aligned && ltb 0 (large (at / 16384)))
     by true test = ap (λ n. ltb 0 n) (put_at-other large start (at / 16384) count (λ same. other (omega (arith, same, eqb-true (at % 16384) 0 test))))
     by false test = refl
+
+-- an address lies in one slab
+pub one_slab : {b : Bounds} {t : Tables} → IsSound b t → (one other at : ℕ) → IsInSlab t one at → IsInSlab t other at → one ≡ other
+one_slab {b} {t} sound one other at first second = sound.disjoint one other (at / 16384)
+    (Covers-slab t one (at / 16384) first.slab (omega (arith, first.low)) (omega (arith, first.high)))
+    (Covers-slab t other (at / 16384) second.slab (omega (arith, second.low)) (omega (arith, second.high)))

@@ -8,20 +8,20 @@ use Rattle.size_classes.specs.Classes.{class_size, sizes}
 use Rattle.image_tables.specs.Tables.{Tables}
 use Rattle.heap_model.specs.Machine.{Range, AreApart, slab_block}
 use Rattle.heap_check.specs.Heap.{heap, slab_of, is_old_of, is_large, IsClaim, Holds, HoldsBit, HoldsOld}
-use Rattle.heap_check.specs.Sound.{IsInSlab, IsSlab, IsStanding, IsExact}
+use Rattle.heap_check.specs.Sound.{IsInSlab, IsValidSlab, IsStanding, IsExact}
 use Rattle.heap_check.proofs.HandMadeParts.{only, bounds, HasExtents, no_claim, normal_slab, slab_is, large_is, sound_by}
 
 image : Tables
 image = record {
   word = λ r. only 0 65536 r + only 5 100352 r;
   root = λ r. only 0 65536 r + only 5 100352 r;
-  entry = None;
+  open_entry = None;
   large = λ g. only 4 2 g;
   slab = λ g. g == 6;
   kind = λ g. only 6 1 g;
   class = λ g. only 6 6 g;
   old = λ _. 0;
-  entries = λ _. 0;
+  index_count = λ _. 0;
   bit = λ g i. (g == 6) && (i == 0);
   live = λ _ _. false;
   number = λ _ _. 0;
@@ -84,7 +84,7 @@ its_claim : IsClaim image 5 small_block
 unfolding image is_large slab_of is_old_of class_size sizes
 its_claim = record { some = omega arith; place = refl; wide = refl }
 
-image_slab : IsSlab image 6
+image_slab : IsValidSlab image 6
 unfolding image
 image_slab = normal_slab image 6 refl (omega arith) refl refl
 
@@ -104,7 +104,7 @@ stands r some = ⊎_elim
     (λ rest. ⊎_elim (λ second. subst (λ k. IsStanding image k (image.root k)) (sym second) stands_5) (λ none. absurd (some none)) rest)
     (roots_of r)
 
-closed : image.entry ≡ None
+closed : image.open_entry ≡ None
 unfolding image
 closed = refl
 

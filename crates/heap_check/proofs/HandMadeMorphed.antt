@@ -42,7 +42,7 @@ morphed_stands (suc zero) some = inr (inl (record { start = 12; range = old_bloc
 morphed_stands (suc (suc zero)) some = inr (inl (record { start = 12; range = new_block; holds = Holds-new 3 198656 199680 None (omega arith); here = refl }))
 morphed_stands (suc (suc (suc root))) some = absurd (some refl)
 
-closed : morphed.entry ≡ None
+closed : morphed.open_entry ≡ None
 unfolding morphed tables
 closed = refl
 
@@ -74,7 +74,7 @@ morphed_exact =
       all_named = λ start live. (0, omega (arith, (large_is has start live).0));
       all_live = λ start slab. (1, omega arith, subst (λ s. IsInSlab morphed s 198656) (sym (slab_is has start slab)) old_inside);
       calm = λ start is. omega (arith, is.kind, ap morphed.kind (slab_is has start is.slab));
-      none_done = λ start done. let here = slab_is has start done.slab in true≢false (sym (ap (λ s. morphed.live s 0) here) ∙ done.none 0 (omega (arith, ap morphed.entries here)));
+      none_done = λ start done. let here = slab_is has start done.slab in true≢false (sym (ap (λ s. morphed.live s 0) here) ∙ done.none 0 (omega (arith, ap morphed.index_count here)));
     }
 
 -- and its heap has the three blocks
@@ -126,7 +126,7 @@ leaving_open = record {
   calm = λ start slab morphing. omega (arith, morphing, ap leaving.kind (slab_is (extents 3 0 199680 (Some old_entry)) start slab));
 }
 
-leaving_entry : leaving.entry ≡ Some old_entry
+leaving_entry : leaving.open_entry ≡ Some old_entry
 unfolding leaving tables
 leaving_entry = refl
 

@@ -32,7 +32,7 @@ stands (suc zero) some = inr (inl (record { start = 12; range = old_block; holds
 stands (suc (suc zero)) some = absurd (some refl)
 stands (suc (suc (suc root))) some = absurd (some refl)
 
-closed : morphing.entry ≡ None
+closed : morphing.open_entry ≡ None
 unfolding morphing tables
 closed = refl
 
@@ -63,7 +63,7 @@ not_done : (start : ℕ) → ¬ (IsNearlyDone morphing start)
 unfolding morphing tables
 not_done start done =
     let here = slab_is (extents 2 198656 0 None) start done.slab in
-    let leaving = done.none 0 (omega (arith, ap morphing.entries here)) (ap (λ s. morphing.live s 0) here) in
+    let leaving = done.none 0 (omega (arith, ap morphing.index_count here)) (ap (λ s. morphing.live s 0) here) in
     cc (closed, leaving.entry)
 
 -- and its heap has the two blocks

@@ -11,7 +11,7 @@ use Rattle.image_tables.specs.declared.entry.WalEntry.TheVariants.{Move}
 use Rattle.image_tables.specs.Tables.{Tables, held_of}
 use Rattle.heap_model.specs.Machine.{Range, slab_block}
 use Rattle.heap_check.specs.Heap.{slab_of, is_old_of, is_large, heap, IsClaim, Holds, HoldsBit, HoldsOld}
-use Rattle.heap_check.specs.Sound.{IsSlab, IsOpen, IsStanding, IsSteady}
+use Rattle.heap_check.specs.Sound.{IsValidSlab, IsOpen, IsStanding, IsSteady}
 use Rattle.heap_check.proofs.Heaps.{heap-none}
 use Rattle.heap_check.proofs.HandMadeParts.{only, bounds, HasExtents, no_claim, normal_slab, slab_is, steady_by}
 
@@ -25,13 +25,13 @@ image : Tables
 image = record {
   word = words_of;
   root = held_of (Some entry) words_of;
-  entry = Some entry;
+  open_entry = Some entry;
   large = λ g. only 4 0 g;
   slab = λ g. g == 4;
   kind = λ g. only 4 1 g;
   class = λ g. only 4 6 g;
   old = λ g. 0;
-  entries = λ g. 0;
+  index_count = λ g. 0;
   bit = λ g i. (g == 4) && (i == 0);
   live = λ g place. false;
   number = λ g place. 0;
@@ -80,7 +80,7 @@ held range holds = ⊎_elim
     (λ (old : HoldsOld image 4 range). absurd (omega (arith, old.below)))
     holds.block
 
-image_slab : IsSlab image 4
+image_slab : IsValidSlab image 4
 unfolding image
 image_slab = normal_slab image 4 refl (omega arith) refl refl
 
@@ -91,7 +91,7 @@ image_open = record {
   calm = λ start slab morphing. omega (arith, morphing, ap image.kind (slab_is extents start slab));
 }
 
-is_open : image.entry ≡ Some entry
+is_open : image.open_entry ≡ Some entry
 unfolding image
 is_open = refl
 

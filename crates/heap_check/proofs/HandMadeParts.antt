@@ -6,7 +6,7 @@ use Rattle.image_tables.specs.declared.entry.WalEntry.{WalEntry}
 use Rattle.image_tables.specs.Tables.{Tables}
 use Rattle.heap_model.specs.Machine.{Bounds, Range, AreApart}
 use Rattle.heap_check.specs.Heap.{entry_at, IsClaim, Holds}
-use Rattle.heap_check.specs.Sound.{granules_at, Covers, IsSlab, IsOpen, IsStanding, IsSound, IsSteady}
+use Rattle.heap_check.specs.Sound.{granules_at, Covers, IsValidSlab, IsOpen, IsStanding, IsSound, IsSteady}
 use Rattle.heap_check.proofs.Claims.{IsNamed-claim}
 use Rattle.heap_check.proofs.Geometry.{granules_at-slab, granules_at-large}
 
@@ -18,11 +18,11 @@ abbrev pub bounds : Bounds
 bounds = record { roots = 4096; first = 4; granules = 16 }
 
 -- a root without a word that the open entry does not name has no block
-pub no_claim : (t : Tables) (root : ℕ) (range : Range) → t.root root ≡ 0 → entry_at t.entry root ≡ 0 → ¬ (IsClaim t root range)
+pub no_claim : (t : Tables) (root : ℕ) (range : Range) → t.root root ≡ 0 → entry_at t.open_entry root ≡ 0 → ¬ (IsClaim t root range)
 no_claim t root range none unnamed claim = let is = IsNamed-claim t root range unnamed claim in is.some (sym is.word ∙ none)
 
 -- a slab that took no class after its first is valid
-pub normal_slab : (t : Tables) (start : ℕ) → t.kind start ≡ 1 → t.class start < 36 → t.old start ≡ 0 → t.entries start ≡ 0 → IsSlab t start
+pub normal_slab : (t : Tables) (start : ℕ) → t.kind start ≡ 1 → t.class start < 36 → t.old start ≡ 0 → t.index_count start ≡ 0 → IsValidSlab t start
 normal_slab t start normal is_class no_old no_entries = record {
   state = record {
     kinds = inl normal;
@@ -45,8 +45,8 @@ pub record HasExtents (t : Tables) (start count : ℕ) : Type 0 where
 
 -- where a root's block stands and what slabs hold
 pub record HasBlocks (t : Tables) (start : ℕ) : Type 0 where
-  pub slab : IsSlab t start
-  pub open_entry : (e : WalEntry) → t.entry ≡ Some e → IsOpen bounds t e
+  pub slab : IsValidSlab t start
+  pub open_entry : (e : WalEntry) → t.open_entry ≡ Some e → IsOpen bounds t e
   pub rooted : (root : ℕ) → t.root root ≢ 0 → IsStanding t root (t.root root)
   pub apart : (root other : ℕ) (range another : Range) → root ≢ other → IsClaim t root range → IsClaim t other another → AreApart range another
   pub claimed : (range : Range) → Holds t start range → (root : ℕ) × IsClaim t root range
@@ -101,7 +101,7 @@ module _ {t : Tables} {start count : ℕ} (has : HasExtents t start count) where
     disjoint = disjoint;
     starts = starts;
     one_kind = one_kind;
-    slabs = λ g slab. subst (IsSlab t) (sym (slab_is g slab)) blocks.slab;
+    slabs = λ g slab. subst (IsValidSlab t) (sym (slab_is g slab)) blocks.slab;
     open_entry = blocks.open_entry;
     rooted = blocks.rooted;
     apart = blocks.apart;

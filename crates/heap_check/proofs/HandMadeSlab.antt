@@ -10,7 +10,7 @@ use Rattle.image_tables.specs.declared.entry.WalEntry.{WalEntry}
 use Rattle.image_tables.specs.Tables.{Tables, held_of}
 use Rattle.heap_model.specs.Machine.{Range, AreApart, slab_block}
 use Rattle.heap_check.specs.Heap.{IsClaim, Holds, HoldsBit, HoldsOld}
-use Rattle.heap_check.specs.Sound.{IsSlab}
+use Rattle.heap_check.specs.Sound.{IsValidSlab}
 use Rattle.heap_check.proofs.HandMadeParts.{only, HasExtents}
 
 -- by the slab's kind, the words of roots 1 and 2, and the open entry
@@ -25,13 +25,13 @@ unfoldable pub tables : ℕ → ℕ → ℕ → Option WalEntry → Tables
 tables kind old_word new_word entry = record {
   word = words_of old_word new_word;
   root = held_of entry (words_of old_word new_word);
-  entry = entry;
+  open_entry = entry;
   large = λ g. only 4 8 g;
   slab = λ g. g == 12;
   kind = λ g. only 12 kind g;
   class = λ g. only 12 19 g;
   old = λ g. only 12 3 g;
-  entries = λ g. only 12 1 g;
+  index_count = λ g. only 12 1 g;
   bit = λ g i. (g == 12) && (i == 1);
   live = λ g place. (g == 12) && (place == 0);
   number = λ g place. 0;
@@ -51,7 +51,7 @@ module _ (kind old_word new_word : ℕ) (entry : Option WalEntry) where
   unfolding tables
   extents = record { slab = λ g. refl; large = λ g. refl; before = omega arith; behind = omega arith }
 
-  pub slab_valid : (kind ≡ 2) ⊎ (kind ≡ 3) → IsSlab (tables kind old_word new_word entry) 12
+  pub slab_valid : (kind ≡ 2) ⊎ (kind ≡ 3) → IsValidSlab (tables kind old_word new_word entry) 12
   unfolding tables class_size sizes
   slab_valid transit = record {
     state = record {

@@ -11,13 +11,13 @@ use Rattle.heap_check.proofs.Geometry.{plain_size-large}
 pub heap-none : (t : Tables) (root : ℕ) → t.root root ≡ 0 → heap t root ≡ None
 heap-none t root none = cond-true (t.root root == 0) None _ (eq-eqb (t.root root) 0 none)
 
-pub heap-some : (t : Tables) (root : ℕ) → entry_at t.entry root ≡ 0 → t.root root ≢ 0 → heap t root ≡ Some (record { at = t.root root; size = plain_size t (t.root root) })
+pub heap-some : (t : Tables) (root : ℕ) → entry_at t.open_entry root ≡ 0 → t.root root ≢ 0 → heap t root ≡ Some (record { at = t.root root; size = plain_size t (t.root root) })
 heap-some t root unnamed some =
     cond-false (t.root root == 0) None (Some (record { at = t.root root; size = size_at t root (t.root root) })) (ne_eqb (t.root root) 0 some)
     ∙ ap (λ size. Some (record { at = t.root root; size = size })) (size_at-unnamed t root (t.root root) unnamed)
 
 -- the same word and size, the same block
-pub heap-same : (t new : Tables) (root : ℕ) → entry_at t.entry root ≡ 0 → entry_at new.entry root ≡ 0 → new.root root ≡ t.root root → (t.root root ≢ 0 → plain_size new (t.root root) ≡ plain_size t (t.root root)) → heap new root ≡ heap t root
+pub heap-same : (t new : Tables) (root : ℕ) → entry_at t.open_entry root ≡ 0 → entry_at new.open_entry root ≡ 0 → new.root root ≡ t.root root → (t.root root ≢ 0 → plain_size new (t.root root) ≡ plain_size t (t.root root)) → heap new root ≡ heap t root
 heap-same t new root unnamed new_unnamed word size = ⊎_elim
     (λ (none : t.root root ≡ 0). heap-none new root (word ∙ none) ∙ sym (heap-none t root none))
     (λ (some : t.root root ≢ 0).
@@ -28,7 +28,7 @@ heap-same t new root unnamed new_unnamed word size = ⊎_elim
     (cases_eq (t.root root) 0)
 
 -- a block of the heap is its root's claim
-pub IsClaim-heap : (t : Tables) (root : ℕ) (range : Range) → entry_at t.entry root ≡ 0 → heap t root ≡ Some range → IsClaim t root range
+pub IsClaim-heap : (t : Tables) (root : ℕ) (range : Range) → entry_at t.open_entry root ≡ 0 → heap t root ≡ Some range → IsClaim t root range
 IsClaim-heap t root range unnamed named = ⊎_elim
     (λ (none : t.root root ≡ 0). absurd (let nothing = heap-none t root none in cc))
     (λ (some : t.root root ≢ 0).
@@ -38,7 +38,7 @@ IsClaim-heap t root range unnamed named = ⊎_elim
     (cases_eq (t.root root) 0)
 
 -- and a claim is its root's block of the heap
-pub heap-claim : (t : Tables) (root : ℕ) (range : Range) → entry_at t.entry root ≡ 0 → IsClaim t root range → heap t root ≡ Some range
+pub heap-claim : (t : Tables) (root : ℕ) (range : Range) → entry_at t.open_entry root ≡ 0 → IsClaim t root range → heap t root ≡ Some range
 heap-claim t root range unnamed claim =
     let named = IsNamed-claim t root range unnamed claim in
     heap-some t root unnamed (λ none. named.some (sym named.word ∙ none))
@@ -46,12 +46,12 @@ heap-claim t root range unnamed claim =
     ∙ ap (λ size. Some (record { at = range.at; size = size })) named.wide
 
 -- the block of a large extent
-pub heap-large : (t : Tables) (root : ℕ) → entry_at t.entry root ≡ 0 → t.root root ≢ 0 → is_large t.large (t.root root) ≡ true →
+pub heap-large : (t : Tables) (root : ℕ) → entry_at t.open_entry root ≡ 0 → t.root root ≢ 0 → is_large t.large (t.root root) ≡ true →
     heap t root ≡ Some (record { at = t.root root; size = 16384 * t.large (t.root root / 16384) })
 heap-large t root unnamed some large = heap-some t root unnamed some ∙ ap (λ size. Some (record { at = t.root root; size = size })) (plain_size-large t (t.root root) large)
 
 -- where no slab is live, each word is the start of a large extent
-pub is_large-rooted : {b : Bounds} {t : Tables} → IsSound b t → t.entry ≡ None → ((start : ℕ) → t.slab start ≡ false) → (root : ℕ) → t.root root ≢ 0 → is_large t.large (t.root root) ≡ true
+pub is_large-rooted : {b : Bounds} {t : Tables} → IsSound b t → t.open_entry ≡ None → ((start : ℕ) → t.slab start ≡ false) → (root : ℕ) → t.root root ≢ 0 → is_large t.large (t.root root) ≡ true
 is_large-rooted {b} {t} sound closed no_slab root some = ⊎_elim
     (λ large. large)
     (λ rest. absurd (⊎_elim
@@ -61,6 +61,6 @@ is_large-rooted {b} {t} sound closed no_slab root some = ⊎_elim
     (sound.rooted root some)
 
 -- so each root has the block of a large extent or none
-pub heap-no_slab : {b : Bounds} {t : Tables} → IsSound b t → t.entry ≡ None → ((start : ℕ) → t.slab start ≡ false) → (root : ℕ) → t.root root ≢ 0 →
+pub heap-no_slab : {b : Bounds} {t : Tables} → IsSound b t → t.open_entry ≡ None → ((start : ℕ) → t.slab start ≡ false) → (root : ℕ) → t.root root ≢ 0 →
     heap t root ≡ Some (record { at = t.root root; size = 16384 * t.large (t.root root / 16384) })
 heap-no_slab {b} {t} sound closed no_slab root some = heap-large t root (ap (λ e. entry_at e root) closed) some (is_large-rooted sound closed no_slab root some)

@@ -22,7 +22,7 @@ large_block start count = record { at = 16384 * start; size = 16384 * count }
 -- a run of granules that no other extent has: there the root has a block, or an extent is loose, or there is none
 pub record IsLargePlace (b : Bounds) (t : Tables) (root start count : ℕ) : Type 0 where
   pub sound : IsSound b t
-  pub closed : t.entry ≡ None
+  pub closed : t.open_entry ≡ None
   pub first : 0 < b.first
   pub low : b.first ≤ start
   pub some : 0 < count
@@ -87,7 +87,7 @@ module _ (t : Tables) (start here root word : ℕ) where
       (cases_Bool (is_large t.large at))
 
 module _ {b : Bounds} {t : Tables} {root start count : ℕ} (place : IsLargePlace b t root start count) where
-  pub entry_at-none : (other : ℕ) → entry_at t.entry other ≡ 0
+  pub entry_at-none : (other : ℕ) → entry_at t.open_entry other ≡ 0
   entry_at-none other = ap (λ e. entry_at e other) place.closed
 
   pub slab-other : (other : ℕ) → t.slab other ≡ true → other ≢ start

@@ -45,7 +45,7 @@ IsLargePlace-vacant {b} {t} {root} {start} {count} exact first some none vacant 
         none,
       );
       lone = λ other differ is.
-          let unnamed : entry_at t.entry other ≡ 0 = ap (λ e. entry_at e other) exact.closed in
+          let unnamed : entry_at t.open_entry other ≡ 0 = ap (λ e. entry_at e other) exact.closed in
           let claim = IsClaim-word t other unnamed (λ nothing. omega (arith, here.low)) in
           let within = IsWithin-claim exact.sound other (record { at = t.root other; size = plain_size t (t.root other) }) unnamed claim in
           here.none within.0 (subst (λ k. Covers t within.0 k) (ap (λ at. at / 16384) is ∙ granule_of-start start) (Covers-within t within.0 _ within.1));
@@ -53,7 +53,7 @@ IsLargePlace-vacant {b} {t} {root} {start} {count} exact first some none vacant 
     }
 
 -- a live extent, of which the root's word is the start or which no root has
-IsLargePlace-live : {b : Bounds} {t : Tables} {root start count : ℕ} → IsSound b t → t.entry ≡ None → 0 < b.first → 0 < count → t.large start ≡ count → (t.root root ≡ 0) ⊎ (t.root root ≡ 16384 * start) →
+IsLargePlace-live : {b : Bounds} {t : Tables} {root start count : ℕ} → IsSound b t → t.open_entry ≡ None → 0 < b.first → 0 < count → t.large start ≡ count → (t.root root ≡ 0) ⊎ (t.root root ≡ 16384 * start) →
     ((other : ℕ) → other ≢ root → t.root other ≢ 16384 * start) → ((other : ℕ) → other ≢ start → ¬ (IsLooseLarge t other)) → IsLargePlace b t root start count
 IsLargePlace-live {b} {t} {root} {start} {count} sound closed first some live word lone calm =
     let whole : granules_at t start ≡ count = granules_at-live sound start (omega (arith, live, some)) ∙ live in
@@ -89,7 +89,7 @@ IsLargePlace-named {b} {t} {root} {start} {count} exact first some has live =
     (λ other differ. IsLooseLarge-none exact other)
 
 -- a loose extent, and a root without a block
-pub IsLargePlace-loose : {b : Bounds} {t : Tables} {root start : ℕ} → IsSound b t → t.entry ≡ None → 0 < b.first → t.root root ≡ 0 → IsLooseLarge t start → IsLargePlace b t root start (t.large start)
+pub IsLargePlace-loose : {b : Bounds} {t : Tables} {root start : ℕ} → IsSound b t → t.open_entry ≡ None → 0 < b.first → t.root root ≡ 0 → IsLooseLarge t start → IsLargePlace b t root start (t.large start)
 IsLargePlace-loose {b} {t} {root} {start} sound closed first none loose =
     IsLargePlace-live sound closed first loose.live refl (inl none)
     (λ other differ. loose.unnamed other)

@@ -4,7 +4,7 @@ use Rattle.std.proofs.lemmas.Bool.{cases_eq}
 use Rattle.image_tables.specs.Tables.{Tables}
 use Rattle.heap_model.specs.Machine.{Bounds, Range}
 use Rattle.heap_check.specs.Heap.{is_large, IsClaim}
-use Rattle.heap_check.specs.Sound.{granules_at, Covers, IsInSlab, IsSlab, IsHeld, IsStanding, IsLooseLarge, IsEmptySlab, IsNearlyDone, IsSound, IsExact, IsSteady}
+use Rattle.heap_check.specs.Sound.{granules_at, Covers, IsInSlab, IsValidSlab, IsHeld, IsStanding, IsLooseLarge, IsEmptySlab, IsNearlyDone, IsSound, IsExact, IsSteady}
 use Rattle.image_tables.proofs.Updates.{put_at-same, put_at-other}
 use Rattle.heap_check.proofs.Claims.{NamesOnly-none, plain_size, IsNamed-claim}
 use Rattle.heap_check.proofs.Geometry.{granules_at-live, is_large-start, is_large-put, plain_size-start}
@@ -92,7 +92,7 @@ module _ {b : Bounds} {t : Tables} {root start count : ℕ} (place : IsLargePlac
         (was.0, omega (arith, was.1, size)))
         (cases_eq other start)
 
-    slabs : (other : ℕ) → t.slab other ≡ true → IsSlab new other
+    slabs : (other : ℕ) → t.slab other ≡ true → IsValidSlab new other
     slabs other slab =
         let was = place.sound.slabs other slab in
         record { state = was.state; small = was.small; once = was.once }
@@ -153,8 +153,8 @@ module _ {b : Bounds} {t : Tables} {root start count : ℕ} (place : IsLargePlac
     IsTouch-large : IsTouch b t new root (large_block start count)
     IsTouch-large = record {
       sound = place.sound;
-      entry = NamesOnly-none t.entry root place.closed;
-      new_entry = NamesOnly-none t.entry root place.closed;
+      entry = NamesOnly-none t.open_entry root place.closed;
+      new_entry = NamesOnly-none t.open_entry root place.closed;
       words = other_word;
       sizes = λ other differ some. plain_size-elsewhere t start here root word (t.root other) (place.lone other differ);
       others = λ other differ some standing. others_stand other differ standing;

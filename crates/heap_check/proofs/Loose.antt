@@ -21,7 +21,7 @@ IsExactBut-exact {b} {t} exact start = record {
   all_named = exact.all_named;
   others_live = λ other differ slab. exact.all_live other slab;
   calm = exact.calm;
-  none_done = exact.none_done;
+  none_done = λ other differ. exact.none_done other;
 }
 
 -- no other slab is without a root's block

@@ -4,24 +4,25 @@ use Rattle.std.proofs.lemmas.Bool.{cases_eq, cond-true, cond-false}
 use Rattle.image_tables.specs.Tables.{Tables}
 use Rattle.heap_model.specs.Machine.{Bounds}
 use Rattle.heap_check.specs.Heap.{heap, slabs}
+use Rattle.heap_check.specs.Slabs.{IsFresh}
 use Rattle.heap_check.specs.Sound.{granules_at, IsVacant}
 use Rattle.heap_check.proofs.Heaps.{heap-same}
 use Rattle.heap_check.proofs.LargePlaces.{cases_run}
 use Rattle.heap_check.proofs.Slabs.{IsSlabPlace, unnamed, new_unnamed, word, granules_at-new, Covers-differ, Covers-back, Covers-forth, plain_size-away}
 
-module _ {b : Bounds} {t new : Tables} {start class : ℕ} (place : IsSlabPlace b t new start class) where
+module _ {b : Bounds} {t new : Tables} {start : ℕ} (place : IsSlabPlace b t new start) where
   pub heap-slab : (root : ℕ) → heap new root ≡ heap t root
   heap-slab root = heap-same t new root (unnamed place root) (new_unnamed place root) (word place root) (λ some. plain_size-away place (t.root root) (place.away root some))
 
-  pub slabs-slab : slabs new start ≡ Some class
-  slabs-slab = let it = place.with_slab in cond-true (new.slab start) (Some (new.class start)) None it.slab ∙ ap (λ c. Some c) it.class_is
+  pub slabs-slab : (class : ℕ) → IsFresh new start class → slabs new start ≡ Some class
+  slabs-slab class fresh = cond-true (new.slab start) (Some (new.class start)) None place.more.slab ∙ ap (λ c. Some c) fresh.class_is
 
   pub slabs-none : slabs t start ≡ None
-  slabs-none = cond-false (t.slab start) (Some (t.class start)) None place.with_slab.none
+  slabs-none = cond-false (t.slab start) (Some (t.class start)) None place.more.none
 
   pub slabs-other : (other : ℕ) → other ≢ start → slabs new other ≡ slabs t other
   slabs-other other differ =
-      let same = place.with_slab.others other differ in
+      let same = place.more.others other differ in
       ap (λ b. cond b (Some (new.class other)) None) same.slab ∙ ap (λ c. cond (t.slab other) (Some c) None) same.class
 
   -- the granules that are vacant with the slab

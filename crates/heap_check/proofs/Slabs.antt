@@ -5,34 +5,41 @@ use Rattle.size_classes.specs.Classes.{class_capacity}
 use Rattle.image_tables.specs.Tables.{Tables}
 use Rattle.heap_model.specs.Machine.{Bounds, Range, slab_block}
 use Rattle.heap_check.specs.Heap.{slab_of, is_large, entry_at, IsClaim, Holds, HoldsBit, HoldsOld}
-use Rattle.heap_check.specs.Slabs.{IsWithSlab}
+use Rattle.heap_check.specs.Slabs.{IsSlabMore, IsFresh}
 use Rattle.heap_check.specs.Sound.{granules_at, Covers, IsInSlab, IsHeld, IsStanding, IsEmptySlab}
 use Rattle.heap_check.proofs.Claims.{plain_size, IsNamed-claim, IsClaim-named}
 use Rattle.heap_check.proofs.Geometry.{granules_at-slab, granules_at-large}
 
--- the slab's granules are no other extent's, and no root's word lies in them
-pub record IsSlabPlace (b : Bounds) (t new : Tables) (start class : ℕ) : Type 0 where
-  pub with_slab : IsWithSlab t new start class
-  pub closed : t.entry ≡ None
+-- the slab holds no block, its granules are no other extent's, and no root's word lies in them
+pub record IsSlabPlace (b : Bounds) (t new : Tables) (start : ℕ) : Type 0 where
+  pub more : IsSlabMore t new start
+  pub holds_none : (range : Range) → ¬ (Holds new start range)
+  pub closed : t.open_entry ≡ None
   pub first : 0 < b.first
-  pub below : class < 36
   pub low : b.first ≤ start
   pub high : start + 4 ≤ b.granules
   pub no_large : t.large start ≡ 0
   pub free : (other k : ℕ) → other ≢ start → Covers t other k → (k < start) ⊎ (start + 4 ≤ k)
   pub away : (root : ℕ) → t.root root ≢ 0 → (t.root root / 16384 < start) ⊎ (start + 4 ≤ t.root root / 16384)
 
-module _ {b : Bounds} {t new : Tables} {start class : ℕ} (place : IsSlabPlace b t new start class) where
-  abbrev it : IsWithSlab t new start class
-  it = place.with_slab
+-- a fresh slab holds no block
+pub holds_none-fresh : {t : Tables} {start class : ℕ} → IsFresh t start class → (range : Range) → ¬ (Holds t start range)
+holds_none-fresh {t} {start} {class} fresh range holds = ⊎_elim
+    (λ (bit : HoldsBit t start range). true≢false (sym bit.set ∙ fresh.clear bit.number (subst (λ c. bit.number < class_capacity c) fresh.class_is bit.below)))
+    (λ (old : HoldsOld t start range). omega (arith, old.below, fresh.index_count))
+    holds.block
 
-  pub new_closed : new.entry ≡ None
+module _ {b : Bounds} {t new : Tables} {start : ℕ} (place : IsSlabPlace b t new start) where
+  abbrev it : IsSlabMore t new start
+  it = place.more
+
+  pub new_closed : new.open_entry ≡ None
   new_closed = it.entry ∙ place.closed
 
-  pub unnamed : (root : ℕ) → entry_at t.entry root ≡ 0
+  pub unnamed : (root : ℕ) → entry_at t.open_entry root ≡ 0
   unnamed root = ap (λ e. entry_at e root) place.closed
 
-  pub new_unnamed : (root : ℕ) → entry_at new.entry root ≡ 0
+  pub new_unnamed : (root : ℕ) → entry_at new.open_entry root ≡ 0
   new_unnamed root = ap (λ e. entry_at e root) new_closed
 
   pub word : (root : ℕ) → new.root root ≡ t.root root
@@ -69,12 +76,7 @@ module _ {b : Bounds} {t new : Tables} {start class : ℕ} (place : IsSlabPlace 
 
   pub Holds-back : (other : ℕ) (range : Range) → Holds new other range → (other ≢ start) × Holds t other range
   Holds-back other range holds = ⊎_elim
-      (λ (same : other ≡ start).
-      let here : Holds new start range = subst (λ s. Holds new s range) same holds in
-      absurd (⊎_elim
-      (λ (bit : HoldsBit new start range). true≢false (sym bit.set ∙ it.clear bit.number (subst (λ c. bit.number < class_capacity c) it.class_is bit.below)))
-      (λ (old : HoldsOld new start range). omega (arith, old.below, it.entries))
-      here.block))
+      (λ (same : other ≡ start). absurd (place.holds_none range (subst (λ s. Holds new s range) same holds)))
       (λ (differ : other ≢ start).
       let same = it.others other differ in (
         differ,
@@ -90,7 +92,7 @@ module _ {b : Bounds} {t new : Tables} {start class : ℕ} (place : IsSlabPlace 
               }))
               (λ (old : HoldsOld new other range). inr (record {
                 place = old.place;
-                below = omega (arith, old.below, same.entries);
+                below = omega (arith, old.below, same.index_count);
                 live = sym (ap (λ (row : ℕ → Bool). row old.place) same.live) ∙ old.live;
                 is = old.is ∙ ap (λ c. slab_block other c (new.number other old.place)) same.old ∙ ap (λ i. slab_block other (t.old other) i) (ap (λ (row : ℕ → ℕ). row old.place) same.number);
               }))
@@ -114,7 +116,7 @@ module _ {b : Bounds} {t new : Tables} {start class : ℕ} (place : IsSlabPlace 
             }))
             (λ (old : HoldsOld t other range). inr (record {
               place = old.place;
-              below = omega (arith, old.below, same.entries);
+              below = omega (arith, old.below, same.index_count);
               live = ap (λ (row : ℕ → Bool). row old.place) same.live ∙ old.live;
               is = old.is ∙ ap (λ c. slab_block other c (t.number other old.place)) (sym same.old) ∙ ap (λ i. slab_block other (new.old other) i) (sym (ap (λ (row : ℕ → ℕ). row old.place) same.number));
             }))
@@ -144,7 +146,7 @@ module _ {b : Bounds} {t new : Tables} {start class : ℕ} (place : IsSlabPlace 
       let s = slab_of t.slab (at / 16384) in
       let there = slab_of-away (at / 16384) away in
       let same = it.others s there.1 in
-      rw (it.large, there.0, same.old, same.class, same.live, same.number, same.entries) refl
+      rw (it.large, there.0, same.old, same.class, same.live, same.number, same.index_count) refl
 
   pub claims-forth : (root : ℕ) (range : Range) → IsClaim t root range → IsClaim new root range
   claims-forth root range claim =

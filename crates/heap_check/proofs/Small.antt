@@ -1,5 +1,5 @@
 -- A small block and its root come and go, under an entry of the root: what the tables say then of blocks and claims.
-use Rattle.std.proofs.Common.{◌≡◌, ◌≢◌, ◌⊎◌, ◌==◌, ◌&&◌, ◌||◌, ℕ, zero, suc, ◌+◌, ◌*◌, ◌/◌, ◌<◌, ◌≤◌, Bool, true, false, true≢false, refl, sym, ap, subst, ◌∙◌, arith, inl, inr, ⊎_elim, ltb, Option, Some, None}
+use Rattle.std.proofs.Common.{◌≡◌, ◌≢◌, ◌⊎◌, ◌==◌, ◌&&◌, ◌||◌, ℕ, zero, suc, ◌+◌, ◌*◌, ◌/◌, ◌<◌, ◌≤◌, Bool, true, false, true≢false, refl, sym, ap, subst, ◌∙◌, arith, inl, inr, ⊎_elim, ltb, Option, Some}
 use Rattle.std.proofs.lemmas.Bool.{cases_eq, cases_lt, cond-true, eq-eqb, lt-ltb, and_from}
 use native.Mathlib.Nat.{mul-le-mul_right}
 use Rattle.size_classes.specs.Classes.{class_size, class_capacity}
@@ -11,11 +11,12 @@ use Rattle.heap_model.specs.Machine.{Bounds, Range, AreApart, LiesIn, slab_block
 use Rattle.heap_model.proofs.Slabbing.{LiesIn-block}
 use Rattle.heap_model.specs.Below.{any_below}
 use Rattle.heap_check.specs.Heap.{slab_of, is_old_of, is_old, size_at, entry_at, IsClaim, Holds, HoldsBit, HoldsOld}
-use Rattle.heap_check.specs.Sound.{Covers, IsInSlab, IsEmptySlab, IsSound}
+use Rattle.heap_check.specs.Sound.{IsInSlab, IsOpen, IsSound, IsExactBut}
 use Rattle.image_tables.specs.Updates.{put_in, with_small}
-use Rattle.image_tables.proofs.Updates.{put_in-same, put_in-other}
-use Rattle.heap_check.proofs.Claims.{NamesOnly, NamesOnly-none, NamesOnly-some, plain_size, IsClaim-word}
+use Rattle.image_tables.proofs.Updates.{put_at-same, put_in-same, put_in-other}
+use Rattle.heap_check.proofs.Claims.{NamesOnly-some, plain_size}
 use Rattle.heap_check.proofs.Geometry.{Covers-slab, is_large-slab, slab_of-here}
+use Rattle.heap_check.proofs.OneBlock.{IsOneBlock}
 
 -- a place in the bitmaps is this one, or differs
 pub cases_bit : (start number s i : ℕ) → ((s ≡ start) × (i ≡ number)) ⊎ ((s ≢ start) ⊎ (i ≢ number))
@@ -32,34 +33,17 @@ small_entry root at = Place root at false 0
 abbrev pub block_in : Tables → ℕ → ℕ → Range
 block_in t start number = slab_block start (t.class start) number
 
--- A block of a slab that overlaps no other root's: the root has it, or it is free and the root has none.
+-- A block of a slab's class, in an image that is exact but for the slab: a root has it, or it is free and the root has none;
+-- it overlaps no other root's.
 pub record IsSmallPlace (b : Bounds) (t : Tables) (root start number : ℕ) : Type 0 where
-  pub sound : IsSound b t
-  pub closed : t.entry ≡ None
+  pub but : IsExactBut b t start
   pub first : 0 < b.first
   pub rooted : root < b.roots
   pub slab : t.slab start ≡ true
   pub below : number < class_capacity (t.class start)
-  pub calm : (other : ℕ) → t.slab other ≡ true → t.kind other ≢ 2
   pub no_old : is_old t start (block_in t start number).at ≡ false
   pub was : ((t.bit start number ≡ false) × (t.root root ≡ 0)) ⊎ ((t.bit start number ≡ true) × (t.root root ≡ (block_in t start number).at))
   pub apart : (other : ℕ) (range : Range) → other ≢ root → IsClaim t other range → AreApart range (block_in t start number)
-  pub lived : (other : ℕ) → other ≢ start → ¬ (IsEmptySlab t other)
-
--- with the entry open, bit and word are there or not; with none, both are there or neither
-pub record IsSmallStage (root at : ℕ) (on : Bool) (word : ℕ) (entry : Option WalEntry) : Type 0 where
-  pub is : ((entry ≡ Some (small_entry root at)) × ((word ≡ 0) ⊎ (word ≡ at))) ⊎ ((entry ≡ None) × (((on ≡ false) × (word ≡ 0)) ⊎ ((on ≡ true) × (word ≡ at))))
-
--- the root's word is 0 or the address, in each case
-pub stage_word : {root at : ℕ} {on : Bool} {word : ℕ} {entry : Option WalEntry} → IsSmallStage root at on word entry → (word ≡ 0) ⊎ (word ≡ at)
-stage_word {root} {at} {on} {word} {entry} stage = ⊎_elim (λ open'. open'.1) (λ shut. ⊎_elim (λ none. inl none.1) (λ both. inr both.1) shut.1) stage.is
-
--- the entry names the root or none
-pub stage_names : {root at : ℕ} {on : Bool} {word : ℕ} {entry : Option WalEntry} → IsSmallStage root at on word entry → NamesOnly entry root
-stage_names {root} {at} {on} {word} {entry} stage = ⊎_elim
-    (λ open'. subst (λ e. NamesOnly e root) (sym open'.0) (NamesOnly-some root at false 0))
-    (λ shut. NamesOnly-none entry root shut.0)
-    stage.is
 
 -- what the entry says of its root
 pub entry_at-own : (root at : ℕ) → entry_at (Some (small_entry root at)) root ≡ at
@@ -100,7 +84,7 @@ any_below-true test (suc n) k below passes = ⊎_elim
 pub is_old-held : (t : Tables) (start at : ℕ) (range : Range) → HoldsOld t start range → range.at ≡ at → is_old t start at ≡ true
 unfolding is_old_of
 is_old-held t start at range old here =
-    any_below-true _ (t.entries start) old.place old.below
+    any_below-true _ (t.index_count start) old.place old.below
     (and_from (t.live start old.place) _ old.live (eq-eqb _ at (sym (ap (λ (x : Range). x.at) old.is) ∙ here)))
 
 -- what no place is asked for: the blocks that slabs hold are the same but for this one
@@ -137,15 +121,15 @@ module _ (t : Tables) (start number : ℕ) (on : Bool) (root word : ℕ) (entry 
       (λ (old : HoldsOld t s range). inl (record { slab = holds.slab; block = inr (record { place = old.place; below = old.below; live = old.live; is = old.is }) }))
       holds.block
 
-  pub Covers-back : (s k : ℕ) → Covers (with_small t start number on root word entry) s k → Covers t s k
-  Covers-back s k covers = record { low = covers.low; high = covers.high }
-
 module _ {b : Bounds} {t : Tables} {root start number : ℕ} (place : IsSmallPlace b t root start number) where
   abbrev block : Range
   block = block_in t start number
 
+  sound : IsSound b t
+  sound = place.but.sound
+
   size_some : 16 ≤ class_size (t.class start)
-  size_some = class_size-least (t.class start) (place.sound.slabs start place.slab).state.is_class
+  size_some = class_size-least (t.class start) (sound.slabs start place.slab).state.is_class
 
   -- the block lies in its slab
   pub IsInSlab-block : IsInSlab t start (block_in t start number).at
@@ -156,15 +140,12 @@ module _ {b : Bounds} {t : Tables} {root start number : ℕ} (place : IsSmallPla
   pub block_some : (block_in t start number).at ≢ 0
   block_some none = omega (arith, none)
 
-  pub entry_at-none : (other : ℕ) → entry_at t.entry other ≡ 0
-  entry_at-none other = ap (λ e. entry_at e other) place.closed
-
   in_here : slab_of t.slab (block.at / 16384) ≡ start
-  in_here = slab_of-here place.sound start (block.at / 16384) place.slab (omega (arith, IsInSlab-block.low)) (omega (arith, IsInSlab-block.high))
+  in_here = slab_of-here sound start (block.at / 16384) place.slab (omega (arith, IsInSlab-block.low)) (omega (arith, IsInSlab-block.high))
 
   -- its size, by the slab
   pub plain_size-block : plain_size t (block_in t start number).at ≡ (block_in t start number).size
-  plain_size-block = rw (is_large-slab place.sound start block.at IsInSlab-block, in_here, place.no_old) refl
+  plain_size-block = rw (is_large-slab sound start block.at IsInSlab-block, in_here, place.no_old) refl
 
   -- and by the entry
   pub size_at-own : (on : Bool) (word : ℕ) →
@@ -172,25 +153,18 @@ module _ {b : Bounds} {t : Tables} {root start number : ℕ} (place : IsSmallPla
   size_at-own on word =
       let own = entry_at-own root block.at in
       let test : ((entry_at (Some (small_entry root block.at)) root == block.at) && ltb 0 block.at) ≡ true = and_from _ _ (eq-eqb _ _ own) (lt-ltb 0 block.at (omega arith)) in
-      rw (is_large-slab place.sound start block.at IsInSlab-block, test, in_here) refl
-
-  -- no other root's word is its address
-  pub lone : (other : ℕ) → other ≢ root → t.root other ≢ (block_in t start number).at
-  lone other differ is =
-      let claim = IsClaim-word t other (entry_at-none other) (λ none. block_some (sym is ∙ none)) in
-      let wide : plain_size t (t.root other) ≡ block.size = ap (plain_size t) is ∙ plain_size-block in
-      ⊎_elim (λ x. omega (arith, x, is, wide, size_some)) (λ x. omega (arith, x, is, size_some)) (place.apart other _ differ claim)
+      rw (is_large-slab sound start block.at IsInSlab-block, test, in_here) refl
 
   -- no other slab has its place
   pub same_slab : (other : ℕ) → IsInSlab t other (block_in t start number).at → other ≡ start
-  same_slab other inside = place.sound.disjoint other start (block.at / 16384)
+  same_slab other inside = sound.disjoint other start (block.at / 16384)
       (Covers-slab t other (block.at / 16384) inside.slab (omega (arith, inside.low)) (omega (arith, inside.high)))
       (Covers-slab t start (block.at / 16384) place.slab (omega (arith, IsInSlab-block.low)) (omega (arith, IsInSlab-block.high)))
 
   -- once its bit is clear no slab holds it
   pub unheld : (other word : ℕ) (entry : Option WalEntry) → ¬ (Holds (with_small t start number false root word entry) other (block_in t start number))
   unheld other word entry holds =
-      let state = place.sound.slabs other holds.slab in
+      let state = sound.slabs other holds.slab in
       let inside : LiesIn other block → IsInSlab t other block.at = λ lies. record { slab = holds.slab; low = lies.low; high = omega (arith, lies.high, size_some) } in
       ⊎_elim
       (λ (bit : HoldsBit (with_small t start number false root word entry) other block).
@@ -203,3 +177,44 @@ module _ {b : Bounds} {t : Tables} {root start number : ℕ} (place : IsSmallPla
       let was : HoldsOld t other block = record { place = old.place; below = old.below; live = old.live; is = old.is } in
       true≢false (sym (is_old-held t start block.at block (subst (λ s. HoldsOld t s block) same was) refl) ∙ place.no_old))
       holds.block
+
+  -- while no slab takes another class, it is held where its bit is set
+  held : (word : ℕ) (entry : Option WalEntry) → Holds (with_small t start number true root word entry) start block
+  held word entry = record {
+    slab = place.slab;
+    block = inl (record { number = number; below = place.below; read = λ kind. place.but.calm start (record { slab = place.slab; kind = kind }); set = put_in-same t.bit start number true; is = refl });
+  }
+
+  -- its entry may be open
+  opens : (on : Bool) (word : ℕ) → (word ≡ 0) ⊎ (word ≡ block.at) → IsOpen b (with_small t start number on root word (Some (small_entry root block.at))) (small_entry root block.at)
+  opens on word either = record {
+    entry = record {
+      rooted = place.rooted;
+      word = ⊎_elim (λ none. inl (put_at-same t.root root word ∙ none)) (λ has. inr (put_at-same t.root root word ∙ has)) either;
+      block = inl (refl, record { start = start; number = number; slab = place.slab; below = place.below; is = refl });
+    };
+    calm = λ other slab kind. place.but.calm other (record { slab = slab; kind = kind });
+  }
+
+  -- so it comes and goes as one block
+  pub IsOneBlock-small : IsOneBlock b t (λ on. put_in t.bit start number on) (λ on. t.live) (small_entry root (block_in t start number).at) root start (block_in t start number)
+  IsOneBlock-small = record {
+    but = place.but;
+    first = place.first;
+    lies = IsInSlab-block;
+    some = block_some;
+    wide = omega (arith, size_some);
+    was = ⊎_elim (λ none. inl none.1) (λ has. inr (has.1, plain_size-block)) place.was;
+    apart = place.apart;
+    names = NamesOnly-some root block.at false 0;
+    named = entry_at-own root block.at;
+    opens = opens;
+    sized = size_at-own;
+    back = λ on word entry. Holds-back t start number on root word entry;
+    forth = λ on word entry. Holds-forth t start number on root word entry;
+    held = held;
+    unheld = λ word entry other. unheld other word entry;
+    sizes = λ on word entry at differ. refl;
+    size_held = λ word entry. plain_size-block;
+    others = λ on other differ. refl;
+  }

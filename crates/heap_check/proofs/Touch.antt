@@ -5,15 +5,15 @@ use Rattle.image_tables.specs.declared.entry.WalEntry.{WalEntry}
 use Rattle.image_tables.specs.Tables.{Tables}
 use Rattle.heap_model.specs.Machine.{Bounds, Range, AreApart}
 use Rattle.heap_check.specs.Heap.{IsClaim, Holds}
-use Rattle.heap_check.specs.Sound.{granules_at, Covers, IsSlab, IsOpen, IsStanding, AtMostOne, IsLooseLarge, IsEmptySlab, IsMorphing, IsDoneSlab, IsSound}
+use Rattle.heap_check.specs.Sound.{granules_at, Covers, IsValidSlab, IsOpen, IsStanding, AtMostOne, IsLooseLarge, IsEmptySlab, IsMorphing, IsDoneSlab, IsSound}
 use Rattle.heap_check.proofs.Claims.{NamesOnly, plain_size, IsNamed-claim, IsClaim-named}
 
 -- what changes between the tables is the block that a root has before or after; where it has none, the range is empty
 pub record IsTouch (b : Bounds) (t new : Tables) (root : ℕ) (block : Range) : Type 0 where
   pub sound : IsSound b t
   -- the open entry names no other root, before and after
-  pub entry : NamesOnly t.entry root
-  pub new_entry : NamesOnly new.entry root
+  pub entry : NamesOnly t.open_entry root
+  pub new_entry : NamesOnly new.open_entry root
   -- the other roots: their words and blocks are the same, and stand
   pub words : (other : ℕ) → other ≢ root → new.root other ≡ t.root other
   pub sizes : (other : ℕ) → other ≢ root → t.root other ≢ 0 → plain_size new (t.root other) ≡ plain_size t (t.root other)
@@ -30,8 +30,8 @@ pub record IsTouch (b : Bounds) (t new : Tables) (root : ℕ) (block : Range) : 
   pub disjoint : (start other k : ℕ) → Covers new start k → Covers new other k → start ≡ other
   pub starts : (start : ℕ) → 0 < granules_at new start → (b.first ≤ start) × (start + granules_at new start ≤ b.granules)
   pub one_kind : (start : ℕ) → new.slab start ≡ true → new.large start ≡ 0
-  pub slabs : (start : ℕ) → new.slab start ≡ true → IsSlab new start
-  pub open_entry : (e : WalEntry) → new.entry ≡ Some e → IsOpen b new e
+  pub slabs : (start : ℕ) → new.slab start ≡ true → IsValidSlab new start
+  pub open_entry : (e : WalEntry) → new.open_entry ≡ Some e → IsOpen b new e
   pub loose_large : AtMostOne (IsLooseLarge new)
   pub empty_slab : AtMostOne (IsEmptySlab new)
   pub morphing : AtMostOne (IsMorphing new)

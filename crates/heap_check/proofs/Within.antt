@@ -49,7 +49,7 @@ module _ {b : Bounds} {t : Tables} (sound : IsSound b t) where
       (cases_eq root other)
 
   -- the block of a root that the open entry does not name
-  pub IsWithin-claim : (root : ℕ) (range : Range) → entry_at t.entry root ≡ 0 → IsClaim t root range → (start : ℕ) × IsWithin t start range
+  pub IsWithin-claim : (root : ℕ) (range : Range) → entry_at t.open_entry root ≡ 0 → IsClaim t root range → (start : ℕ) × IsWithin t start range
   IsWithin-claim root range none claim =
       let named = IsNamed-claim t root range none claim in
       let wide : range.size ≡ plain_size t (t.root root) = sym named.wide ∙ ap (λ at. plain_size t at) (sym named.word) in
@@ -76,7 +76,7 @@ module _ {b : Bounds} {t : Tables} (sound : IsSound b t) where
       (sound.rooted root (λ z. named.some (sym named.word ∙ z)))
 
   -- a root's block in a large extent starts where that does
-  pub IsWithin-start : (root start : ℕ) (range : Range) → entry_at t.entry root ≡ 0 → IsClaim t root range → t.slab start ≢ true → IsWithin t start range → range.at ≡ 16384 * start
+  pub IsWithin-start : (root start : ℕ) (range : Range) → entry_at t.open_entry root ≡ 0 → IsClaim t root range → t.slab start ≢ true → IsWithin t start range → range.at ≡ 16384 * start
   IsWithin-start root start range none claim no_slab within =
       let named = IsNamed-claim t root range none claim in
       let k = range.at / 16384 in

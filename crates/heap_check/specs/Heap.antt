@@ -7,7 +7,7 @@ use Rattle.image_tables.specs.declared.entry.WalEntry.TheVariants.{Place, Move}
 use Rattle.image_tables.specs.Forms.{morphing_kind}
 use Rattle.image_tables.specs.Tables.{Tables}
 use Rattle.heap_model.specs.Below.{any_below}
-use Rattle.heap_model.specs.Machine.{Range, slab_block}
+use Rattle.heap_model.specs.Machine.{Range, AreApart, slab_block}
 
 -- the start of the slab that has a granule, where one has it
 unfoldable pub slab_of : (ℕ → Bool) → ℕ → ℕ
@@ -19,7 +19,7 @@ is_old_of start c live number n at = any_below (λ place. live place && ((slab_b
 
 -- a live index entry of the slab has its block there
 abbrev pub is_old : Tables → ℕ → ℕ → Bool
-is_old t start at = is_old_of start (t.old start) (t.live start) (t.number start) (t.entries start) at
+is_old t start at = is_old_of start (t.old start) (t.live start) (t.number start) (t.index_count start) at
 
 -- a live large extent starts at the address
 unfoldable pub is_large : (ℕ → ℕ) → ℕ → Bool
@@ -47,7 +47,7 @@ size_by t at of_old = class_size (if of_old then t.old (slab_of t.slab (at / 163
 abbrev pub size_at : Tables → ℕ → ℕ → ℕ
 size_at t root at =
     if is_large t.large at then 16384 * t.large (at / 16384)
-    else (if (entry_at t.entry root == at) && nat_lt 0 at then size_by t at (entry_old t.entry)
+    else (if (entry_at t.open_entry root == at) && nat_lt 0 at then size_by t at (entry_old t.open_entry)
     else size_by t at (is_old t (slab_of t.slab (at / 16384)) at))
 
 -- the heap of an image: each root that holds an address has the block there
@@ -62,7 +62,7 @@ slabs t start = if t.slab start then Some (t.class start) else None
 
 -- the address of a root's block, 0 where it has none
 abbrev pub claim_at : Tables → ℕ → ℕ
-claim_at t root = if t.root root == 0 then entry_at t.entry root else t.root root
+claim_at t root = if t.root root == 0 then entry_at t.open_entry root else t.root root
 
 -- a root has this block
 pub record IsClaim (t : Tables) (root : ℕ) (range : Range) : Type 0 where
@@ -83,7 +83,7 @@ pub record HoldsBit (t : Tables) (start : ℕ) (range : Range) : Type 0 where
 -- the block of a live index entry, of the old class
 pub record HoldsOld (t : Tables) (start : ℕ) (range : Range) : Type 0 where
   pub place : ℕ
-  pub below : place < t.entries start
+  pub below : place < t.index_count start
   pub live : t.live start place ≡ true
   pub is : range ≡ slab_block start (t.old start) (t.number start place)
 
@@ -91,3 +91,7 @@ pub record HoldsOld (t : Tables) (start : ℕ) (range : Range) : Type 0 where
 pub record Holds (t : Tables) (start : ℕ) (range : Range) : Type 0 where
   pub slab : t.slab start ≡ true
   pub block : HoldsBit t start range ⊎ HoldsOld t start range
+
+-- Block `number` of a class in the slab at a start is unused: it shares no byte with a block that the slab holds.
+pub record IsUnusedIn (t : Tables) (start class number : ℕ) : Type 0 where
+  pub each : (range : Range) → Holds t start range → AreApart range (slab_block start class number)

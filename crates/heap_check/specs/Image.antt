@@ -49,7 +49,7 @@ pub record IsExactImage (words : List ℕ) : Type 0 where
   pub formed : IsFormed words
   pub exact : IsExact (bounds_of words) (tables_of words)
 
--- the image is exact, but that a slab may have no root's block
+-- the image is exact, but for one slab
 pub record IsExactButImage (words : List ℕ) (start : ℕ) : Type 0 where
   pub formed : IsFormed words
   pub but : IsExactBut (bounds_of words) (tables_of words) start

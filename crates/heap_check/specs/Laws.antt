@@ -10,7 +10,7 @@ use Rattle.heap_check.specs.State.{HasState}
 -- the tables say that there is nothing: no root has a word, no entry is open, and no extent is live
 pub record AreBlank (t : Tables) : Type 0 where
   pub roots : (root : ℕ) → t.root root ≡ 0
-  pub closed : t.entry ≡ None
+  pub closed : t.open_entry ≡ None
   pub no_large : (start : ℕ) → t.large start ≡ 0
   pub no_slab : (start : ℕ) → t.slab start ≡ false
 

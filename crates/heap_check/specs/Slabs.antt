@@ -1,6 +1,7 @@
--- An image has one slab more than another, an empty one: what the tables of both say.
+-- An image has one slab more than another: what the tables of both say.
 use Rattle.std.specs.Prelude.{◌≡◌, ◌≢◌, ℕ, ◌<◌, true, false}
 use Rattle.size_classes.specs.Classes.{class_capacity}
+use Rattle.image_tables.specs.Forms.{normal_kind}
 use Rattle.image_tables.specs.Tables.{Tables}
 
 -- two tables say the same of a slab
@@ -9,22 +10,30 @@ pub record IsSameSlab (t new : Tables) (start : ℕ) : Type 0 where
   pub kind : new.kind start ≡ t.kind start
   pub class : new.class start ≡ t.class start
   pub old : new.old start ≡ t.old start
-  pub entries : new.entries start ≡ t.entries start
+  pub index_count : new.index_count start ≡ t.index_count start
   pub bit : new.bit start ≡ t.bit start
   pub live : new.live start ≡ t.live start
   pub number : new.number start ≡ t.number start
 
--- The second tables have one slab more, a normal one of this class that holds no block.
-pub record IsWithSlab (t new : Tables) (start class : ℕ) : Type 0 where
+-- the second tables have one slab more, and say the same of all else
+pub record IsSlabMore (t new : Tables) (start : ℕ) : Type 0 where
   pub word : new.word ≡ t.word
   pub root : new.root ≡ t.root
-  pub entry : new.entry ≡ t.entry
+  pub entry : new.open_entry ≡ t.open_entry
   pub large : new.large ≡ t.large
   pub none : t.slab start ≡ false
   pub slab : new.slab start ≡ true
-  pub kind : new.kind start ≡ 1
-  pub class_is : new.class start ≡ class
-  pub old : new.old start ≡ 0
-  pub entries : new.entries start ≡ 0
-  pub clear : (i : ℕ) → i < class_capacity class → new.bit start i ≡ false
   pub others : (other : ℕ) → other ≢ start → IsSameSlab t new other
+
+-- the slab at the start is as it is made: a normal one of this class that holds no block
+pub record IsFresh (t : Tables) (start class : ℕ) : Type 0 where
+  pub kind : t.kind start ≡ normal_kind
+  pub class_is : t.class start ≡ class
+  pub old : t.old start ≡ 0
+  pub index_count : t.index_count start ≡ 0
+  pub clear : (i : ℕ) → i < class_capacity class → t.bit start i ≡ false
+
+-- the second tables have one slab more, a fresh one
+pub record IsWithSlab (t new : Tables) (start class : ℕ) : Type 0 where
+  pub more : IsSlabMore t new start
+  pub fresh : IsFresh new start class

@@ -35,10 +35,10 @@ pub record IsInSlab (t : Tables) (start at : ℕ) : Type 0 where
 -- slabs
 
 -- state word and index entries of a slab are valid
-pub record IsSlab (t : Tables) (start : ℕ) : Type 0 where
-  pub state : IsState (t.kind start) (t.class start) (t.old start) (t.entries start)
-  pub small : (place : ℕ) → place < t.entries start → t.number start place < class_capacity (t.old start)
-  pub once : (place other : ℕ) → place < t.entries start → other < t.entries start → t.number start place ≡ t.number start other → place ≡ other
+pub record IsValidSlab (t : Tables) (start : ℕ) : Type 0 where
+  pub state : IsState (t.kind start) (t.class start) (t.old start) (t.index_count start)
+  pub small : (place : ℕ) → place < t.index_count start → t.number start place < class_capacity (t.old start)
+  pub once : (place other : ℕ) → place < t.index_count start → other < t.index_count start → t.number start place ≡ t.number start other → place ≡ other
 
 -- the open entry
 
@@ -55,7 +55,7 @@ pub record IsOldEntry (t : Tables) (at place : ℕ) : Type 0 where
   pub start : ℕ
   pub slab : t.slab start ≡ true
   pub kind : t.kind start ≡ morphed_kind
-  pub below : place < t.entries start
+  pub below : place < t.index_count start
   pub is : at ≡ (slab_block start (t.old start) (t.number start place)).at
 
 -- a place entry may be open: its root holds nothing or its address, and it names a block
@@ -93,7 +93,7 @@ pub record IsHeld (t : Tables) (at : ℕ) : Type 0 where
 -- a root's block may stand at the address: a live large extent starts there, a slab holds a block there, or the open
 -- place entry names this root and the address
 abbrev pub IsStanding : Tables → ℕ → ℕ → Type 0
-IsStanding t root at = (is_large t.large at ≡ true) ⊎ (IsHeld t at ⊎ (entry_at t.entry root ≡ at))
+IsStanding t root at = (is_large t.large at ≡ true) ⊎ (IsHeld t at ⊎ (entry_at t.open_entry root ≡ at))
 
 -- loose things
 
@@ -120,7 +120,14 @@ pub record IsMorphing (t : Tables) (start : ℕ) : Type 0 where
 pub record IsDoneSlab (t : Tables) (start : ℕ) : Type 0 where
   pub slab : t.slab start ≡ true
   pub kind : t.kind start ≡ morphed_kind
-  pub none : (place : ℕ) → place < t.entries start → t.live start place ≡ false
+  pub none : (place : ℕ) → place < t.index_count start → t.live start place ≡ false
+
+-- Nothing comes to be loose: each loose extent and slab of the second tables is one of the first.
+pub record LoosensNothing (t new : Tables) : Type 0 where
+  pub large : (start : ℕ) → IsLooseLarge new start → IsLooseLarge t start
+  pub empty : (start : ℕ) → IsEmptySlab new start → IsEmptySlab t start
+  pub morphing : (start : ℕ) → IsMorphing new start → IsMorphing t start
+  pub done : (start : ℕ) → IsDoneSlab new start → IsDoneSlab t start
 
 -- The image is sound: its live extents are disjoint and lie in the heap; slabs and the open entry are valid; what each
 -- root holds stands where a block may, no two roots' blocks overlap, and each block that a slab holds is a root's; and of each of
@@ -129,8 +136,8 @@ pub record IsSound (b : Bounds) (t : Tables) : Type 0 where
   pub disjoint : (start other k : ℕ) → Covers t start k → Covers t other k → start ≡ other
   pub starts : (start : ℕ) → 0 < granules_at t start → (b.first ≤ start) × (start + granules_at t start ≤ b.granules)
   pub one_kind : (start : ℕ) → t.slab start ≡ true → t.large start ≡ 0
-  pub slabs : (start : ℕ) → t.slab start ≡ true → IsSlab t start
-  pub open_entry : (e : WalEntry) → t.entry ≡ Some e → IsOpen b t e
+  pub slabs : (start : ℕ) → t.slab start ≡ true → IsValidSlab t start
+  pub open_entry : (e : WalEntry) → t.open_entry ≡ Some e → IsOpen b t e
   pub rooted : (root : ℕ) → t.root root ≢ 0 → IsStanding t root (t.root root)
   pub apart : (root other : ℕ) (range another : Range) → root ≢ other → IsClaim t root range → IsClaim t other another → AreApart range another
   pub claimed : (start : ℕ) (range : Range) → Holds t start range → (root : ℕ) × IsClaim t root range
@@ -142,7 +149,7 @@ pub record IsSound (b : Bounds) (t : Tables) : Type 0 where
 -- The image is exact: sound with nothing loose.
 pub record IsExact (b : Bounds) (t : Tables) : Type 0 where
   pub sound : IsSound b t
-  pub closed : t.entry ≡ None
+  pub closed : t.open_entry ≡ None
   pub all_named : (start : ℕ) → 0 < t.large start → (root : ℕ) × (t.root root ≡ 16384 * start)
   pub all_live : (start : ℕ) → t.slab start ≡ true → (root : ℕ) × (t.root root ≢ 0) × IsInSlab t start (t.root root)
   pub calm : (start : ℕ) → ¬ (IsMorphing t start)
@@ -155,26 +162,27 @@ pub record HasOther (t : Tables) (root start : ℕ) : Type 0 where
   pub some : t.root other ≢ 0
   pub inside : IsInSlab t start (t.root other)
 
--- The image is exact, but that the slab at a start may have no root's block.
+-- The image is exact, but that the slab at a start may have no root's block, or no old one left where it took another
+-- class.
 pub record IsExactBut (b : Bounds) (t : Tables) (start : ℕ) : Type 0 where
   pub sound : IsSound b t
-  pub closed : t.entry ≡ None
+  pub closed : t.open_entry ≡ None
   pub all_named : (other : ℕ) → 0 < t.large other → (root : ℕ) × (t.root root ≡ 16384 * other)
   pub others_live : (other : ℕ) → other ≢ start → t.slab other ≡ true → (root : ℕ) × (t.root root ≢ 0) × IsInSlab t other (t.root root)
   pub calm : (other : ℕ) → ¬ (IsMorphing t other)
-  pub none_done : (other : ℕ) → ¬ (IsDoneSlab t other)
+  pub none_done : (other : ℕ) → other ≢ start → ¬ (IsDoneSlab t other)
 
 -- an open place entry of an old block has this place of a slab's index table, and its root holds nothing
 pub record IsLeaving (t : Tables) (start place : ℕ) : Type 0 where
   pub root : ℕ
-  pub entry : t.entry ≡ Some (Place root (slab_block start (t.old start) (t.number start place)).at true place)
+  pub entry : t.open_entry ≡ Some (Place root (slab_block start (t.old start) (t.number start place)).at true place)
   pub none : t.root root ≡ 0
 
 -- a slab that takes or took another class has no live index entry, but for one that is leaving
 pub record IsNearlyDone (t : Tables) (start : ℕ) : Type 0 where
   pub slab : t.slab start ≡ true
   pub kind : t.kind start ≢ normal_kind
-  pub none : (place : ℕ) → place < t.entries start → t.live start place ≡ true → IsLeaving t start place
+  pub none : (place : ℕ) → place < t.index_count start → t.live start place ≡ true → IsLeaving t start place
 
 -- The image is steady, as every crash within a call leaves it: sound, and one slab at most is nearly done.
 pub record IsSteady (b : Bounds) (t : Tables) : Type 0 where

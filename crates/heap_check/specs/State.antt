@@ -40,4 +40,4 @@ pub record IsEitherHeap (old new image : List ℕ) : Type 0 where
   pub steady : IsSteadyImage image
   pub heap : HaveSameHeap old image ⊎ HaveSameHeap new image
   pub words : KeepsBlocks old image
-  pub still : HasNoMove (tables_of image).entry
+  pub still : HasNoMove (tables_of image).open_entry

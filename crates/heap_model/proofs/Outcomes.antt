@@ -47,7 +47,7 @@ pub record IsPassed (b : Bounds) (m : Machine) (from to : ℕ) (reply : Reply) (
   pub after : next ≡ with_moved m from to range
 
 pub data Outcome (p : Policy) (b : Bounds) (m : Machine) (call : Call) (reply : Reply) (next : Machine) : Type 0 where
-  Kept : ¬ (IsOfHeap reply) → next ≡ m → Outcome p b m call reply next
+  Stayed : ¬ (IsOfHeap reply) → next ≡ m → Outcome p b m call reply next
   Given : (root size : ℕ) → call ≡ Malloc root size → IsGiven p b m root size reply next → Outcome p b m call reply next
   Taken : (root : ℕ) → call ≡ Free root → IsTaken b m root reply next → Outcome p b m call reply next
   Written : (root index word : ℕ) → ¬ (IsOfHeap reply) → next ≡ with_value m root index word → Outcome p b m call reply next
@@ -66,52 +66,52 @@ module _ (p : Policy) (b : Bounds) (m next : Machine) (reply : Reply) where
   not_heap : (other : Reply) → ¬ (IsOfHeap other) → reply ≡ other → ¬ (IsOfHeap reply)
   not_heap other not is of = not (subst IsOfHeap is of)
 
-  kept : (call : Call) (refusal : Reply) → ¬ (IsOfHeap refusal) → IsRefused m refusal reply next → Outcome p b m call reply next
-  kept call refusal not is = Kept (not_heap refusal not is.0) is.1
+  stayed : (call : Call) (refusal : Reply) → ¬ (IsOfHeap refusal) → IsRefused m refusal reply next → Outcome p b m call reply next
+  stayed call refusal not is = Stayed (not_heap refusal not is.0) is.1
 
   on_word : (call : Call) (root index : ℕ) (Done : Type 0) → (Done → Outcome p b m call reply next) → IsOnWord b m root index reply next Done → Outcome p b m call reply next
   on_word call root index Done done is = ⊎_elim
-      (λ no_root. kept call NoRoot (λ of. of) no_root.1)
+      (λ no_root. stayed call NoRoot (λ of. of) no_root.1)
       (λ rooted. ⊎_elim
-      (λ held. ⊎_elim (λ past. kept call OutOfRange (λ of. of) past.1) (λ here. done here.1) held.1)
-      (λ empty. kept call Empty (λ of. of) empty.1)
+      (λ held. ⊎_elim (λ past. stayed call OutOfRange (λ of. of) past.1) (λ here. done here.1) held.1)
+      (λ empty. stayed call Empty (λ of. of) empty.1)
       rooted.1)
       is
 
   pub outcome : (call : Call) → IsStep p b m call reply next → Outcome p b m call reply next
   outcome (Malloc root size) is = ⊎_elim
-      (λ no_root. kept _ NoRoot (λ of. of) no_root.1)
+      (λ no_root. stayed _ NoRoot (λ of. of) no_root.1)
       (λ rooted. ⊎_elim
-      (λ held. kept _ (Occupied held.0.range.at) (λ of. of) held.1)
+      (λ held. stayed _ (Occupied held.0.range.at) (λ of. of) held.1)
       (λ bare. ⊎_elim
-      (λ empty. kept _ ZeroSize (λ of. of) empty.1)
+      (λ empty. stayed _ ZeroSize (λ of. of) empty.1)
       (λ some. ⊎_elim
-      (λ large. kept _ TooLarge (λ of. of) large.1)
+      (λ large. stayed _ TooLarge (λ of. of) large.1)
       (λ asked. ⊎_elim
       (λ grant. Given root size refl (record { below = omega (arith, rooted.0); none = nameless m root bare.0; some = some.0; grant = grant }))
-      (λ lacking. kept _ NoSpace (λ of. of) lacking.1)
+      (λ lacking. stayed _ NoSpace (λ of. of) lacking.1)
       asked.1)
       some.1)
       bare.1)
       rooted.1)
       is
   outcome (Free root) is = ⊎_elim
-      (λ no_root. kept _ NoRoot (λ of. of) no_root.1)
+      (λ no_root. stayed _ NoRoot (λ of. of) no_root.1)
       (λ rooted. ⊎_elim
       (λ held. Taken root refl (record { below = omega (arith, rooted.0); range = held.0.range; named = held.0.named; is = held.1.0; after = held.1.1 }))
-      (λ empty. kept _ Empty (λ of. of) empty.1)
+      (λ empty. stayed _ Empty (λ of. of) empty.1)
       rooted.1)
       is
   outcome (Write root index word) is = on_word _ root index _ (λ done. Written root index word (not_heap Wrote (λ of. of) done.0) done.1) is
-  outcome (Read root index) is = on_word _ root index _ (λ done. Kept (not_heap (Value done.0) (λ of. of) done.1) done.3) is
+  outcome (Read root index) is = on_word _ root index _ (λ done. Stayed (not_heap (Value done.0) (λ of. of) done.1) done.3) is
   outcome (Move from to) is = ⊎_elim
-      (λ no_root. kept _ NoRoot (λ of. of) no_root.1)
+      (λ no_root. stayed _ NoRoot (λ of. of) no_root.1)
       (λ rooted. ⊎_elim
       (λ held. ⊎_elim
-      (λ occupied. kept _ (Occupied occupied.0.range.at) (λ of. of) occupied.1)
+      (λ occupied. stayed _ (Occupied occupied.0.range.at) (λ of. of) occupied.1)
       (λ moved. Passed from to (record { below = below rooted.0; range = held.0.range; named = held.0.named; is = moved.1.0; after = moved.1.1 }))
       held.1)
-      (λ empty. kept _ Empty (λ of. of) empty.1)
+      (λ empty. stayed _ Empty (λ of. of) empty.1)
       rooted.1)
       is
     where
@@ -133,7 +133,7 @@ pub record IsLoss (b : Bounds) (m : Machine) (root : ℕ) (range : Range) (next 
 module _ (p : Policy) (b : Bounds) (m next : Machine) (call : Call) (at size : ℕ) where
   pub gift : IsStep p b m call (Placed at size) next → IsGift b m (root_of call) (record { at = at; size = size }) next
   gift step = elim (outcome p b m next (Placed at size) call step) [
-    | Kept not same ↦ absurd (not tt)
+    | Stayed not same ↦ absurd (not tt)
     | Given root asked is given ↦
         let range : Range = range_of given.grant.site in
         let reply : Placed at size ≡ Placed range.at range.size = given.grant.is in
@@ -148,7 +148,7 @@ module _ (p : Policy) (b : Bounds) (m next : Machine) (call : Call) (at size : �
 
   pub loss : IsStep p b m call (Freed at size) next → IsLoss b m (root_of call) (record { at = at; size = size }) next
   loss step = elim (outcome p b m next (Freed at size) call step) [
-    | Kept not same ↦ absurd (not tt)
+    | Stayed not same ↦ absurd (not tt)
     | Given root asked is given ↦ absurd (let reply = given.grant.is in cc)
     | Taken root is taken ↦
         let range : Range = taken.range in

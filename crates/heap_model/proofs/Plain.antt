@@ -20,7 +20,7 @@ use Rattle.heap_model.proofs.Placing.{IsUnused-free}
 use Rattle.heap_model.proofs.Slabbing.{LiesIn-block}
 use Rattle.heap_model.proofs.Steps.{row_of_fit}
 use Rattle.heap_model.proofs.Outcomes.{IsOfHeap, outcome}
-use Rattle.heap_model.proofs.Outcomes.Outcome.{Kept, Given, Taken, Written, Passed}
+use Rattle.heap_model.proofs.Outcomes.Outcome.{Stayed, Given, Taken, Written, Passed}
 use Rattle.heap_model.proofs.Sites.{class_small, IsStep-granted}
 
 -- an empty stack in the place of an empty one
@@ -243,7 +243,7 @@ module _ (b : Bounds) (seat : ℕ) (m : Machine) (clean : IsOverlapFree b m) whe
   lowest_given root size at given reply next is placed = ⊎_elim
       (λ gave. subst (IsGivenLowest v size) (let first = gave.0.is in cc) (by_way size gave.0.class gave.0.at next.stacks gave.0.least gave.1).0)
       (λ none. elim (outcome plain b m next.machine reply (Malloc root size) placed.step) [
-        | Kept not same ↦ absurd (not (subst IsOfHeap (sym is) tt))
+        | Stayed not same ↦ absurd (not (subst IsOfHeap (sym is) tt))
         | Given r s asked granted ↦
             let same : s ≡ size = cc in
             let first = granted.grant.is in

@@ -17,7 +17,7 @@ use Rattle.heap_model.proofs.Maps.{with_key-here}
 use Rattle.heap_model.proofs.Placing.{IsProper, IsOverlapFree-with, IsOverlapFree-moved, IsOverlapFree-value, IsUnused-free}
 use Rattle.heap_model.proofs.Slabbing.{IsOverlapFree-morph, IsOverlapFree-slab, LiesIn-block}
 use Rattle.heap_model.proofs.Outcomes.{outcome}
-use Rattle.heap_model.proofs.Outcomes.Outcome.{Kept, Given, Taken, Written, Passed}
+use Rattle.heap_model.proofs.Outcomes.Outcome.{Stayed, Given, Taken, Written, Passed}
 use Rattle.heap_model.proofs.Freeing.{IsOverlapFree-without}
 
 -- the first granules of the best fit are free
@@ -72,7 +72,7 @@ give p b m root size (InNewSlab start class number) was below some is =
 -- a step
 step : (p : Policy) (b : Bounds) (m next : Machine) (call : Call) (reply : Reply) → IsOverlapFree b m → IsStep p b m call reply next → IsOverlapFree b next
 step p b m next call reply was is = elim (outcome p b m next reply call is) [
-  | Kept not same ↦ behind m was same
+  | Stayed not same ↦ behind m was same
   | Given root size asked given ↦ behind (with_block m root given.grant.site) (give p b m root size given.grant.site was given.below given.some given.grant.chosen) given.grant.after
   | Taken root asked taken ↦ behind _ (IsOverlapFree-without b m root taken.range was) taken.after
   | Written root index word not after ↦ behind _ (IsOverlapFree-value b m root index word was) after

@@ -75,8 +75,8 @@ IsMalloc p b m root size reply next =
     (First ((b.granules - b.first) * 16384 < size) (λ _. IsRefused m TooLarge reply next)
     (IsGrant p b m root size reply next ⊎ (HasNoSite p (view_of b m) size × IsRefused m NoSpace reply next)))))
 
-abbrev pub IsFree : Bounds → Machine → ℕ → Reply → Machine → Type 0
-IsFree b m root reply next =
+abbrev pub IsFreeCall : Bounds → Machine → ℕ → Reply → Machine → Type 0
+IsFreeCall b m root reply next =
     First (b.roots ≤ root) (λ _. IsRefused m NoRoot reply next)
     (First (HasBlock m root) (λ held. (reply ≡ Freed held.range.at held.range.size) × (next ≡ without_block b m root held.range))
     (IsRefused m Empty reply next))
@@ -111,7 +111,7 @@ IsMove b m from to reply next =
 -- a call, its reply and the state after it
 abbrev pub IsStep : Policy → Bounds → Machine → Call → Reply → Machine → Type 0
 IsStep p b m (Malloc root size) reply next = IsMalloc p b m root size reply next
-IsStep p b m (Free root) reply next = IsFree b m root reply next
+IsStep p b m (Free root) reply next = IsFreeCall b m root reply next
 IsStep p b m (Write root index word) reply next = IsWrite b m root index word reply next
 IsStep p b m (Read root index) reply next = IsRead b m root index reply next
 IsStep p b m (Move from to) reply next = IsMove b m from to reply next

@@ -8,7 +8,7 @@ use Rattle.pool_layout.specs.Layout.{layout_of}
 use Rattle.pool_layout.specs.Places.{fields_word, directory_word, root_word, wal_word, entry_word, granule_word, heap_word, blocks_place}
 use Rattle.pool_layout.specs.Header.{version_field, version_in}
 use Rattle.image_tables.specs.Log.{active_chunks}
-use Rattle.image_tables.specs.Tables.{root_in, entry_in, wal_lines, large_of, is_slab_of, is_slab, AreSlabsInHeap, bit_of_word, state_word, bitmap_word, index_word, slab_bit, bit_at, live_at, number_at, tables_of}
+use Rattle.image_tables.specs.Tables.{root_in, open_entry_in, wal_lines, large_of, is_slab_of, is_slab, AreSlabsInHeap, bit_of_word, state_word, bitmap_word, index_word, slab_bit, bit_at, live_at, number_at, tables_of}
 use Rattle.image_tables.specs.Updates.{put_in, put_bit, put_index}
 use Rattle.image_tables.proofs.Chunks.{few_chunks}
 use Rattle.image_tables.proofs.Places.{log_word-low, entry_word-high}
@@ -88,7 +88,7 @@ unfolding tables_of
 tables_off_header words new start bit live number same state bits lives numbers =
     let version = version_in words in
     let log = SameLog-off_header words new start same in
-    tables_by words new (root_in words) (entry_in words) (tables_of words).large bit live number
+    tables_by words new (root_in words) (open_entry_in words) (tables_of words).large bit live number
     (λ s. is_slab-off_header words new start s same)
     (λ s is. ⊎_elim
     (λ (here : s ≡ start). ap (λ g. word_at new (state_word g)) here ∙ state (sym (ap (is_slab words) here) ∙ is) ∙ sym (ap (λ g. word_at words (state_word g)) here))

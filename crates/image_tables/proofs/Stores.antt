@@ -10,7 +10,7 @@ use Rattle.pool_layout.proofs.Layouts.{layout_rules}
 use Rattle.image_tables.specs.Extents.{extent_at}
 use Rattle.image_tables.specs.declared.entry.WalEntry.{WalEntry}
 use Rattle.image_tables.specs.declared.entry.WalEntry.TheVariants.{Place, Move}
-use Rattle.image_tables.specs.Tables.{entry_of_word, entry_among, entry_in, held_of, root_in, wal_lines, large_of, is_slab_of, is_slab, AreSlabsInHeap, bit_of_word, state_word, bitmap_word, index_word, slab_bit, bit_at, live_at, number_at, state_field, tables_of}
+use Rattle.image_tables.specs.Tables.{entry_of_word, entry_among, open_entry_in, held_of, root_in, wal_lines, large_of, is_slab_of, is_slab, AreSlabsInHeap, bit_of_word, state_word, bitmap_word, index_word, slab_bit, bit_at, live_at, number_at, state_field, tables_of}
 use Rattle.image_tables.specs.Updates.{put_at, HasNoMove, with_root}
 use Rattle.image_tables.proofs.Updates.{put_at-same, put_at-other}
 use Rattle.image_tables.proofs.Places.{log_word-low}
@@ -152,32 +152,32 @@ held_of-plain None word none = refl
 held_of-plain (Some (Place root at old place)) word none = refl
 held_of-plain (Some (Move from to)) word none = absurd none
 
-pub roots_plain : (words : List ℕ) → HasNoMove (tables_of words).entry → (tables_of words).root ≡ (tables_of words).word
+pub roots_plain : (words : List ℕ) → HasNoMove (tables_of words).open_entry → (tables_of words).root ≡ (tables_of words).word
 unfolding tables_of
-roots_plain words none = held_of-plain (entry_in words) (root_in words) none
+roots_plain words none = held_of-plain (open_entry_in words) (root_in words) none
 
 -- the tables, where the slabs and their state words stay the same
 pub tables_by : (words new : List ℕ) (word : ℕ → ℕ) (entry : Option WalEntry) (large : ℕ → ℕ) (bit live : ℕ → ℕ → Bool) (number : ℕ → ℕ → ℕ) →
     ((start : ℕ) → is_slab new start ≡ is_slab words start) →
     ((start : ℕ) → is_slab words start ≡ true → word_at new (state_word start) ≡ word_at words (state_word start)) →
     ((r : ℕ) → root_in new r ≡ word r) →
-    entry_in new ≡ entry →
+    open_entry_in new ≡ entry →
     ((start : ℕ) → large_of (extent_at new start) ≡ large start) →
     ((start i : ℕ) → bit_at new start i ≡ bit start i) →
     ((start place : ℕ) → live_at new start place ≡ live start place) →
     ((start place : ℕ) → number_at new start place ≡ number start place) →
-    tables_of new ≡ record (tables_of words) { word = word; root = held_of entry word; entry = entry; large = large; bit = bit; live = live; number = number }
+    tables_of new ≡ record (tables_of words) { word = word; root = held_of entry word; open_entry = entry; large = large; bit = bit; live = live; number = number }
 unfolding tables_of
 tables_by words new word entry large bit live number slab state roots entries larges bits lives numbers = λ k. record {
   word = λ r. roots r k;
   root = held_of (entries k) (λ r. roots r k);
-  entry = entries k;
+  open_entry = entries k;
   large = λ start. larges start k;
   slab = λ start. slab start k;
   kind = λ start. state_field-same words new start 0 (slab start) (state start) k;
   class = λ start. state_field-same words new start 8 (slab start) (state start) k;
   old = λ start. state_field-same words new start 16 (slab start) (state start) k;
-  entries = λ start. state_field-same words new start 24 (slab start) (state start) k;
+  index_count = λ start. state_field-same words new start 24 (slab start) (state start) k;
   bit = λ start i. bits start i k;
   live = λ start place. lives start place k;
   number = λ start place. numbers start place k;
@@ -186,10 +186,10 @@ tables_by words new word entry large bit live number slab state roots entries la
 -- the tables, where only the roots, the open entry, the large extents and the bits change
 pub tables_but : (words new : List ℕ) (word : ℕ → ℕ) (entry : Option WalEntry) (large : ℕ → ℕ) (bit : ℕ → ℕ → Bool) → SameSlabs words new →
     ((r : ℕ) → root_in new r ≡ word r) →
-    entry_in new ≡ entry →
+    open_entry_in new ≡ entry →
     ((start : ℕ) → large_of (extent_at new start) ≡ large start) →
     ((start i : ℕ) → bit_at new start i ≡ bit start i) →
-    tables_of new ≡ record (tables_of words) { word = word; root = held_of entry word; entry = entry; large = large; bit = bit }
+    tables_of new ≡ record (tables_of words) { word = word; root = held_of entry word; open_entry = entry; large = large; bit = bit }
 unfolding tables_of
 tables_but words new word entry large bit same roots entries larges bits =
     tables_by words new word entry large bit (live_at words) (number_at words) same.slab same.state roots entries larges bits
@@ -202,7 +202,7 @@ pub tables_off_log : (words new : List ℕ) (large : ℕ → ℕ) → IsSameOffL
 unfolding tables_of
 tables_off_log words new large same slabs slab larges =
     let heap : (k : ℕ) → heap_word (version_in words) ≤ k → word_at new k ≡ word_at words k = λ k high. heap_word-off_log words new k same high in
-    tables_but words new (root_in words) (entry_in words) large (bit_at words)
+    tables_but words new (root_in words) (open_entry_in words) large (bit_at words)
     (record {
       slab = slab;
       state = λ start is. heap (state_word start) (state_word-high words start slabs is);
@@ -258,7 +258,7 @@ extent_at-put_root words root value start below = extent_at-elsewhere words (roo
 -- a store of a root word changes that word, and what roots hold by it
 pub tables_store_root : (words : List ℕ) (root value : ℕ) → root < (layout_of (version_in words)).roots → root_word root < length words → AreSlabsInHeap words →
     tables_of (put_word words (root_word root) value)
-    ≡ record (tables_of words) { word = put_at (tables_of words).word root value; root = held_of (tables_of words).entry (put_at (tables_of words).word root value) }
+    ≡ record (tables_of words) { word = put_at (tables_of words).word root value; root = held_of (tables_of words).open_entry (put_at (tables_of words).word root value) }
 unfolding tables_of
 tables_store_root words root value below inside slabs =
     let new = put_word words (root_word root) value in
@@ -266,7 +266,7 @@ tables_store_root words root value below inside slabs =
     let slab : (start : ℕ) → is_slab new start ≡ is_slab words start = λ start. ap is_slab_of (extent_at-put_root words root value start below) in
     let heap : (k : ℕ) → heap_word (version_in words) ≤ k → word_at new k ≡ word_at words k = λ k high. heap_word-put_root words root value k below high in
     let table : ℕ → ℕ = root_in words in
-    tables_but words new (put_at table root value) (entry_in words) (tables_of words).large (bit_at words)
+    tables_but words new (put_at table root value) (open_entry_in words) (tables_of words).large (bit_at words)
     (record {
       slab = slab;
       state = λ start is. heap (state_word start) (state_word-high words start slabs is);
@@ -290,12 +290,12 @@ tables_store_root words root value below inside slabs =
     (λ start i. bit_at-same words new start i (slab start) (λ is less. slab_bit-same words new start i (heap (bitmap_word start i) (bitmap_word-high words start i slabs is))))
 
 -- while no move entry is open, it changes that root
-pub tables_put_root : (words : List ℕ) (root value : ℕ) → root < (layout_of (version_in words)).roots → root_word root < length words → AreSlabsInHeap words → HasNoMove (tables_of words).entry →
+pub tables_put_root : (words : List ℕ) (root value : ℕ) → root < (layout_of (version_in words)).roots → root_word root < length words → AreSlabsInHeap words → HasNoMove (tables_of words).open_entry →
     tables_of (put_word words (root_word root) value) ≡ with_root (tables_of words) root value
 tables_put_root words root value below inside slabs none =
     let t = tables_of words in
-    let plain : held_of t.entry (put_at t.word root value) ≡ put_at t.root root value =
-    held_of-plain t.entry (put_at t.word root value) none ∙ ap (λ (f : ℕ → ℕ). put_at f root value) (sym (roots_plain words none)) in
+    let plain : held_of t.open_entry (put_at t.word root value) ≡ put_at t.root root value =
+    held_of-plain t.open_entry (put_at t.word root value) none ∙ ap (λ (f : ℕ → ℕ). put_at f root value) (sym (roots_plain words none)) in
     tables_store_root words root value below inside slabs ∙ (λ i. record t { word = put_at t.word root value; root = plain i })
 
 none_among : (row : ℕ → ℕ) (n : ℕ) → entry_among row n ≡ None → (line : ℕ) → line < n → row line ≡ 0
@@ -313,6 +313,6 @@ none_among row (suc n) closed line below = ⊎_elim
     (cases_Bool (eqb (row n) 0))
 
 -- where no entry is open each write-ahead word is 0
-pub closed_words : (words : List ℕ) → (tables_of words).entry ≡ None → (line : ℕ) → line < wal_lines → word_at words (wal_word line) ≡ 0
+pub closed_words : (words : List ℕ) → (tables_of words).open_entry ≡ None → (line : ℕ) → line < wal_lines → word_at words (wal_word line) ≡ 0
 unfolding tables_of
 closed_words words closed line below = none_among (λ line. word_at words (wal_word line)) wal_lines closed line below

@@ -8,7 +8,7 @@ use Rattle.pool_layout.specs.Header.{version_in}
 use Rattle.image_tables.specs.Extents.{extent_at}
 use Rattle.image_tables.specs.declared.entry.WalEntry.{WalEntry}
 use Rattle.image_tables.specs.declared.entry.WalEntry.TheVariants.{Place, Move}
-use Rattle.image_tables.specs.Tables.{entry_in, held_of, root_in, large_of, is_slab, bit_of_word, index_word, slab_bit, tables_of, state_field}
+use Rattle.image_tables.specs.Tables.{open_entry_in, held_of, root_in, large_of, is_slab, bit_of_word, index_word, slab_bit, tables_of, state_field}
 use Rattle.image_tables.specs.Updates.{HasNoMove}
 use Rattle.image_tables.proofs.Stores.{roots_plain}
 
@@ -23,7 +23,7 @@ unfolding tables_of
 word_table-past words root past = cond-false (ltb root (layout_of (version_in words)).roots) (word_at words (root_word root)) 0 (le-ltb root (layout_of (version_in words)).roots past)
 
 -- what a root holds: its word, while no move entry is open
-pub root_table : (words : List ℕ) (root : ℕ) → HasNoMove (tables_of words).entry → root < (layout_of (version_in words)).roots → (tables_of words).root root ≡ word_at words (root_word root)
+pub root_table : (words : List ℕ) (root : ℕ) → HasNoMove (tables_of words).open_entry → root < (layout_of (version_in words)).roots → (tables_of words).root root ≡ word_at words (root_word root)
 root_table words root none below = ap (λ (f : ℕ → ℕ). f root) (roots_plain words none) ∙ word_table words root below
 
 -- what has no word holds nothing
@@ -38,7 +38,7 @@ held_of-none (Some (Move from to)) word root none = if_none (eqb root from && lt
 
 pub root_table-none : (words : List ℕ) (root : ℕ) → (tables_of words).word root ≡ 0 → (tables_of words).root root ≡ 0
 unfolding tables_of
-root_table-none words root none = held_of-none (entry_in words) (root_in words) root none
+root_table-none words root none = held_of-none (open_entry_in words) (root_in words) root none
 
 pub root_table-past : (words : List ℕ) (root : ℕ) → (layout_of (version_in words)).roots ≤ root → (tables_of words).root root ≡ 0
 root_table-past words root past = root_table-none words root (word_table-past words root past)
@@ -81,6 +81,6 @@ pub old_table : (words : List ℕ) (start : ℕ) → (tables_of words).old start
 unfolding tables_of
 old_table words start = refl
 
-pub entries_table : (words : List ℕ) (start : ℕ) → (tables_of words).entries start ≡ state_field words start 24
+pub index_count_table : (words : List ℕ) (start : ℕ) → (tables_of words).index_count start ≡ state_field words start 24
 unfolding tables_of
-entries_table words start = refl
+index_count_table words start = refl

@@ -18,7 +18,7 @@ pub record Tables : Type 0 where
   -- what each root holds: its word, or 0 where it is not held
   pub root : ℕ → ℕ
   -- the open write-ahead entry
-  pub entry : Option WalEntry
+  pub open_entry : Option WalEntry
   -- how many granules the live large extent has that starts at a granule, 0 where none starts
   pub large : ℕ → ℕ
   -- a live slab starts at the granule
@@ -28,7 +28,7 @@ pub record Tables : Type 0 where
   -- its class, its old class and the number of its index entries
   pub class : ℕ → ℕ
   pub old : ℕ → ℕ
-  pub entries : ℕ → ℕ
+  pub index_count : ℕ → ℕ
   -- the bit of block i of the slab that starts at a granule
   pub bit : ℕ → ℕ → Bool
   -- the index table of that slab, by place: whether the old block lives, and its number
@@ -73,8 +73,8 @@ entry_among row zero = None
 entry_among row (suc n) = if row n == 0 then entry_among row n else Some (entry_of_word (row n))
 
 -- the open entry of an arena of these words
-abbrev pub entry_in : List ℕ → Option WalEntry
-entry_in words = entry_among (λ line. word_at words (wal_word line)) wal_lines
+abbrev pub open_entry_in : List ℕ → Option WalEntry
+open_entry_in words = entry_among (λ line. word_at words (wal_word line)) wal_lines
 
 -- roots
 
@@ -132,14 +132,14 @@ state_field words start bits = where_slab (is_slab words start) (word_at words (
 unfoldable pub tables_of : List ℕ → Tables
 tables_of words = record {
   word = root_in words;
-  root = held_of (entry_in words) (root_in words);
-  entry = entry_in words;
+  root = held_of (open_entry_in words) (root_in words);
+  open_entry = open_entry_in words;
   large = λ start. large_of (extent_at words start);
   slab = is_slab words;
   kind = λ start. state_field words start 0;
   class = λ start. state_field words start 8;
   old = λ start. state_field words start 16;
-  entries = λ start. state_field words start 24;
+  index_count = λ start. state_field words start 24;
   bit = bit_at words;
   live = live_at words;
   number = number_at words;

@@ -21,8 +21,8 @@ abbrev pub put_index : Tables → ℕ → ℕ → Bool → ℕ → Tables
 put_index t start place live number = record t { live = put_in t.live start place live; number = put_in t.number start place number }
 
 -- the open entry is another, or none
-abbrev pub with_entry : Tables → Option WalEntry → Tables
-with_entry t other = record t { entry = other; root = held_of other t.word }
+abbrev pub with_open_entry : Tables → Option WalEntry → Tables
+with_open_entry t other = record t { open_entry = other; root = held_of other t.word }
 
 -- no move entry is open
 abbrev pub HasNoMove : Option WalEntry → Type 0
@@ -36,4 +36,8 @@ with_root t root word = record t { word = put_at t.word root word; root = put_at
 
 -- the bit of block i of the slab at a granule, the word of a root, and the open entry are changed
 abbrev pub with_small : Tables → ℕ → ℕ → Bool → ℕ → ℕ → Option WalEntry → Tables
-with_small t start i on root word entry = record (with_root (put_bit t start i on) root word) { entry = entry }
+with_small t start i on root word entry = record (with_root (put_bit t start i on) root word) { open_entry = entry }
+
+-- the live bit of a place of the index table of the slab at a granule, the word of a root, and the open entry are changed
+abbrev pub with_old : Tables → ℕ → ℕ → Bool → ℕ → ℕ → Option WalEntry → Tables
+with_old t start place live root word entry = record (with_root (record t { live = put_in t.live start place live }) root word) { open_entry = entry }

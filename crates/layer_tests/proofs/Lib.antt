@@ -1,3 +1,4 @@
 pub mod Evens
 pub mod Fresh
 pub mod OneSlab
+pub mod TakenClasses

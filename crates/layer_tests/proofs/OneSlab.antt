@@ -9,7 +9,7 @@ use Rattle.pool_layout.specs.Places.{text_word, fields_word, directory_word, ent
 use Rattle.pool_layout.specs.Header.{version_field, granules_field, version_in, granules_in, fields_of, header_text, header_word, IsHeader}
 use Rattle.image_tables.specs.Extents.{extent_at}
 use Rattle.image_tables.specs.declared.extent.Extent.TheVariants as extent
-use Rattle.image_tables.specs.Tables.{Tables, held_of, root_in, entry_in, wal_lines, large_of, is_slab_of, is_slab, state_word, bitmap_word, state_field, bit_at, bit_of_word, slab_bit, tables_of}
+use Rattle.image_tables.specs.Tables.{Tables, held_of, root_in, open_entry_in, wal_lines, large_of, is_slab_of, is_slab, state_word, bitmap_word, state_field, bit_at, bit_of_word, slab_bit, tables_of}
 use Rattle.image_tables.proofs.Chunks.{few_chunks}
 use Rattle.image_tables.proofs.Extents.{extent_at-same}
 use Rattle.image_tables.proofs.Logs.{SameLog}
@@ -223,42 +223,46 @@ module _ (words new : List ℕ) (one : IsOneSlab words new) where
   words_same : root_in new ≡ root_in words
   words_same k r = roots-same words new version (λ root below. one.low (root_word root) (low_root root below)) r k
 
-  entry_same : entry_in new ≡ entry_in words
+  entry_same : open_entry_in new ≡ open_entry_in words
   entry_same = entry_among-same (λ line. word_at words (wal_word line)) (λ line. word_at new (wal_word line)) wal_lines (λ line below. one.low (wal_word line) (omega (arith, wal_word-low line below)))
 
   with_slab : IsWithSlab (tables_of words) (tables_of new) 4 6
   unfolding tables_of
   with_slab = record {
-    word = words_same;
-    root = λ k. held_of (entry_same k) (words_same k);
-    entry = entry_same;
-    large = λ k start. (no_large start ∙ sym (blank.no_large start)) k;
-    none = blank.no_slab 4;
-    slab = slab_here;
-    kind = field 0 1 (omega arith);
-    class_is = field 8 6 (omega arith);
-    old = field 16 0 (omega arith);
-    entries = no_entries;
-    clear = λ i below. no_bit i;
-    others = λ other differ.
-        let gone : is_slab words other ≡ false = blank.no_slab other in
-        let same : is_slab new other ≡ is_slab words other = slab_other other differ ∙ sym gone in
-        record {
-          slab = same;
-          kind = state_field-same words new other 0 same (λ is. absurd (false≢true (sym gone ∙ is)));
-          class = state_field-same words new other 8 same (λ is. absurd (false≢true (sym gone ∙ is)));
-          old = state_field-same words new other 16 same (λ is. absurd (false≢true (sym gone ∙ is)));
-          entries = state_field-same words new other 24 same (λ is. absurd (false≢true (sym gone ∙ is)));
-          bit = λ k i. bit_at-same words new other i same (λ is below. absurd (false≢true (sym gone ∙ is))) k;
-          live = λ k place. live_at-same words new other place same (λ is below. absurd (false≢true (sym gone ∙ is))) k;
-          number = λ k place. number_at-same words new other place same (λ is below. absurd (false≢true (sym gone ∙ is))) k;
-        };
+    more = record {
+      word = words_same;
+      root = λ k. held_of (entry_same k) (words_same k);
+      entry = entry_same;
+      large = λ k start. (no_large start ∙ sym (blank.no_large start)) k;
+      none = blank.no_slab 4;
+      slab = slab_here;
+      others = λ other differ.
+          let gone : is_slab words other ≡ false = blank.no_slab other in
+          let same : is_slab new other ≡ is_slab words other = slab_other other differ ∙ sym gone in
+          record {
+            slab = same;
+            kind = state_field-same words new other 0 same (λ is. absurd (false≢true (sym gone ∙ is)));
+            class = state_field-same words new other 8 same (λ is. absurd (false≢true (sym gone ∙ is)));
+            old = state_field-same words new other 16 same (λ is. absurd (false≢true (sym gone ∙ is)));
+            index_count = state_field-same words new other 24 same (λ is. absurd (false≢true (sym gone ∙ is)));
+            bit = λ k i. bit_at-same words new other i same (λ is below. absurd (false≢true (sym gone ∙ is))) k;
+            live = λ k place. live_at-same words new other place same (λ is below. absurd (false≢true (sym gone ∙ is))) k;
+            number = λ k place. number_at-same words new other place same (λ is below. absurd (false≢true (sym gone ∙ is))) k;
+          };
+    };
+    fresh = record {
+      kind = field 0 1 (omega arith);
+      class_is = field 8 6 (omega arith);
+      old = field 16 0 (omega arith);
+      index_count = no_entries;
+      clear = λ i below. no_bit i;
+    };
   }
 
   -- on vacant granules
-  place : IsSlabPlace (bounds_of words) (tables_of words) (tables_of new) 4 6
+  place : IsSlabPlace (bounds_of words) (tables_of words) (tables_of new) 4
   unfolding layout_of
-  place = IsSlabPlace-vacant exact.sound blank.closed (omega arith) (omega arith) with_slab (λ k from to. record {
+  place = IsSlabPlace-vacant exact.sound blank.closed (omega arith) with_slab (λ k from to. record {
     low = from;
     high = omega (arith, to, was);
     none = λ start covers. omega (arith, covers.low, covers.high, granules_at-large (tables_of words) start (blank.no_slab start), blank.no_large start);
@@ -266,7 +270,7 @@ module _ (words new : List ℕ) (one : IsOneSlab words new) where
 
   -- the image is exact, but for that slab
   image : IsExactButImage new 4
-  image = record { formed = formed; but = subst (λ b. IsExactBut b (tables_of new) 4) (sym bounds) (IsExactBut-slab place exact) }
+  image = record { formed = formed; but = subst (λ b. IsExactBut b (tables_of new) 4) (sym bounds) (IsExactBut-slab place with_slab.fresh (omega arith) exact) }
 
   -- its block 9
   six_small : 9 < class_capacity 6
@@ -282,10 +286,10 @@ module _ (words new : List ℕ) (one : IsOneSlab words new) where
   block_in = record {
     image = image;
     rooted = omega arith;
-    slab = with_slab.slab;
-    normal = with_slab.kind;
-    below = subst (λ c. 9 < class_capacity c) (sym with_slab.class_is) six_small;
-    at = six_at ∙ ap (λ c. (slab_block 4 c 9).at) (sym with_slab.class_is);
+    slab = with_slab.more.slab;
+    normal = with_slab.fresh.kind;
+    below = subst (λ c. 9 < class_capacity c) (sym with_slab.fresh.class_is) six_small;
+    at = six_at ∙ ap (λ c. (slab_block 4 c 9).at) (sym with_slab.fresh.class_is);
   }
 
   -- block 9 may come to root 5
@@ -294,7 +298,7 @@ module _ (words new : List ℕ) (one : IsOneSlab words new) where
   attachable = record {
     block_in = block_in;
     clear = no_bit 9;
-    none = ap (λ (row : ℕ → ℕ). row 5) with_slab.root ∙ blank.roots 5;
+    none = ap (λ (row : ℕ → ℕ). row 5) with_slab.more.root ∙ blank.roots 5;
   }
 
 -- and then go from it

@@ -3,9 +3,10 @@
 //
 // The crate has no code. Its tests stand apart from the crates that they call, since a crate with tests is proved twice.
 // There is a module for each layer: `memory` for `pmem_lines`, `steps` for `durable_steps`, `classes` for `size_classes`,
-// `bits` for `interleaved_bitmap`, `headers` and `defects` for `pool_layout`, `slabs` for `slab_header`, `entries` for
-// `attach_wal`, `log` for `book_log`, `room` for `log_gc`, `extents` for `extent_index`, `blocks` for `slab_index`, `small`
-// for `attach_steps`, and `traces` and `reports` for `trace_text`. Whole runs are tested in `run_tests`.
+// `bits` for `interleaved_bitmap`, `headers` and `defects` for `pool_layout`, `slabs` for `slab_header`, `morphs` for
+// `slab_morph`, `entries` for `attach_wal`, `log` for `book_log`, `room` for `log_gc`, `extents` for `extent_index`,
+// `blocks` for `slab_index`, `small` for `attach_steps`, and `traces` and `reports` for `trace_text`. Whole runs are tested
+// in `run_tests`.
 #![tactic(auto)]
 
 #[cfg(test)]
@@ -26,6 +27,8 @@ mod headers;
 mod log;
 #[cfg(test)]
 mod memory;
+#[cfg(test)]
+mod morphs;
 #[cfg(test)]
 mod reports;
 #[cfg(test)]

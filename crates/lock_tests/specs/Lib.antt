@@ -1,1 +1,2 @@
+pub mod CallsLeft
 pub mod Tally

@@ -5,7 +5,7 @@ ghost use Rattle.arena_lock.specs.Known.{after_read};
 ghost use Rattle.lock_tests.specs.Tally.{Asks};
 
 use crate::tally::Tally;
-use arena_lock::{ArenaLock, Job, LockSeat};
+use arena_lock::{ArenaLock, Job, LockSeat, Logged};
 use pmem_lines::OutOfMemory;
 
 /// Asks once, with an entry.
@@ -49,13 +49,13 @@ impl Job<Tally> for Look {
 
 /// Asks for the published length by another seat, inside a turn. The other seat comes back, since of one that is lent nothing
 /// would be known afterwards.
-pub struct LookBeside<'a> {
+pub struct LookBeside<'a, T: Logged> {
     pub seat: u32,
-    pub lock: &'a ArenaLock<Tally>,
+    pub lock: &'a ArenaLock<T>,
     pub other: LockSeat,
 }
 
-impl<'a> Job<Tally> for LookBeside<'a> {
+impl<'a, T: Logged> Job<T> for LookBeside<'a, T> {
     type Out = (u64, LockSeat);
 
     ghost number = { λ j. j.seat };
@@ -64,7 +64,7 @@ impl<'a> Job<Tally> for LookBeside<'a> {
 
     ghost relation = { λ j before after out. (after ≡ before) × (out.1 ≡ after_read j.other out.0) };
 
-    fn run(self, _value: &mut Tally) -> (u64, LockSeat) {
+    fn run(self, _value: &mut T) -> (u64, LockSeat) {
         let LookBeside {
             seat: _,
             lock,

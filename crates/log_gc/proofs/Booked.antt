@@ -2,10 +2,11 @@
 use Rattle.std.proofs.Common.{◌≡◌, ◌+◌, ◌/◌, ◌<◌, ◌≤◌, ⊎_elim, ℕ, true, false, List, [], ◌++◌, length, take, refl, sym, ap, ◌∙◌, subst, arith, Option, Some, None}
 use Rattle.std.proofs.lemmas.Bool.{cases_Bool}
 use Rattle.pmem_lines.specs.declared.event.Event.{Event}
-use Rattle.pmem_lines.specs.Pmem.{PmemState, Appends}
-use Rattle.pmem_lines.specs.Events.{CrashOnly}
+use Rattle.pmem_lines.specs.Pmem.{PmemState, words_of, Appends}
+use Rattle.pmem_lines.specs.Events.{IsQuiet}
+use Rattle.pmem_lines.specs.Steps.{IsQuietStep}
 use Rattle.pmem_lines.proofs.States.{appended_none, Appends-state}
-use Rattle.pmem_lines.proofs.Images.{by_none}
+use Rattle.pmem_lines.proofs.Steps.{step_by, step_none}
 use Rattle.pool_layout.specs.Layout.{layout_of}
 use Rattle.pool_layout.specs.Places.{heap_word}
 use Rattle.pool_layout.specs.Header.{version_in}
@@ -83,10 +84,11 @@ none_made granules words space = events_of granules words rolled.Nothing (way_no
 pub none_appends : (s : PmemState) (events : List Event) → events ≡ [] → Appends s s events
 none_appends s events none = subst (Appends s s) (sym none) (Appends-state s s [] (sym (appended_none s)))
 
-pub none_crash : (granules : ℕ) (words : List ℕ) → HasLog granules words → has_space (version_in words) words (chunks_of words) ≡ true → CrashOnly words (room_events granules words) (KeepsLog granules words)
-none_crash granules words log space =
-    let keeps : KeepsLog granules words words = record { same_length = refl; log = log; extents = λ start. refl; others = λ k other outside. refl } in
-    subst (λ es. CrashOnly words es (KeepsLog granules words)) (sym (none_made granules words space)) (by_none words (KeepsLog granules words) keeps)
+pub none_step : {s : PmemState} (granules : ℕ) → IsQuiet s.events → HasLog granules (words_of s) → has_space (version_in (words_of s)) (words_of s) (chunks_of (words_of s)) ≡ true →
+    IsQuietStep s s (room_events granules (words_of s)) (KeepsLog granules (words_of s))
+none_step {s} granules quiet log space =
+    step_by [] (room_events granules (words_of s)) (sym (none_made granules (words_of s) space))
+    (step_none quiet (record { same_length = refl; log = log; extents = λ start. refl; others = λ k other outside. refl }))
 
 -- where no entry is free, there is no space
 pub no_space : (granules : ℕ) (words : List ℕ) → HasLog granules words → (HasFreeEntry words → ⊥) → has_space (version_in words) words (chunks_of words) ≡ false

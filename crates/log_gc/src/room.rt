@@ -1,7 +1,8 @@
 // Room for an entry in the log.
 
 ghost use Rattle.std.specs.Prelude.{◌≡◌, ◌+◌, ◌*◌, ◌<◌, ◌≤◌, length, IsSome, false};
-ghost use Rattle.pmem_lines.specs.Events.{IsQuiet, CrashOnly};
+ghost use Rattle.pmem_lines.specs.Events.{IsQuiet};
+ghost use Rattle.pmem_lines.specs.Steps.{IsQuietStep};
 ghost use Rattle.pmem_lines.specs.Pmem.{words_of, HasRoom, Appends};
 ghost use Rattle.pool_layout.specs.Places.{heap_word};
 ghost use Rattle.pool_layout.specs.Header.{version_in};
@@ -49,14 +50,12 @@ pub fn make_room<P: Pmem>(log: &mut BookLog, p: &mut P) -> Rolled
     requires quiet { IsQuiet (P.state p.old).events }
     requires left { HasRoom (P.state p.old) (length (room_events log.old.granules (words_of (P.state p.old)))) }
     ensures answer { result ≡ way_of log.old.granules (words_of (P.state p.old)) }
-    ensures appends { Appends (P.state p.old) (P.state p.new) (room_events log.old.granules (words_of (P.state p.old))) }
+    ensures step { IsQuietStep (P.state p.old) (P.state p.new) (room_events log.old.granules (words_of (P.state p.old))) (KeepsLog log.old.granules (words_of (P.state p.old))) }
     ensures room { IsSome log.new.next }
     ensures reads { Reads log.new (words_of (P.state p.new)) }
     ensures granules { log.new.granules ≡ log.old.granules }
     ensures version { version_in (words_of (P.state p.new)) ≡ version_in (words_of (P.state p.old)) }
     ensures keeps { KeepsLog log.old.granules (words_of (P.state p.old)) (words_of (P.state p.new)) }
-    ensures quiet { IsQuiet (P.state p.new).events }
-    ensures crash { CrashOnly (words_of (P.state p.old)) (room_events log.old.granules (words_of (P.state p.old))) (KeepsLog log.old.granules (words_of (P.state p.old))) }
 {
     if log.has_room() {
         return Rolled::Nothing;

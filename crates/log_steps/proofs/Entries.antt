@@ -1,13 +1,9 @@
 -- An entry is put into the log behind the events that make room for it.
-use Rattle.std.proofs.Common.{◌≡◌, ◌≢◌, ◌<◌, ◌≤◌, ◌*◌, ⊎_elim, inl, inr, ℕ, zero, suc, true≢false, cond, eqb, ltb, List, [], ◌∷◌, ◌++◌, length, refl, sym, ap, subst, ◌∙◌, arith, Option, Some, None, IsSome}
+use Rattle.std.proofs.Common.{◌≡◌, ◌≢◌, ◌<◌, ◌≤◌, ◌*◌, ⊎_elim, inl, inr, ℕ, zero, suc, true≢false, cond, eqb, ltb, List, ◌++◌, length, refl, sym, ap, subst, ◌∙◌, arith, Option, Some, None, IsSome}
 use Rattle.std.proofs.lemmas.Bool.{cases_eq, cond-true, cond-false, eq-eqb, ne_eqb, lt-ltb, le-ltb}
 use Rattle.pmem_lines.specs.Words.{word_at, put_word}
-use Rattle.pmem_lines.specs.declared.event.Event.{Event}
-use Rattle.pmem_lines.specs.declared.event.Event.TheVariants.{Store, Flush, Fence}
-use Rattle.pmem_lines.specs.Pmem.{PmemState, Appends}
-use Rattle.pmem_lines.specs.Events.{reading, CrashOnly, IsQuiet}
+use Rattle.pmem_lines.specs.Events.{reading}
 use Rattle.pmem_lines.proofs.Words.{word_at-put_other, length-put_word}
-use Rattle.pmem_lines.proofs.Images.{then, weaker}
 use Rattle.durable_steps.specs.Steps.{word_events}
 use Rattle.pool_layout.specs.Layout.{layout_of}
 use Rattle.pool_layout.specs.Places.{log_word, entry_word, heap_word}
@@ -122,28 +118,6 @@ module _ (granules : ℕ) (words made : List ℕ) (k : ℕ) (entry : LogEntry) (
 
 pub made_or_not : (granules : ℕ) (words : List ℕ) (entry : LogEntry) → granules ≡ granules_in words → (image : List ℕ) → KeepsLog granules words image → IsLoggedOrNot words entry image
 made_or_not granules words entry same image keeps = record { rest = rest_made granules words image same keeps; extents = inl keeps.extents }
-
--- a crash while room is made or the entry is put
-pub log_crash : (granules : ℕ) (words made : List ℕ) (k : ℕ) (entry : LogEntry) (events : List Event) → granules ≡ granules_in words → KeepsLog granules words made → IsInLog (version_in made) k →
-    made ≡ reading words (room_events granules words) → IsQuiet (room_events granules words) →
-    CrashOnly words (room_events granules words) (KeepsLog granules words) → CrashOnly made events (IsEntryOrNot granules made k entry) →
-    CrashOnly words (room_events granules words ++ events) (IsLoggedOrNot words entry)
-log_crash granules words made k entry events same keeps place is quiet first second =
-    let P : List ℕ → Type 0 = IsLoggedOrNot words entry in
-    then words (room_events granules words) events P quiet
-    (weaker words (room_events granules words) (KeepsLog granules words) P (made_or_not granules words entry same) first)
-    (subst (λ (ws : List ℕ). CrashOnly ws events P) is
-    (weaker made events (IsEntryOrNot granules made k entry) P (logged_or_not granules words made k entry same keeps place) second))
-
--- the events of a step are quiet where all events behind it are
-quiet_behind : (e f : List Event) → IsQuiet (e ++ f) → IsQuiet f
-quiet_behind [] f quiet = quiet
-quiet_behind (Store at value ∷ e) f quiet = quiet_behind e f quiet.1
-quiet_behind (Flush line ∷ e) f quiet = quiet_behind e f quiet
-quiet_behind (Fence ∷ e) f quiet = quiet_behind e f quiet
-
-pub quiet_step : {s t : PmemState} {events : List Event} → Appends s t events → IsQuiet t.events → IsQuiet events
-quiet_step {s} {t} {events} step quiet = quiet_behind s.events events (subst (λ (p : PmemState). IsQuiet p.events) step.state quiet)
 
 -- how many events make room at most
 pub room_few : (book : Book) (words : List ℕ) → IsFormed words → IsBookOf book words → AreDisjoint (extent_at words) → length (room_events book.granules words) ≤ 679

@@ -1,2 +1,3 @@
 pub mod Disjoint
 pub mod Entries
+pub mod LargeEntries

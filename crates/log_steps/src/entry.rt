@@ -1,7 +1,8 @@
 // An entry is put into the log, where room is made for it first.
 ghost use Rattle.std.specs.Prelude.{◌≡◌, ◌≤◌, ◌+◌, length};
-ghost use Rattle.pmem_lines.specs.Events.{IsQuiet, CrashOnly};
-ghost use Rattle.pmem_lines.specs.Pmem.{words_of, HasRoom, Appends};
+ghost use Rattle.pmem_lines.specs.Events.{IsQuiet};
+ghost use Rattle.pmem_lines.specs.Steps.{IsQuietStep};
+ghost use Rattle.pmem_lines.specs.Pmem.{words_of, HasRoom};
 ghost use Rattle.pool_layout.specs.Layout.{layout_of};
 ghost use Rattle.pool_layout.specs.Header.{version_in, granules_in};
 ghost use Rattle.image_tables.specs.Extents.{extent_at};
@@ -25,12 +26,10 @@ pub fn log_entry<P: Pmem>(log: &mut BookLog, device: &mut P, entry: LogEntry)
     requires valid { IsInHeap (layout_of (version_in (words_of (P.state device.old)))).first_granule (granules_in (words_of (P.state device.old))) entry }
     requires quiet { IsQuiet (P.state device.old).events }
     requires room { HasRoom (P.state device.old) 682 }
-    ensures appends { Appends (P.state device.old) (P.state device.new) (log_events (words_of (P.state device.old)) entry) }
+    ensures step { IsQuietStep (P.state device.old) (P.state device.new) (log_events (words_of (P.state device.old)) entry) (IsLoggedOrNot (words_of (P.state device.old)) entry) }
     ensures few { length (P.state device.new).events ≤ length (P.state device.old).events + 682 }
     ensures logged { IsLogged (words_of (P.state device.old)) entry (words_of (P.state device.new)) }
     ensures book { IsBookOf log.new (words_of (P.state device.new)) }
-    ensures quiet { IsQuiet (P.state device.new).events }
-    ensures crash { CrashOnly (words_of (P.state device.old)) (log_events (words_of (P.state device.old)) entry) (IsLoggedOrNot (words_of (P.state device.old)) entry) }
 {
     make_room(log, device);
     log.append(device, entry);

@@ -2,7 +2,7 @@
 use Rattle.std.proofs.Common.{ℕ, List, refl, Option, Result, Ok, Err}
 use Rattle.std.specs.Result.{IfOk}
 use Rattle.pmem_lines.specs.Pmem.{PmemState}
-use Rattle.trace_text.specs.declared.call.Refusal.{Refusal}
+use Rattle.nvheap.specs.declared.cause.Cause.{Cause}
 use Rattle.nvheap.specs.declared.command.Command.{Command}
 use Rattle.nvheap.specs.declared.answers.Answer.{Answer}
 use Rattle.nvheap.specs.declared.answers.Answer.TheVariants.{Output, FaultLine}
@@ -14,7 +14,7 @@ IfOk-more (Ok x) P Q more is = more x is
 IfOk-more (Err e) P Q more is = tt
 
 -- a line that says why is the answer where the cause holds
-pub IsAnswer-refused : (command : Command) (input : List ℕ) (places : Option (List (Option PmemState))) (refusal : Refusal) (answer : Answer) →
-    Refuses command input refusal → IsFaultLine refusal answer → IsAnswer command input places places answer
-IsAnswer-refused command input places refusal (Output text) cause line = absurd line
-IsAnswer-refused command input places refusal (FaultLine text) cause line = (refusal, cause, line, refl)
+pub IsAnswer-refused : (command : Command) (input : List ℕ) (places : Option (List (Option PmemState))) (why : Cause) (answer : Answer) →
+    Refuses command input why → IsFaultLine why answer → IsAnswer command input places places answer
+IsAnswer-refused command input places why (Output text) cause line = absurd line
+IsAnswer-refused command input places why (FaultLine text) cause line = (why, cause, line, refl)

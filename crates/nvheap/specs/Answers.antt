@@ -1,18 +1,19 @@
 -- What each command has to say of an input, and what it leaves on the shelf.
 use Rattle.std.specs.Prelude.{◌≡◌, ℕ, ◌≤◌, List, Option}
-use Rattle.pmem_lines.specs.Pmem.{PmemState}
+use Rattle.pmem_lines.specs.Pmem.{PmemState, words_of}
+use Rattle.pool_layout.specs.Bytes.{bytes_of_words}
 use Rattle.heap_model.specs.declared.call.Entry.{Entry}
 use Rattle.heap_model.specs.Machine.{Machine}
 use Rattle.trace_text.specs.declared.call.TraceCall.{TraceCall}
 use Rattle.trace_text.specs.Grammar.{IsTrace}
-use Rattle.trace_runs.specs.Replay.{HasRun, IsReport}
+use Rattle.trace_runs.specs.Replay.{HasRun, IsReport, IsRunThrough}
 use Rattle.trace_runs.specs.Crash.{IsCrashReport, HasFewer}
-use Rattle.nvheap.specs.Outside.{put_at}
+use Rattle.nvheap.specs.Outside.{put_device}
 
 -- place 0 of the shelf has a device that went through the journal; the other places stay
 pub record KeepsRun (old new : Option (List (Option PmemState))) (granules : ℕ) (journal : List Entry) (machine : Machine) : Type 0 where
   pub device : PmemState
-  pub put : new ≡ put_at old 0 device
+  pub put : new ≡ put_device old 0 device
   pub run : HasRun granules device journal machine
 
 -- The output is the report of a legal journal of the trace's calls, and the shelf has the device that went through it.
@@ -24,6 +25,17 @@ pub record AnswersReplay (input output : List ℕ) (old new : Option (List (Opti
   pub machine : Machine
   pub report : IsReport granules calls journal machine output
   pub shelf : KeepsRun old new granules journal machine
+
+-- The output is the bytes of a device that went through a legal journal of the trace's calls, and place 0 of the shelf has
+-- that device; the other places stay.
+pub record AnswersImage (input output : List ℕ) (old new : Option (List (Option PmemState))) : Type 0 where
+  pub granules : ℕ
+  pub calls : List TraceCall
+  pub trace : IsTrace input granules calls
+  pub device : PmemState
+  pub run : IsRunThrough granules calls device
+  pub put : new ≡ put_device old 0 device
+  pub is : output ≡ bytes_of_words (words_of device)
 
 -- The output is the report of a crash of the trace's calls.
 pub record AnswersCrash (input output : List ℕ) (event seed : ℕ) : Type 0 where

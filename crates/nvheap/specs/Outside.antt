@@ -47,6 +47,6 @@ pub record TakesFront (old new : Option (List ℕ)) (bytes : List ℕ) : Type 0 
   pub takes : Takes old new front
 
 -- a place of a shelf is set
-abbrev pub put_at : Option (List (Option PmemState)) → ℕ → PmemState → Option (List (Option PmemState))
-put_at (Some places) arena state = Some (slice_set places arena (Some state))
-put_at None arena state = None
+abbrev pub put_device : Option (List (Option PmemState)) → ℕ → PmemState → Option (List (Option PmemState))
+put_device (Some places) arena state = Some (slice_set places arena (Some state))
+put_device None arena state = None

@@ -9,6 +9,10 @@ use trace_text::whole_number;
 pub enum Command {
     /// Run a trace and print its report.
     Replay,
+    /// Run a trace and write the image that it leaves.
+    Image,
+    /// Check the image of a pool, and print what each of its arenas has.
+    Check,
     /// Run a trace on one arena, from 0 to 15, up to an event, and print the heap that a crash leaves there.
     Crash { arena: u32, event: u64, seed: u64 },
 }
@@ -19,6 +23,12 @@ pub(crate) fn command_of(words: &[String]) -> Option<Command>
 {
     if words.len() == 1 && is_word(&words[0], "replay") {
         return Some(Command::Replay);
+    }
+    if words.len() == 1 && is_word(&words[0], "image") {
+        return Some(Command::Image);
+    }
+    if words.len() == 1 && is_word(&words[0], "check") {
+        return Some(Command::Check);
     }
     if words.len() == 4 && is_word(&words[0], "crash") {
         return crash_of(

@@ -1,13 +1,16 @@
 // What the program does between its words and its exit code: it replays allocation traces on an arena over simulated
-// persistent memory and prints journal and heap, and it shows the heap that a crash at a chosen event leaves.
+// persistent memory and prints journal and heap, it shows the heap that a crash at a chosen event leaves, and it checks the
+// image of a pool.
 //
 // `run` does all of it, over traits for the outside: a source of bytes, a sink for bytes, a gate and a shelf of
 // devices. Its contract (`specs/Ends.antt` and what that cites) is what the program promises. The program's `main` makes
 // the real source, sink, gate and shelf, and calls `run`; those in memory are for tests. No rule of the heap stands here:
-// the calls of a trace are made by `trace_runs`, text is read and written by `trace_text`, memory comes from `pmem_lines`.
+// the calls of a trace are made by `trace_runs`, images are checked by `image_runs`, text is read and written by
+// `trace_text`, memory comes from `pmem_lines`.
 #![tactic(auto)]
 
 mod answers;
+mod cause;
 mod command;
 mod gate;
 mod input;
@@ -18,6 +21,7 @@ mod sink;
 mod source;
 mod status;
 
+pub use cause::Cause;
 pub use command::Command;
 pub use gate::{Gate, OpenGate};
 pub use running::run;

@@ -1,8 +1,8 @@
 // The top call.
-ghost use Rattle.std.specs.Prelude.{◌≡◌, ◌≢◌, ◌↔◌, ℕ, map, string_bytes};
-ghost use Rattle.nvheap.specs.Outside.{Rose, GivesMore};
+ghost use Rattle.std.specs.Prelude.{◌≡◌, ◌↔◌, ◌<◌, ◌^◌, map, string_bytes};
+ghost use Rattle.nvheap.specs.Outside.{Rose};
 ghost use Rattle.nvheap.specs.Command.{IsNoCommand};
-ghost use Rattle.nvheap.specs.Ends.{longest_trace, IsDone, IsRefused, IsCutShort, IsSilent, IsAside, RunsOn};
+ghost use Rattle.nvheap.specs.Ends.{longest, IsDone, IsRefused, IsCutShort, IsTooLong, IsSilent, IsAside, RunsOn};
 
 use crate::answers::{Answer, answer_to};
 use crate::command::{Command, command_of};
@@ -17,15 +17,16 @@ use std::alloc::Global;
 use std::sync::Wait;
 use std::thread::Threads;
 
-/// The most bytes that a trace may have.
+// The most bytes that a trace may have, and an image.
 const LONGEST_TRACE: usize = 67_108_864;
+
+const LONGEST_IMAGE: usize = 268_435_456;
 
 /// Does all that the program does: reads the words, then all of the source, runs the command, and then writes. `words`
 /// are the words after the program's name.
 ///
 /// `Usage` comes exactly where the words say no command. The other answers come in the order `ReadFault`, `TooLong`,
 /// `Refused`, `WriteFault`, `Done`, each where no earlier one came; `Memory` may stand in the place of any of them.
-#[tactic(auto, unfolding(crate::specs::Ends::longest_trace))]
 pub fn run<R: Threads + Wait + Sync, S: Source, K: Sink, G: Gate + Sync, H: Shelf>(
     _rt: &R,
     alloc: Global,
@@ -41,18 +42,30 @@ pub fn run<R: Threads + Wait + Sync, S: Source, K: Sink, G: Gate + Sync, H: Shel
     ensures read_fault { result ≡ Status.ReadFault → Rose (S.faults source.old) (S.faults source.new) }
     ensures write_fault { result ≡ Status.WriteFault → Rose (K.faults sink.old) (K.faults sink.new) }
     ensures cut_short { result ≡ Status.WriteFault → IsCutShort (map string_bytes words.now) (S.left source.old) (S.left source.new) (K.taken sink.old) (K.taken sink.new) (H.places shelf.old) (H.places shelf.new) }
-    ensures too_long { result ≡ Status.TooLong → GivesMore (S.left source.old) (S.left source.new) longest_trace }
+    ensures too_long { result ≡ Status.TooLong → IsTooLong (map string_bytes words.now) (S.left source.old) (S.left source.new) }
     ensures silent { IsSilent result → K.taken sink.new ≡ K.taken sink.old }
     ensures aside { IsAside result → H.places shelf.new ≡ H.places shelf.old }
 {
     let Some(command) = command_of(words) else {
         return Status::Usage;
     };
-    match read_all(alloc, source, LONGEST_TRACE) {
+    match read_all(alloc, source, longest_of(command)) {
         Ok(input) => run_on(alloc, command, &input, sink, shelf),
         Err(Unread::Failed) => Status::ReadFault,
         Err(Unread::Memory) => Status::Memory,
         Err(Unread::TooLong) => Status::TooLong,
+    }
+}
+
+// The most bytes that a command's input may have.
+#[tactic(auto, unfolding(crate::specs::Ends::longest_trace, crate::specs::Ends::longest_image))]
+fn longest_of(command: Command) -> usize
+    ensures longest { result ≡ longest command }
+    ensures few { result < 2 ^ 32 }
+{
+    match command {
+        Command::Replay | Command::Image | Command::Crash { .. } => LONGEST_TRACE,
+        Command::Check => LONGEST_IMAGE,
     }
 }
 

@@ -1,7 +1,7 @@
 // Where devices come from, and where they stay.
 ghost use Rattle.std.specs.Prelude.{◌≡◌, ℕ, ◌<◌, ◌≤◌, List, Option, Some, None, vec_len, IfOk, option_copied, replicate, slice_index_or};
 ghost use Rattle.pmem_lines.specs.Pmem.{PmemState, IsZeroed};
-ghost use Rattle.nvheap.specs.Outside.{put_at};
+ghost use Rattle.nvheap.specs.Outside.{put_device};
 
 use pmem_lines::{OutOfMemory, Pmem, SimPmem};
 use std::alloc::Global;
@@ -23,51 +23,51 @@ pub trait Shelf {
     /// Sets a place to a device; the other places stay. It takes no memory.
     fn put(&mut self, arena: u32, device: Self::Device)
         requires { arena < 16 }
-        ensures { places self.new ≡ put_at (places self.old) arena (Self.Device.state device) };
+        ensures { places self.new ≡ put_device (places self.old) arena (Self.Device.state device) };
 }
 
 /// Keeps what is put.
 #[derive(Drop)]
 pub struct KeptShelf {
-    kept: Vec<Option<SimPmem>>,
-    ghost sixteen: { vec_len kept ≡ 16 },
+    devices: Vec<Option<SimPmem>>,
+    ghost sixteen: { vec_len devices ≡ 16 },
 }
 
 impl KeptShelf {
     /// A shelf of 16 empty places.
     pub fn new(alloc: Global) -> Result<KeptShelf, OutOfMemory>
-        ensures { IfOk result (λ shelf. shelf.kept.items ≡ replicate 16 None) }
+        ensures { IfOk result (λ shelf. shelf.devices.items ≡ replicate 16 None) }
     {
-        let mut kept = Vec::with_capacity(alloc, 16)?;
+        let mut devices = Vec::with_capacity(alloc, 16)?;
         for place in 0..16usize {
-            match kept.push(None) {
+            match devices.push(None) {
                 Ok(()) => {}
                 Err(_) => return Err(OutOfMemory),
             }
         }
-        Ok(KeptShelf { kept })
+        Ok(KeptShelf { devices })
     }
 
     /// The device at a place, if there is one.
     pub fn device(&self, arena: u32) -> Option<&SimPmem>
         requires { arena < 16 }
-        ensures { option_copied result ≡ slice_index_or self.now.kept.items arena None }
+        ensures { option_copied result ≡ slice_index_or self.now.devices.items arena None }
     {
-        self.kept[arena as usize].as_ref()
+        self.devices[arena as usize].as_ref()
     }
 }
 
 impl Shelf for KeptShelf {
     type Device = SimPmem;
 
-    ghost places = { λ s. Some s.kept.items };
+    ghost places = { λ s. Some s.devices.items };
 
     fn take(&mut self, alloc: Global, lines: u32, room: u32) -> Result<SimPmem, OutOfMemory> {
         SimPmem::zeroed(alloc, lines, room)
     }
 
     fn put(&mut self, arena: u32, device: SimPmem) {
-        self.kept[arena as usize] = Some(device);
+        self.devices[arena as usize] = Some(device);
     }
 }
 

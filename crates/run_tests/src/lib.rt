@@ -2,12 +2,14 @@
 // hand.
 //
 // The crate has no code. It stands apart from `nvheap`, since a crate with tests is proved twice. `rows` has the rows,
-// `faults` sources and sinks that fail, `logs` traces that fill an arena's log, `words` what is left on the device, and
-// `runs` how they all run.
+// `images` has `check` over images, `faults` sources and sinks that fail, `logs` traces that fill an arena's log, `words`
+// what is left on the device, and `runs` how they all run.
 #![tactic(auto)]
 
 #[cfg(test)]
 mod faults;
+#[cfg(test)]
+mod images;
 #[cfg(test)]
 mod logs;
 #[cfg(test)]

@@ -2,7 +2,8 @@
 
 ghost use Rattle.std.specs.Prelude.{◌≡◌, ◌+◌, ◌*◌, ◌/◌, ◌%◌, ◌^◌, ◌<◌, ◌≤◌, length};
 ghost use Rattle.pmem_lines.specs.Words.{word_at, zeros};
-ghost use Rattle.pmem_lines.specs.Events.{IsQuiet, CrashOnly};
+ghost use Rattle.pmem_lines.specs.Events.{IsQuiet};
+ghost use Rattle.pmem_lines.specs.Steps.{IsQuietStep};
 ghost use Rattle.pmem_lines.specs.Pmem.{words_of, HasRoom, Appends};
 ghost use Rattle.image_tables.specs.Tables.{bitmap_word, index_word};
 ghost use Rattle.slab_header.specs.Index.{word_of_index};
@@ -40,11 +41,9 @@ pub fn make_slab<P: Pmem>(p: &mut P, at: u32, class: u8)
     requires class { class < 36 }
     requires quiet { IsQuiet (P.state p.old).events }
     requires room { HasRoom (P.state p.old) 75 }
-    ensures appends { Appends (P.state p.old) (P.state p.new) (make_events at class) }
+    ensures step { IsQuietStep (P.state p.old) (P.state p.new) (make_events at class) (KeepsOutside (words_of (P.state p.old)) (at / 16384)) }
     ensures count { length (P.state p.new).events ≡ length (P.state p.old).events + 75 }
-    ensures quiet { IsQuiet (P.state p.new).events }
     ensures made { IsMade (words_of (P.state p.old)) (words_of (P.state p.new)) (at / 16384) class }
-    ensures crash { CrashOnly (words_of (P.state p.old)) (make_events at class) (KeepsOutside (words_of (P.state p.old)) (at / 16384)) }
 {
     let clear = clear_bitmap();
     let state = state_word(SlabState::Normal { class });

@@ -91,17 +91,17 @@ IsChange-step seat old new call OutOfRange block given exact steps by = absurd b
 IsChange-step seat old new call NoSpace block given exact steps by = absurd by
 
 -- a root's word is what the tables say of it, while no move entry is open
-root_is : (words : List ℕ) (root : ℕ) → IsFormed words → HasNoMove (tables_of words).entry → root < (layout_of 1).roots → (tables_of words).root root ≡ word_at words (root_word root)
+root_is : (words : List ℕ) (root : ℕ) → IsFormed words → HasNoMove (tables_of words).open_entry → root < (layout_of 1).roots → (tables_of words).root root ≡ word_at words (root_word root)
 root_is words root formed still below = root_table words root still (subst (λ v. root < (layout_of v).roots) (sym (version-formed words formed)) below)
 
 -- a root whose word is 0 has no block
-pub heap-zero : (words : List ℕ) (root : ℕ) → IsFormed words → HasNoMove (tables_of words).entry → root < (layout_of 1).roots → word_at words (root_word root) ≡ 0 → heap (tables_of words) root ≡ None
+pub heap-zero : (words : List ℕ) (root : ℕ) → IsFormed words → HasNoMove (tables_of words).open_entry → root < (layout_of 1).roots → word_at words (root_word root) ≡ 0 → heap (tables_of words) root ≡ None
 heap-zero words root formed still below zero' =
     cond-true _ None (Some (record { at = (tables_of words).root root; size = size_at (tables_of words) root ((tables_of words).root root) }))
     (eq-eqb ((tables_of words).root root) 0 (root_is words root formed still below ∙ zero'))
 
 -- a root whose word is not 0 has one
-pub heap-some : (words : List ℕ) (root : ℕ) → IsFormed words → HasNoMove (tables_of words).entry → root < (layout_of 1).roots → word_at words (root_word root) ≢ 0 → heap (tables_of words) root ≢ None
+pub heap-some : (words : List ℕ) (root : ℕ) → IsFormed words → HasNoMove (tables_of words).open_entry → root < (layout_of 1).roots → word_at words (root_word root) ≢ 0 → heap (tables_of words) root ≢ None
 heap-some words root formed still below some none =
     let range : Range = record { at = (tables_of words).root root; size = size_at (tables_of words) root ((tables_of words).root root) } in
     let is : heap (tables_of words) root ≡ Some range =

@@ -20,8 +20,8 @@ use Rattle.arena_core.specs.Call.{IsReady}
 use Rattle.arena_core.specs.Events.{call_events, line_after}
 use Rattle.trace_text.specs.declared.call.TraceCall.{TraceCall}
 use Rattle.trace_text.specs.Report.{arena_line, entry_line, heap_text}
-use Rattle.trace_runs.specs.Replay.{bounds_for, blocks_of, IsJournal, line_behind, line_of, AreAnswers, IsBehindCall}
-use Rattle.trace_runs.specs.Calls.{IsNewArena, HasAnswered, HasAnsweredAll, HasWrittenAll, IsReplayed}
+use Rattle.trace_runs.specs.Replay.{IsRunThrough, bounds_for, blocks_of, IsJournal, line_behind, line_of, AreAnswers, IsBehindCall}
+use Rattle.trace_runs.specs.Calls.{HasMadeAll, IsNewArena, HasAnswered, HasAnsweredAll, HasWrittenAll, IsReplayed}
 use Rattle.trace_runs.proofs.Listing.{blocks_of-same}
 
 -- one call more is answered
@@ -170,3 +170,32 @@ IsReplayed-written granules arena calls head text report all is_head is_report r
       };
       run = record { quiet = ready.quiet; exact = exact; state = all.answered.state; begins = all.answered.begins; last = all.answered.last };
     }
+
+-- without the lines
+
+-- the calls that were made, with the lines that their journal would have
+written_of : {granules : ℕ} {arena : ArenaState} {calls : List TraceCall} (made : HasMadeAll granules arena calls) → HasWrittenAll granules arena calls [] (flat_map entry_line made.journal)
+written_of made = record { journal = made.journal; machine = made.machine; answered = made.answered; is = refl }
+
+pub HasMadeAll-none : (granules : ℕ) (arena : ArenaState) → IsNewArena granules arena → HasMadeAll granules arena []
+HasMadeAll-none granules arena new = record { journal = []; machine = no_heap; answered = HasAnsweredAll-none granules arena new }
+
+-- one call of a list more
+pub HasMadeAll-more : (granules : ℕ) (old new : ArenaState) (calls : List TraceCall) (i : ℕ) (d : TraceCall) (entry : Entry) →
+    HasMadeAll granules old (take i calls) → i < length calls → i < 2 ^ 63 → entry.seat ≡ (get_or calls i d).thread → entry.call ≡ (get_or calls i d).call →
+    HasAnswered (get_or calls i d).thread old new (get_or calls i d).call entry.reply → HasMadeAll granules new (take (i + 1) calls)
+HasMadeAll-more granules old new calls i d entry made here small seat asked answered =
+    let lines = flat_map entry_line made.journal in
+    let more = HasWrittenAll-more granules old new calls i d [] lines (lines ++ entry_line entry) entry (written_of made) here small seat asked answered refl in
+    record { journal = more.journal; machine = more.machine; answered = more.answered }
+
+-- the device that they leave
+pub IsRunThrough-made : (granules : ℕ) (arena : ArenaState) (calls : List TraceCall) → HasMadeAll granules arena calls → IsReady arena.device → IsExactImage (words_of arena.device) → IsRunThrough granules calls arena.device
+IsRunThrough-made granules arena calls made ready exact = record {
+  journal = made.journal;
+  machine = made.machine;
+  legal = made.answered.leads;
+  answers = made.answered.answers;
+  apart = made.answered.apart;
+  run = record { quiet = ready.quiet; exact = exact; state = made.answered.state; begins = made.answered.begins; last = made.answered.last };
+}

@@ -48,7 +48,13 @@ pub record HasAnsweredAll (granules : ℕ) (arena : ArenaState) (calls : List Tr
   pub line : arena.line ≡ line_of journal
   pub last : IsBehindFormat granules arena.device journal ⊎ IsBehindCall granules arena.device journal
 
--- the same, and the lines of the journal stand behind what stood in a text
+-- an arena that was new answered these calls
+pub record HasMadeAll (granules : ℕ) (arena : ArenaState) (calls : List TraceCall) : Type 0 where
+  pub journal : List Entry
+  pub machine : Machine
+  pub answered : HasAnsweredAll granules arena calls journal machine
+
+-- the same of `HasAnsweredAll`, and the lines of the journal stand behind what stood in a text
 pub record HasWrittenAll (granules : ℕ) (arena : ArenaState) (calls : List TraceCall) (text more : List ℕ) : Type 0 where
   pub journal : List Entry
   pub machine : Machine

@@ -98,3 +98,12 @@ pub record IsReport (granules : ℕ) (calls : List TraceCall) (journal : List En
   pub answers : AreAnswers calls journal
   pub apart : IsOverlapFree (bounds_for granules) machine
   pub is : text ≡ arena_text 0 journal (blocks_of machine.block)
+
+-- the device went through a legal journal of the calls, in which no two blocks overlap
+pub record IsRunThrough (granules : ℕ) (calls : List TraceCall) (device : PmemState) : Type 0 where
+  pub journal : List Entry
+  pub machine : Machine
+  pub legal : IsJournal granules journal machine
+  pub answers : AreAnswers calls journal
+  pub apart : IsOverlapFree (bounds_for granules) machine
+  pub run : HasRun granules device journal machine

@@ -4,13 +4,14 @@ use Rattle.pmem_lines.proofs.Words.{word_at-put_other}
 use Rattle.pmem_lines.specs.declared.event.Event.{Event}
 use Rattle.pmem_lines.specs.declared.event.Event.TheVariants.{Store, Flush, Fence}
 use Rattle.pmem_lines.specs.Pmem.{words_of, Appends}
-use Rattle.pmem_lines.proofs.States.{then_step, quiet_after}
+use Rattle.pmem_lines.proofs.States.{then_step}
+use Rattle.pmem_lines.proofs.Steps.{step_of}
 use Rattle.durable_steps.proofs.Steps.{IsQuiet-pair, pair_crash}
 use Rattle.pool_layout.specs.Places.{root_word}
 use Rattle.image_tables.specs.Tables.{bitmap_word}
 use Rattle.slab_header.specs.Steps.{put_events, with_bit, PutsBitOver}
-use Rattle.attach_steps.specs.Steps.{bit_word, bit_put, unmark_events}
-use Rattle.attach_steps.proofs.Crashes.{PutsBitOver-same}
+use Rattle.attach_steps.specs.Steps.{bit_word, bit_put}
+use Rattle.attach_steps.proofs.ClassBlocks.{PutsBitOver-same}
 use Rattle.attach_steps.proofs.steps.unmark.Given as given
 use Rattle.attach_steps.proofs.steps.unmark.Goals as goal
 
@@ -26,34 +27,24 @@ kept : (g : given.Over) (c : goal.After-fence g) → word_at (left g c) (bit_wor
 kept g c =
     let words = words_of (g.P.Pmem.state c.args.p.now) in
     ap (λ (ws : List ℕ). word_at ws (bit_word c.args.block)) (c.flush.ensures.words ∙ c.store.ensures.words)
-    ∙ word_at-put_other words (c.root_at.result / 8) (bit_word c.args.block) 0 (λ e. omega (arith, e, c.root_at.ensures, c.requires.before))
+    ∙ word_at-put_other words (c.root_at.result / 8) (bit_word c.args.block) 0 (λ e. omega (arith, e, c.root_at.ensures, c.requires.inside.before))
 
--- all the events
-appends : (g : given.Over) (c : goal.After-fence g) → Appends (g.P.Pmem.state c.args.p.now) (g.P.Pmem.state c.fence.new.self) (unmark_events (words_of (g.P.Pmem.state c.args.p.now)) c.args.root c.args.block)
-appends g c =
+pub returns-clause-step : goal.returns-clause-step
+returns-clause-step g c =
     let state = g.P.Pmem.state in
+    let words = words_of (state c.args.p.now) in
     let n = c.args.block.number in
-    let made : word_at (left g c) (bitmap_word (c.granule_at.result / 16384) n) ≡ word_at (words_of (state c.args.p.now)) (bit_word c.args.block) =
+    let made : word_at (left g c) (bitmap_word (c.granule_at.result / 16384) n) ≡ word_at words (bit_word c.args.block) =
     ap (λ s. word_at (left g c) (bitmap_word s n)) (start g c) ∙ kept g c in
-    subst (λ (es : List Event). Appends (state c.args.p.now) (state c.fence.new.self) es)
+    step_of
+    (subst (λ (es : List Event). Appends (state c.args.p.now) (state c.fence.new.self) es)
     (λ i. Store (c.root_at.ensures i) 0 ∷ Flush (c.root_at-2.ensures i / 64) ∷ put_events (8 * bitmap_word (start g c i) n) (with_bit (made i) (n / 8 % 64) false) ++ Fence ∷ [])
-    (then_step (then_step (then_step c.store.ensures c.flush.ensures) c.put_bit.ensures.appends) c.fence.ensures)
-
-pub returns-clause-appends : goal.returns-clause-appends
-returns-clause-appends g c = appends g c
-
-pub returns-clause-quiet : goal.returns-clause-quiet
-returns-clause-quiet g c =
-    let words = words_of (g.P.Pmem.state c.args.p.now) in
-    quiet_after (appends g c) (IsQuiet-pair (8 * root_word c.args.root) 0 (8 * bit_word c.args.block) (bit_put words c.args.block false)) c.requires.quiet
+    (then_step (then_step (then_step c.store.ensures c.flush.ensures) c.put_bit.ensures.appends) c.fence.ensures))
+    (IsQuiet-pair (8 * root_word c.args.root) 0 (8 * bit_word c.args.block) (bit_put words c.args.block false)) c.requires.quiet
+    (pair_crash words (8 * root_word c.args.root) 0 (8 * bit_word c.args.block) (bit_put words c.args.block false))
 
 pub returns-clause-over : goal.returns-clause-over
 returns-clause-over g c =
     let words = words_of (g.P.Pmem.state c.args.p.now) in
     PutsBitOver-same words (left g c) c.args.block.start c.args.block.number false (c.flush.ensures.size ∙ c.store.ensures.size) (kept g c)
     (subst (λ s. PutsBitOver (left g c) s c.args.block.number false) (start g c) c.put_bit.ensures.over)
-
-pub returns-clause-crash : goal.returns-clause-crash
-returns-clause-crash g c =
-    let words = words_of (g.P.Pmem.state c.args.p.now) in
-    pair_crash words (8 * root_word c.args.root) 0 (8 * bit_word c.args.block) (bit_put words c.args.block false)

@@ -1,5 +1,6 @@
 use Rattle.std.proofs.Common.{◌≡◌, ◌*◌, ◌∙◌, ap, sym, subst, length, List, ℕ, arith}
 use Rattle.pmem_lines.specs.Pmem.{words_of}
+use Rattle.durable_steps.proofs.Steps.{word_step}
 use Rattle.pool_layout.specs.Layout.{layout_of}
 use Rattle.pool_layout.specs.declared.layout.Layout.{Layout}
 use Rattle.pool_layout.specs.Places.{entry_word}
@@ -9,7 +10,7 @@ use Rattle.book_log.specs.Table.{extent_in}
 use Rattle.book_log.specs.Book.{HasLog, AreWithin, IsNextOf, IsPlaceAfter, chunks_of}
 use Rattle.book_log.proofs.Places.{header_within, place_at}
 use Rattle.book_log.proofs.Appending.{with_entry-same}
-use Rattle.book_log.proofs.Puts.{append_of, put_at, version_put, chunks_put, place_in_log, log_put, within_put, extents_put, next_put, IsStep, says_step, words_step, crash_step}
+use Rattle.book_log.proofs.Puts.{append_of, put_entry_word, version_put, chunks_put, place_in_log, log_put, within_put, extents_put, next_put, crash_put, IsPut, says_put, words_put}
 use Rattle.book_log.proofs.append.append_at.Given as given
 use Rattle.book_log.proofs.append.append_at.Goals as goal
 
@@ -25,34 +26,34 @@ write_word-requires-clause-place g c =
     (c.entry_at.ensures ∙ ap (λ v. 8 * entry_word v a.place.chunk a.place.entry) c.version_of-version.ensures)
     (append_of c.requires.place).inside
 
--- the step is that of the entry
-step : (g : given.Over) (c : goal.After-place_after g) → IsStep (words_of (g.P.Pmem.state c.args.device.now)) c.args.place c.args.entry c.entry_at.result c.log_word-word.result
-step g c = record {
+-- it puts the entry
+put : (g : given.Over) (c : goal.After-place_after g) → IsPut (words_of (g.P.Pmem.state c.args.device.now)) c.args.place c.args.entry c.entry_at.result c.log_word-word.result
+put g c = record {
   at_is = c.entry_at.ensures ∙ ap (λ v. 8 * entry_word v c.args.place.chunk c.args.place.entry) c.version_of-version.ensures;
   value_is = c.log_word-word.ensures.word;
   says = c.log_word-word.ensures.says;
 }
 
 -- it leaves the words with the entry at its place
-left : (g : given.Over) (c : goal.After-place_after g) → put_at (words_of (g.P.Pmem.state c.args.device.now)) c.args.place c.args.entry ≡ words_of (g.P.Pmem.state c.write_word.new.device)
-left g c = sym (c.write_word.ensures.appends.words ∙ words_step (step g c))
+left : (g : given.Over) (c : goal.After-place_after g) → put_entry_word (words_of (g.P.Pmem.state c.args.device.now)) c.args.place c.args.entry ≡ words_of (g.P.Pmem.state c.write_word.new.device)
+left g c = sym (c.write_word.ensures.appends.words ∙ words_put (put g c))
 
 pub returns-clause-extents : goal.returns-clause-extents
 returns-clause-extents g c start =
-    ap (λ (ws : List ℕ). extent_at ws start) (sym (left g c)) ∙ extents_put c.requires.place (says_step (step g c)) start
+    ap (λ (ws : List ℕ). extent_at ws start) (sym (left g c)) ∙ extents_put c.requires.place (says_put (put g c)) start
 
 pub returns-clause-live : goal.returns-clause-live
 returns-clause-live g c start =
     let words = words_of (g.P.Pmem.state c.args.device.now) in
     c.put_entry.ensures start
     ∙ with_entry-same (extent_in c.args.live.now) (extent_at words) c.args.entry start (c.requires.live start)
-    ∙ sym (extents_put c.requires.place (says_step (step g c)) start)
+    ∙ sym (extents_put c.requires.place (says_put (put g c)) start)
     ∙ ap (λ (ws : List ℕ). extent_at ws start) (left g c)
 
 pub returns-clause-log : goal.returns-clause-log
 returns-clause-log g c =
     subst (HasLog (length c.put_entry.new.live)) (left g c)
-    (subst (λ n. HasLog n (put_at (words_of (g.P.Pmem.state c.args.device.now)) c.args.place c.args.entry)) (sym c.put_entry.auto.live) (log_put c.requires.place))
+    (subst (λ n. HasLog n (put_entry_word (words_of (g.P.Pmem.state c.args.device.now)) c.args.place c.args.entry)) (sym c.put_entry.auto.live) (log_put c.requires.place))
 
 pub returns-clause-inside : goal.returns-clause-inside
 returns-clause-inside g c = subst AreWithin (left g c) (within_put c.requires.place)
@@ -65,8 +66,9 @@ returns-clause-next g c =
     subst (λ (ws : List ℕ). IsNextOf ws c.place_after.result) (left g c)
     (next_put c.place_after.result c.requires.place (subst (λ n. IsPlaceAfter n c.args.place c.place_after.result) entries c.place_after.ensures))
 
-pub returns-clause-crash : goal.returns-clause-crash
-returns-clause-crash g c = crash_step c.requires.place (step g c) c.write_word.ensures.crash
+pub returns-clause-step : goal.returns-clause-step
+returns-clause-step g c =
+    word_step c.entry_at.result c.log_word-word.result (put g c).at_is (put g c).value_is (crash_put c.requires.place (says_put (put g c))) c.write_word.ensures
 
 pub returns-clause-place : goal.returns-clause-place
 returns-clause-place g c = place_in_log c.requires.place

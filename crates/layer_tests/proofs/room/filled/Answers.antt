@@ -71,7 +71,7 @@ append-requires-clause-left c =
     let most : length (room_events granules (words_of c.begin.new.self)) ≤ 679 = subst (λ (ws : List ℕ). length (room_events granules ws) ≤ 679) (sym same) (room_most granules old c.loop-i.invariant.reads.log (omega (arith, c.loop-i.invariant.size)) (omega (arith, c.loop-i.invariant.granules)) (even_disjoint (extent_at old) c.loop-i.invariant.even)) in
     let none : length c.begin.new.self.events ≡ 0 = ap (λ (s : PmemState). length s.events) c.begin.ensures.state in
     let room : c.begin.new.self.room ≡ 700 = ap (λ (s : PmemState). s.room) c.begin.ensures.state ∙ c.loop-i.invariant.room in
-    omega (arith, most, none, room, c.make_room-made.ensures.appends.count, c.make_room-made.ensures.appends.room)
+    omega (arith, most, none, room, c.make_room-made.ensures.step.appends.count, c.make_room-made.ensures.step.appends.room)
 
 pub loop-i-preserved : goal.loop-i-preserved
 loop-i-preserved c =
@@ -83,8 +83,8 @@ loop-i-preserved c =
     record {
       reads = c.append.ensures.reads;
       even = even_more (extent_at made) (extent_at (words_of c.append.new.p)) c.start.result kept c.start.ensures.even c.append.ensures.extents;
-      quiet = c.append.ensures.quiet;
-      size = c.append.ensures.appends.size ∙ c.make_room-made.ensures.appends.size ∙ c.begin.ensures.size ∙ c.loop-i.invariant.size;
-      room = c.append.ensures.appends.room ∙ c.make_room-made.ensures.appends.room ∙ room;
+      quiet = c.append.ensures.step.quiet;
+      size = c.append.ensures.step.appends.size ∙ c.make_room-made.ensures.step.appends.size ∙ c.begin.ensures.size ∙ c.loop-i.invariant.size;
+      room = c.append.ensures.step.appends.room ∙ c.make_room-made.ensures.step.appends.room ∙ room;
       granules = c.append.ensures.granules ∙ c.make_room-made.ensures.granules ∙ c.loop-i.invariant.granules;
     }

@@ -1,12 +1,12 @@
-use Rattle.std.proofs.Common.{ℕ, List, sym, subst, ◌∙◌, arith}
-use Rattle.pmem_lines.specs.declared.event.Event.{Event}
-use Rattle.pmem_lines.specs.Events.{CrashOnly}
-use Rattle.pmem_lines.specs.Pmem.{words_of, Appends}
-use Rattle.pmem_lines.proofs.States.{then_step}
+use Rattle.std.proofs.Common.{ℕ, ◌++◌, sym, subst, ◌∙◌, arith}
+use Rattle.pmem_lines.specs.Pmem.{words_of}
+use Rattle.pmem_lines.proofs.Steps.{step_by, step_then}
 use Rattle.image_tables.proofs.Stores.{granules_in-off_log}
 use Rattle.book_log.specs.Book.{HasLog, IsEntryOrNot, next_word, append_events}
+use Rattle.log_gc.specs.Room.{room_events}
+use Rattle.log_steps.specs.Events.{log_events}
 use Rattle.log_steps.specs.Log.{IsLogged, IsLoggedOrNot}
-use Rattle.log_steps.proofs.Entries.{events_of_entry, room_few, off_log, logged_then, log_crash, quiet_step}
+use Rattle.log_steps.proofs.Entries.{events_of_entry, room_few, off_log, logged_then, made_or_not, logged_or_not}
 use Rattle.log_steps.proofs.entry.log_entry.Goals as goal
 
 pub make_room-requires-clause-left : goal.make_room-requires-clause-left
@@ -15,15 +15,7 @@ make_room-requires-clause-left g c =
 
 pub append-requires-clause-left : goal.append-requires-clause-left
 append-requires-clause-left g c =
-    omega (arith, room_few c.args.log.now (words_of (g.P.Pmem.state c.args.device.now)) c.requires.formed c.requires.book c.requires.disjoint, c.requires.room, c.make_room.ensures.appends.count, c.make_room.ensures.appends.room)
-
-pub returns-clause-appends : goal.returns-clause-appends
-returns-clause-appends g c =
-    let state = g.P.Pmem.state in
-    subst (λ (events : List Event). Appends (state c.args.device.now) (state c.append.new.p) events)
-    (events_of_entry c.args.log.now c.make_room.new.log (words_of (state c.args.device.now)) (words_of (state c.make_room.new.p)) c.args.entry
-    c.requires.book.granules c.make_room.ensures.appends.words c.make_room.ensures.reads c.make_room.ensures.room)
-    (then_step c.make_room.ensures.appends c.append.ensures.appends)
+    omega (arith, room_few c.args.log.now (words_of (g.P.Pmem.state c.args.device.now)) c.requires.formed c.requires.book c.requires.disjoint, c.requires.room, c.make_room.ensures.step.appends.count, c.make_room.ensures.step.appends.room)
 
 pub returns-clause-logged : goal.returns-clause-logged
 returns-clause-logged g c =
@@ -43,19 +35,22 @@ returns-clause-book g c =
           ∙ sym (granules_in-off_log (words_of (state c.args.device.now)) (words_of (state c.append.new.p)) (off_log _ _ logged.rest));
     }
 
-pub returns-clause-crash : goal.returns-clause-crash
-returns-clause-crash g c =
+pub returns-clause-step : goal.returns-clause-step
+returns-clause-step g c =
     let state = g.P.Pmem.state in
     let words = words_of (state c.args.device.now) in
     let made = words_of (state c.make_room.new.p) in
     let room = c.make_room.ensures in
     let granules = c.args.log.now.granules in
-    let second = subst (λ (n : ℕ). CrashOnly made (append_events c.make_room.new.log made c.args.entry) (IsEntryOrNot n made (next_word c.make_room.new.log made) c.args.entry)) room.granules c.append.ensures.crash in
-    subst (λ (events : List Event). CrashOnly words events (IsLoggedOrNot words c.args.entry))
-    (events_of_entry c.args.log.now c.make_room.new.log words made c.args.entry c.requires.book.granules room.appends.words room.reads room.room)
-    (log_crash granules words made (next_word c.make_room.new.log made) c.args.entry (append_events c.make_room.new.log made c.args.entry)
-    c.requires.book.granules room.keeps c.append.ensures.place room.appends.words (quiet_step room.appends room.quiet) room.crash second)
+    let k = next_word c.make_room.new.log made in
+    let entry = append_events c.make_room.new.log made c.args.entry in
+    step_by (room_events granules words ++ entry) (log_events words c.args.entry)
+    (events_of_entry c.args.log.now c.make_room.new.log words made c.args.entry c.requires.book.granules room.step.appends.words room.reads room.room)
+    (step_then (IsLoggedOrNot words c.args.entry) (λ ws. entry) room.step c.append.ensures.step
+    (made_or_not granules words c.args.entry c.requires.book.granules)
+    (λ image left. logged_or_not granules words made k c.args.entry c.requires.book.granules room.keeps c.append.ensures.place image
+    (subst (λ (n : ℕ). IsEntryOrNot n made k c.args.entry image) room.granules left)))
 
 pub returns-clause-few : goal.returns-clause-few
 returns-clause-few g c =
-    omega (arith, room_few c.args.log.now (words_of (g.P.Pmem.state c.args.device.now)) c.requires.formed c.requires.book c.requires.disjoint, c.make_room.ensures.appends.count, c.append.ensures.appends.count)
+    omega (arith, room_few c.args.log.now (words_of (g.P.Pmem.state c.args.device.now)) c.requires.formed c.requires.book c.requires.disjoint, c.make_room.ensures.step.appends.count, c.append.ensures.step.appends.count)

@@ -10,11 +10,21 @@ returns-then-is_word c =
 
 pub returns-then-is_word-2 : goal.returns-then-is_word-2
 returns-then-is_word-2 c =
+    one_word string_bytes c.args.words.now c.index-words-0-then-words-eq1-2.result c.if-words-eq1-2.true c.index-words-0-then-words-eq1-2.is
+    ∙ ap (λ (word : List ℕ). word ∷ []) (c.is_word-then-words-eq1-2.ensures.0 c.if-is_word-2.true)
+
+pub returns-then-is_word-3 : goal.returns-then-is_word-3
+returns-then-is_word-3 c =
+    one_word string_bytes c.args.words.now c.index-words-0-then-words-eq1-3.result c.if-words-eq1-3.true c.index-words-0-then-words-eq1-3.is
+    ∙ ap (λ (word : List ℕ). word ∷ []) (c.is_word-then-words-eq1-3.ensures.0 c.if-is_word-3.true)
+
+pub returns-then-is_word-4 : goal.returns-then-is_word-4
+returns-then-is_word-4 c =
     let first = c.as_bytes.ensures.value in
-    let second = c.as_bytes-then-is_word-2.ensures.value in
-    let third = c.as_bytes-then-is_word-2-2.ensures.value in
+    let second = c.as_bytes-then-is_word-4.ensures.value in
+    let third = c.as_bytes-then-is_word-4-2.ensures.value in
     let whole = four_words string_bytes c.args.words.now c.index-words-0-then-words-eq4.result c.index-words-1.result c.index-words-2.result c.index-words-3.result
     c.if-words-eq4.true c.index-words-0-then-words-eq4.is c.index-words-1.is c.index-words-2.is c.index-words-3.is in
-    let said : string_bytes c.index-words-0-then-words-eq4.result ≡ codes "crash" = c.is_word-then-words-eq4.ensures.0 c.if-is_word-2.true in
-    crash_words (map string_bytes c.args.words.now) c.as_bytes.result.now c.as_bytes-then-is_word-2.result.now c.as_bytes-then-is_word-2-2.result.now c.crash_of.result
+    let said : string_bytes c.index-words-0-then-words-eq4.result ≡ codes "crash" = c.is_word-then-words-eq4.ensures.0 c.if-is_word-4.true in
+    crash_words (map string_bytes c.args.words.now) c.as_bytes.result.now c.as_bytes-then-is_word-4.result.now c.as_bytes-then-is_word-4-2.result.now c.crash_of.result
     (cc (whole, said, first, second, third)) c.crash_of.ensures

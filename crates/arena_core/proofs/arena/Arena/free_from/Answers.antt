@@ -36,10 +36,10 @@ pub returns-clause-keeps : goal.returns-clause-keeps
 returns-clause-keeps g c = (answered g c).keeps
 
 pub returns-clause-exact : goal.returns-clause-exact
-returns-clause-exact g c = (answered g c).arena.kept.exact
+returns-clause-exact g c = (answered g c).arena.current.exact
 
 pub returns-clause-ready : goal.returns-clause-ready
-returns-clause-ready g c = (answered g c).arena.kept.ready
+returns-clause-ready g c = (answered g c).arena.current.ready
 
 pub returns-clause-crash : goal.returns-clause-crash
 returns-clause-crash g c = (answered g c).crash

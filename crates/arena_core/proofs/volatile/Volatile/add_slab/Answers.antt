@@ -3,21 +3,21 @@ use Rattle.arena_core.proofs.SlabChanges.{normal_opened, index_opened, slabs_ope
 use Rattle.arena_core.proofs.volatile.Volatile.add_slab.Goals as goal
 
 pub take-requires : goal.take-requires
-take-requires g c = record { each = λ k low high. (c.requires.kept.index.each k).1 (c.requires.row.vacant k low high) }
+take-requires g c = record { each = λ k low high. (c.requires.current.index.each k).1 (c.requires.row.vacant k low high) }
 
 pub returns-clause-index : goal.returns-clause-index
 returns-clause-index g c =
     let state = g.P.Pmem.state in
-    index_opened (words_of (state c.args.device.now)) c.args.start c.args.class c.requires.kept.exact c.requires.row c.requires.class (words_of (state c.open_slab.new.p)) c.open_slab.ensures.opened
-    c.args.self.now.free c.take.new.self c.take.ensures.granules c.take.ensures.free c.requires.kept.index
+    index_opened (words_of (state c.args.device.now)) c.args.start c.args.class c.requires.current.exact c.requires.row c.requires.class (words_of (state c.open_slab.new.p)) c.open_slab.ensures.opened
+    c.args.self.now.free c.take.new.self c.take.ensures.granules c.take.ensures.free c.requires.current.index
 
 pub returns-clause-normal : goal.returns-clause-normal
 returns-clause-normal g c =
     let state = g.P.Pmem.state in
-    normal_opened (words_of (state c.args.device.now)) c.args.start c.args.class c.requires.kept.exact c.requires.row c.requires.class (words_of (state c.open_slab.new.p)) c.open_slab.ensures.opened c.requires.normal
+    normal_opened (words_of (state c.args.device.now)) c.args.start c.args.class c.requires.current.exact c.requires.row c.requires.class (words_of (state c.open_slab.new.p)) c.open_slab.ensures.opened c.requires.normal
 
 pub returns-clause-slabs : goal.returns-clause-slabs
 returns-clause-slabs g c =
     let state = g.P.Pmem.state in
-    slabs_opened (words_of (state c.args.device.now)) c.args.start c.args.class c.requires.kept.exact c.requires.row c.requires.class (words_of (state c.open_slab.new.p)) c.open_slab.ensures.opened
+    slabs_opened (words_of (state c.args.device.now)) c.args.start c.args.class c.requires.current.exact c.requires.row c.requires.class (words_of (state c.open_slab.new.p)) c.open_slab.ensures.opened
     c.args.self.now.slabs c.add.new.self (record { granules = c.add.ensures.granules; classes = c.add.ensures.classes; blocks = c.add.ensures.blocks }) c.requires.slabs

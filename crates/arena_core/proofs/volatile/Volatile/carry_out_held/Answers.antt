@@ -24,7 +24,7 @@ returns g c =
     let t = tables_of words in
     let root = c.args.root in
     let arena = c.requires.arena in
-    let exact = arena.kept.exact in
+    let exact = arena.current.exact in
     let state = g.P.Pmem.state in
     elim c.match-held.branch [
       | in-Large w ↦
@@ -63,4 +63,4 @@ freed_of-requires g c =
     let t = tables_of words in
     let root = c.args.root in
     let same : c.match-held.held ≡ c.args.held = elim c.match-held.branch [ in-Large w ↦ w.held-is ∙ sym w.in-Large.is | in-Small w ↦ w.held-is ∙ sym w.in-Small.is ] in
-    (b, t, root, subst (IsHeldBy b t root) (sym same) c.requires.plan, (sizes_of words c.requires.arena.kept.exact.formed).most)
+    (b, t, root, subst (IsHeldBy b t root) (sym same) c.requires.plan, (sizes_of words c.requires.arena.current.exact.formed).most)

@@ -24,7 +24,7 @@ returns g c size plan =
     let root = c.args.root in
     let line = c.args.self.now.line in
     let arena = c.requires.arena in
-    let exact = arena.kept.exact in
+    let exact = arena.current.exact in
     let state = g.P.Pmem.state in
     let made : IsAskedOf b t root size × IsPlacing b t root size c.args.place = plan in
     elim c.match-place.branch [
@@ -49,7 +49,7 @@ returns g c size plan =
           let is_class = placing.site.chosen.least.is_class in
           let may = small_attachable words root size block class exact arena.normal made.0 placing.place_for in
           let given = w.give_small.ensures in
-          let done = IsDone-small block arena given.rest may placing.place_for.class_is given.appends given.quiet given.attached given.normal given.slabs given.crash in
+          let done = IsDone-small block arena given.rest may placing.place_for.class_is given.step given.attached given.normal given.slabs in
           let step = placed_step words new root size (places.Small block class) exact arena.normal made.0 placing done.gives in
           IsCalled-same (ap state w.device-is) w.self-is
           (λ i. replies.Placed ((c.placed_at.ensures.0 ∙ ap (λ (p : Place). (range_at p).at) w.place-is) i) ((c.placed_at.ensures.1 ∙ ap (λ (p : Place). (range_at p).size) w.place-is) i))
@@ -83,7 +83,7 @@ give_small-requires-clause-attachable g c =
     let size = c.requires.plan.0 in
     let made : IsAskedOf b t root size × IsPlacing b t root size c.args.place = c.requires.plan.1 in
     let placing : IsPlacing b t root size (places.Small c.in-Small.block c.in-Small.class) = subst (IsPlacing b t root size) c.in-Small.is made.1 in
-    small_attachable words root size c.in-Small.block c.in-Small.class arena.kept.exact arena.normal made.0 placing.place_for
+    small_attachable words root size c.in-Small.block c.in-Small.class arena.current.exact arena.normal made.0 placing.place_for
 
 pub placed_at-requires : goal.placed_at-requires
 placed_at-requires g c =
@@ -95,4 +95,4 @@ placed_at-requires g c =
     let made : IsAskedOf b t root size × IsPlacing b t root size c.args.place = c.requires.plan.1 in
     let same : c.match-place.place ≡ c.args.place =
     elim c.match-place.branch [ in-Large w ↦ w.place-is ∙ sym w.in-Large.is | in-Small w ↦ w.place-is ∙ sym w.in-Small.is | in-Fresh w ↦ w.place-is ∙ sym w.in-Fresh.is ] in
-    (b, t, root, size, subst (IsPlacing b t root size) (sym same) made.1, (sizes_of words c.requires.arena.kept.exact.formed).most)
+    (b, t, root, size, subst (IsPlacing b t root size) (sym same) made.1, (sizes_of words c.requires.arena.current.exact.formed).most)

@@ -1,17 +1,15 @@
-use Rattle.std.proofs.Common.{◌≡◌, ◌+◌, ◌*◌, ◌<◌, true, List, ◌++◌, sym, ap, subst, ◌∙◌, arith, inl, Some}
-use Rattle.pmem_lines.specs.declared.event.Event.{Event}
-use Rattle.pmem_lines.specs.Events.{CrashOnly}
-use Rattle.pmem_lines.specs.Pmem.{words_of, Appends}
-use Rattle.pmem_lines.proofs.States.{then_step}
+use Rattle.std.proofs.Common.{◌≡◌, ◌+◌, ◌*◌, ◌<◌, true, ◌++◌, sym, ap, subst, ◌∙◌, arith, inl, Some}
+use Rattle.pmem_lines.specs.Events.{reading}
+use Rattle.pmem_lines.specs.Pmem.{words_of}
+use Rattle.pmem_lines.proofs.Steps.{step_by}
 use Rattle.heap_model.specs.Machine.{slab_block}
-use Rattle.heap_check.specs.State.{IsEitherHeap}
-use Rattle.log_steps.proofs.Entries.{quiet_step}
-use Rattle.slab_steps.specs.Steps.{open_events}
+use Rattle.extent_steps.specs.Slabs.{open_events}
 use Rattle.attach_steps.specs.declared.block.SmallBlock.{SmallBlock}
 use Rattle.attach_steps.specs.Steps.{attach_events}
-use Rattle.arena_core.specs.Arena.{IsKept}
+use Rattle.arena_core.specs.Arena.{IsCurrent}
 use Rattle.arena_core.specs.Events.{first_block, fresh_events}
-use Rattle.arena_core.proofs.SmallCalls.{classes_small, index_small, book_small, keeps_small, keeps_both, crash_then}
+use Rattle.arena_core.proofs.SmallCalls.{classes_small, index_small, book_small, keeps_small}
+use Rattle.arena_core.proofs.HeapSteps.{keeps_both, steps_then}
 use Rattle.arena_core.proofs.SlabChanges.{classes_opened, keeps_opened, first_attachable}
 use Rattle.arena_core.proofs.volatile.Volatile.give_fresh.Goals as goal
 
@@ -19,7 +17,7 @@ pub give_small-requires-clause-attachable : goal.give_small-requires-clause-atta
 give_small-requires-clause-attachable g c =
     let state = g.P.Pmem.state in
     let asked = c.requires.asked.1 in
-    first_attachable (words_of (state c.args.device.now)) c.args.start c.args.class c.requires.arena.kept.exact c.requires.row c.requires.class (words_of (state c.add_slab.new.device)) c.add_slab.ensures.opened
+    first_attachable (words_of (state c.args.device.now)) c.args.start c.args.class c.requires.arena.current.exact c.requires.row c.requires.class (words_of (state c.add_slab.new.device)) c.add_slab.ensures.opened
     c.args.root c.blocks_at.result asked.below asked.none (omega (arith, c.blocks_at.ensures, c.granule_at.ensures))
 
 pub returns-clause-done : goal.returns-clause-done
@@ -32,7 +30,7 @@ returns-clause-done g c =
     let start = c.args.start in
     let class = c.args.class in
     let arena = c.requires.arena in
-    let exact = arena.kept.exact in
+    let exact = arena.current.exact in
     let asked = c.requires.asked.1 in
     let add = c.add_slab.ensures in
     let line = c.add_slab.new.self.line in
@@ -44,13 +42,14 @@ returns-clause-done g c =
     let first : SmallBlock = record { start = start; number = 0; at = c.blocks_at.result } in
     let first_is : first ≡ first_block start = λ i. record { start = start; number = 0; at = at_is i } in
     let may = first_attachable words start class exact c.requires.row c.requires.class mid opened root c.blocks_at.result asked.below asked.none at_is in
-    let events : (open_events words start class ++ attach_events mid line root first) ≡ fresh_events words c.args.self.now.line root start class =
-    λ i. open_events words start class ++ attach_events (add.appends.words i) (add.line i) root (first_is i) in
+    let events : (open_events words start class ++ attach_events (reading words (open_events words start class)) line root first) ≡ fresh_events words c.args.self.now.line root start class =
+    λ i. open_events words start class ++ attach_events (reading words (open_events words start class)) (add.line i) root (first_is i) in
     let kept_words = keeps_opened words start class exact c.requires.row c.requires.class mid opened in
     record {
-      appends = subst (λ (es : List Event). Appends (state c.args.device.now) (state c.give_small.new.device) es) events (then_step add.appends give.appends);
-      kept = subst (IsKept (state c.give_small.new.device)) (sym give.rest) (record {
-        ready = record { quiet = give.quiet; room = omega (arith, arena.kept.ready.room, add.appends.room, give.appends.room) };
+      step = step_by (open_events words start class ++ attach_events (reading words (open_events words start class)) line root first) (fresh_events words c.args.self.now.line root start class) events
+          (steps_then words mid new (inl opened.heap) (λ ws. attach_events ws line root first) kept_words add.step give.step);
+      current = subst (IsCurrent (state c.give_small.new.device)) (sym give.rest) (record {
+        ready = record { quiet = give.step.quiet; room = omega (arith, arena.current.ready.room, add.step.appends.room, give.step.appends.room) };
         exact = attached.exact;
         log = book_small mid line root first may.block_in few new attached.rest attached.bounds c.add_slab.new.self.log add.book;
         index = index_small mid root start 0 true c.blocks_at.result new attached.bounds attached.tables c.add_slab.new.self.free add.index;
@@ -58,12 +57,10 @@ returns-clause-done g c =
       normal = give.normal;
       slabs = give.slabs;
       gives = record {
-        here = attached.gives.here ∙ ap (λ k. Some (slab_block start k 0)) opened.slab.class_is;
+        here = attached.gives.here ∙ ap (λ k. Some (slab_block start k 0)) opened.slab.fresh.class_is;
         others = λ other differ. attached.gives.others other differ ∙ opened.heap.each other;
         slabs = λ s. classes_small mid root start 0 true c.blocks_at.result new attached.bounds attached.tables s ∙ classes_opened words start class exact c.requires.row c.requires.class mid opened s;
         keeps = keeps_both words mid new (inl opened.heap) kept_words (keeps_small mid line root first may.block_in few new attached.rest);
         bounds = attached.bounds ∙ opened.bounds;
       };
-      crash = subst (λ (es : List Event). CrashOnly words es (IsEitherHeap words new)) events
-          (crash_then words mid new (inl opened.heap) (open_events words start class) (attach_events mid line root first) (quiet_step add.appends add.quiet) add.appends.words kept_words add.crash give.crash);
     }

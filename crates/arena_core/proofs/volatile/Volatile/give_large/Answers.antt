@@ -1,12 +1,8 @@
-use Rattle.std.proofs.Common.{◌≡◌, ◌<◌, ◌*◌, ℕ, List, ◌++◌, length, refl, sym, ap, subst, ◌∙◌, arith, inr}
+use Rattle.std.proofs.Common.{◌≡◌, ◌<◌, ◌*◌, ℕ, List, length, refl, sym, ap, subst, ◌∙◌, arith, inr}
 use Rattle.pmem_lines.specs.Words.{put_word}
-use Rattle.pmem_lines.specs.declared.event.Event.{Event}
-use Rattle.pmem_lines.specs.Pmem.{words_of, Appends}
-use Rattle.pmem_lines.proofs.States.{then_step}
-use Rattle.durable_steps.specs.Steps.{word_events}
-use Rattle.book_log.specs.declared.entry.LogEntry.TheVariants.{Large}
-use Rattle.log_steps.specs.Events.{log_events}
-use Rattle.arena_core.specs.Events.{place_events}
+use Rattle.pmem_lines.specs.Pmem.{words_of}
+use Rattle.pmem_lines.specs.Steps.{IsQuietStep}
+use Rattle.attach_steps.specs.Steps.{root_events, PutsRootOrNot}
 use Rattle.arena_core.proofs.CallEvents.{IsDone-large}
 use Rattle.pool_layout.specs.Layout.{layout_of}
 use Rattle.pool_layout.specs.Places.{root_word}
@@ -19,59 +15,56 @@ use Rattle.heap_check.proofs.LargeHeaps.{IsVacant-placed}
 use Rattle.log_steps.specs.Log.{IsBookOf}
 use Rattle.arena_core.proofs.Arenas.{book_root, slabs_stage, index_stage, index_less}
 use Rattle.log_steps.proofs.Disjoint.{disjoint_of}
-use Rattle.log_steps.proofs.Entries.{quiet_step}
 use Rattle.heap_check.proofs.Sizes.{sizes_of, root_inside}
-use Rattle.arena_core.proofs.LargeCalls.{word_stored, word_crash, give_place, nothing, given_extent, given, give_crash}
+use Rattle.arena_core.proofs.LargeCalls.{give_place, nothing, given_extent, given, give_step}
 use Rattle.arena_core.proofs.LargeStages.{IsStageOf, exact_stage, gives_some}
 use Rattle.arena_core.proofs.volatile.Volatile.give_large.Goals as goal
 
 pub log_entry-requires-clause-disjoint : goal.log_entry-requires-clause-disjoint
 log_entry-requires-clause-disjoint g c =
-    let arena = c.requires.arena.kept in
+    let arena = c.requires.arena.current in
     disjoint_of (words_of (g.P.Pmem.state c.args.device.now)) arena.exact.formed arena.exact.exact.sound
 
-pub root_at-requires : goal.root_at-requires
-root_at-requires g c = omega (arith, c.requires.givable.below, (sizes_of (words_of (g.P.Pmem.state c.args.device.now)) c.requires.arena.kept.exact.formed).roots)
+pub put_root-requires-clause-root : goal.put_root-requires-clause-root
+put_root-requires-clause-root g c = omega (arith, c.requires.givable.below, (sizes_of (words_of (g.P.Pmem.state c.args.device.now)) c.requires.arena.current.exact.formed).roots)
 
-pub write_word-requires-clause-place : goal.write_word-requires-clause-place
-write_word-requires-clause-place g c =
-    let words = words_of (g.P.Pmem.state c.args.device.now) in
-    let inside = root_inside words c.args.root c.requires.arena.kept.exact.formed c.requires.givable.below in
-    record { aligned = omega (arith, c.root_at.ensures); inside = omega (arith, c.root_at.ensures, inside, c.log_entry.ensures.appends.size) }
+pub put_root-requires-clause-inside : goal.put_root-requires-clause-inside
+put_root-requires-clause-inside g c =
+    omega (arith, root_inside (words_of (g.P.Pmem.state c.args.device.now)) c.args.root c.requires.arena.current.exact.formed c.requires.givable.below, c.log_entry.ensures.step.appends.size)
 
-pub write_word-requires-clause-room : goal.write_word-requires-clause-room
-write_word-requires-clause-room g c =
-    omega (arith, ap length c.requires.fresh, c.log_entry.ensures.few, c.log_entry.ensures.appends.room, c.requires.arena.kept.ready.room)
+pub put_root-requires-clause-room : goal.put_root-requires-clause-room
+put_root-requires-clause-room g c =
+    omega (arith, ap length c.requires.fresh, c.log_entry.ensures.few, c.log_entry.ensures.step.appends.room, c.requires.arena.current.ready.room)
 
 pub take-requires : goal.take-requires
-take-requires g c = record { each = λ k low high. (c.requires.arena.kept.index.each k).1 (c.requires.givable.row.vacant k low high) }
+take-requires g c = record { each = λ k low high. (c.requires.arena.current.index.each k).1 (c.requires.givable.row.vacant k low high) }
 
 pub returns-clause-done : goal.returns-clause-done
 returns-clause-done g c =
     let state = g.P.Pmem.state in
     let old = state c.args.device.now in
-    let left = state c.write_word.new.device in
+    let left = state c.put_root.new.p in
     let words = words_of old in
     let made = words_of (state c.log_entry.new.device) in
     let new = words_of left in
     let root = c.args.root in
     let start = c.args.start in
     let count = c.args.granules in
-    let arena = c.requires.arena.kept in
+    let arena = c.requires.arena.current in
     let exact = arena.exact in
     let logged = c.log_entry.ensures in
-    let wrote = c.write_word.ensures in
-    let value : c.from.result ≡ 16384 * start = omega (arith, c.from.ensures, c.granule_at.ensures) in
-    let is : new ≡ put_word made (root_word root) (16384 * start) = word_stored made new c.root_at.result c.from.result (root_word root) (16384 * start) wrote.appends.words c.root_at.ensures value in
+    let put = c.put_root.ensures in
+    let at_is : c.granule_at.result ≡ 16384 * start = omega (arith, c.granule_at.ensures) in
+    let is : new ≡ put_word made (root_word root) (16384 * start) = put.words ∙ ap (put_word made (root_word root)) at_is in
     let place = give_place words root start count exact c.requires.givable in
     let middle = given_extent words root start count exact c.requires.givable made logged.logged in
     let done : IsStageOf words root start count (16384 * start) new = given words root start count exact c.requires.givable made new logged.logged is in
     let among : root < (layout_of (version_in made)).roots = subst (λ (b : Bounds). root < b.roots) (sym middle.bounds) c.requires.givable.below in
-    let events : (log_events words (Large start count) ++ word_events c.root_at.result c.from.result) ≡ place_events words root start count =
-    λ i. log_events words (Large start count) ++ word_events (c.root_at.ensures i) (value i) in
-    IsDone-large c.requires.arena refl (subst (λ (es : List Event). Appends old left es) events (then_step logged.appends wrote.appends))
+    IsDone-large c.requires.arena refl
+    (give_step words root start count exact c.requires.givable new done made middle logged.step
+    (subst (λ (a : ℕ). IsQuietStep (state c.log_entry.new.device) left (root_events root a) (PutsRootOrNot made root a)) at_is put.step))
     (record {
-      ready = record { quiet = wrote.quiet; room = omega (arith, arena.ready.room, logged.appends.room, wrote.appends.room) };
+      ready = record { quiet = put.step.quiet; room = omega (arith, arena.ready.room, logged.step.appends.room, put.step.appends.room) };
       exact = exact_stage exact place count (16384 * start) new (record { is = inr (refl, refl) }) done;
       log = subst (λ (ws : List ℕ). IsBookOf c.log_entry.new.log ws) (sym is) (book_root c.log_entry.new.log made root (16384 * start) among logged.book);
       index = index_stage c.take.new.self done (c.take.ensures.granules ∙ arena.index.granules)
@@ -80,5 +73,3 @@ returns-clause-done g c =
     })
     (gives_some exact place new done)
     (slabs_stage done)
-    (give_crash words root start count exact c.requires.givable new done made middle logged.appends.words (quiet_step logged.appends logged.quiet) logged.crash
-    (word_crash made c.root_at.result c.from.result (8 * root_word root) (16384 * start) c.root_at.ensures value wrote.crash))

@@ -1,19 +1,16 @@
-use Rattle.std.proofs.Common.{◌≡◌, ℕ, false, List, ◌++◌, sym, ap, subst, ◌∙◌, inr}
-use Rattle.pmem_lines.specs.declared.event.Event.{Event}
-use Rattle.pmem_lines.specs.Events.{reading, CrashOnly}
-use Rattle.pmem_lines.specs.Pmem.{words_of, Appends}
-use Rattle.pmem_lines.proofs.States.{then_step}
+use Rattle.std.proofs.Common.{◌≡◌, ℕ, false, List, sym, ap, subst, ◌∙◌, inr}
+use Rattle.pmem_lines.specs.Events.{reading}
+use Rattle.pmem_lines.specs.Pmem.{words_of}
 use Rattle.image_tables.specs.Tables.{tables_of}
-use Rattle.heap_check.specs.State.{IsEitherHeap}
-use Rattle.log_steps.proofs.Entries.{quiet_step}
 use Rattle.attach_steps.specs.Steps.{detach_events}
 use Rattle.log_steps.specs.Log.{IsBookOf}
 use Rattle.arena_core.specs.declared.volatile.Volatile.{Volatile}
 use Rattle.arena_core.specs.Arena.{IsIndexOf}
 use Rattle.arena_core.specs.Effect.{slabs_but, IsLastOf}
 use Rattle.arena_core.proofs.LastBlocks.{last_of}
-use Rattle.arena_core.specs.Events.{holds_none, tidy_events, unsmall_events}
-use Rattle.arena_core.proofs.SmallCalls.{classes_small, index_small, book_small, keeps_small, named_in, keeps_both, crash_then}
+use Rattle.arena_core.specs.Events.{holds_none, tidy_events}
+use Rattle.arena_core.proofs.SmallCalls.{classes_small, index_small, book_small, keeps_small, named_in}
+use Rattle.arena_core.proofs.HeapSteps.{keeps_both, steps_then}
 use Rattle.arena_core.proofs.volatile.Volatile.take_small.Goals as goal
 
 pub drop_if_empty-requires-clause-book : goal.drop_if_empty-requires-clause-book
@@ -23,8 +20,8 @@ drop_if_empty-requires-clause-book g c =
     let arena = c.requires.arena in
     let detached = c.take_block.ensures.detached in
     subst (λ (v : Volatile). IsBookOf v.log (words_of (state c.take_block.new.device))) (sym c.take_block.ensures.rest)
-    (book_small words c.args.self.now.line c.args.root c.args.block (named_in words c.args.root c.args.block c.args.class arena.kept.exact arena.normal c.requires.named) arena.few
-    (words_of (state c.take_block.new.device)) detached.rest detached.bounds c.args.self.now.log arena.kept.log)
+    (book_small words c.args.self.now.line c.args.root c.args.block (named_in words c.args.root c.args.block c.args.class arena.current.exact arena.normal c.requires.named) arena.few
+    (words_of (state c.take_block.new.device)) detached.rest detached.bounds c.args.self.now.log arena.current.log)
 
 pub drop_if_empty-requires-clause-index : goal.drop_if_empty-requires-clause-index
 drop_if_empty-requires-clause-index g c =
@@ -32,7 +29,7 @@ drop_if_empty-requires-clause-index g c =
     let detached = c.take_block.ensures.detached in
     let block = c.args.block in
     subst (λ (v : Volatile). IsIndexOf v.free (words_of (state c.take_block.new.device))) (sym c.take_block.ensures.rest)
-    (index_small (words_of (state c.args.device.now)) c.args.root block.start block.number false 0 (words_of (state c.take_block.new.device)) detached.bounds detached.tables c.args.self.now.free c.requires.arena.kept.index)
+    (index_small (words_of (state c.args.device.now)) c.args.root block.start block.number false 0 (words_of (state c.take_block.new.device)) detached.bounds detached.tables c.args.self.now.free c.requires.arena.current.index)
 
 pub returns-clause-done : goal.returns-clause-done
 returns-clause-done g c =
@@ -47,14 +44,12 @@ returns-clause-done g c =
     let take = c.take_block.ensures in
     let detached = take.detached in
     let tidied = c.drop_if_empty.ensures.tidied in
-    let block_in = named_in words root block c.args.class arena.kept.exact arena.normal c.requires.named in
-    let mid_is : mid ≡ reading words (detach_events words c.args.self.now.line root block) = take.appends.words in
-    let events : (detach_events words c.args.self.now.line root block ++ tidy_events mid start) ≡ unsmall_events words c.args.self.now.line root block =
-    λ i. detach_events words c.args.self.now.line root block ++ tidy_events (mid_is i) start in
+    let block_in = named_in words root block c.args.class arena.current.exact arena.normal c.requires.named in
+    let mid_is : mid ≡ reading words (detach_events words c.args.self.now.line root block) = take.step.appends.words in
     let kept_words = keeps_small words c.args.self.now.line root block block_in arena.few mid detached.rest in
     record {
-      appends = subst (λ (es : List Event). Appends (state c.args.device.now) (state c.drop_if_empty.new.device) es) events (then_step take.appends tidied.appends);
-      kept = tidied.kept;
+      step = steps_then words mid new (inr tidied.heap) (λ ws. tidy_events ws start) kept_words take.step tidied.step;
+      current = tidied.current;
       normal = tidied.normal;
       slabs = tidied.slabs;
       gives = record {
@@ -65,16 +60,14 @@ returns-clause-done g c =
         keeps = keeps_both words mid new (inr tidied.heap) kept_words tidied.keeps;
         bounds = tidied.bounds ∙ detached.bounds;
       };
-      crash = subst (λ (es : List Event). CrashOnly words es (IsEitherHeap words new)) events
-          (crash_then words mid new (inr tidied.heap) (detach_events words c.args.self.now.line root block) (tidy_events mid start) (quiet_step take.appends take.quiet) mid_is kept_words take.crash tidied.crash);
     }
 
 pub returns-clause-last : goal.returns-clause-last
 returns-clause-last g c =
     let words = words_of (g.P.Pmem.state c.args.device.now) in
     let start = c.args.block.start in
-    subst (λ (ws : List ℕ). IsLastOf (tables_of words) c.args.root start (holds_none (tables_of ws) start)) c.take_block.ensures.appends.words
-    (last_of words c.args.self.now.line c.args.root c.args.block c.args.class c.requires.arena.kept.exact c.requires.arena.normal c.requires.named (words_of (g.P.Pmem.state c.take_block.new.device)) c.take_block.ensures.detached)
+    subst (λ (ws : List ℕ). IsLastOf (tables_of words) c.args.root start (holds_none (tables_of ws) start)) c.take_block.ensures.step.appends.words
+    (last_of words c.args.self.now.line c.args.root c.args.block c.args.class c.requires.arena.current.exact c.requires.arena.normal c.requires.named (words_of (g.P.Pmem.state c.take_block.new.device)) c.take_block.ensures.detached)
 
 pub returns-clause-line : goal.returns-clause-line
 returns-clause-line g c = c.drop_if_empty.ensures.line ∙ ap (λ (v : Volatile). v.line) c.take_block.ensures.rest

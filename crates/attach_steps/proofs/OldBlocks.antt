@@ -1,0 +1,158 @@
+-- An old block goes from its root: what the whole sequence leaves, and a crash within it.
+use Rattle.std.proofs.Common.{◌≡◌, ◌*◌, ℕ, ◌<◌, true, false, List, length, refl, sym, ap, subst, ◌∙◌, arith, inr, Some, None}
+use Rattle.pmem_lines.specs.Words.{put_word}
+use Rattle.pmem_lines.proofs.Words.{word_at-put_same}
+use Rattle.pmem_lines.specs.Events.{reading}
+use Rattle.pmem_lines.specs.Pmem.{PmemState}
+use Rattle.pmem_lines.specs.Steps.{IsQuietStep}
+use Rattle.durable_steps.specs.Steps.{word_events, IsOldOrNewPair}
+use Rattle.size_classes.specs.Classes.{class_size}
+use Rattle.pool_layout.specs.Places.{root_word, wal_word}
+use Rattle.image_tables.specs.declared.entry.WalEntry.{WalEntry}
+use Rattle.image_tables.specs.declared.entry.WalEntry.TheVariants.{Place}
+use Rattle.image_tables.specs.Forms.{IsIndexWord}
+use Rattle.image_tables.specs.Tables.{Tables, index_word, tables_of}
+use Rattle.image_tables.specs.Updates.{put_in, put_index, with_root}
+use Rattle.image_tables.proofs.Updates.{put_in-twice, put_in-own}
+use Rattle.slab_header.specs.Steps.{PutsIndexOver}
+use Rattle.attach_wal.specs.Entry.{entry_word}
+use Rattle.attach_wal.proofs.Words.{IsWalWord-entry}
+use Rattle.attach_wal.specs.Wal.{Opens, OpensOrNot, Closes, ClosesOrNot}
+use Rattle.heap_model.specs.Machine.{Bounds}
+use Rattle.heap_check.specs.Sound.{IsDoneSlab, IsExact, IsExactBut}
+use Rattle.heap_check.specs.Image.{bounds_of}
+use Rattle.heap_check.specs.State.{IsEitherHeap}
+use Rattle.heap_check.proofs.IndexForms.{IsFormed-put_index}
+use Rattle.heap_check.proofs.Geometry.{index_count_few}
+use Rattle.heap_check.proofs.Sizes.{sizes_of}
+use Rattle.heap_check.proofs.OneBlock.{IsOneBlock, IsExactBut-one, IsExact-one}
+use Rattle.heap_check.proofs.OldBlock.{IsOldPlace, IsOneBlock-old}
+use Rattle.attach_steps.specs.declared.block.OldBlock.{OldBlock}
+use Rattle.attach_steps.specs.Steps.{old_entry_for, dead_put, bury_events, detach_old_events, IsOldDetachable, IsOldDetached}
+use Rattle.attach_steps.proofs.Pairs.{reading_pair}
+use Rattle.attach_steps.proofs.Stages.{Site, IsSite, IsStageOf, stage_begin, stage_open, stage_close, stage_header, stage_root, made_slab, made_low, header_inside}
+use Rattle.attach_steps.proofs.Crashes.{PutsOver, with_none, with_both, heap_other, heap_none, unmark_under, kept_by_root, sequence_step}
+
+-- its place: the word of its index entry, and the entry of its root
+abbrev pub old_site : Tables → ℕ → OldBlock → Site
+old_site t root block = record {
+  start = block.start;
+  k = index_word block.start block.place;
+  bits = λ on. t.bit;
+  lives = λ on. put_in t.live block.start block.place on;
+  own = old_entry_for root block.at block.place;
+  block = record { at = block.at; size = class_size (t.old block.start) };
+}
+
+module _ (words : List ℕ) (line root : ℕ) (block : OldBlock) (may : IsOldDetachable words root block) (line_below : line < 8) where
+  abbrev t : Tables
+  t = tables_of words
+
+  abbrev own : WalEntry
+  own = old_entry_for root block.at block.place
+
+  abbrev site : Site
+  site = old_site (tables_of words) root block
+
+  pub place_low : block.place < 64
+  place_low = omega (arith, may.below, index_count_few (may.image.but.sound.slabs block.start may.slab))
+
+  pub IsSite-old : IsSite words root (old_site (tables_of words) root block)
+  IsSite-old =
+      let sizes = sizes_of words may.image.formed in
+      let place : IsOldPlace (bounds_of words) t root block.start block.place = record {
+        but = may.image.but;
+        first = omega (arith, sizes.first);
+        rooted = may.rooted;
+        slab = may.slab;
+        kind = may.kind;
+        below = may.below;
+        live = may.live;
+        named = may.named ∙ may.at;
+      } in
+      record {
+        formed = may.image.formed;
+        one = subst (λ a. IsOneBlock (bounds_of words) t (λ on. t.bit) (λ on. put_in t.live block.start block.place on) (Place root a true block.place) root block.start (record { at = a; size = class_size (t.old block.start) })) (sym may.at)
+            (IsOneBlock-old place);
+        rooted = may.rooted;
+        low = omega arith;
+        high = omega (arith, place_low);
+        valid = IsWalWord-entry own (omega (arith, sizes.roots, may.rooted), place_low, λ new. absurd (let never = new in cc));
+        plain = tt;
+      }
+
+  -- the index entry is put over any words of a stage
+  puts_over : (made : List ℕ) → length made ≡ length words → PutsIndexOver made block.start block.place (record { live = false; number = t.number block.start block.place }) →
+      PutsOver words line root site IsSite-old line_below made (dead_put t block.start block.place) false
+  puts_over made long over = record {
+    each = λ on word image size same stage.
+        let e = Some own in
+        let value = dead_put t block.start block.place in
+        let puts = over.each image size in
+        let inside : index_word block.start block.place < length image = omega (arith, header_inside words line root site IsSite-old line_below, size, long, place_low) in
+        let form : IsIndexWord value = subst IsIndexWord (word_at-put_same image (index_word block.start block.place) (index_word block.start block.place) value refl inside) puts.says.form in
+        stage_header words line root site IsSite-old line_below on word e image stage false value
+        (IsFormed-put_index image block.start block.place value stage.formed (made_low words line root site IsSite-old line_below on word e image stage) place_low inside form)
+        (puts.tables stage.slabs (made_slab words line root site IsSite-old line_below on word e image stage)
+        ∙ ap (λ (x : Tables). put_index x block.start block.place false (t.number block.start block.place)) stage.tables
+        ∙ (λ i. record (with_root t root word) {
+          live = put_in-twice t.live block.start block.place on false i;
+          number = put_in-own t.number block.start block.place i;
+          open_entry = e;
+        }));
+  }
+
+  begins : IsStageOf words line root site true block.at None words
+  begins = stage_begin words line root site IsSite-old line_below true block.at refl (ap (put_in t.live block.start block.place) (sym may.live) ∙ put_in-own t.live block.start block.place) may.named
+
+  module _ (made left new : List ℕ) (opens : Opens words line (old_entry_for root block.at block.place) made) (long : length made ≡ length words)
+      (over : PutsIndexOver made block.start block.place (record { live = false; number = (tables_of words).number block.start block.place }))
+      (left_is : left ≡ reading made (bury_events (tables_of words) root block.start block.place)) (closes : Closes left line new) where
+    opened : IsStageOf words line root site true block.at (Some own) made
+    opened = stage_open words line root site IsSite-old line_below true block.at None words begins made refl opens
+
+    puts : PutsOver words line root site IsSite-old line_below made (dead_put t block.start block.place) false
+    puts = puts_over made long over
+
+    buried : IsStageOf words line root site false 0 (Some own) left
+    buried =
+        let between = put_word made (root_word root) 0 in
+        let kept = kept_by_root words line root site IsSite-old line_below made between 0 (record { is = inr (ap (λ i. put_word made i 0) (omega arith)) }) in
+        subst (λ (ws : List ℕ). IsStageOf words line root site false 0 (Some own) ws) (sym (left_is ∙ reading_pair made (root_word root) 0 (index_word block.start block.place) (dead_put t block.start block.place)))
+        (puts.each true 0 between kept.0 kept.1 (stage_root words line root site IsSite-old line_below true block.at (Some own) made opened 0))
+
+    closed : IsStageOf words line root site false 0 None new
+    closed = stage_close words line root site IsSite-old line_below false 0 (Some own) left buried new closes
+
+    pub detached_old : IsOldDetached words line root block new
+    detached_old =
+        let none = with_none words line root site IsSite-old line_below in
+        record {
+          image = record {
+            formed = closed.formed;
+            but = subst (λ (b : Bounds). IsExactBut b (tables_of new) block.start) (sym closed.bounds)
+                (subst (λ (x : Tables). IsExactBut (bounds_of words) x block.start) (sym closed.tables) (IsExactBut-one IsSite-old.one false 0 none));
+          };
+          exact = λ other lively. record {
+            formed = closed.formed;
+            exact = subst (λ (b : Bounds). IsExact b (tables_of new)) (sym closed.bounds)
+                (subst (IsExact (bounds_of words)) (sym closed.tables)
+                (IsExact-one IsSite-old.one false 0 none (λ done. lively (subst (λ (x : Tables). IsDoneSlab x block.start) (sym closed.tables) done)) (inr other)));
+          };
+          bounds = closed.bounds;
+          tables = closed.tables;
+          gives = record {
+            here = heap_none words line root site IsSite-old line_below false 0 None new none closed refl;
+            others = heap_other words line root site IsSite-old line_below false 0 None new none closed;
+          };
+          rest = closed.rest;
+        }
+
+    pub detach_old_step : {s t u v : PmemState} → IsQuietStep s t (word_events (8 * wal_word line) (entry_word (old_entry_for root block.at block.place))) (OpensOrNot words line (old_entry_for root block.at block.place)) →
+        IsQuietStep t u (bury_events (tables_of words) root block.start block.place) (IsOldOrNewPair made (8 * root_word root) 0 (8 * index_word block.start block.place) (dead_put (tables_of words) block.start block.place)) →
+        IsQuietStep u v (word_events (8 * wal_word line) 0) (ClosesOrNot left line) → IsQuietStep s v (detach_old_events (tables_of words) line root block.at block.start block.place) (IsEitherHeap words new)
+    detach_old_step {s} {t} {u} {v} opening putting closing =
+        sequence_step words line root site IsSite-old line_below new true false block.at 0 begins closed
+        (with_both words line root site IsSite-old line_below) (with_none words line root site IsSite-old line_below) (inr (refl, refl))
+        (8 * root_word root) 0 (8 * index_word block.start block.place) (dead_put (tables_of words) block.start block.place) made left buried
+        (unmark_under words line root site IsSite-old line_below made (dead_put (tables_of words) block.start block.place) (record { on = true; word = block.at; either = inr refl; stage = opened }) puts) opening putting closing

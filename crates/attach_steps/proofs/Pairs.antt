@@ -1,0 +1,23 @@
+-- What is read behind the stores of a sequence.
+use Rattle.std.proofs.Common.{◌≡◌, ℕ, ◌*◌, ◌/◌, ◌<◌, List, ap, ◌∙◌, arith}
+use Rattle.pmem_lines.specs.Words.{word_at, put_word}
+use Rattle.pmem_lines.proofs.Words.{word_at-put_other}
+use Rattle.pmem_lines.specs.Events.{reading}
+use Rattle.durable_steps.specs.Steps.{pair_events}
+use Rattle.pool_layout.specs.Places.{wal_word}
+use Rattle.attach_wal.specs.Entry.{entry_word}
+use Rattle.attach_wal.specs.Wal.{Opens}
+use Rattle.attach_steps.proofs.Stages.{Site, IsSite, start_low}
+
+-- behind a pair of stores
+pub reading_pair : (words : List ℕ) (a x b y : ℕ) → reading words (pair_events (8 * a) x (8 * b) y) ≡ put_word (put_word words a x) b y
+reading_pair words a x b y =
+    let first : 8 * a / 8 ≡ a = omega arith in
+    let second : 8 * b / 8 ≡ b = omega arith in
+    λ i. put_word (put_word words (first i) x) (second i) y
+
+-- the entry is open, and the header's word is as it was
+pub opened_word : (words : List ℕ) (line root : ℕ) (site : Site) → IsSite words root site → line < 8 → (made : List ℕ) → Opens words line site.own made → word_at made site.k ≡ word_at words site.k
+opened_word words line root site is line_below made opens =
+    ap (λ (ws : List ℕ). word_at ws site.k) opens.is
+    ∙ word_at-put_other words (wal_word line) site.k (entry_word site.own) (λ e. omega (arith, e, is.low, start_low words line root site is line_below, line_below))

@@ -1,0 +1,55 @@
+// What the checker says of an image.
+use image_check::{CheckFault, check_arena};
+use image_defects::Summary;
+use pmem_lines::OutOfMemory;
+use pool_layout::Defect;
+use std::alloc::Global;
+
+/// A word of an image: its number, and what it is.
+pub type Put = (usize, u64);
+
+/// So many words, all 0.
+pub fn blank(alloc: Global, size: usize) -> Result<Vec<u64>, OutOfMemory> {
+    let words = vec![in alloc; 0; size]?;
+    Ok(words)
+}
+
+/// Puts words into an image.
+pub fn put(words: &mut [u64], puts: &[Put]) {
+    for (word, value) in puts {
+        if *word < words.len() {
+            words[*word] = *value;
+        }
+    }
+}
+
+/// What the checker says of these words.
+pub fn answer_of(alloc: Global, words: &[u64]) -> Result<Result<Summary, Defect>, OutOfMemory> {
+    match check_arena(alloc, words) {
+        Ok(summary) => Ok(Ok(summary)),
+        Err(CheckFault::Defect(defect)) => Ok(Err(defect)),
+        Err(CheckFault::Memory(error)) => Err(error),
+    }
+}
+
+/// What the checker says of an arena of 16 granules with these words, the second row over the first, and 0 else.
+pub fn answer(
+    alloc: Global,
+    base: &[Put],
+    changes: &[Put],
+) -> Result<Result<Summary, Defect>, OutOfMemory> {
+    let mut words = blank(alloc, 32768)?;
+    put(&mut words, base);
+    put(&mut words, changes);
+    answer_of(alloc, &words)
+}
+
+/// A summary with these counts.
+pub fn counts(large: u32, slabs: u32, blocks: u32, loose: u32) -> Result<Summary, Defect> {
+    Ok(Summary {
+        large,
+        slabs,
+        blocks,
+        loose,
+    })
+}

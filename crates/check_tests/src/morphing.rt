@@ -1,0 +1,89 @@
+// An arena with a large block of 8 granules and a slab at granule 12 that took class 19 and was of class 3 before: one block
+// of each lives.
+use crate::answers::{Put, answer, counts};
+use pool_layout::Defect;
+use std::test::Fail;
+
+const IMAGE: [Put; 11] = [
+    (0, 3550894020320384590),
+    (1, 281543696187393),
+    (2, 1),
+    (2048, 65536),
+    (2049, 198656),
+    (2050, 199680),
+    (6152, 134218753),
+    (6160, 3074),
+    (24576, 16978691),
+    (24592, 1),
+    (24648, 1),
+];
+
+#[test]
+fn slabs_in_transition(rt: HostRuntime) -> Result<(), Fail> {
+    let rows: [(&[Put], _); 15] = [
+        (&[], counts(1, 1, 3, 0)),
+        (&[(24576, 16978690), (2050, 0)], counts(1, 1, 2, 1)),
+        (
+            &[(24576, 16978690)],
+            Err(Defect::StrayRoot {
+                root: 2,
+                at: 199680,
+            }),
+        ),
+        (&[(24648, 0), (2049, 0)], counts(1, 1, 2, 1)),
+        (&[(2049, 0), (64, 853221023219715)], counts(1, 1, 2, 2)),
+        (
+            &[(2049, 0), (64, 853221023219715), (24648, 0)],
+            counts(1, 1, 2, 2),
+        ),
+        (&[(64, 853221023219715), (24648, 0)], counts(1, 1, 3, 2)),
+        (
+            &[(64, 853221023350785)],
+            Err(Defect::SharedBlock {
+                first: 1,
+                second: 3,
+            }),
+        ),
+        (&[(24584, 1)], Err(Defect::StrayBit { at: 198656 })),
+        (
+            &[(24576, 201475)],
+            Err(Defect::BadSlab {
+                start: 12,
+                value: 201475,
+            }),
+        ),
+        (
+            &[(24576, 18027267)],
+            Err(Defect::BadSlab {
+                start: 12,
+                value: 18027267,
+            }),
+        ),
+        (
+            &[(24648, 65011713)],
+            Err(Defect::BadSlab {
+                start: 12,
+                value: 65011713,
+            }),
+        ),
+        (
+            &[(2049, 0), (64, 853221023219971)],
+            Err(Defect::BadWal {
+                line: 0,
+                value: 853221023219971,
+            }),
+        ),
+        (
+            &[(24576, 16978690), (2050, 0), (64, 857619069861889)],
+            Err(Defect::BadWal {
+                line: 0,
+                value: 857619069861889,
+            }),
+        ),
+        (&[(2051, 198656), (64, 12884967429)], counts(1, 1, 3, 1)),
+    ];
+    for (changes, wanted) in rows {
+        assert_eq!(rt; answer(rt.alloc(), &IMAGE, changes)?, wanted);
+    }
+    Ok(())
+}

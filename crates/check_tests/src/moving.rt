@@ -1,0 +1,78 @@
+// Open entries: of a block that comes or goes, and of one that moves.
+use crate::answers::{Put, answer, counts};
+use crate::small::IMAGE;
+use pool_layout::Defect;
+use std::test::Fail;
+
+// The place entry of root 5 and the block that it holds, and the move entry from root 5 to root 9.
+const PLACE: u64 = 290271070060545;
+
+const MOVE: u64 = 38655033349;
+
+#[test]
+fn place_entries(rt: HostRuntime) -> Result<(), Fail> {
+    assert_eq!(rt;
+        answer(rt.alloc(), &IMAGE, &[(64, PLACE)])?,
+        counts(0, 1, 1, 1)
+    );
+    // The bit is not set.
+    assert_eq!(rt;
+        answer(rt.alloc(), &IMAGE, &[(64, PLACE), (8200, 0)])?,
+        counts(0, 1, 1, 1)
+    );
+    // The root holds nothing: the block and the empty slab are loose too.
+    assert_eq!(rt;
+        answer(rt.alloc(), &IMAGE, &[(64, PLACE), (2053, 0)])?,
+        counts(0, 1, 0, 3)
+    );
+    // Neither.
+    assert_eq!(rt;
+        answer(rt.alloc(), &IMAGE, &[(64, PLACE), (2053, 0), (8200, 0)])?,
+        counts(0, 1, 0, 2)
+    );
+    Ok(())
+}
+
+#[test]
+fn move_entries(rt: HostRuntime) -> Result<(), Fail> {
+    let bad = Err(Defect::BadWal {
+        line: 0,
+        value: MOVE,
+    });
+    let rows: [(&[Put], _); 4] = [
+        (&[(64, MOVE)], counts(0, 1, 1, 1)),
+        (&[(64, MOVE), (2057, 67584)], counts(0, 1, 1, 1)),
+        (&[(64, MOVE), (2053, 0)], bad),
+        (&[(64, MOVE), (2057, 67600)], bad),
+    ];
+    for (changes, wanted) in rows {
+        assert_eq!(rt; answer(rt.alloc(), &IMAGE, changes)?, wanted);
+    }
+    Ok(())
+}
+
+#[test]
+fn second_lines(rt: HostRuntime) -> Result<(), Fail> {
+    // A second entry is bad, though each of the two may be open alone.
+    assert_eq!(rt;
+        answer(rt.alloc(), &IMAGE, &[(64, PLACE), (80, MOVE)])?,
+        Err(Defect::BadWal {
+            line: 2,
+            value: MOVE
+        })
+    );
+    // Root 5 has a word that is not the address of the first entry. The move entry behind it, by which root 5 would hold
+    // nothing, does not make it good.
+    assert_eq!(rt;
+        answer(
+            rt.alloc(),
+            &IMAGE,
+            &[(64, 290752106397697), (72, MOVE), (2057, 67584)]
+        )?,
+        Err(Defect::BadWal {
+            line: 0,
+            value: 290752106397697
+        })
+    );
+    Ok(())
+}

@@ -1,0 +1,140 @@
+// An arena with one slab of class 6, at granule 4, whose block 0 root 5 holds.
+use crate::answers::{Put, answer, answer_of, blank, counts, put};
+use pool_layout::Defect;
+use std::test::Fail;
+
+pub const IMAGE: [Put; 7] = [
+    (0, 3550894020320384590),
+    (1, 281543696187393),
+    (2, 1),
+    (2053, 67584),
+    (6152, 1026),
+    (8192, 1537),
+    (8200, 1),
+];
+
+#[test]
+fn sound(rt: HostRuntime) -> Result<(), Fail> {
+    assert_eq!(rt; answer(rt.alloc(), &IMAGE, &[])?, counts(0, 1, 1, 0));
+    Ok(())
+}
+
+#[test]
+fn lengths(rt: HostRuntime) -> Result<(), Fail> {
+    let none = blank(rt.alloc(), 0)?;
+    assert_eq!(rt;
+        answer_of(rt.alloc(), &none)?,
+        Err(Defect::BadLength { have: 0, need: 64 })
+    );
+    let mut short = blank(rt.alloc(), 32767)?;
+    put(&mut short, &IMAGE);
+    assert_eq!(rt;
+        answer_of(rt.alloc(), &short)?,
+        Err(Defect::BadLength {
+            have: 262136,
+            need: 262144
+        })
+    );
+    Ok(())
+}
+
+#[test]
+fn defects(rt: HostRuntime) -> Result<(), Fail> {
+    let rows: [(&[Put], Defect); 13] = [
+        (&[(0, 0)], Defect::BadHeader { word: 0, value: 0 }),
+        (
+            &[(1, 281543696187395)],
+            Defect::BadHeader {
+                word: 1,
+                value: 281543696187395,
+            },
+        ),
+        (&[(2, 17)], Defect::BadDirectory { value: 17 }),
+        (
+            &[(6152, 1024)],
+            Defect::BadEntry {
+                chunk: 0,
+                entry: 0,
+                value: 1024,
+            },
+        ),
+        (
+            &[(6160, 33555969)],
+            Defect::Overlap {
+                first: 4,
+                second: 6,
+            },
+        ),
+        (
+            &[(8192, 1545)],
+            Defect::BadSlab {
+                start: 4,
+                value: 1545,
+            },
+        ),
+        (&[(64, 2)], Defect::BadWal { line: 0, value: 2 }),
+        (&[(2054, 67600)], Defect::StrayRoot { root: 6, at: 67600 }),
+        (
+            &[(2054, 67584)],
+            Defect::SharedBlock {
+                first: 5,
+                second: 6,
+            },
+        ),
+        (&[(8208, 1)], Defect::StrayBit { at: 67696 }),
+        (
+            &[(6160, 33556481), (6168, 33556993)],
+            Defect::TooManyLoose {
+                large: 2,
+                empty: 0,
+                morphing: 0,
+                done: 0,
+            },
+        ),
+        // A chunk is named twice, and its entry stands behind a 0: the directory is looked at first.
+        (
+            &[(2, 257), (6152, 0), (6160, 1026)],
+            Defect::BadDirectory { value: 257 },
+        ),
+        // An entry stands behind a 0.
+        (
+            &[(6152, 0), (6160, 1026)],
+            Defect::BadEntry {
+                chunk: 0,
+                entry: 1,
+                value: 1026,
+            },
+        ),
+    ];
+    for (changes, defect) in rows {
+        assert_eq!(rt; answer(rt.alloc(), &IMAGE, changes)?, Err(defect));
+    }
+    Ok(())
+}
+
+// A second slab, at granule 8, and no root that holds a block: both slabs are empty. Then both take another class, and then
+// both took it and have no live block of the class before.
+#[test]
+fn kinds_of_loose_things(rt: HostRuntime) -> Result<(), Fail> {
+    let rows: [(&[Put], [u32; 3]); 3] = [
+        (&[(16384, 1537)], [2, 0, 0]),
+        (&[(8192, 16975362), (16384, 16975362)], [2, 2, 0]),
+        (&[(8192, 16975363), (16384, 16975363)], [2, 0, 2]),
+    ];
+    for (changes, [empty, morphing, done]) in rows {
+        let mut words = blank(rt.alloc(), 32768)?;
+        put(&mut words, &IMAGE);
+        put(&mut words, &[(2053, 0), (6160, 2050), (8200, 0)]);
+        put(&mut words, changes);
+        assert_eq!(rt;
+            answer_of(rt.alloc(), &words)?,
+            Err(Defect::TooManyLoose {
+                large: 0,
+                empty,
+                morphing,
+                done
+            })
+        );
+    }
+    Ok(())
+}

@@ -1,0 +1,16 @@
+pub mod Pairs
+pub mod LeastOf
+pub mod Blocks
+pub mod Strays
+pub mod FewLoose
+pub mod Marks
+pub mod Overlaps
+pub mod Chunks
+pub mod Settled
+pub mod DirectoryBytes
+pub mod SlabWords
+pub mod SlabLists
+pub mod OpenEntries
+pub mod LineWords
+pub mod BlockSizes
+pub mod ClaimLists

@@ -1,0 +1,7 @@
+use Rattle.image_tables.specs.Tables.{tables_of}
+use Rattle.image_defects.specs.Least.{IsLeastOf}
+use Rattle.defect_search.proofs.Strays.{IsStrayAmong}
+use Rattle.defect_search.proofs.stray.stray_bit.Given as goal
+
+abbrev pub invariant-loop-i : goal.invariant-loop-i
+invariant-loop-i l = IsLeastOf (IsStrayAmong (tables_of l.words) l.slabs l.i) l.least

@@ -1,0 +1,8 @@
+pub mod Arena
+pub mod Claims
+pub mod Headers
+pub mod Opening
+pub mod Pairs
+pub mod Claimed
+pub mod Roots
+pub mod Stray

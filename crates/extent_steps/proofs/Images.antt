@@ -1,0 +1,80 @@
+-- Images while an extent comes or goes: what is the same of them.
+use Rattle.std.proofs.Common.{◌≡◌, ◌⊎◌, ℕ, ◌+◌, ◌<◌, ◌≤◌, true, List, sym, ap, subst, ◌∙◌, arith, inl, inr, Some, None}
+use Rattle.pool_layout.specs.Places.{granule_word}
+use Rattle.image_tables.specs.Extents.{extent_at}
+use Rattle.image_tables.specs.Tables.{Tables, is_slab_of, is_slab, state_field, tables_of}
+use Rattle.image_tables.proofs.Tables.{slab_table, index_count_table}
+use Rattle.image_tables.proofs.Stores.{HasNoMove-closed, tables_off_log-same}
+use Rattle.heap_model.specs.Machine.{Bounds, Range}
+use Rattle.heap_check.specs.Heap.{heap}
+use Rattle.heap_check.specs.Sound.{IsSound, IsSteady}
+use Rattle.heap_check.specs.Image.{bounds_of, IsFormed, IsSteadyImage}
+use Rattle.heap_check.specs.State.{IsWordOf, KeepsBlocks, IsEitherHeap}
+use Rattle.heap_check.proofs.Forms.{AreSlabsInHeap-sound, bounds_of-off_log, IsFormed-off_log}
+use Rattle.heap_check.proofs.Geometry.{index_count_few}
+use Rattle.log_steps.specs.Log.{KeepsRest}
+use Rattle.log_steps.proofs.Entries.{off_log}
+use Rattle.heap_check.proofs.Sizes.{sizes_of}
+use Rattle.heap_check.proofs.BlockWords.{block_word-heap}
+use Rattle.extent_steps.specs.Slabs.{KeepsOthers}
+
+-- what an image keeps of the words
+pub record IsNear (words : List ℕ) (start : ℕ) (image : List ℕ) : Type 0 where
+  pub formed : IsFormed image
+  pub bounds : bounds_of image ≡ bounds_of words
+  pub rest : KeepsOthers words start image
+
+-- it says the same
+pub record IsSame (words : List ℕ) (start : ℕ) (image : List ℕ) : Type 0 where
+  pub near : IsNear words start image
+  pub tables : tables_of image ≡ tables_of words
+
+-- no slab of a sound image has more than 64 index entries
+pub few_entries : (words : List ℕ) → IsSound (bounds_of words) (tables_of words) → (other : ℕ) → is_slab words other ≡ true → state_field words other 24 ≤ 64
+few_entries words sound other is = omega (arith, index_count_few (sound.slabs other (slab_table words other ∙ is)), index_count_table words other)
+
+-- the words of blocks are kept, which lie in no header at the start
+pub keeps_blocks : (words : List ℕ) (start : ℕ) (image : List ℕ) → IsFormed words → IsSound (bounds_of words) (tables_of words) → (tables_of words).open_entry ≡ None →
+    ((root : ℕ) (range : Range) (k : ℕ) → heap (tables_of words) root ≡ Some range → IsWordOf range k → (k < granule_word start) ⊎ (granule_word start + 256 ≤ k)) → KeepsOthers words start image → KeepsBlocks words image
+keeps_blocks words start image formed sound closed off rest = record {
+  each = λ root other range k was is word.
+      let sizes = sizes_of words formed in
+      let high = block_word-heap sound closed root range was k word in
+      rest.others k (λ e. omega (arith, e, high, sizes.first)) (inr (omega (arith, high))) (off root range k was word);
+}
+
+-- an image that has the heap of the words, and is steady, is one that a crash may leave
+pub either : (words : List ℕ) (start : ℕ) (new image : List ℕ) → IsNear words start image → IsSteady (bounds_of words) (tables_of image) → ((root : ℕ) → heap (tables_of image) root ≡ heap (tables_of words) root) → KeepsBlocks words image →
+    (tables_of image).open_entry ≡ None → IsEitherHeap words new image
+either words start new image near steady same keeps closed = record {
+  steady = record { formed = near.formed; steady = subst (λ (b : Bounds). IsSteady b (tables_of image)) (sym near.bounds) steady };
+  heap = inl (record { each = same });
+  words = keeps;
+  still = HasNoMove-closed closed;
+}
+
+-- where all but the log is the same, blocks have their words
+pub keeps_off_log : (words image : List ℕ) → IsSteadyImage words → (tables_of words).open_entry ≡ None → KeepsRest words image → KeepsBlocks words image
+keeps_off_log words image steady closed rest = record {
+  each = λ root other range k was is word.
+      let sizes = sizes_of words steady.formed in
+      let high = block_word-heap steady.steady.sound closed root range was k word in
+      rest.others k (λ e. omega (arith, e, high, sizes.first)) (inr (omega (arith, high)));
+}
+
+-- where the extents are the same too, the image is one that a crash may leave
+pub still_either : (words : List ℕ) (start : ℕ) (new image : List ℕ) → IsSteadyImage words → (tables_of words).open_entry ≡ None → KeepsRest words image → ((other : ℕ) → extent_at image other ≡ extent_at words other) → IsEitherHeap words new image
+still_either words start new image steady closed rest extents =
+    let off = off_log words image rest in
+    let slabs = AreSlabsInHeap-sound words steady.steady.sound in
+    let tables = tables_off_log-same words image off slabs extents in
+    either words start new image
+    (record {
+      formed = IsFormed-off_log words image steady.formed off slabs rest.log (λ other. ap is_slab_of (extents other));
+      bounds = bounds_of-off_log words image off;
+      rest = record { same_length = rest.same_length; others = λ k apart outside header. rest.others k apart outside };
+    })
+    (subst (IsSteady (bounds_of words)) (sym tables) steady.steady)
+    (λ root. ap (λ (x : Tables). heap x root) tables)
+    (keeps_off_log words image steady closed rest)
+    (ap (λ (x : Tables). x.open_entry) tables ∙ closed)

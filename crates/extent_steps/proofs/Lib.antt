@@ -1,0 +1,4 @@
+pub mod Images
+pub mod Opening
+pub mod Dropping
+pub mod LargeDrops

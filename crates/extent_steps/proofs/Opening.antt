@@ -1,0 +1,248 @@
+-- A slab is opened: the image at each of its steps, and what a crash leaves.
+use Rattle.std.proofs.Common.{◌≡◌, ◌≢◌, ◌⊎◌, ◌==◌, ℕ, ◌+◌, ◌*◌, ◌/◌, ◌%◌, ◌^◌, ◌<◌, ◌≤◌, true, false, List, refl, sym, ap, subst, ◌∙◌, arith, inl, inr, ⊎_elim, Some}
+use Rattle.std.proofs.lemmas.Bool.{cases_eq, cases_lt, cond-true, cond-false, eq-eqb, ne_eqb, false_from_ne_true}
+use Rattle.pmem_lines.specs.Words.{word_at}
+use Rattle.pool_layout.specs.Layout.{layout_of}
+use Rattle.pool_layout.specs.Places.{fields_word, granule_word, log_word, heap_word}
+use Rattle.pool_layout.specs.Header.{version_in, granules_in}
+use Rattle.image_tables.specs.declared.extent.Extent.TheVariants as extent
+use Rattle.image_tables.specs.Extents.{extent_at}
+use Rattle.image_tables.specs.Tables.{Tables, AreSlabsInHeap, is_slab_of, is_slab, state_word, bitmap_word, state_field, tables_of}
+use Rattle.image_tables.proofs.Headers.{IsSameOffHeader, SameLog-off_header}
+use Rattle.image_tables.proofs.Stores.{IsSameOffLog, heap_word-off_log, slab_bit-same, tables_off_log-same}
+use Rattle.image_tables.proofs.Tables.{slab_table, large_table, bit_table, kind_table, class_table, old_table, index_count_table}
+use Rattle.slab_header.specs.Steps.{KeepsOutside, IsMade}
+use Rattle.book_log.specs.declared.entry.LogEntry.TheVariants.{Slab}
+use Rattle.book_log.specs.Book.{Book}
+use Rattle.book_log.proofs.Books.{Reads-same}
+use Rattle.book_log.specs.Live.{AreDisjoint}
+use Rattle.log_steps.specs.Log.{KeepsRest, IsLogged, IsLoggedOrNot, IsBookOf}
+use Rattle.log_steps.proofs.Entries.{off_log}
+use Rattle.log_steps.proofs.Disjoint.{disjoint_of}
+use Rattle.heap_model.specs.Machine.{Bounds, Range}
+use Rattle.heap_check.specs.Heap.{heap}
+use Rattle.heap_check.specs.Sound.{IsVacant, IsSound, IsExact, IsExactBut, IsSteady}
+use Rattle.heap_check.specs.Slabs.{IsSlabMore, IsWithSlab}
+use Rattle.heap_check.specs.Image.{bounds_of, HasSlabHeader, IsFormed}
+use Rattle.heap_check.specs.State.{IsWordOf, IsEitherHeap}
+use Rattle.heap_check.proofs.Blank.{law_of_steady, IsSteady-but}
+use Rattle.heap_check.proofs.BlockWords.{block_word-vacant}
+use Rattle.heap_check.proofs.Forms.{AreSlabsInHeap-sound, bounds_of-same, bounds_of-off_log, IsFormed-off_log, IsFormed-logged, IsFormed-off_header}
+use Rattle.heap_check.proofs.Geometry.{Covers-slab, granules_at-large, number_few}
+use Rattle.heap_check.proofs.Sizes.{sizes_of}
+use Rattle.heap_check.proofs.SlabHeaps.{heap-slab}
+use Rattle.heap_check.proofs.SlabLogs.{IsSlabMore-logged}
+use Rattle.heap_check.proofs.SlabPlaces.{IsSlabPlace-vacant}
+use Rattle.heap_check.proofs.Slabs.{IsSlabPlace}
+use Rattle.heap_check.proofs.SlabSound.{IsExactBut-slab}
+use Rattle.extent_steps.specs.Slabs.{IsOpenable, KeepsOthers, IsOpened}
+use Rattle.extent_steps.proofs.Images.{IsNear, IsSame, few_entries, keeps_blocks, either}
+
+-- the fields of a slab's state word
+field_of : (words : List ℕ) (start bits : ℕ) → is_slab words start ≡ true → state_field words start bits ≡ word_at words (state_word start) / 2 ^ bits % 2 ^ 8
+field_of words start bits is = cond-true (is_slab words start) (word_at words (state_word start) / 2 ^ bits % 2 ^ 8) 0 is
+
+module _ (words : List ℕ) (start class : ℕ) (may : IsOpenable words start) (below : class < 36) where
+  abbrev t : Tables
+  t = tables_of words
+
+  exact : IsExact (bounds_of words) t
+  exact = may.image.exact
+
+  formed : IsFormed words
+  formed = may.image.formed
+
+  here : IsVacant (bounds_of words) t start
+  here = may.vacant start (omega arith) (omega arith)
+
+  no_slab : t.slab start ≡ false
+  no_slab = false_from_ne_true (t.slab start) (λ slab. here.none start (Covers-slab t start start slab (omega arith) (omega arith)))
+
+  pub words_none : is_slab words start ≡ false
+  words_none = sym (slab_table words start) ∙ no_slab
+
+  no_large : t.large start ≡ 0
+  no_large = ⊎_elim
+      (λ (live : 0 < t.large start). absurd (here.none start (record { low = omega arith; high = omega (arith, live, granules_at-large t start no_slab) })))
+      (λ (nothing : t.large start ≤ 0). omega arith)
+      (cases_lt 0 (t.large start))
+
+  pub in_heap : (layout_of (version_in words)).first_granule ≤ start
+  in_heap = here.low
+
+  pub start_high : start + 4 ≤ granules_in words
+  start_high = omega (arith, (may.vacant (start + 3) (omega arith) (omega arith)).high)
+
+  off_header : (root : ℕ) (range : Range) (k : ℕ) → heap t root ≡ Some range → IsWordOf range k → (k < granule_word start) ⊎ (granule_word start + 256 ≤ k)
+  off_header root range k named word =
+      ⊎_elim (λ x. inl x) (λ x. inr (omega (arith, x))) (block_word-vacant exact.sound exact.closed root range named k word start here)
+
+  -- while the header is made
+
+  module _ (image : List ℕ) (keeps : KeepsOutside words start image) where
+    off : IsSameOffHeader words image start
+    off = record { in_heap = in_heap; others = λ k outside. keeps.others k (⊎_elim (λ x. inl x) (λ x. inr (omega (arith, x))) outside) }
+
+    same_fields : word_at image fields_word ≡ word_at words fields_word
+    same_fields = keeps.others fields_word (inl (omega (arith, in_heap, (sizes_of words formed).first)))
+
+    pub made_same : IsSame words start image
+    made_same = record {
+      near = record {
+        formed = IsFormed-off_header words image start formed off keeps.same_length words_none (few_entries words exact.sound);
+        bounds = bounds_of-same words image same_fields;
+        rest = record { same_length = keeps.same_length; others = λ k apart log outside. off.others k outside };
+      };
+      tables = keeps.tables in_heap words_none;
+    }
+
+    pub made_book : (book : Book) → IsBookOf book words → IsBookOf book image
+    made_book book log = record {
+      reads = Reads-same book words image (SameLog-off_header words image start off) keeps.same_length log.reads;
+      granules = log.granules ∙ ap (λ (b : Bounds). b.granules) (sym made_same.near.bounds);
+    }
+
+    pub made_sound : IsSound (bounds_of image) (tables_of image)
+    made_sound = subst (λ (b : Bounds). IsSound b (tables_of image)) (sym made_same.near.bounds) (subst (IsSound (bounds_of words)) (sym made_same.tables) exact.sound)
+
+    pub made_disjoint : AreDisjoint (extent_at image)
+    made_disjoint = disjoint_of image made_same.near.formed made_sound
+
+  same_either : (new image : List ℕ) → IsSame words start image → IsEitherHeap words new image
+  same_either new image same = either words start new image same.near
+      (subst (IsSteady (bounds_of words)) (sym same.tables) (law_of_steady (bounds_of words) t exact))
+      (λ root. ap (λ (x : Tables). heap x root) same.tables)
+      (keeps_blocks words start image formed exact.sound exact.closed off_header same.near.rest)
+      (ap (λ (x : Tables). x.open_entry) same.tables ∙ exact.closed)
+
+  pub made_either : (new image : List ℕ) → KeepsOutside words start image → IsEitherHeap words new image
+  made_either new image keeps = same_either new image (made_same image keeps)
+
+  -- once it is made
+
+  module _ (made : List ℕ) (is_made : IsMade words made start class) where
+    kept : KeepsOutside words start made
+    kept = is_made.kept
+
+    was : IsSame words start made
+    was = made_same made kept
+
+    slabs : AreSlabsInHeap made
+    slabs = AreSlabsInHeap-sound made (made_sound made kept)
+
+    made_none : is_slab made start ≡ false
+    made_none = sym (slab_table made start) ∙ ap (λ (x : Tables). x.slab start) was.tables ∙ no_slab
+
+    same_heap_word : heap_word (version_in made) ≡ heap_word (version_in words)
+    same_heap_word = ap (λ (b : Bounds). 2048 * b.first) was.near.bounds
+
+    rest_then : (image : List ℕ) → KeepsRest made image → KeepsOthers words start image
+    rest_then image rest =
+        let version : log_word (version_in made) ≡ log_word (version_in words) = ap (λ w. log_word w) same_version in
+        record {
+          same_length = rest.same_length ∙ was.near.rest.same_length;
+          others = λ k apart outside header.
+              rest.others k apart (⊎_elim (λ x. inl (omega (arith, x, version))) (λ x. inr (omega (arith, x, same_heap_word))) outside) ∙ was.near.rest.others k apart outside header;
+        }
+      where
+        same_version : version_in made ≡ version_in words
+        same_version = ap (λ w. w % 2 ^ 16) (same_fields made kept)
+
+    -- the log is changed, and the extents are as before
+    log_same : (image : List ℕ) → KeepsRest made image → ((other : ℕ) → extent_at image other ≡ extent_at made other) → IsSame words start image
+    log_same image rest extents =
+        let off = off_log made image rest in
+        record {
+          near = record {
+            formed = IsFormed-off_log made image was.near.formed off slabs rest.log (λ other. ap is_slab_of (extents other));
+            bounds = bounds_of-off_log made image off ∙ was.near.bounds;
+            rest = rest_then image rest;
+          };
+          tables = tables_off_log-same made image off slabs extents ∙ was.tables;
+        }
+
+    -- the extent is in the log
+
+    module _ (image : List ℕ) (logged : IsLogged made (Slab start) image) where
+      off_made : IsSameOffLog made image
+      off_made = off_log made image logged.rest
+
+      slab_here : extent_at image start ≡ Some extent.Slab
+      slab_here = logged.extents start ∙ cond-true (start == start) (Some extent.Slab) (extent_at made start) (eq-eqb start start refl)
+
+      slab_other : (other : ℕ) → other ≢ start → extent_at image other ≡ extent_at made other
+      slab_other other differ = logged.extents other ∙ cond-false (other == start) (Some extent.Slab) (extent_at made other) (ne_eqb other start differ)
+
+      is_here : is_slab image start ≡ true
+      is_here = ap is_slab_of slab_here
+
+      state_here : word_at image (state_word start) ≡ word_at made (state_word start)
+      state_here = heap_word-off_log made image (state_word start) off_made (omega (arith, same_heap_word, in_heap))
+
+      field_here : (bits value : ℕ) → word_at made (state_word start) / 2 ^ bits % 2 ^ 8 ≡ value → state_field image start bits ≡ value
+      field_here bits value says = field_of image start bits is_here ∙ ap (λ w. w / 2 ^ bits % 2 ^ 8) state_here ∙ says
+
+      pub with_it : IsWithSlab t (tables_of image) start class
+      with_it = record {
+        more = subst (λ (x : Tables). IsSlabMore x (tables_of image) start) was.tables
+            (IsSlabMore-logged made image start (record {
+              off_log = off_made;
+              slabs = slabs;
+              none = made_none;
+              no_large = sym (large_table made start) ∙ ap (λ (x : Tables). x.large start) was.tables ∙ no_large;
+              slab = slab_here;
+              others = slab_other;
+            }));
+        fresh = record {
+          kind = kind_table image start ∙ field_here 0 1 is_made.says.kind;
+          class_is = class_table image start ∙ field_here 8 class is_made.says.class;
+          old = old_table image start ∙ field_here 16 0 is_made.says.old;
+          index_count = index_count_table image start ∙ field_here 24 0 is_made.says.entries;
+          clear = λ i among.
+              let few = number_few class i below among in
+              bit_table image start i is_here few
+              ∙ slab_bit-same made image start i (heap_word-off_log made image (bitmap_word start i) off_made (omega (arith, same_heap_word, in_heap)))
+              ∙ is_made.bits i few;
+        };
+      }
+
+      pub open_place : IsSlabPlace (bounds_of words) t (tables_of image) start
+      open_place = IsSlabPlace-vacant exact.sound exact.closed (omega (arith, (sizes_of words formed).first)) with_it may.vacant
+
+      header_here : HasSlabHeader image start
+      header_here = record {
+        state = omega (arith, state_here, is_made.says.form.small);
+        index = λ place among. absurd (omega (arith, among, field_here 24 0 is_made.says.entries));
+      }
+
+      open_near : IsNear words start image
+      open_near = record {
+        formed = IsFormed-logged made image was.near.formed off_made slabs logged.rest.log (λ other is. ⊎_elim
+            (λ (same : other ≡ start). inr (subst (HasSlabHeader image) (sym same) header_here))
+            (λ (differ : other ≢ start). inl (sym (ap is_slab_of (slab_other other differ)) ∙ is))
+            (cases_eq other start));
+        bounds = bounds_of-off_log made image off_made ∙ was.near.bounds;
+        rest = rest_then image logged.rest;
+      }
+
+      open_but : IsExactBut (bounds_of words) (tables_of image) start
+      open_but = IsExactBut-slab open_place with_it.fresh below exact
+
+      pub opened : IsOpened words start class image
+      opened = record {
+        image = record { formed = open_near.formed; but = subst (λ (b : Bounds). IsExactBut b (tables_of image) start) (sym open_near.bounds) open_but };
+        bounds = open_near.bounds;
+        slab = with_it;
+        heap = record { each = heap-slab open_place };
+        rest = open_near.rest;
+      }
+
+      open_either : (new : List ℕ) → IsEitherHeap words new image
+      open_either new = either words start new image open_near (IsSteady-but open_but) (heap-slab open_place)
+          (keeps_blocks words start image formed exact.sound exact.closed off_header open_near.rest) open_but.closed
+
+    pub logged_either : (new image : List ℕ) → IsLoggedOrNot made (Slab start) image → IsEitherHeap words new image
+    logged_either new image either = ⊎_elim
+        (λ same. same_either new image (log_same image either.rest same))
+        (λ more. open_either image (record { rest = either.rest; extents = more }) new)
+        either.extents

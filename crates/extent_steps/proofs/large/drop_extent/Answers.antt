@@ -1,0 +1,21 @@
+use Rattle.pmem_lines.specs.Pmem.{words_of}
+use Rattle.pmem_lines.proofs.Steps.{step_wider}
+use Rattle.extent_steps.proofs.LargeDrops.{loose_disjoint, loose_lies, extent_gone, gone_or_not}
+use Rattle.extent_steps.proofs.large.drop_extent.Goals as goal
+
+pub log_entry-requires-clause-formed : goal.log_entry-requires-clause-formed
+log_entry-requires-clause-formed g c = c.requires.loose.image.formed
+
+pub log_entry-requires-clause-disjoint : goal.log_entry-requires-clause-disjoint
+log_entry-requires-clause-disjoint g c = loose_disjoint (words_of (g.P.Pmem.state c.args.p.now)) c.args.start c.requires.loose
+
+pub log_entry-requires-clause-valid : goal.log_entry-requires-clause-valid
+log_entry-requires-clause-valid g c = loose_lies (words_of (g.P.Pmem.state c.args.p.now)) c.args.start c.requires.loose
+
+pub returns-clause-gone : goal.returns-clause-gone
+returns-clause-gone g c =
+    extent_gone (words_of (g.P.Pmem.state c.args.p.now)) c.args.start c.requires.loose (words_of (g.P.Pmem.state c.log_entry.new.device)) c.log_entry.ensures.logged
+
+pub returns-clause-step : goal.returns-clause-step
+returns-clause-step g c =
+    step_wider (gone_or_not (words_of (g.P.Pmem.state c.args.p.now)) c.args.start c.requires.loose (words_of (g.P.Pmem.state c.log_entry.new.device))) c.log_entry.ensures.step

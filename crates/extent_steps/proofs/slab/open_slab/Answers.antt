@@ -1,0 +1,45 @@
+use Rattle.std.proofs.Common.{ap, arith}
+use Rattle.pmem_lines.specs.Pmem.{words_of}
+use Rattle.pmem_lines.proofs.Steps.{step_then}
+use Rattle.heap_model.specs.Machine.{Bounds}
+use Rattle.heap_check.specs.State.{IsEitherHeap}
+use Rattle.book_log.specs.declared.entry.LogEntry.TheVariants.{Slab}
+use Rattle.log_steps.specs.Events.{log_events}
+use Rattle.extent_steps.proofs.Opening.{in_heap, start_high, made_same, made_book, made_disjoint, made_either, logged_either, opened}
+use Rattle.extent_steps.proofs.slab.open_slab.Goals as goal
+
+pub log_entry-requires-clause-formed : goal.log_entry-requires-clause-formed
+log_entry-requires-clause-formed g c =
+    (made_same (words_of (g.P.Pmem.state c.args.p.now)) c.args.start c.args.class c.requires.openable c.requires.class (words_of (g.P.Pmem.state c.make_header.new.p)) c.make_header.ensures.made.kept).near.formed
+
+pub log_entry-requires-clause-disjoint : goal.log_entry-requires-clause-disjoint
+log_entry-requires-clause-disjoint g c =
+    made_disjoint (words_of (g.P.Pmem.state c.args.p.now)) c.args.start c.args.class c.requires.openable c.requires.class (words_of (g.P.Pmem.state c.make_header.new.p)) c.make_header.ensures.made.kept
+
+pub log_entry-requires-clause-book : goal.log_entry-requires-clause-book
+log_entry-requires-clause-book g c =
+    made_book (words_of (g.P.Pmem.state c.args.p.now)) c.args.start c.args.class c.requires.openable c.requires.class (words_of (g.P.Pmem.state c.make_header.new.p)) c.make_header.ensures.made.kept c.args.log.now c.requires.book
+
+pub log_entry-requires-clause-valid : goal.log_entry-requires-clause-valid
+log_entry-requires-clause-valid g c =
+    let words = words_of (g.P.Pmem.state c.args.p.now) in
+    let same = (made_same words c.args.start c.args.class c.requires.openable c.requires.class (words_of (g.P.Pmem.state c.make_header.new.p)) c.make_header.ensures.made.kept).near.bounds in (
+      omega (arith, in_heap words c.args.start c.args.class c.requires.openable c.requires.class, ap (λ (b : Bounds). b.first) same),
+      omega (arith, start_high words c.args.start c.args.class c.requires.openable c.requires.class, ap (λ (b : Bounds). b.granules) same),
+    )
+
+pub returns-clause-step : goal.returns-clause-step
+returns-clause-step g c =
+    let state = g.P.Pmem.state in
+    let words = words_of (state c.args.p.now) in
+    let made = words_of (state c.make_header.new.p) in
+    let new = words_of (state c.log_entry.new.device) in
+    step_then (IsEitherHeap words new) (λ ws. log_events ws (Slab c.args.start)) c.make_header.ensures.step c.log_entry.ensures.step
+    (λ image keeps. made_either words c.args.start c.args.class c.requires.openable c.requires.class new image keeps)
+    (λ image left. logged_either words c.args.start c.args.class c.requires.openable c.requires.class made c.make_header.ensures.made new image left)
+
+pub returns-clause-opened : goal.returns-clause-opened
+returns-clause-opened g c =
+    let state = g.P.Pmem.state in
+    opened (words_of (state c.args.p.now)) c.args.start c.args.class c.requires.openable c.requires.class (words_of (state c.make_header.new.p)) c.make_header.ensures.made
+    (words_of (state c.log_entry.new.device)) c.log_entry.ensures.logged

@@ -1,0 +1,4 @@
+pub mod LooseBlocks
+pub mod Premises
+pub mod Outcomes
+pub mod ExactSummaries

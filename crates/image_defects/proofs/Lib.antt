@@ -1,0 +1,10 @@
+pub mod Counts
+pub mod LeastNumbers
+pub mod LogDefects
+pub mod SlabDefects
+pub mod WalDefects
+pub mod BlockDefects
+pub mod Order
+pub mod Extents
+pub mod Faultless
+pub mod Totals

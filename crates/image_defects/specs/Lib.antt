@@ -1,0 +1,10 @@
+pub mod Least
+pub mod Count
+pub mod Log
+pub mod Headers
+pub mod Wal
+pub mod Roots
+pub mod Blocks
+pub mod Loose
+pub mod Defects
+pub mod Summaries

@@ -1,0 +1,2 @@
+pub mod HeldRoots
+pub mod Holding

@@ -1,0 +1,10 @@
+use Rattle.std.proofs.Common.{◌≡◌, ◌/◌, ◌%◌, ◌^◌, ◌∙◌, ap, sym, arith}
+use Rattle.pmem_lines.specs.Words.{word_at}
+use Rattle.image_tables.specs.Tables.{index_word}
+use Rattle.image_tables.proofs.Tables.{number_table}
+use Rattle.image_reading.proofs.reading.number_at.Goals as goal
+
+pub returns : goal.returns
+returns c =
+    let here : c.index_at.result / 8 ≡ index_word c.args.start c.args.place = omega (arith, c.index_at.ensures, c.granule_at.ensures) in
+    ap (λ w. w / 2 ^ 16 % 2 ^ 16) (c.word_at.ensures ∙ ap (word_at c.args.words.now) here) ∙ sym (number_table c.args.words.now c.args.start c.args.place c.requires.slab.slab c.requires.place)

@@ -1,0 +1,46 @@
+-- Blocks that a slab holds, by address.
+use Rattle.std.specs.Prelude.{◌≡◌, ℕ, ◌+◌, ◌<◌, List, true}
+use Rattle.size_classes.specs.Classes.{class_capacity}
+use Rattle.image_tables.specs.Tables.{Tables, is_slab}
+use Rattle.heap_model.specs.Machine.{Range, slab_block}
+use Rattle.heap_check.specs.Heap.{Holds}
+use Rattle.image_reading.specs.Slabs.{IsSlabAt}
+use Rattle.image_defects.specs.Headers.{IsGoodSlab}
+
+-- the slab holds a block there
+pub record IsHeldBy (t : Tables) (start at : ℕ) : Type 0 where
+  pub range : Range
+  pub holds : Holds t start range
+  pub here : range.at ≡ at
+
+-- the block of a set bit, and of a live index entry, is there
+pub record HasBitAt (t : Tables) (start at : ℕ) : Type 0 where
+  pub number : ℕ
+  pub below : number < class_capacity (t.class start)
+  pub set : t.bit start number ≡ true
+  pub is : at ≡ (slab_block start (t.class start) number).at
+
+pub record HasOldAt (t : Tables) (start at : ℕ) : Type 0 where
+  pub place : ℕ
+  pub below : place < t.index_count start
+  pub live : t.live start place ≡ true
+  pub is : at ≡ (slab_block start (t.old start) (t.number start place)).at
+
+-- it is the number of the block of a class at an address
+pub record IsNumberAt (start class at number : ℕ) : Type 0 where
+  pub below : number < class_capacity class
+  pub is : at ≡ (slab_block start class number).at
+
+pub record HasNoNumber (start class at : ℕ) : Type 0 where
+  pub none : (number : ℕ) → ¬ (IsNumberAt start class at number)
+
+-- the slabs are good, and lie among the words
+pub record AreSlabsAt (words : List ℕ) : Type 0 where
+  pub at : (start : ℕ) → is_slab words start ≡ true → IsSlabAt words start
+  pub good : (start : ℕ) → is_slab words start ≡ true → IsGoodSlab words start
+
+-- the slab that begins so many granules before another holds a block there
+pub record HasBack (t : Tables) (last back at : ℕ) : Type 0 where
+  pub start : ℕ
+  pub is : start + back ≡ last
+  pub held : IsHeldBy t start at

@@ -1,0 +1,80 @@
+// The report of `check`.
+ghost use Rattle.std.specs.Prelude.{◌≡◌, ◌*◌, length, IfOk, IfErr, OnOk};
+ghost use Rattle.pool_layout.specs.declared.header.PoolHeader.{PoolHeader};
+ghost use Rattle.pool_layout.specs.Image.{IsPoolImage, IfDefect};
+ghost use Rattle.image_runs.specs.Checks.{HasLines, HasUnsound, HasPool, IsChecked, IsPoolDefect, AddsLine, IsOwnDefect};
+
+use image_check::{CheckFault, check_arena};
+use pool_layout::{ImageFault, PoolHeader, header_of, image_words, parts};
+use std::alloc::Global;
+use trace_text::write_summary;
+
+/// What is reported of the image of a pool: for each arena in order a line with how many live large extents, live slabs,
+/// roots that hold a block and loose things it has. `Defect` comes exactly where the bytes are no image of a pool or an
+/// arena is not sound: it names the first defect of the bytes, else that of the lowest such arena. Either yields to want of
+/// memory.
+pub fn check_pool(alloc: Global, bytes: &[u8]) -> Result<Vec<u8>, ImageFault>
+    ensures checked { IfOk result (λ text. IsChecked bytes.now text.items) }
+    ensures defect { IfErr result (λ fault. IfDefect fault (IsPoolDefect bytes.now)) }
+{
+    let words = match image_words(alloc, bytes) {
+        Ok(words) => words,
+        Err(fault) => return Err(fault),
+    };
+    let header = pool_header(&words);
+    match check_arenas(alloc, &words, &header) {
+        Ok(text) => Ok(text),
+        Err(fault) => Err(fault),
+    }
+}
+
+// The header of arena 0 of a pool.
+fn pool_header(words: &[u64]) -> PoolHeader
+    requires { HasPool words.now }
+    ensures { (header : PoolHeader) → IsPoolImage words.now header → result ≡ header }
+{
+    match header_of(words) {
+        Ok(header) => header,
+        Err(_) => unreachable!(),
+    }
+}
+
+// The lines of all arenas, or the first that is not sound.
+fn check_arenas(alloc: Global, words: &[u64], header: &PoolHeader) -> Result<Vec<u8>, ImageFault>
+    requires { length words.now ≡ header.now.arenas * header.now.granules * 2048 }
+    ensures lines { IfOk result (λ text. HasLines words.now header.now.granules header.now.arenas text.items) }
+    ensures unsound { IfErr result (λ fault. IfDefect fault (HasUnsound words.now header.now)) }
+{
+    let mut text = Vec::new(alloc);
+    for arena in 0..header.arenas {
+        match check_one(alloc, parts(header, words, arena), arena, &mut text) {
+            Ok(()) => {}
+            Err(fault) => return Err(fault),
+        }
+    }
+    Ok(text)
+}
+
+// The line of one arena, behind what stands in a text.
+fn check_one(alloc: Global, words: &[u64], arena: u32, text: &mut Vec<u8>) -> Result<(), ImageFault>
+    ensures line { OnOk result (AddsLine words.now arena text.old.items text.new.items) }
+    ensures defect { IfErr result (λ fault. IfDefect fault (IsOwnDefect words.now arena)) }
+{
+    let summary = match check_arena(alloc, words) {
+        Ok(summary) => summary,
+        Err(CheckFault::Memory(error)) => return Err(ImageFault::Memory(error)),
+        Err(CheckFault::Defect(defect)) => return Err(ImageFault::Defect { arena, defect }),
+    };
+    let written = write_summary(
+        text,
+        arena,
+        summary.large,
+        summary.slabs,
+        summary.blocks,
+        summary.loose,
+    );
+    match written {
+        Ok(()) => Ok(()),
+        Err(error) => Err(ImageFault::Memory(error)),
+    }
+}

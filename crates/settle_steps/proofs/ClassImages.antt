@@ -1,0 +1,163 @@
+-- The bit of the open entry's block becomes what the root says, and then the entry is closed: the images.
+use Rattle.std.proofs.Common.{◌≡◌, ◌≢◌, ◌==◌, ℕ, ◌*◌, ◌/◌, ◌^◌, ◌<◌, Bool, List, length, refl, sym, ap, subst, ◌∙◌, arith, inl, inr, ⊎_elim, Some, None}
+use Rattle.pmem_lines.specs.Words.{word_at, put_word}
+use Rattle.pmem_lines.specs.Pmem.{PmemState}
+use Rattle.pmem_lines.specs.Steps.{IsQuietStep}
+use Rattle.durable_steps.specs.Steps.{word_events, IsOldOrNewWord}
+use Rattle.pool_layout.specs.Places.{root_word, wal_word}
+use Rattle.image_tables.specs.declared.entry.WalEntry.{WalEntry}
+use Rattle.image_tables.specs.Tables.{Tables, AreSlabsInHeap, tables_of}
+use Rattle.image_tables.specs.Updates.{put_in, put_bit, with_open_entry, HasNoMove}
+use Rattle.image_tables.proofs.Headers.{IsSameOffHeader-put, is_slab-off_header}
+use Rattle.image_tables.proofs.Stores.{few_lines, roots_plain}
+use Rattle.image_tables.proofs.Tables.{root_table}
+use Rattle.slab_header.specs.Steps.{PutsBitOver}
+use Rattle.attach_wal.specs.Wal.{Closes, ClosesOrNot}
+use Rattle.heap_model.specs.Machine.{Range}
+use Rattle.heap_check.specs.Heap.{heap}
+use Rattle.heap_check.specs.Sound.{LoosensNothing, IsSound, IsSteady}
+use Rattle.heap_check.specs.Image.{bounds_of}
+use Rattle.heap_check.specs.State.{IsWordOf}
+use Rattle.heap_check.proofs.BlockWords.{block_word-header}
+use Rattle.heap_check.proofs.Forms.{AreSlabsInHeap-sound, IsFormed-put_bitmap}
+use Rattle.heap_check.proofs.Geometry.{number_few}
+use Rattle.heap_check.proofs.Sizes.{sizes_of, root_inside}
+use Rattle.heap_check.proofs.Small.{small_entry, block_in}
+use Rattle.attach_steps.specs.declared.block.SmallBlock.{SmallBlock}
+use Rattle.attach_steps.specs.Steps.{entry_for, bit_word, bit_put}
+use Rattle.settle_steps.specs.Settled.{KeepsHeap, LoosensLeft}
+use Rattle.settle_steps.specs.ClassBlocks.{is_named, class_block_events, IsOpenForBlock, IsClassBlockSettled}
+use Rattle.settle_steps.proofs.OneRoot.{changed, IsSettling, IsSteady-settling, heap-settling, loosens_left, loosens_nothing}
+use Rattle.settle_steps.proofs.ClassTables.{IsSettling-bit}
+use Rattle.settle_steps.proofs.Images.{IsNear, entry_is, LiesInWords, slab_lies, few_entries, near_put, near_close, keeps_begin, keeps_near, settle_step}
+
+module _ (words : List ℕ) (line root : ℕ) (block : SmallBlock) (line_below : line < 8) (may : IsOpenForBlock words line root block) where
+  abbrev t : Tables
+  t = tables_of words
+
+  abbrev start : ℕ
+  start = block.start
+
+  abbrev range : Range
+  range = block_in t block.start block.number
+
+  abbrev own : WalEntry
+  own = entry_for root block
+
+  abbrev named : Bool
+  named = is_named words root block.at
+
+  steady : IsSteady (bounds_of words) t
+  steady = may.open_in.image.steady
+
+  sound : IsSound (bounds_of words) t
+  sound = steady.sound
+
+  entry_open : t.open_entry ≡ Some own
+  entry_open = entry_is words line line_below own may.open_in
+
+  opens : t.open_entry ≡ Some (small_entry root range.at)
+  opens = entry_open ∙ ap (λ a. Some (small_entry root a)) may.at
+
+  plain : HasNoMove t.open_entry
+  plain = subst HasNoMove (sym entry_open) tt
+
+  slabs : AreSlabsInHeap words
+  slabs = AreSlabsInHeap-sound words sound
+
+  lies : LiesInWords words block.start
+  lies = slab_lies words may.open_in.image.formed sound block.start may.slab
+
+  -- where things lie
+
+  pub number_low : block.number < 4096
+  number_low = number_few (t.class start) block.number (sound.slabs start may.slab).state.is_class may.below
+
+  rooted : root < (bounds_of words).roots
+  rooted = (sound.open_entry own entry_open).entry.rooted
+
+  pub root_low : root < 2 ^ 16
+  root_low = let sizes = sizes_of words may.open_in.image.formed in omega (arith, sizes.roots, rooted)
+
+  pub root_in_words : root_word root < length words
+  root_in_words = root_inside words root may.open_in.image.formed rooted
+
+  -- what is read of the root is what it holds
+  pub reads_named : (word_at words (root_word root) == block.at) ≡ is_named words root block.at
+  reads_named = ap (λ w. w == block.at) (sym (root_table words root plain rooted))
+
+  -- with the entry open, and closed
+
+  still : IsSettling (bounds_of words) t (put_in t.bit start block.number named) t.live t.open_entry root range
+  still = IsSettling-bit root start block.number steady opens may.slab may.below named t.open_entry (record { is = inl opens })
+
+  shut : IsSettling (bounds_of words) t (put_in t.bit start block.number named) t.live None root range
+  shut = IsSettling-bit root start block.number steady opens may.slab may.below named None (record { is = inr (refl, ap (λ a. t.root root == a) may.at) })
+
+  abbrev settled : Tables
+  settled = changed t (put_in t.bit start block.number named) t.live None
+
+  off : (r : ℕ) (other : Range) (j : ℕ) → heap settled r ≡ Some other → IsWordOf other j → j ≢ bit_word block
+  off r other j is word e = omega (arith, e, block_word-header (IsSteady-settling shut).sound refl r other is j word start may.slab, number_low)
+
+  keeps : (image : List ℕ) → IsNear words line (bit_word block) image → IsSteady (bounds_of words) (tables_of image) → ((r : ℕ) → heap (tables_of image) r ≡ heap t r) → KeepsHeap words image
+  keeps image near image_steady heaps =
+      keeps_near words line line_below own may.open_in (bit_word block) image settled (IsSteady-settling shut).sound refl (heap-settling shut) off near image_steady heaps
+
+  module _ (over : PutsBitOver words block.start block.number (is_named words root block.at)) where
+    abbrev made : List ℕ
+    made = put_word words (bit_word block) (bit_put words block named)
+
+    made_near : IsNear words line (bit_word block) made
+    made_near =
+        let k = bit_word block in
+        let value = bit_put words block named in
+        near_put words line line_below own may.open_in k value
+        (IsFormed-put_bitmap words start block.number value may.open_in.image.formed lies.low number_low (few_entries words sound))
+        (λ other. is_slab-off_header words made start other (IsSameOffHeader-put words start k value lies.low (omega arith) (omega (arith, number_low))))
+        (λ e. omega (arith, e, lies.low, number_low, (sizes_of words may.open_in.image.formed).first))
+        (λ other below e. omega (arith, e, lies.low, (sizes_of words may.open_in.image.formed).first, few_lines, below))
+
+    made_tables : tables_of made ≡ put_bit t start block.number named
+    made_tables = (over.each words refl refl).tables slabs lies.here
+
+    made_keeps : KeepsHeap words made
+    made_keeps = keeps made made_near (subst (IsSteady (bounds_of words)) (sym made_tables) (IsSteady-settling still)) (λ r. ap (λ (x : Tables). heap x r) made_tables ∙ heap-settling still r)
+
+    bit_keeps : (image : List ℕ) → IsOldOrNewWord words (8 * bit_word block) (bit_put words block named) image → KeepsHeap words image
+    bit_keeps image left = ⊎_elim
+        (λ (same : image ≡ words). subst (KeepsHeap words) (sym same) (keeps_begin words line line_below own may.open_in))
+        (λ (put : image ≡ put_word words (8 * bit_word block / 8) (bit_put words block named)).
+        subst (KeepsHeap words) (sym (put ∙ ap (λ i. put_word words i (bit_put words block named)) (omega arith))) made_keeps)
+        left.is
+
+    module _ (new : List ℕ) (closes : Closes made line new) where
+      new_near : IsNear words line (bit_word block) new
+      new_near = near_close words line line_below own may.open_in (bit_word block) made new made_near closes
+
+      new_tables : tables_of new ≡ record (put_bit t start block.number named) { open_entry = None }
+      new_tables =
+          closes.tables made_near.slabs made_near.alone
+          ∙ ap (λ (x : Tables). with_open_entry x None) made_tables
+          ∙ (λ i. record (put_bit t start block.number named) { root = sym (roots_plain words plain) i; open_entry = None })
+
+      new_keeps : KeepsHeap words new
+      new_keeps = keeps new new_near (subst (IsSteady (bounds_of words)) (sym new_tables) (IsSteady-settling shut)) (λ r. ap (λ (x : Tables). heap x r) new_tables ∙ heap-settling shut r)
+
+      pub class_block_settled : IsClassBlockSettled words line root block new
+      class_block_settled = record {
+        settled = record {
+          keeps = new_keeps;
+          rest = new_near.rest;
+          closed = ap (λ (x : Tables). x.open_entry) new_tables;
+          bounds = new_near.bounds;
+          loose = subst (λ (x : Tables). LoosensLeft t x) (sym new_tables) (loosens_left shut);
+        };
+        tables = new_tables;
+        loose = subst (λ (x : Tables). LoosensNothing t x) (sym new_tables) (loosens_nothing shut (λ s place. refl));
+      }
+
+    pub class_block_step : {s u v : PmemState} → IsQuietStep s u (word_events (8 * bit_word block) (bit_put words block (is_named words root block.at))) (IsOldOrNewWord words (8 * bit_word block) (bit_put words block (is_named words root block.at))) →
+        IsQuietStep u v (word_events (8 * wal_word line) 0) (ClosesOrNot (put_word words (bit_word block) (bit_put words block (is_named words root block.at))) line) → IsQuietStep s v (class_block_events words line root block) (KeepsHeap words)
+    class_block_step putting closing =
+        settle_step words line line_below own may.open_in (word_events (8 * bit_word block) (bit_put words block named)) made putting closing bit_keeps made_keeps new_keeps

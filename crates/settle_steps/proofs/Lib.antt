@@ -1,0 +1,11 @@
+pub mod OneRoot
+pub mod ClassTables
+pub mod OldTables
+pub mod MoveTables
+pub mod EntrySlabs
+pub mod Images
+pub mod ClassImages
+pub mod MoveImages
+pub mod OldImages
+pub mod ClassEntries
+pub mod Keeping

@@ -1,0 +1,69 @@
+use Rattle.std.proofs.Common.{◌≡◌, ℕ, ◌*◌, ◌/◌, List, subst, ◌∙◌, arith}
+use Rattle.pmem_lines.specs.Words.{put_word}
+use Rattle.pmem_lines.specs.Pmem.{words_of}
+use Rattle.pmem_lines.specs.Steps.{IsQuietStep}
+use Rattle.durable_steps.specs.Steps.{word_events, IsOldOrNewWord}
+use Rattle.pool_layout.specs.Places.{wal_word}
+use Rattle.image_tables.specs.Tables.{index_word}
+use Rattle.slab_header.specs.declared.index.IndexEntry.{IndexEntry}
+use Rattle.slab_header.specs.Index.{word_of_index}
+use Rattle.slab_header.specs.Steps.{PutsIndexOver}
+use Rattle.attach_wal.specs.Wal.{Closes, ClosesOrNot}
+use Rattle.settle_steps.specs.ClassBlocks.{is_named}
+use Rattle.settle_steps.specs.OldBlocks.{entry_put, live_put}
+use Rattle.settle_steps.proofs.OldImages.{place_low, old_root_low, old_root_inside, reads_named_old, reads_number, old_block_settled, old_block_step}
+use Rattle.settle_steps.proofs.old_block.settle_old_block.Given as given
+use Rattle.settle_steps.proofs.old_block.settle_old_block.Goals as goal
+
+pub names-live-requires-clause-root : goal.names-live-requires-clause-root
+names-live-requires-clause-root g c = old_root_low (words_of (g.P.Pmem.state c.args.p.now)) c.args.line c.args.root c.args.block c.requires.line c.requires.open_entry
+
+pub names-live-requires-clause-inside : goal.names-live-requires-clause-inside
+names-live-requires-clause-inside g c = old_root_inside (words_of (g.P.Pmem.state c.args.p.now)) c.args.line c.args.root c.args.block c.requires.line c.requires.open_entry
+
+pub old_number-number-requires-clause-place : goal.old_number-number-requires-clause-place
+old_number-number-requires-clause-place g c = place_low (words_of (g.P.Pmem.state c.args.p.now)) c.args.line c.args.root c.args.block c.requires.line c.requires.open_entry
+
+pub mark_live-requires-clause-place : goal.mark_live-requires-clause-place
+mark_live-requires-clause-place g c = place_low (words_of (g.P.Pmem.state c.args.p.now)) c.args.line c.args.root c.args.block c.requires.line c.requires.open_entry
+
+-- the entry that is put, by what is read
+abbrev read_entry : (g : given.Over) (c : goal.After-close_entry g) → IndexEntry
+read_entry g c = record { live = c.names-live.result; number = c.old_number-number.result }
+
+entry_is : (g : given.Over) (c : goal.After-close_entry g) → read_entry g c ≡ entry_put (words_of (g.P.Pmem.state c.args.p.now)) c.args.block (is_named (words_of (g.P.Pmem.state c.args.p.now)) c.args.root c.args.block.at)
+entry_is g c =
+    let words = words_of (g.P.Pmem.state c.args.p.now) in
+    let live = c.names-live.ensures ∙ reads_named_old words c.args.line c.args.root c.args.block c.requires.line c.requires.open_entry in
+    let number = c.old_number-number.ensures ∙ reads_number words c.args.line c.args.root c.args.block c.requires.line c.requires.open_entry in
+    λ i. record { live = live i; number = number i }
+
+over : (g : given.Over) (c : goal.After-close_entry g) → PutsIndexOver (words_of (g.P.Pmem.state c.args.p.now)) c.args.block.start c.args.block.place
+    (entry_put (words_of (g.P.Pmem.state c.args.p.now)) c.args.block (is_named (words_of (g.P.Pmem.state c.args.p.now)) c.args.root c.args.block.at))
+over g c = subst (λ (e : IndexEntry). PutsIndexOver (words_of (g.P.Pmem.state c.args.p.now)) c.args.block.start c.args.block.place e) (entry_is g c) c.mark_live.ensures.over
+
+-- the words behind the index word's store
+made : (g : given.Over) (c : goal.After-close_entry g) → words_of (g.P.Pmem.state c.mark_live.new.p)
+    ≡ put_word (words_of (g.P.Pmem.state c.args.p.now)) (index_word c.args.block.start c.args.block.place)
+    (live_put (words_of (g.P.Pmem.state c.args.p.now)) c.args.block (is_named (words_of (g.P.Pmem.state c.args.p.now)) c.args.root c.args.block.at))
+made g c =
+    let words = words_of (g.P.Pmem.state c.args.p.now) in
+    let k = index_word c.args.block.start c.args.block.place in
+    let word : 8 * k / 8 ≡ k = omega arith in
+    c.mark_live.ensures.step.appends.words ∙ (λ i. put_word words (word i) (word_of_index (entry_is g c i)))
+
+pub returns-clause-settled : goal.returns-clause-settled
+returns-clause-settled g c =
+    let state = g.P.Pmem.state in
+    let new = words_of (state c.close_entry.new.device) in
+    old_block_settled (words_of (state c.args.p.now)) c.args.line c.args.root c.args.block c.requires.line c.requires.open_entry (over g c) new
+    (subst (λ (ws : List ℕ). Closes ws c.args.line new) (made g c) c.close_entry.ensures.closes)
+
+pub returns-clause-step : goal.returns-clause-step
+returns-clause-step g c =
+    let state = g.P.Pmem.state in
+    let words = words_of (state c.args.p.now) in
+    let at = 8 * index_word c.args.block.start c.args.block.place in
+    old_block_step words c.args.line c.args.root c.args.block c.requires.line c.requires.open_entry (over g c)
+    (subst (λ (e : IndexEntry). IsQuietStep (state c.args.p.now) (state c.mark_live.new.p) (word_events at (word_of_index e)) (IsOldOrNewWord words at (word_of_index e))) (entry_is g c) c.mark_live.ensures.step)
+    (subst (λ (ws : List ℕ). IsQuietStep (state c.mark_live.new.p) (state c.close_entry.new.device) (word_events (8 * wal_word c.args.line) 0) (ClosesOrNot ws c.args.line)) (made g c) c.close_entry.ensures.step)

@@ -1,0 +1,7 @@
+mod HeldJournals
+mod PassParts
+mod PassTurns
+mod FreshPasses
+mod Closings
+mod NewLocks
+pub mod Crossing

@@ -1,0 +1,17 @@
+use Rattle.std.proofs.Common.{◌≡◌, ◌≤◌, ◌+◌, ◌++◌, length}
+use Rattle.std.specs.Vec.{vec_len, vec_capacity}
+use Rattle.crossbeam_utils.specs.Padded.{padded_value}
+use Rattle.shared_pool.specs.Begun.{AllBegun}
+use Rattle.shared_pool.specs.Held.{opened}
+use Rattle.shared_pool.specs.Rows.{each_of}
+use Rattle.shared_pool.proofs.starting.undo_all.Given as goal
+
+abbrev pub invariant-loop-last : goal.invariant-loop-last
+invariant-loop-last g l =
+    (vec_len l.arenas + vec_len l.begun ≤ vec_capacity l.arenas)
+    × AllBegun l.seats (each_of l.begun.items (λ b. (padded_value b.lock, b.dealt.items)))
+    × (each_of l.begun.items (λ b. (padded_value b.lock).opening) ++ each_of l.arenas.items (λ a. opened a)
+    ≡ each_of l.fn.begun.items (λ b. (padded_value b.lock).opening) ++ each_of l.fn.arenas.items (λ a. opened a))
+
+abbrev pub decreases-loop-last : goal.decreases-loop-last
+decreases-loop-last g l = length l.begun.items

@@ -1,0 +1,56 @@
+-- What a pool leaves when it is closed.
+use Rattle.std.specs.Prelude.{◌≡◌, ℕ, ◌<◌, ◌≤◌, ◌==◌, ◌||◌, Bool, true, false, List, [], ◌∷◌, map, length}
+use mathlib.Core.List.{IsPrefix}
+use Rattle.atomic_table.specs.Seated.{TableId}
+use Rattle.heap_model.specs.declared.call.Entry.{Entry}
+use Rattle.arena_core.specs.Arena.{ArenaState}
+use Rattle.arena_lock.specs.declared.opening.Opening.{Opening}
+use Rattle.arena_lock.specs.Journal.{calls_by, AllBelow}
+use Rattle.arena_lock.specs.Known.{Known}
+use Rattle.shared_pool.specs.Held.{IsHeld}
+use Rattle.shared_pool.specs.Passes.{PassState, part_at, seen_at, mine_at}
+
+-- all passes of a pool
+
+-- each of these passes has a seat at each of these locks
+abbrev pub AllFitLocks : List TableId → List PassState → Type 0
+AllFitLocks tables [] = Unit {0}
+AllFitLocks tables (p ∷ ps) = (tables ≡ map (λ (k : Known). k.lock) p.parts) × AllFitLocks tables ps
+
+abbrev pub is_in : ℕ → List ℕ → Bool
+is_in k [] = false
+is_in k (n ∷ ns) = (n == k) || is_in k ns
+
+-- each number below count is among these
+abbrev pub HasAll : ℕ → List ℕ → Type 0
+HasAll count ns = (k : ℕ) → k < count → is_in k ns ≡ true
+
+-- one arena
+
+-- of each pass the journal begins with what the pass had seen, its entries of the pass's number are the pass's own calls,
+-- and it is as long as the pass knew
+abbrev pub AllAgree : ℕ → List PassState → List Entry → Type 0
+AllAgree a [] journal = Unit {0}
+AllAgree a (p ∷ ps) journal = (IsPrefix (seen_at p a) journal × (calls_by p.number journal ≡ mine_at p a) × ((part_at p a).known ≤ length journal)) × AllAgree a ps journal
+
+-- Arena a of so many passes at the end: its journal leads from the opening to the arena as it is, agrees with each pass, and
+-- has no calls but theirs.
+pub record IsClosed (seats a : ℕ) (passes : List PassState) (opening : Opening) (closed : List Entry × ArenaState) : Type 0 where
+  pub held : IsHeld opening closed.0 closed.1
+  pub below : AllBelow seats closed.0
+  pub agree : AllAgree a passes closed.0
+
+-- the passes without their first arena
+abbrev pub tail_list : List Known → List Known
+tail_list [] = []
+tail_list (x ∷ xs) = xs
+
+abbrev pub behead : PassState → PassState
+behead p = record { number = p.number; parts = tail_list p.parts }
+
+-- every arena of the pool
+abbrev pub AllClosed : ℕ → List PassState → List Opening → List (List Entry × ArenaState) → Type 0
+AllClosed seats passes [] [] = Unit {0}
+AllClosed seats passes [] (c ∷ cs) = ⊥
+AllClosed seats passes (o ∷ os) [] = ⊥
+AllClosed seats passes (o ∷ os) (c ∷ cs) = IsClosed seats 0 passes o c × AllClosed seats (map behead passes) os cs

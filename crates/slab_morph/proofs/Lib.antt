@@ -1,0 +1,17 @@
+pub mod Overlapping
+pub mod Numbers
+pub mod Reading
+pub mod Fitting
+pub mod HeaderTables
+pub mod HeaderWords
+pub mod Holding
+pub mod IndexEvents
+pub mod BitmapEvents
+pub mod StateEvents
+pub mod Storing
+pub mod UnusedBlocks
+pub mod Validity
+pub mod Stages
+pub mod Morphable
+pub mod TableFits
+pub mod TableHolds

@@ -1,0 +1,77 @@
+-- The range of the blocks of one class that overlap a block of another.
+use Rattle.std.proofs.Common.{◌+◌, ◌*◌, ◌/◌, ◌%◌, ◌<◌, ◌≤◌, min, ⊎_elim, inl, inr, ℕ, refl, arith}
+use Rattle.std.proofs.Math.Nat.{mul-le-mul_right, div-mul-le_self}
+use Rattle.std.proofs.lemmas.Bool.{cases_lt}
+use Rattle.std.proofs.lemmas.Nat.{div-add-mod', mod_below}
+use Rattle.std.proofs.lemmas.Grind.{div_ceil_times}
+use Rattle.size_classes.specs.Classes.{class_size, class_capacity}
+use Rattle.size_classes.proofs.Spacing.{class_size-least}
+use Rattle.heap_model.specs.Machine.{AreApart, slab_block}
+use Rattle.slab_morph.specs.Overlaps.{IsOverlapRange}
+
+-- so many sizes, rounded up
+abbrev ceil : ℕ → ℕ → ℕ
+ceil n size = n / size + min 1 (n % size)
+
+-- a block before the one that a byte lies in ends before the byte
+before : (from size i : ℕ) → i < from / size → i * size + size ≤ from
+before from size i less = omega (arith, mul-le-mul_right {m = i + 1} {n = from / size} size (omega arith), div-mul-le_self from size)
+
+-- that one and those behind it end behind the byte
+not_before : (from size i : ℕ) → 0 < size → from / size ≤ i → from < i * size + size
+not_before from size i some more = omega (arith, mul-le-mul_right {m = from / size} {n = i} size more, div-add-mod' from size, mod_below from size some)
+
+-- a block that begins past the bytes before n, and one that does not
+behind : (n size i : ℕ) → 0 < size → ceil n size ≤ i → n ≤ i * size
+behind n size i some more = let up = div_ceil_times n size some in omega (arith, up.0, mul-le-mul_right {m = ceil n size} {n = i} size more)
+
+not_behind : (n size i : ℕ) → 0 < size → i < ceil n size → i * size < n
+not_behind n size i some less = let up = div_ceil_times n size some in omega (arith, up.1, mul-le-mul_right {m = i + 1} {n = ceil n size} size (omega arith))
+
+-- there is a block between
+between : (from width size : ℕ) → 0 < size → 0 < width → from / size < ceil (from + width) size
+between from width size some wide = ⊎_elim
+    (λ (less : from / size < ceil (from + width) size). less)
+    (λ (more : ceil (from + width) size ≤ from / size). absurd (omega (arith, behind (from + width) size (from / size) some more, div-mul-le_self from size)))
+    (cases_lt (from / size) (ceil (from + width) size))
+
+module _ (old number class : ℕ) (is_old : old < 36) (is_class : class < 36) where
+  wide : 0 < class_size old
+  wide = omega (arith, class_size-least old is_old)
+
+  some_size : 0 < class_size class
+  some_size = omega (arith, class_size-least class is_class)
+
+  abbrev from : ℕ
+  from = number * class_size old
+
+  ends_before : (start i : ℕ) → i < from / class_size class → AreApart (slab_block start old number) (slab_block start class i)
+  ends_before start i less = inr (omega (arith, before from (class_size class) i less))
+
+  -- none overlaps
+  pub none_overlaps : class_capacity class ≤ from / class_size class → IsOverlapRange old number class (class_capacity class) (class_capacity class)
+  none_overlaps past = record {
+    high = omega arith;
+    some = inr (refl, refl);
+    inside = λ start i low high apart. omega (arith, low, high);
+    outside = λ start i within either. ends_before start i (omega (arith, within, past));
+  }
+
+  -- some overlap
+  pub some_overlap : from / class_size class < class_capacity class →
+      IsOverlapRange old number class (from / class_size class) (min (ceil (from + class_size old) (class_size class)) (class_capacity class))
+  some_overlap inside =
+      let size = class_size class in
+      let n = from + class_size old in
+      record {
+        high = omega arith;
+        some = inl (omega (arith, inside, between from (class_size old) size some_size wide));
+        inside = λ start i low high apart. ⊎_elim
+            (λ over. omega (arith, over, not_behind n size i some_size (omega (arith, high))))
+            (λ under. omega (arith, under, not_before from size i some_size low))
+            apart;
+        outside = λ start i within either. ⊎_elim
+            (λ less. ends_before start i less)
+            (λ past. inl (omega (arith, behind n size i some_size (omega (arith, within, past)))))
+            either;
+      }

@@ -1,0 +1,11 @@
+use Rattle.std.proofs.Common.{◌≡◌, ◌≤◌, ◌/◌, length}
+use Rattle.pmem_lines.specs.Pmem.{words_of}
+use Rattle.slab_header.specs.Morph.{numbers_below}
+use Rattle.slab_morph.specs.SlabHeaders.{header_at}
+use Rattle.slab_morph.proofs.held.count_bits.Given as goal
+
+abbrev pub invariant-loop-i : goal.invariant-loop-i
+invariant-loop-i g l = record {
+  few : l.count ≤ l.i;
+  count : l.count ≡ length (numbers_below (header_at (words_of (g.P.Pmem.state l.p)) (l.slab / 16384)).bit l.i);
+}

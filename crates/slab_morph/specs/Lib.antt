@@ -1,0 +1,4 @@
+pub mod SlabHeaders
+pub mod Overlaps
+pub mod Fitness
+pub mod Stages

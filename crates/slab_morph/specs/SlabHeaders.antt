@@ -1,0 +1,84 @@
+-- What the header of a slab says, read at a granule whether the log has a slab there or not; and tables with the header of
+-- one slab changed.
+use Rattle.std.specs.Prelude.{◌≡◌, ◌&&◌, nat_lt, ℕ, ◌/◌, ◌%◌, ◌^◌, Bool, true, List, None}
+use Rattle.pmem_lines.specs.Words.{word_at}
+use Rattle.image_tables.specs.Tables.{Tables, where_slab, bit_of_word, state_word, index_word, slab_bit}
+use Rattle.image_tables.specs.Updates.{put_at}
+use Rattle.slab_header.specs.declared.state.SlabState.{SlabState}
+use Rattle.slab_header.specs.State.{kind_of, class_of, old_of, entries_of}
+
+pub record SlabHeader : Type 0 where
+  -- the kind of the state, the class, the class before, and how many index entries are read
+  pub kind : ℕ
+  pub class : ℕ
+  pub old : ℕ
+  pub index_count : ℕ
+  -- the bit of block i
+  pub bit : ℕ → Bool
+  -- the index table, by place: whether the old block lives, and its number
+  pub live : ℕ → Bool
+  pub number : ℕ → ℕ
+
+-- a field of the state word at a granule, of eight bits from this one on
+abbrev pub field_at : List ℕ → ℕ → ℕ → ℕ
+field_at words start bits = word_at words (state_word start) / 2 ^ bits % 2 ^ 8
+
+-- what the header at a granule says
+unfoldable pub header_at : List ℕ → ℕ → SlabHeader
+header_at words start = record {
+  kind = field_at words start 0;
+  class = field_at words start 8;
+  old = field_at words start 16;
+  index_count = field_at words start 24;
+  bit = λ i. nat_lt i 4096 && slab_bit words start i;
+  live = λ place. nat_lt place 64 && bit_of_word (word_at words (index_word start place)) 0;
+  number = λ place. where_slab (nat_lt place 64) (word_at words (index_word start place) / 2 ^ 16 % 2 ^ 16);
+}
+
+-- what tables say of the header of the slab at a granule
+abbrev pub header_of : Tables → ℕ → SlabHeader
+header_of t start = record {
+  kind = t.kind start;
+  class = t.class start;
+  old = t.old start;
+  index_count = t.index_count start;
+  bit = t.bit start;
+  live = t.live start;
+  number = t.number start;
+}
+
+-- tables that say this of it, and of all else what they said
+abbrev pub put_header : Tables → ℕ → SlabHeader → Tables
+put_header t start h = record t {
+  kind = put_at t.kind start h.kind;
+  class = put_at t.class start h.class;
+  old = put_at t.old start h.old;
+  index_count = put_at t.index_count start h.index_count;
+  bit = put_at t.bit start h.bit;
+  live = put_at t.live start h.live;
+  number = put_at t.number start h.number;
+}
+
+-- the tables of slabs that all have this header, and of nothing else
+abbrev pub alone : SlabHeader → Tables
+alone h = record {
+  word = λ root. 0;
+  root = λ root. 0;
+  open_entry = None;
+  large = λ start. 0;
+  slab = λ start. true;
+  kind = λ start. h.kind;
+  class = λ start. h.class;
+  old = λ start. h.old;
+  index_count = λ start. h.index_count;
+  bit = λ start. h.bit;
+  live = λ start. h.live;
+  number = λ start. h.number;
+}
+
+-- the state word of the header says this
+pub record HasState (h : SlabHeader) (state : SlabState) : Type 0 where
+  pub kind : h.kind ≡ kind_of state
+  pub class : h.class ≡ class_of state
+  pub old : h.old ≡ old_of state
+  pub entries : h.index_count ≡ entries_of state

@@ -1,0 +1,81 @@
+// Whether a block of a slab's class may be given out.
+ghost use Rattle.std.specs.Prelude.{◌≡◌, ◌↔◌, IsTrue, ℕ, ◌+◌, ◌*◌, ◌/◌, ◌%◌, ◌<◌, ◌≤◌, true, false, length};
+ghost use Rattle.size_classes.specs.Classes.{class_capacity};
+ghost use Rattle.pmem_lines.specs.Words.{word_at};
+ghost use Rattle.pmem_lines.specs.Pmem.{words_of};
+ghost use Rattle.image_tables.specs.Forms.{IsStateWord};
+ghost use Rattle.image_tables.specs.Tables.{is_slab, state_word, tables_of};
+ghost use Rattle.heap_model.specs.Machine.{AreApart, slab_block};
+ghost use Rattle.heap_check.specs.Heap.{IsUnusedIn};
+ghost use Rattle.heap_check.specs.Sound.{IsValidSlab};
+ghost use Rattle.slab_morph.specs.SlabHeaders.{header_at};
+
+use crate::held::{Fields, fields_of, live_at, number_at, state_at};
+use crate::overlap::overlaps;
+use pmem_lines::Pmem;
+use slab_header::bit_at;
+
+/// Whether block `number` of its class in the slab that begins at this byte, a multiple of 16384, is unused: it shares no
+/// byte with a block that the slab holds, of its class or old. `number` is below the capacity of the class, and the slab is
+/// one of an arena, with a valid header.
+pub fn is_unused<P: Pmem>(p: &P, slab: u32, number: u32) -> bool
+    requires aligned { slab % 16384 ≡ 0 }
+    requires inside { slab + 2048 ≤ 8 * length (words_of (P.state p.now)) }
+    requires word { IsStateWord (word_at (words_of (P.state p.now)) (state_word (slab / 16384))) }
+    requires there { is_slab (words_of (P.state p.now)) (slab / 16384) ≡ true }
+    requires valid { IsValidSlab (tables_of (words_of (P.state p.now))) (slab / 16384) }
+    requires number { number < class_capacity ((tables_of (words_of (P.state p.now))).class (slab / 16384)) }
+    ensures { let t = tables_of (words_of (P.state p.now)) in IsTrue result ↔ IsUnusedIn t (slab / 16384) (t.class (slab / 16384)) number }
+{
+    let state = fields_of(state_at(p, slab));
+    !is_marked(p, slab, state, number) && !is_covered(p, slab, state, number)
+}
+
+// Whether the bit of a block is read, and set.
+fn is_marked<P: Pmem>(p: &P, slab: u32, state: Fields, number: u32) -> bool
+    requires aligned { slab % 16384 ≡ 0 }
+    requires inside { slab + 2048 ≤ 8 * length (words_of (P.state p.now)) }
+    requires number { number < 4096 }
+    ensures { IsTrue result ↔ (IsTrue state.reads_bits × ((header_at (words_of (P.state p.now)) (slab / 16384)).bit number ≡ true)) }
+{
+    state.reads_bits && bit_at(p, slab, number)
+}
+
+// Whether a live old block overlaps block `number` of the slab's class.
+fn is_covered<P: Pmem>(p: &P, slab: u32, state: Fields, number: u32) -> bool
+    requires aligned { slab % 16384 ≡ 0 }
+    requires inside { slab + 2048 ≤ 8 * length (words_of (P.state p.now)) }
+    requires class { state.class < 36 }
+    requires old { state.old < 36 }
+    requires few { state.entries ≤ 64 }
+    requires number { number < class_capacity state.class }
+    requires numbers { (place : ℕ) → place < state.entries → (header_at (words_of (P.state p.now)) (slab / 16384)).number place < class_capacity state.old }
+    ensures some { let h = header_at (words_of (P.state p.now)) (slab / 16384) in result ≡ true → (place : ℕ) × (place < state.entries) × (h.live place ≡ true) × ¬ (AreApart (slab_block (slab / 16384) state.old (h.number place)) (slab_block (slab / 16384) state.class number)) }
+    ensures none { let h = header_at (words_of (P.state p.now)) (slab / 16384) in result ≡ false → (place : ℕ) → place < state.entries → h.live place ≡ true → AreApart (slab_block (slab / 16384) state.old (h.number place)) (slab_block (slab / 16384) state.class number) }
+{
+    for place in 0..state.entries {
+        if covers(p, slab, state, place, number) {
+            return true;
+        }
+    }
+    false
+}
+
+// Whether the old block at a place of the index table lives and overlaps block `number` of the slab's class.
+fn covers<P: Pmem>(p: &P, slab: u32, state: Fields, place: u32, number: u32) -> bool
+    requires aligned { slab % 16384 ≡ 0 }
+    requires inside { slab + 2048 ≤ 8 * length (words_of (P.state p.now)) }
+    requires class { state.class < 36 }
+    requires old { state.old < 36 }
+    requires place { place < 64 }
+    requires number { number < class_capacity state.class }
+    requires small { (header_at (words_of (P.state p.now)) (slab / 16384)).number place < class_capacity state.old }
+    ensures some { let h = header_at (words_of (P.state p.now)) (slab / 16384) in result ≡ true → (h.live place ≡ true) × ¬ (AreApart (slab_block (slab / 16384) state.old (h.number place)) (slab_block (slab / 16384) state.class number)) }
+    ensures none { let h = header_at (words_of (P.state p.now)) (slab / 16384) in result ≡ false → h.live place ≡ true → AreApart (slab_block (slab / 16384) state.old (h.number place)) (slab_block (slab / 16384) state.class number) }
+{
+    if !live_at(p, slab, place) {
+        return false;
+    }
+    let (from, end) = overlaps(state.old, number_at(p, slab, place), state.class);
+    from <= number && number < end
+}

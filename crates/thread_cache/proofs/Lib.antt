@@ -1,0 +1,4 @@
+pub mod Distinct
+pub mod Lists
+pub mod Purges
+pub mod Tables

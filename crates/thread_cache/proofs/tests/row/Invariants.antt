@@ -1,0 +1,11 @@
+use Rattle.std.proofs.Common.{ℕ, ◌+◌, ◌*◌, ◌<◌, ◌≤◌, length}
+use Rattle.heap_model.specs.Placement.{Has}
+use Rattle.thread_cache.specs.Stacks.{AreRising}
+use Rattle.thread_cache.proofs.tests.row.Given as goal
+
+abbrev pub invariant-loop-i : goal.invariant-loop-i
+invariant-loop-i l = record {
+  rising : AreRising l.addresses.items;
+  below : (at : ℕ) → Has l.addresses.items at → at < l.first + l.step * l.i;
+  few : length l.addresses.items ≤ l.i;
+}

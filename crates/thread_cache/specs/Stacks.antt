@@ -1,0 +1,55 @@
+-- The stacks of reserved blocks that caches mean: those of the placement, a list of addresses for each seat and class, the
+-- top one first.
+use Rattle.std.specs.Prelude.{◌≡◌, ℕ, ◌+◌, ◌*◌, ◌<◌, ◌≤◌, ◌&&◌, nat_lt, List, [], ◌∷◌, length, slice_index_or, if◌then◌else◌}
+use Rattle.heap_model.specs.Placement.{Stacks, Has, HasTop, HasStacked, IsPop, IsInNoStack, AllDiffer}
+
+-- the stacks, one after another: 64 of seats for each class
+pub record StackTable : Type 0 where
+  pub lists : List (List ℕ)
+
+-- the stack of each seat and class; those of seats from 64 and classes from 36 on stay empty
+unfoldable pub stacks_of : StackTable → Stacks
+stacks_of table seat class = if nat_lt seat 64 && nat_lt class 36 then slice_index_or table.lists (64 * class + seat) [] else []
+
+-- only seats below 64 and classes below 36 have stacks, of at most eight addresses each, and no address stands in two places
+pub record AreDistinct (stacks : Stacks) : Type 0 where
+  pub seated : (seat class : ℕ) → 64 ≤ seat → stacks seat class ≡ []
+  pub classed : (seat class : ℕ) → 36 ≤ class → stacks seat class ≡ []
+  pub short : (seat class : ℕ) → length (stacks seat class) ≤ 8
+  pub differ : (seat class : ℕ) → AllDiffer (stacks seat class)
+  pub apart : (seat class other c at : ℕ) → Has (stacks seat class) at → Has (stacks other c) at → (seat ≡ other) × (class ≡ c)
+
+-- each address is below those behind it
+abbrev pub AreRising : List ℕ → Type 0
+AreRising [] = Unit {0}
+AreRising (at ∷ rest) = ((other : ℕ) → Has rest other → at < other) × AreRising rest
+
+-- none of the addresses is in a stack
+pub record AreLoose (stacks : Stacks) (addresses : List ℕ) : Type 0 where
+  pub each : (at : ℕ) → Has addresses at → IsInNoStack stacks at
+
+-- the address is in a stack
+pub record IsHeld (stacks : Stacks) (at : ℕ) : Type 0 where
+  pub seat : ℕ
+  pub class : ℕ
+  pub has : Has (stacks seat class) at
+
+-- the stack had no block, and nothing changed
+pub record WasEmpty (old : StackTable) (seat class : ℕ) (new : StackTable) : Type 0 where
+  pub empty : stacks_of old seat class ≡ []
+  pub same : new ≡ old
+
+-- the stack gave its top, and only that stack changed
+pub record GaveTop (old : Stacks) (seat class at : ℕ) (new : Stacks) : Type 0 where
+  pub top : HasTop old seat class
+  pub pop : IsPop top at new
+
+-- all stacks of the class had no block, and nothing changed
+pub record WereEmpty (old : StackTable) (class : ℕ) (new : StackTable) : Type 0 where
+  pub empty : (seat : ℕ) → stacks_of old seat class ≡ []
+  pub same : new ≡ old
+
+-- the lowest-numbered seat whose stack of the class had a top gave it, and only that stack changed
+pub record GaveFirst (old : Stacks) (class at : ℕ) (new : Stacks) : Type 0 where
+  pub stacked : HasStacked old class
+  pub pop : IsPop stacked.first.top at new

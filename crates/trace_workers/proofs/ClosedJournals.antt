@@ -1,0 +1,137 @@
+-- The journals at the end answer the trace.
+use Rattle.std.proofs.Common.{◌≡◌, ◌≢◌, ◌⊎◌, inl, inr, ℕ, zero, suc, ◌+◌, ◌<◌, ◌≤◌, ◌==◌, ◌||◌, ◌&&◌, Bool, true, false, if◌then◌else◌, List, [], ◌∷◌, ◌++◌, map, length, refl, ap, sym, ◌∙◌, subst, arith, eq-eqb, eqb-true, ne_eqb, take}
+use Rattle.std.proofs.lemmas.Bool.{false≢true}
+use Rattle.heap_model.specs.declared.call.Entry.{Entry}
+use Rattle.arena_lock.specs.declared.opening.Opening.{Opening}
+use Rattle.arena_lock.specs.Known.{Lock, Known}
+use Rattle.arena_lock.specs.Journal.{calls_by, AllBelow}
+use Rattle.shared_pool.specs.Closed.{behead, is_in, HasAll, AllFitLocks, AllAgree, AllClosed}
+use Rattle.shared_pool.specs.Passes.{PassState, PoolState, mine_at, fresh_pass, fresh_passes}
+use Rattle.trace_workers.specs.Answers.{asked, calls_in, AllAnswer}
+use Rattle.trace_workers.specs.Workers.{HasTurns, AllBy, AllReady, AllOf, AllDone}
+use Rattle.arena_core.specs.Arena.{ArenaState}
+use Rattle.trace_text.specs.declared.call.TraceCall.{TraceCall}
+
+below_or : (t n : ℕ) → (t < n) ⊎ (n ≤ t)
+below_or t zero = inr (omega arith)
+below_or zero (suc n) = inl (omega arith)
+below_or (suc t) (suc n) = up (below_or t n)
+  where
+    up : (t < n) ⊎ (n ≤ t) → (suc t < suc n) ⊎ (suc n ≤ suc t)
+    up (inl l) = inl (omega arith)
+    up (inr l) = inr (omega arith)
+
+-- what is asked by no thread of the trace
+none_asked : (seats t a : ℕ) (calls : List TraceCall) → seats ≤ t → AllBy seats calls → asked t a calls ≡ []
+none_asked seats t a [] l h = refl
+none_asked seats t a (c ∷ cs) l h =
+    let other : c.thread ≢ t = λ e. absurd (omega (arith, h.0, e)) in
+    ap (λ (b : Bool). if b && (c.arena == a) then c.call ∷ asked t a cs else asked t a cs) (ne_eqb c.thread t other) ∙ none_asked seats t a cs l h.1
+
+none_called : (seats t : ℕ) (journal : List Entry) → seats ≤ t → AllBelow seats journal → calls_by t journal ≡ []
+none_called seats t [] l h = refl
+none_called seats t (e ∷ es) l h =
+    let other : e.seat ≢ t = λ q. absurd (omega (arith, h.0, q)) in
+    ap (λ (b : Bool). if b then e ∷ calls_by t es else calls_by t es) (ne_eqb e.seat t other) ∙ none_called seats t es l h.1
+
+-- the passes have done what is asked of the arenas from a on, which their parts are of
+abbrev DoneFrom : ℕ → List TraceCall → List PassState → Type 0
+DoneFrom a calls [] = Unit {0}
+DoneFrom a calls (p ∷ ps) = ((b : ℕ) → calls_in (mine_at p b) ≡ asked p.number (a + b) calls) × DoneFrom a calls ps
+
+from_zero : (calls : List TraceCall) (ps : List PassState) → AllDone calls ps → DoneFrom 0 calls ps
+from_zero calls [] d = tt
+from_zero calls (p ∷ ps) d = ((λ b. d.0 b ∙ ap (λ k. asked p.number k calls) (let e : b ≡ 0 + b = omega arith in e)), from_zero calls ps d.1)
+
+mine_next : (n : ℕ) (parts : List Known) (b : ℕ) → mine_at (behead (record { number = n; parts = parts })) b ≡ mine_at (record { number = n; parts = parts }) (suc b)
+mine_next n [] b = refl
+mine_next n (x ∷ xs) b = refl
+
+from_next : (a : ℕ) (calls : List TraceCall) (ps : List PassState) → DoneFrom a calls ps → DoneFrom (suc a) calls (map behead ps)
+from_next a calls [] d = tt
+from_next a calls (p ∷ ps) d = ((λ b. ap calls_in (mine_next p.number p.parts b) ∙ (d.0 (suc b) ∙ ap (λ k. asked p.number k calls) (let e : a + suc b ≡ suc a + b = omega arith in e))), from_next a calls ps d.1)
+
+found_one : (t a : ℕ) (calls : List TraceCall) (journal : List Entry) (p : PassState) (more : Bool) (b : Bool) → (p.number == t) ≡ b → b || more ≡ true → ((c : ℕ) → calls_in (mine_at p c) ≡ asked p.number (a + c) calls) → calls_by p.number journal ≡ mine_at p 0
+    → (more ≡ true → calls_in (calls_by t journal) ≡ asked t a calls) → calls_in (calls_by t journal) ≡ asked t a calls
+found_one t a calls journal p more true is h d g f =
+    let here : p.number ≡ t = eqb-true p.number t is in
+    subst (λ n. calls_in (calls_by n journal) ≡ asked n a calls) here (ap calls_in g ∙ (d 0 ∙ ap (λ k. asked p.number k calls) (let z : a + 0 ≡ a = omega arith in z)))
+found_one t a calls journal p more false is h d g f = f h
+
+-- a thread that has a pass
+found : (t a : ℕ) (calls : List TraceCall) (journal : List Entry) (ps : List PassState) → is_in t (map (λ p. p.number) ps) ≡ true → DoneFrom a calls ps → AllAgree 0 ps journal → calls_in (calls_by t journal) ≡ asked t a calls
+found t a calls journal [] e d g = absurd (false≢true e)
+found t a calls journal (p ∷ ps) e d g = found_one t a calls journal p (is_in t (map (λ p. p.number) ps)) (p.number == t) refl e d.0 g.0.1 (λ h. found t a calls journal ps h d.1 g.1)
+
+threads_of : (seats t a : ℕ) (calls : List TraceCall) (ps : List PassState) (journal : List Entry) → (t < seats) ⊎ (seats ≤ t) → HasAll seats (map (λ p. p.number) ps) → AllBy seats calls → DoneFrom a calls ps → AllAgree 0 ps journal → AllBelow seats journal → calls_in (calls_by t journal) ≡ asked t a calls
+threads_of seats t a calls ps journal (inl l) all by d g below = found t a calls journal ps (all t l) d g
+threads_of seats t a calls ps journal (inr l) all by d g below = ap calls_in (none_called seats t journal l below) ∙ sym (none_asked seats t a calls l by)
+
+numbers_behead : (ps : List PassState) → map (λ p. p.number) (map behead ps) ≡ map (λ p. p.number) ps
+numbers_behead [] = refl
+numbers_behead (p ∷ ps) = ap (λ ns. p.number ∷ ns) (numbers_behead ps)
+
+answers_from : (calls : List TraceCall) (seats a : ℕ) (ps : List PassState) (os : List Opening) (cs : List (List Entry × ArenaState)) → HasAll seats (map (λ p. p.number) ps) → AllBy seats calls → DoneFrom a calls ps → AllClosed seats ps os cs → AllAnswer calls a os cs
+answers_from calls seats a ps [] [] all by d h = tt
+answers_from calls seats a ps [] (c ∷ cs) all by d h = h
+answers_from calls seats a ps (o ∷ os) [] all by d h = h
+answers_from calls seats a ps (o ∷ os) (c ∷ cs) all by d h = (
+  record {
+    held = h.0.held;
+    threads = λ t. threads_of seats t a calls ps c.0 (below_or t seats) all by d h.0.agree h.0.below;
+  },
+  answers_from calls seats (suc a) (map behead ps) os cs (subst (λ ns. HasAll seats ns) (sym (numbers_behead ps)) all) by (from_next a calls ps d) h.1,
+)
+
+pub answers : (calls : List TraceCall) (seats : ℕ) (ps : List PassState) (os : List Opening) (cs : List (List Entry × ArenaState)) → HasAll seats (map (λ p. p.number) ps) → AllBy seats calls → AllDone calls ps → AllClosed seats ps os cs → AllAnswer calls 0 os cs
+answers calls seats ps os cs all by d h = answers_from calls seats 0 ps os cs all by (from_zero calls ps d) h
+
+-- the passes of a start
+
+fresh_fits : (n : ℕ) (locks : List Lock) → map (λ (l : Lock). l.id) locks ≡ map (λ (z : Known). z.lock) (fresh_pass locks n).parts
+fresh_fits n [] = refl
+fresh_fits n (l ∷ ls) = ap (λ ts. l.id ∷ ts) (fresh_fits n ls)
+
+fresh_mine : (n : ℕ) (locks : List Lock) (a : ℕ) → mine_at (fresh_pass locks n) a ≡ []
+fresh_mine n [] a = refl
+fresh_mine n (l ∷ ls) zero = refl
+fresh_mine n (l ∷ ls) (suc a) = fresh_mine n ls a
+
+fresh_turns : (n : ℕ) (locks : List Lock) → HasTurns 0 (fresh_pass locks n)
+fresh_turns n [] a l = absurd (omega arith)
+fresh_turns n (x ∷ xs) zero l = omega arith
+fresh_turns n (x ∷ xs) (suc a) l = fresh_turns n xs a (omega arith)
+
+pub ready_fresh : (pool : PoolState) (n count : ℕ) → AllReady pool (fresh_passes pool.locks n count)
+ready_fresh pool n zero = tt
+ready_fresh pool n (suc count) = ((fresh_fits n pool.locks, record { none = fresh_mine n pool.locks; turns = fresh_turns n pool.locks }), ready_fresh pool (suc n) count)
+
+or_right : (b c : Bool) → c ≡ true → b || c ≡ true
+or_right true c e = refl
+or_right false c e = e
+
+has_one : (n k : ℕ) (more : Bool) → (n < k) ⊎ (k ≤ n) → n ≤ k → (n < k → more ≡ true) → (n == k) || more ≡ true
+has_one n k more (inl l) low f = or_right (n == k) more (f l)
+has_one n k more (inr l) low f = ap (λ b. b || more) (eq-eqb n k (omega arith))
+
+has_from : (locks : List Lock) (n count k : ℕ) → n ≤ k → k < n + count → is_in k (map (λ p. p.number) (fresh_passes locks n count)) ≡ true
+has_from locks n zero k low high = absurd (omega arith)
+has_from locks n (suc count) k low high = has_one n k (is_in k (map (λ p. p.number) (fresh_passes locks (suc n) count))) (below_or n k) low (λ l. has_from locks (suc n) count k (omega arith) (omega arith))
+
+pub has_fresh : (locks : List Lock) (count : ℕ) → HasAll count (map (λ p. p.number) (fresh_passes locks 0 count))
+has_fresh locks count k l = has_from locks 0 count k (omega arith) (omega arith)
+
+pub length_fresh : (locks : List Lock) (n count : ℕ) → length (fresh_passes locks n count) ≡ count
+length_fresh locks n zero = refl
+length_fresh locks n (suc count) = ap suc (length_fresh locks (suc n) count)
+
+pub fits_of : (pool : PoolState) (ps : List PassState) → AllOf pool ps → AllFitLocks (map (λ (l : Lock). l.id) pool.locks) ps
+fits_of pool [] h = tt
+fits_of pool (p ∷ ps) h = (h.0, fits_of pool ps h.1)
+
+take_all : {A : Type 0} (xs zs : List A) → take (length xs) (xs ++ zs) ≡ xs
+take_all [] zs = refl
+take_all (x ∷ xs) zs = ap (λ l. x ∷ l) (take_all xs zs)
+
+pub take_front : {A : Type 0} (xs zs : List A) (n : ℕ) → n ≡ length xs → take n (xs ++ zs) ≡ xs
+take_front xs zs n e = ap (λ k. take k (xs ++ zs)) e ∙ take_all xs zs

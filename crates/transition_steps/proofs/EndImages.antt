@@ -1,0 +1,133 @@
+-- The transition of a slab without a live old block comes to its end: the images.
+use Rattle.std.proofs.Common.{◌≡◌, ℕ, true, List, sym, ap, subst, ◌∙◌, arith, ⊎_elim}
+use Rattle.image_tables.specs.Forms.{normal_kind}
+use Rattle.image_tables.specs.Tables.{Tables, is_slab, AreSlabsInHeap, tables_of}
+use Rattle.image_tables.specs.Updates.{put_at}
+use Rattle.image_tables.proofs.Updates.{put_at-own}
+use Rattle.heap_check.specs.Heap.{heap}
+use Rattle.heap_check.specs.Sound.{IsSound, IsSteady, IsNearlyDone, LoosensNothing}
+use Rattle.heap_check.specs.Image.{bounds_of, IsFormed, IsSteadyImage}
+use Rattle.heap_model.specs.Machine.{Bounds}
+use Rattle.slab_morph.specs.SlabHeaders.{SlabHeader, header_at, header_of, put_header}
+use Rattle.slab_morph.specs.Stages.{settled, IsSettleStage, AllHoldSame, KeepsHeld, IsValidHeader, IsDone}
+use Rattle.transition_steps.specs.Transitions.{IsEndable, LeavesHeap, IsEnded}
+use Rattle.transition_steps.proofs.Ending.{ended, IsSound-ending, IsSteady-ending, heap-ending, loosens-ending, nearly-ending}
+use Rattle.transition_steps.proofs.HeaderImages.{lies_here, slabs_here, is_valid_here, header_here, formed_after, bounds_after, blocks_after}
+
+-- only kind, old class and number of index entries change
+put_settled : (t : Tables) (start : ℕ) → put_header t start (settled (header_of t start)) ≡ ended t start
+put_settled t start i = record t {
+  kind = put_at t.kind start normal_kind;
+  class = put_at-own t.class start i;
+  old = put_at t.old start 0;
+  entries = put_at t.index_count start 0;
+  bit = put_at-own t.bit start i;
+  live = put_at-own t.live start i;
+  number = put_at-own t.number start i;
+}
+
+-- nothing was put
+put_own : (t : Tables) (start : ℕ) → put_header t start (header_of t start) ≡ t
+put_own t start i = record t {
+  kind = put_at-own t.kind start i;
+  class = put_at-own t.class start i;
+  old = put_at-own t.old start i;
+  entries = put_at-own t.index_count start i;
+  bit = put_at-own t.bit start i;
+  live = put_at-own t.live start i;
+  number = put_at-own t.number start i;
+}
+
+module _ (words : List ℕ) (start : ℕ) (may : IsEndable words start) where
+  abbrev t : Tables
+  t = tables_of words
+
+  sound : IsSound (bounds_of words) t
+  sound = may.image.sound
+
+  header_is : header_of t start ≡ header_at words start
+  header_is = header_here words start may.image.formed sound may.here.slab
+
+  slabs : AreSlabsInHeap words
+  slabs = slabs_here words start may.image.formed sound may.here.slab
+
+  is_here : is_slab words start ≡ true
+  is_here = (lies_here words start may.image.formed sound may.here.slab).here
+
+  pub done_there : IsDone words start
+  done_there = record {
+    valid = (is_valid_here words start may.image.formed sound may.here.slab).state;
+    kind = sym (ap (λ (h : SlabHeader). h.kind) header_is) ∙ may.here.kind;
+    none = λ place below. sym (ap (λ (h : SlabHeader). h.live place) header_is) ∙ may.here.none place (omega (arith, below, ap (λ (h : SlabHeader). h.index_count) header_is));
+  }
+
+  module _ (image : List ℕ) (kept : KeepsHeld words start (IsSettleStage (header_at words start)) image) where
+    abbrev g : SlabHeader
+    g = header_at image start
+
+    valid : IsValidHeader image start
+    valid = kept.valid (is_valid_here words start may.image.formed sound may.here.slab)
+
+    formed : IsFormed image
+    formed = formed_after words start may.image.formed sound may.here.slab image kept.left.off valid
+
+    bounds : bounds_of image ≡ bounds_of words
+    bounds = bounds_after words start may.image.formed sound may.here.slab image kept.left.off valid
+
+    -- with the header as it was
+    module _ (same : g ≡ header_at words start) where
+      tables_same : tables_of image ≡ t
+      tables_same = kept.left.tables slabs is_here ∙ ap (put_header t start) (same ∙ sym header_is) ∙ put_own t start
+
+      same_keeps : LeavesHeap words image
+      same_keeps steady = record {
+        steady = record { formed = formed; steady = subst (λ (b : Bounds). IsSteady b (tables_of image)) (sym bounds) (subst (IsSteady (bounds_of words)) (sym tables_same) steady.steady) };
+        heap = record { each = λ root. ap (λ (x : Tables). heap x root) tables_same };
+        blocks = blocks_after words start may.image.formed sound may.here.slab image kept.left.off valid;
+      }
+
+    -- with the slab normal
+    module _ (done : g ≡ settled (header_at words start)) where
+      tables_put : tables_of image ≡ put_header t start (settled (header_of t start))
+      tables_put = kept.left.tables slabs is_here ∙ ap (put_header t start) (done ∙ ap settled (sym header_is))
+
+      tables_are : tables_of image ≡ ended t start
+      tables_are = tables_put ∙ put_settled t start
+
+      held : AllHoldSame t (ended t start)
+      held = subst (AllHoldSame t) tables_are (kept.all_held slabs is_here)
+
+      sound_after : IsSound (bounds_of image) (tables_of image)
+      sound_after = subst (λ (b : Bounds). IsSound b (tables_of image)) (sym bounds) (subst (IsSound (bounds_of words)) (sym tables_are) (IsSound-ending start sound may.here may.elsewhere held))
+
+      steady_after : IsSteadyImage words → IsSteadyImage image
+      steady_after steady = record {
+        formed = formed;
+        steady = subst (λ (b : Bounds). IsSteady b (tables_of image)) (sym bounds) (subst (IsSteady (bounds_of words)) (sym tables_are) (IsSteady-ending start sound may.here may.elsewhere held steady.steady));
+      }
+
+      heap_same : (root : ℕ) → heap (tables_of image) root ≡ heap t root
+      heap_same root = ap (λ (x : Tables). heap x root) tables_are ∙ heap-ending start sound may.here may.elsewhere held root
+
+      done_keeps : LeavesHeap words image
+      done_keeps steady = record {
+        steady = steady_after steady;
+        heap = record { each = heap_same };
+        blocks = blocks_after words start may.image.formed sound may.here.slab image kept.left.off valid;
+      }
+
+      pub end_done : IsEnded words start image
+      end_done = record {
+        image = record { formed = formed; sound = sound_after };
+        steady = steady_after;
+        heap = record { each = heap_same };
+        blocks = blocks_after words start may.image.formed sound may.here.slab image kept.left.off valid;
+        off = kept.left.off;
+        bounds = bounds;
+        tables = tables_put;
+        loose = subst (λ (x : Tables). LoosensNothing t x) (sym tables_are) (loosens-ending start sound may.here may.elsewhere held);
+        nearly = λ other near. nearly-ending start sound may.here may.elsewhere held other (subst (λ (x : Tables). IsNearlyDone x other) tables_are near);
+      }
+
+    pub end_keeps : LeavesHeap words image
+    end_keeps = ⊎_elim same_keeps done_keeps kept.left.header
