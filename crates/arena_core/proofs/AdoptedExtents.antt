@@ -18,13 +18,17 @@ use Rattle.heap_model.specs.Machine.{Bounds, with_key}
 use Rattle.heap_model.specs.Runs.{IsFreeRow}
 use Rattle.extent_index.specs.FreeSet.{FreeSet, IsFree}
 use Rattle.slab_index.specs.SlabSet.{SlabSet, class_in, is_available}
-use Rattle.heap_check.specs.Heap.{slabs}
+use Rattle.heap_check.specs.Heap.{slabs, IsUnusedIn}
 use Rattle.heap_check.specs.Sound.{granules_at, Covers}
 use Rattle.heap_check.specs.Image.{bounds_of, IsExactImage}
 use Rattle.heap_check.proofs.Geometry.{granules_at-slab, granules_at-large}
 use Rattle.heap_check.proofs.Sizes.{sizes_of}
 use Rattle.arena_core.specs.Arena.{IsIndexOf, IsSlabsOf}
 use Rattle.arena_core.specs.Adopting.{IsVacantBelow, slabs_below, IsReadBelow, IsWithSlabOf, IsNextRead}
+use Rattle.image_tables.specs.Forms.{normal_kind}
+use Rattle.arena_core.proofs.UnusedBlocks.{unused_normal, iff_same}
+use Rattle.arena_core.proofs.Tests.{not_true}
+use Rattle.heap_check.proofs.SmallPlaces.{clear_unused}
 
 -- what the tables say of a granule by its extent
 
@@ -182,9 +186,8 @@ IsReadBelow-slab words set new parts more start is granules taken with_slab read
           (cases_eq other start);
       blocks = λ other i less is_slab few. ⊎_elim
           (λ (here : other ≡ start).
-          let mine : i < class_capacity (t.class start) = subst (λ s. i < class_capacity (t.class s)) here few in
-          ap (λ s. is_available more s i) here ∙ with_slab.blocks i mine ∙ ap (λ s. not (t.bit s i)) (sym here))
-          (λ (apart : other ≢ start). with_slab.others other i apart ∙ read.blocks other i (omega (arith, less, apart)) is_slab few)
+          subst (λ s. i < class_capacity (t.class s) → (is_available more s i ≡ true) ↔ IsUnusedIn t s (t.class s) i) (sym here) (with_slab.blocks i) few)
+          (λ (apart : other ≢ start). iff_same (with_slab.others other i apart) (read.blocks other i (omega (arith, less, apart)) is_slab few))
           (cases_eq other start);
     }
 
@@ -327,14 +330,23 @@ IsReading-set words old new next start class n set granules classes blocks read 
     }
 
 -- all of them are read
-pub IsReading-all : (words : List ℕ) (old new : SlabSet) (start class n : ℕ) → class ≡ (tables_of words).class start → class_capacity class ≤ n → IsReading words old new start class n → IsWithSlabOf words old new start
-IsReading-all words old new start class n is all read = record {
-  granules = read.granules;
-  here = read.here ∙ ap (λ c. Some c) is;
-  blocks = λ i few. let below_n : i < class_capacity class = subst (λ c. i < class_capacity c) (sym is) few in read.done i (omega (arith, below_n, all));
-  classes = read.classes;
-  others = read.others;
-}
+pub IsReading-all : (words : List ℕ) (old new : SlabSet) (start class n : ℕ) → class ≡ (tables_of words).class start → class_capacity class ≤ n → IsExactImage words → (tables_of words).slab start ≡ true → (tables_of words).kind start ≡ normal_kind →
+    IsReading words old new start class n → IsWithSlabOf words old new start
+IsReading-all words old new start class n is all image slab normal read =
+    let t = tables_of words in
+    let sound = image.exact.sound in
+    record {
+      granules = read.granules;
+      here = read.here ∙ ap (λ c. Some c) is;
+      blocks = λ i few.
+          let among : i < class_capacity class = subst (λ c. i < class_capacity c) (sym is) few in
+          let says = read.done i (omega (arith, among, all)) in (
+            λ available. unused_normal sound start i slab normal few (not_true (t.bit start i) (sym says ∙ available)),
+            λ unused. says ∙ ap not (clear_unused sound image.exact.closed start i slab few (λ morphing. omega (arith, morphing, normal)) unused),
+          );
+      classes = read.classes;
+      others = read.others;
+    }
 
 -- the class that was read is the slab's
 pub class_read : (words : List ℕ) (at start class : ℕ) → at ≡ 16384 * start → (tables_of words).slab start ≡ true → (is_slab words (at / 16384) ≡ true → class ≡ (tables_of words).class (at / 16384)) → class ≡ (tables_of words).class start

@@ -1,5 +1,5 @@
 -- What an arena keeps holds again once a block was given or taken.
-use Rattle.std.proofs.Common.{◌≡◌, ◌↔◌, ◌⊎◌, ℕ, ◌+◌, ◌<◌, ◌≤◌, List, Bool, not, cond, Some, None, refl, sym, ap, subst, ◌∙◌, inl, inr, ⊎_elim}
+use Rattle.std.proofs.Common.{◌≡◌, ◌↔◌, ◌⊎◌, ℕ, ◌+◌, ◌<◌, ◌≤◌, List, cond, Some, None, refl, sym, ap, subst, ◌∙◌, inl, inr, ⊎_elim}
 use Rattle.pmem_lines.specs.Words.{put_word}
 use Rattle.pool_layout.specs.Layout.{layout_of}
 use Rattle.pool_layout.specs.Places.{root_word}
@@ -21,6 +21,9 @@ use Rattle.slab_index.specs.SlabSet.{SlabSet}
 use Rattle.arena_core.specs.Arena.{HasNormalSlabs, IsIndexOf, IsSlabsOf}
 use Rattle.arena_core.specs.Effect.{KeepsSlabs}
 use Rattle.arena_core.proofs.LargeStages.{IsStageOf}
+use Rattle.arena_core.proofs.UnusedBlocks.{iff_then}
+use Rattle.heap_check.specs.Heap.{IsUnusedIn}
+use Rattle.heap_check.proofs.SameSlabs.{IsUnusedIn-same}
 
 -- a log reads the same where a root's word is stored
 pub book_root : (book : Book) (words : List ℕ) (root value : ℕ) → root < (layout_of (version_in words)).roots → IsBookOf book words → IsBookOf book (put_word words (root_word root) value)
@@ -32,29 +35,34 @@ book_root book words root value below log = record {
 -- at each stage the slabs are as before
 pub slabs_stage : {words : List ℕ} {root start here word : ℕ} {image : List ℕ} → IsStageOf words root start here word image → KeepsSlabs words image
 slabs_stage {words} {root} {start} {here} {word} {image} stage = record {
-  slab = ap (λ (t : Tables). t.slab) stage.tables;
-  kind = ap (λ (t : Tables). t.kind) stage.tables;
-  class = ap (λ (t : Tables). t.class) stage.tables;
-  bit = ap (λ (t : Tables). t.bit) stage.tables;
+  each = λ s. record {
+    slab = ap (λ (t : Tables). t.slab s) stage.tables;
+    kind = ap (λ (t : Tables). t.kind s) stage.tables;
+    class = ap (λ (t : Tables). t.class s) stage.tables;
+    old = ap (λ (t : Tables). t.old s) stage.tables;
+    index_count = ap (λ (t : Tables). t.index_count s) stage.tables;
+    bit = ap (λ (t : Tables). t.bit s) stage.tables;
+    live = ap (λ (t : Tables). t.live s) stage.tables;
+    number = ap (λ (t : Tables). t.number s) stage.tables;
+  };
 }
 
 -- so they are all normal still
 pub normal_kept : {words image : List ℕ} → KeepsSlabs words image → HasNormalSlabs words → HasNormalSlabs image
-normal_kept {words} {image} keeps normal = record {
-  each = λ start is. ap (λ (row : ℕ → ℕ). row start) keeps.kind ∙ normal.each start (sym (ap (λ (row : ℕ → Bool). row start) keeps.slab) ∙ is);
-}
+normal_kept {words} {image} keeps normal = record { each = λ start is. (keeps.each start).kind ∙ normal.each start (sym (keeps.each start).slab ∙ is) }
 
 -- and the index of them holds still
 pub slabs_kept : {words image : List ℕ} (parts : SlabSet) → KeepsSlabs words image → granules_in image ≡ granules_in words → IsSlabsOf parts words → IsSlabsOf parts image
-slabs_kept {words} {image} parts keeps granules index =
-    let slab = λ (s : ℕ). ap (λ (row : ℕ → Bool). row s) keeps.slab in
-    let class = λ (s : ℕ). ap (λ (row : ℕ → ℕ). row s) keeps.class in
-    record {
-      granules = index.granules ∙ sym granules;
-      classes = λ s. index.classes s ∙ sym (ap (λ b. cond b (Some ((tables_of image).class s)) None) (slab s) ∙ ap (λ c. cond ((tables_of words).slab s) (Some c) None) (class s));
-      blocks = λ s i is below. index.blocks s i (sym (slab s) ∙ is) (subst (λ c. i < class_capacity c) (class s) below)
-          ∙ sym (ap (λ (row : ℕ → ℕ → Bool). not (row s i)) keeps.bit);
-    }
+slabs_kept {words} {image} parts keeps granules index = record {
+  granules = index.granules ∙ sym granules;
+  classes = λ s.
+      let same = keeps.each s in
+      index.classes s ∙ sym (ap (λ b. cond b (Some ((tables_of image).class s)) None) same.slab ∙ ap (λ c. cond ((tables_of words).slab s) (Some c) None) same.class);
+  blocks = λ s i is below.
+      let same = keeps.each s in
+      iff_then (index.blocks s i (sym same.slab ∙ is) (subst (λ c. i < class_capacity c) same.class below))
+      (subst (λ c. IsUnusedIn (tables_of words) s ((tables_of words).class s) i ↔ IsUnusedIn (tables_of image) s c i) (sym same.class) (IsUnusedIn-same same ((tables_of words).class s) i));
+}
 
 -- the index of a stage, by what is vacant there
 pub index_stage : {words : List ℕ} {root start here word : ℕ} {image : List ℕ} (set : FreeSet) → IsStageOf words root start here word image → set.granules ≡ granules_in words →

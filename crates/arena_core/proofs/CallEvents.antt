@@ -16,7 +16,7 @@ use Rattle.heap_model.specs.declared.call.Reply.{Reply}
 use Rattle.heap_model.specs.declared.call.Reply.TheVariants as replies
 use Rattle.heap_model.specs.Machine.{Bounds, Range, slab_block}
 use Rattle.heap_model.proofs.Slabbing.{LiesIn-block}
-use Rattle.heap_check.specs.Heap.{is_old, slab_of, entry_at, heap, slabs, IsClaim, Holds}
+use Rattle.heap_check.specs.Heap.{is_old, slab_of, entry_at, heap, slabs, IsClaim, Holds, IsUnusedIn}
 use Rattle.heap_check.specs.Sound.{IsVacant, IsInSlab, IsSound}
 use Rattle.heap_check.proofs.Claims.{IsNamed-claim, IsClaim-word}
 use Rattle.heap_check.proofs.Geometry.{Covers-slab, slab_of-here, plain_size-some}
@@ -26,7 +26,7 @@ use Rattle.log_steps.proofs.Entries.{first_zero-is}
 use Rattle.attach_steps.specs.declared.block.SmallBlock.{SmallBlock}
 use Rattle.attach_steps.specs.Steps.{attach_events, IsAttachable, IsAttached}
 use Rattle.heap_check.proofs.Loose.{IsExactBut-exact}
-use Rattle.arena_core.proofs.SmallCalls.{classes_small, index_small, book_small, keeps_small}
+use Rattle.arena_core.proofs.SmallCalls.{classes_small, index_small, book_small, keeps_small, bits_with, lives_as, change_bit}
 use Rattle.heap_check.specs.Image.{bounds_of, IsExactImage}
 use Rattle.heap_check.specs.State.{KeepsBlocks, IsEitherHeap}
 use Rattle.arena_core.specs.Arena.{ArenaState, HasNormalSlabs, IsSlabsOf, IsCurrent, IsArena}
@@ -36,11 +36,12 @@ use Rattle.arena_core.specs.Carried.{IsDone, IsCalled}
 use Rattle.arena_core.specs.Effect.{GivesRoot, KeepsSlabs}
 use Rattle.arena_core.specs.declared.plan.Held.{Held}
 use Rattle.arena_core.specs.declared.plan.Held.TheVariants as holding
-use Rattle.arena_core.specs.Plan.{IsAskedOf, IsClearBlock, IsNamedSmall, IsHeldBy, range_held}
+use Rattle.arena_core.specs.Plan.{IsAskedOf, IsGivableBlock, IsNamedSmall, IsHeldBy, range_held}
 use Rattle.heap_check.proofs.Sizes.{sizes_of}
 use Rattle.arena_core.proofs.Blocks.{heap-takable}
 use Rattle.arena_core.proofs.Arenas.{normal_kept, slabs_kept, same_heap}
 use Rattle.arena_core.specs.Events.{is_small, class_for, start_at, in_slab, block_at, place_events, take_events, fresh_events, unsmall_events, placed_events, freed_events, call_events, line_after}
+use Rattle.heap_check.proofs.SmallPlaces.{no_old-held}
 
 -- equal ends
 pub IsCalled-same : {old new device : PmemState} {was next left : Volatile} {call : Call} {reply answer : Reply} → device ≡ new → left ≡ next → answer ≡ reply → IsCalled old new was next call reply → IsCalled old device was left call answer
@@ -180,7 +181,7 @@ line_small line at class is_class =
 -- what a root names
 
 -- a block of a slab is the root's in the heap
-module _ (words : List ℕ) (image : IsExactImage words) (normal : HasNormalSlabs words) (root : ℕ) (block : SmallBlock) (class : ℕ) (named : IsNamedSmall (bounds_of words) (tables_of words) root block class) where
+module _ (words : List ℕ) (image : IsExactImage words) (root : ℕ) (block : SmallBlock) (class : ℕ) (named : IsNamedSmall (bounds_of words) (tables_of words) root block class) where
   abbrev at_class : Range
   at_class = slab_block block.start class block.number
 
@@ -193,11 +194,17 @@ module _ (words : List ℕ) (image : IsExactImage words) (normal : HasNormalSlab
     block = inl (record {
       number = block.number;
       below = subst (λ c. block.number < class_capacity c) (sym named.class_is) named.below;
-      read = λ two. omega (arith, normal.each block.start named.slab, two);
+      read = λ kind. image.exact.calm block.start (record { slab = named.slab; kind = kind });
       set = named.set;
       is = ap (λ c. slab_block block.start c block.number) (sym named.class_is);
     });
   }
+
+  -- no live old block begins where it does
+  pub named_new : is_old (tables_of words) block.start at_class.at ≡ false
+  named_new = subst (λ c. is_old (tables_of words) block.start (slab_block block.start c block.number).at ≡ false) named.class_is
+      (no_old-held image.exact.sound image.exact.closed block.start block.number named.slab (subst (λ c. block.number < class_capacity c) (sym named.class_is) named.below)
+      (subst (λ c. Holds (tables_of words) block.start (slab_block block.start c block.number)) (sym named.class_is) holds))
 
   pub named_inside : IsInSlab (tables_of words) block.start at_class.at
   named_inside = IsInSlab-held image.exact.sound block.start at_class holds
@@ -217,9 +224,9 @@ module _ (words : List ℕ) (image : IsExactImage words) (normal : HasNormalSlab
       heap-claim t root at_class (unnamed root) (subst (λ r. IsClaim t r at_class) (sym same) owner.1)
 
 -- so is what a root holds
-pub held_heap : (words : List ℕ) → IsExactImage words → HasNormalSlabs words → (root : ℕ) (held : Held) → IsHeldBy (bounds_of words) (tables_of words) root held → heap (tables_of words) root ≡ Some (range_held held)
-held_heap words image normal root (holding.Large start count) taken = heap-takable (bounds_of words) (tables_of words) root start count (omega (arith, (sizes_of words image.formed).first)) taken
-held_heap words image normal root (holding.Small block class) named = named_heap words image normal root block class named
+pub held_heap : (words : List ℕ) → IsExactImage words → (root : ℕ) (held : Held) → IsHeldBy (bounds_of words) (tables_of words) root held → heap (tables_of words) root ≡ Some (range_held held)
+held_heap words image root (holding.Large start count) taken = heap-takable (bounds_of words) (tables_of words) root start count (omega (arith, (sizes_of words image.formed).first)) taken
+held_heap words image root (holding.Small block class) named = named_heap words image root block class named
 
 -- a large block was given or taken
 pub IsDone-large : {old new : PmemState} {was left : Volatile} {root : ℕ} {block : Option Range} {events : List Event} → IsArena old was → left.slabs ≡ was.slabs →
@@ -234,20 +241,20 @@ IsDone-large {old} {new} {was} {left} {root} {block} {events} arena same step ke
 }
 
 -- a free block of a slab may come to a root
-pub small_attachable : (words : List ℕ) (root size : ℕ) (block : SmallBlock) (class : ℕ) → IsExactImage words → HasNormalSlabs words → IsAskedOf (bounds_of words) (tables_of words) root size →
-    IsClearBlock (tables_of words) block class → IsAttachable words root block
-small_attachable words root size block class image normal asked placing =
+pub small_attachable : (words : List ℕ) (root size : ℕ) (block : SmallBlock) (class : ℕ) → IsExactImage words → IsAskedOf (bounds_of words) (tables_of words) root size →
+    IsGivableBlock (tables_of words) block class → IsAttachable words root block
+small_attachable words root size block class image asked placing =
     let same = sym placing.class_is in
     record {
       block_in = record {
         image = record { formed = image.formed; but = IsExactBut-exact image.exact block.start };
         rooted = asked.below;
         slab = placing.slab;
-        normal = normal.each block.start placing.slab;
+        lively = image.exact.none_done block.start;
         below = subst (λ c. block.number < class_capacity c) same placing.below;
         at = placing.at ∙ ap (λ c. (slab_block block.start c block.number).at) same;
       };
-      clear = placing.clear;
+      unused = subst (λ c. IsUnusedIn (tables_of words) block.start c block.number) same placing.unused;
       none = asked.none;
     }
 
@@ -259,21 +266,24 @@ pub IsDone-small : {old new : PmemState} {was left : Volatile} {root class : ℕ
 IsDone-small {old} {new} {was} {left} {root} {class} block arena left_is may class_is step attached normal slabs =
     let words = words_of old in
     let after = words_of new in
+    let bits = bits_with (tables_of words) block.start block.number in
+    let lives = lives_as (tables_of words) in
+    let change = change_bit may.block_in arena.few in
     record {
       step = step;
       current = subst (IsCurrent new) (sym left_is) (record {
         ready = record { quiet = step.quiet; room = omega (arith, arena.current.ready.room, step.appends.room) };
         exact = attached.exact;
-        log = book_small words was.line root block may.block_in arena.few after attached.rest attached.bounds was.log arena.current.log;
-        index = index_small words root block.start block.number true block.at after attached.bounds attached.tables was.free arena.current.index;
+        log = book_small change after attached.rest attached.bounds was.log arena.current.log;
+        index = index_small words bits lives root true block.at after attached.bounds attached.tables was.free arena.current.index;
       });
       normal = normal;
       slabs = slabs;
       gives = record {
         here = attached.gives.here ∙ ap (λ c. Some (slab_block block.start c block.number)) class_is;
         others = attached.gives.others;
-        slabs = classes_small words root block.start block.number true block.at after attached.bounds attached.tables;
-        keeps = keeps_small words was.line root block may.block_in arena.few after attached.rest;
+        slabs = classes_small words bits lives root true block.at after attached.bounds attached.tables;
+        keeps = keeps_small change after attached.rest;
         bounds = attached.bounds;
       };
     }

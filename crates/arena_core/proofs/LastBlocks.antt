@@ -1,106 +1,82 @@
 -- Whether a slab keeps a block once one of its blocks goes.
-use Rattle.std.proofs.Common.{◌≡◌, ◌≢◌, ℕ, ◌<◌, true, false, true≢false, not, List, refl, sym, ap, subst, ◌∙◌, arith, inl, inr, ⊎_elim}
-use Rattle.std.proofs.lemmas.Bool.{cases_Bool}
+use Rattle.std.proofs.Common.{◌≡◌, ◌≢◌, ◌||◌, ℕ, true, false, true≢false, refl, sym, ap, subst, ◌∙◌, inl, inr, ⊎_elim, Bool, arith}
+use Rattle.std.proofs.lemmas.Bool.{cases_Bool, or_parts, or_cases}
 use Rattle.size_classes.specs.Classes.{class_capacity}
-use Rattle.size_classes.proofs.Spacing.{class_size-least}
-use Rattle.image_tables.specs.Tables.{Tables, tables_of}
-use Rattle.image_tables.specs.Updates.{put_in}
-use Rattle.image_tables.proofs.Updates.{put_in-same, put_in-other}
-use Rattle.heap_model.specs.Machine.{Range, slab_block}
+use Rattle.image_tables.specs.Forms.{morphing_kind}
+use Rattle.image_tables.specs.Tables.{Tables}
+use Rattle.heap_model.specs.Machine.{Bounds, Range, slab_block}
 use Rattle.heap_model.specs.Below.{any_below}
-use Rattle.heap_check.specs.Heap.{entry_at, Holds}
-use Rattle.heap_check.specs.Sound.{IsInSlab, HasOther}
-use Rattle.heap_check.specs.Image.{bounds_of, IsExactImage}
+use Rattle.heap_check.specs.Heap.{entry_at, Holds, HoldsBit, HoldsOld}
+use Rattle.heap_check.specs.Sound.{IsInSlab, IsEmptySlab, IsExactBut}
 use Rattle.heap_check.proofs.Claims.{plain_size, IsNamed-claim, IsClaim-word}
-use Rattle.heap_check.proofs.Loose.{IsExactBut-exact}
-use Rattle.heap_check.proofs.Sizes.{sizes_of}
-use Rattle.heap_check.proofs.Small.{one_number, IsSmallPlace, lone}
-use Rattle.heap_check.proofs.SmallPlaces.{Holds-claim, Holds-normal, IsSmallPlace-named}
+use Rattle.heap_check.proofs.SmallPlaces.{Holds-claim, calm_but}
 use Rattle.heap_check.proofs.Within.{IsInSlab-held}
-use Rattle.attach_steps.specs.declared.block.SmallBlock.{SmallBlock}
-use Rattle.attach_steps.specs.Steps.{IsDetached}
-use Rattle.arena_core.specs.Arena.{HasNormalSlabs}
 use Rattle.arena_core.specs.Effect.{IsLastOf}
 use Rattle.arena_core.specs.Events.{holds_none}
-use Rattle.arena_core.specs.Plan.{IsNamedSmall}
-use Rattle.arena_core.proofs.SlabChanges.{any_below-each, any_below-some, holds_none-normal}
+use Rattle.arena_core.proofs.Tests.{any_below-each, any_below-some, not_true, not_false}
 
-module _ (words : List ℕ) (line root : ℕ) (block : SmallBlock) (class : ℕ) (image : IsExactImage words) (normal : HasNormalSlabs words) (named : IsNamedSmall (bounds_of words) (tables_of words) root block class)
-    (left : List ℕ) (detached : IsDetached words line root block left) where
-  abbrev t : Tables
-  t = tables_of words
+module _ (t : Tables) (start : ℕ) where
+  abbrev bits : Bool
+  bits = any_below (t.bit start) (class_capacity (t.class start))
 
-  abbrev start : ℕ
-  start = block.start
+  abbrev olds : Bool
+  olds = any_below (t.live start) (t.index_count start)
 
-  is_class : t.class start < 36
-  is_class = (image.exact.sound.slabs start named.slab).state.is_class
+  -- a slab that holds no block by its tests holds none
+  pub none_by_tests : holds_none t start ≡ true → (range : Range) → ¬ (Holds t start range)
+  none_by_tests none range holds =
+      let parts = or_parts bits olds (not_true (bits || olds) none) in
+      ⊎_elim
+      (λ (bit : HoldsBit t start range). true≢false (sym bit.set ∙ any_below-each (t.bit start) (class_capacity (t.class start)) parts.0 bit.number bit.below))
+      (λ (old : HoldsOld t start range). true≢false (sym old.live ∙ any_below-each (t.live start) (t.index_count start) parts.1 old.place old.below))
+      holds.block
 
-  below : block.number < class_capacity (t.class start)
-  below = subst (λ c. block.number < class_capacity c) (sym named.class_is) named.below
+  -- and one that holds some by them holds it
+  pub some_by_tests : t.slab start ≡ true → t.kind start ≢ morphing_kind → holds_none t start ≡ false → (range : Range) × Holds t start range
+  some_by_tests slab calm some = ⊎_elim
+      (λ (set : bits ≡ true).
+      let found = any_below-some (t.bit start) (class_capacity (t.class start)) set in
+      (slab_block start (t.class start) found.0, record { slab = slab; block = inl (record { number = found.0; below = found.1; read = calm; set = found.2; is = refl }) }))
+      (λ (live : olds ≡ true).
+      let found = any_below-some (t.live start) (t.index_count start) live in
+      (slab_block start (t.old start) (t.number start found.0), record { slab = slab; block = inr (record { place = found.0; below = found.1; live = found.2; is = refl }) }))
+      (or_cases bits olds (not_false (bits || olds) some))
 
-  at_here : t.root root ≡ (slab_block start (t.class start) block.number).at
-  at_here = named.named ∙ named.at ∙ ap (λ c. (slab_block start c block.number).at) (sym named.class_is)
+-- an image that is exact but for a slab
+module _ {b : Bounds} {t : Tables} (start : ℕ) (but : IsExactBut b t start) (slab : t.slab start ≡ true) where
+  unnamed : (root : ℕ) → entry_at t.open_entry root ≡ 0
+  unnamed root = ap (λ e. entry_at e root) but.closed
 
-  place : IsSmallPlace (bounds_of words) t root start block.number
-  place = IsSmallPlace-named root start block.number (IsExactBut-exact image.exact start) (omega (arith, (sizes_of words image.formed).first)) named.rooted
-      (record { slab = named.slab; kind = normal.each start named.slab }) below named.set at_here
+  -- where it holds no block, no root's word lies in it
+  pub empty_by_tests : holds_none t start ≡ true → IsEmptySlab t start
+  empty_by_tests none = record {
+    slab = slab;
+    none = λ root some inside.
+        let range : Range = record { at = t.root root; size = plain_size t (t.root root) } in
+        none_by_tests t start none range (Holds-claim but.sound root start range (unnamed root) (IsClaim-word t root (unnamed root) some) inside);
+  }
 
-  unnamed : (r : ℕ) → entry_at t.open_entry r ≡ 0
-  unnamed r = ap (λ e. entry_at e r) image.exact.closed
+  -- where it holds one, some root's does
+  pub rooted_by_tests : holds_none t start ≡ false → (root : ℕ) × (t.root root ≢ 0) × IsInSlab t start (t.root root)
+  rooted_by_tests some =
+      let held = some_by_tests t start slab (calm_but but start slab) some in
+      let owner = but.sound.claimed start held.0 held.1 in
+      let its = IsNamed-claim t owner.0 held.0 (unnamed owner.0) owner.1 in
+      (owner.0, λ none. its.some (sym its.word ∙ none), subst (IsInSlab t start) (sym its.word) (IsInSlab-held but.sound start held.0 held.1))
 
-  -- the bits that are left
-  bit_left : (i : ℕ) → (tables_of left).bit start i ≡ put_in t.bit start block.number false start i
-  bit_left i = ap (λ (x : Tables). x.bit start i) detached.tables
-
-  class_left : (tables_of left).class start ≡ t.class start
-  class_left = ap (λ (x : Tables). x.class start) detached.tables
-
-  -- no bit is left
-  none_left : any_below ((tables_of left).bit start) (class_capacity ((tables_of left).class start)) ≡ false → (other : ℕ) → other ≢ root → t.root other ≢ 0 → ¬ (IsInSlab t start (t.root other))
-  none_left empty other differ some inside =
-      let range : Range = record { at = t.root other; size = plain_size t (t.root other) } in
-      let held = Holds-claim image.exact.sound other start range (unnamed other) (IsClaim-word t other (unnamed other) some) inside in
-      let bit = Holds-normal image.exact.sound start range (record { slab = named.slab; kind = normal.each start named.slab }) held in
-      let place_of : t.root other ≡ (slab_block start (t.class start) bit.number).at = ap (λ (x : Range). x.at) bit.is in
-      let apart : bit.number ≢ block.number = λ same. lone place other differ (place_of ∙ ap (λ i. (slab_block start (t.class start) i).at) same) in
-      let set : (tables_of left).bit start bit.number ≡ true = bit_left bit.number ∙ put_in-other t.bit start block.number false start bit.number (inr apart) ∙ bit.set in
-      true≢false (sym set ∙ any_below-each ((tables_of left).bit start) (class_capacity ((tables_of left).class start)) empty bit.number (subst (λ c. bit.number < class_capacity c) (sym class_left) bit.below))
-
-  -- some bit is
-  some_left : any_below ((tables_of left).bit start) (class_capacity ((tables_of left).class start)) ≡ true → HasOther t root start
-  some_left full =
-      let found = any_below-some ((tables_of left).bit start) (class_capacity ((tables_of left).class start)) full in
-      let i = found.0 in
-      let apart : i ≢ block.number = λ same.
-      true≢false (sym found.2 ∙ bit_left i ∙ ap (put_in t.bit start block.number false start) same ∙ put_in-same t.bit start block.number false) in
-      let set : t.bit start i ≡ true = sym (put_in-other t.bit start block.number false start i (inr apart)) ∙ sym (bit_left i) ∙ found.2 in
-      let range : Range = slab_block start (t.class start) i in
-      let held : Holds t start range = record {
-        slab = named.slab;
-        block = inl (record { number = i; below = subst (λ c. i < class_capacity c) class_left found.1; read = λ two. omega (arith, normal.each start named.slab, two); set = set; is = refl });
-      } in
-      let owner = image.exact.sound.claimed start range held in
-      let its = IsNamed-claim t owner.0 range (unnamed owner.0) owner.1 in
-      let inside = IsInSlab-held image.exact.sound start range held in
-      record {
-        other = owner.0;
-        differ = λ same. apart (one_number start (t.class start) i block.number (omega (arith, class_size-least (t.class start) is_class)) (sym its.word ∙ ap t.root same ∙ at_here));
-        some = λ none. its.some (sym its.word ∙ none);
-        inside = subst (IsInSlab t start) (sym its.word) inside;
-      }
-
-  -- it has no index entries
-  none_old : (tables_of left).index_count start ≡ 0
-  none_old = ap (λ (x : Tables). x.index_count start) detached.tables ∙ ((image.exact.sound.slabs start named.slab).state.none (normal.each start named.slab)).1
-
-  pub last_of : IsLastOf t root start (holds_none (tables_of left) start)
-  last_of =
-      let bits = any_below ((tables_of left).bit start) (class_capacity ((tables_of left).class start)) in
-      let holds = holds_none-normal (tables_of left) start none_old in
-      record {
-        is = ⊎_elim
-            (λ (full : bits ≡ true). inr (holds ∙ ap not full, some_left full))
-            (λ (empty : bits ≡ false). inl (holds ∙ ap not empty, none_left empty))
-            (cases_Bool bits);
-      }
+-- A root lost its block in the slab: whether it was the last.
+pub last_of : {b : Bounds} (t : Tables) {left : Tables} (root start : ℕ) → IsExactBut b left start → left.slab start ≡ true → t.slab start ≡ true → left.root root ≡ 0 → ((other : ℕ) → other ≢ root → left.root other ≡ t.root other) →
+    IsLastOf t root start (holds_none left start)
+last_of {b} t {left} root start but slab was gone others = record {
+  is = ⊎_elim
+      (λ (none : holds_none left start ≡ true).
+      inl (none, λ other differ some inside.
+      let same = others other differ in
+      (empty_by_tests start but slab none).none other (λ zero. some (sym same ∙ zero)) (record { slab = slab; low = omega (arith, inside.low, same); high = omega (arith, inside.high, same) })))
+      (λ (some : holds_none left start ≡ false).
+      let rooted = rooted_by_tests start but slab some in
+      let differ : rooted.0 ≢ root = λ own. rooted.1 (ap left.root own ∙ gone) in
+      let same = others rooted.0 differ in
+      inr (some, record { other = rooted.0; differ = differ; some = λ zero. rooted.1 (same ∙ zero); inside = record { slab = was; low = omega (arith, rooted.2.low, same); high = omega (arith, rooted.2.high, same) } }))
+      (cases_Bool (holds_none left start));
+}

@@ -1,3 +1,6 @@
+pub mod Tests
+pub mod UnusedBlocks
+pub mod LastBlocks
 pub mod LargeStages
 pub mod Blocks
 pub mod LargeCalls
@@ -10,5 +13,4 @@ pub mod HeapSteps
 pub mod SmallCalls
 pub mod SlabChanges
 pub mod Plans
-pub mod LastBlocks
 pub mod AdoptedExtents

@@ -23,7 +23,6 @@ use Rattle.arena_core.specs.declared.answer.MallocRefusal.TheVariants.{NoRoot, O
 use Rattle.arena_core.specs.declared.answer.FreeRefusal.{FreeRefusal}
 use Rattle.arena_core.specs.declared.answer.FreeRefusal.TheVariants as refusals
 use Rattle.arena_core.specs.Answer.{malloc_reply, free_reply}
-use Rattle.arena_core.specs.Arena.{HasNormalSlabs}
 use Rattle.arena_core.specs.Call.{IsStepOfAny}
 use Rattle.arena_core.specs.Effect.{slabs_but, slabs_behind, IsLastOf, GivesRoot}
 use Rattle.arena_core.specs.Plan.{IsAskedOf, tables_view, site_of, IsPlacing, range_at, IsMallocPlan, IsTakable, IsFreePlan}
@@ -42,14 +41,14 @@ abbrev pub placed_reply : Range → Reply
 placed_reply range = replies.Placed range.at range.size
 
 -- a block is placed
-pub placed_step : (old new : List ℕ) (root size : ℕ) (place : Place) → IsExactImage old → HasNormalSlabs old → IsAskedOf (bounds_of old) (tables_of old) root size → IsPlacing (bounds_of old) (tables_of old) root size place →
+pub placed_step : (old new : List ℕ) (root size : ℕ) (place : Place) → IsExactImage old → IsAskedOf (bounds_of old) (tables_of old) root size → IsPlacing (bounds_of old) (tables_of old) root size place →
     GivesRoot old root (Some (range_at place)) (slabs_behind (tables_of old) place) new → IsStepOfAny old new (calls.Malloc root size) (placed_reply (range_at place))
-placed_step old new root size place image normal asked placing gives seat = record {
+placed_step old new root size place image asked placing gives seat = record {
   bounds = gives.bounds;
   each = λ m state. (
     with_block m root (site_of place),
     IsPlacedStep-malloc (bounds_of old) seat m root size (site_of place) asked.below (nameless state root asked.none) asked.some asked.most
-        (IsPlainSite-same (tables_view (bounds_of old) (tables_of old)) (view_of (bounds_of old) m) size (site_of place) (tables_agree image state normal) placing.site) (clear m state place placing),
+        (IsPlainSite-same (tables_view (bounds_of old) (tables_of old)) (view_of (bounds_of old) m) size (site_of place) (tables_agree image state) placing.site) (clear m state place placing),
     state_behind m state place gives,
   );
 }
@@ -77,9 +76,9 @@ bare_root : {m : Machine} (root : ℕ) → m.block root ≡ None → ¬ (HasBloc
 bare_root root none held = let named = held.named in absurd (cc)
 
 -- a malloc is refused
-pub refused_malloc : (words : List ℕ) (root size : ℕ) (refusal : MallocRefusal) → IsExactImage words → HasNormalSlabs words → IsMallocPlan (bounds_of words) (tables_of words) root size (Err refusal) →
+pub refused_malloc : (words : List ℕ) (root size : ℕ) (refusal : MallocRefusal) → IsExactImage words → IsMallocPlan (bounds_of words) (tables_of words) root size (Err refusal) →
     IsStepOfAny words words (calls.Malloc root size) (malloc_reply (Err refusal))
-refused_malloc words root size refusal image normal plan = refused_step words (calls.Malloc root size) (malloc_reply (Err refusal)) (none refusal) (λ m state. step m state refusal plan)
+refused_malloc words root size refusal image plan = refused_step words (calls.Malloc root size) (malloc_reply (Err refusal)) (none refusal) (λ m state. step m state refusal plan)
   where
     none : (refusal : MallocRefusal) (at given : ℕ) → malloc_reply (Err refusal) ≢ replies.Placed at given
     none NoRoot at given reply = absurd (cc)
@@ -102,7 +101,7 @@ refused_malloc words root size refusal image normal plan = refused_step words (c
           full.0.some,
           inr (
             λ large. omega (arith, large, full.0.most),
-            inr (HasNoSite-same plain (tables_view (bounds_of words) (tables_of words)) (view_of (bounds_of words) m) (tables_agree image state normal) size full.1, (refl, refl)),
+            inr (HasNoSite-same plain (tables_view (bounds_of words) (tables_of words)) (view_of (bounds_of words) m) (tables_agree image state) size full.1, (refl, refl)),
           ),
         ),
       ),

@@ -1,6 +1,6 @@
 -- What the reads before a call say of the tables of an exact image: the slabs of the set, the best fits of the vacant
 -- granules, and what a root names.
-use Rattle.std.proofs.Common.{◌≡◌, ◌≢◌, ℕ, ◌+◌, ◌-◌, ◌*◌, ◌/◌, ◌<◌, ◌≤◌, Bool, true, false, not, refl, sym, ap, subst, ◌∙◌, arith, inl, inr, ⊎_elim, true≢false, List, Some, None}
+use Rattle.std.proofs.Common.{◌≡◌, ◌≢◌, ℕ, ◌+◌, ◌-◌, ◌*◌, ◌/◌, ◌<◌, ◌≤◌, true, false, refl, sym, ap, subst, ◌∙◌, arith, inl, inr, ⊎_elim, true≢false, List, Some, None, ◌↔◌}
 use Rattle.std.proofs.lemmas.Nat.{le-div}
 use Rattle.std.proofs.Math.Nat.{mul-div_cancel}
 use Rattle.std.proofs.lemmas.Bool.{cases_eq, cases_Bool, cond-true, cond-false}
@@ -17,14 +17,14 @@ use Rattle.heap_model.specs.Runs.{IsBestFit, HasNoFit}
 use Rattle.slab_index.specs.declared.block.SlabBlock.{SlabBlock}
 use Rattle.slab_index.specs.SlabSet.{SlabSet, class_in, is_available, HasNoBlock, IsLowest}
 use Rattle.extent_index.specs.FreeSet.{FreeSet, IsFree}
-use Rattle.heap_check.specs.Heap.{is_large, entry_at, slabs, HoldsBit}
+use Rattle.heap_check.specs.Heap.{is_large, entry_at, slabs, HoldsBit, IsUnusedIn}
 use Rattle.heap_check.specs.Sound.{granules_at, IsVacant, IsInSlab, IsHeld, IsExact}
 use Rattle.heap_check.specs.Image.{bounds_of, IsExactImage}
 use Rattle.heap_check.proofs.Sizes.{sizes_of}
 use Rattle.heap_check.proofs.Claims.{plain_size, IsClaim-word}
 use Rattle.heap_check.proofs.Geometry.{granules_at-slab, granules_at-live, is_large-parts}
 use Rattle.heap_check.proofs.Within.{IsInSlab-held, IsWithin-claim}
-use Rattle.heap_check.proofs.SmallPlaces.{IsNormal, Holds-claim, Holds-normal}
+use Rattle.heap_check.proofs.SmallPlaces.{Holds-claim}
 use Rattle.arena_core.specs.declared.plan.Place.TheVariants.{Large, Small, Fresh}
 use Rattle.arena_core.specs.Arena.{HasNormalSlabs, IsIndexOf, IsSlabsOf}
 use Rattle.arena_core.specs.Plan.{IsInSlabOf, IsInNoSlabOf, IsAskedOf, IsVacantRow, tables_view, IsPlacing, IsTakable, IsNamedSmall}
@@ -38,10 +38,6 @@ slab_parts t start class is = ⊎_elim
     (λ (lives : t.slab start ≡ true). (lives, let here = cond-true (t.slab start) (Some (t.class start)) None lives in cc))
     (λ (none : t.slab start ≡ false). absurd (let nothing = cond-false (t.slab start) (Some (t.class start)) None none in cc))
     (cases_Bool (t.slab start))
-
-not_true : (x : Bool) → not x ≡ true → x ≡ false
-not_true true is = cc
-not_true false is = refl
 
 -- a slab has a block
 class_capacity-some : (class : ℕ) → class < 36 → 0 < class_capacity class
@@ -60,9 +56,9 @@ module _ {set : SlabSet} {words : List ℕ} (parts : IsSlabsOf set words) where
   slab_in_set start class slab is =
       parts.classes start ∙ cond-true ((tables_of words).slab start) (Some ((tables_of words).class start)) None slab ∙ ap (λ c. Some c) is
 
-  -- the bit of a block of the set
-  bit_is : (start class i : ℕ) → (tables_of words).slab start ≡ true → (tables_of words).class start ≡ class → i < class_capacity class → is_available set start i ≡ not ((tables_of words).bit start i)
-  bit_is start class i slab is below = parts.blocks start i slab (subst (λ c. i < class_capacity c) (sym is) below)
+  -- a block of the set is available where it is unused
+  block_is : (start class i : ℕ) → (tables_of words).slab start ≡ true → (tables_of words).class start ≡ class → i < class_capacity class → (is_available set start i ≡ true) ↔ IsUnusedIn (tables_of words) start class i
+  block_is start class i slab is below = subst (λ c. (is_available set start i ≡ true) ↔ IsUnusedIn (tables_of words) start c i) is (parts.blocks start i slab (subst (λ c. i < class_capacity c) (sym is) below))
 
 -- the view of the sets that an arena keeps, where no slab takes another class
 abbrev sets_view : FreeSet → SlabSet → View
@@ -98,8 +94,7 @@ module _ {set : FreeSet} {words : List ℕ} (index : IsIndexOf set words) (root 
       slab = slabs.classes;
       unused = λ s class number slab within.
           let is = slab_of_set slabs s class slab in
-          let bit = bit_is slabs s class number is.0 is.1 within in
-          (λ available. not_true _ (sym bit ∙ available), λ clear. bit ∙ ap not clear);
+          block_is slabs s class number is.0 is.1 within;
       fit = λ morphs. absurd (true≢false (sym morphs));
     }
 
@@ -122,7 +117,7 @@ module _ {set : FreeSet} {words : List ℕ} (index : IsIndexOf set words) (root 
               lowest = λ other i less slab found. true≢false (sym found.unused ∙ lowest.lower other i less slab);
             };
           });
-          place_for = record { slab = is.0; class_is = is.1; below = lowest.below; clear = not_true _ (sym (bit_is slabs block.start class block.number is.0 is.1 lowest.below) ∙ lowest.available); at = at_is };
+          place_for = record { slab = is.0; class_is = is.1; below = lowest.below; unused = (block_is slabs block.start class block.number is.0 is.1 lowest.below).0 lowest.available; at = at_is };
         }
 
     -- a new slab for it
@@ -182,9 +177,9 @@ module _ {words : List ℕ} (image : IsExactImage words) where
       let is = slab_of_set parts start class inside.slab in
       let there : IsInSlab t start (t.root root) = record { slab = is.0; low = omega (arith, inside.low); high = omega (arith, inside.high) } in
       let range : Range = record { at = t.root root; size = plain_size t (t.root root) } in
-      let kind : IsNormal t start = record { slab = is.0; kind = normal.each start is.0 } in
       let holds = Holds-claim image.exact.sound root start range (unnamed root) (IsClaim-word t root (unnamed root) some) there in
-      let bit : HoldsBit t start range = Holds-normal image.exact.sound start range kind holds in
+      let few = (image.exact.sound.slabs start is.0).state.none (normal.each start is.0) in
+      let bit : HoldsBit t start range = ⊎_elim (λ bit. bit) (λ old. absurd (omega (arith, old.below, few.1))) holds.block in
       let at : t.root root ≡ 16384 * start + 2048 + bit.number * class_size (t.class start) = ap (λ (x : Range). x.at) bit.is in
       record {
         slab = is.0;

@@ -1,6 +1,6 @@
 -- A slab comes or goes: what an arena keeps holds again.
-use Rattle.std.proofs.Common.{◌≡◌, ◌≢◌, ◌⊎◌, ◌↔◌, ◌==◌, ◌&&◌, ◌||◌, nat_lt, ℕ, zero, suc, ◌+◌, ◌*◌, ◌<◌, ◌≤◌, Bool, true, false, true≢false, not, List, [], refl, sym, ap, subst, ◌∙◌, arith, inl, inr, ⊎_elim, Some, None, if◌then◌else◌}
-use Rattle.std.proofs.lemmas.Bool.{cases_eq, cases_lt, eq-eqb, ne_eqb, lt-ltb, cond-true, cond-false, or_parts, or_cases, or_from, false_from_ne_true, true_from_ne_false}
+use Rattle.std.proofs.Common.{◌≡◌, ◌≢◌, ◌⊎◌, ◌↔◌, ◌==◌, ◌&&◌, nat_lt, ℕ, ◌+◌, ◌*◌, ◌<◌, ◌≤◌, true, false, true≢false, not, List, [], refl, sym, ap, subst, ◌∙◌, arith, inl, inr, ⊎_elim, Some, None, if◌then◌else◌}
+use Rattle.std.proofs.lemmas.Bool.{cases_eq, eq-eqb, ne_eqb, lt-ltb, cond-true, cond-false, cases_Bool}
 use Rattle.std.proofs.lemmas.Nat.{le-div}
 use Rattle.pmem_lines.specs.Pmem.{PmemState, words_of}
 use Rattle.pmem_lines.proofs.Steps.{step_by, step_none}
@@ -10,23 +10,21 @@ use Rattle.image_tables.specs.Forms.{normal_kind}
 use Rattle.image_tables.specs.Tables.{Tables, tables_of}
 use Rattle.extent_index.specs.FreeSet.{FreeSet, IsFree, IsHeldRow}
 use Rattle.slab_index.specs.SlabSet.{SlabSet, class_in, is_available, IsBlock, IsWhole}
-use Rattle.heap_model.specs.Machine.{Bounds, Range, slab_block, with_key}
+use Rattle.heap_model.specs.Machine.{Bounds, with_key}
 use Rattle.heap_model.specs.Below.{any_below}
-use Rattle.heap_check.specs.Heap.{entry_at, slabs, Holds, HoldsBit}
-use Rattle.heap_check.specs.Sound.{IsVacant, IsInSlab, IsEmptySlab, IsExactBut}
+use Rattle.heap_check.specs.Heap.{slabs, HoldsBit, IsUnusedIn, HoldsOld}
+use Rattle.heap_check.specs.Sound.{IsVacant, IsInSlab, IsEmptySlab, IsExactBut, IsDoneSlab}
 use Rattle.heap_check.specs.Slabs.{IsSlabMore, IsWithSlab}
 use Rattle.heap_check.specs.Image.{bounds_of, IsExactImage, IsExactButImage}
 use Rattle.heap_check.specs.State.{KeepsBlocks}
 use Rattle.arena_core.proofs.Arenas.{same_heap}
 use Rattle.heap_check.proofs.BlockWords.{block_word-header, block_word-vacant}
-use Rattle.heap_check.proofs.Claims.{plain_size, IsNamed-claim, IsClaim-word}
 use Rattle.heap_check.proofs.Geometry.{granules_at-slab, Covers-slab}
 use Rattle.heap_check.proofs.Sizes.{sizes_of}
 use Rattle.heap_check.proofs.SlabHeaps.{slabs-slab, slabs-none, slabs-other, IsVacant-slab, IsVacant-no_slab}
 use Rattle.heap_check.proofs.SlabPlaces.{IsSlabPlace-vacant, IsSlabPlace-empty}
-use Rattle.heap_check.proofs.Slabs.{IsSlabPlace}
-use Rattle.heap_check.proofs.SmallPlaces.{Holds-normal, Holds-claim}
-use Rattle.heap_check.proofs.Within.{IsInSlab-held}
+use Rattle.heap_check.proofs.Slabs.{IsSlabPlace, holds_none-fresh}
+use Rattle.heap_check.proofs.SmallPlaces.{calm_but, clear_unused}
 use Rattle.log_steps.specs.Log.{IsBookOf}
 use Rattle.extent_steps.specs.Slabs.{IsOpened, IsDropped}
 use Rattle.extent_steps.proofs.Images.{keeps_blocks}
@@ -38,28 +36,9 @@ use Rattle.arena_core.specs.Carried.{IsTidied}
 use Rattle.arena_core.specs.Effect.{slabs_but}
 use Rattle.arena_core.specs.Events.{holds_none, is_done, tidy_events}
 use Rattle.arena_core.specs.Plan.{IsVacantRow}
-
--- numbers that pass a test
-
-pub any_below-none : (test : ℕ → Bool) (n : ℕ) → ((i : ℕ) → i < n → test i ≡ false) → any_below test n ≡ false
-any_below-none test zero none = refl
-any_below-none test (suc n) none = or_from (test n) (any_below test n) (none n (omega arith)) (any_below-none test n (λ i below. none i (omega (arith, below))))
-
-pub any_below-each : (test : ℕ → Bool) (n : ℕ) → any_below test n ≡ false → (i : ℕ) → i < n → test i ≡ false
-any_below-each test zero none i below = absurd (omega (arith, below))
-any_below-each test (suc n) none i below =
-    let parts = or_parts (test n) (any_below test n) none in
-    ⊎_elim
-    (λ (lower : i < n). any_below-each test n parts.1 i lower)
-    (λ (last : n ≤ i). let same : i ≡ n = omega (arith, below, last) in ap test same ∙ parts.0)
-    (cases_lt i n)
-
-pub any_below-some : (test : ℕ → Bool) (n : ℕ) → any_below test n ≡ true → (i : ℕ) × (i < n) × (test i ≡ true)
-any_below-some test zero some = absurd (true≢false (sym some))
-any_below-some test (suc n) some = ⊎_elim
-    (λ (here : test n ≡ true). (n, omega arith, here))
-    (λ (lower : any_below test n ≡ true). let found = any_below-some test n lower in (found.0, omega (arith, found.1), found.2))
-    (or_cases (test n) (any_below test n) some)
+use Rattle.arena_core.proofs.UnusedBlocks.{iff_same, iff_then, iff_back}
+use Rattle.arena_core.proofs.LastBlocks.{some_by_tests, none_by_tests, rooted_by_tests}
+use Rattle.heap_check.proofs.SameSlabs.{IsUnusedIn-same}
 
 -- the set has one slab more, with all of its blocks
 pub record IsAdded (set new : SlabSet) (start class : ℕ) : Type 0 where
@@ -119,21 +98,23 @@ module _ (words : List ℕ) (start class : ℕ) (exact : IsExactImage words) (ro
         (λ (differ : s ≢ start). added.classes s ∙ cond-false (s == start) (Some class) (class_in set s) (ne_eqb s start differ) ∙ was.classes s ∙ sym (slabs-other open_place s differ))
         (cases_eq s start);
     blocks = λ s i slab below. ⊎_elim
-        (λ (same : s ≡ start).
-        let among : i < class_capacity class = subst (λ c. i < class_capacity c) (ap after.class same ∙ with_it.fresh.class_is) below in
-        added.blocks s i
-        ∙ cond-true (s == start) (nat_lt i (class_capacity class)) (is_available set s i) (eq-eqb s start same)
-        ∙ lt-ltb i (class_capacity class) among
-        ∙ ap not (sym (with_it.fresh.clear i among))
-        ∙ ap (λ x. not (after.bit x i)) (sym same))
+        (λ (same : s ≡ start). subst (λ k. after.slab k ≡ true → i < class_capacity (after.class k) → (is_available more k i ≡ true) ↔ IsUnusedIn after k (after.class k) i) (sym same) (fresh_block more added i) slab below)
         (λ (differ : s ≢ start).
         let it = with_it.more.others s differ in
-        added.blocks s i
-        ∙ cond-false (s == start) (nat_lt i (class_capacity class)) (is_available set s i) (ne_eqb s start differ)
-        ∙ was.blocks s i (sym it.slab ∙ slab) (subst (λ c. i < class_capacity c) it.class below)
-        ∙ ap (λ (f : ℕ → Bool). not (f i)) (sym it.bit))
+        iff_same (added.blocks s i ∙ cond-false (s == start) (nat_lt i (class_capacity class)) (is_available set s i) (ne_eqb s start differ))
+        (iff_then (was.blocks s i (sym it.slab ∙ slab) (subst (λ c. i < class_capacity c) it.class below))
+        (subst (λ c. IsUnusedIn t s (t.class s) i ↔ IsUnusedIn after s c i) (sym it.class) (IsUnusedIn-same it (t.class s) i))))
         (cases_eq s start);
   }
+    where
+      -- each of its blocks is available, and unused
+      fresh_block : (more : SlabSet) → IsAdded set more start class → (i : ℕ) → after.slab start ≡ true → i < class_capacity (after.class start) → (is_available more start i ≡ true) ↔ IsUnusedIn after start (after.class start) i
+      fresh_block more added i slab below = (
+        λ is. record { each = λ range holds. absurd (holds_none-fresh with_it.fresh range holds) },
+        λ unused. added.blocks start i
+            ∙ cond-true (start == start) (nat_lt i (class_capacity class)) (is_available set start i) (eq-eqb start start refl)
+            ∙ lt-ltb i (class_capacity class) (subst (λ c. i < class_capacity c) with_it.fresh.class_is below),
+      )
 
   pub keeps_opened : KeepsBlocks words new
   keeps_opened = keeps_blocks words start new exact.formed exact.exact.sound exact.exact.closed
@@ -149,29 +130,13 @@ module _ (words : List ℕ) (start class : ℕ) (exact : IsExactImage words) (ro
           image = opened.image;
           rooted = subst (λ (b : Bounds). root < b.roots) (sym opened.bounds) rooted;
           slab = with_it.more.slab;
-          normal = with_it.fresh.kind;
+          lively = λ done. omega (arith, done.kind, with_it.fresh.kind);
           below = subst (λ c. 0 < class_capacity c) (sym with_it.fresh.class_is) some;
           at = omega (arith, is);
         };
-        clear = with_it.fresh.clear 0 some;
+        unused = record { each = λ range holds. absurd (holds_none-fresh with_it.fresh range holds) };
         none = ap (λ (row : ℕ → ℕ). row root) with_it.more.root ∙ none;
       }
-
--- no root has a block in a normal slab whose bits are clear
-pub clear_empty : (words : List ℕ) (start : ℕ) → IsExactButImage words start → (tables_of words).slab start ≡ true → (tables_of words).kind start ≡ normal_kind →
-    ((i : ℕ) → i < class_capacity ((tables_of words).class start) → (tables_of words).bit start i ≡ false) → IsEmptySlab (tables_of words) start
-clear_empty words start image slab kind clear =
-    let t = tables_of words in
-    let but = image.but in
-    record {
-      slab = slab;
-      none = λ root some inside.
-          let unnamed : entry_at t.open_entry root ≡ 0 = ap (λ e. entry_at e root) but.closed in
-          let range : Range = record { at = t.root root; size = plain_size t (t.root root) } in
-          let holds = Holds-claim but.sound root start range unnamed (IsClaim-word t root unnamed some) inside in
-          let bit : HoldsBit t start range = Holds-normal but.sound start range (record { slab = slab; kind = kind }) holds in
-          true≢false (sym bit.set ∙ clear bit.number bit.below);
-    }
 
 -- a slab is dropped
 module _ (words : List ℕ) (start : ℕ) (image : IsExactButImage words start) (empty : IsEmptySlab (tables_of words) start) (new : List ℕ) (dropped : IsDropped words start new) where
@@ -220,10 +185,9 @@ module _ (words : List ℕ) (start : ℕ) (image : IsExactButImage words start) 
     blocks = λ s i slab below.
         let differ = other_slab s slab in
         let same = it.others s differ in
-        removed.blocks s i
-        ∙ cond-false (s == start) false (is_available set s i) (ne_eqb s start differ)
-        ∙ was.blocks s i (same.slab ∙ slab) (subst (λ c. i < class_capacity c) (sym same.class) below)
-        ∙ ap (λ (f : ℕ → Bool). not (f i)) same.bit;
+        iff_same (removed.blocks s i ∙ cond-false (s == start) false (is_available set s i) (ne_eqb s start differ))
+        (iff_then (was.blocks s i (same.slab ∙ slab) (subst (λ c. i < class_capacity c) (sym same.class) below))
+        (subst (λ c. IsUnusedIn full s c i ↔ IsUnusedIn less s (less.class s) i) (sym same.class) (iff_back (IsUnusedIn-same same (less.class s) i))));
   }
 
   pub keeps_dropped : KeepsBlocks words new
@@ -231,18 +195,11 @@ module _ (words : List ℕ) (start : ℕ) (image : IsExactButImage words start) 
       (λ root range k named word. block_word-header but.sound but.closed root range named k word start it.slab)
       dropped.rest
 
--- a normal slab that holds a block is one in which a root has it
-pub exact_held : (words : List ℕ) (start number : ℕ) → IsExactButImage words start → (tables_of words).slab start ≡ true → (tables_of words).kind start ≡ 1 → number < class_capacity ((tables_of words).class start) →
-    (tables_of words).bit start number ≡ true → IsExactImage words
-exact_held words start number image slab kind below set =
+-- an image that is exact but for a slab is exact, where a root has a block in it and it is not done
+pub exact_held : (words : List ℕ) (start : ℕ) → IsExactButImage words start → (root : ℕ) × ((tables_of words).root root ≢ 0) × IsInSlab (tables_of words) start ((tables_of words).root root) → ¬ (IsDoneSlab (tables_of words) start) → IsExactImage words
+exact_held words start image rooted lively =
     let t = tables_of words in
     let but = image.but in
-    let block : Range = slab_block start (t.class start) number in
-    let holds : Holds t start block = record { slab = slab; block = inl (record { number = number; below = below; read = λ other. omega (arith, kind, other); set = set; is = refl }) } in
-    let owner = but.sound.claimed start block holds in
-    let unnamed : entry_at t.open_entry owner.0 ≡ 0 = ap (λ e. entry_at e owner.0) but.closed in
-    let its = IsNamed-claim t owner.0 block unnamed owner.1 in
-    let inside : IsInSlab t start (t.root owner.0) = subst (IsInSlab t start) (sym its.word) (IsInSlab-held but.sound start block holds) in
     record {
       formed = image.formed;
       exact = record {
@@ -250,54 +207,54 @@ exact_held words start number image slab kind below set =
         closed = but.closed;
         all_named = but.all_named;
         all_live = λ other is. ⊎_elim
-            (λ (same : other ≡ start). (owner.0, λ none. its.some (sym its.word ∙ none), subst (λ s. IsInSlab t s (t.root owner.0)) (sym same) inside))
+            (λ (same : other ≡ start). (rooted.0, rooted.1, subst (λ s. IsInSlab t s (t.root rooted.0)) (sym same) rooted.2))
             (λ (differ : other ≢ start). but.others_live other differ is)
             (cases_eq other start);
         calm = but.calm;
-        none_done = but.none_done;
+        none_done = λ other done. ⊎_elim
+            (λ (same : other ≡ start). lively (subst (IsDoneSlab t) same done))
+            (λ (differ : other ≢ start). but.none_done other differ done)
+            (cases_eq other start);
       };
     }
-
--- of a slab without index entries the bits alone say whether it holds a block
-pub holds_none-normal : (t : Tables) (start : ℕ) → t.index_count start ≡ 0 → holds_none t start ≡ not (any_below (t.bit start) (class_capacity (t.class start)))
-holds_none-normal t start none =
-    let bits = any_below (t.bit start) (class_capacity (t.class start)) in
-    ap (λ n. not (bits || any_below (t.live start) n)) none ∙ ap not (or_nothing bits)
-  where
-    or_nothing : (b : Bool) → (b || false) ≡ b
-    or_nothing true = refl
-    or_nothing false = refl
 
 -- a normal slab has not taken its class
 pub is_done-normal : (t : Tables) (start : ℕ) → t.kind start ≡ 1 → is_done t start ≡ false
 is_done-normal t start normal = let other : (t.kind start == 3) ≡ false = ne_eqb (t.kind start) 3 (λ e. omega (arith, e, normal)) in ap (λ b. b && not (any_below (t.live start) (t.index_count start))) other
 
--- the blocks of a slab in the set
+-- the blocks of a normal slab in the set
+module _ (words : List ℕ) (set : SlabSet) (start : ℕ) (image : IsExactButImage words start) (was : IsSlabsOf set words) (slab : (tables_of words).slab start ≡ true) (normal : (tables_of words).kind start ≡ normal_kind) where
+  abbrev its : Tables
+  its = tables_of words
 
--- each is available: no bit is set
-pub clear_of : (words : List ℕ) (set : SlabSet) (start : ℕ) → IsSlabsOf set words → (tables_of words).slab start ≡ true → IsWhole set start → (i : ℕ) → i < class_capacity ((tables_of words).class start) → (tables_of words).bit start i ≡ false
-clear_of words set start was slab whole i below =
-    let t = tables_of words in
-    let block : IsBlock set start i = record { class = t.class start; slab = was.classes start ∙ cond-true (t.slab start) (Some (t.class start)) None slab; below = below } in
-    false_from_ne_true (t.bit start i) (λ on. true≢false (sym (whole.each i block) ∙ was.blocks start i slab below ∙ ap not on))
+  -- each is available: it holds none
+  pub none_held : IsWhole set start → holds_none (tables_of words) start ≡ true
+  none_held whole = ⊎_elim
+      (λ (none : holds_none its start ≡ true). none)
+      (λ (some : holds_none its start ≡ false).
+      let held = some_by_tests its start slab (calm_but image.but start slab) some in
+      absurd (⊎_elim
+      (λ (bit : HoldsBit its start held.0).
+      let block : IsBlock set start bit.number = record { class = its.class start; slab = was.classes start ∙ cond-true (its.slab start) (Some (its.class start)) None slab; below = bit.below } in
+      let clear = clear_unused image.but.sound image.but.closed start bit.number slab bit.below (calm_but image.but start slab) ((was.blocks start bit.number slab bit.below).0 (whole.each bit.number block)) in
+      true≢false (sym bit.set ∙ clear))
+      (λ (old : HoldsOld its start held.0). let none = ((image.but.sound.slabs start slab).state.none normal).1 in omega (arith, old.below, none))
+      held.1.block))
+      (cases_Bool (holds_none its start))
 
-pub none_held : (words : List ℕ) (set : SlabSet) (start : ℕ) → IsSlabsOf set words → (tables_of words).slab start ≡ true → (tables_of words).index_count start ≡ 0 → IsWhole set start → holds_none (tables_of words) start ≡ true
-none_held words set start was slab none whole =
-    let t = tables_of words in
-    holds_none-normal t start none ∙ ap not (any_below-none (t.bit start) (class_capacity (t.class start)) (clear_of words set start was slab whole))
-
--- some is not: a bit is set
-pub some_held : (words : List ℕ) (set : SlabSet) (start : ℕ) → IsSlabsOf set words → (tables_of words).slab start ≡ true → ¬ (IsWhole set start) → any_below ((tables_of words).bit start) (class_capacity ((tables_of words).class start)) ≡ true
-some_held words set start was slab other =
-    let t = tables_of words in
-    let here : class_in set start ≡ Some (t.class start) = was.classes start ∙ cond-true (t.slab start) (Some (t.class start)) None slab in
-    true_from_ne_false (any_below (t.bit start) (class_capacity (t.class start))) (λ none. other (record {
-      each = λ number block.
-          let there = block.slab in
-          let same : block.class ≡ t.class start = cc in
-          let below = subst (λ c. number < class_capacity c) same block.below in
-          was.blocks start number slab below ∙ ap not (any_below-each (t.bit start) (class_capacity (t.class start)) none number below);
-    }))
+  -- some is not
+  pub some_held : ¬ (IsWhole set start) → holds_none (tables_of words) start ≡ false
+  some_held other = ⊎_elim
+      (λ (none : holds_none its start ≡ true). absurd (other (record {
+        each = λ number block.
+            let there = block.slab in
+            let here : class_in set start ≡ Some (its.class start) = was.classes start ∙ cond-true (its.slab start) (Some (its.class start)) None slab in
+            let same : block.class ≡ its.class start = cc in
+            let below = subst (λ c. number < class_capacity c) same block.below in
+            (was.blocks start number slab below).1 (record { each = λ range holds. absurd (none_by_tests its start none range holds) });
+      })))
+      (λ (some : holds_none its start ≡ false). some)
+      (cases_Bool (holds_none its start))
 
 -- the granules of a slab are held
 pub held_row : (words : List ℕ) (set : FreeSet) (start : ℕ) → IsExactButImage words start → (tables_of words).slab start ≡ true → IsIndexOf set words → IsHeldRow set start 4
@@ -319,11 +276,9 @@ pub tidied_none : (s : PmemState) (volatile : Volatile) (start : ℕ) → IsExac
 tidied_none s volatile start image ready log index normal was slab other =
     let words = words_of s in
     let t = tables_of words in
-    let some = some_held words volatile.slabs start was slab other in
-    let held = any_below-some (t.bit start) (class_capacity (t.class start)) some in
-    let exact = exact_held words start held.0 image slab (normal.each start slab) held.1 held.2 in
-    let few = (image.but.sound.slabs start slab).state.none (normal.each start slab) in
-    let none : holds_none t start ≡ false = holds_none-normal t start few.1 ∙ ap not some in
+    let kind = normal.each start slab in
+    let none = some_held words volatile.slabs start image was slab kind other in
+    let exact = exact_held words start image (rooted_by_tests start image.but slab none) (λ done. omega (arith, done.kind, kind)) in
     let events : tidy_events words start ≡ [] = cond-false (holds_none t start) _ _ none ∙ cond-false (is_done t start) _ [] (is_done-normal t start (normal.each start slab)) in
     record {
       step = step_by [] (tidy_events words start) (sym events) (step_none ready.quiet (same_heap words words exact));

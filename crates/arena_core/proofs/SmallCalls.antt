@@ -1,5 +1,5 @@
 -- A small block and its root come or go: what an arena keeps holds again.
-use Rattle.std.proofs.Common.{◌≡◌, ◌≢◌, ◌⊎◌, ◌↔◌, ◌==◌, ◌&&◌, ℕ, ◌<◌, Bool, not, List, sym, ap, subst, ◌∙◌, arith, inl, inr, ⊎_elim, None, if◌then◌else◌}
+use Rattle.std.proofs.Common.{refl, true, false, true≢false, ◌≤◌, ◌+◌, ◌*◌, ◌≡◌, ◌≢◌, ◌⊎◌, ◌↔◌, ◌==◌, ◌&&◌, ℕ, ◌<◌, Bool, not, List, sym, ap, subst, ◌∙◌, arith, inl, inr, ⊎_elim, None, if◌then◌else◌, true, ◌*◌}
 use Rattle.std.proofs.lemmas.Bool.{cases_eq, eq-eqb, ne_eqb, cond-true, cond-false, and_from, and_left, and_right}
 use Rattle.std.proofs.lemmas.List.Elements.{All-weaker}
 use Rattle.pmem_lines.specs.Words.{word_at}
@@ -8,31 +8,37 @@ use Rattle.pool_layout.specs.Header.{version_in}
 use Rattle.size_classes.specs.Classes.{class_capacity}
 use Rattle.image_tables.specs.Log.{active_chunks}
 use Rattle.image_tables.specs.Tables.{Tables, tables_of}
-use Rattle.image_tables.specs.Updates.{with_small}
+use Rattle.image_tables.specs.Updates.{with_small, put_in}
 use Rattle.image_tables.proofs.Chunks.{few_chunks}
 use Rattle.image_tables.proofs.Places.{log_word-low, entry_word-low, entry_word-high}
 use Rattle.image_tables.proofs.Logs.{SameChunk, SameLog}
 use Rattle.image_tables.proofs.Stores.{root_word-low}
-use Rattle.image_tables.proofs.Updates.{put_in-same, put_in-other}
+use Rattle.image_tables.proofs.Updates.{put_in-same, put_at-other}
 use Rattle.book_log.specs.Book.{Book}
 use Rattle.book_log.proofs.Books.{Reads-same}
 use Rattle.extent_index.specs.FreeSet.{FreeSet, IsFree}
 use Rattle.slab_index.specs.SlabSet.{SlabSet, class_in, is_available}
-use Rattle.heap_model.specs.Machine.{Bounds, slab_block}
-use Rattle.heap_check.specs.Heap.{slabs}
+use Rattle.heap_model.specs.Machine.{Bounds, slab_block, Range}
+use Rattle.heap_check.specs.Heap.{slabs, IsUnusedIn, Holds}
 use Rattle.heap_check.specs.Sound.{IsVacant}
-use Rattle.heap_check.specs.Image.{bounds_of, IsExactImage}
+use Rattle.heap_check.specs.Image.{bounds_of, IsExactImage, IsExactButImage}
 use Rattle.heap_check.specs.State.{KeepsBlocks}
 use Rattle.heap_check.proofs.BlockWords.{block_word-heap, block_word-header}
 use Rattle.heap_check.proofs.Loose.{IsExactBut-exact}
 use Rattle.heap_check.proofs.Sizes.{sizes_of}
-use Rattle.heap_check.proofs.SmallHeaps.{IsVacant-small}
+use Rattle.heap_check.proofs.Small.{Holds-back, Holds-forth, blocks_apart}
 use Rattle.log_steps.specs.Log.{IsBookOf}
 use Rattle.attach_steps.specs.declared.block.SmallBlock.{SmallBlock}
-use Rattle.attach_steps.specs.Steps.{KeepsOthers, IsBlockIn}
-use Rattle.attach_steps.proofs.Stages.{start_low, number_low, root_low}
+use Rattle.attach_steps.specs.Steps.{KeepsOthers, IsBlockIn, IsDetachable, bit_word, IsDetached}
 use Rattle.arena_core.specs.Arena.{HasNormalSlabs, IsIndexOf, IsSlabsOf}
 use Rattle.arena_core.specs.Plan.{IsNamedSmall}
+use Rattle.heap_check.specs.Slabs.{IsSameSlab}
+use Rattle.heap_check.proofs.OneBlock.{stage_of, IsVacant-one}
+use Rattle.heap_check.proofs.Geometry.{number_few, granules_at-slab}
+use Rattle.size_classes.proofs.Spacing.{class_size-least}
+use Rattle.arena_core.proofs.UnusedBlocks.{iff_same, iff_then, unused_apart, unused_freed}
+use Rattle.heap_check.proofs.SmallPlaces.{IsSmallPlace-named, calm_but}
+use Rattle.heap_check.proofs.SameSlabs.{IsUnusedIn-same}
 
 -- the set is another with one block taken or given
 pub record IsTurned (set new : SlabSet) (start number : ℕ) (on : Bool) : Type 0 where
@@ -40,11 +46,8 @@ pub record IsTurned (set new : SlabSet) (start number : ℕ) (on : Bool) : Type 
   pub classes : (s : ℕ) → class_in new s ≡ class_in set s
   pub blocks : (s i : ℕ) → is_available new s i ≡ (if (s == start) && (i == number) then not on else is_available set s i)
 
-module _ (words : List ℕ) (root start number : ℕ) (on : Bool) (word : ℕ) (new : List ℕ) (bounds : bounds_of new ≡ bounds_of words)
-    (tables : tables_of new ≡ with_small (tables_of words) start number on root word None) where
-  abbrev t : Tables
-  t = tables_of words
-
+-- the tables are others in which a block is held or not, with its root's word
+module _ (words : List ℕ) (bits lives : Bool → ℕ → ℕ → Bool) (root : ℕ) (on : Bool) (word : ℕ) (new : List ℕ) (bounds : bounds_of new ≡ bounds_of words) (tables : tables_of new ≡ stage_of (tables_of words) bits lives root on word None) where
   pub classes_small : (s : ℕ) → slabs (tables_of new) s ≡ slabs (tables_of words) s
   classes_small s = ap (λ (x : Tables). slabs x s) tables
 
@@ -54,55 +57,127 @@ module _ (words : List ℕ) (root start number : ℕ) (on : Bool) (word : ℕ) (
   pub index_small : (set : FreeSet) → IsIndexOf set words → IsIndexOf set new
   index_small set index = record {
     granules = index.granules ∙ ap (λ (b : Bounds). b.granules) (sym bounds);
-    each = λ k. let same = IsVacant-small (bounds_of words) t start number on root word None k in
+    each = λ k. let same = IsVacant-one (bounds_of words) (tables_of words) bits lives root on word None k in
         subst (λ b. IsFree set k ↔ IsVacant b (tables_of new) k) (sym bounds)
         (subst (λ x. IsFree set k ↔ IsVacant (bounds_of words) x k) (sym tables)
         (λ free. same.1 ((index.each k).0 free), λ vacant. (index.each k).1 (same.0 vacant)));
   }
 
-  -- the bit of a block
-  bit_here : (tables_of new).bit start number ≡ on
-  bit_here = ap (λ (x : Tables). x.bit start number) tables ∙ put_in-same t.bit start number on
+-- of a block of its slab's class it is the bit
+abbrev pub bits_with : Tables → ℕ → ℕ → Bool → ℕ → ℕ → Bool
+bits_with t start number on = put_in t.bit start number on
 
-  bit_other : (s i : ℕ) → (s ≢ start) ⊎ (i ≢ number) → (tables_of new).bit s i ≡ t.bit s i
-  bit_other s i either = ap (λ (x : Tables). x.bit s i) tables ∙ put_in-other t.bit start number on s i either
+abbrev pub lives_as : Tables → Bool → ℕ → ℕ → Bool
+lives_as t on = t.live
 
-  pub slabs_small : (set other : SlabSet) → IsTurned set other start number on → IsSlabsOf set words → IsSlabsOf other new
-  slabs_small set other turned was = record {
+-- a block of its slab's class
+module _ (words : List ℕ) (root start number : ℕ) (on : Bool) (word : ℕ) (new : List ℕ) (bounds : bounds_of new ≡ bounds_of words)
+    (tables : tables_of new ≡ with_small (tables_of words) start number on root word None) where
+  abbrev t : Tables
+  t = tables_of words
+
+  abbrev after : Tables
+  after = with_small (tables_of words) start number on root word None
+
+  same_slab : (s : ℕ) → s ≢ start → IsSameSlab t after s
+  same_slab s differ = record { slab = refl; kind = refl; class = refl; old = refl; index_count = refl; bit = put_at-other t.bit start s _ differ; live = refl; number = refl }
+
+  -- a block that is turned is unused where it is available
+  pub slabs_small : (set other : SlabSet) → IsTurned set other start number on → (not on ≡ true) ↔ IsUnusedIn (with_small (tables_of words) start number on root word None) start ((tables_of words).class start) number →
+      IsSlabsOf set words → IsSlabsOf other new
+  slabs_small set other turned here was = record {
     granules = turned.granules ∙ was.granules ∙ ap (λ (b : Bounds). b.granules) (sym bounds);
-    classes = λ s. turned.classes s ∙ was.classes s ∙ sym (classes_small s);
-    blocks = λ s i slab below.
-        let is = sym (ap (λ (x : Tables). x.slab s) tables) ∙ slab in
-        let among : i < class_capacity (t.class s) = subst (λ c. i < class_capacity c) (ap (λ (x : Tables). x.class s) tables) below in
-        let elsewhere : (s ≢ start) ⊎ (i ≢ number) → is_available other s i ≡ not ((tables_of new).bit s i) = λ either.
-        turned.blocks s i
-        ∙ cond-false ((s == start) && (i == number)) (not on) (is_available set s i)
-        (⊎_elim (λ apart. and_left (s == start) (i == number) (ne_eqb s start apart)) (λ apart. and_right (s == start) (i == number) (ne_eqb i number apart)) either)
-        ∙ was.blocks s i is among
-        ∙ ap not (sym (bit_other s i either)) in
-        ⊎_elim
-        (λ (slab_is : s ≡ start). ⊎_elim
-        (λ (number_is : i ≡ number).
-        turned.blocks s i
-        ∙ cond-true ((s == start) && (i == number)) (not on) (is_available set s i) (and_from (s == start) (i == number) (eq-eqb s start slab_is) (eq-eqb i number number_is))
-        ∙ ap not (sym bit_here)
-        ∙ ap (λ x. not ((tables_of new).bit x number)) (sym slab_is)
-        ∙ ap (λ x. not ((tables_of new).bit s x)) (sym number_is))
-        (λ (apart : i ≢ number). elsewhere (inr apart))
-        (cases_eq i number))
-        (λ (apart : s ≢ start). elsewhere (inl apart))
-        (cases_eq s start);
+    classes = λ s. turned.classes s ∙ was.classes s ∙ sym (ap (λ (x : Tables). slabs x s) tables);
+    blocks = subst (λ (x : Tables). (s i : ℕ) → x.slab s ≡ true → i < class_capacity (x.class s) → (is_available other s i ≡ true) ↔ IsUnusedIn x s (x.class s) i) (sym tables) each;
   }
+    where
+      elsewhere : (s i : ℕ) → (s ≢ start) ⊎ (i ≢ number) → is_available other s i ≡ is_available set s i
+      elsewhere s i either = turned.blocks s i
+          ∙ cond-false ((s == start) && (i == number)) (not on) (is_available set s i)
+          (⊎_elim (λ apart. and_left (s == start) (i == number) (ne_eqb s start apart)) (λ apart. and_right (s == start) (i == number) (ne_eqb i number apart)) either)
+
+      in_slab : (i : ℕ) → t.slab start ≡ true → i < class_capacity (t.class start) → (is_available other start i ≡ true) ↔ IsUnusedIn after start (t.class start) i
+      in_slab i slab below = ⊎_elim
+          (λ (same : i ≡ number). subst (λ k. (is_available other start k ≡ true) ↔ IsUnusedIn after start (t.class start) k) (sym same)
+          (iff_same (turned.blocks start number ∙ cond-true ((start == start) && (number == number)) (not on) (is_available set start number) (and_from (start == start) (number == number) (eq-eqb start start refl) (eq-eqb number number refl))) here))
+          (λ (differ : i ≢ number). iff_same (elsewhere start i (inr differ)) (iff_then (was.blocks start i slab below)
+          (unused_apart (Holds-back t start number on root word None start) (Holds-forth t start number on root word None start) (t.class start) i (blocks_apart start (t.class start) number i (λ is. differ (sym is))))))
+          (cases_eq i number)
+
+      each : (s i : ℕ) → t.slab s ≡ true → i < class_capacity (t.class s) → (is_available other s i ≡ true) ↔ IsUnusedIn after s (t.class s) i
+      each s i slab below = ⊎_elim
+          (λ (same : s ≡ start). subst (λ k. t.slab k ≡ true → i < class_capacity (t.class k) → (is_available other k i ≡ true) ↔ IsUnusedIn after k (t.class k) i) (sym same) (in_slab i) slab below)
+          (λ (differ : s ≢ start). iff_same (elsewhere s i (inl differ)) (iff_then (was.blocks s i slab below) (IsUnusedIn-same (same_slab s differ) (t.class s) i)))
+          (cases_eq s start)
+
+-- a block that came to a root is used
+pub used_given : (words : List ℕ) (root : ℕ) (block : SmallBlock) (word : ℕ) → IsBlockIn words root block → let t = tables_of words in
+    (not true ≡ true) ↔ IsUnusedIn (with_small t block.start block.number true root word None) block.start (t.class block.start) block.number
+used_given words root block word block_in =
+    let t = tables_of words in
+    let but = block_in.image.but in
+    let after = with_small t block.start block.number true root word None in
+    let size = class_size-least (t.class block.start) (but.sound.slabs block.start block_in.slab).state.is_class in
+    let range : Range = slab_block block.start (t.class block.start) block.number in
+    let held : Holds after block.start range = record {
+      slab = block_in.slab;
+      block = inl (record { number = block.number; below = block_in.below; read = calm_but but block.start block_in.slab; set = put_in-same t.bit block.start block.number true; is = refl });
+    } in (
+      λ is. absurd (true≢false (sym is)),
+      λ unused. absurd (⊎_elim (λ x. omega (arith, x, size)) (λ x. omega (arith, x, size)) (unused.each range held)),
+    )
+
+-- and one that went from its root is unused
+pub unused_taken : (words : List ℕ) (line root : ℕ) (block : SmallBlock) → IsDetachable words root block → (new : List ℕ) → IsDetached words line root block new → let t = tables_of words in
+    (not false ≡ true) ↔ IsUnusedIn (with_small t block.start block.number false root 0 None) block.start (t.class block.start) block.number
+unused_taken words line root block may new detached =
+    let t = tables_of words in
+    let but = may.block_in.image.but in
+    let place = IsSmallPlace-named root block.start block.number but (omega (arith, (sizes_of words may.block_in.image.formed).first)) may.block_in.rooted may.block_in.slab may.block_in.below may.set (may.named ∙ may.block_in.at) in
+    let left = detached.image.but in
+    let apart = unused_freed left.sound left.closed but.closed root (slab_block block.start (t.class block.start) block.number) detached.gives.here detached.gives.others place.apart block.start in (
+      λ is. subst (λ (x : Tables). IsUnusedIn x block.start (t.class block.start) block.number) detached.tables (record { each = apart }),
+      λ unused. refl,
+    )
+
+-- One word of a slab's header changes with a root's word and a write-ahead line: where it lies.
+pub record IsBlockChange (words : List ℕ) (line root start k : ℕ) : Type 0 where
+  pub image : IsExactButImage words start
+  pub slab : (tables_of words).slab start ≡ true
+  pub rooted : root < (bounds_of words).roots
+  pub low : 2048 * start ≤ k
+  pub high : k < 2048 * start + 256
+  pub few : line < 8
+
+-- where it is the bit of a block
+pub change_bit : {words : List ℕ} {line root : ℕ} {block : SmallBlock} → IsBlockIn words root block → line < 8 → IsBlockChange words line root block.start (bit_word block)
+change_bit {words} {line} {root} {block} block_in few = record {
+  image = block_in.image;
+  slab = block_in.slab;
+  rooted = block_in.rooted;
+  low = omega arith;
+  high = omega (arith, number_few ((tables_of words).class block.start) block.number (block_in.image.but.sound.slabs block.start block_in.slab).state.is_class block_in.below);
+  few = few;
+}
 
 -- the words of the log and of blocks are the same
-module _ (words : List ℕ) (line root : ℕ) (block : SmallBlock) (block_in : IsBlockIn words root block) (line_below : line < 8) (new : List ℕ) (rest : KeepsOthers words line root block new) where
+module _ {words : List ℕ} {line root start place : ℕ} (change : IsBlockChange words line root start place) (new : List ℕ) (rest : KeepsOthers words line root place new) where
+  start_low : 4 ≤ start
+  start_low =
+      let sizes = sizes_of words change.image.formed in
+      let four = granules_at-slab (tables_of words) start change.slab in
+      omega (arith, sizes.first, (change.image.but.sound.starts start (omega (arith, four))).0)
+
+  root_low : root < 4096
+  root_low = omega (arith, (sizes_of words change.image.formed).roots, change.rooted)
+
   keeps_low : (k : ℕ) → k < 64 → word_at new k ≡ word_at words k
-  keeps_low k low = rest.others k (λ e. omega (arith, e, low)) (λ e. omega (arith, e, low, start_low words line root block block_in line_below)) (λ e. omega (arith, e, low))
+  keeps_low k low = rest.others k (λ e. omega (arith, e, low)) (λ e. omega (arith, e, low, change.low, start_low)) (λ e. omega (arith, e, low))
 
   log_small : SameLog words new
   log_small =
       let version = version_in words in
-      let sizes = sizes_of words block_in.image.formed in
+      let sizes = sizes_of words change.image.formed in
       record {
         fields = keeps_low fields_word (omega arith);
         directory = keeps_low directory_word (omega arith);
@@ -112,9 +187,9 @@ module _ (words : List ℕ) (line root : ℕ) (block : SmallBlock) (block_in : I
                   let low = entry_word-low version c e in
                   let high = entry_word-high version c e few below in
                   rest.others (entry_word version c e)
-                  (λ is. omega (arith, is, low, log_word-low version, line_below))
-                  (λ is. omega (arith, is, high, sizes.first, start_low words line root block block_in line_below))
-                  (λ is. omega (arith, is, low, root_word-low version root block_in.rooted));
+                  (λ is. omega (arith, is, low, log_word-low version, change.few))
+                  (λ is. omega (arith, is, high, sizes.first, change.low, start_low))
+                  (λ is. omega (arith, is, low, root_word-low version root change.rooted));
             })
             (active_chunks (word_at words directory_word)) (few_chunks (word_at words directory_word));
       }
@@ -128,23 +203,23 @@ module _ (words : List ℕ) (line root : ℕ) (block : SmallBlock) (block_in : I
   pub keeps_small : KeepsBlocks words new
   keeps_small = record {
     each = λ r other at k was is within.
-        let but = block_in.image.but in
-        let sizes = sizes_of words block_in.image.formed in
+        let but = change.image.but in
+        let sizes = sizes_of words change.image.formed in
         let high = block_word-heap but.sound but.closed r at was k within in
-        let off = block_word-header but.sound but.closed r at was k within block.start block_in.slab in
+        let off = block_word-header but.sound but.closed r at was k within start change.slab in
         rest.others k
-        (λ e. omega (arith, e, high, sizes.first, line_below))
-        (λ e. omega (arith, e, off, number_low words line root block block_in line_below))
-        (λ e. omega (arith, e, high, sizes.first, root_low words line root block block_in line_below));
+        (λ e. omega (arith, e, high, sizes.first, change.few))
+        (λ e. omega (arith, e, off, change.low, change.high))
+        (λ e. omega (arith, e, high, sizes.first, root_low));
   }
 
 -- a block that a root names
-pub named_in : (words : List ℕ) (root : ℕ) (block : SmallBlock) (class : ℕ) → IsExactImage words → HasNormalSlabs words → IsNamedSmall (bounds_of words) (tables_of words) root block class → IsBlockIn words root block
-named_in words root block class exact normal named = record {
+pub named_in : (words : List ℕ) (root : ℕ) (block : SmallBlock) (class : ℕ) → IsExactImage words → IsNamedSmall (bounds_of words) (tables_of words) root block class → IsBlockIn words root block
+named_in words root block class exact named = record {
   image = record { formed = exact.formed; but = IsExactBut-exact exact.exact block.start };
   rooted = named.rooted;
   slab = named.slab;
-  normal = normal.each block.start named.slab;
+  lively = exact.exact.none_done block.start;
   below = subst (λ c. block.number < class_capacity c) (sym named.class_is) named.below;
   at = named.at ∙ ap (λ c. (slab_block block.start c block.number).at) (sym named.class_is);
 }

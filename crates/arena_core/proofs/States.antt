@@ -1,6 +1,6 @@
 -- The state of the heap machine that an exact image has: what the image's tables say of its granules, slabs and blocks,
--- and its state after a call. Slabs may live, and each is normal where a lemma says so.
-use Rattle.std.proofs.Common.{◌≡◌, ◌≢◌, ℕ, ◌+◌, ◌*◌, ◌/◌, ◌<◌, ◌≤◌, true, false, true≢false, eqb, refl, sym, ap, subst, ◌∙◌, arith, inl, inr, ⊎_elim, List, Option, Some, None}
+-- and its state after a call.
+use Rattle.std.proofs.Common.{◌≡◌, ◌≢◌, ℕ, ◌+◌, ◌*◌, ◌/◌, ◌<◌, ◌≤◌, true, false, true≢false, eqb, refl, sym, ap, subst, ◌∙◌, arith, inl, inr, ⊎_elim, List, Option, Some, None, ◌↔◌}
 use Rattle.std.proofs.lemmas.Bool.{cases_eq, cases_lt, cases_Bool, cond-true, cond-false, eq-eqb, ne_eqb}
 use Rattle.size_classes.specs.Classes.{class_capacity}
 use Rattle.image_tables.specs.Tables.{Tables, tables_of}
@@ -14,18 +14,17 @@ use Rattle.heap_model.proofs.Placing.{rows_apart}
 use Rattle.heap_model.proofs.Slabbing.{LiesIn-block}
 use Rattle.heap_model.proofs.Maps.{with_key-here, with_key-other}
 use Rattle.heap_model.proofs.Freeing.{BeginsIn, slabs_stay, slabs_stay-away, slabs_leave}
-use Rattle.heap_check.specs.Heap.{is_large, entry_at, heap, slabs, IsClaim}
+use Rattle.heap_check.specs.Heap.{is_large, entry_at, heap, slabs, IsClaim, IsUnusedIn}
 use Rattle.heap_check.specs.Sound.{granules_at, Covers, IsVacant, IsInSlab, IsSound, HasOther}
 use Rattle.heap_check.specs.Image.{bounds_of, IsExactImage}
 use Rattle.heap_check.specs.State.{HasState, KeepsBlocks}
 use Rattle.heap_check.proofs.Sizes.{sizes_of}
 use Rattle.heap_check.proofs.Claims.{plain_size, IsNamed-claim}
-use Rattle.heap_check.proofs.Geometry.{granules_at-slab, granules_at-large, granules_at-live, Covers-slab, is_large-slab, is_large-start, granule_of-start}
+use Rattle.heap_check.proofs.Geometry.{granules_at-slab, granules_at-large, granules_at-live, Covers-slab, is_large-slab, is_large-start, granule_of-start, one_slab}
 use Rattle.heap_check.proofs.Heaps.{heap-none, heap-some, heap-large, heap-claim, IsClaim-heap}
 use Rattle.heap_check.proofs.LargePlaces.{cases_run}
-use Rattle.heap_check.proofs.Within.{IsWithin, IsWithin-claim, Covers-within}
-use Rattle.heap_check.proofs.SmallPlaces.{one_slab, IsNormal, IsWithin-block, Holds-set, apart_free}
-use Rattle.arena_core.specs.Arena.{HasNormalSlabs}
+use Rattle.heap_check.proofs.Within.{IsWithin-claim, Covers-within}
+use Rattle.heap_check.proofs.SmallPlaces.{apart_unused}
 use Rattle.arena_core.specs.Plan.{IsVacantRow, tables_view}
 use Rattle.arena_core.proofs.Plans.{slab_parts}
 use Rattle.heap_check.proofs.LargeLogs.{large_many}
@@ -213,38 +212,29 @@ module _ {words : List ℕ} (image : IsExactImage words) {m : Machine} (state : 
       slab_elsewhere root range s (λ there. differ (one_slab sound s start range.at there inside)) ∙ sym (with_key-other m.slab start s None differ))
       (cases_eq s start)
 
-  -- where each slab is normal, its block is unused where its bit is clear
-  clear_unused : HasNormalSlabs words → (start class number : ℕ) → t.slab start ≡ true → t.class start ≡ class → number < class_capacity class → t.bit start number ≡ false → IsUnused m (slab_block start class number)
-  clear_unused normal start class number slab is below clear =
-      let kind : IsNormal t start = record { slab = slab; kind = normal.each start slab } in
-      let inside : number < class_capacity (t.class start) = subst (λ c. number < class_capacity c) (sym is) below in
-      record {
-        each = λ root other named.
-            let apart = apart_free sound image.exact.closed start number kind inside clear root other (claim root other named) in
-            ⊎_elim (λ before. inr before) (λ behind. inl behind) (subst (λ c. AreApart other (slab_block start c number)) is apart);
-      }
-
-  -- and only there
-  unused_clear : HasNormalSlabs words → (start class number : ℕ) → t.slab start ≡ true → t.class start ≡ class → number < class_capacity class → IsUnused m (slab_block start class number) → t.bit start number ≡ false
-  unused_clear normal start class number slab is below unused = ⊎_elim
-      (λ (set : t.bit start number ≡ true).
-      let kind : IsNormal t start = record { slab = slab; kind = normal.each start slab } in
-      let inside : number < class_capacity (t.class start) = subst (λ c. number < class_capacity c) (sym is) below in
-      let range : Range = slab_block start (t.class start) number in
-      let within : IsWithin t start range = IsWithin-block sound image.exact.closed start number kind inside in
-      let owner = sound.claimed start range (Holds-set sound image.exact.closed start number kind inside set) in
-      let apart : AreApart range range = subst (λ c. AreApart (slab_block start c number) range) (sym is) (unused.each owner.0 range (naming state owner.0 range (heap-claim t owner.0 range (unnamed owner.0) owner.1))) in
-      absurd (⊎_elim (λ x. omega (arith, x, within.some)) (λ x. omega (arith, x, within.some)) apart))
-      (λ (clear : t.bit start number ≡ false). clear)
-      (cases_Bool (t.bit start number))
+  -- a block of its class in a slab is unused where the state says so
+  unused_agrees : (start class number : ℕ) → t.slab start ≡ true → t.class start ≡ class → number < class_capacity class → IsUnusedIn t start class number ↔ IsUnused m (slab_block start class number)
+  unused_agrees start class number slab is below = (
+    λ unused. record {
+      each = λ root other named.
+          let inside : number < class_capacity (t.class start) = subst (λ c. number < class_capacity c) (sym is) below in
+          let apart = apart_unused sound image.exact.closed start number slab inside (subst (λ c. IsUnusedIn t start c number) (sym is) unused) root other (claim root other named) in
+          ⊎_elim (λ before. inr before) (λ behind. inl behind) (subst (λ c. AreApart other (slab_block start c number)) is apart);
+    },
+    λ unused. record {
+      each = λ range holds.
+          let owner = sound.claimed start range holds in
+          ⊎_elim (λ before. inr before) (λ behind. inl behind) (unused.each owner.0 range (naming state owner.0 range (heap-claim t owner.0 range (unnamed owner.0) owner.1)));
+    },
+  )
 
   -- the tables say what the state says
-  pub tables_agree : HasNormalSlabs words → Agree plain (tables_view (bounds_of words) (tables_of words)) (view_of (bounds_of words) m)
-  tables_agree normal = record {
+  pub tables_agree : Agree plain (tables_view (bounds_of words) (tables_of words)) (view_of (bounds_of words) m)
+  tables_agree = record {
     free = λ k. (vacant_is_free k, free_is_vacant k);
     slab = state.slabs;
     unused = λ start class number slab below.
         let is = slab_parts t start class slab in
-        (clear_unused normal start class number is.0 is.1 below, unused_clear normal start class number is.0 is.1 below);
+        unused_agrees start class number is.0 is.1 below;
     fit = λ morphs. absurd (true≢false (sym morphs));
   }

@@ -1,5 +1,5 @@
 -- What the indexes of an arena have read of an image so far, while an arena is made over it.
-use Rattle.std.specs.Prelude.{◌≡◌, ◌↔◌, nat_lt, ℕ, ◌<◌, ◌≤◌, true, not, List, Option, Some, None, if◌then◌else◌}
+use Rattle.std.specs.Prelude.{◌≡◌, ◌↔◌, nat_lt, ℕ, ◌<◌, ◌≤◌, true, List, Option, Some, None, if◌then◌else◌}
 use Rattle.pool_layout.specs.Header.{granules_in}
 use Rattle.size_classes.specs.Classes.{class_capacity}
 use Rattle.image_tables.specs.Extents.{extent_at}
@@ -9,7 +9,7 @@ use Rattle.book_log.specs.Table.{IsNextLive}
 use Rattle.heap_model.specs.Machine.{Bounds}
 use Rattle.extent_index.specs.FreeSet.{FreeSet, IsFree}
 use Rattle.slab_index.specs.SlabSet.{SlabSet, class_in, is_available}
-use Rattle.heap_check.specs.Heap.{slabs}
+use Rattle.heap_check.specs.Heap.{slabs, IsUnusedIn}
 use Rattle.heap_check.specs.Sound.{Covers}
 use Rattle.heap_check.specs.Image.{bounds_of}
 
@@ -30,13 +30,13 @@ pub record IsReadBelow (words : List ℕ) (set : FreeSet) (parts : SlabSet) (fro
   pub slab_granules : parts.granules ≡ granules_in words
   pub classes : (start : ℕ) → class_in parts start ≡ slabs_below (tables_of words) from start
   pub blocks : (start i : ℕ) → start < from → (tables_of words).slab start ≡ true → i < class_capacity ((tables_of words).class start) →
-      is_available parts start i ≡ not ((tables_of words).bit start i)
+      (is_available parts start i ≡ true) ↔ IsUnusedIn (tables_of words) start ((tables_of words).class start) i
 
--- the second set is the first with one slab more, in which the blocks are available whose bits are clear
+-- the second set is the first with one slab more, in which the blocks are available that are unused
 pub record IsWithSlabOf (words : List ℕ) (old new : SlabSet) (start : ℕ) : Type 0 where
   pub granules : new.granules ≡ old.granules
   pub here : class_in new start ≡ Some ((tables_of words).class start)
-  pub blocks : (i : ℕ) → i < class_capacity ((tables_of words).class start) → is_available new start i ≡ not ((tables_of words).bit start i)
+  pub blocks : (i : ℕ) → i < class_capacity ((tables_of words).class start) → (is_available new start i ≡ true) ↔ IsUnusedIn (tables_of words) start ((tables_of words).class start) i
   pub classes : (other : ℕ) → ¬ (other ≡ start) → class_in new other ≡ class_in old other
   pub others : (other i : ℕ) → ¬ (other ≡ start) → is_available new other i ≡ is_available old other i
 

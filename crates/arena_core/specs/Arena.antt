@@ -1,5 +1,5 @@
 -- What an arena keeps between its calls, and the memory that it is made of.
-use Rattle.std.specs.Prelude.{◌≡◌, ◌↔◌, ℕ, ◌<◌, ◌≤◌, true, not, List, Option, Some, None}
+use Rattle.std.specs.Prelude.{◌≡◌, ◌↔◌, ℕ, ◌<◌, ◌≤◌, true, List, Option, Some, None}
 use Rattle.pmem_lines.specs.Pmem.{PmemState, words_of}
 use Rattle.pool_layout.specs.Header.{granules_in}
 use Rattle.size_classes.specs.Classes.{class_capacity}
@@ -8,7 +8,7 @@ use Rattle.book_log.specs.Book.{IsBlank}
 use Rattle.heap_model.specs.declared.block.Block.{Block}
 use Rattle.extent_index.specs.FreeSet.{FreeSet, IsFree}
 use Rattle.slab_index.specs.SlabSet.{SlabSet, class_in, is_available}
-use Rattle.heap_check.specs.Heap.{heap, slabs}
+use Rattle.heap_check.specs.Heap.{heap, slabs, IsUnusedIn}
 use Rattle.heap_check.specs.Sound.{IsVacant}
 use Rattle.heap_check.specs.Image.{bounds_of, IsExactImage}
 use Rattle.log_steps.specs.Log.{IsBookOf}
@@ -29,11 +29,11 @@ pub record IsIndexOf (set : FreeSet) (words : List ℕ) : Type 0 where
   pub granules : set.granules ≡ granules_in words
   pub each : (k : ℕ) → IsFree set k ↔ IsVacant (bounds_of words) (tables_of words) k
 
--- the set has the slabs of these words, and of each the blocks whose bits are clear
+-- the set has the slabs of these words, and of each the blocks of its class that are unused
 pub record IsSlabsOf (set : SlabSet) (words : List ℕ) : Type 0 where
   pub granules : set.granules ≡ granules_in words
   pub classes : (start : ℕ) → class_in set start ≡ slabs (tables_of words) start
-  pub blocks : (start i : ℕ) → (tables_of words).slab start ≡ true → i < class_capacity ((tables_of words).class start) → is_available set start i ≡ not ((tables_of words).bit start i)
+  pub blocks : (start i : ℕ) → (tables_of words).slab start ≡ true → i < class_capacity ((tables_of words).class start) → (is_available set start i ≡ true) ↔ IsUnusedIn (tables_of words) start ((tables_of words).class start) i
 
 -- what an arena keeps, whatever slabs there are: its memory is ready and its image exact, and log and index are those of
 -- the image

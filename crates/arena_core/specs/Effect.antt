@@ -3,6 +3,7 @@ use Rattle.std.specs.Prelude.{◌≡◌, ◌≢◌, ◌⊎◌, ℕ, Bool, true, 
 use Rattle.image_tables.specs.Tables.{Tables, tables_of}
 use Rattle.heap_model.specs.Machine.{Range, with_key}
 use Rattle.heap_check.specs.Heap.{heap, slabs}
+use Rattle.heap_check.specs.Slabs.{IsSameSlab}
 use Rattle.heap_check.specs.Sound.{IsInSlab, HasOther}
 use Rattle.heap_check.specs.Image.{bounds_of}
 use Rattle.heap_check.specs.State.{KeepsBlocks}
@@ -17,12 +18,9 @@ pub record GivesRoot (old : List ℕ) (root : ℕ) (block : Option Range) (slab 
   pub keeps : KeepsBlocks old new
   pub bounds : bounds_of new ≡ bounds_of old
 
--- the slabs are the same, and the bits of their blocks
+-- both words say the same of each slab
 pub record KeepsSlabs (old new : List ℕ) : Type 0 where
-  pub slab : (tables_of new).slab ≡ (tables_of old).slab
-  pub kind : (tables_of new).kind ≡ (tables_of old).kind
-  pub class : (tables_of new).class ≡ (tables_of old).class
-  pub bit : (tables_of new).bit ≡ (tables_of old).bit
+  pub each : (start : ℕ) → IsSameSlab (tables_of old) (tables_of new) start
 
 -- the slabs behind a call that leaves the one at a start without a block, or not
 abbrev pub slabs_but : (ℕ → Option ℕ) → ℕ → Bool → ℕ → Option ℕ

@@ -1,6 +1,7 @@
 -- What a call decides before its first store, over the tables of the image at its begin.
-use Rattle.std.specs.Prelude.{◌≡◌, ◌≢◌, ℕ, ◌+◌, ◌-◌, ◌*◌, ◌<◌, ◌≤◌, true, false, Option, Some, None, MatchOption, Result, Ok, Err}
+use Rattle.std.specs.Prelude.{◌≡◌, ◌≢◌, ℕ, ◌+◌, ◌-◌, ◌*◌, ◌<◌, ◌≤◌, true, Option, Some, None, MatchOption, Result, Ok, Err}
 use Rattle.size_classes.specs.Classes.{class_capacity}
+use Rattle.image_tables.specs.Forms.{normal_kind}
 use Rattle.image_tables.specs.Tables.{Tables}
 use Rattle.heap_model.specs.Machine.{Bounds, Range, slab_block}
 use Rattle.heap_model.specs.Policy.{plain}
@@ -8,7 +9,7 @@ use Rattle.heap_model.specs.Choice.{View, Site, range_of, HasNoSite}
 use Rattle.heap_model.specs.Choice.Site.{Granules, InSlab, InNewSlab}
 use Rattle.heap_model.specs.Slabs.{live_below}
 use Rattle.heap_model.specs.Plain.{IsPlainSite}
-use Rattle.heap_check.specs.Heap.{heap, slabs}
+use Rattle.heap_check.specs.Heap.{heap, slabs, IsUnusedIn}
 use Rattle.heap_check.specs.Sound.{IsVacant}
 use Rattle.attach_steps.specs.declared.block.SmallBlock.{SmallBlock}
 use Rattle.arena_core.specs.declared.plan.Place.{Place}
@@ -54,23 +55,22 @@ pub record IsGivable (b : Bounds) (t : Tables) (root start count : ℕ) : Type 0
   pub many : 2 ≤ count
   pub row : IsVacantRow b t start count
 
--- a block of a slab of the class is to be given, whose bit is clear
-pub record IsClearBlock (t : Tables) (block : SmallBlock) (class : ℕ) : Type 0 where
+-- a block of a slab of the class is to be given, which is unused
+pub record IsGivableBlock (t : Tables) (block : SmallBlock) (class : ℕ) : Type 0 where
   pub slab : t.slab block.start ≡ true
   pub class_is : t.class block.start ≡ class
   pub below : block.number < class_capacity class
-  pub clear : t.bit block.start block.number ≡ false
+  pub unused : IsUnusedIn t block.start class block.number
   pub at : block.at ≡ (slab_block block.start class block.number).at
 
--- the view that the choice of a malloc has of the tables, where each slab is normal: a block of its slab's class is unused
--- where its bit is clear
+-- the view that the choice of a malloc has of the tables
 abbrev pub tables_view : Bounds → Tables → View
 tables_view b t = record {
   free = IsVacant b t;
   slab = slabs t;
-  unused = λ s c number. t.bit s number ≡ false;
+  unused = IsUnusedIn t;
   live = λ s. live_below (heap t) s b.roots;
-  in_transition = λ s. t.kind s ≢ 1;
+  in_transition = λ s. t.kind s ≢ normal_kind;
 }
 
 -- the site of a place
@@ -82,7 +82,7 @@ site_of (Fresh start class) = InNewSlab start class 0
 -- what a place has to be, to be given to a root
 abbrev pub IsPlaceFor : Bounds → Tables → ℕ → Place → Type 0
 IsPlaceFor b t root (Large start count) = IsGivable b t root start count
-IsPlaceFor b t root (Small block class) = IsClearBlock t block class
+IsPlaceFor b t root (Small block class) = IsGivableBlock t block class
 IsPlaceFor b t root (Fresh start class) = IsVacantRow b t start 4
 
 -- a place for a request: the lowest site, by the plain policy

@@ -8,7 +8,7 @@ ghost use Rattle.extent_index.specs.FreeSet.{IsFree};
 ghost use Rattle.slab_index.specs.SlabSet.{class_in};
 ghost use Rattle.heap_check.specs.Image.{IsExactImage};
 ghost use Rattle.log_steps.specs.Log.{IsBookOf};
-ghost use Rattle.arena_core.specs.Arena.{IsIndexOf, IsSlabsOf};
+ghost use Rattle.arena_core.specs.Arena.{HasNormalSlabs, IsIndexOf, IsSlabsOf};
 ghost use Rattle.arena_core.specs.Adopting.{IsReadBelow, IsNextRead, IsWithSlabOf};
 
 use book_log::{BookLog, LogEntry};
@@ -28,6 +28,7 @@ pub(crate) fn read_image<P: Pmem>(
     slabs: &mut SlabIndex,
 )
     requires exact { IsExactImage (words_of (P.state device.now)) }
+    requires normal { HasNormalSlabs (words_of (P.state device.now)) }
     requires log { IsBookOf log.now (words_of (P.state device.now)) }
     requires granules { free.old.granules ≡ granules_in (words_of (P.state device.now)) }
     requires all_free { (k : ℕ) → IsFree free.old k ↔ ((4 ≤ k) × (k < free.old.granules)) }
@@ -46,6 +47,7 @@ pub(crate) fn read_image<P: Pmem>(
 // Takes over the live extent that an entry says; those that start below it are taken over.
 fn read_extent<P: Pmem>(device: &P, free: &mut ExtentIndex, slabs: &mut SlabIndex, extent: LogEntry)
     requires exact { IsExactImage (words_of (P.state device.now)) }
+    requires normal { HasNormalSlabs (words_of (P.state device.now)) }
     requires next { IsNextRead (words_of (P.state device.now)) free.old slabs.old extent }
     ensures { IsReadBelow (words_of (P.state device.now)) free.new slabs.new (start_of extent + 1) }
 {
@@ -62,6 +64,7 @@ fn read_extent<P: Pmem>(device: &P, free: &mut ExtentIndex, slabs: &mut SlabInde
 // Takes over a slab: its class, and which of its blocks are free.
 fn read_slab<P: Pmem>(device: &P, slabs: &mut SlabIndex, start: u32)
     requires exact { IsExactImage (words_of (P.state device.now)) }
+    requires normal { HasNormalSlabs (words_of (P.state device.now)) }
     requires slab { (tables_of (words_of (P.state device.now))).slab start ≡ true }
     requires granules { slabs.old.granules ≡ granules_in (words_of (P.state device.now)) }
     requires fresh { class_in slabs.old start ≡ None }

@@ -61,7 +61,6 @@ pub(crate) fn plan_malloc<P: Pmem>(
     size: u64,
 ) -> Result<Place, MallocRefusal>
     requires exact { IsExactImage (words_of (P.state device.now)) }
-    requires normal { HasNormalSlabs (words_of (P.state device.now)) }
     requires index { IsIndexOf free.now (words_of (P.state device.now)) }
     requires slabs { IsSlabsOf slabs.now (words_of (P.state device.now)) }
     ensures { IsMallocPlan (bounds_of (words_of (P.state device.now))) (tables_of (words_of (P.state device.now))) root size result }
@@ -95,7 +94,7 @@ pub(crate) fn plan_malloc<P: Pmem>(
 fn small_place(free: &ExtentIndex, slabs: &SlabIndex, class: u8) -> Option<Place>
     requires class { class < 36 }
     requires few { (start class : ℕ) → class_in slabs.now start ≡ Some class → start < 1024 }
-    ensures { (words : List ℕ) → IsExactImage words → HasNormalSlabs words → IsIndexOf free.now words → IsSlabsOf slabs.now words → (root size : ℕ) → IsClassOf size class → IsFound (bounds_of words) (tables_of words) root size result }
+    ensures { (words : List ℕ) → IsExactImage words → IsIndexOf free.now words → IsSlabsOf slabs.now words → (root size : ℕ) → IsClassOf size class → IsFound (bounds_of words) (tables_of words) root size result }
 {
     match slabs.lowest(class) {
         Some(block) => {

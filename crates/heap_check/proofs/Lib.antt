@@ -26,6 +26,7 @@ pub mod OneBlock
 pub mod Small
 pub mod SmallPlaces
 pub mod OldBlock
+pub mod SameSlabs
 pub mod Slabs
 pub mod SlabSound
 pub mod SlabPlaces

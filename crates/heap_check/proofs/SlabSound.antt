@@ -8,6 +8,7 @@ use Rattle.heap_model.specs.Machine.{Bounds}
 use Rattle.heap_check.specs.Slabs.{IsSameSlab, IsSlabMore, IsFresh}
 use Rattle.heap_check.specs.Sound.{granules_at, Covers, IsInSlab, IsValidSlab, IsStanding, IsLooseLarge, IsEmptySlab, IsMorphing, IsDoneSlab, IsNearlyDone, LoosensNothing, IsSound, IsExact, IsSteady, IsExactBut}
 use Rattle.heap_check.proofs.Loose.{AtMostOne-one, AtMostOne-fewer}
+use Rattle.heap_check.proofs.SameSlabs.{IsSameSlab-back}
 use Rattle.heap_check.proofs.Slabs.{IsSlabPlace, new_closed, word, large, slab-differ, granules_at-other, granules_at-new, granules_at-none, Covers-back, Covers-forth, Holds-back, Holds-forth, claims-forth, claims-back, stands-forth, stands-back, IsInSlab-forth, IsInSlab-back}
 
 -- the state of a slab is valid where another's is of which the tables say the same
@@ -21,19 +22,6 @@ IsValidSlab-same t new start same was = record {
       (subst (λ c. t.number start place < class_capacity c) (sym same.old) (was.small place (omega (arith, below, same.index_count))));
   once = λ place other below under is. was.once place other (omega (arith, below, same.index_count)) (omega (arith, under, same.index_count))
       (sym (ap (λ (row : ℕ → ℕ). row place) same.number) ∙ is ∙ ap (λ (row : ℕ → ℕ). row other) same.number);
-}
-
--- the same the other way
-IsSameSlab-back : (t new : Tables) (start : ℕ) → IsSameSlab t new start → IsSameSlab new t start
-IsSameSlab-back t new start same = record {
-  slab = sym same.slab;
-  kind = sym same.kind;
-  class = sym same.class;
-  old = sym same.old;
-  index_count = sym same.index_count;
-  bit = sym same.bit;
-  live = sym same.live;
-  number = sym same.number;
 }
 
 module _ {b : Bounds} {t new : Tables} {start : ℕ} (place : IsSlabPlace b t new start) where
@@ -79,7 +67,7 @@ module _ {b : Bounds} {t new : Tables} {start : ℕ} (place : IsSlabPlace b t ne
     one_kind = λ other slab. sym (large place other) ∙ sound.one_kind other ((it.others other (slab-differ place other slab)).slab ∙ slab);
     slabs = λ other slab.
         let same = it.others other (slab-differ place other slab) in
-        IsValidSlab-same new t other (IsSameSlab-back t new other same) (sound.slabs other (same.slab ∙ slab));
+        IsValidSlab-same new t other (IsSameSlab-back same) (sound.slabs other (same.slab ∙ slab));
     open_entry = λ e is. absurd (let none = place.closed in cc);
     rooted = λ root some.
         let is = word place root in

@@ -3,11 +3,12 @@ use Rattle.std.proofs.Common.{◌≡◌, ◌≢◌, ◌⊎◌, ℕ, ◌+◌, ◌
 use Rattle.std.proofs.lemmas.Bool.{cases_eq}
 use Rattle.size_classes.specs.Classes.{class_capacity}
 use Rattle.image_tables.specs.Tables.{Tables}
-use Rattle.heap_model.specs.Machine.{Bounds, Range, slab_block}
+use Rattle.heap_model.specs.Machine.{Bounds, Range}
 use Rattle.heap_check.specs.Heap.{slab_of, is_large, entry_at, IsClaim, Holds, HoldsBit, HoldsOld}
 use Rattle.heap_check.specs.Slabs.{IsSlabMore, IsFresh}
 use Rattle.heap_check.specs.Sound.{granules_at, Covers, IsInSlab, IsHeld, IsStanding, IsEmptySlab}
 use Rattle.heap_check.proofs.Claims.{plain_size, IsNamed-claim, IsClaim-named}
+use Rattle.heap_check.proofs.SameSlabs.{Holds-same, Holds-same_back}
 use Rattle.heap_check.proofs.Geometry.{granules_at-slab, granules_at-large}
 
 -- the slab holds no block, its granules are no other extent's, and no root's word lies in them
@@ -77,51 +78,11 @@ module _ {b : Bounds} {t new : Tables} {start : ℕ} (place : IsSlabPlace b t ne
   pub Holds-back : (other : ℕ) (range : Range) → Holds new other range → (other ≢ start) × Holds t other range
   Holds-back other range holds = ⊎_elim
       (λ (same : other ≡ start). absurd (place.holds_none range (subst (λ s. Holds new s range) same holds)))
-      (λ (differ : other ≢ start).
-      let same = it.others other differ in (
-        differ,
-        record {
-          slab = sym same.slab ∙ holds.slab;
-          block = ⊎_elim
-              (λ (bit : HoldsBit new other range). inl (record {
-                number = bit.number;
-                below = subst (λ c. bit.number < class_capacity c) same.class bit.below;
-                read = λ kind. bit.read (same.kind ∙ kind);
-                set = sym (ap (λ (row : ℕ → Bool). row bit.number) same.bit) ∙ bit.set;
-                is = bit.is ∙ ap (λ c. slab_block other c bit.number) same.class;
-              }))
-              (λ (old : HoldsOld new other range). inr (record {
-                place = old.place;
-                below = omega (arith, old.below, same.index_count);
-                live = sym (ap (λ (row : ℕ → Bool). row old.place) same.live) ∙ old.live;
-                is = old.is ∙ ap (λ c. slab_block other c (new.number other old.place)) same.old ∙ ap (λ i. slab_block other (t.old other) i) (ap (λ (row : ℕ → ℕ). row old.place) same.number);
-              }))
-              holds.block;
-        },
-      ))
+      (λ (differ : other ≢ start). (differ, Holds-same_back (it.others other differ) range holds))
       (cases_eq other start)
 
   pub Holds-forth : (other : ℕ) (range : Range) → Holds t other range → Holds new other range
-  Holds-forth other range holds =
-      let same = it.others other (slab-differ other holds.slab) in
-      record {
-        slab = same.slab ∙ holds.slab;
-        block = ⊎_elim
-            (λ (bit : HoldsBit t other range). inl (record {
-              number = bit.number;
-              below = subst (λ c. bit.number < class_capacity c) (sym same.class) bit.below;
-              read = λ kind. bit.read (sym same.kind ∙ kind);
-              set = ap (λ (row : ℕ → Bool). row bit.number) same.bit ∙ bit.set;
-              is = bit.is ∙ ap (λ c. slab_block other c bit.number) (sym same.class);
-            }))
-            (λ (old : HoldsOld t other range). inr (record {
-              place = old.place;
-              below = omega (arith, old.below, same.index_count);
-              live = ap (λ (row : ℕ → Bool). row old.place) same.live ∙ old.live;
-              is = old.is ∙ ap (λ c. slab_block other c (t.number other old.place)) (sym same.old) ∙ ap (λ i. slab_block other (new.old other) i) (sym (ap (λ (row : ℕ → ℕ). row old.place) same.number));
-            }))
-            holds.block;
-      }
+  Holds-forth other range holds = Holds-same (it.others other (slab-differ other holds.slab)) range holds
 
   -- sizes and claims
 

@@ -1,38 +1,17 @@
 -- What the slabs of an arena hold, where the header of one changes and holds the same.
-use Rattle.std.proofs.Common.{◌≡◌, ◌≢◌, ◌↔◌, ◌<◌, ⊎_elim, inl, inr, ℕ, Bool, true, List, refl, sym, ap, subst, ◌∙◌}
+use Rattle.std.proofs.Common.{◌≡◌, ◌≢◌, ◌↔◌, ⊎_elim, ℕ, true, List, refl, sym, ap, subst, ◌∙◌}
 use Rattle.std.proofs.lemmas.Bool.{cases_eq}
-use Rattle.size_classes.specs.Classes.{class_capacity}
 use Rattle.image_tables.specs.Tables.{Tables, is_slab, AreSlabsInHeap, tables_of}
 use Rattle.image_tables.proofs.Tables.{slab_table}
 use Rattle.image_tables.proofs.Updates.{put_at-other}
-use Rattle.heap_model.specs.Machine.{Range, slab_block}
-use Rattle.heap_check.specs.Heap.{Holds, HoldsBit, HoldsOld}
+use Rattle.heap_model.specs.Machine.{Range}
+use Rattle.heap_check.specs.Heap.{Holds}
 use Rattle.heap_check.specs.Slabs.{IsSameSlab}
+use Rattle.heap_check.proofs.SameSlabs.{Holds-same, Holds-same_back}
 use Rattle.slab_morph.specs.SlabHeaders.{SlabHeader, header_at, put_header, alone}
 use Rattle.slab_morph.specs.Stages.{IsOffHeader, HoldSame, AllHoldSame}
 use Rattle.slab_morph.proofs.HeaderTables.{header_of-slab, tables_off}
 use Rattle.slab_morph.proofs.Holding.{Holds-slab}
-
--- tables that say the same of a slab have it hold the same
-holds_by : (t u : Tables) (start : ℕ) (range : Range) → IsSameSlab t u start → Holds u start range → Holds t start range
-holds_by t u start range same holds = record {
-  slab = sym same.slab ∙ holds.slab;
-  block = ⊎_elim
-      (λ (bit : HoldsBit u start range). inl (record {
-        number = bit.number;
-        below = subst (λ (c : ℕ). bit.number < class_capacity c) same.class bit.below;
-        read = λ is. bit.read (same.kind ∙ is);
-        set = sym (ap (λ (f : ℕ → Bool). f bit.number) same.bit) ∙ bit.set;
-        is = bit.is ∙ ap (λ c. slab_block start c bit.number) same.class;
-      }))
-      (λ (old : HoldsOld u start range). inr (record {
-        place = old.place;
-        below = subst (λ (n : ℕ). old.place < n) same.index_count old.below;
-        live = sym (ap (λ (f : ℕ → Bool). f old.place) same.live) ∙ old.live;
-        is = old.is ∙ (λ i. slab_block start (same.old i) (same.number i old.place));
-      }))
-      holds.block;
-}
 
 -- the other slabs
 other_slab : (t : Tables) (start s : ℕ) (h : SlabHeader) → s ≢ start → IsSameSlab t (put_header t start h) s
@@ -45,19 +24,6 @@ other_slab t start s h apart = record {
   bit = put_at-other t.bit start s h.bit apart;
   live = put_at-other t.live start s h.live apart;
   number = put_at-other t.number start s h.number apart;
-}
-
--- the same the other way
-same_back : (t u : Tables) (start : ℕ) → IsSameSlab t u start → IsSameSlab u t start
-same_back t u start same = record {
-  slab = sym same.slab;
-  kind = sym same.kind;
-  class = sym same.class;
-  old = sym same.old;
-  index_count = sym same.index_count;
-  bit = sym same.bit;
-  live = sym same.live;
-  number = sym same.number;
 }
 
 module _ (words image : List ℕ) (start : ℕ) (off : IsOffHeader words start image) (held : HoldSame start (header_at words start) (header_at image start)) (slabs : AreSlabsInHeap words) (is : is_slab words start ≡ true) where
@@ -85,8 +51,8 @@ module _ (words image : List ℕ) (start : ℕ) (off : IsOffHeader words start i
     each = λ s range. ⊎_elim
         (λ (own : s ≡ start). subst (λ (g : ℕ). Holds (tables_of image) g range ↔ Holds (tables_of words) g range) (sym own) (here range))
         (λ (apart : s ≢ start). (
-          λ holds. holds_by (tables_of words) (tables_of image) s range (same_slab s apart) holds,
-          λ holds. holds_by (tables_of image) (tables_of words) s range (same_back (tables_of words) (tables_of image) s (same_slab s apart)) holds,
+          λ holds. Holds-same_back (same_slab s apart) range holds,
+          λ holds. Holds-same (same_slab s apart) range holds,
         ))
         (cases_eq s start);
   }

@@ -80,10 +80,13 @@ module _ (words : List ℕ) (start : ℕ) (may : IsEndable words start) where
       tables_same = kept.left.tables slabs is_here ∙ ap (put_header t start) (same ∙ sym header_is) ∙ put_own t start
 
       same_keeps : LeavesHeap words image
-      same_keeps steady = record {
-        steady = record { formed = formed; steady = subst (λ (b : Bounds). IsSteady b (tables_of image)) (sym bounds) (subst (IsSteady (bounds_of words)) (sym tables_same) steady.steady) };
-        heap = record { each = λ root. ap (λ (x : Tables). heap x root) tables_same };
-        blocks = blocks_after words start may.image.formed sound may.here.slab image kept.left.off valid;
+      same_keeps = record {
+        entry = ap (λ (x : Tables). x.open_entry) tables_same;
+        keeps = λ steady. record {
+          steady = record { formed = formed; steady = subst (λ (b : Bounds). IsSteady b (tables_of image)) (sym bounds) (subst (IsSteady (bounds_of words)) (sym tables_same) steady.steady) };
+          heap = record { each = λ root. ap (λ (x : Tables). heap x root) tables_same };
+          blocks = blocks_after words start may.image.formed sound may.here.slab image kept.left.off valid;
+        };
       }
 
     -- with the slab normal
@@ -110,10 +113,13 @@ module _ (words : List ℕ) (start : ℕ) (may : IsEndable words start) where
       heap_same root = ap (λ (x : Tables). heap x root) tables_are ∙ heap-ending start sound may.here may.elsewhere held root
 
       done_keeps : LeavesHeap words image
-      done_keeps steady = record {
-        steady = steady_after steady;
-        heap = record { each = heap_same };
-        blocks = blocks_after words start may.image.formed sound may.here.slab image kept.left.off valid;
+      done_keeps = record {
+        entry = ap (λ (x : Tables). x.open_entry) tables_are;
+        keeps = λ steady. record {
+          steady = steady_after steady;
+          heap = record { each = heap_same };
+          blocks = blocks_after words start may.image.formed sound may.here.slab image kept.left.off valid;
+        };
       }
 
       pub end_done : IsEnded words start image
@@ -125,6 +131,7 @@ module _ (words : List ℕ) (start : ℕ) (may : IsEndable words start) where
         off = kept.left.off;
         bounds = bounds;
         tables = tables_put;
+        held = kept.all_held slabs is_here;
         loose = subst (λ (x : Tables). LoosensNothing t x) (sym tables_are) (loosens-ending start sound may.here may.elsewhere held);
         nearly = λ other near. nearly-ending start sound may.here may.elsewhere held other (subst (λ (x : Tables). IsNearlyDone x other) tables_are near);
       }

@@ -5,7 +5,7 @@ use Rattle.image_tables.specs.declared.entry.WalEntry.TheVariants.{Place}
 use Rattle.image_tables.specs.Tables.{Tables, tables_of}
 use Rattle.slab_header.specs.Morph.{finish_morph_events, finish_old_events}
 use Rattle.slab_morph.specs.SlabHeaders.{header_of, put_header}
-use Rattle.slab_morph.specs.Stages.{finished, settled, IsOffHeader}
+use Rattle.slab_morph.specs.Stages.{finished, settled, IsOffHeader, AllHoldSame}
 use Rattle.heap_check.specs.Sound.{IsInSlab, IsLooseLarge, IsEmptySlab, IsMorphing, IsDoneSlab, IsNearlyDone, LoosensNothing}
 use Rattle.heap_check.specs.Image.{bounds_of, IsSoundImage, IsSteadyImage}
 use Rattle.heap_check.specs.State.{HaveSameHeap, KeepsBlocks}
@@ -37,9 +37,11 @@ pub record IsEndable (words : List ℕ) (start : ℕ) : Type 0 where
 
 -- what is left
 
--- where the words were steady, a crash leaves them steady with the same heap, in which each block has its words
-abbrev pub LeavesHeap : List ℕ → List ℕ → Type 0
-LeavesHeap words image = IsSteadyImage words → KeepsHeap words image
+-- A crash leaves the open entry; and where the words were steady, it leaves them steady with the same heap, in which each
+-- block has its words.
+pub record LeavesHeap (words image : List ℕ) : Type 0 where
+  pub entry : (tables_of image).open_entry ≡ (tables_of words).open_entry
+  pub keeps : IsSteadyImage words → KeepsHeap words image
 
 -- Nothing comes to be loose, but that the slab at the granule may be done; and no slab is in Morphing.
 pub record LoosensDone (t new : Tables) (start : ℕ) : Type 0 where
@@ -67,5 +69,6 @@ pub record IsEnded (words : List ℕ) (start : ℕ) (new : List ℕ) : Type 0 wh
   pub off : IsOffHeader words start new
   pub bounds : bounds_of new ≡ bounds_of words
   pub tables : tables_of new ≡ put_header (tables_of words) start (settled (header_of (tables_of words) start))
+  pub held : AllHoldSame (tables_of words) (tables_of new)
   pub loose : LoosensNothing (tables_of words) (tables_of new)
   pub nearly : (other : ℕ) → IsNearlyDone (tables_of new) other → IsNearlyDone (tables_of words) other × (other ≢ start)

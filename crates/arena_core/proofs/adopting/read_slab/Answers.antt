@@ -26,7 +26,7 @@ pub returns : goal.returns
 returns g c =
     let words = words_of (g.P.Pmem.state c.args.device.now) in
     let is = class_read words c.granule_at-at.result c.args.start c.class_at-class.result (omega (arith, c.granule_at-at.ensures)) c.requires.slab c.class_at-class.ensures in
-    IsReading-all words c.args.slabs.now c.loop-i.slabs c.args.start c.class_at-class.result c.loop-i.i is (omega (arith, c.loop-i-test.false, c.capacity-i-end.ensures.count)) c.loop-i.invariant
+    IsReading-all words c.args.slabs.now c.loop-i.slabs c.args.start c.class_at-class.result c.loop-i.i is (omega (arith, c.loop-i-test.false, c.capacity-i-end.ensures.count)) c.requires.exact c.requires.slab (c.requires.normal.each c.args.start c.requires.slab) c.loop-i.invariant
 
 -- the next block is read
 pub loop-i-preserved : goal.loop-i-preserved

@@ -35,7 +35,7 @@ returns-in-Some-place g c =
       elim c.match-class_of.branch [
         | in-Some w ↦
             subst (IsFound (bounds_of words) (tables_of words) c.args.root c.args.size) (sym w.place-is ∙ c.in-Some-place.is)
-            (w.small_place-place.ensures words c.requires.exact c.requires.normal c.requires.index c.requires.slabs c.args.root c.args.size w.in-Some.ensures.class)
+            (w.small_place-place.ensures words c.requires.exact c.requires.index c.requires.slabs c.args.root c.args.size w.in-Some.ensures.class)
         | in-None w ↦
             let large : 16384 < c.args.size = ⊎_elim (λ zero. absurd (c.if-size-eq0.false zero)) (λ large. large) (w.in-None.ensures.none.0 refl) in
             subst (IsFound (bounds_of words) (tables_of words) c.args.root c.args.size) (sym w.place-is ∙ c.in-Some-place.is)
@@ -52,7 +52,7 @@ returns-in-None-place g c =
       elim c.match-class_of.branch [
         | in-Some w ↦
             subst (IsFound (bounds_of words) (tables_of words) c.args.root c.args.size) (sym w.place-is ∙ c.in-None-place.is)
-            (w.small_place-place.ensures words c.requires.exact c.requires.normal c.requires.index c.requires.slabs c.args.root c.args.size w.in-Some.ensures.class)
+            (w.small_place-place.ensures words c.requires.exact c.requires.index c.requires.slabs c.args.root c.args.size w.in-Some.ensures.class)
         | in-None w ↦
             let large : 16384 < c.args.size = ⊎_elim (λ zero. absurd (c.if-size-eq0.false zero)) (λ large. large) (w.in-None.ensures.none.0 refl) in
             subst (IsFound (bounds_of words) (tables_of words) c.args.root c.args.size) (sym w.place-is ∙ c.in-None-place.is)

@@ -16,12 +16,12 @@ overflow_add-at c =
     omega (arith, few, product, lies.high, c.blocks_at.ensures, c.granule_at.ensures)
 
 pub returns-in-Some : goal.returns-in-Some
-returns-in-Some c words image normal index slabs root size least =
+returns-in-Some c words image index slabs root size least =
     let product : c.in-Some.block.number * c.size_of_class.result ≡ c.in-Some.block.number * class_size c.args.class = ap (λ n. c.in-Some.block.number * n) c.size_of_class.ensures.size in
     IsPlacing-small index root size slabs c.args.class _ c.in-Some.block least c.in-Some.ensures (omega (arith, c.granule_at.ensures, c.blocks_at.ensures, product))
 
 pub returns-in-Some-best_fit : goal.returns-in-Some-best_fit
-returns-in-Some-best_fit c words image normal index slabs root size least = IsPlacing-fresh index root size slabs c.args.class c.in-Some-best_fit.start least c.in-None.ensures c.in-Some-best_fit.ensures
+returns-in-Some-best_fit c words image index slabs root size least = IsPlacing-fresh index root size slabs c.args.class c.in-Some-best_fit.start least c.in-None.ensures c.in-Some-best_fit.ensures
 
 pub returns-in-None-best_fit : goal.returns-in-None-best_fit
-returns-in-None-best_fit c words image normal index slabs root size least = HasNoSite-small index root size slabs c.args.class least c.in-None.ensures c.in-None-best_fit.ensures
+returns-in-None-best_fit c words image index slabs root size least = HasNoSite-small index root size slabs c.args.class least c.in-None.ensures c.in-None-best_fit.ensures

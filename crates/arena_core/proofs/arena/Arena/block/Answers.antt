@@ -27,7 +27,7 @@ freed_of-block-requires g c =
 pub returns-in-Some : goal.returns-in-Some
 returns-in-Some g c =
     let words = words_of (g.P.Pmem.state c.self.inside.device) in
-    let here = held_heap words c.self.invariant.current.exact c.self.invariant.normal c.args.root c.in-Some.held c.in-Some.ensures in
+    let here = held_heap words c.self.invariant.current.exact c.args.root c.in-Some.held c.in-Some.ensures in
     let block : Range = record { at = c.freed_of-block.result.at; size = c.freed_of-block.result.size } in
     let same : heap (tables_of words) c.args.root ≡ Some block = here ∙ (λ i. Some (record { at = sym c.freed_of-block.ensures.0 i; size = sym c.freed_of-block.ensures.1 i })) in
     (refl, subst (λ (s : ArenaState). heap (tables_of (words_of s.device)) c.args.root ≡ Some block) c.self.view_is same)

@@ -10,8 +10,7 @@ use Rattle.heap_check.proofs.Sizes.{sizes_of}
 use Rattle.arena_core.specs.declared.plan.Held.{Held}
 use Rattle.arena_core.specs.Plan.{IsTakable, IsNamedSmall, IsHeldBy, range_held}
 use Rattle.arena_core.proofs.Blocks.{heap-takable}
-use Rattle.arena_core.proofs.CallEvents.{IsCalled-same, IsCalled-done, freed_large, line_freed, freed_there, start_is, line_small, named_class, named_inside, named_heap}
-use Rattle.heap_check.proofs.SmallPlaces.{no_old-normal}
+use Rattle.arena_core.proofs.CallEvents.{IsCalled-same, IsCalled-done, freed_large, line_freed, freed_there, start_is, line_small, named_class, named_inside, named_heap, named_new}
 use Rattle.arena_core.proofs.MachineSteps.{freed_step, large_stays, small_stays}
 use Rattle.arena_core.proofs.volatile.Volatile.carry_out_held.Goals as goal
 use Rattle.arena_core.proofs.volatile.Volatile.carry_out_held.Goals.{in-Large, in-Small}
@@ -44,15 +43,15 @@ returns g c =
           let range : Range = slab_block block.start class block.number in
           let new = words_of (state w.take_small.new.device) in
           let named : IsNamedSmall b t root block class = subst (IsHeldBy b t root) w.in-Small.is c.requires.plan in
-          let is_class = named_class words exact arena.normal root block class named in
+          let is_class = named_class words exact root block class named in
           let done = w.take_small.ensures.done in
-          let step = freed_step words new root range _ named.rooted (named_heap words exact arena.normal root block class named)
-          (small_stays words root block.start range _ exact (named_inside words exact arena.normal root block class named) w.take_small.ensures.last) done.gives in
+          let step = freed_step words new root range _ named.rooted (named_heap words exact root block class named)
+          (small_stays words root block.start range _ exact (named_inside words exact root block class named) w.take_small.ensures.last) done.gives in
           IsCalled-same (ap state w.device-is) w.self-is
           (λ i. replies.Freed ((c.freed_of.ensures.0 ∙ ap (λ (h : Held). (range_held h).at) w.held-is) i) ((c.freed_of.ensures.1 ∙ ap (λ (h : Held). (range_held h).size) w.held-is) i))
           (IsCalled-done (calls.Free root) (replies.Freed range.at range.size) done
           (freed_there words c.args.self.now.line root block class is_class named.at (start_is exact.exact.sound block.start class block.number named.slab is_class named.below)
-          (no_old-normal exact.exact.sound block.start range.at (record { slab = named.slab; kind = arena.normal.each block.start named.slab })))
+          (named_new words exact root block class named))
           refl (ap (λ n. (n + 1) % 8) w.take_small.ensures.line ∙ sym (line_small c.args.self.now.line range.at class is_class).1) (omega arith) step)
     ]
 

@@ -32,4 +32,4 @@ returns-in-Err g c size plan =
       | refusals.NoSpace ↦ (refl, refl)
     ] in
     IsCalled-refused (calls.Malloc root size) (malloc_reply (Err c.in-Err.refusal)) c.requires.arena (stays c.in-Err.refusal).0 (stays c.in-Err.refusal).1
-    (refused_malloc words root size c.in-Err.refusal c.requires.arena.current.exact c.requires.arena.normal refused)
+    (refused_malloc words root size c.in-Err.refusal c.requires.arena.current.exact refused)

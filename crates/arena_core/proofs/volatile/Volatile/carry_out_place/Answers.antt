@@ -36,7 +36,7 @@ returns g c size plan =
           let placing : IsPlacing b t root size (places.Large start count) = subst (IsPlacing b t root size) w.in-Large.is made.1 in
           let many = placing.place_for.many in
           let done = w.give_large.ensures.done in
-          let step = placed_step words new root size (places.Large start count) exact arena.normal made.0 placing done.gives in
+          let step = placed_step words new root size (places.Large start count) exact made.0 placing done.gives in
           IsCalled-same (ap state w.device-is) w.self-is
           (λ i. replies.Placed ((c.placed_at.ensures.0 ∙ ap (λ (p : Place). (range_at p).at) w.place-is) i) ((c.placed_at.ensures.1 ∙ ap (λ (p : Place). (range_at p).size) w.place-is) i))
           (IsCalled-done (calls.Malloc root size) (replies.Placed range.at range.size) done (sym (placed_large words line root start count many)) refl (w.give_large.ensures.line ∙ sym (line_placed words line root start count many line)) (omega (arith, w.give_large.ensures.line, arena.few)) step)
@@ -47,10 +47,10 @@ returns g c size plan =
           let new = words_of (state w.give_small.new.device) in
           let placing : IsPlacing b t root size (places.Small block class) = subst (IsPlacing b t root size) w.in-Small.is made.1 in
           let is_class = placing.site.chosen.least.is_class in
-          let may = small_attachable words root size block class exact arena.normal made.0 placing.place_for in
+          let may = small_attachable words root size block class exact made.0 placing.place_for in
           let given = w.give_small.ensures in
           let done = IsDone-small block arena given.rest may placing.place_for.class_is given.step given.attached given.normal given.slabs in
-          let step = placed_step words new root size (places.Small block class) exact arena.normal made.0 placing done.gives in
+          let step = placed_step words new root size (places.Small block class) exact made.0 placing done.gives in
           IsCalled-same (ap state w.device-is) w.self-is
           (λ i. replies.Placed ((c.placed_at.ensures.0 ∙ ap (λ (p : Place). (range_at p).at) w.place-is) i) ((c.placed_at.ensures.1 ∙ ap (λ (p : Place). (range_at p).size) w.place-is) i))
           (IsCalled-done (calls.Malloc root size) (replies.Placed range.at range.size) done
@@ -64,7 +64,7 @@ returns g c size plan =
           let placing : IsPlacing b t root size (places.Fresh start class) = subst (IsPlacing b t root size) w.in-Fresh.is made.1 in
           let is_class = placing.site.chosen.least.is_class in
           let done = w.give_fresh.ensures.done in
-          let step = placed_step words new root size (places.Fresh start class) exact arena.normal made.0 placing done.gives in
+          let step = placed_step words new root size (places.Fresh start class) exact made.0 placing done.gives in
           let high : 3 ≤ start = omega (arith, placing.place_for.low, (sizes_of words exact.formed).first) in
           IsCalled-same (ap state w.device-is) w.self-is
           (λ i. replies.Placed ((c.placed_at.ensures.0 ∙ ap (λ (p : Place). (range_at p).at) w.place-is) i) ((c.placed_at.ensures.1 ∙ ap (λ (p : Place). (range_at p).size) w.place-is) i))
@@ -83,7 +83,7 @@ give_small-requires-clause-attachable g c =
     let size = c.requires.plan.0 in
     let made : IsAskedOf b t root size × IsPlacing b t root size c.args.place = c.requires.plan.1 in
     let placing : IsPlacing b t root size (places.Small c.in-Small.block c.in-Small.class) = subst (IsPlacing b t root size) c.in-Small.is made.1 in
-    small_attachable words root size c.in-Small.block c.in-Small.class arena.current.exact arena.normal made.0 placing.place_for
+    small_attachable words root size c.in-Small.block c.in-Small.class arena.current.exact made.0 placing.place_for
 
 pub placed_at-requires : goal.placed_at-requires
 placed_at-requires g c =

@@ -8,8 +8,9 @@ use Rattle.heap_check.proofs.Blank.{IsSteady-but}
 use Rattle.extent_steps.specs.Slabs.{drop_events}
 use Rattle.arena_core.specs.Effect.{slabs_but}
 use Rattle.arena_core.specs.Events.{holds_none, tidy_events}
-use Rattle.arena_core.proofs.SlabChanges.{clear_of, clear_empty, none_held, held_row, classes_dropped, normal_dropped, index_dropped, slabs_dropped, keeps_dropped, tidied_none}
+use Rattle.arena_core.proofs.SlabChanges.{none_held, held_row, classes_dropped, normal_dropped, index_dropped, slabs_dropped, keeps_dropped, tidied_none}
 use Rattle.arena_core.proofs.volatile.Volatile.drop_if_empty.Goals as goal
+use Rattle.arena_core.proofs.LastBlocks.{empty_by_tests}
 
 pub drop_slab-requires-clause-droppable : goal.drop_slab-requires-clause-droppable
 drop_slab-requires-clause-droppable g c =
@@ -19,7 +20,7 @@ drop_slab-requires-clause-droppable g c =
     record {
       image = record { formed = image.formed; steady = IsSteady-but image.but };
       closed = image.but.closed;
-      empty = clear_empty words start image c.requires.slab (c.requires.normal.each start c.requires.slab) (clear_of words c.args.self.now.slabs start c.requires.slabs c.requires.slab (c.is_whole.ensures.0 c.if-is_whole.true));
+      empty = empty_by_tests start image.but c.requires.slab (none_held words c.args.self.now.slabs start image c.requires.slabs c.requires.slab (c.requires.normal.each start c.requires.slab) (c.is_whole.ensures.0 c.if-is_whole.true));
     }
 
 pub give-requires : goal.give-requires
@@ -33,11 +34,10 @@ returns-then-is_whole-clause-tidied g c =
     let new = words_of left in
     let start = c.args.start in
     let image = c.requires.image in
-    let empty = clear_empty words start image c.requires.slab (c.requires.normal.each start c.requires.slab) (clear_of words c.args.self.now.slabs start c.requires.slabs c.requires.slab (c.is_whole.ensures.0 c.if-is_whole.true)) in
+    let none = none_held words c.args.self.now.slabs start image c.requires.slabs c.requires.slab (c.requires.normal.each start c.requires.slab) (c.is_whole.ensures.0 c.if-is_whole.true) in
+    let empty = empty_by_tests start image.but c.requires.slab none in
     let drop = c.drop_slab.ensures in
     let dropped = drop.dropped in
-    let few = (image.but.sound.slabs start c.requires.slab).state.none (c.requires.normal.each start c.requires.slab) in
-    let none = none_held words c.args.self.now.slabs start c.requires.slabs c.requires.slab few.1 (c.is_whole.ensures.0 c.if-is_whole.true) in
     let events : tidy_events words start ≡ drop_events words start = cond-true (holds_none (tables_of words) start) (drop_events words start) _ none in
     record {
       step = step_by (drop_events words start) (tidy_events words start) (sym events) drop.step;

@@ -8,10 +8,11 @@ use Rattle.attach_steps.specs.declared.block.SmallBlock.{SmallBlock}
 use Rattle.attach_steps.specs.Steps.{attach_events}
 use Rattle.arena_core.specs.Arena.{IsCurrent}
 use Rattle.arena_core.specs.Events.{first_block, fresh_events}
-use Rattle.arena_core.proofs.SmallCalls.{classes_small, index_small, book_small, keeps_small}
+use Rattle.arena_core.proofs.SmallCalls.{classes_small, index_small, book_small, keeps_small, change_bit, bits_with, lives_as}
 use Rattle.arena_core.proofs.HeapSteps.{keeps_both, steps_then}
 use Rattle.arena_core.proofs.SlabChanges.{classes_opened, keeps_opened, first_attachable}
 use Rattle.arena_core.proofs.volatile.Volatile.give_fresh.Goals as goal
+use Rattle.image_tables.specs.Tables.{tables_of}
 
 pub give_small-requires-clause-attachable : goal.give_small-requires-clause-attachable
 give_small-requires-clause-attachable g c =
@@ -42,6 +43,8 @@ returns-clause-done g c =
     let first : SmallBlock = record { start = start; number = 0; at = c.blocks_at.result } in
     let first_is : first ≡ first_block start = λ i. record { start = start; number = 0; at = at_is i } in
     let may = first_attachable words start class exact c.requires.row c.requires.class mid opened root c.blocks_at.result asked.below asked.none at_is in
+    let t = tables_of mid in
+    let change = change_bit may.block_in few in
     let events : (open_events words start class ++ attach_events (reading words (open_events words start class)) line root first) ≡ fresh_events words c.args.self.now.line root start class =
     λ i. open_events words start class ++ attach_events (reading words (open_events words start class)) (add.line i) root (first_is i) in
     let kept_words = keeps_opened words start class exact c.requires.row c.requires.class mid opened in
@@ -51,16 +54,16 @@ returns-clause-done g c =
       current = subst (IsCurrent (state c.give_small.new.device)) (sym give.rest) (record {
         ready = record { quiet = give.step.quiet; room = omega (arith, arena.current.ready.room, add.step.appends.room, give.step.appends.room) };
         exact = attached.exact;
-        log = book_small mid line root first may.block_in few new attached.rest attached.bounds c.add_slab.new.self.log add.book;
-        index = index_small mid root start 0 true c.blocks_at.result new attached.bounds attached.tables c.add_slab.new.self.free add.index;
+        log = book_small change new attached.rest attached.bounds c.add_slab.new.self.log add.book;
+        index = index_small mid (bits_with t start 0) (lives_as t) root true c.blocks_at.result new attached.bounds attached.tables c.add_slab.new.self.free add.index;
       });
       normal = give.normal;
       slabs = give.slabs;
       gives = record {
         here = attached.gives.here ∙ ap (λ k. Some (slab_block start k 0)) opened.slab.fresh.class_is;
         others = λ other differ. attached.gives.others other differ ∙ opened.heap.each other;
-        slabs = λ s. classes_small mid root start 0 true c.blocks_at.result new attached.bounds attached.tables s ∙ classes_opened words start class exact c.requires.row c.requires.class mid opened s;
-        keeps = keeps_both words mid new (inl opened.heap) kept_words (keeps_small mid line root first may.block_in few new attached.rest);
+        slabs = λ s. classes_small mid (bits_with t start 0) (lives_as t) root true c.blocks_at.result new attached.bounds attached.tables s ∙ classes_opened words start class exact c.requires.row c.requires.class mid opened s;
+        keeps = keeps_both words mid new (inl opened.heap) kept_words (keeps_small change new attached.rest);
         bounds = attached.bounds ∙ opened.bounds;
       };
     }
