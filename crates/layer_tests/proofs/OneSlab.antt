@@ -35,7 +35,7 @@ use Rattle.heap_check.proofs.Formatted.{AreBlank-formatted, header_in-formatted,
 use Rattle.heap_check.proofs.Geometry.{granules_at-large}
 use Rattle.heap_check.proofs.Loose.{IsExactBut-exact}
 use Rattle.heap_check.specs.Slabs.{IsWithSlab}
-use Rattle.heap_check.proofs.Slabs.{IsSlabPlace}
+use Rattle.heap_check.proofs.Slabs.{IsSlabPlace, holds_none-fresh}
 use Rattle.heap_check.proofs.SlabPlaces.{IsSlabPlace-vacant}
 use Rattle.heap_check.proofs.SlabSound.{IsExactBut-slab}
 use Rattle.attach_steps.specs.declared.block.SmallBlock.{SmallBlock}
@@ -287,7 +287,7 @@ module _ (words new : List ℕ) (one : IsOneSlab words new) where
     image = image;
     rooted = omega arith;
     slab = with_slab.more.slab;
-    normal = with_slab.fresh.kind;
+    lively = λ done. omega (arith, done.kind, with_slab.fresh.kind);
     below = subst (λ c. 9 < class_capacity c) (sym with_slab.fresh.class_is) six_small;
     at = six_at ∙ ap (λ c. (slab_block 4 c 9).at) (sym with_slab.fresh.class_is);
   }
@@ -297,7 +297,7 @@ module _ (words new : List ℕ) (one : IsOneSlab words new) where
   unfolding tables_of
   attachable = record {
     block_in = block_in;
-    clear = no_bit 9;
+    unused = record { each = λ range holds. absurd (holds_none-fresh with_slab.fresh range holds) };
     none = ap (λ (row : ℕ → ℕ). row 5) with_slab.more.root ∙ blank.roots 5;
   }
 
@@ -311,7 +311,7 @@ detachable words new line before after =
         image = record { formed = after.exact.formed; but = IsExactBut-exact after.exact.exact 4 };
         rooted = omega (arith, was.rooted, ap (λ (b : Bounds). b.roots) after.bounds);
         slab = ap (λ (t : Tables). t.slab 4) after.tables ∙ was.slab;
-        normal = ap (λ (t : Tables). t.kind 4) after.tables ∙ was.normal;
+        lively = after.exact.exact.none_done 4;
         below = subst (λ c. 9 < class_capacity c) (sym class) was.below;
         at = was.at ∙ ap (λ c. (slab_block 4 c 9).at) (sym class);
       };
