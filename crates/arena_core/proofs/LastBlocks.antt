@@ -70,9 +70,12 @@ pub last_of : {b : Bounds} (t : Tables) {left : Tables} (root start : ℕ) → I
 last_of {b} t {left} root start but slab was gone others = record {
   is = ⊎_elim
       (λ (none : holds_none left start ≡ true).
-      inl (none, λ other differ some inside.
-      let same = others other differ in
-      (empty_by_tests start but slab none).none other (λ zero. some (sym same ∙ zero)) (record { slab = slab; low = omega (arith, inside.low, same); high = omega (arith, inside.high, same) })))
+      inl (
+        none,
+        λ other differ some inside.
+            let same = others other differ in
+            (empty_by_tests start but slab none).none other (λ zero. some (sym same ∙ zero)) (record { slab = slab; low = omega (arith, inside.low, same); high = omega (arith, inside.high, same) }),
+      ))
       (λ (some : holds_none left start ≡ false).
       let rooted = rooted_by_tests start but slab some in
       let differ : rooted.0 ≢ root = λ own. rooted.1 (ap left.root own ∙ gone) in

@@ -136,9 +136,10 @@ module _ (words : List ℕ) (line root : ℕ) (site : Site) (is : IsSite words r
   kept_by_root made between value left = ⊎_elim
       (λ (same : between ≡ made). (ap (λ (ws : List ℕ). length ws) same, ap (λ (ws : List ℕ). word_at ws site.k) same))
       (λ (put : between ≡ put_word made (8 * root_word root / 8) value).
-      let there : between ≡ put_word made (root_word root) value = put ∙ ap (λ i. put_word made i value) (omega arith) in
-      (ap (λ (ws : List ℕ). length ws) there ∙ length-put_word made (root_word root) value,
-      ap (λ (ws : List ℕ). word_at ws site.k) there ∙ word_at-put_other made (root_word root) site.k value (λ e. omega (arith, e, is.low, start_low words line root site is line_below, root_low words line root site is line_below))))
+      let there : between ≡ put_word made (root_word root) value = put ∙ ap (λ i. put_word made i value) (omega arith) in (
+        ap (λ (ws : List ℕ). length ws) there ∙ length-put_word made (root_word root) value,
+        ap (λ (ws : List ℕ). word_at ws site.k) there ∙ word_at-put_other made (root_word root) site.k value (λ e. omega (arith, e, is.low, start_low words line root site is line_below, root_low words line root site is line_below)),
+      ))
       left.is
 
   -- the root's word and then the header's

@@ -141,7 +141,7 @@ module _ {b : Bounds} {t : Tables} (root start number : ℕ) (but : IsExactBut b
         rooted = rooted;
         slab = slab;
         below = below;
-            no_old = no_old-held sound but.closed start number slab below holds;
+        no_old = no_old-held sound but.closed start number slab below holds;
         was = inr (set, has);
         apart = λ other range differ claim. sound.apart other owner.0 range block (λ is. differ (is ∙ sym same)) claim owner.1;
-          }
+      }
