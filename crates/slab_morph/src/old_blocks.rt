@@ -45,6 +45,14 @@ fn is_old_at<P: Pmem>(p: &P, slab: u32, old: u8, place: u32, at: u32) -> bool
         && blocks_at(slab) + number_at(p, slab, place) * size_of_class(old) == at
 }
 
+/// The class that the slab that begins at byte `slab` had before; 0 where it is normal.
+pub fn old_class<P: Pmem>(p: &P, slab: u32) -> u8
+    requires here { IsSlabHere (words_of (P.state p.now)) slab }
+    ensures { result ≡ (tables_of (words_of (P.state p.now))).old (slab / 16384) }
+{
+    fields_of(state_at(p, slab)).old
+}
+
 /// Whether the slab that begins at byte `slab` took its class, and no old block lives in it.
 pub fn is_done<P: Pmem>(p: &P, slab: u32) -> bool
     requires here { IsSlabHere (words_of (P.state p.now)) slab }
