@@ -1,11 +1,11 @@
 -- The indexes take over the live extents of an exact image, one after another by rising start.
-use Rattle.std.proofs.Common.{◌≡◌, ◌≢◌, ◌↔◌, ◌⊎◌, ◌+◌, ◌*◌, ◌/◌, ◌<◌, ◌≤◌, ◌&&◌, ℕ, true, false, not, cond, ltb, eqb, List, Bool, Option, Some, None, refl, sym, ap, subst, ◌∙◌, inl, inr, ⊎_elim, arith}
-use Rattle.std.proofs.lemmas.Bool.{cond-true, cond-false, cases_lt, cases_eq, lt-ltb, le-ltb, eq-eqb, ne_eqb, and_from}
+use Rattle.std.proofs.Common.{◌≡◌, ◌≢◌, ◌↔◌, ◌⊎◌, ◌+◌, ◌<◌, ◌≤◌, ℕ, true, false, cond, ltb, List, Option, Some, None, sym, ap, subst, ◌∙◌, inl, inr, ⊎_elim, arith}
+use Rattle.std.proofs.lemmas.Bool.{cond-true, cond-false, cases_lt, cases_eq, lt-ltb, le-ltb}
 use Rattle.size_classes.specs.Classes.{class_capacity}
 use Rattle.image_tables.specs.declared.extent.Extent.{Extent}
 use Rattle.image_tables.specs.declared.extent.Extent.TheVariants as extent
 use Rattle.image_tables.specs.Extents.{extent_at}
-use Rattle.image_tables.specs.Tables.{Tables, large_of, is_slab_of, is_slab, tables_of}
+use Rattle.image_tables.specs.Tables.{Tables, large_of, is_slab_of, tables_of}
 use Rattle.image_tables.proofs.Tables.{large_table, slab_table}
 use Rattle.pool_layout.specs.Header.{granules_in}
 use Rattle.book_log.specs.declared.entry.LogEntry.{LogEntry}
@@ -14,7 +14,7 @@ use Rattle.book_log.specs.Book.{chunks_of}
 use Rattle.book_log.specs.Entry.{start_of, extent_of}
 use Rattle.book_log.specs.Table.{IsNextLive}
 use Rattle.book_log.proofs.LiveExtents.{live_extents}
-use Rattle.heap_model.specs.Machine.{Bounds, with_key}
+use Rattle.heap_model.specs.Machine.{Bounds}
 use Rattle.heap_model.specs.Runs.{IsFreeRow}
 use Rattle.extent_index.specs.FreeSet.{FreeSet, IsFree}
 use Rattle.slab_index.specs.SlabSet.{SlabSet, class_in, is_available}
@@ -25,10 +25,7 @@ use Rattle.heap_check.proofs.Geometry.{granules_at-slab, granules_at-large}
 use Rattle.heap_check.proofs.Sizes.{sizes_of}
 use Rattle.arena_core.specs.Arena.{IsIndexOf, IsSlabsOf}
 use Rattle.arena_core.specs.Adopting.{IsVacantBelow, slabs_below, IsReadBelow, IsWithSlabOf, IsNextRead}
-use Rattle.image_tables.specs.Forms.{normal_kind}
-use Rattle.arena_core.proofs.UnusedBlocks.{unused_normal, iff_same}
-use Rattle.arena_core.proofs.Tests.{not_true}
-use Rattle.heap_check.proofs.SmallPlaces.{clear_unused}
+use Rattle.arena_core.proofs.UnusedBlocks.{iff_same}
 
 -- what the tables say of a granule by its extent
 
@@ -264,98 +261,3 @@ extent_below words from next image live =
     let some = extent_some words (start_of next) live.extent image live.live in
     let inside = (image.exact.sound.starts (start_of next) some).1 in
     omega (arith, some, inside)
-
--- a slab is read
-
--- the first n blocks of a slab that was added are read, and the others are available yet
-pub record IsReading (words : List ℕ) (old new : SlabSet) (start class n : ℕ) : Type 0 where
-  pub granules : new.granules ≡ old.granules
-  pub here : class_in new start ≡ Some class
-  pub done : (i : ℕ) → i < n → is_available new start i ≡ not ((tables_of words).bit start i)
-  pub rest : (i : ℕ) → n ≤ i → i < class_capacity class → is_available new start i ≡ true
-  pub classes : (other : ℕ) → ¬ (other ≡ start) → class_in new other ≡ class_in old other
-  pub others : (other i : ℕ) → ¬ (other ≡ start) → is_available new other i ≡ is_available old other i
-
--- a condition that holds, and one that doesn't
-if_same : {X : Type 0} (k j : ℕ) (yes_x no_x : X) → k ≡ j → cond (eqb k j) yes_x no_x ≡ yes_x
-if_same k j yes_x no_x same = cond-true (eqb k j) yes_x no_x (eq-eqb k j same)
-
-if_other : {X : Type 0} (k j : ℕ) (yes_x no_x : X) → k ≢ j → cond (eqb k j) yes_x no_x ≡ no_x
-if_other k j yes_x no_x apart = cond-false (eqb k j) yes_x no_x (ne_eqb k j apart)
-
-pub IsReading-first : (words : List ℕ) (old new : SlabSet) (start class : ℕ) → new.granules ≡ old.granules → ((s : ℕ) → class_in new s ≡ with_key (class_in old) start (Some class) s) →
-    ((s i : ℕ) → is_available new s i ≡ cond (eqb s start) (ltb i (class_capacity class)) (is_available old s i)) → IsReading words old new start class 0
-IsReading-first words old new start class granules classes blocks = record {
-  granules = granules;
-  here = classes start ∙ if_same start start (Some class) (class_in old start) refl;
-  done = λ i less. absurd (omega (arith, less));
-  rest = λ i low few. blocks start i ∙ if_same start start (ltb i (class_capacity class)) (is_available old start i) refl ∙ lt-ltb i (class_capacity class) few;
-  classes = λ other apart. classes other ∙ if_other other start (Some class) (class_in old other) apart;
-  others = λ other i apart. blocks other i ∙ if_other other start (ltb i (class_capacity class)) (is_available old other i) apart;
-}
-
--- the next block's bit is clear
-pub IsReading-clear : (words : List ℕ) (old new : SlabSet) (start class n : ℕ) → n < class_capacity class → (tables_of words).bit start n ≡ false → IsReading words old new start class n → IsReading words old new start class (n + 1)
-IsReading-clear words old new start class n few clear read = record {
-  granules = read.granules;
-  here = read.here;
-  done = λ i less. ⊎_elim
-      (λ (lower : i < n). read.done i lower)
-      (λ (last : n ≤ i). let same : i ≡ n = omega (arith, less, last) in
-      ap (λ k. is_available new start k) same ∙ read.rest n (omega arith) few ∙ sym (ap not clear) ∙ sym (ap (λ k. not ((tables_of words).bit start k)) same))
-      (cases_lt i n);
-  rest = λ i low few_i. read.rest i (omega (arith, low)) few_i;
-  classes = read.classes;
-  others = read.others;
-}
-
--- it is set, and the block is taken
-pub IsReading-set : (words : List ℕ) (old new next : SlabSet) (start class n : ℕ) → (tables_of words).bit start n ≡ true → next.granules ≡ new.granules → ((s : ℕ) → class_in next s ≡ class_in new s) →
-    ((s i : ℕ) → is_available next s i ≡ cond (eqb s start && eqb i n) false (is_available new s i)) → IsReading words old new start class n → IsReading words old next start class (n + 1)
-IsReading-set words old new next start class n set granules classes blocks read =
-    let taken : is_available next start n ≡ false = blocks start n ∙ cond-true (eqb start start && eqb n n) false (is_available new start n) (and_from (eqb start start) (eqb n n) (eq-eqb start start refl) (eq-eqb n n refl)) in
-    let kept : (i : ℕ) → i ≢ n → is_available next start i ≡ is_available new start i =
-    λ i apart. blocks start i ∙ ap (λ b. cond (b && eqb i n) false (is_available new start i)) (eq-eqb start start refl) ∙ ap (λ b. cond b false (is_available new start i)) (ne_eqb i n apart) in
-    record {
-      granules = granules ∙ read.granules;
-      here = classes start ∙ read.here;
-      done = λ i less. ⊎_elim
-          (λ (lower : i < n). kept i (λ same. omega (arith, same, lower)) ∙ read.done i lower)
-          (λ (last : n ≤ i). let same : i ≡ n = omega (arith, less, last) in
-          ap (λ k. is_available next start k) same ∙ taken ∙ sym (ap not set) ∙ sym (ap (λ k. not ((tables_of words).bit start k)) same))
-          (cases_lt i n);
-      rest = λ i low few. kept i (λ same. omega (arith, same, low)) ∙ read.rest i (omega (arith, low)) few;
-      classes = λ other apart. classes other ∙ read.classes other apart;
-      others = λ other i apart. blocks other i ∙ ap (λ b. cond (b && eqb i n) false (is_available new other i)) (ne_eqb other start apart) ∙ read.others other i apart;
-    }
-
--- all of them are read
-pub IsReading-all : (words : List ℕ) (old new : SlabSet) (start class n : ℕ) → class ≡ (tables_of words).class start → class_capacity class ≤ n → IsExactImage words → (tables_of words).slab start ≡ true → (tables_of words).kind start ≡ normal_kind →
-    IsReading words old new start class n → IsWithSlabOf words old new start
-IsReading-all words old new start class n is all image slab normal read =
-    let t = tables_of words in
-    let sound = image.exact.sound in
-    record {
-      granules = read.granules;
-      here = read.here ∙ ap (λ c. Some c) is;
-      blocks = λ i few.
-          let among : i < class_capacity class = subst (λ c. i < class_capacity c) (sym is) few in
-          let says = read.done i (omega (arith, among, all)) in (
-            λ available. unused_normal sound start i slab normal few (not_true (t.bit start i) (sym says ∙ available)),
-            λ unused. says ∙ ap not (clear_unused sound image.exact.closed start i slab few (λ morphing. omega (arith, morphing, normal)) unused),
-          );
-      classes = read.classes;
-      others = read.others;
-    }
-
--- the class that was read is the slab's
-pub class_read : (words : List ℕ) (at start class : ℕ) → at ≡ 16384 * start → (tables_of words).slab start ≡ true → (is_slab words (at / 16384) ≡ true → class ≡ (tables_of words).class (at / 16384)) → class ≡ (tables_of words).class start
-class_read words at start class is slab read =
-    let same : at / 16384 ≡ start = omega (arith, is) in
-    subst (λ s. is_slab words s ≡ true → class ≡ (tables_of words).class s) same read (sym (slab_table words start) ∙ slab)
-
--- so is the bit
-pub bit_read : (words : List ℕ) (at start i : ℕ) (bit : Bool) → at ≡ 16384 * start → (tables_of words).slab start ≡ true → (is_slab words (at / 16384) ≡ true → bit ≡ (tables_of words).bit (at / 16384) i) → bit ≡ (tables_of words).bit start i
-bit_read words at start i bit is slab read =
-    let same : at / 16384 ≡ start = omega (arith, is) in
-    subst (λ s. is_slab words s ≡ true → bit ≡ (tables_of words).bit s i) same read (sym (slab_table words start) ∙ slab)

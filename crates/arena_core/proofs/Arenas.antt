@@ -18,7 +18,7 @@ use Rattle.heap_check.proofs.Large.{with_large}
 use Rattle.log_steps.specs.Log.{IsBookOf}
 use Rattle.size_classes.specs.Classes.{class_capacity}
 use Rattle.slab_index.specs.SlabSet.{SlabSet}
-use Rattle.arena_core.specs.Arena.{HasNormalSlabs, IsIndexOf, IsSlabsOf}
+use Rattle.arena_core.specs.Arena.{IsIndexOf, IsSlabsOf}
 use Rattle.arena_core.specs.Effect.{KeepsSlabs}
 use Rattle.arena_core.proofs.LargeStages.{IsStageOf}
 use Rattle.arena_core.proofs.UnusedBlocks.{iff_then}
@@ -47,11 +47,7 @@ slabs_stage {words} {root} {start} {here} {word} {image} stage = record {
   };
 }
 
--- so they are all normal still
-pub normal_kept : {words image : List ℕ} → KeepsSlabs words image → HasNormalSlabs words → HasNormalSlabs image
-normal_kept {words} {image} keeps normal = record { each = λ start is. (keeps.each start).kind ∙ normal.each start (sym (keeps.each start).slab ∙ is) }
-
--- and the index of them holds still
+-- so the index of them holds still
 pub slabs_kept : {words image : List ℕ} (parts : SlabSet) → KeepsSlabs words image → granules_in image ≡ granules_in words → IsSlabsOf parts words → IsSlabsOf parts image
 slabs_kept {words} {image} parts keeps granules index = record {
   granules = index.granules ∙ sym granules;

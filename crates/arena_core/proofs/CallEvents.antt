@@ -1,11 +1,11 @@
 -- What a call has done, put together: by the place of its block.
-use Rattle.std.proofs.Common.{◌==◌, ◌≡◌, ◌≢◌, ◌*◌, ◌/◌, ◌+◌, ◌-◌, ◌%◌, ◌<◌, ◌≤◌, ℕ, true, false, cond, leb, List, [], Option, Some, refl, sym, ap, subst, ◌∙◌, arith, inl}
-use Rattle.std.proofs.lemmas.Bool.{cond-true, cond-false, eq-eqb, le-leb, lt-leb, false_from_ne_true}
+use Rattle.std.proofs.Common.{◌==◌, ◌≡◌, ◌≢◌, ◌*◌, ◌/◌, ◌+◌, ◌-◌, ◌%◌, ◌<◌, ◌≤◌, ℕ, true, false, cond, leb, List, [], Option, Some, refl, sym, ap, subst, ◌∙◌, arith, ◌++◌, ◌&&◌, ⊎_elim, Bool}
+use Rattle.std.proofs.lemmas.Bool.{cond-true, cond-false, eq-eqb, le-leb, lt-leb, false_from_ne_true, and_from, and_parts, eqb-true, cases_Bool}
 use Rattle.std.proofs.lemmas.Nat.{div-mul-add}
 use Rattle.size_classes.specs.Classes.{class_size, class_capacity}
 use Rattle.size_classes.proofs.Spacing.{class_size-least, class_size-most, class_size-rises}
 use Rattle.pmem_lines.specs.declared.event.Event.{Event}
-use Rattle.pmem_lines.specs.Events.{CrashOnly}
+use Rattle.pmem_lines.specs.Events.{CrashOnly, reading}
 use Rattle.pmem_lines.specs.Pmem.{PmemState, words_of, began, appended}
 use Rattle.pmem_lines.specs.Steps.{IsQuietStep}
 use Rattle.pmem_lines.proofs.Steps.{step_by, step_none}
@@ -16,32 +16,35 @@ use Rattle.heap_model.specs.declared.call.Reply.{Reply}
 use Rattle.heap_model.specs.declared.call.Reply.TheVariants as replies
 use Rattle.heap_model.specs.Machine.{Bounds, Range, slab_block}
 use Rattle.heap_model.proofs.Slabbing.{LiesIn-block}
-use Rattle.heap_check.specs.Heap.{is_old, slab_of, entry_at, heap, slabs, IsClaim, Holds, IsUnusedIn}
+use Rattle.heap_check.specs.Heap.{is_old, slab_of, heap, slabs, Holds, IsUnusedIn}
 use Rattle.heap_check.specs.Sound.{IsVacant, IsInSlab, IsSound}
-use Rattle.heap_check.proofs.Claims.{IsNamed-claim, IsClaim-word}
-use Rattle.heap_check.proofs.Geometry.{Covers-slab, slab_of-here, plain_size-some}
-use Rattle.heap_check.proofs.Heaps.{heap-claim}
-use Rattle.heap_check.proofs.Within.{IsInSlab-held, one_claim}
+use Rattle.heap_check.proofs.Geometry.{Covers-slab, slab_of-here, granules_at-slab}
+use Rattle.heap_check.proofs.Within.{IsInSlab-held}
 use Rattle.log_steps.proofs.Entries.{first_zero-is}
 use Rattle.attach_steps.specs.declared.block.SmallBlock.{SmallBlock}
-use Rattle.attach_steps.specs.Steps.{attach_events, IsAttachable, IsAttached}
+use Rattle.attach_steps.specs.Steps.{attach_events, IsAttachable, IsAttached, detach_old_events, IsDetachable, IsOldDetachable}
 use Rattle.heap_check.proofs.Loose.{IsExactBut-exact}
-use Rattle.arena_core.proofs.SmallCalls.{classes_small, index_small, book_small, keeps_small, bits_with, lives_as, change_bit}
+use Rattle.arena_core.proofs.SmallCalls.{classes_small, index_small, bits_with, lives_as}
 use Rattle.heap_check.specs.Image.{bounds_of, IsExactImage}
 use Rattle.heap_check.specs.State.{KeepsBlocks, IsEitherHeap}
-use Rattle.arena_core.specs.Arena.{ArenaState, HasNormalSlabs, IsSlabsOf, IsCurrent, IsArena}
+use Rattle.arena_core.specs.Arena.{ArenaState, IsSlabsOf, live_in, AreCountsOf, IsCurrent, IsArena, old_range}
 use Rattle.arena_core.specs.declared.volatile.Volatile.{Volatile}
 use Rattle.arena_core.specs.Call.{IsStepOfAny}
 use Rattle.arena_core.specs.Carried.{IsDone, IsCalled}
 use Rattle.arena_core.specs.Effect.{GivesRoot, KeepsSlabs}
 use Rattle.arena_core.specs.declared.plan.Held.{Held}
 use Rattle.arena_core.specs.declared.plan.Held.TheVariants as holding
-use Rattle.arena_core.specs.Plan.{IsAskedOf, IsGivableBlock, IsNamedSmall, IsHeldBy, range_held}
+use Rattle.arena_core.specs.Plan.{IsAskedOf, IsGivableBlock, IsNamedSmall, IsHeldBy, range_held, IsNamedOld}
 use Rattle.heap_check.proofs.Sizes.{sizes_of}
 use Rattle.arena_core.proofs.Blocks.{heap-takable}
-use Rattle.arena_core.proofs.Arenas.{normal_kept, slabs_kept, same_heap}
-use Rattle.arena_core.specs.Events.{is_small, class_for, start_at, in_slab, block_at, place_events, take_events, fresh_events, unsmall_events, placed_events, freed_events, call_events, line_after}
+use Rattle.arena_core.proofs.Arenas.{slabs_kept, same_heap}
+use Rattle.arena_core.specs.Events.{is_small, class_for, start_at, in_slab, block_at, place_events, take_events, fresh_events, unsmall_events, placed_events, freed_events, call_events, line_after, old_place, tidy_events, unold_events}
 use Rattle.heap_check.proofs.SmallPlaces.{no_old-held}
+use Rattle.attach_steps.specs.declared.block.OldBlock.{OldBlock}
+use Rattle.arena_core.proofs.HeldBlocks.{heap_held, class_holds, old_holds, class_detachable, old_detachable}
+use Rattle.arena_core.proofs.LiveCounts.{counts_kept}
+use Rattle.heap_check.proofs.Small.{one_number, is_old-held}
+use Rattle.arena_core.proofs.BlockChanges.{change_bit, book_small, keeps_small}
 
 -- equal ends
 pub IsCalled-same : {old new device : PmemState} {was next left : Volatile} {call : Call} {reply answer : Reply} → device ≡ new → left ≡ next → answer ≡ reply → IsCalled old new was next call reply → IsCalled old device was left call answer
@@ -56,7 +59,7 @@ pub IsCalled-done : {old new : PmemState} {was done_left left : Volatile} {root 
     IsStepOfAny (words_of old) (words_of new) call reply → IsCalled old new was left call reply
 IsCalled-done {old} {new} {was} {done_left} {left} {root} {block} {slab} {events} call reply done same left_is line_is few step = record {
   carried = step_by events (call_events (words_of old) was.line call reply) same done.step;
-  arena = subst (IsArena new) (sym left_is) (record { current = record { ready = done.current.ready; exact = done.current.exact; log = done.current.log; index = done.current.index }; normal = done.normal; slabs = done.slabs; few = few });
+  arena = subst (IsArena new) (sym left_is) (record { current = record { ready = done.current.ready; exact = done.current.exact; log = done.current.log; index = done.current.index }; slabs = done.slabs; lives = done.lives; few = few });
   line_is = line_is;
   step = step;
   keeps = done.gives.keeps;
@@ -188,55 +191,96 @@ module _ (words : List ℕ) (image : IsExactImage words) (root : ℕ) (block : S
   pub named_class : class < 36
   named_class = omega (arith, named.class_is, (image.exact.sound.slabs block.start named.slab).state.is_class)
 
+  may : IsDetachable words root block
+  may = class_detachable image named
+
   holds : Holds (tables_of words) block.start at_class
-  holds = record {
-    slab = named.slab;
-    block = inl (record {
-      number = block.number;
-      below = subst (λ c. block.number < class_capacity c) (sym named.class_is) named.below;
-      read = λ kind. image.exact.calm block.start (record { slab = named.slab; kind = kind });
-      set = named.set;
-      is = ap (λ c. slab_block block.start c block.number) (sym named.class_is);
-    });
-  }
+  holds = subst (λ c. Holds (tables_of words) block.start (slab_block block.start c block.number)) named.class_is (class_holds may)
 
   -- no live old block begins where it does
   pub named_new : is_old (tables_of words) block.start at_class.at ≡ false
   named_new = subst (λ c. is_old (tables_of words) block.start (slab_block block.start c block.number).at ≡ false) named.class_is
-      (no_old-held image.exact.sound image.exact.closed block.start block.number named.slab (subst (λ c. block.number < class_capacity c) (sym named.class_is) named.below)
-      (subst (λ c. Holds (tables_of words) block.start (slab_block block.start c block.number)) (sym named.class_is) holds))
+      (no_old-held image.exact.sound image.exact.closed block.start block.number named.slab may.block_in.below (class_holds may))
 
   pub named_inside : IsInSlab (tables_of words) block.start at_class.at
   named_inside = IsInSlab-held image.exact.sound block.start at_class holds
 
   pub named_heap : heap (tables_of words) root ≡ Some at_class
-  named_heap =
+  named_heap = heap_held image.exact.sound image.exact.closed root block.start at_class holds (named.named ∙ named.at)
+
+-- so is an old one
+module _ (words : List ℕ) (image : IsExactImage words) (root : ℕ) (block : OldBlock) (class : ℕ) (named : IsNamedOld (bounds_of words) (tables_of words) root block class) where
+  abbrev at_old : Range
+  at_old = record { at = block.at; size = class_size class }
+
+  old_may : IsOldDetachable words root block
+  old_may = old_detachable image named
+
+  range_is : old_range (tables_of words) block ≡ at_old
+  range_is = λ i. record { at = named.place.here i; size = class_size (named.old_is i) }
+
+  old_held : Holds (tables_of words) block.start at_old
+  old_held = subst (Holds (tables_of words) block.start) range_is (old_holds old_may)
+
+  pub old_inside : IsInSlab (tables_of words) block.start block.at
+  old_inside = IsInSlab-held image.exact.sound block.start at_old old_held
+
+  pub old_heap : heap (tables_of words) root ≡ Some at_old
+  old_heap = heap_held image.exact.sound image.exact.closed root block.start at_old old_held named.named
+
+  abbrev is_there : ℕ → Bool
+  is_there place = (tables_of words).live block.start place && ((slab_block block.start ((tables_of words).old block.start) ((tables_of words).number block.start place)).at == block.at)
+
+  abbrev other_there : ℕ → ℕ
+  other_there place = cond (is_there place) 0 1
+
+  -- it is the first of the index table that begins there
+  old_place_is : old_place (tables_of words) block.start block.at ≡ block.place
+  old_place_is = first_zero-is other_there ((tables_of words).index_count block.start) block.place named.place.below here earlier
+    where
+      here : other_there block.place ≡ 0
+      here = cond-true (is_there block.place) 0 1 (and_from ((tables_of words).live block.start block.place) _ named.place.live (eq-eqb _ block.at named.place.here))
+
+      earlier : (place : ℕ) → place < block.place → other_there place ≢ 0
+      earlier place before none = ⊎_elim
+          (λ (is : is_there place ≡ true).
+          let parts = and_parts ((tables_of words).live block.start place) _ is in
+          let at : (slab_block block.start ((tables_of words).old block.start) ((tables_of words).number block.start place)).at ≡ block.at = eqb-true _ block.at parts.1 in
+          let valid = image.exact.sound.slabs block.start named.slab in
+          let some = class_size-least ((tables_of words).old block.start) valid.state.is_old_class in
+          let number = one_number block.start ((tables_of words).old block.start) ((tables_of words).number block.start place) ((tables_of words).number block.start block.place) (omega (arith, some)) (at ∙ sym named.place.here) in
+          let same = valid.once place block.place (omega (arith, before, named.place.below)) named.place.below number in
+          omega (arith, same, before))
+          (λ (no : is_there place ≡ false). let one : other_there place ≡ 1 = cond-false (is_there place) 0 1 no in omega (arith, none, one))
+          (cases_Bool (is_there place))
+
+  pub freed_old : (line : ℕ) → (detach_old_events (tables_of words) line root block.at block.start block.place ++ tidy_events (reading words (detach_old_events (tables_of words) line root block.at block.start block.place)) block.start)
+      ≡ freed_events words line root block.at (class_size class)
+  freed_old line =
       let t = tables_of words in
-      let sound = image.exact.sound in
-      let unnamed = λ (r : ℕ). ap (λ e. entry_at e r) image.exact.closed in
-      let owner = sound.claimed block.start at_class holds in
-      let its = IsNamed-claim t owner.0 at_class (unnamed owner.0) owner.1 in
-      let word : t.root root ≡ at_class.at = named.named ∙ named.at in
-      let some : t.root root ≢ 0 = λ none. its.some (sym word ∙ none) in
-      let mine = IsClaim-word t root (unnamed root) some in
-      let size = plain_size-some sound block.start (t.root root) (subst (IsInSlab t block.start) (sym word) named_inside) in
-      let same : root ≡ owner.0 = one_claim sound root owner.0 _ at_class mine owner.1 word size (omega (arith, class_size-least class named_class)) in
-      heap-claim t root at_class (unnamed root) (subst (λ r. IsClaim t r at_class) (sym same) owner.1)
+      let little : is_small (class_size class) ≡ true = small_size (class_size class) (class_size-most class named.is_class) in
+      let four = granules_at-slab t block.start named.slab in
+      let here : start_at t block.at ≡ block.start = slab_of-here image.exact.sound block.start (block.at / 16384) named.slab (omega (arith, old_inside.low)) (omega (arith, old_inside.high)) in
+      let old : is_old t (start_at t block.at) block.at ≡ true = ap (λ s. is_old t s block.at) here ∙ is_old-held t block.start block.at at_old (record { place = block.place; below = named.place.below; live = named.place.live; is = sym range_is }) refl in
+      let whole : unold_events words line root block.at (start_at t block.at) ≡ unold_events words line root block.at block.start = ap (unold_events words line root block.at) here in
+      let detach : (place : ℕ) → List Event = λ place. detach_old_events t line root block.at block.start place ++ tidy_events (reading words (detach_old_events t line root block.at block.start place)) block.start in
+      sym (cond-true (is_small (class_size class)) _ _ little ∙ cond-true (is_old t (start_at t block.at) block.at) _ _ old ∙ whole ∙ ap detach old_place_is)
 
 -- so is what a root holds
 pub held_heap : (words : List ℕ) → IsExactImage words → (root : ℕ) (held : Held) → IsHeldBy (bounds_of words) (tables_of words) root held → heap (tables_of words) root ≡ Some (range_held held)
 held_heap words image root (holding.Large start count) taken = heap-takable (bounds_of words) (tables_of words) root start count (omega (arith, (sizes_of words image.formed).first)) taken
 held_heap words image root (holding.Small block class) named = named_heap words image root block class named
+held_heap words image root (holding.Old block class) named = old_heap words image root block class named
 
 -- a large block was given or taken
-pub IsDone-large : {old new : PmemState} {was left : Volatile} {root : ℕ} {block : Option Range} {events : List Event} → IsArena old was → left.slabs ≡ was.slabs →
+pub IsDone-large : {old new : PmemState} {was left : Volatile} {root : ℕ} {block : Option Range} {events : List Event} → IsArena old was → left.slabs ≡ was.slabs → left.lives ≡ was.lives → ((s : ℕ) → live_in (words_of new) s ≡ live_in (words_of old) s) →
     IsQuietStep old new events (IsEitherHeap (words_of old) (words_of new)) → IsCurrent new left → GivesRoot (words_of old) root block (slabs (tables_of (words_of old))) (words_of new) → KeepsSlabs (words_of old) (words_of new) →
     IsDone old new left root block (slabs (tables_of (words_of old))) events
-IsDone-large {old} {new} {was} {left} {root} {block} {events} arena same step kept gives keeps = record {
+IsDone-large {old} {new} {was} {left} {root} {block} {events} arena same same_lives lives step kept gives keeps = record {
   step = step;
   current = kept;
-  normal = normal_kept keeps arena.normal;
   slabs = subst (λ (set : SlabSet). IsSlabsOf set (words_of new)) (sym same) (slabs_kept was.slabs keeps (ap (λ (b : Bounds). b.granules) gives.bounds) arena.slabs);
+  lives = subst (λ (counts : List ℕ). AreCountsOf counts (words_of new)) (sym same_lives) (counts_kept (words_of old) (words_of new) was.lives (ap (λ (b : Bounds). b.granules) gives.bounds) lives arena.lives);
   gives = gives;
 }
 
@@ -259,15 +303,15 @@ small_attachable words root size block class image asked placing =
     }
 
 -- it came
-pub IsDone-small : {old new : PmemState} {was left : Volatile} {root class : ℕ} (block : SmallBlock) → IsArena old was → left ≡ record was { slabs = left.slabs } → IsAttachable (words_of old) root block →
+pub IsDone-small : {old new : PmemState} {was left : Volatile} {root class : ℕ} (block : SmallBlock) → IsArena old was → left ≡ record was { slabs = left.slabs; lives = left.lives } → IsAttachable (words_of old) root block →
     (tables_of (words_of old)).class block.start ≡ class → IsQuietStep old new (attach_events (words_of old) was.line root block) (IsEitherHeap (words_of old) (words_of new)) → IsAttached (words_of old) was.line root block (words_of new) →
-    HasNormalSlabs (words_of new) → IsSlabsOf left.slabs (words_of new) →
+    IsSlabsOf left.slabs (words_of new) → AreCountsOf left.lives (words_of new) →
     IsDone old new left root (Some (slab_block block.start class block.number)) (slabs (tables_of (words_of old))) (attach_events (words_of old) was.line root block)
-IsDone-small {old} {new} {was} {left} {root} {class} block arena left_is may class_is step attached normal slabs =
+IsDone-small {old} {new} {was} {left} {root} {class} block arena left_is may class_is step attached slabs lives =
     let words = words_of old in
     let after = words_of new in
     let bits = bits_with (tables_of words) block.start block.number in
-    let lives = lives_as (tables_of words) in
+    let live_bits = lives_as (tables_of words) in
     let change = change_bit may.block_in arena.few in
     record {
       step = step;
@@ -275,14 +319,14 @@ IsDone-small {old} {new} {was} {left} {root} {class} block arena left_is may cla
         ready = record { quiet = step.quiet; room = omega (arith, arena.current.ready.room, step.appends.room) };
         exact = attached.exact;
         log = book_small change after attached.rest attached.bounds was.log arena.current.log;
-        index = index_small words bits lives root true block.at after attached.bounds attached.tables was.free arena.current.index;
+        index = index_small words bits live_bits root true block.at after attached.bounds attached.tables was.free arena.current.index;
       });
-      normal = normal;
       slabs = slabs;
+      lives = lives;
       gives = record {
         here = attached.gives.here ∙ ap (λ c. Some (slab_block block.start c block.number)) class_is;
         others = attached.gives.others;
-        slabs = classes_small words bits lives root true block.at after attached.bounds attached.tables;
+        slabs = classes_small words bits live_bits root true block.at after attached.bounds attached.tables;
         keeps = keeps_small change after attached.rest;
         bounds = attached.bounds;
       };

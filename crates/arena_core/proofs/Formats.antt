@@ -1,5 +1,5 @@
 -- An arena is formatted: the words that its header line leaves, and those that a crash leaves.
-use Rattle.std.proofs.Common.{◌≡◌, ◌≢◌, ◌↔◌, ℕ, zero, suc, ◌*◌, ◌<◌, ◌≤◌, List, [], ◌∷◌, length, take, true, true≢false, Some, None, refl, sym, ap, subst, ◌∙◌, arith, inl, inr}
+use Rattle.std.proofs.Common.{◌≡◌, ◌≢◌, ◌↔◌, ℕ, zero, suc, ◌*◌, ◌<◌, ◌≤◌, List, [], ◌∷◌, length, take, true, true≢false, Some, None, refl, sym, ap, subst, ◌∙◌, arith, inl, inr, slice_index}
 use Rattle.std.proofs.lemmas.Bool.{cond-false}
 use Rattle.pmem_lines.specs.Words.{word_at, put_word, AreZeros}
 use Rattle.pmem_lines.specs.declared.event.Event.TheVariants.{Flush, Fence}
@@ -17,7 +17,7 @@ use Rattle.image_tables.specs.Tables.{tables_of}
 use Rattle.book_log.specs.Book.{HasLog, AreWithin, Reads}
 use Rattle.book_log.proofs.Places.{within_heap}
 use Rattle.heap_model.specs.Machine.{no_heap}
-use Rattle.heap_check.specs.Image.{IsExactImage}
+use Rattle.heap_check.specs.Image.{IsExactImage, bounds_of}
 use Rattle.heap_check.specs.State.{HasState}
 use Rattle.extent_index.specs.FreeSet.{IsFree}
 use Rattle.slab_index.specs.SlabSet.{class_in}
@@ -29,6 +29,8 @@ use Rattle.arena_core.specs.Arena.{IsArena}
 use Rattle.arena_core.specs.Call.{IsReady, IsFormattedOrNot}
 use Rattle.arena_core.specs.Events.{format_events}
 use Rattle.heap_check.proofs.Sizes.{sizes_of, heap_inside}
+use Rattle.heap_model.specs.Slabs.{live_below}
+use Rattle.heap_check.specs.Heap.{heap}
 
 -- the header of an arena of version 1
 pub IsPoolHeader-new : (number arenas granules : ℕ) → number < arenas → arenas ≤ 16 → 16 ≤ granules → granules ≤ 1024 →
@@ -170,8 +172,8 @@ module _ {old begun new : PmemState} {number arenas granules : ℕ} (made : IsWr
 -- what an arena keeps, of one that was formatted
 pub formatted_arena : (device : PmemState) (header : PoolHeader) (volatile : Volatile) → IsReady device → IsFormatted (words_of device) header → Reads volatile.log (words_of device) → volatile.log.granules ≡ header.granules →
     volatile.free.granules ≡ header.granules → ((k : ℕ) → IsFree volatile.free k ↔ ((4 ≤ k) × (k < header.granules))) → volatile.slabs.granules ≡ header.granules → ((s : ℕ) → class_in volatile.slabs s ≡ None) →
-    volatile.line ≡ 0 → IsArena device volatile
-formatted_arena device header volatile ready formatted reads size index each parts_size no_class first_line =
+    length volatile.lives ≡ header.granules → ((s : ℕ) → slice_index volatile.lives s ≡ 0) → volatile.line ≡ 0 → IsArena device volatile
+formatted_arena device header volatile ready formatted reads size index each parts_size no_class count_size no_count first_line =
     let words = words_of device in
     let blank = AreBlank-formatted words header formatted in
     let first = (sizes_of words (IsFormed-formatted words header formatted)).first in
@@ -196,11 +198,14 @@ formatted_arena device header volatile ready formatted reads size index each par
           );
         };
       };
-      normal = record { each = λ s slab. absurd (none s slab) };
       slabs = record {
         granules = parts_size ∙ sym granules;
         classes = λ s. no_class s ∙ sym (cond-false ((tables_of words).slab s) (Some ((tables_of words).class s)) None (blank.no_slab s));
         blocks = λ s i slab below. absurd (none s slab);
+      };
+      lives = record {
+        size = count_size ∙ sym granules;
+        each = λ s. no_count s ∙ sym (cond-false ((tables_of words).slab s) (live_below (heap (tables_of words)) s (bounds_of words).roots) 0 (blank.no_slab s));
       };
       few = omega (arith, first_line);
     }

@@ -1,5 +1,5 @@
 -- A large block is given to a root, or taken from it: the image at each of the stores, and what a crash leaves.
-use Rattle.std.proofs.Common.{ap, ◌∙◌, ◌≡◌, ◌≢◌, ◌⊎◌, ℕ, ◌*◌, List, ◌++◌, refl, sym, subst, arith, inl, inr, ⊎_elim, ◌+◌, ◌<◌, ◌≤◌}
+use Rattle.std.proofs.Common.{ap, ◌∙◌, ◌≡◌, ◌≢◌, ◌⊎◌, ℕ, ◌*◌, List, ◌++◌, refl, sym, subst, arith, inl, inr, ⊎_elim, ◌+◌, ◌<◌, ◌≤◌, Some, None}
 use Rattle.std.proofs.lemmas.Bool.{cases_eq}
 use Rattle.pmem_lines.specs.Words.{put_word}
 use Rattle.pmem_lines.specs.Events.{reading}
@@ -29,6 +29,13 @@ use Rattle.heap_check.proofs.Sizes.{sizes_of, root_inside}
 use Rattle.image_tables.proofs.Stores.{HasNoMove-closed}
 use Rattle.arena_core.proofs.LargeStages.{IsStageOf, stage_none, stage_root, stage_same, stage_entry, steady_stage, same_none, same_some, keeps_stage, still_stage}
 use Rattle.heap_check.specs.Sound.{Covers}
+use Rattle.arena_core.specs.Effect.{GivesRoot, KeepsSlabs}
+use Rattle.heap_check.specs.Heap.{slabs}
+use Rattle.arena_core.specs.Arena.{live_in}
+use Rattle.arena_core.proofs.LiveCounts.{live_large}
+use Rattle.heap_check.proofs.Heaps.{heap-none}
+use Rattle.arena_core.proofs.Blocks.{heap-takable}
+use Rattle.heap_model.specs.Machine.{Bounds}
 
 module _ (words : List ℕ) (root start count : ℕ) (exact : IsExactImage words) (givable : IsGivable (bounds_of words) (tables_of words) root start count) where
   pub give_place : IsLargePlace (bounds_of words) (tables_of words) root start count
@@ -155,3 +162,16 @@ module _ (words : List ℕ) (root start count : ℕ) (exact : IsExactImage words
       (ap (λ (ws : List ℕ). root_events root 0 ++ log_events ws (Tomb start)) (sym first.appends.words ∙ is))
       (steps_then words (words_of t) new (inr same) (λ ws. log_events ws (Tomb start)) keeps
       (step_wider (λ image either. subst (λ (ws : List ℕ). IsEitherHeap words ws image) (sym is) (crash_cleared image either)) first) second)
+
+-- the slabs have as many live blocks as before, where a root got a large block
+pub live_given_large : (words new : List ℕ) (root start count : ℕ) → IsExactImage words → IsGivable (bounds_of words) (tables_of words) root start count → IsExactImage new →
+    GivesRoot words root (Some (record { at = 16384 * start; size = 16384 * count })) (slabs (tables_of words)) new → KeepsSlabs words new → (tables_of new).large start ≡ count → (s : ℕ) → live_in new s ≡ live_in words s
+live_given_large words new root start count image may after gives keeps large =
+    live_large words new root start count after.exact.sound large (omega (arith, may.many)) may.below gives.bounds (λ s. (keeps.each s).slab) (heap-none (tables_of words) root may.none) gives.here gives.others
+
+-- and where it lost it
+pub live_taken_large : (words new : List ℕ) (root start count : ℕ) → IsExactImage words → IsTakable (bounds_of words) (tables_of words) root start count →
+    GivesRoot words root None (slabs (tables_of words)) new → KeepsSlabs words new → (s : ℕ) → live_in new s ≡ live_in words s
+live_taken_large words new root start count image taken gives keeps s =
+    sym (live_large new words root start count image.exact.sound taken.live (omega (arith, taken.many)) (subst (λ (b : Bounds). root < b.roots) (sym gives.bounds) taken.below) (sym gives.bounds) (λ s. sym (keeps.each s).slab) gives.here
+    (heap-takable (bounds_of words) (tables_of words) root start count (omega (arith, (sizes_of words image.formed).first)) taken) (λ other differ. sym (gives.others other differ)) s)

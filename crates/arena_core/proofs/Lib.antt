@@ -1,6 +1,7 @@
 pub mod Tests
 pub mod UnusedBlocks
 pub mod LastBlocks
+pub mod LiveCounts
 pub mod LargeStages
 pub mod Blocks
 pub mod LargeCalls
@@ -10,7 +11,13 @@ pub mod States
 pub mod MachineSteps
 pub mod CallEvents
 pub mod HeapSteps
+pub mod BlockChanges
 pub mod SmallCalls
+pub mod HeldBlocks
+pub mod CoveredBlocks
+pub mod TakenBlocks
 pub mod SlabChanges
+pub mod Tidying
 pub mod Plans
 pub mod AdoptedExtents
+pub mod AdoptedSlabs

@@ -17,7 +17,7 @@ use Rattle.heap_model.specs.Runs.{IsBestFit, HasNoFit}
 use Rattle.slab_index.specs.declared.block.SlabBlock.{SlabBlock}
 use Rattle.slab_index.specs.SlabSet.{SlabSet, class_in, is_available, HasNoBlock, IsLowest}
 use Rattle.extent_index.specs.FreeSet.{FreeSet, IsFree}
-use Rattle.heap_check.specs.Heap.{is_large, entry_at, slabs, HoldsBit, IsUnusedIn}
+use Rattle.heap_check.specs.Heap.{is_large, entry_at, slabs, HoldsBit, IsUnusedIn, is_old}
 use Rattle.heap_check.specs.Sound.{granules_at, IsVacant, IsInSlab, IsHeld, IsExact}
 use Rattle.heap_check.specs.Image.{bounds_of, IsExactImage}
 use Rattle.heap_check.proofs.Sizes.{sizes_of}
@@ -26,9 +26,10 @@ use Rattle.heap_check.proofs.Geometry.{granules_at-slab, granules_at-live, is_la
 use Rattle.heap_check.proofs.Within.{IsInSlab-held, IsWithin-claim}
 use Rattle.heap_check.proofs.SmallPlaces.{Holds-claim}
 use Rattle.arena_core.specs.declared.plan.Place.TheVariants.{Large, Small, Fresh}
-use Rattle.arena_core.specs.Arena.{HasNormalSlabs, IsIndexOf, IsSlabsOf}
-use Rattle.arena_core.specs.Plan.{IsInSlabOf, IsInNoSlabOf, IsAskedOf, IsVacantRow, tables_view, IsPlacing, IsTakable, IsNamedSmall}
+use Rattle.arena_core.specs.Arena.{IsIndexOf, IsSlabsOf}
+use Rattle.arena_core.specs.Plan.{IsInSlabOf, IsInNoSlabOf, IsAskedOf, IsVacantRow, tables_view, IsPlacing, IsTakable, IsNamedSmall, IsSlabAt, IsRootIn}
 use Rattle.heap_check.proofs.LargeLogs.{large_many}
+use Rattle.heap_check.proofs.Small.{is_old-held}
 
 -- slabs
 
@@ -171,32 +172,36 @@ module _ {words : List ℕ} (image : IsExactImage words) where
     pub at : (tables_of words).root root ≡ 16384 * start + 2048 + number * class_size class
     pub few : start < 1024
 
-  pub block_at_root : HasNormalSlabs words → {set : SlabSet} → IsSlabsOf set words → (root start class : ℕ) → (tables_of words).root root ≢ 0 →
-      IsInSlabOf (class_in set) ((tables_of words).root root / 16384) start class → IsBlockAt root start class
-  block_at_root normal {set} parts root start class some inside =
-      let is = slab_of_set parts start class inside.slab in
-      let there : IsInSlab t start (t.root root) = record { slab = is.0; low = omega (arith, inside.low); high = omega (arith, inside.high) } in
+  pub block_at_root : (root at start class : ℕ) → IsSlabAt (tables_of words) start class → IsRootIn (bounds_of words) (tables_of words) root start at → is_old (tables_of words) start at ≡ false → IsBlockAt root start class
+  block_at_root root at start class is named new =
+      let four = granules_at-slab t start is.slab in
+      let lies = image.exact.sound.starts start (omega (arith, four)) in
+      let first = (sizes_of words image.formed).first in
+      let some : t.root root ≢ 0 = λ none. omega (arith, none, named.named, named.inside.low, lies.0, first) in
+      let there : IsInSlab t start (t.root root) = subst (IsInSlab t start) (sym named.named) named.inside in
       let range : Range = record { at = t.root root; size = plain_size t (t.root root) } in
       let holds = Holds-claim image.exact.sound root start range (unnamed root) (IsClaim-word t root (unnamed root) some) there in
-      let few = (image.exact.sound.slabs start is.0).state.none (normal.each start is.0) in
-      let bit : HoldsBit t start range = ⊎_elim (λ bit. bit) (λ old. absurd (omega (arith, old.below, few.1))) holds.block in
-      let at : t.root root ≡ 16384 * start + 2048 + bit.number * class_size (t.class start) = ap (λ (x : Range). x.at) bit.is in
+      let bit : HoldsBit t start range = ⊎_elim (λ bit. bit) (λ old. absurd (true≢false (sym (is_old-held t start at range old named.named) ∙ new))) holds.block in
+      let place : t.root root ≡ 16384 * start + 2048 + bit.number * class_size (t.class start) = ap (λ (x : Range). x.at) bit.is in
       record {
-        slab = is.0;
-        class_is = is.1;
-        is_class = subst (λ c. c < 36) is.1 (image.exact.sound.slabs start is.0).state.is_class;
+        slab = is.slab;
+        class_is = is.class_is;
+        is_class = subst (λ c. c < 36) is.class_is (image.exact.sound.slabs start is.slab).state.is_class;
         number = bit.number;
-        below = subst (λ c. bit.number < class_capacity c) is.1 bit.below;
+        below = subst (λ c. bit.number < class_capacity c) is.class_is bit.below;
         set = bit.set;
-        at = subst (λ c. t.root root ≡ 16384 * start + 2048 + bit.number * class_size c) is.1 at;
-        few = omega (arith, inside.low, word-small root);
+        at = subst (λ c. t.root root ≡ 16384 * start + 2048 + bit.number * class_size c) is.class_is place;
+        few = omega (arith, lies.1, four, (sizes_of words image.formed).most);
       }
 
-  -- the same of a number that is the word
-  pub block_found : HasNormalSlabs words → {set : SlabSet} → IsSlabsOf set words → (root at start class : ℕ) → at ≡ (tables_of words).root root → at ≢ 0 →
-      IsInSlabOf (class_in set) (at / 16384) start class → IsBlockAt root start class
-  block_found normal {set} parts root at start class is some inside =
-      block_at_root normal parts root start class (λ none. some (is ∙ none)) (subst (λ k. IsInSlabOf (class_in set) (k / 16384) start class) is inside)
+  -- a root's word in a slab of the set
+  pub root_in : {set : SlabSet} → IsSlabsOf set words → (root at start class : ℕ) → root < (bounds_of words).roots → at ≡ (tables_of words).root root → IsInSlabOf (class_in set) (at / 16384) start class →
+      IsSlabAt (tables_of words) start class × IsRootIn (bounds_of words) (tables_of words) root start at
+  root_in {set} parts root at start class rooted is inside =
+      let slab = slab_of_set parts start class inside.slab in (
+        record { slab = slab.0; class_is = slab.1 },
+        record { rooted = rooted; named = sym is; inside = record { slab = slab.0; low = omega (arith, inside.low); high = omega (arith, inside.high) } },
+      )
 
   -- a slab begins below the largest arena's end
   pub slab_few : {set : SlabSet} → IsSlabsOf set words → (start class : ℕ) → class_in set start ≡ Some class → start < 1024

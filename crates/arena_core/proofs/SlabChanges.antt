@@ -1,44 +1,33 @@
 -- A slab comes or goes: what an arena keeps holds again.
-use Rattle.std.proofs.Common.{◌≡◌, ◌≢◌, ◌⊎◌, ◌↔◌, ◌==◌, ◌&&◌, nat_lt, ℕ, ◌+◌, ◌*◌, ◌<◌, ◌≤◌, true, false, true≢false, not, List, [], refl, sym, ap, subst, ◌∙◌, arith, inl, inr, ⊎_elim, Some, None, if◌then◌else◌}
-use Rattle.std.proofs.lemmas.Bool.{cases_eq, eq-eqb, ne_eqb, lt-ltb, cond-true, cond-false, cases_Bool}
+use Rattle.std.proofs.Common.{◌≡◌, ◌≢◌, ◌⊎◌, ◌↔◌, ◌==◌, nat_lt, ℕ, ◌+◌, ◌*◌, ◌<◌, ◌≤◌, true, false, true≢false, List, refl, sym, ap, subst, ◌∙◌, arith, inl, inr, ⊎_elim, Some, None, if◌then◌else◌, slice_index}
+use Rattle.std.proofs.lemmas.Bool.{cases_eq, eq-eqb, ne_eqb, lt-ltb, cond-true, cond-false}
 use Rattle.std.proofs.lemmas.Nat.{le-div}
-use Rattle.pmem_lines.specs.Pmem.{PmemState, words_of}
-use Rattle.pmem_lines.proofs.Steps.{step_by, step_none}
 use Rattle.size_classes.specs.Classes.{class_size, class_capacity}
 use Rattle.size_classes.proofs.Spacing.{class_size-least, class_size-most}
-use Rattle.image_tables.specs.Forms.{normal_kind}
 use Rattle.image_tables.specs.Tables.{Tables, tables_of}
 use Rattle.extent_index.specs.FreeSet.{FreeSet, IsFree, IsHeldRow}
-use Rattle.slab_index.specs.SlabSet.{SlabSet, class_in, is_available, IsBlock, IsWhole}
+use Rattle.slab_index.specs.SlabSet.{SlabSet, class_in, is_available}
 use Rattle.heap_model.specs.Machine.{Bounds, with_key}
-use Rattle.heap_model.specs.Below.{any_below}
-use Rattle.heap_check.specs.Heap.{slabs, HoldsBit, IsUnusedIn, HoldsOld}
+use Rattle.heap_check.specs.Heap.{slabs, IsUnusedIn, heap}
 use Rattle.heap_check.specs.Sound.{IsVacant, IsInSlab, IsEmptySlab, IsExactBut, IsDoneSlab}
 use Rattle.heap_check.specs.Slabs.{IsSlabMore, IsWithSlab}
 use Rattle.heap_check.specs.Image.{bounds_of, IsExactImage, IsExactButImage}
 use Rattle.heap_check.specs.State.{KeepsBlocks}
-use Rattle.arena_core.proofs.Arenas.{same_heap}
 use Rattle.heap_check.proofs.BlockWords.{block_word-header, block_word-vacant}
 use Rattle.heap_check.proofs.Geometry.{granules_at-slab, Covers-slab}
 use Rattle.heap_check.proofs.Sizes.{sizes_of}
 use Rattle.heap_check.proofs.SlabHeaps.{slabs-slab, slabs-none, slabs-other, IsVacant-slab, IsVacant-no_slab}
 use Rattle.heap_check.proofs.SlabPlaces.{IsSlabPlace-vacant, IsSlabPlace-empty}
 use Rattle.heap_check.proofs.Slabs.{IsSlabPlace, holds_none-fresh}
-use Rattle.heap_check.proofs.SmallPlaces.{calm_but, clear_unused}
-use Rattle.log_steps.specs.Log.{IsBookOf}
 use Rattle.extent_steps.specs.Slabs.{IsOpened, IsDropped}
 use Rattle.extent_steps.proofs.Images.{keeps_blocks}
 use Rattle.attach_steps.specs.Steps.{IsAttachable}
-use Rattle.arena_core.specs.declared.volatile.Volatile.{Volatile}
-use Rattle.arena_core.specs.Arena.{HasNormalSlabs, IsIndexOf, IsSlabsOf}
-use Rattle.arena_core.specs.Call.{IsReady}
-use Rattle.arena_core.specs.Carried.{IsTidied}
-use Rattle.arena_core.specs.Effect.{slabs_but}
-use Rattle.arena_core.specs.Events.{holds_none, is_done, tidy_events}
+use Rattle.arena_core.specs.Arena.{IsIndexOf, IsSlabsOf, AreCountsOf, live_in}
 use Rattle.arena_core.specs.Plan.{IsVacantRow}
 use Rattle.arena_core.proofs.UnusedBlocks.{iff_same, iff_then, iff_back}
-use Rattle.arena_core.proofs.LastBlocks.{some_by_tests, none_by_tests, rooted_by_tests}
 use Rattle.heap_check.proofs.SameSlabs.{IsUnusedIn-same}
+use Rattle.arena_core.proofs.LiveCounts.{counts_kept, live_none}
+use Rattle.heap_model.specs.Slabs.{live_below}
 
 -- the set has one slab more, with all of its blocks
 pub record IsAdded (set new : SlabSet) (start class : ℕ) : Type 0 where
@@ -71,14 +60,6 @@ module _ (words : List ℕ) (start class : ℕ) (exact : IsExactImage words) (ro
       (λ (same : s ≡ start). ap (slabs after) same ∙ slabs-slab open_place class with_it.fresh ∙ sym (cond-true (s == start) (Some class) (slabs t s) (eq-eqb s start same)))
       (λ (differ : s ≢ start). slabs-other open_place s differ ∙ sym (cond-false (s == start) (Some class) (slabs t s) (ne_eqb s start differ)))
       (cases_eq s start)
-
-  pub normal_opened : HasNormalSlabs words → HasNormalSlabs new
-  normal_opened normal = record {
-    each = λ s slab. ⊎_elim
-        (λ (same : s ≡ start). ap after.kind same ∙ with_it.fresh.kind)
-        (λ (differ : s ≢ start). let it = with_it.more.others s differ in it.kind ∙ normal.each s (sym it.slab ∙ slab))
-        (cases_eq s start);
-  }
 
   pub index_opened : (set less : FreeSet) → less.granules ≡ set.granules → ((k : ℕ) → IsFree less k ↔ (IsFree set k × ((k < start) ⊎ (start + 4 ≤ k)))) → IsIndexOf set words → IsIndexOf less new
   index_opened set less granules taken index = record {
@@ -115,6 +96,18 @@ module _ (words : List ℕ) (start class : ℕ) (exact : IsExactImage words) (ro
             ∙ cond-true (start == start) (nat_lt i (class_capacity class)) (is_available set start i) (eq-eqb start start refl)
             ∙ lt-ltb i (class_capacity class) (subst (λ c. i < class_capacity c) with_it.fresh.class_is below),
       )
+
+  -- no block lives in it
+  pub lives_opened : (counts : List ℕ) → AreCountsOf counts words → AreCountsOf counts new
+  lives_opened counts = counts_kept words new counts (ap (λ (b : Bounds). b.granules) opened.bounds) (λ s. ⊎_elim
+      (λ (same : s ≡ start).
+      let none = live_none opened.image.but.sound opened.image.but.closed start with_it.more.slab (holds_none-fresh with_it.fresh) (bounds_of new).roots in
+      ap (live_in new) same
+      ∙ cond-true (after.slab start) (live_below (heap after) start (bounds_of new).roots) 0 with_it.more.slab
+      ∙ none
+      ∙ sym (cond-false (t.slab s) (live_below (heap t) s (bounds_of words).roots) 0 (ap t.slab same ∙ with_it.more.none)))
+      (λ (differ : s ≢ start). λ i. if (with_it.more.others s differ).slab i then live_below (λ root. opened.heap.each root i) s (opened.bounds i).roots else 0)
+      (cases_eq s start))
 
   pub keeps_opened : KeepsBlocks words new
   keeps_opened = keeps_blocks words start new exact.formed exact.exact.sound exact.exact.closed
@@ -165,9 +158,6 @@ module _ (words : List ℕ) (start : ℕ) (image : IsExactButImage words start) 
   other_slab : (s : ℕ) → less.slab s ≡ true → s ≢ start
   other_slab s slab same = true≢false (sym slab ∙ ap less.slab same ∙ it.none)
 
-  pub normal_dropped : HasNormalSlabs words → HasNormalSlabs new
-  normal_dropped normal = record { each = λ s slab. let same = it.others s (other_slab s slab) in sym same.kind ∙ normal.each s (same.slab ∙ slab) }
-
   pub index_dropped : (set more : FreeSet) → more.granules ≡ set.granules → ((k : ℕ) → IsFree more k ↔ (IsFree set k ⊎ ((start ≤ k) × (k < start + 4)))) → IsIndexOf set words → IsIndexOf more new
   index_dropped set more granules given index = record {
     granules = granules ∙ index.granules ∙ ap (λ (b : Bounds). b.granules) (sym dropped.bounds);
@@ -188,6 +178,16 @@ module _ (words : List ℕ) (start : ℕ) (image : IsExactButImage words start) 
         iff_same (removed.blocks s i ∙ cond-false (s == start) false (is_available set s i) (ne_eqb s start differ))
         (iff_then (was.blocks s i (same.slab ∙ slab) (subst (λ c. i < class_capacity c) (sym same.class) below))
         (subst (λ c. IsUnusedIn full s c i ↔ IsUnusedIn less s (less.class s) i) (sym same.class) (iff_back (IsUnusedIn-same same (less.class s) i))));
+  }
+
+  -- no block lived in it
+  pub lives_dropped : (counts : List ℕ) → slice_index counts start ≡ 0 → AreCountsOf counts words → AreCountsOf counts new
+  lives_dropped counts zero were = record {
+    size = were.size ∙ ap (λ (b : Bounds). b.granules) (sym dropped.bounds);
+    each = λ s. ⊎_elim
+        (λ (same : s ≡ start). ap (slice_index counts) same ∙ zero ∙ sym (cond-false (less.slab s) (live_below (heap less) s (bounds_of new).roots) 0 (ap less.slab same ∙ it.none)))
+        (λ (differ : s ≢ start). were.each s ∙ (λ i. if (it.others s differ).slab i then live_below (λ root. sym (dropped.heap.each root) i) s (sym dropped.bounds i).roots else 0))
+        (cases_eq s start);
   }
 
   pub keeps_dropped : KeepsBlocks words new
@@ -218,44 +218,6 @@ exact_held words start image rooted lively =
       };
     }
 
--- a normal slab has not taken its class
-pub is_done-normal : (t : Tables) (start : ℕ) → t.kind start ≡ 1 → is_done t start ≡ false
-is_done-normal t start normal = let other : (t.kind start == 3) ≡ false = ne_eqb (t.kind start) 3 (λ e. omega (arith, e, normal)) in ap (λ b. b && not (any_below (t.live start) (t.index_count start))) other
-
--- the blocks of a normal slab in the set
-module _ (words : List ℕ) (set : SlabSet) (start : ℕ) (image : IsExactButImage words start) (was : IsSlabsOf set words) (slab : (tables_of words).slab start ≡ true) (normal : (tables_of words).kind start ≡ normal_kind) where
-  abbrev its : Tables
-  its = tables_of words
-
-  -- each is available: it holds none
-  pub none_held : IsWhole set start → holds_none (tables_of words) start ≡ true
-  none_held whole = ⊎_elim
-      (λ (none : holds_none its start ≡ true). none)
-      (λ (some : holds_none its start ≡ false).
-      let held = some_by_tests its start slab (calm_but image.but start slab) some in
-      absurd (⊎_elim
-      (λ (bit : HoldsBit its start held.0).
-      let block : IsBlock set start bit.number = record { class = its.class start; slab = was.classes start ∙ cond-true (its.slab start) (Some (its.class start)) None slab; below = bit.below } in
-      let clear = clear_unused image.but.sound image.but.closed start bit.number slab bit.below (calm_but image.but start slab) ((was.blocks start bit.number slab bit.below).0 (whole.each bit.number block)) in
-      true≢false (sym bit.set ∙ clear))
-      (λ (old : HoldsOld its start held.0). let none = ((image.but.sound.slabs start slab).state.none normal).1 in omega (arith, old.below, none))
-      held.1.block))
-      (cases_Bool (holds_none its start))
-
-  -- some is not
-  pub some_held : ¬ (IsWhole set start) → holds_none (tables_of words) start ≡ false
-  some_held other = ⊎_elim
-      (λ (none : holds_none its start ≡ true). absurd (other (record {
-        each = λ number block.
-            let there = block.slab in
-            let here : class_in set start ≡ Some (its.class start) = was.classes start ∙ cond-true (its.slab start) (Some (its.class start)) None slab in
-            let same : block.class ≡ its.class start = cc in
-            let below = subst (λ c. number < class_capacity c) same block.below in
-            (was.blocks start number slab below).1 (record { each = λ range holds. absurd (none_by_tests its start none range holds) });
-      })))
-      (λ (some : holds_none its start ≡ false). some)
-      (cases_Bool (holds_none its start))
-
 -- the granules of a slab are held
 pub held_row : (words : List ℕ) (set : FreeSet) (start : ℕ) → IsExactButImage words start → (tables_of words).slab start ≡ true → IsIndexOf set words → IsHeldRow set start 4
 held_row words set start image slab index =
@@ -268,25 +230,4 @@ held_row words set start image slab index =
         omega (arith, high, lies.1, four, index.granules),
         λ free. ((index.each k).0 free).none start (Covers-slab t start k slab low high),
       );
-    }
-
--- a slab that holds a block stays
-pub tidied_none : (s : PmemState) (volatile : Volatile) (start : ℕ) → IsExactButImage (words_of s) start → IsReady s → IsBookOf volatile.log (words_of s) → IsIndexOf volatile.free (words_of s) → HasNormalSlabs (words_of s) → IsSlabsOf volatile.slabs (words_of s) →
-    (tables_of (words_of s)).slab start ≡ true → ¬ (IsWhole volatile.slabs start) → IsTidied s s volatile start
-tidied_none s volatile start image ready log index normal was slab other =
-    let words = words_of s in
-    let t = tables_of words in
-    let kind = normal.each start slab in
-    let none = some_held words volatile.slabs start image was slab kind other in
-    let exact = exact_held words start image (rooted_by_tests start image.but slab none) (λ done. omega (arith, done.kind, kind)) in
-    let events : tidy_events words start ≡ [] = cond-false (holds_none t start) _ _ none ∙ cond-false (is_done t start) _ [] (is_done-normal t start (normal.each start slab)) in
-    record {
-      step = step_by [] (tidy_events words start) (sym events) (step_none ready.quiet (same_heap words words exact));
-      current = record { ready = ready; exact = exact; log = log; index = index };
-      normal = normal;
-      slabs = was;
-      bounds = refl;
-      heap = record { each = λ root. refl };
-      slab = λ o. sym (ap (λ gone. slabs_but (slabs t) start gone o) none);
-      keeps = record { each = λ root other range k first second word. refl };
     }

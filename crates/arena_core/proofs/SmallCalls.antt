@@ -1,40 +1,23 @@
 -- A small block and its root come or go: what an arena keeps holds again.
-use Rattle.std.proofs.Common.{refl, true, false, true≢false, ◌≤◌, ◌+◌, ◌*◌, ◌≡◌, ◌≢◌, ◌⊎◌, ◌↔◌, ◌==◌, ◌&&◌, ℕ, ◌<◌, Bool, not, List, sym, ap, subst, ◌∙◌, arith, inl, inr, ⊎_elim, None, if◌then◌else◌, true, ◌*◌}
+use Rattle.std.proofs.Common.{refl, true, false, true≢false, ◌≡◌, ◌≢◌, ◌⊎◌, ◌↔◌, ◌==◌, ◌&&◌, ℕ, ◌<◌, Bool, not, List, sym, ap, subst, ◌∙◌, arith, inl, inr, ⊎_elim, None, if◌then◌else◌, true}
 use Rattle.std.proofs.lemmas.Bool.{cases_eq, eq-eqb, ne_eqb, cond-true, cond-false, and_from, and_left, and_right}
-use Rattle.std.proofs.lemmas.List.Elements.{All-weaker}
-use Rattle.pmem_lines.specs.Words.{word_at}
-use Rattle.pool_layout.specs.Places.{fields_word, directory_word, entry_word}
-use Rattle.pool_layout.specs.Header.{version_in}
 use Rattle.size_classes.specs.Classes.{class_capacity}
-use Rattle.image_tables.specs.Log.{active_chunks}
 use Rattle.image_tables.specs.Tables.{Tables, tables_of}
 use Rattle.image_tables.specs.Updates.{with_small, put_in}
-use Rattle.image_tables.proofs.Chunks.{few_chunks}
-use Rattle.image_tables.proofs.Places.{log_word-low, entry_word-low, entry_word-high}
-use Rattle.image_tables.proofs.Logs.{SameChunk, SameLog}
-use Rattle.image_tables.proofs.Stores.{root_word-low}
 use Rattle.image_tables.proofs.Updates.{put_in-same, put_at-other}
-use Rattle.book_log.specs.Book.{Book}
-use Rattle.book_log.proofs.Books.{Reads-same}
 use Rattle.extent_index.specs.FreeSet.{FreeSet, IsFree}
 use Rattle.slab_index.specs.SlabSet.{SlabSet, class_in, is_available}
 use Rattle.heap_model.specs.Machine.{Bounds, slab_block, Range}
 use Rattle.heap_check.specs.Heap.{slabs, IsUnusedIn, Holds}
 use Rattle.heap_check.specs.Sound.{IsVacant}
-use Rattle.heap_check.specs.Image.{bounds_of, IsExactImage, IsExactButImage}
-use Rattle.heap_check.specs.State.{KeepsBlocks}
-use Rattle.heap_check.proofs.BlockWords.{block_word-heap, block_word-header}
-use Rattle.heap_check.proofs.Loose.{IsExactBut-exact}
+use Rattle.heap_check.specs.Image.{bounds_of}
 use Rattle.heap_check.proofs.Sizes.{sizes_of}
 use Rattle.heap_check.proofs.Small.{Holds-back, Holds-forth, blocks_apart}
-use Rattle.log_steps.specs.Log.{IsBookOf}
 use Rattle.attach_steps.specs.declared.block.SmallBlock.{SmallBlock}
-use Rattle.attach_steps.specs.Steps.{KeepsOthers, IsBlockIn, IsDetachable, bit_word, IsDetached}
-use Rattle.arena_core.specs.Arena.{HasNormalSlabs, IsIndexOf, IsSlabsOf}
-use Rattle.arena_core.specs.Plan.{IsNamedSmall}
+use Rattle.attach_steps.specs.Steps.{IsBlockIn, IsDetachable, IsDetached}
+use Rattle.arena_core.specs.Arena.{IsIndexOf, IsSlabsOf}
 use Rattle.heap_check.specs.Slabs.{IsSameSlab}
 use Rattle.heap_check.proofs.OneBlock.{stage_of, IsVacant-one}
-use Rattle.heap_check.proofs.Geometry.{number_few, granules_at-slab}
 use Rattle.size_classes.proofs.Spacing.{class_size-least}
 use Rattle.arena_core.proofs.UnusedBlocks.{iff_same, iff_then, unused_apart, unused_freed}
 use Rattle.heap_check.proofs.SmallPlaces.{IsSmallPlace-named, calm_but}
@@ -51,9 +34,6 @@ module _ (words : List ℕ) (bits lives : Bool → ℕ → ℕ → Bool) (root :
   pub classes_small : (s : ℕ) → slabs (tables_of new) s ≡ slabs (tables_of words) s
   classes_small s = ap (λ (x : Tables). slabs x s) tables
 
-  pub normal_small : HasNormalSlabs words → HasNormalSlabs new
-  normal_small normal = record { each = λ s slab. ap (λ (x : Tables). x.kind s) tables ∙ normal.each s (sym (ap (λ (x : Tables). x.slab s) tables) ∙ slab) }
-
   pub index_small : (set : FreeSet) → IsIndexOf set words → IsIndexOf set new
   index_small set index = record {
     granules = index.granules ∙ ap (λ (b : Bounds). b.granules) (sym bounds);
@@ -69,6 +49,13 @@ bits_with t start number on = put_in t.bit start number on
 
 abbrev pub lives_as : Tables → Bool → ℕ → ℕ → Bool
 lives_as t on = t.live
+
+-- of an old block it is the live bit of its index entry
+abbrev pub bits_as : Tables → Bool → ℕ → ℕ → Bool
+bits_as t on = t.bit
+
+abbrev pub lives_with : Tables → ℕ → ℕ → Bool → ℕ → ℕ → Bool
+lives_with t start place on = put_in t.live start place on
 
 -- a block of its slab's class
 module _ (words : List ℕ) (root start number : ℕ) (on : Bool) (word : ℕ) (new : List ℕ) (bounds : bounds_of new ≡ bounds_of words)
@@ -139,87 +126,3 @@ unused_taken words line root block may new detached =
       λ is. subst (λ (x : Tables). IsUnusedIn x block.start (t.class block.start) block.number) detached.tables (record { each = apart }),
       λ unused. refl,
     )
-
--- One word of a slab's header changes with a root's word and a write-ahead line: where it lies.
-pub record IsBlockChange (words : List ℕ) (line root start k : ℕ) : Type 0 where
-  pub image : IsExactButImage words start
-  pub slab : (tables_of words).slab start ≡ true
-  pub rooted : root < (bounds_of words).roots
-  pub low : 2048 * start ≤ k
-  pub high : k < 2048 * start + 256
-  pub few : line < 8
-
--- where it is the bit of a block
-pub change_bit : {words : List ℕ} {line root : ℕ} {block : SmallBlock} → IsBlockIn words root block → line < 8 → IsBlockChange words line root block.start (bit_word block)
-change_bit {words} {line} {root} {block} block_in few = record {
-  image = block_in.image;
-  slab = block_in.slab;
-  rooted = block_in.rooted;
-  low = omega arith;
-  high = omega (arith, number_few ((tables_of words).class block.start) block.number (block_in.image.but.sound.slabs block.start block_in.slab).state.is_class block_in.below);
-  few = few;
-}
-
--- the words of the log and of blocks are the same
-module _ {words : List ℕ} {line root start place : ℕ} (change : IsBlockChange words line root start place) (new : List ℕ) (rest : KeepsOthers words line root place new) where
-  start_low : 4 ≤ start
-  start_low =
-      let sizes = sizes_of words change.image.formed in
-      let four = granules_at-slab (tables_of words) start change.slab in
-      omega (arith, sizes.first, (change.image.but.sound.starts start (omega (arith, four))).0)
-
-  root_low : root < 4096
-  root_low = omega (arith, (sizes_of words change.image.formed).roots, change.rooted)
-
-  keeps_low : (k : ℕ) → k < 64 → word_at new k ≡ word_at words k
-  keeps_low k low = rest.others k (λ e. omega (arith, e, low)) (λ e. omega (arith, e, low, change.low, start_low)) (λ e. omega (arith, e, low))
-
-  log_small : SameLog words new
-  log_small =
-      let version = version_in words in
-      let sizes = sizes_of words change.image.formed in
-      record {
-        fields = keeps_low fields_word (omega arith);
-        directory = keeps_low directory_word (omega arith);
-        chunks = All-weaker (λ c. c < 16) (SameChunk version words new)
-            (λ c few. record {
-              each = λ e below.
-                  let low = entry_word-low version c e in
-                  let high = entry_word-high version c e few below in
-                  rest.others (entry_word version c e)
-                  (λ is. omega (arith, is, low, log_word-low version, change.few))
-                  (λ is. omega (arith, is, high, sizes.first, change.low, start_low))
-                  (λ is. omega (arith, is, low, root_word-low version root change.rooted));
-            })
-            (active_chunks (word_at words directory_word)) (few_chunks (word_at words directory_word));
-      }
-
-  pub book_small : bounds_of new ≡ bounds_of words → (book : Book) → IsBookOf book words → IsBookOf book new
-  book_small bounds book log = record {
-    reads = Reads-same book words new log_small rest.same_length log.reads;
-    granules = log.granules ∙ ap (λ (b : Bounds). b.granules) (sym bounds);
-  }
-
-  pub keeps_small : KeepsBlocks words new
-  keeps_small = record {
-    each = λ r other at k was is within.
-        let but = change.image.but in
-        let sizes = sizes_of words change.image.formed in
-        let high = block_word-heap but.sound but.closed r at was k within in
-        let off = block_word-header but.sound but.closed r at was k within start change.slab in
-        rest.others k
-        (λ e. omega (arith, e, high, sizes.first, change.few))
-        (λ e. omega (arith, e, off, change.low, change.high))
-        (λ e. omega (arith, e, high, sizes.first, root_low));
-  }
-
--- a block that a root names
-pub named_in : (words : List ℕ) (root : ℕ) (block : SmallBlock) (class : ℕ) → IsExactImage words → IsNamedSmall (bounds_of words) (tables_of words) root block class → IsBlockIn words root block
-named_in words root block class exact named = record {
-  image = record { formed = exact.formed; but = IsExactBut-exact exact.exact block.start };
-  rooted = named.rooted;
-  slab = named.slab;
-  lively = exact.exact.none_done block.start;
-  below = subst (λ c. block.number < class_capacity c) (sym named.class_is) named.below;
-  at = named.at ∙ ap (λ c. (slab_block block.start c block.number).at) (sym named.class_is);
-}

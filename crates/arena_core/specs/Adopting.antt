@@ -1,5 +1,5 @@
 -- What the indexes of an arena have read of an image so far, while an arena is made over it.
-use Rattle.std.specs.Prelude.{◌≡◌, ◌↔◌, nat_lt, ℕ, ◌<◌, ◌≤◌, true, List, Option, Some, None, if◌then◌else◌}
+use Rattle.std.specs.Prelude.{◌≡◌, ◌↔◌, nat_lt, ℕ, ◌<◌, ◌≤◌, true, List, length, slice_index, Option, Some, None, if◌then◌else◌}
 use Rattle.pool_layout.specs.Header.{granules_in}
 use Rattle.size_classes.specs.Classes.{class_capacity}
 use Rattle.image_tables.specs.Extents.{extent_at}
@@ -7,9 +7,10 @@ use Rattle.image_tables.specs.Tables.{Tables, tables_of}
 use Rattle.book_log.specs.declared.entry.LogEntry.{LogEntry}
 use Rattle.book_log.specs.Table.{IsNextLive}
 use Rattle.heap_model.specs.Machine.{Bounds}
+use Rattle.heap_model.specs.Slabs.{live_below}
 use Rattle.extent_index.specs.FreeSet.{FreeSet, IsFree}
 use Rattle.slab_index.specs.SlabSet.{SlabSet, class_in, is_available}
-use Rattle.heap_check.specs.Heap.{slabs, IsUnusedIn}
+use Rattle.heap_check.specs.Heap.{heap, slabs, IsUnusedIn}
 use Rattle.heap_check.specs.Sound.{Covers}
 use Rattle.heap_check.specs.Image.{bounds_of}
 
@@ -39,6 +40,11 @@ pub record IsWithSlabOf (words : List ℕ) (old new : SlabSet) (start : ℕ) : T
   pub blocks : (i : ℕ) → i < class_capacity ((tables_of words).class start) → (is_available new start i ≡ true) ↔ IsUnusedIn (tables_of words) start ((tables_of words).class start) i
   pub classes : (other : ℕ) → ¬ (other ≡ start) → class_in new other ≡ class_in old other
   pub others : (other i : ℕ) → ¬ (other ≡ start) → is_available new other i ≡ is_available old other i
+
+-- the counts are those of the blocks of the roots below one
+pub record HasCounted (words : List ℕ) (counts : List ℕ) (root : ℕ) : Type 0 where
+  pub size : length counts ≡ granules_in words
+  pub each : (start : ℕ) → slice_index counts start ≡ (if (tables_of words).slab start then live_below (heap (tables_of words)) start root else 0)
 
 -- the entry says the next live extent, and those that start below it are read
 pub record IsNextRead (words : List ℕ) (set : FreeSet) (parts : SlabSet) (next : LogEntry) : Type 0 where

@@ -1,5 +1,5 @@
 -- What a call has done once it is carried out.
-use Rattle.std.specs.Prelude.{◌≡◌, ℕ, List, Option}
+use Rattle.std.specs.Prelude.{◌≡◌, ℕ, List, Option, None, true}
 use Rattle.pmem_lines.specs.declared.event.Event.{Event}
 use Rattle.pmem_lines.specs.Pmem.{PmemState, words_of}
 use Rattle.pmem_lines.specs.Steps.{IsQuietStep}
@@ -8,28 +8,43 @@ use Rattle.heap_model.specs.declared.call.Call.{Call}
 use Rattle.heap_model.specs.declared.call.Reply.{Reply}
 use Rattle.heap_model.specs.Machine.{Range}
 use Rattle.heap_check.specs.Heap as Heap
-use Rattle.heap_check.specs.Image.{bounds_of}
+use Rattle.heap_check.specs.Image.{bounds_of, IsExactButImage}
 use Rattle.heap_check.specs.State.{HaveSameHeap, KeepsBlocks, IsEitherHeap}
+use Rattle.log_steps.specs.Log.{IsBookOf}
 use Rattle.arena_core.specs.declared.volatile.Volatile.{Volatile}
-use Rattle.arena_core.specs.Arena.{HasNormalSlabs, IsSlabsOf, IsCurrent, IsArena}
+use Rattle.arena_core.specs.Arena.{IsIndexOf, IsSlabsOf, AreCountsOf, IsCurrent, IsArena}
 use Rattle.arena_core.specs.Call.{IsStepOfAny}
-use Rattle.arena_core.specs.Effect.{slabs_but, GivesRoot}
+use Rattle.arena_core.specs.Effect.{slabs_but, GivesRoot, IsLastOf}
 use Rattle.arena_core.specs.Events.{holds_none, tidy_events, call_events, line_after}
 
 -- a root was given a block, or lost its own: the events, what is kept, and what a crash leaves
 pub record IsDone (old new : PmemState) (left : Volatile) (root : ℕ) (block : Option Range) (slab : ℕ → Option ℕ) (events : List Event) : Type 0 where
   pub step : IsQuietStep old new events (IsEitherHeap (words_of old) (words_of new))
   pub current : IsCurrent new left
-  pub normal : HasNormalSlabs (words_of new)
   pub slabs : IsSlabsOf left.slabs (words_of new)
+  pub lives : AreCountsOf left.lives (words_of new)
   pub gives : GivesRoot (words_of old) root block slab (words_of new)
 
--- a slab was dropped, where it held no block: the image is exact
+-- a block went from its root, and its slab may be without a block, or done
+pub record IsTaken (old new : PmemState) (was left : Volatile) (root start : ℕ) (events : List Event) : Type 0 where
+  pub step : IsQuietStep old new events (IsEitherHeap (words_of old) (words_of new))
+  pub image : IsExactButImage (words_of new) start
+  pub slab : (tables_of (words_of new)).slab start ≡ true
+  pub last : IsLastOf (tables_of (words_of old)) root start (holds_none (tables_of (words_of new)) start)
+  pub gives : GivesRoot (words_of old) root None (Heap.slabs (tables_of (words_of old))) (words_of new)
+  pub log : IsBookOf left.log (words_of new)
+  pub index : IsIndexOf left.free (words_of new)
+  pub slabs : IsSlabsOf left.slabs (words_of new)
+  pub lives : AreCountsOf left.lives (words_of new)
+  pub line : left.line ≡ was.line
+
+-- A slab was dropped, where it held no block, or its transition ended, where its last old block was gone: the image is
+-- exact.
 pub record IsTidied (old new : PmemState) (left : Volatile) (start : ℕ) : Type 0 where
   pub step : IsQuietStep old new (tidy_events (words_of old) start) (IsEitherHeap (words_of old) (words_of new))
   pub current : IsCurrent new left
-  pub normal : HasNormalSlabs (words_of new)
   pub slabs : IsSlabsOf left.slabs (words_of new)
+  pub lives : AreCountsOf left.lives (words_of new)
   pub bounds : bounds_of (words_of new) ≡ bounds_of (words_of old)
   pub heap : HaveSameHeap (words_of old) (words_of new)
   pub slab : (other : ℕ) → Heap.slabs (tables_of (words_of new)) other ≡ slabs_but (Heap.slabs (tables_of (words_of old))) start (holds_none (tables_of (words_of old)) start) other

@@ -1,6 +1,6 @@
 -- What a call decides before its first store, over the tables of the image at its begin.
 use Rattle.std.specs.Prelude.{◌≡◌, ◌≢◌, ℕ, ◌+◌, ◌-◌, ◌*◌, ◌<◌, ◌≤◌, true, Option, Some, None, MatchOption, Result, Ok, Err}
-use Rattle.size_classes.specs.Classes.{class_capacity}
+use Rattle.size_classes.specs.Classes.{class_size, class_capacity}
 use Rattle.image_tables.specs.Forms.{normal_kind}
 use Rattle.image_tables.specs.Tables.{Tables}
 use Rattle.heap_model.specs.Machine.{Bounds, Range, slab_block}
@@ -10,8 +10,10 @@ use Rattle.heap_model.specs.Choice.Site.{Granules, InSlab, InNewSlab}
 use Rattle.heap_model.specs.Slabs.{live_below}
 use Rattle.heap_model.specs.Plain.{IsPlainSite}
 use Rattle.heap_check.specs.Heap.{heap, slabs, IsUnusedIn}
-use Rattle.heap_check.specs.Sound.{IsVacant}
+use Rattle.heap_check.specs.Sound.{IsVacant, IsInSlab}
 use Rattle.attach_steps.specs.declared.block.SmallBlock.{SmallBlock}
+use Rattle.attach_steps.specs.declared.block.OldBlock.{OldBlock}
+use Rattle.slab_morph.specs.SlabHeaders.{IsOldAt}
 use Rattle.arena_core.specs.declared.plan.Place.{Place}
 use Rattle.arena_core.specs.declared.plan.Place.TheVariants.{Large, Small, Fresh}
 use Rattle.arena_core.specs.declared.plan.Held.{Held}
@@ -117,6 +119,17 @@ pub record IsTakable (b : Bounds) (t : Tables) (root start count : ℕ) : Type 0
   pub low : b.first ≤ start
   pub high : start + count ≤ b.granules
 
+-- a slab of the class begins at a granule
+pub record IsSlabAt (t : Tables) (start class : ℕ) : Type 0 where
+  pub slab : t.slab start ≡ true
+  pub class_is : t.class start ≡ class
+
+-- a root names an address in a slab
+pub record IsRootIn (b : Bounds) (t : Tables) (root start at : ℕ) : Type 0 where
+  pub rooted : root < b.roots
+  pub named : t.root root ≡ at
+  pub inside : IsInSlab t start at
+
 -- a root names a block of a slab
 pub record IsNamedSmall (b : Bounds) (t : Tables) (root : ℕ) (block : SmallBlock) (class : ℕ) : Type 0 where
   pub rooted : root < b.roots
@@ -127,10 +140,20 @@ pub record IsNamedSmall (b : Bounds) (t : Tables) (root : ℕ) (block : SmallBlo
   pub at : block.at ≡ (slab_block block.start class block.number).at
   pub set : t.bit block.start block.number ≡ true
 
+-- a root names a live old block of a slab that took another class
+pub record IsNamedOld (b : Bounds) (t : Tables) (root : ℕ) (block : OldBlock) (class : ℕ) : Type 0 where
+  pub rooted : root < b.roots
+  pub named : t.root root ≡ block.at
+  pub slab : t.slab block.start ≡ true
+  pub old_is : t.old block.start ≡ class
+  pub is_class : class < 36
+  pub place : IsOldAt t block.start block.at block.place
+
 -- what a root names
 abbrev pub IsHeldBy : Bounds → Tables → ℕ → Held → Type 0
 IsHeldBy b t root (held.Large start count) = IsTakable b t root start count
 IsHeldBy b t root (held.Small block class) = IsNamedSmall b t root block class
+IsHeldBy b t root (held.Old block class) = IsNamedOld b t root block class
 
 abbrev pub IsFreePlan : Bounds → Tables → ℕ → Result Held FreeRefusal → Type 0
 IsFreePlan b t root (Ok what) = IsHeldBy b t root what
@@ -141,3 +164,4 @@ IsFreePlan b t root (Err refusals.Empty) = (root < b.roots) × (t.root root ≡ 
 abbrev pub range_held : Held → Range
 range_held (held.Large start count) = record { at = 16384 * start; size = 16384 * count }
 range_held (held.Small block class) = slab_block block.start class block.number
+range_held (held.Old block class) = record { at = block.at; size = class_size class }

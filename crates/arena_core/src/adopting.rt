@@ -1,23 +1,25 @@
 // What an arena keeps beside its words is read from an image that is there.
-ghost use Rattle.std.specs.Prelude.{◌≡◌, ◌↔◌, ◌+◌, ◌<◌, ◌≤◌, ℕ, true, None};
+ghost use Rattle.std.specs.Prelude.{◌≡◌, ◌↔◌, ◌+◌, ◌<◌, ◌≤◌, ℕ, true, None, length, slice_index};
 ghost use Rattle.pmem_lines.specs.Pmem.{words_of};
 ghost use Rattle.pool_layout.specs.Header.{granules_in};
 ghost use Rattle.image_tables.specs.Tables.{tables_of};
 ghost use Rattle.book_log.specs.Entry.{start_of};
 ghost use Rattle.extent_index.specs.FreeSet.{IsFree};
 ghost use Rattle.slab_index.specs.SlabSet.{class_in};
-ghost use Rattle.heap_check.specs.Image.{IsExactImage};
+ghost use Rattle.heap_check.specs.Image.{bounds_of, IsExactImage};
 ghost use Rattle.log_steps.specs.Log.{IsBookOf};
-ghost use Rattle.arena_core.specs.Arena.{HasNormalSlabs, IsIndexOf, IsSlabsOf};
-ghost use Rattle.arena_core.specs.Adopting.{IsReadBelow, IsNextRead, IsWithSlabOf};
+ghost use Rattle.arena_core.specs.Arena.{IsIndexOf, IsSlabsOf, AreCountsOf};
+ghost use Rattle.arena_core.specs.Adopting.{IsReadBelow, IsNextRead, IsWithSlabOf, HasCounted};
 
 use book_log::{BookLog, LogEntry};
 use extent_index::ExtentIndex;
 use pmem_lines::Pmem;
-use pool_layout::{SLAB_GRANULES, granule_at};
+use crate::plan::{layout_in, root_word, slab_with};
+use pool_layout::{GRANULE_BYTES, SLAB_GRANULES, granule_at};
 use size_classes::capacity;
-use slab_header::{bit_at, class_at};
-use slab_index::SlabIndex;
+use slab_header::class_at;
+use slab_index::{LiveCounts, SlabIndex};
+use slab_morph::is_unused;
 
 /// Makes the indexes those of an exact image: all of the heap was free before, and no slab was there. `log` is the
 /// image's.
@@ -28,7 +30,6 @@ pub(crate) fn read_image<P: Pmem>(
     slabs: &mut SlabIndex,
 )
     requires exact { IsExactImage (words_of (P.state device.now)) }
-    requires normal { HasNormalSlabs (words_of (P.state device.now)) }
     requires log { IsBookOf log.now (words_of (P.state device.now)) }
     requires granules { free.old.granules ≡ granules_in (words_of (P.state device.now)) }
     requires all_free { (k : ℕ) → IsFree free.old k ↔ ((4 ≤ k) × (k < free.old.granules)) }
@@ -47,7 +48,6 @@ pub(crate) fn read_image<P: Pmem>(
 // Takes over the live extent that an entry says; those that start below it are taken over.
 fn read_extent<P: Pmem>(device: &P, free: &mut ExtentIndex, slabs: &mut SlabIndex, extent: LogEntry)
     requires exact { IsExactImage (words_of (P.state device.now)) }
-    requires normal { HasNormalSlabs (words_of (P.state device.now)) }
     requires next { IsNextRead (words_of (P.state device.now)) free.old slabs.old extent }
     ensures { IsReadBelow (words_of (P.state device.now)) free.new slabs.new (start_of extent + 1) }
 {
@@ -64,7 +64,6 @@ fn read_extent<P: Pmem>(device: &P, free: &mut ExtentIndex, slabs: &mut SlabInde
 // Takes over a slab: its class, and which of its blocks are free.
 fn read_slab<P: Pmem>(device: &P, slabs: &mut SlabIndex, start: u32)
     requires exact { IsExactImage (words_of (P.state device.now)) }
-    requires normal { HasNormalSlabs (words_of (P.state device.now)) }
     requires slab { (tables_of (words_of (P.state device.now))).slab start ≡ true }
     requires granules { slabs.old.granules ≡ granules_in (words_of (P.state device.now)) }
     requires fresh { class_in slabs.old start ≡ None }
@@ -74,8 +73,38 @@ fn read_slab<P: Pmem>(device: &P, slabs: &mut SlabIndex, start: u32)
     let class = class_at(device, at);
     slabs.add(start, class);
     for i in 0..capacity(class) {
-        if bit_at(device, at, i) {
+        if !is_unused(device, at, i) {
             slabs.take(start, i);
         }
+    }
+}
+
+/// Counts the live blocks of each slab of an exact image, by the words of its roots; all counts were 0 before.
+pub(crate) fn count_lives<P: Pmem>(device: &P, slabs: &SlabIndex, lives: &mut LiveCounts)
+    requires exact { IsExactImage (words_of (P.state device.now)) }
+    requires slabs { IsSlabsOf slabs.now (words_of (P.state device.now)) }
+    requires size { length lives.old ≡ granules_in (words_of (P.state device.now)) }
+    requires none { (start : ℕ) → slice_index lives.old start ≡ 0 }
+    ensures { AreCountsOf lives.new (words_of (P.state device.now)) }
+{
+    for root in 0..layout_in(device).roots {
+        count_root(device, slabs, lives, root);
+    }
+}
+
+// Counts the block of a root, where it lies in a slab; those of the roots below it are counted.
+fn count_root<P: Pmem>(device: &P, slabs: &SlabIndex, lives: &mut LiveCounts, root: u32)
+    requires exact { IsExactImage (words_of (P.state device.now)) }
+    requires slabs { IsSlabsOf slabs.now (words_of (P.state device.now)) }
+    requires root { root < (bounds_of (words_of (P.state device.now))).roots }
+    requires counted { HasCounted (words_of (P.state device.now)) lives.old root }
+    ensures { HasCounted (words_of (P.state device.now)) lives.new (root + 1) }
+{
+    let at = root_word(device, root);
+    if at == 0 {
+        return;
+    }
+    if let Some(slab) = slab_with(slabs, at / GRANULE_BYTES) {
+        lives.raise(slab.start);
     }
 }

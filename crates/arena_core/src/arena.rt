@@ -9,11 +9,11 @@ ghost use Rattle.heap_model.specs.Machine.{no_heap};
 ghost use Rattle.heap_check.specs.Image.{IsExactImage};
 ghost use Rattle.heap_check.specs.State.{HasState, KeepsBlocks, IsEitherHeap};
 ghost use Rattle.arena_core.specs.Answer.{malloc_reply, free_reply};
-ghost use Rattle.arena_core.specs.Arena.{HasNormalSlabs, IsBlockOfRoot};
+ghost use Rattle.arena_core.specs.Arena.{IsBlockOfRoot};
 ghost use Rattle.arena_core.specs.Call.{IsReady, IsStepOf, IsFormattedOrNot};
 ghost use Rattle.arena_core.specs.Events.{call_events, line_after, format_events};
 
-use crate::adopting::read_image;
+use crate::adopting::{count_lives, read_image};
 use crate::formatting::write_header;
 use crate::plan::{freed_of, granules_in, held_by, layout_in, plan_free, plan_malloc};
 use crate::volatile::Volatile;
@@ -76,13 +76,11 @@ impl<P: Pmem> Arena<P> {
         Arena { device, volatile }
     }
 
-    /// Makes an arena over a memory whose image is exact and whose slabs are all normal; `room` is for as many granules as
-    /// the image has. It begins no call and has no event, and the heap is that of the image. It takes no memory.
+    /// Makes an arena over a memory whose image is exact; `room` is for as many granules as the image has. It begins no call and has no event, and the heap is that of the image. It takes no memory.
     pub fn adopt(room: ArenaRoom, device: P) -> Arena<P>
         requires quiet { IsQuiet (P.state device).events }
         requires room { 2048 ≤ (P.state device).room }
         requires exact { IsExactImage (words_of (P.state device)) }
-        requires normal { HasNormalSlabs (words_of (P.state device)) }
         requires size { granules_in (words_of (P.state device)) ≡ room }
         ensures device { result.device ≡ P.state device }
         ensures line { result.line ≡ 0 }
@@ -96,6 +94,7 @@ impl<P: Pmem> Arena<P> {
             &mut volatile.free,
             &mut volatile.slabs,
         );
+        count_lives(&device, &volatile.slabs, &mut volatile.lives);
         Arena { device, volatile }
     }
 
@@ -128,7 +127,8 @@ impl<P: Pmem> Arena<P> {
         self.volatile.carry_out_malloc(&mut self.device, root, plan)
     }
 
-    /// Takes a root its block, and the block's slab out of the heap where no other block is left in it. The answer is the
+    /// Takes a root its block, and the block's slab out of the heap where no other block is left in it; where it was the
+    /// last old block of a slab that took another class, the slab is normal again. The answer is the
     /// machine's: `NoRoot` where there is no such root word, then `Empty` where the root names no block. It begins one call,
     /// ahead of its events, also where it refuses; a refusal has no event and changes no word. Every other block keeps its
     /// words. After a crash within it the heap is the one before the call or the one after it. It takes no memory. `seat`

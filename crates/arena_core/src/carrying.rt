@@ -1,5 +1,5 @@
 // What a call does, once it has begun: it changes the words and what stands beside them together.
-ghost use Rattle.std.specs.Prelude.{◌≡◌, ◌<◌, ◌≤◌, ◌*◌, ℕ, true, [], Some, None, Ok, length};
+ghost use Rattle.std.specs.Prelude.{◌≡◌, ◌<◌, ◌≤◌, ◌*◌, ℕ, true, [], ◌++◌, Some, None, Ok, length};
 ghost use Rattle.pmem_lines.specs.Events.{reading, IsQuiet};
 ghost use Rattle.pmem_lines.specs.Steps.{IsQuietStep};
 ghost use Rattle.pmem_lines.specs.Pmem.{words_of};
@@ -12,24 +12,27 @@ ghost use Rattle.heap_check.specs.Image.{bounds_of, IsExactButImage};
 ghost use Rattle.heap_check.specs.State.{IsEitherHeap};
 ghost use Rattle.log_steps.specs.Log.{IsBookOf};
 ghost use Rattle.extent_steps.specs.Slabs.{open_events, IsOpened};
-ghost use Rattle.attach_steps.specs.Steps.{attach_events, detach_events, IsAttachable, IsDetachable, IsAttached, IsDetached};
+ghost use Rattle.attach_steps.specs.Steps.{attach_events, detach_events, detach_old_events, IsAttachable, IsDetachable, IsOldDetachable, IsAttached};
 ghost use Rattle.arena_core.specs.Answer.{malloc_reply, free_reply};
-ghost use Rattle.arena_core.specs.Arena.{HasNormalSlabs, IsIndexOf, IsSlabsOf, IsCurrent, IsArena};
+ghost use Rattle.arena_core.specs.Arena.{IsIndexOf, IsSlabsOf, AreSlabsBut, AreCountsOf, IsCurrent, IsArena};
 ghost use Rattle.arena_core.specs.Call.{IsReady};
-ghost use Rattle.arena_core.specs.Carried.{IsDone, IsTidied, IsCalled};
-ghost use Rattle.arena_core.specs.Effect.{GivesRoot, KeepsSlabs, IsLastOf, slabs_but};
-ghost use Rattle.arena_core.specs.Events.{place_events, take_events, fresh_events, unsmall_events, holds_none};
-ghost use Rattle.arena_core.specs.Plan.{IsAskedOf, IsVacantRow, IsGivable, IsTakable, IsNamedSmall, IsHeldBy, IsMallocPlan, IsFreePlan};
+ghost use Rattle.arena_core.specs.Carried.{IsDone, IsTaken, IsTidied, IsCalled};
+ghost use Rattle.arena_core.specs.Effect.{IsLastOf, slabs_but};
+ghost use Rattle.arena_core.specs.Events.{place_events, take_events, fresh_events, unsmall_events, tidy_events, holds_none};
+ghost use Rattle.arena_core.specs.Plan.{IsAskedOf, IsVacantRow, IsGivable, IsTakable, IsNamedSmall, IsNamedOld, IsHeldBy, IsMallocPlan, IsFreePlan};
 
 use crate::plan::{Held, Place, freed_of, placed_at};
 use crate::volatile::Volatile;
 use crate::{FreeRefusal, Freed, MallocRefusal, Placed};
-use attach_steps::{SmallBlock, attach, detach, put_root};
+use attach_steps::{OldBlock, SmallBlock, attach, detach, detach_old, put_root};
 use book_log::LogEntry;
 use extent_steps::{drop_extent, drop_slab, open_slab};
 use log_steps::log_entry;
 use pmem_lines::Pmem;
-use pool_layout::{SLAB_GRANULES, blocks_at, granule_at, root_at};
+use pool_layout::{SLAB_GRANULES, blocks_at, granule_at};
+use slab_index::SlabIndex;
+use slab_morph::{covered_by, is_done, is_unused};
+use transition_steps::end_transition;
 
 impl Volatile {
     /// Does what the plan of a malloc says, and answers the call.
@@ -102,6 +105,10 @@ impl Volatile {
                 self.take_small(device, root, block, class);
                 self.line = (self.line + 1) % 8;
             }
+            Held::Old { block, class } => {
+                self.take_old(device, root, block, class);
+                self.line = (self.line + 1) % 8;
+            }
         }
         freed_of(held)
     }
@@ -138,16 +145,17 @@ impl Volatile {
         requires few { length (P.state device.old).events ≤ 757 }
         requires line { self.old.line < 8 }
         requires attachable { IsAttachable (words_of (P.state device.old)) root block }
-        requires normal { HasNormalSlabs (words_of (P.state device.old)) }
         requires slabs { IsSlabsOf self.old.slabs (words_of (P.state device.old)) }
+        requires lives { AreCountsOf self.old.lives (words_of (P.state device.old)) }
         ensures step { IsQuietStep (P.state device.old) (P.state device.new) (attach_events (words_of (P.state device.old)) self.old.line root block) (IsEitherHeap (words_of (P.state device.old)) (words_of (P.state device.new))) }
         ensures attached { IsAttached (words_of (P.state device.old)) self.old.line root block (words_of (P.state device.new)) }
-        ensures normal { HasNormalSlabs (words_of (P.state device.new)) }
         ensures slabs { IsSlabsOf self.new.slabs (words_of (P.state device.new)) }
-        ensures rest { self.new ≡ record self.old { slabs = self.new.slabs } }
+        ensures lives { AreCountsOf self.new.lives (words_of (P.state device.new)) }
+        ensures rest { self.new ≡ record self.old { slabs = self.new.slabs; lives = self.new.lives } }
     {
         attach(device, self.line, root, block);
         self.slabs.take(block.start, block.number);
+        self.lives.raise(block.start);
     }
 
     // Opens a slab on vacant granules.
@@ -156,15 +164,15 @@ impl Volatile {
         requires fresh { (P.state device.old).events ≡ [] }
         requires row { IsVacantRow (bounds_of (words_of (P.state device.old))) (tables_of (words_of (P.state device.old))) start 4 }
         requires class { class < 36 }
-        requires normal { HasNormalSlabs (words_of (P.state device.old)) }
         requires slabs { IsSlabsOf self.old.slabs (words_of (P.state device.old)) }
+        requires lives { AreCountsOf self.old.lives (words_of (P.state device.old)) }
         ensures step { IsQuietStep (P.state device.old) (P.state device.new) (open_events (words_of (P.state device.old)) start class) (IsEitherHeap (words_of (P.state device.old)) (words_of (P.state device.new))) }
         ensures few { length (P.state device.new).events ≤ 757 }
         ensures opened { IsOpened (words_of (P.state device.old)) start class (words_of (P.state device.new)) }
         ensures book { IsBookOf self.new.log (words_of (P.state device.new)) }
         ensures index { IsIndexOf self.new.free (words_of (P.state device.new)) }
-        ensures normal { HasNormalSlabs (words_of (P.state device.new)) }
         ensures slabs { IsSlabsOf self.new.slabs (words_of (P.state device.new)) }
+        ensures lives { AreCountsOf self.new.lives (words_of (P.state device.new)) }
         ensures line { self.new.line ≡ self.old.line }
     {
         open_slab(device, &mut self.log, start, class);
@@ -191,7 +199,7 @@ impl Volatile {
         self.give_small(device, root, first);
     }
 
-    // Takes a block of a slab from a root, and drops the slab where it holds no other.
+    // Takes a block of its slab's class from a root, and tidies the slab.
     fn take_small<P: Pmem>(&mut self, device: &mut P, root: u32, block: SmallBlock, class: u8)
         requires arena { IsArena (P.state device.old) self.old }
         requires fresh { (P.state device.old).events ≡ [] }
@@ -201,45 +209,85 @@ impl Volatile {
         ensures line { self.new.line ≡ self.old.line }
     {
         self.take_block(device, root, block);
-        self.drop_if_empty(device, block.start);
+        self.tidy(device, block.start);
     }
 
-    // Takes a block of a slab from a root.
-    fn take_block<P: Pmem>(&mut self, device: &mut P, root: u32, block: SmallBlock)
-        requires ready { IsReady (P.state device.old) }
+    // Takes an old block from a root, and tidies its slab.
+    fn take_old<P: Pmem>(&mut self, device: &mut P, root: u32, block: OldBlock, class: u8)
+        requires arena { IsArena (P.state device.old) self.old }
         requires fresh { (P.state device.old).events ≡ [] }
-        requires line { self.old.line < 8 }
+        requires named { IsNamedOld (bounds_of (words_of (P.state device.old))) (tables_of (words_of (P.state device.old))) root block class }
+        ensures last { let left = reading (words_of (P.state device.old)) (detach_old_events (tables_of (words_of (P.state device.old))) self.old.line root block.at block.start block.place) in IsLastOf (tables_of (words_of (P.state device.old))) root block.start (holds_none (tables_of left) block.start) }
+        ensures done { let left = reading (words_of (P.state device.old)) (detach_old_events (tables_of (words_of (P.state device.old))) self.old.line root block.at block.start block.place) in IsDone (P.state device.old) (P.state device.new) self.new root None (slabs_but (classes_of (tables_of (words_of (P.state device.old)))) block.start (holds_none (tables_of left) block.start)) (detach_old_events (tables_of (words_of (P.state device.old))) self.old.line root block.at block.start block.place ++ tidy_events left block.start) }
+        ensures line { self.new.line ≡ self.old.line }
+    {
+        self.take_old_block(device, root, block);
+        self.tidy(device, block.start);
+    }
+
+    // Takes a block of its slab's class from a root: it may be given out again.
+    fn take_block<P: Pmem>(&mut self, device: &mut P, root: u32, block: SmallBlock)
+        requires arena { IsArena (P.state device.old) self.old }
+        requires fresh { (P.state device.old).events ≡ [] }
         requires detachable { IsDetachable (words_of (P.state device.old)) root block }
-        requires normal { HasNormalSlabs (words_of (P.state device.old)) }
-        requires slabs { IsSlabsOf self.old.slabs (words_of (P.state device.old)) }
-        ensures step { IsQuietStep (P.state device.old) (P.state device.new) (detach_events (words_of (P.state device.old)) self.old.line root block) (IsEitherHeap (words_of (P.state device.old)) (words_of (P.state device.new))) }
-        ensures detached { IsDetached (words_of (P.state device.old)) self.old.line root block (words_of (P.state device.new)) }
-        ensures normal { HasNormalSlabs (words_of (P.state device.new)) }
-        ensures slabs { IsSlabsOf self.new.slabs (words_of (P.state device.new)) }
-        ensures rest { self.new ≡ record self.old { slabs = self.new.slabs } }
+        ensures taken { IsTaken (P.state device.old) (P.state device.new) self.old self.new root block.start (detach_events (words_of (P.state device.old)) self.old.line root block) }
     {
         detach(device, self.line, root, block);
         self.slabs.give(block.start, block.number);
+        self.lives.lower(block.start);
     }
 
-    // Drops a slab that holds no block.
-    fn drop_if_empty<P: Pmem>(&mut self, device: &mut P, start: u32)
+    // Takes an old block from a root: the blocks of the slab's class that it covered alone may be given out.
+    fn take_old_block<P: Pmem>(&mut self, device: &mut P, root: u32, block: OldBlock)
+        requires arena { IsArena (P.state device.old) self.old }
+        requires fresh { (P.state device.old).events ≡ [] }
+        requires detachable { IsOldDetachable (words_of (P.state device.old)) root block }
+        ensures taken { IsTaken (P.state device.old) (P.state device.new) self.old self.new root block.start (detach_old_events (tables_of (words_of (P.state device.old))) self.old.line root block.at block.start block.place) }
+    {
+        detach_old(device, self.line, root, block);
+        give_covered(device, &mut self.slabs, block);
+        self.lives.lower(block.start);
+    }
+
+    // Behind a block that went: drops its slab where it holds no other, and ends the slab's transition where that was the
+    // last old one.
+    fn tidy<P: Pmem>(&mut self, device: &mut P, start: u32)
         requires image { IsExactButImage (words_of (P.state device.old)) start }
         requires quiet { IsQuiet (P.state device.old).events }
         requires few { length (P.state device.old).events ≤ 11 }
         requires room { 2048 ≤ (P.state device.old).room }
         requires book { IsBookOf self.old.log (words_of (P.state device.old)) }
         requires index { IsIndexOf self.old.free (words_of (P.state device.old)) }
-        requires normal { HasNormalSlabs (words_of (P.state device.old)) }
         requires slabs { IsSlabsOf self.old.slabs (words_of (P.state device.old)) }
+        requires lives { AreCountsOf self.old.lives (words_of (P.state device.old)) }
         requires slab { (tables_of (words_of (P.state device.old))).slab start ≡ true }
         ensures tidied { IsTidied (P.state device.old) (P.state device.new) self.new start }
         ensures line { self.new.line ≡ self.old.line }
     {
-        if self.slabs.is_whole(start) {
+        if self.lives.at(start) == 0 {
             drop_slab(device, &mut self.log, start);
             self.free.give(start, SLAB_GRANULES);
             self.slabs.remove(start);
+        } else if is_done(device, granule_at(start)) {
+            end_transition(device, start);
+        }
+    }
+}
+
+// An old block went: the blocks of its slab's class that overlap it and no other block that the slab holds are to be given
+// out again.
+fn give_covered<P: Pmem>(device: &P, slabs: &mut SlabIndex, block: OldBlock)
+    requires image { IsExactButImage (words_of (P.state device.now)) block.start }
+    requires slab { (tables_of (words_of (P.state device.now))).slab block.start ≡ true }
+    requires place { block.place < (tables_of (words_of (P.state device.now))).index_count block.start }
+    requires slabs { AreSlabsBut slabs.old (words_of (P.state device.now)) block }
+    ensures { IsSlabsOf slabs.new (words_of (P.state device.now)) }
+{
+    let slab = granule_at(block.start);
+    let (from, end) = covered_by(device, slab, block.place);
+    for number in from..end {
+        if is_unused(device, slab, number) {
+            slabs.give(block.start, number);
         }
     }
 }

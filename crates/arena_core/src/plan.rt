@@ -11,11 +11,11 @@ ghost use Rattle.heap_check.specs.Sound.{IsVacant};
 ghost use Rattle.heap_check.specs.Image.{bounds_of, IsFormed, IsExactImage};
 ghost use Rattle.slab_index.specs.SlabSet.{class_in};
 ghost use Rattle.log_steps.specs.Log.{IsBookOf};
-ghost use Rattle.arena_core.specs.Arena.{HasNormalSlabs, IsIndexOf, IsSlabsOf};
-ghost use Rattle.arena_core.specs.Plan.{IsMallocPlan, IsFreePlan, IsHeldBy, IsAskedOf, IsFound, IsInSlabOf, IsInNoSlabOf, range_at, range_held};
+ghost use Rattle.arena_core.specs.Arena.{IsIndexOf, IsSlabsOf};
+ghost use Rattle.arena_core.specs.Plan.{IsMallocPlan, IsFreePlan, IsHeldBy, IsSlabAt, IsRootIn, IsAskedOf, IsFound, IsInSlabOf, IsInNoSlabOf, range_at, range_held};
 
 use crate::{FreeRefusal, Freed, MallocRefusal, Placed};
-use attach_steps::SmallBlock;
+use attach_steps::{OldBlock, SmallBlock};
 use book_log::{BookLog, LogEntry};
 use extent_index::ExtentIndex;
 use pmem_lines::Pmem;
@@ -24,6 +24,7 @@ use pool_layout::{
 };
 use size_classes::{class_of, granules, size_of_class};
 use slab_index::SlabIndex;
+use slab_morph::{old_class, old_place};
 
 /// Where a malloc places its block.
 #[derive(Clone, Copy)]
@@ -43,6 +44,8 @@ pub(crate) enum Held {
     Large { start: u32, granules: u32 },
     /// A block of a slab, which has the class.
     Small { block: SmallBlock, class: u8 },
+    /// An old block of a slab that took another class, and had this one before.
+    Old { block: OldBlock, class: u8 },
 }
 
 /// A slab: its first granule and its class.
@@ -153,7 +156,6 @@ pub(crate) fn plan_free<P: Pmem>(
     root: u32,
 ) -> Result<Held, FreeRefusal>
     requires exact { IsExactImage (words_of (P.state device.now)) }
-    requires normal { HasNormalSlabs (words_of (P.state device.now)) }
     requires log { IsBookOf log.now (words_of (P.state device.now)) }
     requires slabs { IsSlabsOf slabs.now (words_of (P.state device.now)) }
     ensures { IsFreePlan (bounds_of (words_of (P.state device.now))) (tables_of (words_of (P.state device.now))) root result }
@@ -175,7 +177,6 @@ pub(crate) fn held_by<P: Pmem>(
     root: u32,
 ) -> Option<Held>
     requires exact { IsExactImage (words_of (P.state device.now)) }
-    requires normal { HasNormalSlabs (words_of (P.state device.now)) }
     requires log { IsBookOf log.now (words_of (P.state device.now)) }
     requires slabs { IsSlabsOf slabs.now (words_of (P.state device.now)) }
     requires root { root < (layout_of (version_in (words_of (P.state device.now)))).roots }
@@ -187,14 +188,7 @@ pub(crate) fn held_by<P: Pmem>(
     }
     let granule = at / GRANULE_BYTES;
     match slab_with(slabs, granule) {
-        Some(slab) => Some(Held::Small {
-            block: SmallBlock {
-                start: slab.start,
-                number: (at - blocks_at(granule_at(slab.start))) / size_of_class(slab.class),
-                at,
-            },
-            class: slab.class,
-        }),
+        Some(slab) => Some(held_in(device, slab, at)),
         None => Some(Held::Large {
             start: granule,
             granules: granules_at(log, granule),
@@ -202,8 +196,33 @@ pub(crate) fn held_by<P: Pmem>(
     }
 }
 
-// The slab that has a granule, where one has it.
-fn slab_with(slabs: &SlabIndex, granule: u32) -> Option<SlabAt>
+// The block that begins at byte `at` of a slab, which a root names: an old one, or one of the slab's class.
+fn held_in<P: Pmem>(device: &P, slab: SlabAt, at: u32) -> Held
+    requires exact { IsExactImage (words_of (P.state device.now)) }
+    requires slab { IsSlabAt (tables_of (words_of (P.state device.now))) slab.start slab.class }
+    requires named { (root : ℕ) × IsRootIn (bounds_of (words_of (P.state device.now))) (tables_of (words_of (P.state device.now))) root slab.start at }
+    ensures { (root : ℕ) → IsRootIn (bounds_of (words_of (P.state device.now))) (tables_of (words_of (P.state device.now))) root slab.start at → IsHeldBy (bounds_of (words_of (P.state device.now))) (tables_of (words_of (P.state device.now))) root result }
+{
+    let start = slab.start;
+    let byte = granule_at(start);
+    match old_place(device, byte, at) {
+        Some(place) => Held::Old {
+            block: OldBlock { start, place, at },
+            class: old_class(device, byte),
+        },
+        None => Held::Small {
+            block: SmallBlock {
+                start,
+                number: (at - blocks_at(byte)) / size_of_class(slab.class),
+                at,
+            },
+            class: slab.class,
+        },
+    }
+}
+
+/// The slab that has a granule, where one has it.
+pub(crate) fn slab_with(slabs: &SlabIndex, granule: u32) -> Option<SlabAt>
     ensures { MatchOption result (IsInNoSlabOf (class_in slabs.now) granule) (λ slab. IsInSlabOf (class_in slabs.now) granule slab.start slab.class) }
 {
     for back in 0..SLAB_GRANULES {
@@ -230,6 +249,10 @@ pub(crate) fn freed_of(held: Held) -> Freed
             size: GRANULE_BYTES * granules,
         },
         Held::Small { block, class } => Freed {
+            at: block.at,
+            size: size_of_class(class),
+        },
+        Held::Old { block, class } => Freed {
             at: block.at,
             size: size_of_class(class),
         },

@@ -5,7 +5,7 @@ use crate::volatile::Volatile;
 use book_log::BookLog;
 use extent_index::ExtentIndex;
 use pmem_lines::OutOfMemory;
-use slab_index::SlabIndex;
+use slab_index::{LiveCounts, SlabIndex};
 use std::alloc::Global;
 use std::marker::Model;
 
@@ -37,10 +37,12 @@ impl ArenaRoom {
         let log = BookLog::new(alloc, granules)?;
         let free = ExtentIndex::new(alloc, granules)?;
         let slabs = SlabIndex::new(alloc, granules)?;
+        let lives = LiveCounts::new(alloc, granules)?;
         let volatile = Volatile {
             log,
             free,
             slabs,
+            lives,
             line: 0,
         };
         Ok(ArenaRoom { volatile })

@@ -1,11 +1,14 @@
 -- What the header of a slab says, read at a granule whether the log has a slab there or not; and tables with the header of
 -- one slab changed.
-use Rattle.std.specs.Prelude.{◌≡◌, ◌&&◌, nat_lt, ℕ, ◌/◌, ◌%◌, ◌^◌, Bool, true, List, None}
+use Rattle.std.specs.Prelude.{◌≡◌, ◌&&◌, nat_lt, ℕ, ◌+◌, ◌*◌, ◌/◌, ◌%◌, ◌^◌, ◌<◌, ◌≤◌, Bool, true, List, length, None}
 use Rattle.pmem_lines.specs.Words.{word_at}
-use Rattle.image_tables.specs.Tables.{Tables, where_slab, bit_of_word, state_word, index_word, slab_bit}
+use Rattle.image_tables.specs.Forms.{IsStateWord}
+use Rattle.image_tables.specs.Tables.{Tables, is_slab, where_slab, bit_of_word, state_word, index_word, slab_bit, tables_of}
 use Rattle.image_tables.specs.Updates.{put_at}
 use Rattle.slab_header.specs.declared.state.SlabState.{SlabState}
 use Rattle.slab_header.specs.State.{kind_of, class_of, old_of, entries_of}
+use Rattle.heap_model.specs.Machine.{slab_block}
+use Rattle.heap_check.specs.Sound.{IsValidSlab}
 
 pub record SlabHeader : Type 0 where
   -- the kind of the state, the class, the class before, and how many index entries are read
@@ -82,3 +85,18 @@ pub record HasState (h : SlabHeader) (state : SlabState) : Type 0 where
   pub class : h.class ≡ class_of state
   pub old : h.old ≡ old_of state
   pub entries : h.index_count ≡ entries_of state
+
+-- a slab of an arena begins at this byte, and its header lies inside and is valid
+pub record IsSlabHere (words : List ℕ) (slab : ℕ) : Type 0 where
+  pub aligned : slab % 16384 ≡ 0
+  pub small : slab / 16384 < 2 ^ 16
+  pub inside : slab + 2048 ≤ 8 * length words
+  pub there : is_slab words (slab / 16384) ≡ true
+  pub word : IsStateWord (word_at words (state_word (slab / 16384)))
+  pub valid : IsValidSlab (tables_of words) (slab / 16384)
+
+-- the old block in this place of a slab's index table lives, and begins at the address
+pub record IsOldAt (t : Tables) (start at place : ℕ) : Type 0 where
+  pub below : place < t.index_count start
+  pub live : t.live start place ≡ true
+  pub here : (slab_block start (t.old start) (t.number start place)).at ≡ at

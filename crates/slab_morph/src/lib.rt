@@ -15,12 +15,14 @@ mod bitmap;
 mod entries;
 mod fitness;
 mod held;
+mod old_blocks;
 mod overlap;
 mod state;
 mod taking;
 mod unused;
 
 pub use fitness::fit;
+pub use old_blocks::{covered_by, is_done, old_class, old_place};
 pub use overlap::overlaps;
 pub use taking::{finish_morph, finish_old, morph};
 pub use unused::is_unused;

@@ -8,22 +8,17 @@ ghost use Rattle.image_tables.specs.Tables.{is_slab, state_word, tables_of};
 ghost use Rattle.heap_model.specs.Machine.{AreApart, slab_block};
 ghost use Rattle.heap_check.specs.Heap.{IsUnusedIn};
 ghost use Rattle.heap_check.specs.Sound.{IsValidSlab};
-ghost use Rattle.slab_morph.specs.SlabHeaders.{header_at};
+ghost use Rattle.slab_morph.specs.SlabHeaders.{header_at, IsSlabHere};
 
 use crate::held::{Fields, fields_of, live_at, number_at, state_at};
 use crate::overlap::overlaps;
 use pmem_lines::Pmem;
 use slab_header::bit_at;
 
-/// Whether block `number` of its class in the slab that begins at this byte, a multiple of 16384, is unused: it shares no
-/// byte with a block that the slab holds, of its class or old. `number` is below the capacity of the class, and the slab is
-/// one of an arena, with a valid header.
+/// Whether block `number` of its class in the slab that begins at byte `slab` is unused: it shares no byte with a block that
+/// the slab holds, of its class or old. `number` is below the capacity of the class.
 pub fn is_unused<P: Pmem>(p: &P, slab: u32, number: u32) -> bool
-    requires aligned { slab % 16384 ≡ 0 }
-    requires inside { slab + 2048 ≤ 8 * length (words_of (P.state p.now)) }
-    requires word { IsStateWord (word_at (words_of (P.state p.now)) (state_word (slab / 16384))) }
-    requires there { is_slab (words_of (P.state p.now)) (slab / 16384) ≡ true }
-    requires valid { IsValidSlab (tables_of (words_of (P.state p.now))) (slab / 16384) }
+    requires here { IsSlabHere (words_of (P.state p.now)) slab }
     requires number { number < class_capacity ((tables_of (words_of (P.state p.now))).class (slab / 16384)) }
     ensures { let t = tables_of (words_of (P.state p.now)) in IsTrue result ↔ IsUnusedIn t (slab / 16384) (t.class (slab / 16384)) number }
 {

@@ -1,5 +1,5 @@
 use Rattle.pmem_lines.specs.Pmem.{words_of}
-use Rattle.arena_core.proofs.AdoptedExtents.{IsReading}
+use Rattle.arena_core.proofs.AdoptedSlabs.{IsReading}
 use Rattle.arena_core.proofs.adopting.read_slab.Given as goal
 
 abbrev pub invariant-loop-i : goal.invariant-loop-i

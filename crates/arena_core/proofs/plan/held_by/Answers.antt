@@ -4,19 +4,17 @@ use Rattle.image_tables.specs.Tables.{tables_of}
 use Rattle.slab_index.specs.SlabSet.{class_in}
 use Rattle.heap_check.specs.Image.{bounds_of}
 use Rattle.arena_core.specs.Plan.{IsInNoSlabOf, IsTakable}
-use Rattle.arena_core.proofs.Plans.{block_found, IsNamedSmall-block, takable_outside}
+use Rattle.arena_core.proofs.Plans.{root_in, takable_outside}
 use Rattle.arena_core.proofs.plan.held_by.Goals as goal
 
-pub overflow_sub-result : goal.overflow_sub-result
-overflow_sub-result g c =
-    let block = block_found c.requires.exact c.requires.normal c.requires.slabs c.args.root c.root_word-at.result c.in-Some.slab.start c.in-Some.slab.class c.root_word-at.ensures c.if-at-eq0.false c.in-Some.ensures in
-    omega (arith, block.at, c.root_word-at.ensures, c.blocks_at.ensures, c.granule_at.ensures)
+pub held_in-requires-clause-slab : goal.held_in-requires-clause-slab
+held_in-requires-clause-slab g c = (root_in c.requires.exact c.requires.slabs c.args.root c.root_word-at.result c.in-Some.slab.start c.in-Some.slab.class c.requires.root c.root_word-at.ensures c.in-Some.ensures).0
+
+pub held_in-requires-clause-named : goal.held_in-requires-clause-named
+held_in-requires-clause-named g c = (c.args.root, (root_in c.requires.exact c.requires.slabs c.args.root c.root_word-at.result c.in-Some.slab.start c.in-Some.slab.class c.requires.root c.root_word-at.ensures c.in-Some.ensures).1)
 
 pub returns-in-Some : goal.returns-in-Some
-returns-in-Some g c =
-    let block = block_found c.requires.exact c.requires.normal c.requires.slabs c.args.root c.root_word-at.result c.in-Some.slab.start c.in-Some.slab.class c.root_word-at.ensures c.if-at-eq0.false c.in-Some.ensures in
-    IsNamedSmall-block c.requires.exact c.args.root c.root_word-at.result c.in-Some.slab.start c.in-Some.slab.class c.blocks_at.result c.size_of_class.result c.requires.root c.root_word-at.ensures
-    (omega (arith, c.blocks_at.ensures, c.granule_at.ensures)) c.size_of_class.ensures.size block
+returns-in-Some g c = c.held_in.ensures c.args.root (root_in c.requires.exact c.requires.slabs c.args.root c.root_word-at.result c.in-Some.slab.start c.in-Some.slab.class c.requires.root c.root_word-at.ensures c.in-Some.ensures).1
 
 pub returns-in-None : goal.returns-in-None
 returns-in-None g c =

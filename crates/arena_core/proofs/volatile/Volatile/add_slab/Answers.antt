@@ -1,5 +1,5 @@
 use Rattle.pmem_lines.specs.Pmem.{words_of}
-use Rattle.arena_core.proofs.SlabChanges.{normal_opened, index_opened, slabs_opened}
+use Rattle.arena_core.proofs.SlabChanges.{lives_opened, index_opened, slabs_opened}
 use Rattle.arena_core.proofs.volatile.Volatile.add_slab.Goals as goal
 
 pub take-requires : goal.take-requires
@@ -11,10 +11,10 @@ returns-clause-index g c =
     index_opened (words_of (state c.args.device.now)) c.args.start c.args.class c.requires.current.exact c.requires.row c.requires.class (words_of (state c.open_slab.new.p)) c.open_slab.ensures.opened
     c.args.self.now.free c.take.new.self c.take.ensures.granules c.take.ensures.free c.requires.current.index
 
-pub returns-clause-normal : goal.returns-clause-normal
-returns-clause-normal g c =
+pub returns-clause-lives : goal.returns-clause-lives
+returns-clause-lives g c =
     let state = g.P.Pmem.state in
-    normal_opened (words_of (state c.args.device.now)) c.args.start c.args.class c.requires.current.exact c.requires.row c.requires.class (words_of (state c.open_slab.new.p)) c.open_slab.ensures.opened c.requires.normal
+    lives_opened (words_of (state c.args.device.now)) c.args.start c.args.class c.requires.current.exact c.requires.row c.requires.class (words_of (state c.open_slab.new.p)) c.open_slab.ensures.opened c.args.self.now.lives c.requires.lives
 
 pub returns-clause-slabs : goal.returns-clause-slabs
 returns-clause-slabs g c =

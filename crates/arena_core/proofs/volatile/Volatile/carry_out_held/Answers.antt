@@ -8,12 +8,13 @@ use Rattle.heap_check.specs.Heap.{slabs}
 use Rattle.heap_check.specs.Image.{bounds_of}
 use Rattle.heap_check.proofs.Sizes.{sizes_of}
 use Rattle.arena_core.specs.declared.plan.Held.{Held}
-use Rattle.arena_core.specs.Plan.{IsTakable, IsNamedSmall, IsHeldBy, range_held}
+use Rattle.arena_core.specs.Plan.{IsTakable, IsNamedSmall, IsHeldBy, range_held, IsNamedOld}
 use Rattle.arena_core.proofs.Blocks.{heap-takable}
-use Rattle.arena_core.proofs.CallEvents.{IsCalled-same, IsCalled-done, freed_large, line_freed, freed_there, start_is, line_small, named_class, named_inside, named_heap, named_new}
+use Rattle.arena_core.proofs.CallEvents.{IsCalled-same, IsCalled-done, freed_large, line_freed, freed_there, start_is, line_small, named_class, named_inside, named_heap, named_new, old_heap, old_inside, freed_old}
 use Rattle.arena_core.proofs.MachineSteps.{freed_step, large_stays, small_stays}
 use Rattle.arena_core.proofs.volatile.Volatile.carry_out_held.Goals as goal
-use Rattle.arena_core.proofs.volatile.Volatile.carry_out_held.Goals.{in-Large, in-Small}
+use Rattle.arena_core.proofs.volatile.Volatile.carry_out_held.Goals.{in-Large, in-Small, in-Old}
+use Rattle.size_classes.specs.Classes.{class_size}
 
 pub returns : goal.returns
 returns g c =
@@ -53,6 +54,20 @@ returns g c =
           (freed_there words c.args.self.now.line root block class is_class named.at (start_is exact.exact.sound block.start class block.number named.slab is_class named.below)
           (named_new words exact root block class named))
           refl (ap (λ n. (n + 1) % 8) w.take_small.ensures.line ∙ sym (line_small c.args.self.now.line range.at class is_class).1) (omega arith) step)
+      | in-Old w ↦
+          let block = w.in-Old.block in
+          let class = w.in-Old.class in
+          let range : Range = record { at = block.at; size = class_size class } in
+          let new = words_of (state w.take_old.new.device) in
+          let named : IsNamedOld b t root block class = subst (IsHeldBy b t root) w.in-Old.is c.requires.plan in
+          let is_class = named.is_class in
+          let done = w.take_old.ensures.done in
+          let step = freed_step words new root range _ named.rooted (old_heap words exact root block class named)
+          (small_stays words root block.start range _ exact (old_inside words exact root block class named) w.take_old.ensures.last) done.gives in
+          IsCalled-same (ap state w.device-is) w.self-is
+          (λ i. replies.Freed ((c.freed_of.ensures.0 ∙ ap (λ (h : Held). (range_held h).at) w.held-is) i) ((c.freed_of.ensures.1 ∙ ap (λ (h : Held). (range_held h).size) w.held-is) i))
+          (IsCalled-done (calls.Free root) (replies.Freed range.at range.size) done (freed_old words exact root block class named c.args.self.now.line)
+          refl (ap (λ n. (n + 1) % 8) w.take_old.ensures.line ∙ sym (line_small c.args.self.now.line range.at class is_class).1) (omega arith) step)
     ]
 
 pub freed_of-requires : goal.freed_of-requires
@@ -61,5 +76,5 @@ freed_of-requires g c =
     let b = bounds_of words in
     let t = tables_of words in
     let root = c.args.root in
-    let same : c.match-held.held ≡ c.args.held = elim c.match-held.branch [ in-Large w ↦ w.held-is ∙ sym w.in-Large.is | in-Small w ↦ w.held-is ∙ sym w.in-Small.is ] in
+    let same : c.match-held.held ≡ c.args.held = elim c.match-held.branch [ in-Large w ↦ w.held-is ∙ sym w.in-Large.is | in-Small w ↦ w.held-is ∙ sym w.in-Small.is | in-Old w ↦ w.held-is ∙ sym w.in-Old.is ] in
     (b, t, root, subst (IsHeldBy b t root) (sym same) c.requires.plan, (sizes_of words c.requires.arena.current.exact.formed).most)

@@ -49,7 +49,7 @@ returns g c size plan =
           let is_class = placing.site.chosen.least.is_class in
           let may = small_attachable words root size block class exact made.0 placing.place_for in
           let given = w.give_small.ensures in
-          let done = IsDone-small block arena given.rest may placing.place_for.class_is given.step given.attached given.normal given.slabs in
+          let done = IsDone-small block arena given.rest may placing.place_for.class_is given.step given.attached given.slabs given.lives in
           let step = placed_step words new root size (places.Small block class) exact made.0 placing done.gives in
           IsCalled-same (ap state w.device-is) w.self-is
           (λ i. replies.Placed ((c.placed_at.ensures.0 ∙ ap (λ (p : Place). (range_at p).at) w.place-is) i) ((c.placed_at.ensures.1 ∙ ap (λ (p : Place). (range_at p).size) w.place-is) i))

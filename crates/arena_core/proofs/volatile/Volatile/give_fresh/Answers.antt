@@ -8,11 +8,12 @@ use Rattle.attach_steps.specs.declared.block.SmallBlock.{SmallBlock}
 use Rattle.attach_steps.specs.Steps.{attach_events}
 use Rattle.arena_core.specs.Arena.{IsCurrent}
 use Rattle.arena_core.specs.Events.{first_block, fresh_events}
-use Rattle.arena_core.proofs.SmallCalls.{classes_small, index_small, book_small, keeps_small, change_bit, bits_with, lives_as}
+use Rattle.arena_core.proofs.SmallCalls.{classes_small, index_small, bits_with, lives_as}
 use Rattle.arena_core.proofs.HeapSteps.{keeps_both, steps_then}
 use Rattle.arena_core.proofs.SlabChanges.{classes_opened, keeps_opened, first_attachable}
 use Rattle.arena_core.proofs.volatile.Volatile.give_fresh.Goals as goal
 use Rattle.image_tables.specs.Tables.{tables_of}
+use Rattle.arena_core.proofs.BlockChanges.{book_small, keeps_small, change_bit}
 
 pub give_small-requires-clause-attachable : goal.give_small-requires-clause-attachable
 give_small-requires-clause-attachable g c =
@@ -57,8 +58,8 @@ returns-clause-done g c =
         log = book_small change new attached.rest attached.bounds c.add_slab.new.self.log add.book;
         index = index_small mid (bits_with t start 0) (lives_as t) root true c.blocks_at.result new attached.bounds attached.tables c.add_slab.new.self.free add.index;
       });
-      normal = give.normal;
       slabs = give.slabs;
+      lives = give.lives;
       gives = record {
         here = attached.gives.here ∙ ap (λ k. Some (slab_block start k 0)) opened.slab.fresh.class_is;
         others = λ other differ. attached.gives.others other differ ∙ opened.heap.each other;

@@ -7,7 +7,7 @@ use Rattle.arena_core.proofs.CallEvents.{IsDone-large}
 use Rattle.pool_layout.specs.Layout.{layout_of}
 use Rattle.pool_layout.specs.Places.{root_word}
 use Rattle.pool_layout.specs.Header.{version_in}
-use Rattle.image_tables.specs.Tables.{tables_of}
+use Rattle.image_tables.specs.Tables.{tables_of, Tables}
 use Rattle.heap_model.specs.Machine.{Bounds}
 use Rattle.heap_check.specs.Image.{bounds_of}
 use Rattle.heap_check.proofs.Large.{with_large}
@@ -16,9 +16,10 @@ use Rattle.log_steps.specs.Log.{IsBookOf}
 use Rattle.arena_core.proofs.Arenas.{book_root, slabs_stage, index_stage, index_less}
 use Rattle.log_steps.proofs.Disjoint.{disjoint_of}
 use Rattle.heap_check.proofs.Sizes.{sizes_of, root_inside}
-use Rattle.arena_core.proofs.LargeCalls.{give_place, nothing, given_extent, given, give_step}
+use Rattle.arena_core.proofs.LargeCalls.{give_place, nothing, given_extent, given, give_step, live_given_large}
 use Rattle.arena_core.proofs.LargeStages.{IsStageOf, exact_stage, gives_some}
 use Rattle.arena_core.proofs.volatile.Volatile.give_large.Goals as goal
+use Rattle.image_tables.proofs.Updates.{put_at-same}
 
 pub log_entry-requires-clause-disjoint : goal.log_entry-requires-clause-disjoint
 log_entry-requires-clause-disjoint g c =
@@ -60,7 +61,8 @@ returns-clause-done g c =
     let middle = given_extent words root start count exact c.requires.givable made logged.logged in
     let done : IsStageOf words root start count (16384 * start) new = given words root start count exact c.requires.givable made new logged.logged is in
     let among : root < (layout_of (version_in made)).roots = subst (λ (b : Bounds). root < b.roots) (sym middle.bounds) c.requires.givable.below in
-    IsDone-large c.requires.arena refl
+    IsDone-large c.requires.arena refl refl (live_given_large words new root start count exact c.requires.givable (exact_stage exact place count (16384 * start) new (record { is = inr (refl, refl) }) done) (gives_some exact place new done) (slabs_stage done)
+    (ap (λ (x : Tables). x.large start) done.tables ∙ put_at-same (tables_of words).large start count))
     (give_step words root start count exact c.requires.givable new done made middle logged.step
     (subst (λ (a : ℕ). IsQuietStep (state c.log_entry.new.device) left (root_events root a) (PutsRootOrNot made root a)) at_is put.step))
     (record {

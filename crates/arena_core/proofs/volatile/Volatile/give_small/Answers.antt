@@ -1,8 +1,13 @@
-use Rattle.std.proofs.Common.{true, arith}
+use Rattle.std.proofs.Common.{true, ap, arith}
 use Rattle.pmem_lines.specs.Pmem.{words_of}
-use Rattle.arena_core.proofs.SmallCalls.{normal_small, slabs_small, used_given, bits_with, lives_as}
+use Rattle.image_tables.specs.Tables.{Tables, tables_of}
+use Rattle.heap_model.specs.Machine.{slab_block}
+use Rattle.heap_check.proofs.Heaps.{heap-none}
+use Rattle.heap_check.proofs.SmallPlaces.{IsWithin-block, in_slab}
+use Rattle.arena_core.proofs.LiveCounts.{counts_raised}
+use Rattle.arena_core.proofs.SmallCalls.{slabs_small, used_given}
+use Rattle.arena_core.proofs.TakenBlocks.{counted, more_given}
 use Rattle.arena_core.proofs.volatile.Volatile.give_small.Goals as goal
-use Rattle.image_tables.specs.Tables.{tables_of}
 
 pub attach-requires-clause-room : goal.attach-requires-clause-room
 attach-requires-clause-room g c = omega (arith, c.requires.few, c.requires.ready.room)
@@ -12,13 +17,16 @@ take-requires g c =
     let attachable = c.requires.attachable in
     (c.requires.slabs.blocks c.args.block.start c.args.block.number attachable.block_in.slab attachable.block_in.below).1 attachable.unused
 
-pub returns-clause-normal : goal.returns-clause-normal
-returns-clause-normal g c =
-    let state = g.P.Pmem.state in
-    let attached = c.attach.ensures.attached in
-    let block = c.args.block in
-    let t = tables_of (words_of (state c.args.device.now)) in
-    normal_small (words_of (state c.args.device.now)) (bits_with t block.start block.number) (lives_as t) c.args.root true block.at (words_of (state c.attach.new.p)) attached.bounds attached.tables c.requires.normal
+pub raise-requires-clause-inside : goal.raise-requires-clause-inside
+raise-requires-clause-inside g c =
+    let block_in = c.requires.attachable.block_in in
+    (counted (words_of (g.P.Pmem.state c.args.device.now)) c.args.block.start c.args.self.now.lives block_in.image block_in.slab c.requires.lives).0
+
+pub raise-requires-clause-few : goal.raise-requires-clause-few
+raise-requires-clause-few g c =
+    let block_in = c.requires.attachable.block_in in
+    let count = counted (words_of (g.P.Pmem.state c.args.device.now)) c.args.block.start c.args.self.now.lives block_in.image block_in.slab c.requires.lives in
+    omega (arith, count.1, count.2)
 
 pub returns-clause-slabs : goal.returns-clause-slabs
 returns-clause-slabs g c =
@@ -28,3 +36,18 @@ returns-clause-slabs g c =
     slabs_small (words_of (state c.args.device.now)) c.args.root block.start block.number true block.at (words_of (state c.attach.new.p)) attached.bounds attached.tables
     c.args.self.now.slabs c.take.new.self (record { granules = c.take.ensures.granules; classes = c.take.ensures.classes; blocks = c.take.ensures.blocks })
     (used_given (words_of (state c.args.device.now)) c.args.root block block.at c.requires.attachable.block_in) c.requires.slabs
+
+pub returns-clause-lives : goal.returns-clause-lives
+returns-clause-lives g c =
+    let state = g.P.Pmem.state in
+    let words = words_of (state c.args.device.now) in
+    let t = tables_of words in
+    let attached = c.attach.ensures.attached in
+    let block = c.args.block in
+    let may = c.requires.attachable in
+    let but = may.block_in.image.but in
+    let range = slab_block block.start (t.class block.start) block.number in
+    let inside = in_slab but.sound but.closed block.start block.number may.block_in.slab may.block_in.below range (IsWithin-block but.sound but.closed block.start block.number may.block_in.slab may.block_in.below) in
+    counts_raised words (words_of (state c.attach.new.p)) c.args.root block.start range c.args.self.now.lives c.raise.new.self
+    (more_given words (words_of (state c.attach.new.p)) c.args.root block.start range may.block_in.rooted attached.bounds (λ s. ap (λ (x : Tables). x.slab s) attached.tables) but.sound inside (heap-none t c.args.root may.none) attached.gives)
+    c.raise.ensures.size c.raise.ensures.counts c.requires.lives

@@ -10,7 +10,7 @@ use Rattle.extent_steps.specs.Large.{IsLooseExtent}
 use Rattle.arena_core.proofs.Arenas.{book_root, slabs_stage, index_stage, index_more}
 use Rattle.arena_core.proofs.CallEvents.{IsDone-large}
 use Rattle.arena_core.proofs.LargeStages.{IsStageOf, stage_gone, exact_stage, gives_none}
-use Rattle.arena_core.proofs.LargeCalls.{take_place, taken_root, taken_loose, taken_covers, take_step}
+use Rattle.arena_core.proofs.LargeCalls.{take_place, taken_root, taken_loose, taken_covers, take_step, live_taken_large}
 use Rattle.arena_core.proofs.volatile.Volatile.take_large.Goals as goal
 
 pub put_root-requires-clause-root : goal.put_root-requires-clause-root
@@ -57,7 +57,7 @@ returns-clause-done g c =
     let place = take_place words root start count exact c.requires.takable in
     let stage : IsStageOf words root start count 0 made = subst (λ (ws : List ℕ). IsStageOf words root start count 0 ws) (sym put.words) (taken_root words root start count exact c.requires.takable) in
     let done : IsStageOf words root start 0 0 new = stage_gone words root start count 0 made new stage drop.gone in
-    IsDone-large c.requires.arena refl
+    IsDone-large c.requires.arena refl refl (live_taken_large words new root start count exact c.requires.takable (gives_none exact place 0 new done) (slabs_stage done))
     (take_step words root start count exact c.requires.takable new put.words drop.gone.heap put.step drop.step)
     (record {
       ready = record { quiet = drop.step.quiet; room = omega (arith, arena.ready.room, drop.step.appends.room, put.step.appends.room) };

@@ -1,0 +1,195 @@
+-- The indexes take over a slab of an exact image, and how many live blocks each slab has.
+use Rattle.std.proofs.Common.{◌≡◌, ◌≢◌, ◌↔◌, ◌==◌, ◌+◌, ◌*◌, ◌/◌, ◌<◌, ◌≤◌, ◌&&◌, ℕ, true, false, true≢false, cond, ltb, eqb, List, length, slice_index, Option, Some, None, refl, sym, ap, subst, ◌∙◌, ⊎_elim, arith, if◌then◌else◌}
+use Rattle.std.proofs.lemmas.Bool.{cond-true, cond-false, cases_lt, cases_eq, cases_Bool, lt-ltb, eq-eqb, ne_eqb, and_from, false_from_ne_true}
+use Rattle.size_classes.specs.Classes.{class_capacity}
+use Rattle.image_tables.specs.Tables.{Tables, is_slab, tables_of}
+use Rattle.image_tables.proofs.Tables.{slab_table}
+use Rattle.pool_layout.specs.Header.{granules_in}
+use Rattle.heap_model.specs.Machine.{Range, with_key}
+use Rattle.heap_model.specs.Slabs.{live_below, begins_in}
+use Rattle.heap_model.proofs.Freeing.{begins_in-true}
+use Rattle.slab_index.specs.SlabSet.{SlabSet, class_in, is_available}
+use Rattle.heap_check.specs.Heap.{size_at, heap, slabs, IsUnusedIn}
+use Rattle.heap_check.proofs.Heaps.{heap-none}
+use Rattle.arena_core.specs.Adopting.{IsWithSlabOf, HasCounted}
+use Rattle.arena_core.specs.Plan.{IsInNoSlabOf}
+use Rattle.arena_core.proofs.LiveCounts.{one_if, live_next, live_below-most, begins_only}
+use Rattle.arena_core.proofs.UnusedBlocks.{iff_same}
+use Rattle.heap_check.specs.Sound.{IsInSlab, IsSound}
+use Rattle.heap_check.specs.Image.{bounds_of}
+
+-- the first n blocks of a slab that was added are read, and the others are available yet
+pub record IsReading (words : List ℕ) (old new : SlabSet) (start class n : ℕ) : Type 0 where
+  pub granules : new.granules ≡ old.granules
+  pub here : class_in new start ≡ Some class
+  pub done : (i : ℕ) → i < n → (is_available new start i ≡ true) ↔ IsUnusedIn (tables_of words) start ((tables_of words).class start) i
+  pub rest : (i : ℕ) → n ≤ i → i < class_capacity class → is_available new start i ≡ true
+  pub classes : (other : ℕ) → ¬ (other ≡ start) → class_in new other ≡ class_in old other
+  pub others : (other i : ℕ) → ¬ (other ≡ start) → is_available new other i ≡ is_available old other i
+
+-- a condition that holds, and one that doesn't
+if_same : {X : Type 0} (k j : ℕ) (yes_x no_x : X) → k ≡ j → cond (eqb k j) yes_x no_x ≡ yes_x
+if_same k j yes_x no_x same = cond-true (eqb k j) yes_x no_x (eq-eqb k j same)
+
+if_other : {X : Type 0} (k j : ℕ) (yes_x no_x : X) → k ≢ j → cond (eqb k j) yes_x no_x ≡ no_x
+if_other k j yes_x no_x apart = cond-false (eqb k j) yes_x no_x (ne_eqb k j apart)
+
+pub IsReading-first : (words : List ℕ) (old new : SlabSet) (start class : ℕ) → new.granules ≡ old.granules → ((s : ℕ) → class_in new s ≡ with_key (class_in old) start (Some class) s) →
+    ((s i : ℕ) → is_available new s i ≡ cond (eqb s start) (ltb i (class_capacity class)) (is_available old s i)) → IsReading words old new start class 0
+IsReading-first words old new start class granules classes blocks = record {
+  granules = granules;
+  here = classes start ∙ if_same start start (Some class) (class_in old start) refl;
+  done = λ i less. absurd (omega (arith, less));
+  rest = λ i low few. blocks start i ∙ if_same start start (ltb i (class_capacity class)) (is_available old start i) refl ∙ lt-ltb i (class_capacity class) few;
+  classes = λ other apart. classes other ∙ if_other other start (Some class) (class_in old other) apart;
+  others = λ other i apart. blocks other i ∙ if_other other start (ltb i (class_capacity class)) (is_available old other i) apart;
+}
+
+-- the next block is unused
+pub IsReading-unused : (words : List ℕ) (old new : SlabSet) (start class n : ℕ) → n < class_capacity class → IsUnusedIn (tables_of words) start ((tables_of words).class start) n → IsReading words old new start class n → IsReading words old new start class (n + 1)
+IsReading-unused words old new start class n few unused read = record {
+  granules = read.granules;
+  here = read.here;
+  done = λ i less. ⊎_elim
+      (λ (lower : i < n). read.done i lower)
+      (λ (last : n ≤ i). let same : i ≡ n = omega (arith, less, last) in
+      subst (λ k. (is_available new start k ≡ true) ↔ IsUnusedIn (tables_of words) start ((tables_of words).class start) k) (sym same) (λ is. unused, λ is. read.rest n (omega arith) few))
+      (cases_lt i n);
+  rest = λ i low few_i. read.rest i (omega (arith, low)) few_i;
+  classes = read.classes;
+  others = read.others;
+}
+
+-- it is not, and is taken
+pub IsReading-used : (words : List ℕ) (old new next : SlabSet) (start class n : ℕ) → ¬ (IsUnusedIn (tables_of words) start ((tables_of words).class start) n) → next.granules ≡ new.granules → ((s : ℕ) → class_in next s ≡ class_in new s) →
+    ((s i : ℕ) → is_available next s i ≡ cond (eqb s start && eqb i n) false (is_available new s i)) → IsReading words old new start class n → IsReading words old next start class (n + 1)
+IsReading-used words old new next start class n used granules classes blocks read =
+    let taken : is_available next start n ≡ false = blocks start n ∙ cond-true (eqb start start && eqb n n) false (is_available new start n) (and_from (eqb start start) (eqb n n) (eq-eqb start start refl) (eq-eqb n n refl)) in
+    let kept : (i : ℕ) → i ≢ n → is_available next start i ≡ is_available new start i =
+    λ i apart. blocks start i ∙ ap (λ b. cond (b && eqb i n) false (is_available new start i)) (eq-eqb start start refl) ∙ ap (λ b. cond b false (is_available new start i)) (ne_eqb i n apart) in
+    record {
+      granules = granules ∙ read.granules;
+      here = classes start ∙ read.here;
+      done = λ i less. ⊎_elim
+          (λ (lower : i < n). iff_same (kept i (λ same. omega (arith, same, lower))) (read.done i lower))
+          (λ (last : n ≤ i). let same : i ≡ n = omega (arith, less, last) in
+          subst (λ k. (is_available next start k ≡ true) ↔ IsUnusedIn (tables_of words) start ((tables_of words).class start) k) (sym same) (λ is. absurd (true≢false (sym is ∙ taken)), λ is. absurd (used is)))
+          (cases_lt i n);
+      rest = λ i low few. kept i (λ same. omega (arith, same, low)) ∙ read.rest i (omega (arith, low)) few;
+      classes = λ other apart. classes other ∙ read.classes other apart;
+      others = λ other i apart. blocks other i ∙ ap (λ b. cond (b && eqb i n) false (is_available new other i)) (ne_eqb other start apart) ∙ read.others other i apart;
+    }
+
+-- all of them are read
+pub IsReading-all : (words : List ℕ) (old new : SlabSet) (start class n : ℕ) → class ≡ (tables_of words).class start → class_capacity class ≤ n → IsReading words old new start class n → IsWithSlabOf words old new start
+IsReading-all words old new start class n is all read = record {
+  granules = read.granules;
+  here = read.here ∙ ap (λ c. Some c) is;
+  blocks = λ i few. let among : i < class_capacity class = subst (λ c. i < class_capacity c) (sym is) few in read.done i (omega (arith, among, all));
+  classes = read.classes;
+  others = read.others;
+}
+
+-- the class that was read is the slab's
+pub class_read : (words : List ℕ) (at start class : ℕ) → at ≡ 16384 * start → (tables_of words).slab start ≡ true → (is_slab words (at / 16384) ≡ true → class ≡ (tables_of words).class (at / 16384)) → class ≡ (tables_of words).class start
+class_read words at start class is slab read =
+    let same : at / 16384 ≡ start = omega (arith, is) in
+    subst (λ s. is_slab words s ≡ true → class ≡ (tables_of words).class s) same read (sym (slab_table words start) ∙ slab)
+
+-- the live blocks of the slabs are counted, root by root
+
+-- how many of the first roots have a block in the slab at a start, where one begins there
+abbrev counted_in : List ℕ → ℕ → ℕ → ℕ
+counted_in words n start = if (tables_of words).slab start then live_below (heap (tables_of words)) start n else 0
+
+-- of no root yet
+pub counted_none : (words : List ℕ) (counts : List ℕ) → length counts ≡ granules_in words → ((s : ℕ) → slice_index counts s ≡ 0) → HasCounted words counts 0
+counted_none words counts size zero = record {
+  size = size;
+  each = λ s. zero s ∙ sym (⊎_elim
+      (λ slab. cond-true ((tables_of words).slab s) (live_below (heap (tables_of words)) s 0) 0 slab)
+      (λ no. cond-false ((tables_of words).slab s) (live_below (heap (tables_of words)) s 0) 0 no)
+      (cases_Bool ((tables_of words).slab s)));
+}
+
+-- the next root has no block in a slab
+pub counted_same : (words : List ℕ) (counts : List ℕ) (root : ℕ) → ((s : ℕ) → (tables_of words).slab s ≡ true → begins_in s (heap (tables_of words) root) ≡ false) → HasCounted words counts root → HasCounted words counts (root + 1)
+counted_same words counts root elsewhere were = record {
+  size = were.size;
+  each = λ s. were.each s ∙ ⊎_elim
+      (λ (slab : (tables_of words).slab s ≡ true).
+      let before : counted_in words root s ≡ live_below (heap (tables_of words)) s root = cond-true ((tables_of words).slab s) (live_below (heap (tables_of words)) s root) 0 slab in
+      let after : counted_in words (root + 1) s ≡ live_below (heap (tables_of words)) s (root + 1) = cond-true ((tables_of words).slab s) (live_below (heap (tables_of words)) s (root + 1)) 0 slab in
+      let next = live_next (heap (tables_of words)) s root in
+      let none : one_if (begins_in s (heap (tables_of words) root)) ≡ 0 = ap one_if (elsewhere s slab) in
+      omega (arith, before, after, next, none))
+      (λ (no : (tables_of words).slab s ≡ false).
+      let before : counted_in words root s ≡ 0 = cond-false ((tables_of words).slab s) (live_below (heap (tables_of words)) s root) 0 no in
+      let after : counted_in words (root + 1) s ≡ 0 = cond-false ((tables_of words).slab s) (live_below (heap (tables_of words)) s (root + 1)) 0 no in
+      omega (arith, before, after))
+      (cases_Bool ((tables_of words).slab s));
+}
+
+-- it has one in the slab at a start
+pub counted_more : (words : List ℕ) (counts next : List ℕ) (root start : ℕ) → (tables_of words).slab start ≡ true → ((s : ℕ) → (tables_of words).slab s ≡ true → begins_in s (heap (tables_of words) root) ≡ (s == start)) →
+    length next ≡ length counts → ((s : ℕ) → slice_index next s ≡ (if s == start then slice_index counts s + 1 else slice_index counts s)) → HasCounted words counts root → HasCounted words next (root + 1)
+counted_more words counts next root start here only size put were = record {
+  size = size ∙ were.size;
+  each = λ s. ⊎_elim
+      (λ (slab : (tables_of words).slab s ≡ true).
+      let before : slice_index counts s ≡ live_below (heap (tables_of words)) s root = were.each s ∙ cond-true ((tables_of words).slab s) (live_below (heap (tables_of words)) s root) 0 slab in
+      let after : counted_in words (root + 1) s ≡ live_below (heap (tables_of words)) s (root + 1) = cond-true ((tables_of words).slab s) (live_below (heap (tables_of words)) s (root + 1)) 0 slab in
+      let step = live_next (heap (tables_of words)) s root in
+      ⊎_elim
+      (λ (same : s ≡ start).
+      let test = eq-eqb s start same in
+      let now = put s ∙ cond-true (s == start) (slice_index counts s + 1) (slice_index counts s) test in
+      let one : one_if (begins_in s (heap (tables_of words) root)) ≡ 1 = ap one_if (only s slab ∙ test) in
+      omega (arith, now, before, after, step, one))
+      (λ (apart : s ≢ start).
+      let test = ne_eqb s start apart in
+      let now = put s ∙ cond-false (s == start) (slice_index counts s + 1) (slice_index counts s) test in
+      let none : one_if (begins_in s (heap (tables_of words) root)) ≡ 0 = ap one_if (only s slab ∙ test) in
+      omega (arith, now, before, after, step, none))
+      (cases_eq s start))
+      (λ (no : (tables_of words).slab s ≡ false).
+      let apart : s ≢ start = λ same. true≢false (sym here ∙ ap (tables_of words).slab (sym same) ∙ no) in
+      let now = put s ∙ cond-false (s == start) (slice_index counts s + 1) (slice_index counts s) (ne_eqb s start apart) in
+      let before : slice_index counts s ≡ 0 = were.each s ∙ cond-false ((tables_of words).slab s) (live_below (heap (tables_of words)) s root) 0 no in
+      let after : counted_in words (root + 1) s ≡ 0 = cond-false ((tables_of words).slab s) (live_below (heap (tables_of words)) s (root + 1)) 0 no in
+      omega (arith, now, before, after))
+      (cases_Bool ((tables_of words).slab s));
+}
+
+-- what begins in a slab is what a root's word lies in
+pub begins_word : (t : Tables) (root s : ℕ) → t.root root ≢ 0 → begins_in s (heap t root) ≡ begins_in s (Some (record { at = t.root root; size = size_at t root (t.root root) }))
+begins_word t root s some = ap (begins_in s) (cond-false (t.root root == 0) None (Some (record { at = t.root root; size = size_at t root (t.root root) })) (ne_eqb (t.root root) 0 some))
+
+-- a root without a word has no block in a slab
+pub begins_none : (t : Tables) (root s : ℕ) → t.root root ≡ 0 → begins_in s (heap t root) ≡ false
+begins_none t root s none = ap (begins_in s) (heap-none t root none)
+
+-- nor has one whose word lies in none
+pub begins_outside : (t : Tables) (root : ℕ) (classes : ℕ → Option ℕ) → ((s : ℕ) → classes s ≡ slabs t s) → t.root root ≢ 0 → IsInNoSlabOf classes (t.root root / 16384) → (s : ℕ) → t.slab s ≡ true → begins_in s (heap t root) ≡ false
+begins_outside t root classes are some outside s slab = begins_word t root s some ∙ false_from_ne_true (begins_in s (Some (record { at = t.root root; size = size_at t root (t.root root) }))) (λ is.
+    let begins = begins_in-true s (Some (record { at = t.root root; size = size_at t root (t.root root) })) is in
+    let same : (record { at = t.root root; size = size_at t root (t.root root) }) ≡ begins.range = cc (begins.named) in
+    let at = ap (λ (x : Range). x.at) same in
+    let none = sym (are s) ∙ outside.none s (omega (arith, at, begins.low)) (omega (arith, at, begins.high)) in
+    let some_slab = cond-true (t.slab s) (Some (t.class s)) None slab in
+    absurd (cc))
+
+-- the counts are small
+pub counted_few : (words : List ℕ) (counts : List ℕ) (root start : ℕ) → HasCounted words counts root → slice_index counts start ≤ root
+counted_few words counts root start were = ⊎_elim
+    (λ slab. let is = were.each start ∙ cond-true ((tables_of words).slab start) (live_below (heap (tables_of words)) start root) 0 slab in omega (arith, is, live_below-most (heap (tables_of words)) start root))
+    (λ no. let is = were.each start ∙ cond-false ((tables_of words).slab start) (live_below (heap (tables_of words)) start root) 0 no in omega (arith, is))
+    (cases_Bool ((tables_of words).slab start))
+
+-- the next root's word lies in a slab
+pub counted_word : (words : List ℕ) (counts next : List ℕ) (root start : ℕ) → IsSound (bounds_of words) (tables_of words) → (tables_of words).root root ≢ 0 → IsInSlab (tables_of words) start ((tables_of words).root root) → length next ≡ length counts →
+    ((s : ℕ) → slice_index next s ≡ (if s == start then slice_index counts s + 1 else slice_index counts s)) → HasCounted words counts root → HasCounted words next (root + 1)
+counted_word words counts next root start sound some inside size put were =
+    let t = tables_of words in
+    let range : Range = record { at = t.root root; size = size_at t root (t.root root) } in
+    counted_more words counts next root start inside.slab (λ s slab. begins_word t root s some ∙ begins_only sound start range inside s slab) size put were

@@ -1,0 +1,108 @@
+-- A block of a slab and its root come or go: the words of the log stay, and those of the other blocks.
+use Rattle.std.proofs.Common.{true, ◌≤◌, ◌+◌, ◌*◌, ◌≡◌, ℕ, ◌<◌, List, sym, ap, ◌∙◌, arith, true, ◌*◌}
+use Rattle.std.proofs.lemmas.List.Elements.{All-weaker}
+use Rattle.pmem_lines.specs.Words.{word_at}
+use Rattle.pool_layout.specs.Places.{fields_word, directory_word, entry_word}
+use Rattle.pool_layout.specs.Header.{version_in}
+use Rattle.image_tables.specs.Log.{active_chunks}
+use Rattle.image_tables.specs.Tables.{tables_of, index_word}
+use Rattle.image_tables.proofs.Chunks.{few_chunks}
+use Rattle.image_tables.proofs.Places.{log_word-low, entry_word-low, entry_word-high}
+use Rattle.image_tables.proofs.Logs.{SameChunk, SameLog}
+use Rattle.image_tables.proofs.Stores.{root_word-low}
+use Rattle.book_log.specs.Book.{Book}
+use Rattle.book_log.proofs.Books.{Reads-same}
+use Rattle.heap_model.specs.Machine.{Bounds}
+use Rattle.heap_check.specs.Image.{bounds_of, IsExactButImage}
+use Rattle.heap_check.specs.State.{KeepsBlocks}
+use Rattle.heap_check.proofs.BlockWords.{block_word-heap, block_word-header}
+use Rattle.heap_check.proofs.Sizes.{sizes_of}
+use Rattle.log_steps.specs.Log.{IsBookOf}
+use Rattle.attach_steps.specs.declared.block.SmallBlock.{SmallBlock}
+use Rattle.attach_steps.specs.Steps.{KeepsOthers, IsBlockIn, bit_word, IsOldDetachable}
+use Rattle.heap_check.proofs.Geometry.{number_few, granules_at-slab, index_count_few}
+use Rattle.attach_steps.specs.declared.block.OldBlock.{OldBlock}
+
+-- One word of a slab's header changes with a root's word and a write-ahead line: where it lies.
+pub record IsBlockChange (words : List ℕ) (line root start k : ℕ) : Type 0 where
+  pub image : IsExactButImage words start
+  pub slab : (tables_of words).slab start ≡ true
+  pub rooted : root < (bounds_of words).roots
+  pub low : 2048 * start ≤ k
+  pub high : k < 2048 * start + 256
+  pub few : line < 8
+
+-- where it is the bit of a block
+pub change_bit : {words : List ℕ} {line root : ℕ} {block : SmallBlock} → IsBlockIn words root block → line < 8 → IsBlockChange words line root block.start (bit_word block)
+change_bit {words} {line} {root} {block} block_in few = record {
+  image = block_in.image;
+  slab = block_in.slab;
+  rooted = block_in.rooted;
+  low = omega arith;
+  high = omega (arith, number_few ((tables_of words).class block.start) block.number (block_in.image.but.sound.slabs block.start block_in.slab).state.is_class block_in.below);
+  few = few;
+}
+
+-- the words of the log and of blocks are the same
+module _ {words : List ℕ} {line root start place : ℕ} (change : IsBlockChange words line root start place) (new : List ℕ) (rest : KeepsOthers words line root place new) where
+  start_low : 4 ≤ start
+  start_low =
+      let sizes = sizes_of words change.image.formed in
+      let four = granules_at-slab (tables_of words) start change.slab in
+      omega (arith, sizes.first, (change.image.but.sound.starts start (omega (arith, four))).0)
+
+  root_low : root < 4096
+  root_low = omega (arith, (sizes_of words change.image.formed).roots, change.rooted)
+
+  keeps_low : (k : ℕ) → k < 64 → word_at new k ≡ word_at words k
+  keeps_low k low = rest.others k (λ e. omega (arith, e, low)) (λ e. omega (arith, e, low, change.low, start_low)) (λ e. omega (arith, e, low))
+
+  log_small : SameLog words new
+  log_small =
+      let version = version_in words in
+      let sizes = sizes_of words change.image.formed in
+      record {
+        fields = keeps_low fields_word (omega arith);
+        directory = keeps_low directory_word (omega arith);
+        chunks = All-weaker (λ c. c < 16) (SameChunk version words new)
+            (λ c few. record {
+              each = λ e below.
+                  let low = entry_word-low version c e in
+                  let high = entry_word-high version c e few below in
+                  rest.others (entry_word version c e)
+                  (λ is. omega (arith, is, low, log_word-low version, change.few))
+                  (λ is. omega (arith, is, high, sizes.first, change.low, start_low))
+                  (λ is. omega (arith, is, low, root_word-low version root change.rooted));
+            })
+            (active_chunks (word_at words directory_word)) (few_chunks (word_at words directory_word));
+      }
+
+  pub book_small : bounds_of new ≡ bounds_of words → (book : Book) → IsBookOf book words → IsBookOf book new
+  book_small bounds book log = record {
+    reads = Reads-same book words new log_small rest.same_length log.reads;
+    granules = log.granules ∙ ap (λ (b : Bounds). b.granules) (sym bounds);
+  }
+
+  pub keeps_small : KeepsBlocks words new
+  keeps_small = record {
+    each = λ r other at k was is within.
+        let but = change.image.but in
+        let sizes = sizes_of words change.image.formed in
+        let high = block_word-heap but.sound but.closed r at was k within in
+        let off = block_word-header but.sound but.closed r at was k within start change.slab in
+        rest.others k
+        (λ e. omega (arith, e, high, sizes.first, change.few))
+        (λ e. omega (arith, e, off, change.low, change.high))
+        (λ e. omega (arith, e, high, sizes.first, root_low));
+  }
+
+-- where it is the entry of an old block in the index table
+pub change_index : {words : List ℕ} {line root : ℕ} {block : OldBlock} → IsOldDetachable words root block → line < 8 → IsBlockChange words line root block.start (index_word block.start block.place)
+change_index {words} {line} {root} {block} may few = record {
+  image = may.image;
+  slab = may.slab;
+  rooted = may.rooted;
+  low = omega arith;
+  high = let most = index_count_few (may.image.but.sound.slabs block.start may.slab) in omega (arith, may.below, most);
+  few = few;
+}

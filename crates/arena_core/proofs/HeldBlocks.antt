@@ -1,0 +1,101 @@
+-- The block that a root names in a slab.
+use Rattle.std.proofs.Common.{◌≡◌, ◌≢◌, ◌*◌, ◌/◌, ◌<◌, ℕ, true, List, Some, None, refl, sym, ap, subst, ◌∙◌, arith, inl, inr, ⊎_elim}
+use Rattle.image_tables.specs.Tables.{Tables, is_slab, tables_of, state_word}
+use Rattle.image_tables.proofs.Tables.{slab_table}
+use Rattle.heap_model.specs.Machine.{Bounds, Range, slab_block}
+use Rattle.heap_check.specs.Heap.{entry_at, heap, Holds, IsClaim}
+use Rattle.heap_check.specs.Sound.{IsInSlab, IsSound, IsValidSlab}
+use Rattle.heap_check.specs.Image.{bounds_of, IsFormed, IsExactImage}
+use Rattle.heap_check.proofs.Claims.{IsNamed-claim, IsClaim-word}
+use Rattle.heap_check.proofs.Geometry.{granules_at-slab, plain_size-some}
+use Rattle.heap_check.proofs.Heaps.{heap-claim}
+use Rattle.heap_check.proofs.Sizes.{sizes_of}
+use Rattle.heap_check.proofs.SmallPlaces.{calm_but}
+use Rattle.heap_check.proofs.StateWords.{IsStateWord-valid}
+use Rattle.heap_check.proofs.Within.{IsWithin-held, IsInSlab-held, one_claim}
+use Rattle.slab_morph.specs.SlabHeaders.{IsSlabHere}
+use Rattle.attach_steps.specs.declared.block.SmallBlock.{SmallBlock}
+use Rattle.attach_steps.specs.declared.block.OldBlock.{OldBlock}
+use Rattle.attach_steps.specs.Steps.{IsDetachable, IsOldDetachable}
+use Rattle.arena_core.specs.Arena.{old_range}
+use Rattle.image_tables.specs.Forms.{morphing_kind, IsStateWord, morphed_kind, normal_kind}
+use Rattle.pmem_lines.specs.Words.{word_at}
+use Rattle.arena_core.specs.Plan.{IsNamedSmall, IsNamedOld}
+use Rattle.heap_check.proofs.Loose.{IsExactBut-exact}
+use Rattle.size_classes.specs.Classes.{class_capacity}
+
+-- the block that a slab holds at a root's word is the root's
+pub heap_held : {b : Bounds} {t : Tables} → IsSound b t → t.open_entry ≡ None → (root start : ℕ) (range : Range) → Holds t start range → t.root root ≡ range.at → heap t root ≡ Some range
+heap_held {b} {t} sound closed root start range holds word =
+    let unnamed = λ (r : ℕ). ap (λ e. entry_at e r) closed in
+    let owner = sound.claimed start range holds in
+    let its = IsNamed-claim t owner.0 range (unnamed owner.0) owner.1 in
+    let some : t.root root ≢ 0 = λ none. its.some (sym word ∙ none) in
+    let mine = IsClaim-word t root (unnamed root) some in
+    let size = plain_size-some sound start (t.root root) (subst (IsInSlab t start) (sym word) (IsInSlab-held sound start range holds)) in
+    let same : root ≡ owner.0 = one_claim sound root owner.0 _ range mine owner.1 word size (IsWithin-held sound start range holds).some in
+    heap-claim t root range (unnamed root) (subst (λ r. IsClaim t r range) (sym same) owner.1)
+
+-- a block of its slab's class that a root has
+pub class_holds : {words : List ℕ} {root : ℕ} {block : SmallBlock} → IsDetachable words root block → Holds (tables_of words) block.start (slab_block block.start ((tables_of words).class block.start) block.number)
+class_holds {words} {root} {block} may = record {
+  slab = may.block_in.slab;
+  block = inl (record { number = block.number; below = may.block_in.below; read = calm_but may.block_in.image.but block.start may.block_in.slab; set = may.set; is = refl });
+}
+
+-- an old one
+pub old_holds : {words : List ℕ} {root : ℕ} {block : OldBlock} → IsOldDetachable words root block → Holds (tables_of words) block.start (old_range (tables_of words) block)
+old_holds {words} {root} {block} may = record { slab = may.slab; block = inr (record { place = block.place; below = may.below; live = may.live; is = refl }) }
+
+-- a slab whose index table is read, and that takes no other class, took one
+morphed_with : (t : Tables) (start : ℕ) → t.slab start ≡ true → t.kind start ≢ morphing_kind → (place : ℕ) → IsValidSlab t start → place < t.index_count start → t.kind start ≡ morphed_kind
+morphed_with t start slab calm place valid below = ⊎_elim
+    (λ (normal : t.kind start ≡ normal_kind). absurd (let none = valid.state.none normal in omega (arith, below, none.1)))
+    (λ other. ⊎_elim (λ morphing. absurd (calm morphing)) (λ morphed. morphed) other)
+    valid.state.kinds
+
+-- the header of a slab is there, and valid
+pub slab_here : (words : List ℕ) (start slab : ℕ) → slab ≡ 16384 * start → IsFormed words → IsSound (bounds_of words) (tables_of words) → (tables_of words).slab start ≡ true → IsSlabHere words slab
+slab_here words start slab is formed sound lives =
+    let sizes = sizes_of words formed in
+    let four = granules_at-slab (tables_of words) start lives in
+    let lies = sound.starts start (omega (arith, four)) in
+    let same : start ≡ slab / 16384 = omega (arith, is) in
+    let there : is_slab words start ≡ true = sym (slab_table words start) ∙ lives in
+    let word = IsStateWord-valid words start there (formed.slabs start there).state (sound.slabs start lives) in
+    record {
+      aligned = omega (arith, is);
+      small = omega (arith, is, lies.1, four, sizes.most);
+      inside = omega (arith, is, lies.1, four, sizes.size);
+      there = subst (λ s. is_slab words s ≡ true) same there;
+      word = subst (λ s. IsStateWord (word_at words (state_word s))) same word;
+      valid = subst (IsValidSlab (tables_of words)) same (sound.slabs start lives);
+    }
+
+-- what a root names may go from it
+
+pub class_detachable : {words : List ℕ} {root : ℕ} {block : SmallBlock} {class : ℕ} → IsExactImage words → IsNamedSmall (bounds_of words) (tables_of words) root block class → IsDetachable words root block
+class_detachable {words} {root} {block} {class} image named = record {
+  block_in = record {
+    image = record { formed = image.formed; but = IsExactBut-exact image.exact block.start };
+    rooted = named.rooted;
+    slab = named.slab;
+    lively = image.exact.none_done block.start;
+    below = subst (λ c. block.number < class_capacity c) (sym named.class_is) named.below;
+    at = named.at ∙ ap (λ c. (slab_block block.start c block.number).at) (sym named.class_is);
+  };
+  set = named.set;
+  named = named.named;
+}
+
+pub old_detachable : {words : List ℕ} {root : ℕ} {block : OldBlock} {class : ℕ} → IsExactImage words → IsNamedOld (bounds_of words) (tables_of words) root block class → IsOldDetachable words root block
+old_detachable {words} {root} {block} {class} image named = record {
+  image = record { formed = image.formed; but = IsExactBut-exact image.exact block.start };
+  rooted = named.rooted;
+  slab = named.slab;
+  kind = morphed_with (tables_of words) block.start named.slab (λ kind. image.exact.calm block.start (record { slab = named.slab; kind = kind })) block.place (image.exact.sound.slabs block.start named.slab) named.place.below;
+  below = named.place.below;
+  live = named.place.live;
+  at = sym named.place.here;
+  named = named.named;
+}

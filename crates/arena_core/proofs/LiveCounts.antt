@@ -1,0 +1,200 @@
+-- How many live blocks the slabs of an arena have: once a root has another block, and once slabs come and go.
+use Rattle.std.proofs.Common.{◌≡◌, ◌≢◌, ◌==◌, ℕ, ◌+◌, ◌-◌, ◌*◌, ◌<◌, ◌≤◌, Bool, true, false, true≢false, cond, List, length, slice_index, Option, Some, None, refl, sym, ap, ◌∙◌, arith, ⊎_elim, if◌then◌else◌, zero, suc}
+use Rattle.std.proofs.lemmas.Bool.{cases_eq, cases_lt, cases_Bool, cond-true, cond-false, eq-eqb, ne_eqb, false_from_ne_true}
+use Rattle.pool_layout.specs.Header.{granules_in}
+use Rattle.image_tables.specs.Tables.{Tables, tables_of}
+use Rattle.image_tables.proofs.Tables.{root_table-past}
+use Rattle.heap_model.specs.Machine.{Bounds, Range, with_key}
+use Rattle.heap_model.specs.Slabs.{live_below, begins_in}
+use Rattle.heap_model.proofs.Counts.{live_below-with}
+use Rattle.heap_model.proofs.Freeing.{BeginsIn, begins_in-here, begins_in-true, live_below-some, live_below-none}
+use Rattle.heap_model.proofs.Maps.{with_key-here, with_key-other}
+use Rattle.heap_check.specs.Heap.{entry_at, heap, Holds}
+use Rattle.heap_check.specs.Sound.{IsInSlab, IsSound}
+use Rattle.heap_check.specs.Image.{bounds_of}
+use Rattle.heap_check.proofs.Claims.{IsNamed-claim}
+use Rattle.heap_check.proofs.Geometry.{one_slab, is_large-slab, is_large-start}
+use Rattle.heap_check.proofs.Heaps.{heap-claim, IsClaim-heap}
+use Rattle.heap_check.proofs.SmallPlaces.{Holds-claim}
+use Rattle.heap_check.proofs.Within.{IsInSlab-held}
+use Rattle.arena_core.specs.Arena.{live_in, AreCountsOf}
+
+-- one, where something is so
+abbrev pub one_if : Bool → ℕ
+one_if is = cond is 1 0
+
+-- one root more is counted
+pub live_next : (block : ℕ → Option Range) (s n : ℕ) → live_below block s (n + 1) ≡ one_if (begins_in s (block n)) + live_below block s n
+live_next block s n = let next : n + 1 ≡ suc n = omega arith in ap (live_below block s) next
+
+-- a root without a block gets one
+pub live_given : (old new : ℕ → Option Range) (s roots root : ℕ) (range : Range) → root < roots → old root ≡ None → new root ≡ Some range → ((other : ℕ) → other ≢ root → new other ≡ old other) →
+    live_below new s roots ≡ one_if (begins_in s (Some range)) + live_below old s roots
+live_given old new s roots root range below none given others = ap (λ h. live_below h s roots) (λ i k. same k i) ∙ live_below-with old s roots root range below none
+  where
+    same : (k : ℕ) → new k ≡ with_key old root (Some range) k
+    same k = ⊎_elim
+        (λ (here : k ≡ root). ap new here ∙ given ∙ sym (with_key-here old root (Some range)) ∙ ap (with_key old root (Some range)) (sym here))
+        (λ (apart : k ≢ root). others k apart ∙ sym (with_key-other old root k (Some range) apart))
+        (cases_eq k root)
+
+-- a slab that holds no block has no live one
+pub live_none : {b : Bounds} {t : Tables} → IsSound b t → t.open_entry ≡ None → (start : ℕ) → t.slab start ≡ true → ((range : Range) → ¬ (Holds t start range)) → (n : ℕ) → live_below (heap t) start n ≡ 0
+live_none {b} {t} sound closed start slab none n = live_below-none (heap t) start n (λ root below begins. alone root begins)
+  where
+    alone : (root : ℕ) → ¬ (BeginsIn start (heap t root))
+    alone root begins =
+        let unnamed : entry_at t.open_entry root ≡ 0 = ap (λ e. entry_at e root) closed in
+        let claim = IsClaim-heap t root begins.range unnamed begins.named in
+        none begins.range (Holds-claim sound root start begins.range unnamed claim (record { slab = slab; low = begins.low; high = begins.high }))
+
+-- one that holds a block has some
+pub live_some : (words : List ℕ) → IsSound (bounds_of words) (tables_of words) → (tables_of words).open_entry ≡ None → (start : ℕ) (range : Range) → Holds (tables_of words) start range →
+    0 < live_below (heap (tables_of words)) start (bounds_of words).roots
+live_some words sound closed start range holds =
+    let t = tables_of words in
+    let owner = sound.claimed start range holds in
+    let unnamed : entry_at t.open_entry owner.0 ≡ 0 = ap (λ e. entry_at e owner.0) closed in
+    let its = IsNamed-claim t owner.0 range unnamed owner.1 in
+    let inside = IsInSlab-held sound start range holds in
+    let rooted : owner.0 < (bounds_of words).roots = ⊎_elim (λ less. less) (λ past. absurd (its.some (sym its.word ∙ root_table-past words owner.0 past))) (cases_lt owner.0 (bounds_of words).roots) in
+    let named = heap-claim t owner.0 range unnamed owner.1 in
+    live_below-some (heap t) start (bounds_of words).roots owner.0 rooted (ap (begins_in start) named ∙ begins_in-here start range inside.low inside.high)
+
+-- counts stay where the numbers do
+pub counts_kept : (words new : List ℕ) (counts : List ℕ) → granules_in new ≡ granules_in words → ((s : ℕ) → live_in new s ≡ live_in words s) → AreCountsOf counts words → AreCountsOf counts new
+counts_kept words new counts granules same were = record { size = were.size ∙ sym granules; each = λ s. were.each s ∙ sym (same s) }
+
+-- One image has the block of a root that the other has not, in the slab at a start.
+pub record IsOneMore (without with_it : List ℕ) (root start : ℕ) (range : Range) : Type 0 where
+  pub rooted : root < (bounds_of without).roots
+  pub bounds : bounds_of with_it ≡ bounds_of without
+  pub slabs : (s : ℕ) → (tables_of with_it).slab s ≡ (tables_of without).slab s
+  pub none : heap (tables_of without) root ≡ None
+  pub some : heap (tables_of with_it) root ≡ Some range
+  pub others : (other : ℕ) → other ≢ root → heap (tables_of with_it) other ≡ heap (tables_of without) other
+  -- its slab is the only one that has its address
+  pub inside : (tables_of without).slab start ≡ true
+  pub begins : (s : ℕ) → (tables_of without).slab s ≡ true → begins_in s (Some range) ≡ (s == start)
+
+pub live_step : (without with_it : List ℕ) (root start : ℕ) (range : Range) → IsOneMore without with_it root start range → (s : ℕ) → live_in with_it s ≡ one_if (s == start) + live_in without s
+live_step without with_it root start range more s = ⊎_elim
+    (λ (slab : (tables_of without).slab s ≡ true).
+    cond-true ((tables_of with_it).slab s) (live_below (heap (tables_of with_it)) s (bounds_of with_it).roots) 0 (more.slabs s ∙ slab)
+    ∙ ap (λ (b : Bounds). live_below (heap (tables_of with_it)) s b.roots) more.bounds
+    ∙ live_given (heap (tables_of without)) (heap (tables_of with_it)) s ((bounds_of without).roots) root range more.rooted more.none more.some more.others
+    ∙ ap (λ is. one_if is + live_below (heap (tables_of without)) s ((bounds_of without).roots)) (more.begins s slab)
+    ∙ ap (λ n. one_if (s == start) + n) (sym (cond-true ((tables_of without).slab s) (live_below (heap (tables_of without)) s ((bounds_of without).roots)) 0 slab)))
+    (λ (no : (tables_of without).slab s ≡ false).
+    let apart : s ≢ start = λ same. true≢false (sym more.inside ∙ ap (tables_of without).slab (sym same) ∙ no) in
+    let before : live_in without s ≡ 0 = cond-false ((tables_of without).slab s) (live_below (heap (tables_of without)) s ((bounds_of without).roots)) 0 no in
+    let after : live_in with_it s ≡ 0 = cond-false ((tables_of with_it).slab s) (live_below (heap (tables_of with_it)) s (bounds_of with_it).roots) 0 (more.slabs s ∙ no) in
+    let none : one_if (s == start) ≡ 0 = ap one_if (ne_eqb s start apart) in
+    omega (arith, before, after, none))
+    (cases_Bool ((tables_of without).slab s))
+
+-- an address in a slab of sound tables lies in no other
+pub begins_only : {b : Bounds} {t : Tables} → IsSound b t → (start : ℕ) (range : Range) → IsInSlab t start range.at → (s : ℕ) → t.slab s ≡ true → begins_in s (Some range) ≡ (s == start)
+begins_only {b} {t} sound start range inside s slab = ⊎_elim
+    (λ (same : s ≡ start). begins_in-here s range (omega (arith, same, inside.low)) (omega (arith, same, inside.high)) ∙ sym (eq-eqb s start same))
+    (λ (apart : s ≢ start).
+    false_from_ne_true (begins_in s (Some range)) (λ is.
+    let begins = begins_in-true s (Some range) is in
+    let same : range ≡ begins.range = cc (begins.named) in
+    let at = ap (λ (x : Range). x.at) same in
+    apart (one_slab sound s start range.at (record { slab = slab; low = omega (arith, at, begins.low); high = omega (arith, at, begins.high) }) inside))
+    ∙ sym (ne_eqb s start apart))
+    (cases_eq s start)
+
+-- the number of one slab rises, or falls
+pub counts_raised : (without with_it : List ℕ) (root start : ℕ) (range : Range) (counts next : List ℕ) → IsOneMore without with_it root start range → length next ≡ length counts →
+    ((s : ℕ) → slice_index next s ≡ (if s == start then slice_index counts s + 1 else slice_index counts s)) → AreCountsOf counts without → AreCountsOf next with_it
+counts_raised without with_it root start range counts next more size put were = record {
+  size = size ∙ were.size ∙ sym (ap (λ (b : Bounds). b.granules) more.bounds);
+  each = λ s.
+      let step = live_step without with_it root start range more s in
+      ⊎_elim
+      (λ (same : s ≡ start).
+      let test = eq-eqb s start same in
+      let here = put s ∙ cond-true (s == start) (slice_index counts s + 1) (slice_index counts s) test in
+      let one = ap one_if test in
+      omega (arith, here, were.each s, step, one))
+      (λ (apart : s ≢ start).
+      let test = ne_eqb s start apart in
+      let here = put s ∙ cond-false (s == start) (slice_index counts s + 1) (slice_index counts s) test in
+      let none = ap one_if test in
+      omega (arith, here, were.each s, step, none))
+      (cases_eq s start);
+}
+
+pub counts_lowered : (without with_it : List ℕ) (root start : ℕ) (range : Range) (counts next : List ℕ) → IsOneMore without with_it root start range → length next ≡ length counts →
+    ((s : ℕ) → slice_index next s ≡ (if s == start then slice_index counts s - 1 else slice_index counts s)) → AreCountsOf counts with_it → AreCountsOf next without
+counts_lowered without with_it root start range counts next more size put were = record {
+  size = size ∙ were.size ∙ ap (λ (b : Bounds). b.granules) more.bounds;
+  each = λ s.
+      let step = live_step without with_it root start range more s in
+      ⊎_elim
+      (λ (same : s ≡ start).
+      let test = eq-eqb s start same in
+      let here = put s ∙ cond-true (s == start) (slice_index counts s - 1) (slice_index counts s) test in
+      let one = ap one_if test in
+      omega (arith, here, were.each s, step, one))
+      (λ (apart : s ≢ start).
+      let test = ne_eqb s start apart in
+      let here = put s ∙ cond-false (s == start) (slice_index counts s - 1) (slice_index counts s) test in
+      let none = ap one_if test in
+      omega (arith, here, were.each s, step, none))
+      (cases_eq s start);
+}
+
+-- the number that falls is some
+pub live_positive : (without with_it : List ℕ) (root start : ℕ) (range : Range) → IsOneMore without with_it root start range → 0 < live_in with_it start
+live_positive without with_it root start range more =
+    let step = live_step without with_it root start range more start in
+    let one = ap one_if (eq-eqb start start refl) in
+    omega (arith, step, one)
+
+-- there are no more than roots
+pub live_below-most : (block : ℕ → Option Range) (s n : ℕ) → live_below block s n ≤ n
+live_below-most block s zero = omega arith
+live_below-most block s (suc n) =
+    let rest = live_below-most block s n in
+    ⊎_elim (λ is. let one : one_if (begins_in s (block n)) ≡ 1 = ap one_if is in omega (arith, rest, one)) (λ is. let none : one_if (begins_in s (block n)) ≡ 0 = ap one_if is in omega (arith, rest, none)) (cases_Bool (begins_in s (block n)))
+
+pub live_most : (words : List ℕ) (start : ℕ) → live_in words start ≤ (bounds_of words).roots
+live_most words start = ⊎_elim
+    (λ slab. let is = cond-true ((tables_of words).slab start) (live_below (heap (tables_of words)) start (bounds_of words).roots) 0 slab in omega (arith, is, live_below-most (heap (tables_of words)) start (bounds_of words).roots))
+    (λ no. let is = cond-false ((tables_of words).slab start) (live_below (heap (tables_of words)) start (bounds_of words).roots) 0 no in omega (arith, is))
+    (cases_Bool ((tables_of words).slab start))
+
+-- where the slabs and the heap are the same, so are the numbers
+pub live_same : (words new : List ℕ) → bounds_of new ≡ bounds_of words → ((s : ℕ) → (tables_of new).slab s ≡ (tables_of words).slab s) → ((root : ℕ) → heap (tables_of new) root ≡ heap (tables_of words) root) → (s : ℕ) → live_in new s ≡ live_in words s
+live_same words new bounds slabs heaps s = λ i. if slabs s i then live_below (λ root. heaps root i) s (bounds i).roots else 0
+
+-- where a root got a large block, or lost it, they are the same
+pub live_large : (without with_it : List ℕ) (root start count : ℕ) → IsSound (bounds_of with_it) (tables_of with_it) → (tables_of with_it).large start ≡ count → 0 < count → root < (bounds_of without).roots → bounds_of with_it ≡ bounds_of without →
+    ((s : ℕ) → (tables_of with_it).slab s ≡ (tables_of without).slab s) → heap (tables_of without) root ≡ None → heap (tables_of with_it) root ≡ Some (record { at = 16384 * start; size = 16384 * count }) →
+    ((other : ℕ) → other ≢ root → heap (tables_of with_it) other ≡ heap (tables_of without) other) → (s : ℕ) → live_in with_it s ≡ live_in without s
+live_large without with_it root start count sound live many rooted bounds slabs none some others s = ⊎_elim
+    (λ (slab : (tables_of without).slab s ≡ true).
+    let roots = (bounds_of without).roots in
+    let range : Range = record { at = 16384 * start; size = 16384 * count } in
+    let before : live_in without s ≡ live_below (heap (tables_of without)) s roots = cond-true ((tables_of without).slab s) (live_below (heap (tables_of without)) s roots) 0 slab in
+    let after : live_in with_it s ≡ live_below (heap (tables_of with_it)) s roots =
+    cond-true ((tables_of with_it).slab s) (live_below (heap (tables_of with_it)) s (bounds_of with_it).roots) 0 (slabs s ∙ slab) ∙ ap (λ (b : Bounds). live_below (heap (tables_of with_it)) s b.roots) bounds in
+    let given = live_given (heap (tables_of without)) (heap (tables_of with_it)) s roots root range rooted none some others in
+    let off : one_if (begins_in s (Some range)) ≡ 0 = ap one_if (elsewhere slab) in
+    omega (arith, before, after, given, off))
+    (λ (no : (tables_of without).slab s ≡ false).
+    let before : live_in without s ≡ 0 = cond-false ((tables_of without).slab s) (live_below (heap (tables_of without)) s (bounds_of without).roots) 0 no in
+    let after : live_in with_it s ≡ 0 = cond-false ((tables_of with_it).slab s) (live_below (heap (tables_of with_it)) s (bounds_of with_it).roots) 0 (slabs s ∙ no) in
+    omega (arith, before, after))
+    (cases_Bool ((tables_of without).slab s))
+  where
+    elsewhere : (tables_of without).slab s ≡ true → begins_in s (Some (record { at = 16384 * start; size = 16384 * count })) ≡ false
+    elsewhere slab = false_from_ne_true (begins_in s (Some (record { at = 16384 * start; size = 16384 * count }))) (λ is.
+        let begins = begins_in-true s (Some (record { at = 16384 * start; size = 16384 * count })) is in
+        let same : (record { at = 16384 * start; size = 16384 * count }) ≡ begins.range = cc (begins.named) in
+        let at = ap (λ (x : Range). x.at) same in
+        let inside : IsInSlab (tables_of with_it) s (16384 * start) = record { slab = slabs s ∙ slab; low = omega (arith, at, begins.low); high = omega (arith, at, begins.high) } in
+        true≢false (sym (is_large-start (tables_of with_it).large start (omega (arith, live, many))) ∙ is_large-slab sound s (16384 * start) inside))

@@ -1,0 +1,139 @@
+-- A block of a slab came to a root, or went from it: what an arena keeps holds again.
+use Rattle.std.proofs.Common.{◌≡◌, ℕ, ◌<◌, Bool, true, false, List, length, slice_index, Some, None, refl, sym, ap, subst, ◌∙◌, arith, ◌++◌, inr}
+use Rattle.pmem_lines.specs.declared.event.Event.{Event}
+use Rattle.pmem_lines.specs.Events.{reading}
+use Rattle.pmem_lines.specs.Pmem.{PmemState, words_of}
+use Rattle.pmem_lines.specs.Steps.{IsQuietStep}
+use Rattle.image_tables.specs.Tables.{Tables, tables_of}
+use Rattle.image_tables.proofs.Updates.{put_at-same, put_at-other}
+use Rattle.slab_index.specs.SlabSet.{SlabSet}
+use Rattle.heap_model.specs.Machine.{Bounds, Range, slab_block}
+use Rattle.heap_check.specs.Heap.{heap, slabs}
+use Rattle.heap_check.specs.Sound.{IsInSlab, IsSound}
+use Rattle.heap_check.specs.Image.{bounds_of, IsExactButImage}
+use Rattle.heap_check.specs.State.{IsEitherHeap}
+use Rattle.heap_check.proofs.Geometry.{granules_at-slab}
+use Rattle.heap_check.proofs.OneBlock.{stage_of}
+use Rattle.heap_check.proofs.Sizes.{sizes_of}
+use Rattle.attach_steps.specs.Steps.{KeepsOthers, GivesOne, IsDetachable, IsDetached, IsOldDetachable, IsOldDetached}
+use Rattle.log_steps.specs.Log.{IsBookOf}
+use Rattle.arena_core.specs.declared.volatile.Volatile.{Volatile}
+use Rattle.arena_core.specs.Arena.{IsIndexOf, IsSlabsOf, live_in, AreCountsOf, old_range}
+use Rattle.arena_core.specs.Carried.{IsDone, IsTaken, IsTidied}
+use Rattle.arena_core.specs.Effect.{slabs_but}
+use Rattle.arena_core.specs.Events.{holds_none, tidy_events}
+use Rattle.arena_core.proofs.BlockChanges.{IsBlockChange, book_small, keeps_small}
+use Rattle.arena_core.proofs.HeapSteps.{keeps_both, steps_then}
+use Rattle.arena_core.proofs.LastBlocks.{last_of}
+use Rattle.arena_core.proofs.LiveCounts.{IsOneMore, begins_only, live_most}
+use Rattle.arena_core.proofs.SmallCalls.{classes_small, index_small}
+use Rattle.attach_steps.specs.declared.block.SmallBlock.{SmallBlock}
+use Rattle.attach_steps.specs.declared.block.OldBlock.{OldBlock}
+use Rattle.heap_check.proofs.Within.{IsInSlab-held}
+use Rattle.arena_core.proofs.HeldBlocks.{heap_held, class_holds, old_holds}
+
+-- a slab lies in the arena, so its number of live blocks is one of the counts, and small
+pub counted : (words : List ℕ) (start : ℕ) (counts : List ℕ) → IsExactButImage words start → (tables_of words).slab start ≡ true → AreCountsOf counts words → (start < length counts) × (slice_index counts start ≡ live_in words start) × (live_in words start < 5000)
+counted words start counts image slab were =
+    let sizes = sizes_of words image.formed in
+    let four = granules_at-slab (tables_of words) start slab in
+    let lies = image.but.sound.starts start (omega (arith, four)) in
+    let most = live_most words start in
+    (omega (arith, lies.1, four, were.size), were.each start, omega (arith, most, sizes.roots))
+
+-- the new image has one block more, or one less
+module _ (words new : List ℕ) (root start : ℕ) (range : Range) (rooted : root < (bounds_of words).roots) (bounds : bounds_of new ≡ bounds_of words) (slab_same : (s : ℕ) → (tables_of new).slab s ≡ (tables_of words).slab s)
+    (sound : IsSound (bounds_of words) (tables_of words)) (inside : IsInSlab (tables_of words) start range.at) where
+  pub more_given : heap (tables_of words) root ≡ None → GivesOne words root (Some range) new → IsOneMore words new root start range
+  more_given none gives = record {
+    rooted = rooted;
+    bounds = bounds;
+    slabs = slab_same;
+    none = none;
+    some = gives.here;
+    others = gives.others;
+    inside = inside.slab;
+    begins = begins_only sound start range inside;
+  }
+
+  pub more_taken : heap (tables_of words) root ≡ Some range → GivesOne words root None new → IsOneMore new words root start range
+  more_taken some gives = record {
+    rooted = subst (λ (b : Bounds). root < b.roots) (sym bounds) rooted;
+    bounds = sym bounds;
+    slabs = λ s. sym (slab_same s);
+    none = gives.here;
+    some = some;
+    others = λ other differ. sym (gives.others other differ);
+    inside = slab_same start ∙ inside.slab;
+    begins = λ s slab. begins_only sound start range inside s (sym (slab_same s) ∙ slab);
+  }
+
+-- of a block of its slab's class, or an old one, that went
+
+pub class_more : (words : List ℕ) (line root : ℕ) (block : SmallBlock) → IsDetachable words root block → (new : List ℕ) → IsDetached words line root block new →
+    IsOneMore new words root block.start (slab_block block.start ((tables_of words).class block.start) block.number)
+class_more words line root block may new detached =
+    let but = may.block_in.image.but in
+    let range = slab_block block.start ((tables_of words).class block.start) block.number in
+    let holds = class_holds may in
+    more_taken words new root block.start range may.block_in.rooted detached.bounds (λ s. ap (λ (x : Tables). x.slab s) detached.tables) but.sound (IsInSlab-held but.sound block.start range holds)
+    (heap_held but.sound but.closed root block.start range holds (may.named ∙ may.block_in.at)) detached.gives
+
+pub old_more : (words : List ℕ) (line root : ℕ) (block : OldBlock) → IsOldDetachable words root block → (new : List ℕ) → IsOldDetached words line root block new → IsOneMore new words root block.start (old_range (tables_of words) block)
+old_more words line root block may new detached =
+    let but = may.image.but in
+    let range = old_range (tables_of words) block in
+    let holds = old_holds may in
+    more_taken words new root block.start range may.rooted detached.bounds (λ s. ap (λ (x : Tables). x.slab s) detached.tables) but.sound (IsInSlab-held but.sound block.start range holds)
+    (heap_held but.sound but.closed root block.start range holds (may.named ∙ may.at)) detached.gives
+
+-- a block went
+pub taken_by : {old new : PmemState} (was : Volatile) (fewer : SlabSet) (counts : List ℕ) {root start k : ℕ} (bits lives : Bool → ℕ → ℕ → Bool) {events : List Event} → IsBlockChange (words_of old) was.line root start k →
+    IsQuietStep old new events (IsEitherHeap (words_of old) (words_of new)) → IsExactButImage (words_of new) start → bounds_of (words_of new) ≡ bounds_of (words_of old) →
+    tables_of (words_of new) ≡ stage_of (tables_of (words_of old)) bits lives root false 0 None → GivesOne (words_of old) root None (words_of new) → KeepsOthers (words_of old) was.line root k (words_of new) →
+    IsBookOf was.log (words_of old) → IsIndexOf was.free (words_of old) → IsSlabsOf fewer (words_of new) → AreCountsOf counts (words_of new) → IsTaken old new was (record was { slabs = fewer; lives = counts }) root start events
+taken_by {old} {new} was fewer counts {root} {start} {k} bits lives {events} change step image bounds tables gives rest log index slabs_are counts_are =
+    let words = words_of old in
+    let left = words_of new in
+    let t = tables_of words in
+    let slab = ap (λ (x : Tables). x.slab start) tables ∙ change.slab in
+    record {
+      step = step;
+      image = image;
+      slab = slab;
+      last = last_of t root start image.but slab change.slab (ap (λ (x : Tables). x.root root) tables ∙ put_at-same t.root root 0) (λ other differ. ap (λ (x : Tables). x.root other) tables ∙ put_at-other t.root root other 0 differ);
+      gives = record {
+        here = gives.here;
+        others = gives.others;
+        slabs = classes_small words bits lives root false 0 left bounds tables;
+        keeps = keeps_small change left rest;
+        bounds = bounds;
+      };
+      log = book_small change left rest bounds was.log log;
+      index = index_small words bits lives root false 0 left bounds tables was.free index;
+      slabs = slabs_are;
+      lives = counts_are;
+      line = refl;
+    }
+
+-- and its slab was tidied
+pub done_taken : {old mid new : PmemState} {was part left : Volatile} {root start : ℕ} {events : List Event} → IsTaken old mid was part root start events → IsTidied mid new left start →
+    IsDone old new left root None (slabs_but (slabs (tables_of (words_of old))) start (holds_none (tables_of (reading (words_of old) events)) start)) (events ++ tidy_events (reading (words_of old) events) start)
+done_taken {old} {mid} {new} {was} {part} {left} {root} {start} {events} taken tidied =
+    let words = words_of old in
+    let between = words_of mid in
+    let after = words_of new in
+    let between_is : between ≡ reading words events = taken.step.appends.words in
+    record {
+      step = steps_then words between after (inr tidied.heap) (λ ws. tidy_events ws start) taken.gives.keeps taken.step tidied.step;
+      current = tidied.current;
+      slabs = tidied.slabs;
+      lives = tidied.lives;
+      gives = record {
+        here = tidied.heap.each root ∙ taken.gives.here;
+        others = λ other differ. tidied.heap.each other ∙ taken.gives.others other differ;
+        slabs = λ s. tidied.slab s ∙ (λ i. slabs_but (λ o. taken.gives.slabs o i) start (holds_none (tables_of (between_is i)) start) s);
+        keeps = keeps_both words between after (inr tidied.heap) taken.gives.keeps tidied.keeps;
+        bounds = tidied.bounds ∙ taken.gives.bounds;
+      };
+    }

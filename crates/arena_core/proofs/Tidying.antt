@@ -1,0 +1,223 @@
+-- Behind a block that went its slab is dropped where it holds none, and its transition ends where no old one is left.
+use Rattle.std.proofs.Common.{◌≡◌, ◌≢◌, ◌↔◌, ◌==◌, ℕ, ◌<◌, Bool, true, false, true≢false, not, List, [], slice_index, refl, sym, ap, subst, ◌∙◌, arith, inl, ⊎_elim, Some, None, if◌then◌else◌}
+use Rattle.std.proofs.lemmas.Bool.{cases_Bool, cases_eq, cond-true, cond-false, eq-eqb, eqb-true, and_from, and_parts, false_from_ne_true}
+use Rattle.pmem_lines.specs.Pmem.{PmemState, words_of}
+use Rattle.pmem_lines.specs.Steps.{IsQuietStep}
+use Rattle.pmem_lines.proofs.Steps.{step_by, step_none, step_wider}
+use Rattle.image_tables.specs.Forms.{morphed_kind}
+use Rattle.image_tables.specs.Tables.{Tables, tables_of}
+use Rattle.image_tables.proofs.Headers.{SameLog-off_header}
+use Rattle.book_log.proofs.Books.{Reads-same}
+use Rattle.heap_model.specs.Machine.{Bounds}
+use Rattle.heap_model.specs.Below.{any_below}
+use Rattle.heap_check.specs.Heap.{slabs, IsUnusedIn, heap}
+use Rattle.heap_check.specs.Sound.{IsVacant, IsDoneSlab, IsInSlab}
+use Rattle.heap_check.specs.Image.{bounds_of, IsExactImage, IsExactButImage, IsSteadyImage}
+use Rattle.heap_check.proofs.Blank.{IsSteady-but}
+use Rattle.heap_check.proofs.Geometry.{granules_at-slab}
+use Rattle.heap_check.proofs.Sizes.{sizes_of}
+use Rattle.log_steps.specs.Log.{IsBookOf}
+use Rattle.transition_steps.specs.Transitions.{end_events, IsEndable, LeavesHeap, IsEnded}
+use Rattle.arena_core.specs.declared.volatile.Volatile.{Volatile}
+use Rattle.arena_core.specs.Arena.{IsIndexOf, IsSlabsOf, AreCountsOf}
+use Rattle.arena_core.specs.Call.{IsReady}
+use Rattle.arena_core.specs.Carried.{IsTidied}
+use Rattle.arena_core.specs.Effect.{slabs_but}
+use Rattle.arena_core.specs.Events.{holds_none, is_done, tidy_events}
+use Rattle.arena_core.proofs.Arenas.{same_heap}
+use Rattle.arena_core.proofs.LastBlocks.{none_by_tests, some_by_tests, rooted_by_tests}
+use Rattle.arena_core.proofs.LiveCounts.{live_none, live_some, live_same, counts_kept}
+use Rattle.arena_core.proofs.SlabChanges.{exact_held}
+use Rattle.arena_core.proofs.Tests.{not_true, any_below-each, any_below-some}
+use Rattle.arena_core.proofs.UnusedBlocks.{iff_then}
+use Rattle.heap_model.specs.Slabs.{live_below}
+use Rattle.heap_check.proofs.SmallPlaces.{calm_but}
+use Rattle.slab_morph.specs.SlabHeaders.{header_of, put_header}
+use Rattle.slab_morph.specs.Stages.{settled}
+use Rattle.image_tables.proofs.Updates.{put_at-same, put_at-own}
+use Rattle.image_tables.proofs.Stores.{HasNoMove-closed}
+use Rattle.extent_index.specs.FreeSet.{IsFree}
+use Rattle.size_classes.specs.Classes.{class_capacity}
+
+-- the test of a slab that is done
+pub done_by_test : (t : Tables) (start : ℕ) → IsDoneSlab t start → is_done t start ≡ true
+done_by_test t start done =
+    and_from (t.kind start == morphed_kind) (not (any_below (t.live start) (t.index_count start))) (eq-eqb (t.kind start) morphed_kind done.kind)
+    (ap not (false_from_ne_true (any_below (t.live start) (t.index_count start)) (λ some. let found = any_below-some (t.live start) (t.index_count start) some in true≢false (sym found.2 ∙ done.none found.0 found.1))))
+
+pub not_done_by_test : (t : Tables) (start : ℕ) → t.slab start ≡ true → ¬ (IsDoneSlab t start) → is_done t start ≡ false
+not_done_by_test t start slab lively = false_from_ne_true (is_done t start) (λ is.
+    let parts = and_parts (t.kind start == morphed_kind) (not (any_below (t.live start) (t.index_count start))) is in
+    lively (record { slab = slab; kind = eqb-true (t.kind start) morphed_kind parts.0; none = λ place below. any_below-each (t.live start) (t.index_count start) (not_true (any_below (t.live start) (t.index_count start)) parts.1) place below }))
+
+-- what an arena has, but that a slab may hold nothing, or be done
+pub record IsUntidy (s : PmemState) (volatile : Volatile) (start : ℕ) : Type 0 where
+  pub image : IsExactButImage (words_of s) start
+  pub ready : IsReady s
+  pub log : IsBookOf volatile.log (words_of s)
+  pub index : IsIndexOf volatile.free (words_of s)
+  pub slabs : IsSlabsOf volatile.slabs (words_of s)
+  pub lives : AreCountsOf volatile.lives (words_of s)
+  pub slab : (tables_of (words_of s)).slab start ≡ true
+
+module _ (s : PmemState) (volatile : Volatile) (start : ℕ) (untidy : IsUntidy s volatile start) where
+  abbrev words : List ℕ
+  words = words_of s
+
+  abbrev t : Tables
+  t = tables_of words
+
+  count_is : slice_index volatile.lives start ≡ live_below (heap t) start (bounds_of words).roots
+  count_is = untidy.lives.each start ∙ cond-true (t.slab start) (live_below (heap t) start (bounds_of words).roots) 0 untidy.slab
+
+  -- by its count
+  pub none_by_count : slice_index volatile.lives start ≡ 0 → holds_none (tables_of (words_of s)) start ≡ true
+  none_by_count zero = ⊎_elim
+      (λ (none : holds_none t start ≡ true). none)
+      (λ (some : holds_none t start ≡ false).
+      let but = untidy.image.but in
+      let held = some_by_tests t start untidy.slab (calm_but but start untidy.slab) some in
+      let lives = live_some words but.sound but.closed start held.0 held.1 in
+      absurd (omega (arith, lives, zero, count_is)))
+      (cases_Bool (holds_none t start))
+
+  pub some_by_count : slice_index volatile.lives start ≢ 0 → holds_none (tables_of (words_of s)) start ≡ false
+  some_by_count some = false_from_ne_true (holds_none t start) (λ none.
+      let but = untidy.image.but in
+      some (count_is ∙ live_none but.sound but.closed start untidy.slab (none_by_tests t start none) (bounds_of words).roots))
+
+  -- it holds a block, and is not done: nothing is to be tidied
+  pub tidied_none : slice_index volatile.lives start ≢ 0 → ¬ (IsDoneSlab (tables_of (words_of s)) start) → IsTidied s s volatile start
+  tidied_none some lively =
+      let none = some_by_count some in
+      let exact = exact_held words start untidy.image (rooted_by_tests start untidy.image.but untidy.slab none) lively in
+      let events : tidy_events words start ≡ [] = cond-false (holds_none t start) _ _ none ∙ cond-false (is_done t start) _ [] (not_done_by_test t start untidy.slab lively) in
+      record {
+        step = step_by [] (tidy_events words start) (sym events) (step_none untidy.ready.quiet (same_heap words words exact));
+        current = record { ready = untidy.ready; exact = exact; log = untidy.log; index = untidy.index };
+        slabs = untidy.slabs;
+        lives = untidy.lives;
+        bounds = refl;
+        heap = record { each = λ root. refl };
+        slab = λ o. sym (ap (λ gone. slabs_but (slabs t) start gone o) none);
+        keeps = record { each = λ root other range k first second word. refl };
+      }
+
+  -- its transition may end
+  pub endable : IsDoneSlab (tables_of (words_of s)) start → IsEndable (words_of s) start
+  endable done = record {
+    image = record { formed = untidy.image.formed; sound = untidy.image.but.sound };
+    here = done;
+    elsewhere = λ root at place opens. absurd (let closed = untidy.image.but.closed in cc);
+  }
+
+  -- and it ended
+  module _ (some : slice_index volatile.lives start ≢ 0) (done : IsDoneSlab (tables_of (words_of s)) start) (u : PmemState) (step : IsQuietStep s u (end_events (words_of s) start) (LeavesHeap (words_of s))) (ended : IsEnded (words_of s) start (words_of u)) where
+    abbrev new : List ℕ
+    new = words_of u
+
+    abbrev after : Tables
+    after = tables_of new
+
+    row : {X : Type 0} (f : Tables → X) → f after ≡ f (put_header t start (settled (header_of t start)))
+    row f = ap f ended.tables
+
+    closed : after.open_entry ≡ None
+    closed = row (λ x. x.open_entry) ∙ untidy.image.but.closed
+
+    exact : IsExactImage new
+    exact =
+        let but = untidy.image.but in
+        let rooted = rooted_by_tests start but untidy.slab (some_by_count some) in
+        let roots = row (λ x. x.root) in
+        let slab_same = row (λ x. x.slab) in
+        let live_roots : (other : ℕ) → (root : ℕ) × (t.root root ≢ 0) × IsInSlab t other (t.root root) → (root : ℕ) × (after.root root ≢ 0) × IsInSlab after other (after.root root) =
+        λ other is.
+        let word = ap (λ (f : ℕ → ℕ). f is.0) roots in
+        (is.0, λ none. is.1 (sym word ∙ none), record { slab = ap (λ (f : ℕ → Bool). f other) slab_same ∙ is.2.slab; low = omega (arith, word, is.2.low); high = omega (arith, word, is.2.high) }) in
+        record {
+          formed = ended.image.formed;
+          exact = record {
+            sound = ended.image.sound;
+            closed = closed;
+            all_named = λ other live.
+                let large = ap (λ (f : ℕ → ℕ). f other) (row (λ x. x.large)) in
+                let named = but.all_named other (omega (arith, live, large)) in
+                (named.0, ap (λ (f : ℕ → ℕ). f named.0) roots ∙ named.1);
+            all_live = λ other is. ⊎_elim
+                (λ (same : other ≡ start). live_roots other (subst (λ k. (root : ℕ) × (t.root root ≢ 0) × IsInSlab t k (t.root root)) (sym same) rooted))
+                (λ (differ : other ≢ start). live_roots other (but.others_live other differ (sym (ap (λ (f : ℕ → Bool). f other) slab_same) ∙ is)))
+                (cases_eq other start);
+            calm = λ other morphing. but.calm other (ended.loose.morphing other morphing);
+            none_done = λ other is. ⊎_elim
+                (λ (same : other ≡ start).
+                let kind : after.kind start ≡ 1 = row (λ x. x.kind start) ∙ put_at-same t.kind start 1 in
+                omega (arith, is.kind, ap after.kind same, kind))
+                (λ (differ : other ≢ start). but.none_done other differ (ended.loose.done other is))
+                (cases_eq other start);
+          };
+        }
+
+    book : IsBookOf volatile.log new
+    book =
+        let sizes = sizes_of words untidy.image.formed in
+        let four = granules_at-slab t start untidy.slab in
+        let lies = untidy.image.but.sound.starts start (omega (arith, four)) in
+        record {
+          reads = Reads-same volatile.log words new (SameLog-off_header words new start (record { in_heap = lies.0; others = ended.off.others })) ended.off.same_length untidy.log.reads;
+          granules = untidy.log.granules ∙ ap (λ (b : Bounds). b.granules) (sym ended.bounds);
+        }
+
+    index : IsIndexOf volatile.free new
+    index = record {
+      granules = untidy.index.granules ∙ ap (λ (b : Bounds). b.granules) (sym ended.bounds);
+      each = λ k. subst (λ b. IsFree volatile.free k ↔ IsVacant b after k) (sym ended.bounds)
+          (subst (λ x. IsFree volatile.free k ↔ IsVacant (bounds_of words) x k) (sym ended.tables)
+          (iff_then (untidy.index.each k) (
+            λ vacant. record { low = vacant.low; high = vacant.high; none = λ other covers. vacant.none other (record { low = covers.low; high = covers.high }) },
+            λ vacant. record { low = vacant.low; high = vacant.high; none = λ other covers. vacant.none other (record { low = covers.low; high = covers.high }) },
+          )));
+    }
+
+    -- what each slab holds is the same, and so is what is unused
+    unused_same : (o class i : ℕ) → IsUnusedIn t o class i ↔ IsUnusedIn after o class i
+    unused_same o class i = (
+      λ unused. record { each = λ range holds. unused.each range ((ended.held.each o range).0 holds) },
+      λ unused. record { each = λ range holds. unused.each range ((ended.held.each o range).1 holds) },
+    )
+
+    class_same : (o : ℕ) → after.class o ≡ t.class o
+    class_same o = row (λ x. x.class o) ∙ ap (λ (f : ℕ → ℕ). f o) (put_at-own t.class start)
+
+    classes_ended : (o : ℕ) → slabs after o ≡ slabs t o
+    classes_ended o = λ i. if row (λ x. x.slab o) i then Some (class_same o i) else None
+
+    slabs_after : IsSlabsOf volatile.slabs new
+    slabs_after = record {
+      granules = untidy.slabs.granules ∙ ap (λ (b : Bounds). b.granules) (sym ended.bounds);
+      classes = λ o. untidy.slabs.classes o ∙ sym (classes_ended o);
+      blocks = λ o i slab below.
+          let was = untidy.slabs.blocks o i (sym (row (λ x. x.slab o)) ∙ slab) (subst (λ c. i < class_capacity c) (class_same o) below) in
+          iff_then was (subst (λ c. IsUnusedIn t o (t.class o) i ↔ IsUnusedIn after o c i) (sym (class_same o)) (unused_same o (t.class o) i));
+    }
+
+    lives : AreCountsOf volatile.lives new
+    lives = counts_kept words new volatile.lives (ap (λ (b : Bounds). b.granules) ended.bounds) (live_same words new ended.bounds (λ o. row (λ x. x.slab o)) ended.heap.each) untidy.lives
+
+    pub tidied_ended : IsTidied s u volatile start
+    tidied_ended =
+        let none = some_by_count some in
+        let steady : IsSteadyImage words = record { formed = untidy.image.formed; steady = IsSteady-but untidy.image.but } in
+        let events : tidy_events words start ≡ end_events words start = cond-false (holds_none t start) _ _ none ∙ cond-true (is_done t start) _ [] (done_by_test t start done) in
+        record {
+          step = step_by (end_events words start) (tidy_events words start) (sym events) (step_wider (λ image left.
+              let kept = left.keeps steady in
+              record { steady = kept.steady; heap = inl kept.heap; words = kept.blocks; still = HasNoMove-closed (left.entry ∙ untidy.image.but.closed) }) step);
+          current = record { ready = record { quiet = step.quiet; room = omega (arith, untidy.ready.room, step.appends.room) }; exact = exact; log = book; index = index };
+          slabs = slabs_after;
+          lives = lives;
+          bounds = ended.bounds;
+          heap = ended.heap;
+          slab = λ o. classes_ended o ∙ sym (ap (λ gone. slabs_but (slabs t) start gone o) none);
+          keeps = ended.blocks;
+        }
