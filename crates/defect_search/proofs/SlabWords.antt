@@ -4,7 +4,7 @@ use Rattle.std.proofs.Common.{Option, None, Some, ◌≡◌, ◌≢◌, ◌↔�
 use Rattle.std.proofs.lemmas.Bool.{cases_eq, cases_lt, false≢true, true≢false, cond-true}
 use Rattle.size_classes.specs.Classes.{class_capacity}
 use Rattle.pmem_lines.specs.Words.{word_at}
-use Rattle.image_tables.specs.Forms.{IsStateWord, IsIndexWord}
+use Rattle.image_tables.specs.Forms.{IsState, IsStateWord, IsIndexWord}
 use Rattle.image_tables.specs.Tables.{is_slab, state_word, state_field, index_word, tables_of}
 use Rattle.image_tables.proofs.Tables.{kind_table, class_table, old_table, index_count_table, number_table}
 use Rattle.slab_header.specs.declared.state.SlabState.{SlabState}
@@ -14,7 +14,6 @@ use Rattle.slab_header.specs.Index.{SaysOfIndex}
 use Rattle.heap_check.specs.Sound.{IsValidSlab}
 use Rattle.image_defects.specs.declared.found.SlabWord.{SlabWord}
 use Rattle.image_defects.specs.Headers.{IsGoodSlab, AreGoodSlabs, IsBadPlace, IsBadIndex, IsBadWord, IsFirstBadWord}
-use Rattle.image_defects.proofs.SlabDefects.{same_state}
 use Rattle.defect_search.specs.Headers.{AreSlabsInside, HasNumber, IsGoodPlace, AreGoodPlaces, IsStateOf, IsGoodIfSlab, IsBadSlabWord}
 
 -- places
@@ -73,7 +72,7 @@ good_slab words start slab form places =
     let old : w / 2 ^ 16 % 2 ^ 8 ≡ t.old start = field 16 ∙ sym (old_table words start) in
     let entries : w / 2 ^ 24 % 2 ^ 8 ≡ t.index_count start = field 24 ∙ sym (index_count_table words start) in
     let is : IsValidSlab t start = record {
-      state = same_state kind class old entries form.state;
+      state = subst (λ (T : Type 0). T) (λ i. IsState (kind i) (class i) (old i) (entries i)) form.state;
       small = λ place below. (places.each place below).small;
       once = λ place other below also same. ⊎_elim
           (λ (less : place < other). absurd ((places.each other also).new place less same))
