@@ -19,15 +19,15 @@ use Rattle.transition_steps.proofs.HeaderImages.{lies_here, slabs_here, is_valid
 record IsSameOld (h g : SlabHeader) : Type 0 where
   pub class : g.class ≡ h.class
   pub old : g.old ≡ h.old
-  pub entries : g.index_count ≡ h.index_count
+  pub index_count : g.index_count ≡ h.index_count
   pub live : g.live ≡ h.live
   pub number : g.number ≡ h.number
   pub kind : (g.kind ≡ morphing_kind) ⊎ (g.kind ≡ morphed_kind)
 
 same_old : (h g : SlabHeader) → h.kind ≡ morphing_kind → IsFinishStage h g → IsSameOld h g
 same_old h g moves stage = ⊎_elim
-    (λ same. record { class = same.class; old = same.old; entries = same.index_count; live = same.live; number = same.number; kind = inl (same.kind ∙ moves) })
-    (λ (is : g ≡ finished h). subst (IsSameOld h) (sym is) (record { class = refl; old = refl; entries = refl; live = refl; number = refl; kind = inr refl }))
+    (λ same. record { class = same.class; old = same.old; index_count = same.index_count; live = same.live; number = same.number; kind = inl (same.kind ∙ moves) })
+    (λ (is : g ≡ finished h). subst (IsSameOld h) (sym is) (record { class = refl; old = refl; index_count = refl; live = refl; number = refl; kind = inr refl }))
     stage
 
 -- so only kind and bits of the tables change
@@ -36,7 +36,7 @@ put_same t start g same i = record t {
   kind = put_at t.kind start g.kind;
   class = (ap (put_at t.class start) same.class ∙ put_at-own t.class start) i;
   old = (ap (put_at t.old start) same.old ∙ put_at-own t.old start) i;
-  entries = (ap (put_at t.index_count start) same.index_count ∙ put_at-own t.index_count start) i;
+  index_count = (ap (put_at t.index_count start) same.index_count ∙ put_at-own t.index_count start) i;
   bit = put_at t.bit start g.bit;
   live = (ap (put_at t.live start) same.live ∙ put_at-own t.live start) i;
   number = (ap (put_at t.number start) same.number ∙ put_at-own t.number start) i;
