@@ -1,0 +1,6 @@
+pub mod Arenas
+pub mod Books
+pub mod Leaving
+pub mod Exactness
+pub mod Openings
+pub mod Chains

@@ -1,0 +1,4 @@
+pub mod Names
+pub mod Opening
+pub mod Parts
+pub mod Recovery
