@@ -8,6 +8,7 @@ use Rattle.heap_check.specs.Image.{IsSoundImage, IsSteadyImage}
 use Rattle.heap_check.proofs.Geometry.{granules_at-slab, granules_at-live}
 use Rattle.heap_check.proofs.Sizes.{sizes_of}
 use Rattle.settle_steps.proofs.Images.{few_entries}
+use Rattle.image_reading.specs.Slabs.{IsSlabAt}
 use Rattle.defect_search.specs.Arena.{IsArena}
 
 -- a steady image is sound
@@ -39,18 +40,26 @@ roots_lie words image = let sizes = sizes_of words image.formed in omega (arith,
 
 -- extents begin below the number of granules
 
-pub slab_inside : (words : List ℕ) → IsSteadyImage words → (start : ℕ) → (tables_of words).slab start ≡ true → start < granules_in words
+pub slab_inside : (words : List ℕ) → IsSoundImage words → (start : ℕ) → (tables_of words).slab start ≡ true → start < granules_in words
 slab_inside words image start slab =
-    let lies = (arena_of words (sound_of words image)).slab start (sym (slab_table words start) ∙ slab) in
+    let lies = (arena_of words image).slab start (sym (slab_table words start) ∙ slab) in
     omega (arith, lies.1)
 
-pub large_inside : (words : List ℕ) → IsSteadyImage words → (start : ℕ) → 0 < (tables_of words).large start → start < granules_in words
+pub large_inside : (words : List ℕ) → IsSoundImage words → (start : ℕ) → 0 < (tables_of words).large start → start < granules_in words
 large_inside words image start some =
-    let lies = (arena_of words (sound_of words image)).large start some in
+    let lies = (arena_of words image).large start some in
     omega (arith, lies.1, some)
 
 -- and slabs in the heap
-pub slab_low : (words : List ℕ) → IsSteadyImage words → (start : ℕ) → (tables_of words).slab start ≡ true → (layout_of (version_in words)).first_granule ≤ start
+pub slab_low : (words : List ℕ) → IsSoundImage words → (start : ℕ) → (tables_of words).slab start ≡ true → (layout_of (version_in words)).first_granule ≤ start
 slab_low words image start slab =
     let four = granules_at-slab (tables_of words) start slab in
-    (image.steady.sound.starts start (omega (arith, four))).0
+    (image.sound.starts start (omega (arith, four))).0
+
+-- and their headers lie among the words
+pub slab_at : (words : List ℕ) → IsSoundImage words → (start : ℕ) → (tables_of words).slab start ≡ true → IsSlabAt words start
+slab_at words image start slab =
+    let sizes = sizes_of words image.formed in
+    let here = sym (slab_table words start) ∙ slab in
+    let lies = (arena_of words image).slab start here in
+    record { slab = here; inside = omega (arith, lies.1, sizes.size); small = omega (arith, lies.1, sizes.most) }

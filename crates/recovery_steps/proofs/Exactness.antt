@@ -13,14 +13,14 @@ use Rattle.defect_search.proofs.Marks.{root_below}
 use Rattle.recovery_steps.specs.Parts.{IsShut}
 
 -- a number below a bound passes a test, or none does
-search_below : (test : ℕ → Bool) (n : ℕ) → ((k : ℕ) × (test k ≡ true)) ⊎ ((k : ℕ) → k < n → test k ≡ false)
+pub search_below : (test : ℕ → Bool) (n : ℕ) → ((k : ℕ) × (k < n) × (test k ≡ true)) ⊎ ((k : ℕ) → k < n → test k ≡ false)
 search_below test zero = inr (λ k below. absurd (omega arith))
 search_below test (suc n) = by (test n) refl (search_below test n)
   where
-    by : (b : Bool) → test n ≡ b → ((k : ℕ) × (test k ≡ true)) ⊎ ((k : ℕ) → k < n → test k ≡ false) → ((k : ℕ) × (test k ≡ true)) ⊎ ((k : ℕ) → k < suc n → test k ≡ false)
-    by true here rest = inl (n, here)
+    by : (b : Bool) → test n ≡ b → ((k : ℕ) × (k < n) × (test k ≡ true)) ⊎ ((k : ℕ) → k < n → test k ≡ false) → ((k : ℕ) × (k < suc n) × (test k ≡ true)) ⊎ ((k : ℕ) → k < suc n → test k ≡ false)
+    by true here rest = inl (n, omega arith, here)
     by false here rest = ⊎_elim
-        (λ found. inl found)
+        (λ found. inl (found.0, omega (arith, found.1), found.2))
         (λ none. inr (λ k below. ⊎_elim (λ (same : k ≡ n). ap test same ∙ here) (λ (other : k ≢ n). none k (omega arith)) (cases_eq k n)))
         rest
 
@@ -42,7 +42,7 @@ module _ (words : List ℕ) (shut : IsShut words) where
   named no_large start some =
       let late = large_start start some in
       ⊎_elim
-      (λ found. (found.0, eqb-true (t.root found.0) (16384 * start) found.1))
+      (λ found. (found.0, eqb-true (t.root found.0) (16384 * start) found.2))
       (λ none. absurd (no_large.none start (record {
         live = some;
         unnamed = λ root here. true≢false (sym (eq-eqb (t.root root) (16384 * start) here) ∙ none root (root_below words root (λ z. omega (arith, here, z, late))));
@@ -54,7 +54,7 @@ module _ (words : List ℕ) (shut : IsShut words) where
       let late = slab_start start slab in
       ⊎_elim
       (λ found.
-      let parts = and_parts (leb (16384 * start) (t.root found.0)) (ltb (t.root found.0) (16384 * start + 65536)) found.1 in
+      let parts = and_parts (leb (16384 * start) (t.root found.0)) (ltb (t.root found.0) (16384 * start + 65536)) found.2 in
       let low : 16384 * start ≤ t.root found.0 = leb-true (16384 * start) (t.root found.0) parts.0 in
       let high : t.root found.0 < 16384 * start + 65536 = ltb-true (t.root found.0) (16384 * start + 65536) parts.1 in
       (found.0, (λ z. omega (arith, low, z, late)), record { slab = slab; low = low; high = high }))

@@ -8,6 +8,7 @@ use Rattle.pool_layout.specs.Layout.{layout_of}
 use Rattle.pool_layout.specs.Header.{version_in, granules_in}
 use Rattle.heap_model.specs.Machine.{Bounds}
 use Rattle.heap_check.specs.Sound.{IsLooseLarge, IsEmptySlab, IsMorphing, IsDoneSlab, IsNearlyDone, LoosensNothing}
+use Rattle.heap_check.specs.Image.{bounds_of}
 use Rattle.image_defects.specs.Least.{HasNone}
 use Rattle.defect_search.specs.Roots.{IsNamedStart, IsNamedGranule, AreMarks}
 use Rattle.extent_steps.specs.Large.{IsLooseExtent, IsExtentGone}
@@ -88,7 +89,7 @@ rids_empty words start new may dropped = record {
 
 -- a done slab becomes normal
 
-nearly_of : (t : Tables) (start : ℕ) → IsDoneSlab t start → IsNearlyDone t start
+pub nearly_of : (t : Tables) (start : ℕ) → IsDoneSlab t start → IsNearlyDone t start
 nearly_of t start done = record {
   slab = done.slab;
   kind = λ normal. omega (arith, normal, done.kind);
@@ -146,13 +147,16 @@ granules_still t u m n marks root same are =
     })
 
 -- each root holds what it held, so the names are the same
-pub names_left : (names : Names) (words new : List ℕ) → IsLeft words new → AreNames names words → AreNames names new
-names_left names words new left are =
-    let granules : granules_in new ≡ granules_in words = ap (λ (b : Bounds). b.granules) left.bounds in
-    let roots : (layout_of (version_in new)).roots ≡ (layout_of (version_in words)).roots = ap (λ (b : Bounds). b.roots) left.bounds in
+pub names_same : (names : Names) (words new : List ℕ) → bounds_of new ≡ bounds_of words → (tables_of new).root ≡ (tables_of words).root → AreNames names words → AreNames names new
+names_same names words new bounds same are =
+    let granules : granules_in new ≡ granules_in words = ap (λ (b : Bounds). b.granules) bounds in
+    let roots : (layout_of (version_in new)).roots ≡ (layout_of (version_in words)).roots = ap (λ (b : Bounds). b.roots) bounds in
     record {
       starts_size = are.starts_size ∙ sym granules;
       granules_size = are.granules_size ∙ sym granules;
-      starts = starts_still (tables_of words) (tables_of new) (layout_of (version_in words)).roots (layout_of (version_in new)).roots names.starts left.roots roots are.starts;
-      granules = granules_still (tables_of words) (tables_of new) (layout_of (version_in words)).roots (layout_of (version_in new)).roots names.granules left.roots roots are.granules;
+      starts = starts_still (tables_of words) (tables_of new) (layout_of (version_in words)).roots (layout_of (version_in new)).roots names.starts same roots are.starts;
+      granules = granules_still (tables_of words) (tables_of new) (layout_of (version_in words)).roots (layout_of (version_in new)).roots names.granules same roots are.granules;
     }
+
+pub names_left : (names : Names) (words new : List ℕ) → IsLeft words new → AreNames names words → AreNames names new
+names_left names words new left are = names_same names words new left.bounds left.roots are

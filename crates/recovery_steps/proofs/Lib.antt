@@ -2,5 +2,6 @@ pub mod Arenas
 pub mod Books
 pub mod Leaving
 pub mod Exactness
+pub mod NearlyDone
 pub mod Openings
 pub mod Chains

@@ -12,13 +12,13 @@ use Rattle.settle_steps.specs.Settled.{KeepsHeap}
 
 -- events
 
--- Some events, so many at most, that stand in this relation to the words before them. A crash within them leaves a steady
--- image with the same heap, in which each block has its words.
-pub record IsPart (old new : PmemState) (Stores : List ℕ → List Event → Type 0) (most : ℕ) : Type 0 where
+-- Some events, so many at most, that stand in this relation to the words before them. What a crash within them leaves stands
+-- in another: mostly that it keeps the heap (`KeepsHeap`).
+pub record IsPart (Leaves : List ℕ → List ℕ → Type 0) (old new : PmemState) (Stores : List ℕ → List Event → Type 0) (most : ℕ) : Type 0 where
   pub events : List Event
   pub stores : Stores (words_of old) events
   pub few : length events ≤ most
-  pub step : IsQuietStep old new events (KeepsHeap (words_of old))
+  pub step : IsQuietStep old new events (Leaves (words_of old))
 
 -- the events of one part, and then those of another, which go by the words that the first leaves
 pub record Then (First Second : List ℕ → List Event → Type 0) (words : List ℕ) (events : List Event) : Type 0 where
@@ -38,6 +38,13 @@ pub record IsShut (words : List ℕ) : Type 0 where
 -- such an image with the same numbers, in which each root holds what it held
 pub record IsLeft (words new : List ℕ) : Type 0 where
   pub shut : IsShut new
+  pub bounds : bounds_of new ≡ bounds_of words
+  pub roots : (tables_of new).root ≡ (tables_of words).root
+
+-- The image is steady with the same heap, in which each block has its words, and the same numbers; each root holds what it
+-- held.
+pub record IsSteadied (words new : List ℕ) : Type 0 where
+  pub keeps : KeepsHeap words new
   pub bounds : bounds_of new ≡ bounds_of words
   pub roots : (tables_of new).root ≡ (tables_of words).root
 

@@ -13,6 +13,7 @@ use Rattle.log_steps.specs.Events.{log_events}
 use Rattle.extent_steps.specs.Slabs.{drop_events}
 use Rattle.settle_steps.specs.Entries.{settle_events, LiesInSlab}
 use Rattle.transition_steps.specs.Transitions.{finish_events, end_events}
+use Rattle.recovery_steps.specs.Nearly.{IsDoneBesides}
 use Rattle.recovery_steps.specs.Parts.{Then}
 
 -- the open entry
@@ -58,6 +59,14 @@ DropsSlab words events = TakesOne (IsEmptySlab (tables_of words)) (drop_events w
 abbrev pub EndsDone : List ℕ → List Event → Type 0
 EndsDone words events = TakesOne (IsDoneSlab (tables_of words)) (end_events words) events
 
--- all of it, in this order
+-- all of it, in this order, from a steady image
 abbrev pub Recovers : List ℕ → List Event → Type 0
 Recovers words events = Then SettlesOpen (Then FinishesMorphing (Then DropsLarge (Then DropsSlab EndsDone))) words events
+
+-- A slab that is done becomes Normal first, where another is nearly done. In a steady image there is none.
+abbrev pub EndsBesides : List ℕ → List Event → Type 0
+EndsBesides words events = TakesOne (IsDoneBesides (tables_of words)) (end_events words) events
+
+-- all of it, from a sound image
+abbrev pub RecoversSound : List ℕ → List Event → Type 0
+RecoversSound words events = Then EndsBesides Recovers words events

@@ -4,6 +4,7 @@ ghost use Rattle.pmem_lines.specs.Events.{IsQuiet};
 ghost use Rattle.pmem_lines.specs.Pmem.{words_of, HasRoom};
 ghost use Rattle.log_steps.specs.Log.{IsBookOf};
 ghost use Rattle.heap_check.specs.Sound.{IsDoneSlab};
+ghost use Rattle.settle_steps.specs.Settled.{KeepsHeap};
 ghost use Rattle.recovery_steps.specs.Parts.{IsPart, IsShut, Rids};
 ghost use Rattle.recovery_steps.specs.Recovery.{EndsDone};
 
@@ -18,7 +19,7 @@ pub(crate) fn end_done<P: Pmem>(p: &mut P, log: &BookLog)
     requires book { IsBookOf log.now (words_of (P.state p.old)) }
     requires quiet { IsQuiet (P.state p.old).events }
     requires room { HasRoom (P.state p.old) 3 }
-    ensures part { IsPart (P.state p.old) (P.state p.new) EndsDone 3 }
+    ensures part { IsPart KeepsHeap (P.state p.old) (P.state p.new) EndsDone 3 }
     ensures rids { Rids IsDoneSlab (words_of (P.state p.old)) (words_of (P.state p.new)) }
     ensures book { IsBookOf log.now (words_of (P.state p.new)) }
 {

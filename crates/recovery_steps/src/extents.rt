@@ -5,6 +5,7 @@ ghost use Rattle.pmem_lines.specs.Pmem.{words_of, HasRoom};
 ghost use Rattle.log_steps.specs.Log.{IsBookOf};
 ghost use Rattle.heap_check.specs.Sound.{IsLooseLarge, IsEmptySlab};
 ghost use Rattle.recovery_steps.specs.Names.{AreNames};
+ghost use Rattle.settle_steps.specs.Settled.{KeepsHeap};
 ghost use Rattle.recovery_steps.specs.Parts.{IsPart, IsShut, Rids};
 ghost use Rattle.recovery_steps.specs.Recovery.{DropsLarge, DropsSlab};
 
@@ -21,7 +22,7 @@ pub(crate) fn drop_loose<P: Pmem>(p: &mut P, log: &mut BookLog, names: &RootName
     requires book { IsBookOf log.old (words_of (P.state p.old)) }
     requires quiet { IsQuiet (P.state p.old).events }
     requires room { HasRoom (P.state p.old) 682 }
-    ensures part { IsPart (P.state p.old) (P.state p.new) DropsLarge 682 }
+    ensures part { IsPart KeepsHeap (P.state p.old) (P.state p.new) DropsLarge 682 }
     ensures rids { Rids IsLooseLarge (words_of (P.state p.old)) (words_of (P.state p.new)) }
     ensures book { IsBookOf log.new (words_of (P.state p.new)) }
 {
@@ -38,7 +39,7 @@ pub(crate) fn drop_empty<P: Pmem>(p: &mut P, log: &mut BookLog, names: &RootName
     requires book { IsBookOf log.old (words_of (P.state p.old)) }
     requires quiet { IsQuiet (P.state p.old).events }
     requires room { HasRoom (P.state p.old) 682 }
-    ensures part { IsPart (P.state p.old) (P.state p.new) DropsSlab 682 }
+    ensures part { IsPart KeepsHeap (P.state p.old) (P.state p.new) DropsSlab 682 }
     ensures rids { Rids IsEmptySlab (words_of (P.state p.old)) (words_of (P.state p.new)) }
     ensures book { IsBookOf log.new (words_of (P.state p.new)) }
 {

@@ -3,6 +3,7 @@ ghost use Rattle.std.specs.Prelude.{◌≤◌, ◌+◌, length};
 ghost use Rattle.pmem_lines.specs.Events.{IsQuiet};
 ghost use Rattle.pmem_lines.specs.Pmem.{words_of, HasRoom};
 ghost use Rattle.log_steps.specs.Log.{IsBookOf};
+ghost use Rattle.settle_steps.specs.Settled.{KeepsHeap};
 ghost use Rattle.recovery_steps.specs.Parts.{IsPart, IsShut, Calms};
 ghost use Rattle.recovery_steps.specs.Recovery.{FinishesMorphing};
 
@@ -17,7 +18,7 @@ pub(crate) fn finish_morphing<P: Pmem>(p: &mut P, log: &BookLog)
     requires book { IsBookOf log.now (words_of (P.state p.old)) }
     requires quiet { IsQuiet (P.state p.old).events }
     requires room { HasRoom (P.state p.old) 76 }
-    ensures part { IsPart (P.state p.old) (P.state p.new) FinishesMorphing 76 }
+    ensures part { IsPart KeepsHeap (P.state p.old) (P.state p.new) FinishesMorphing 76 }
     ensures calms { Calms (words_of (P.state p.old)) (words_of (P.state p.new)) }
     ensures book { IsBookOf log.now (words_of (P.state p.new)) }
 {

@@ -1,4 +1,4 @@
-// Recovery of one arena, over its device and its log: from any steady image to the exact one with the same heap.
+// Recovery of one arena, over its device and its log: from any sound image to the exact one with the same heap.
 //
 // Its five parts are done in this order, each where it finds something to do: the open write-ahead entry is settled and
 // closed; a slab in Morphing comes to its class; a large extent that no root holds gets a Tomb; a slab in which no root's
@@ -13,9 +13,11 @@ mod ending;
 mod extents;
 mod finishing;
 mod names;
+mod nearly;
 mod opening;
 mod recovery;
 mod search;
+mod steadying;
 
 pub use names::RootNames;
 pub use recovery::make_exact;

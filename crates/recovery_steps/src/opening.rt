@@ -9,6 +9,7 @@ ghost use Rattle.heap_check.specs.Image.{IsSoundImage, IsSteadyImage};
 ghost use Rattle.log_steps.specs.Log.{IsBookOf};
 ghost use Rattle.settle_steps.specs.Entries.{LiesInSlab};
 ghost use Rattle.recovery_steps.specs.Opening.{IsClosed, IsFoundOpen};
+ghost use Rattle.settle_steps.specs.Settled.{KeepsHeap};
 ghost use Rattle.recovery_steps.specs.Parts.{IsPart, IsLeft};
 ghost use Rattle.recovery_steps.specs.Recovery.{SettlesOpen};
 
@@ -58,7 +59,7 @@ pub(crate) fn settle_open<P: Pmem>(p: &mut P, log: &BookLog)
     requires book { IsBookOf log.now (words_of (P.state p.old)) }
     requires quiet { IsQuiet (P.state p.old).events }
     requires room { HasRoom (P.state p.old) 6 }
-    ensures part { IsPart (P.state p.old) (P.state p.new) SettlesOpen 6 }
+    ensures part { IsPart KeepsHeap (P.state p.old) (P.state p.new) SettlesOpen 6 }
     ensures left { IsLeft (words_of (P.state p.old)) (words_of (P.state p.new)) }
     ensures book { IsBookOf log.now (words_of (P.state p.new)) }
 {

@@ -3,7 +3,7 @@ ghost use Rattle.std.specs.Prelude.{◌≡◌, MatchOption};
 ghost use Rattle.pmem_lines.specs.Pmem.{words_of};
 ghost use Rattle.image_tables.specs.Tables.{tables_of};
 ghost use Rattle.heap_check.specs.Sound.{IsLooseLarge, IsEmptySlab, IsMorphing, IsDoneSlab};
-ghost use Rattle.heap_check.specs.Image.{IsSteadyImage};
+ghost use Rattle.heap_check.specs.Image.{IsSoundImage, IsSteadyImage};
 ghost use Rattle.image_defects.specs.Least.{HasNone};
 ghost use Rattle.log_steps.specs.Log.{IsBookOf};
 ghost use Rattle.recovery_steps.specs.Names.{AreNames};
@@ -68,7 +68,7 @@ pub(crate) fn empty_slab(words: &[u64], log: &BookLog, names: &RootNames) -> Opt
 
 /// A slab in Morphed without a live old block, if there is one.
 pub(crate) fn done_slab(words: &[u64], log: &BookLog) -> Option<u32>
-    requires image { IsSteadyImage words.now }
+    requires image { IsSoundImage words.now }
     requires book { IsBookOf log.now words.now }
     ensures { MatchOption result (HasNone (IsDoneSlab (tables_of words.now))) (IsDoneSlab (tables_of words.now)) }
 {

@@ -6,7 +6,7 @@ use Rattle.heap_check.specs.Sound.{IsDoneSlab}
 use Rattle.image_defects.specs.Least.{HasNone}
 use Rattle.transition_steps.specs.Transitions.{end_events}
 use Rattle.recovery_steps.specs.Recovery.{EndsDone}
-use Rattle.recovery_steps.proofs.Arenas.{slab_low}
+use Rattle.recovery_steps.proofs.Arenas.{sound_of, slab_low}
 use Rattle.recovery_steps.proofs.Books.{book_off_header}
 use Rattle.recovery_steps.proofs.Chains.{part_none, part_of, takes_none, takes_one}
 use Rattle.recovery_steps.proofs.Leaving.{rids_done}
@@ -34,7 +34,7 @@ returns-in-Some-clause-book g c =
     let words = words_of (g.P.Pmem.state c.args.p.now) in
     let start = c.in-Some.start in
     let ended = c.end_transition.ensures.ended in
-    book_off_header c.args.log.now words start (words_of (g.P.Pmem.state c.end_transition.new.p)) (slab_low words c.requires.shut.image start (here_in g c).slab) ended.off ended.bounds c.requires.book
+    book_off_header c.args.log.now words start (words_of (g.P.Pmem.state c.end_transition.new.p)) (slab_low words (sound_of words c.requires.shut.image) start (here_in g c).slab) ended.off ended.bounds c.requires.book
 
 pub returns-in-None-clause-part : goal.returns-in-None-clause-part
 returns-in-None-clause-part g c =

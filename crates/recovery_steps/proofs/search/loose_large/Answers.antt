@@ -6,4 +6,4 @@ pub is_loose_large-requires-clause-arena : goal.is_loose_large-requires-clause-a
 is_loose_large-requires-clause-arena c = arena_of c.args.words.now (sound_of c.args.words.now c.requires.image)
 
 pub returns : goal.returns
-returns c = record { none = λ start loose. c.loop-start.invariant start (omega (arith, large_inside c.args.words.now c.requires.image start loose.live, c.requires.book.granules)) loose }
+returns c = record { none = λ start loose. c.loop-start.invariant start (omega (arith, large_inside c.args.words.now (sound_of c.args.words.now c.requires.image) start loose.live, c.requires.book.granules)) loose }
