@@ -15,7 +15,7 @@ use Rattle.settle_steps.proofs.Keeping.{KeepsHeap-then}
 use Rattle.transition_steps.specs.Transitions.{LeavesHeap}
 use Rattle.pmem_lines.proofs.States.{appended_none}
 use Rattle.recovery_steps.specs.Parts.{IsPart, Then}
-use Rattle.recovery_steps.specs.Recovery.{TakesOne}
+use Rattle.recovery_steps.specs.Recovery.{TakesOne, SettlesOpen, FinishesMorphing, DropsLarge, DropsSlab, EndsDone, Recovers}
 
 -- a crash behind all events leaves what is read
 pub step_end : {s t : PmemState} {e : List Event} {P : List ℕ → Type 0} → IsQuietStep s t e P → P (words_of t)
@@ -102,3 +102,8 @@ leaves_none {s} quiet stores = record {
   few = omega arith;
   step = step_none quiet (λ steady. record { steady = steady; heap = record { each = λ root. refl }; blocks = record { each = λ root other range k was is word. refl } });
 }
+
+-- the five parts in their order
+pub all_parts : {s t u v w x : PmemState} → IsPart KeepsHeap s t SettlesOpen 6 → IsPart KeepsHeap t u FinishesMorphing 76 → IsPart KeepsHeap u v DropsLarge 682 → IsPart KeepsHeap v w DropsSlab 682 → IsPart KeepsHeap w x EndsDone 3 →
+    IsPart KeepsHeap s x Recovers 1449
+all_parts settled finished large slab ended = part_then 1449 refl settled (part_then 1443 refl finished (part_then 1367 refl large (part_then 685 refl slab ended)))

@@ -160,3 +160,7 @@ names_same names words new bounds same are =
 
 pub names_left : (names : Names) (words new : List ℕ) → IsLeft words new → AreNames names words → AreNames names new
 names_left names words new left are = names_same names words new left.bounds left.roots are
+
+-- all five parts
+pub left_all : {a b c d e f : List ℕ} → IsLeft a b → Calms b c → Rids IsLooseLarge c d → Rids IsEmptySlab d e → Rids IsDoneSlab e f → IsLeft a f
+left_all settled calm large empty done = left_then settled (left_then calm.left (left_then large.left (left_then empty.left done.left)))
