@@ -14,7 +14,7 @@ use Rattle.settle_steps.proofs.EntrySlabs.{in_slab_old}
 use Rattle.transition_steps.specs.Transitions.{IsEndable, IsEnded}
 use Rattle.recovery_steps.specs.Nearly.{IsDoneBesides}
 use Rattle.recovery_steps.specs.Parts.{IsSteadied}
-use Rattle.recovery_steps.proofs.Exactness.{search_below}
+use Rattle.defect_search.proofs.NoneLoose.{search_below}
 use Rattle.recovery_steps.proofs.Leaving.{nearly_of}
 
 -- the last live old block of a slab is leaving

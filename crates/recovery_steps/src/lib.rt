@@ -21,3 +21,4 @@ mod steadying;
 
 pub use names::RootNames;
 pub use recovery::make_exact;
+pub use search::all_words;

@@ -1,6 +1,7 @@
 use Rattle.pmem_lines.specs.Pmem.{words_of}
 use Rattle.recovery_steps.proofs.Chains.{all_parts, step_end}
-use Rattle.recovery_steps.proofs.Exactness.{exact_of}
+use Rattle.defect_search.proofs.NoneLoose.{exact_by_none}
+use Rattle.recovery_steps.proofs.Arenas.{sound_of}
 use Rattle.recovery_steps.proofs.Leaving.{no_large_still, no_empty_still, calm_still, left_then, left_all, names_left}
 use Rattle.recovery_steps.proofs.recovery.make_steady_exact.Goals as goal
 
@@ -25,7 +26,9 @@ returns-clause-exact g c =
     let loose = c.drop_loose.ensures.rids in
     let empty = c.drop_empty.ensures.rids in
     let done = c.end_done.ensures.rids in
-    exact_of (words_of (g.P.Pmem.state c.end_done.new.p)) (left_all c.settle_open.ensures.left c.finish_morphing.ensures.calms loose empty done).shut
+    let words = words_of (g.P.Pmem.state c.end_done.new.p) in
+    let shut = (left_all c.settle_open.ensures.left c.finish_morphing.ensures.calms loose empty done).shut in
+    exact_by_none words (sound_of words shut.image) shut.closed
     (no_large_still done.loose (no_large_still empty.loose loose.none))
     (no_empty_still done.loose empty.none)
     (calm_still done.loose (calm_still empty.loose (calm_still loose.loose c.finish_morphing.ensures.calms.none)))

@@ -1,16 +1,15 @@
 -- An image in which no entry is open and nothing is loose is exact.
-use Rattle.std.proofs.Common.{◌≡◌, ◌≢◌, ◌⊎◌, ◌&&◌, ℕ, zero, suc, ◌+◌, ◌*◌, ◌<◌, ◌≤◌, Bool, true, false, true≢false, ltb, leb, eqb, List, refl, sym, ap, ◌∙◌, arith, inl, inr, ⊎_elim}
+use Rattle.std.proofs.Common.{◌≡◌, ◌≢◌, ◌⊎◌, ◌&&◌, ℕ, zero, suc, ◌+◌, ◌*◌, ◌<◌, ◌≤◌, Bool, true, false, true≢false, ltb, leb, eqb, List, refl, sym, ap, ◌∙◌, arith, inl, inr, ⊎_elim, None}
 use Rattle.std.proofs.lemmas.Bool.{cases_eq, eqb-true, eq-eqb, ltb-true, lt-ltb, leb-true, le-leb, and_parts, and_from}
 use Rattle.pool_layout.specs.Layout.{layout_of}
 use Rattle.pool_layout.specs.Header.{version_in}
 use Rattle.image_tables.specs.Tables.{Tables, tables_of}
 use Rattle.heap_check.specs.Sound.{IsInSlab, IsLooseLarge, IsEmptySlab, IsMorphing, IsDoneSlab}
-use Rattle.heap_check.specs.Image.{IsExactImage}
+use Rattle.heap_check.specs.Image.{IsSoundImage, IsExactImage}
 use Rattle.heap_check.proofs.Geometry.{granules_at-slab, granules_at-live}
 use Rattle.heap_check.proofs.Sizes.{sizes_of}
 use Rattle.image_defects.specs.Least.{HasNone}
 use Rattle.defect_search.proofs.Marks.{root_below}
-use Rattle.recovery_steps.specs.Parts.{IsShut}
 
 -- a number below a bound passes a test, or none does
 pub search_below : (test : ℕ → Bool) (n : ℕ) → ((k : ℕ) × (k < n) × (test k ≡ true)) ⊎ ((k : ℕ) → k < n → test k ≡ false)
@@ -24,19 +23,19 @@ search_below test (suc n) = by (test n) refl (search_below test n)
         (λ none. inr (λ k below. ⊎_elim (λ (same : k ≡ n). ap test same ∙ here) (λ (other : k ≢ n). none k (omega arith)) (cases_eq k n)))
         rest
 
-module _ (words : List ℕ) (shut : IsShut words) where
+module _ (words : List ℕ) (image : IsSoundImage words) where
   abbrev t : Tables
   t = tables_of words
 
   large_start : (start : ℕ) → 0 < t.large start → 0 < start
   large_start start some =
-      let size = granules_at-live shut.image.steady.sound start some in
-      omega (arith, (shut.image.steady.sound.starts start (omega (arith, size, some))).0, (sizes_of words shut.image.formed).first)
+      let size = granules_at-live image.sound start some in
+      omega (arith, (image.sound.starts start (omega (arith, size, some))).0, (sizes_of words image.formed).first)
 
   slab_start : (start : ℕ) → t.slab start ≡ true → 0 < start
   slab_start start slab =
       let four = granules_at-slab t start slab in
-      omega (arith, (shut.image.steady.sound.starts start (omega (arith, four))).0, (sizes_of words shut.image.formed).first)
+      omega (arith, (image.sound.starts start (omega (arith, four))).0, (sizes_of words image.formed).first)
 
   named : HasNone (IsLooseLarge t) → (start : ℕ) → 0 < t.large start → (root : ℕ) × (t.root root ≡ 16384 * start)
   named no_large start some =
@@ -65,12 +64,12 @@ module _ (words : List ℕ) (shut : IsShut words) where
       })))
       (search_below (λ root. leb (16384 * start) (t.root root) && ltb (t.root root) (16384 * start + 65536)) (layout_of (version_in words)).roots)
 
-  pub exact_of : HasNone (IsLooseLarge t) → HasNone (IsEmptySlab t) → HasNone (IsMorphing t) → HasNone (IsDoneSlab t) → IsExactImage words
-  exact_of no_large no_empty calm no_done = record {
-    formed = shut.image.formed;
+  pub exact_by_none : t.open_entry ≡ None → HasNone (IsLooseLarge t) → HasNone (IsEmptySlab t) → HasNone (IsMorphing t) → HasNone (IsDoneSlab t) → IsExactImage words
+  exact_by_none closed no_large no_empty calm no_done = record {
+    formed = image.formed;
     exact = record {
-      sound = shut.image.steady.sound;
-      closed = shut.closed;
+      sound = image.sound;
+      closed = closed;
       all_named = named no_large;
       all_live = lived no_empty;
       calm = calm.none;
