@@ -14,3 +14,4 @@ pub mod OpenEntries
 pub mod LineWords
 pub mod BlockSizes
 pub mod ClaimLists
+pub mod NoneLoose

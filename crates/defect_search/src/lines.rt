@@ -16,8 +16,8 @@ use book_log::BookLog;
 use image_reading::{Slab, wal_word};
 use image_tables::WalEntry;
 
-// The first line from one on whose word is not 0.
-fn next_line(words: &[u64], from: u32) -> Option<u32>
+/// The first line from one on whose word is not 0.
+pub fn next_line(words: &[u64], from: u32) -> Option<u32>
     requires { 2048 + (layout_of (version_in words.now)).roots ≤ length words.now }
     ensures { MatchOption result (AreClosedFrom words.now from) (IsNextLine words.now from) }
 {

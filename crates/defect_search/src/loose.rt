@@ -72,8 +72,8 @@ fn mark_granule(marks: &mut [bool], word: u64)
     }
 }
 
-// The granules, of so many, at whose first byte a root's block begins.
-fn named_starts(
+/// The granules, of so many, at whose first byte a root's block begins.
+pub fn named_starts(
     alloc: Global,
     words: &[u64],
     entry: Option<WalEntry>,
@@ -91,8 +91,8 @@ fn named_starts(
     Ok(marks)
 }
 
-// The granules, of so many, in which a root's block begins.
-fn named_granules(
+/// The granules, of so many, in which a root's block begins.
+pub fn named_granules(
     alloc: Global,
     words: &[u64],
     entry: Option<WalEntry>,
@@ -110,8 +110,8 @@ fn named_granules(
     Ok(marks)
 }
 
-// A large extent starts at a granule, and no root holds it.
-fn is_loose_large(words: &[u64], log: &BookLog, starts: &[bool], start: u32) -> bool
+/// A large extent starts at a granule, and no root holds it.
+pub fn is_loose_large(words: &[u64], log: &BookLog, starts: &[bool], start: u32) -> bool
     requires arena { IsArena words.now }
     requires reads { Reads log.now words.now }
     requires size { length starts.now ≡ granules_in words.now }
@@ -138,8 +138,8 @@ fn is_unmet(met: &[bool], start: u32) -> bool
     true
 }
 
-// A slab starts at a granule, and no root's block lies in it.
-fn is_empty_slab(words: &[u64], log: &BookLog, met: &[bool], start: u32) -> bool
+/// A slab starts at a granule, and no root's block lies in it.
+pub fn is_empty_slab(words: &[u64], log: &BookLog, met: &[bool], start: u32) -> bool
     requires arena { IsArena words.now }
     requires reads { Reads log.now words.now }
     requires size { length met.now ≡ granules_in words.now }
@@ -165,8 +165,8 @@ fn is_kind(words: &[u64], log: &BookLog, start: u32, kind: u32) -> bool
     state_field(words, start, 0) == kind
 }
 
-// A slab in Morphing starts at a granule.
-fn is_morphing(words: &[u64], log: &BookLog, start: u32) -> bool
+/// A slab in Morphing starts at a granule.
+pub fn is_morphing(words: &[u64], log: &BookLog, start: u32) -> bool
     requires arena { IsArena words.now }
     requires reads { Reads log.now words.now }
     ensures { IsTrue result ↔ IsMorphing (tables_of words.now) start }
@@ -188,8 +188,8 @@ fn is_all_dead(words: &[u64], start: u32) -> bool
     true
 }
 
-// A Morphed slab without a live old block starts at a granule.
-fn is_done(words: &[u64], log: &BookLog, start: u32) -> bool
+/// A Morphed slab without a live old block starts at a granule.
+pub fn is_done(words: &[u64], log: &BookLog, start: u32) -> bool
     requires arena { IsArena words.now }
     requires reads { Reads log.now words.now }
     ensures { IsTrue result ↔ IsDoneSlab (tables_of words.now) start }

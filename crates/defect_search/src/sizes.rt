@@ -27,8 +27,8 @@ fn old_of(state: SlabState) -> u8
     }
 }
 
-// The start of the slab that has a granule, where one has it.
-fn slab_of(log: &BookLog, granule: u32) -> u32
+/// The start of the slab that has a granule, where one has it.
+pub fn slab_of(log: &BookLog, granule: u32) -> u32
     ensures { (words : List ℕ) → Reads log.now words → result ≡ slab_of (tables_of words).slab granule }
 {
     if is_slab(log, granule) {

@@ -1,31 +1,19 @@
 -- A sound image is exact where its summary counts nothing loose, and back.
-use Rattle.std.proofs.Common.{Option, None, Some, ◌≡◌, ◌≢◌, ◌⊎◌, ◌&&◌, ℕ, zero, suc, ◌+◌, ◌*◌, ◌<◌, ◌≤◌, Bool, true, false, ltb, leb, eqb, List, refl, sym, ap, ◌∙◌, arith, inl, inr, ⊎_elim}
-use Rattle.std.proofs.lemmas.Bool.{cases_eq, true≢false, cond-true, eqb-true, eq-eqb, ltb-true, lt-ltb, leb-true, le-leb, and_parts, and_from}
+use Rattle.std.proofs.Common.{Option, None, Some, ◌≡◌, ◌≢◌, ℕ, ◌*◌, ◌<◌, Bool, true, false, eqb, List, refl, sym, ap, ◌∙◌, arith, ⊎_elim}
+use Rattle.std.proofs.lemmas.Bool.{cases_eq, cond-true, eq-eqb}
 use Rattle.pool_layout.specs.Layout.{layout_of}
 use Rattle.pool_layout.specs.Header.{version_in, granules_in}
 use Rattle.image_tables.specs.declared.entry.WalEntry.{WalEntry}
 use Rattle.image_tables.specs.Tables.{tables_of}
 use Rattle.heap_check.specs.Heap.{entry_at}
-use Rattle.heap_check.specs.Sound.{IsInSlab, IsLooseLarge, IsEmptySlab, IsMorphing, IsDoneSlab, IsExact}
+use Rattle.heap_check.specs.Sound.{IsLooseLarge, IsEmptySlab, IsMorphing, IsDoneSlab, IsExact}
 use Rattle.heap_check.specs.Image.{bounds_of, IsSoundImage, IsExactImage}
 use Rattle.heap_check.proofs.Geometry.{granules_at-slab, granules_at-large}
 use Rattle.image_defects.specs.declared.summary.Summary.{Summary}
 use Rattle.image_defects.specs.Summaries.{IsLooseBlock, entry_count, IsSummary}
 use Rattle.image_defects.proofs.Counts.{none_below, count_once}
-use Rattle.defect_search.proofs.Marks.{root_below}
+use Rattle.defect_search.proofs.NoneLoose.{exact_by_none}
 use Rattle.image_check.proofs.LooseBlocks.{count_none, heap_some}
-
--- a number below a bound passes a test, or none does
-search_below : (test : ℕ → Bool) (n : ℕ) → ((k : ℕ) × (test k ≡ true)) ⊎ ((k : ℕ) → k < n → test k ≡ false)
-search_below test zero = inr (λ k below. absurd (omega arith))
-search_below test (suc n) = by (test n) refl (search_below test n)
-  where
-    by : (b : Bool) → test n ≡ b → ((k : ℕ) × (test k ≡ true)) ⊎ ((k : ℕ) → k < n → test k ≡ false) → ((k : ℕ) × (test k ≡ true)) ⊎ ((k : ℕ) → k < suc n → test k ≡ false)
-    by true here rest = inl (n, here)
-    by false here rest = ⊎_elim
-        (λ found. inl found)
-        (λ none. inr (λ k below. ⊎_elim (λ (same : k ≡ n). ap test same ∙ here) (λ (other : k ≢ n). none k (omega arith)) (cases_eq k n)))
-        rest
 
 no_entry : (e : Option WalEntry) → entry_count e ≡ 0 → e ≡ None
 no_entry None none = refl
@@ -55,52 +43,16 @@ module _ {words : List ℕ} {summary : Summary} (sound : IsSoundImage words) (is
           let lies = sound.sound.starts start (omega (arith, size, some)) in
           (omega (arith, lies.0, first_some (version_in words)), omega (arith, lies.1, size, some))
 
-  named : summary.loose ≡ 0 → (start : ℕ) → 0 < (tables_of words).large start → (root : ℕ) × ((tables_of words).root root ≡ 16384 * start)
-  named nought start some =
-      let t = tables_of words in
-      let l = is.loose in
-      let lies = large_start start some in
-      ⊎_elim
-      (λ found. (found.0, eqb-true (t.root found.0) (16384 * start) found.1))
-      (λ none. absurd (none_below (IsLooseLarge t) (granules_in words) l.loose.large l.are.large (omega (arith, l.is, nought)) start lies.1 (record {
-        live = some;
-        unnamed = λ root here. true≢false (sym (eq-eqb (t.root root) (16384 * start) here) ∙ none root (root_below words root (λ z. omega (arith, here, z, lies.0))));
-      })))
-      (search_below (λ root. eqb (t.root root) (16384 * start)) (layout_of (version_in words)).roots)
-
-  lived : summary.loose ≡ 0 → (start : ℕ) → (tables_of words).slab start ≡ true → (root : ℕ) × ((tables_of words).root root ≢ 0) × IsInSlab (tables_of words) start ((tables_of words).root root)
-  lived nought start slab =
-      let t = tables_of words in
-      let l = is.loose in
-      let lies = slab_start start slab in
-      ⊎_elim
-      (λ found.
-      let parts = and_parts (leb (16384 * start) (t.root found.0)) (ltb (t.root found.0) (16384 * start + 65536)) found.1 in
-      let low : 16384 * start ≤ t.root found.0 = leb-true (16384 * start) (t.root found.0) parts.0 in
-      let high : t.root found.0 < 16384 * start + 65536 = ltb-true (t.root found.0) (16384 * start + 65536) parts.1 in
-      (found.0, (λ z. omega (arith, low, z, lies.0)), record { slab = slab; low = low; high = high }))
-      (λ none. absurd (none_below (IsEmptySlab t) (granules_in words) l.loose.empty l.are.empty (omega (arith, l.is, nought)) start lies.1 (record {
-        slab = slab;
-        none = λ root some inside.
-            true≢false (sym (and_from (leb (16384 * start) (t.root root)) (ltb (t.root root) (16384 * start + 65536)) (le-leb (16384 * start) (t.root root) inside.low) (lt-ltb (t.root root) (16384 * start + 65536) inside.high)) ∙ none root (root_below words root some));
-      })))
-      (search_below (λ root. leb (16384 * start) (t.root root) && ltb (t.root root) (16384 * start + 65536)) (layout_of (version_in words)).roots)
-
   pub exact_of : summary.loose ≡ 0 → IsExactImage words
   exact_of nought =
       let t = tables_of words in
+      let n = granules_in words in
       let l = is.loose in
-      record {
-        formed = sound.formed;
-        exact = record {
-          sound = sound.sound;
-          closed = no_entry t.open_entry (omega (arith, l.is, nought));
-          all_named = named nought;
-          all_live = lived nought;
-          calm = λ start m. none_below (IsMorphing t) (granules_in words) l.loose.morphing l.are.morphing (omega (arith, l.is, nought)) start (slab_start start m.slab).1 m;
-          none_done = λ start d. none_below (IsDoneSlab t) (granules_in words) l.loose.done l.are.done (omega (arith, l.is, nought)) start (slab_start start d.slab).1 d;
-        };
-      }
+      exact_by_none words sound (no_entry t.open_entry (omega (arith, l.is, nought)))
+      (record { none = λ start x. none_below (IsLooseLarge t) n l.loose.large l.are.large (omega (arith, l.is, nought)) start (large_start start x.live).1 x })
+      (record { none = λ start x. none_below (IsEmptySlab t) n l.loose.empty l.are.empty (omega (arith, l.is, nought)) start (slab_start start x.slab).1 x })
+      (record { none = λ start x. none_below (IsMorphing t) n l.loose.morphing l.are.morphing (omega (arith, l.is, nought)) start (slab_start start x.slab).1 x })
+      (record { none = λ start x. none_below (IsDoneSlab t) n l.loose.done l.are.done (omega (arith, l.is, nought)) start (slab_start start x.slab).1 x })
 
   pub none_loose : IsExactImage words → summary.loose ≡ 0
   none_loose image =

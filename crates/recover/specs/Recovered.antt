@@ -1,0 +1,31 @@
+-- A device that was recovered, and what recovery reads of its words before.
+use Rattle.std.specs.Prelude.{◌≡◌, ◌≤◌, List, ℕ, length}
+use Rattle.pmem_lines.specs.Pmem.{PmemState, words_of, began, appended}
+use Rattle.pmem_lines.specs.Events.{IsQuiet, CrashOnly}
+use Rattle.heap_check.specs.Image.{IsExactImage, IsSteadyImage}
+use Rattle.heap_check.specs.State.{HaveSameHeap, KeepsBlocks}
+use Rattle.log_steps.specs.Log.{IsBookOf}
+use Rattle.settle_steps.specs.Settled.{KeepsHeap}
+use Rattle.recovery_steps.specs.Names.{AreNames}
+use Rattle.recovery_steps.specs.Recovery.{Recovers, RecoversSound}
+use Rattle.recover.specs.declared.preparing.Prepared.{Prepared}
+
+-- the log and the names are those of an arena of these words
+pub record IsPrepared (words : List ℕ) (prepared : Prepared) : Type 0 where
+  pub book : IsBookOf prepared.log words
+  pub names : AreNames prepared.names words
+
+-- One call began on the device, and its events are those of recovery. It is quiet, and its image is exact with the heap
+-- that it had, in which each block has its words.
+pub record IsRecovered (old new : PmemState) : Type 0 where
+  pub state : new ≡ appended (began old) new.events
+  pub quiet : IsQuiet new.events
+  pub exact : IsExactImage (words_of new)
+  pub heap : HaveSameHeap (words_of old) (words_of new)
+  pub blocks : KeepsBlocks (words_of old) (words_of new)
+  -- what is stored
+  pub stores : RecoversSound (words_of old) new.events
+  pub few : length new.events ≤ 1452
+  -- from a steady image
+  pub steady_stores : IsSteadyImage (words_of old) → Recovers (words_of old) new.events
+  pub crash : IsSteadyImage (words_of old) → CrashOnly (words_of old) new.events (KeepsHeap (words_of old))

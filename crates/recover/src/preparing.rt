@@ -1,0 +1,56 @@
+// What recovery needs beside the device.
+ghost use Rattle.std.specs.Prelude.{◌≡◌, OnOk, IfOk, IfErr};
+ghost use Rattle.pmem_lines.specs.Pmem.{words_of};
+ghost use Rattle.heap_check.specs.Image.{IsSoundImage};
+ghost use Rattle.image_defects.specs.Defects.{IsFirstDefect};
+ghost use Rattle.recover.specs.Faults.{IfDefect};
+ghost use Rattle.recover.specs.Recovered.{IsPrepared};
+
+use crate::RecoverFault;
+use crate::fault::fault_of;
+use book_log::BookLog;
+use image_check::check_arena;
+use pmem_lines::Pmem;
+use recovery_steps::RootNames;
+use std::alloc::Global;
+
+// Words of a granule.
+const GRANULE_WORDS: usize = 2048;
+
+/// The log of an arena, and what its roots name.
+#[derive(Drop)]
+pub(crate) struct Prepared {
+    pub(crate) log: BookLog,
+    pub(crate) names: RootNames,
+}
+
+/// Judges the words of an arena, and reads what recovery needs of them. It takes all the memory.
+pub(crate) fn prepare(alloc: Global, words: &[u64]) -> Result<Prepared, RecoverFault>
+    ensures sound { OnOk result (IsSoundImage words.now) }
+    ensures prepared { IfOk result (IsPrepared words.now) }
+    ensures defect { IfErr result (λ fault. IfDefect fault (IsFirstDefect words.now)) }
+{
+    match check_arena(alloc, words) {
+        Ok(_) => {}
+        Err(fault) => return Err(fault_of(fault)),
+    }
+    read(alloc, words)
+}
+
+// Reads the log, and what the roots name.
+fn read(alloc: Global, words: &[u64]) -> Result<Prepared, RecoverFault>
+    requires { IsSoundImage words.now }
+    ensures prepared { IfOk result (IsPrepared words.now) }
+    ensures memory { IfErr result (λ fault. IfDefect fault (λ defect. ⊥)) }
+{
+    let granules = (words.len() / GRANULE_WORDS) as u32;
+    let mut log = match BookLog::new(alloc, granules) {
+        Ok(log) => log,
+        Err(error) => return Err(RecoverFault::Memory(error)),
+    };
+    log.load_words(words);
+    match RootNames::new(alloc, words, granules) {
+        Ok(names) => Ok(Prepared { log, names }),
+        Err(error) => Err(RecoverFault::Memory(error)),
+    }
+}

@@ -1,0 +1,87 @@
+// Images, and what becomes of them.
+ghost use Rattle.std.specs.Prelude.{◌≡◌, IfOk, length};
+
+use pmem_lines::{OutOfMemory, Pmem, SimPmem};
+use pool_layout::Defect;
+use recover::{RecoverFault, recover_device};
+use std::alloc::Global;
+
+/// A word of an image: its number, and what it is.
+pub type Put = (usize, u64);
+
+// Words of an arena of 16 granules.
+const ARENA_WORDS: usize = 32768;
+
+// So many words, all 0.
+fn blank(alloc: Global, size: usize) -> Result<Vec<u64>, OutOfMemory>
+    ensures { IfOk result (λ words. length words.items ≡ size) }
+{
+    let words = vec![in alloc; 0; size]?;
+    Ok(words)
+}
+
+// Puts words into an image.
+fn put(words: &mut [u64], puts: &[Put]) {
+    for (word, value) in puts {
+        if *word < words.len() {
+            words[*word] = *value;
+        }
+    }
+}
+
+// An arena with these words, the second row over the first, and 0 else.
+fn image(alloc: Global, base: &[Put], changes: &[Put]) -> Result<Vec<u64>, OutOfMemory>
+    ensures { IfOk result (λ words. length words.items ≡ 32768) }
+{
+    let mut words = blank(alloc, ARENA_WORDS)?;
+    put(&mut words, base);
+    put(&mut words, changes);
+    Ok(words)
+}
+
+/// What became of an image.
+#[derive(Clone, Copy, Debug, PartialEq, Eq)]
+pub enum Became {
+    /// It is exact: these are its words, and so many events made it so.
+    Wanted { events: u32 },
+    /// It has other words.
+    Other,
+    /// It was refused for this defect, and the device is as it was.
+    Refused(Defect),
+    /// It was refused, and the device is not as it was.
+    Changed,
+}
+
+/// The image of the words of two rows is recovered, and its words are compared with those of a third row over it.
+pub fn recovered(
+    alloc: Global,
+    base: &[Put],
+    changes: &[Put],
+    after: &[Put],
+) -> Result<Became, OutOfMemory> {
+    let before = image(alloc, base, changes)?;
+    let mut wanted = image(alloc, base, changes)?;
+    put(&mut wanted, after);
+    let device = SimPmem::from_image(alloc, &before, 2048)?;
+    match recover_device(alloc, device) {
+        Ok(device) => {
+            if device.words(0, device.size_words()) == wanted.as_slice() {
+                Ok(Became::Wanted {
+                    events: device.event_count(),
+                })
+            } else {
+                Ok(Became::Other)
+            }
+        }
+        Err((RecoverFault::Memory(error), _)) => Err(error),
+        Err((RecoverFault::Defect(defect), device)) => {
+            if device.words(0, device.size_words()) == before.as_slice()
+                && device.event_count() == 0
+            {
+                Ok(Became::Refused(defect))
+            } else {
+                Ok(Became::Changed)
+            }
+        }
+    }
+}

@@ -1,0 +1,53 @@
+-- What a log reads stays where a part of recovery stores outside the log.
+use Rattle.std.proofs.Common.{◌≡◌, ◌<◌, ◌≤◌, ℕ, List, length, sym, ap, ◌∙◌, arith, ⊎_elim}
+use Rattle.std.proofs.lemmas.List.Elements.{All-weaker}
+use Rattle.pmem_lines.specs.Words.{word_at}
+use Rattle.pool_layout.specs.Layout.{layout_of}
+use Rattle.pool_layout.specs.Places.{fields_word, directory_word, entry_word}
+use Rattle.pool_layout.specs.Header.{version_in}
+use Rattle.image_tables.specs.Log.{active_chunks}
+use Rattle.image_tables.proofs.Chunks.{few_chunks}
+use Rattle.image_tables.proofs.Headers.{SameLog-off_header}
+use Rattle.image_tables.proofs.Logs.{IsOffLog, SameLog, SameChunk}
+use Rattle.image_tables.proofs.Places.{log_word-low, entry_word-low, entry_word-high}
+use Rattle.book_log.specs.Book.{Book}
+use Rattle.book_log.proofs.Books.{Reads-same}
+use Rattle.heap_model.specs.Machine.{Bounds}
+use Rattle.heap_check.specs.Image.{bounds_of}
+use Rattle.log_steps.specs.Log.{IsBookOf}
+use Rattle.slab_morph.specs.Stages.{IsOffHeader}
+use Rattle.settle_steps.specs.Settled.{KeepsOthers}
+
+-- the log of these words is that of the new ones, where both say the same of it
+book_same : (book : Book) (words new : List ℕ) → SameLog words new → length new ≡ length words → bounds_of new ≡ bounds_of words → IsBookOf book words → IsBookOf book new
+book_same book words new same size bounds is = record {
+  reads = Reads-same book words new same size is.reads;
+  granules = is.granules ∙ sym (ap (λ (b : Bounds). b.granules) bounds);
+}
+
+-- a line of the write-ahead entries and another word off the log change
+same_but : (words : List ℕ) (line k : ℕ) (new : List ℕ) → line < 8 → IsOffLog words k → KeepsOthers words line k new → SameLog words new
+same_but words line k new below off rest = record {
+  fields = rest.others fields_word (λ e. omega (arith, e)) (λ e. off.fields (sym e));
+  directory = rest.others directory_word (λ e. omega (arith, e)) (λ e. off.directory (sym e));
+  chunks = All-weaker (λ c. c < 16) (SameChunk (version_in words) words new)
+      (λ c few. record {
+        each = λ e inside.
+            let low = entry_word-low (version_in words) c e in
+            rest.others (entry_word (version_in words) c e)
+            (λ same. omega (arith, same, below, low, log_word-low (version_in words)))
+            (λ same. ⊎_elim
+            (λ before. omega (arith, same, before, low))
+            (λ behind. omega (arith, same, behind, entry_word-high (version_in words) c e few inside))
+            off.place);
+      })
+      (active_chunks (word_at words directory_word)) (few_chunks (word_at words directory_word));
+}
+
+pub book_settled : (book : Book) (words : List ℕ) (line k : ℕ) (new : List ℕ) → line < 8 → IsOffLog words k → KeepsOthers words line k new → bounds_of new ≡ bounds_of words → IsBookOf book words → IsBookOf book new
+book_settled book words line k new below off rest bounds is = book_same book words new (same_but words line k new below off rest) rest.same_length bounds is
+
+-- words of the header of a slab change
+pub book_off_header : (book : Book) (words : List ℕ) (start : ℕ) (new : List ℕ) → (layout_of (version_in words)).first_granule ≤ start → IsOffHeader words start new → bounds_of new ≡ bounds_of words → IsBookOf book words → IsBookOf book new
+book_off_header book words start new low off bounds is =
+    book_same book words new (SameLog-off_header words new start (record { in_heap = low; others = off.others })) off.same_length bounds is

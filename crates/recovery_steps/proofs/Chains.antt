@@ -1,0 +1,109 @@
+-- Parts of recovery, one after another.
+use Rattle.std.proofs.Common.{◌≡◌, ◌+◌, ◌≤◌, ℕ, List, [], ◌++◌, length, refl, sym, ap, subst, ◌∙◌, arith, inl, inr, ⊎_elim, length-append}
+use Rattle.std.proofs.Math.Seq.{take-length}
+use Rattle.pmem_lines.specs.declared.event.Event.{Event}
+use Rattle.pmem_lines.specs.Pmem.{PmemState, words_of, appended}
+use Rattle.pmem_lines.specs.Events.{reading, IsQuiet, IsImage}
+use Rattle.pmem_lines.specs.Steps.{IsQuietStep}
+use Rattle.pmem_lines.proofs.Images.{quiet_image}
+use Rattle.pmem_lines.proofs.Steps.{quiet_events, step_none, step_then}
+use Rattle.heap_check.specs.Image.{IsSteadyImage}
+use Rattle.heap_check.specs.State.{HaveSameHeap, IsEitherHeap}
+use Rattle.image_defects.specs.Least.{HasNone}
+use Rattle.settle_steps.specs.Settled.{KeepsHeap}
+use Rattle.settle_steps.proofs.Keeping.{KeepsHeap-then}
+use Rattle.transition_steps.specs.Transitions.{LeavesHeap}
+use Rattle.pmem_lines.proofs.States.{appended_none}
+use Rattle.recovery_steps.specs.Parts.{IsPart, Then}
+use Rattle.recovery_steps.specs.Recovery.{TakesOne, SettlesOpen, FinishesMorphing, DropsLarge, DropsSlab, EndsDone, Recovers}
+
+-- a crash behind all events leaves what is read
+pub step_end : {s t : PmemState} {e : List Event} {P : List ℕ → Type 0} → IsQuietStep s t e P → P (words_of t)
+step_end {s} {t} {e} {P} step =
+    let ws = words_of s in
+    subst P (sym step.appends.words)
+    (step.crash.each (length e) (reading ws e) (subst (λ (es : List Event). IsImage ws es (reading ws e)) (sym (take-length e)) (quiet_image ws e (quiet_events step))))
+
+-- nothing is stored
+pub part_none : {s : PmemState} (Stores : List ℕ → List Event → Type 0) (most : ℕ) → IsQuiet s.events → IsSteadyImage (words_of s) → Stores (words_of s) [] → IsPart KeepsHeap s s Stores most
+part_none {s} Stores most quiet image stores = record {
+  events = [];
+  stores = stores;
+  few = omega arith;
+  step = step_none quiet (record { steady = image; heap = record { each = λ root. refl }; blocks = record { each = λ root other range k was is word. refl } });
+}
+
+-- a step that keeps the heap
+pub part_of : {s t : PmemState} (Stores : List ℕ → List Event → Type 0) (most : ℕ) (events : List Event) → Stores (words_of s) events → length events ≤ most → IsQuietStep s t events (KeepsHeap (words_of s)) → IsPart KeepsHeap s t Stores most
+part_of Stores most events stores few step = record { events = events; stores = stores; few = few; step = step }
+
+-- the heap is kept where it is the one of before or of afterwards, and both are the same
+pub either_keeps : (words new image : List ℕ) → HaveSameHeap words new → IsEitherHeap words new image → KeepsHeap words image
+either_keeps words new image same is = record {
+  steady = is.steady;
+  heap = ⊎_elim (λ old. old) (λ other. record { each = λ root. other.each root ∙ same.each root }) is.heap;
+  blocks = is.words;
+}
+
+-- and then another
+pub part_then : {s t u : PmemState} {First Second : List ℕ → List Event → Type 0} {m n : ℕ} (most : ℕ) → most ≡ m + n → IsPart KeepsHeap s t First m → IsPart KeepsHeap t u Second n → IsPart KeepsHeap s u (Then First Second) most
+part_then {s} {t} {u} {First} {Second} {m} {n} most is first second =
+    let keeps : KeepsHeap (words_of s) (words_of t) = step_end first.step in
+    record {
+      events = first.events ++ second.events;
+      stores = record {
+        front = first.events;
+        back = second.events;
+        is = refl;
+        first = first.stores;
+        second = subst (λ (ws : List ℕ). Second ws second.events) first.step.appends.words second.stores;
+      };
+      few = omega (arith, is, first.few, second.few, length-append first.events second.events);
+      step = step_then (KeepsHeap (words_of s)) (λ ws. second.events) first.step second.step (λ image kept. kept) (λ image kept. KeepsHeap-then (words_of s) (words_of t) image keeps kept);
+    }
+
+-- what a part takes: nothing, or one thing
+
+pub takes_none : {IsLoose : ℕ → Type 0} {taken : ℕ → List Event} → HasNone IsLoose → TakesOne IsLoose taken []
+takes_none none = inl (none, refl)
+
+pub takes_one : {IsLoose : ℕ → Type 0} {taken : ℕ → List Event} (start : ℕ) → IsLoose start → TakesOne IsLoose taken (taken start)
+takes_one start here = inr (record { start = start; here = here; is = refl })
+
+-- from a sound image: first it becomes steady
+pub part_after : {s t u : PmemState} {First Second : List ℕ → List Event → Type 0} {m n : ℕ} (most : ℕ) → most ≡ m + n → IsPart LeavesHeap s t First m → KeepsHeap (words_of s) (words_of t) → IsPart KeepsHeap t u Second n → IsPart LeavesHeap s u (Then First Second) most
+part_after {s} {t} {u} {First} {Second} {m} {n} most is first keeps second = record {
+  events = first.events ++ second.events;
+  stores = record {
+    front = first.events;
+    back = second.events;
+    is = refl;
+    first = first.stores;
+    second = subst (λ (ws : List ℕ). Second ws second.events) first.step.appends.words second.stores;
+  };
+  few = omega (arith, is, first.few, second.few, length-append first.events second.events);
+  step = step_then (LeavesHeap (words_of s)) (λ ws. second.events) first.step second.step (λ image left. left) (λ image kept. λ steady. KeepsHeap-then (words_of s) (words_of t) image keeps kept);
+}
+
+-- where the first part stores nothing, all is done by the second
+pub part_alone : {s t u : PmemState} {Leaves : List ℕ → List ℕ → Type 0} {First Second : List ℕ → List Event → Type 0} {m n : ℕ} (first : IsPart Leaves s t First m) → first.events ≡ [] → IsPart KeepsHeap t u Second n → IsPart KeepsHeap s u Second n
+part_alone {s} {t} {u} {Leaves} {First} {Second} {m} {n} first none second =
+    subst (λ (p : PmemState). IsPart KeepsHeap p u Second n) (first.step.appends.state ∙ ap (appended s) none ∙ appended_none s) second
+
+-- nothing is taken where there is no such thing
+pub none_taken : {IsLoose : ℕ → Type 0} {taken : ℕ → List Event} {events : List Event} → HasNone IsLoose → TakesOne IsLoose taken events → events ≡ []
+none_taken none takes = ⊎_elim (λ nothing. nothing.1) (λ found. absurd (none.none found.start found.here)) takes
+
+-- nothing is stored, in a sound image
+pub leaves_none : {s : PmemState} {Stores : List ℕ → List Event → Type 0} {most : ℕ} → IsQuiet s.events → Stores (words_of s) [] → IsPart LeavesHeap s s Stores most
+leaves_none {s} quiet stores = record {
+  events = [];
+  stores = stores;
+  few = omega arith;
+  step = step_none quiet (λ steady. record { steady = steady; heap = record { each = λ root. refl }; blocks = record { each = λ root other range k was is word. refl } });
+}
+
+-- the five parts in their order
+pub all_parts : {s t u v w x : PmemState} → IsPart KeepsHeap s t SettlesOpen 6 → IsPart KeepsHeap t u FinishesMorphing 76 → IsPart KeepsHeap u v DropsLarge 682 → IsPart KeepsHeap v w DropsSlab 682 → IsPart KeepsHeap w x EndsDone 3 →
+    IsPart KeepsHeap s x Recovers 1449
+all_parts settled finished large slab ended = part_then 1449 refl settled (part_then 1443 refl finished (part_then 1367 refl large (part_then 685 refl slab ended)))

@@ -1,0 +1,166 @@
+-- What each part of recovery leaves.
+use Rattle.std.proofs.Common.{◌≡◌, ◌/◌, ℕ, Bool, true, false, true≢false, List, refl, sym, ap, subst, ◌∙◌, arith}
+use Rattle.image_tables.specs.declared.entry.WalEntry.{WalEntry}
+use Rattle.image_tables.specs.declared.entry.WalEntry.TheVariants.{Place, Move}
+use Rattle.image_tables.specs.Tables.{Tables, tables_of}
+use Rattle.image_tables.proofs.Updates.{put_at-same}
+use Rattle.pool_layout.specs.Layout.{layout_of}
+use Rattle.pool_layout.specs.Header.{version_in, granules_in}
+use Rattle.heap_model.specs.Machine.{Bounds}
+use Rattle.heap_check.specs.Sound.{IsLooseLarge, IsEmptySlab, IsMorphing, IsDoneSlab, IsNearlyDone, LoosensNothing}
+use Rattle.heap_check.specs.Image.{bounds_of}
+use Rattle.image_defects.specs.Least.{HasNone}
+use Rattle.defect_search.specs.Roots.{IsNamedStart, IsNamedGranule, AreMarks}
+use Rattle.extent_steps.specs.Large.{IsLooseExtent, IsExtentGone}
+use Rattle.extent_steps.specs.Slabs.{IsDroppable, IsDropped}
+use Rattle.settle_steps.specs.Entries.{settled_tables, IsEntrySettled}
+use Rattle.transition_steps.specs.Transitions.{IsFinished, IsEnded}
+use Rattle.recovery_steps.specs.Names.{Names, AreNames}
+use Rattle.recovery_steps.specs.Parts.{IsShut, IsLeft, Calms, Rids}
+
+-- nothing changes
+
+pub left_self : (words : List ℕ) → IsShut words → IsLeft words words
+left_self words shut = record { shut = shut; bounds = refl; roots = refl }
+
+loosens_self : (t : Tables) → LoosensNothing t t
+loosens_self t = record { large = λ start loose. loose; empty = λ start loose. loose; morphing = λ start loose. loose; done = λ start loose. loose }
+
+pub rids_self : {IsLoose : Tables → ℕ → Type 0} (words : List ℕ) → IsShut words → HasNone (IsLoose (tables_of words)) → Rids IsLoose words words
+rids_self words shut none = record { left = left_self words shut; loose = loosens_self (tables_of words); none = none }
+
+-- the open entry is settled
+
+settled_roots : (words : List ℕ) (start : ℕ) (entry : WalEntry) → (settled_tables words start entry).root ≡ (tables_of words).root
+settled_roots words start (Place root at true place) = refl
+settled_roots words start (Place root at false place) = refl
+settled_roots words start (Move from to) = refl
+
+pub left_settled : (words : List ℕ) (line start : ℕ) (entry : WalEntry) (new : List ℕ) → IsEntrySettled words line start entry new → IsLeft words new
+left_settled words line start entry new done = record {
+  shut = record { image = done.settled.keeps.steady; closed = done.settled.closed };
+  bounds = done.settled.bounds;
+  roots = ap (λ (t : Tables). t.root) done.tables ∙ settled_roots words start entry;
+}
+
+-- a slab in Morphing comes to its class
+pub calms_finished : (words : List ℕ) (start : ℕ) (new : List ℕ) → IsFinished words start new → Calms words new
+calms_finished words start new done = record {
+  left = record {
+    shut = record { image = done.keeps.steady; closed = done.closed };
+    bounds = done.bounds;
+    roots = ap (λ (t : Tables). t.root) done.tables;
+  };
+  none = record { none = done.loose.calm };
+}
+
+-- a large extent goes
+pub rids_large : (words : List ℕ) (start : ℕ) (new : List ℕ) → IsLooseExtent words start → IsExtentGone words start new → Rids IsLooseLarge words new
+rids_large words start new may gone = record {
+  left = record {
+    shut = record { image = gone.image; closed = ap (λ (t : Tables). t.open_entry) gone.tables ∙ may.closed };
+    bounds = gone.bounds;
+    roots = ap (λ (t : Tables). t.root) gone.tables;
+  };
+  loose = gone.loose;
+  none = record {
+    none = λ other loose.
+        let same : other ≡ start = may.image.steady.sound.loose_large.same other start (gone.loose.large other loose) may.loose in
+        let none : (tables_of new).large other ≡ 0 = ap (tables_of new).large same ∙ ap (λ (t : Tables). t.large start) gone.tables ∙ put_at-same (tables_of words).large start 0 in
+        omega (arith, loose.live, none);
+  };
+}
+
+-- a slab goes
+pub rids_empty : (words : List ℕ) (start : ℕ) (new : List ℕ) → IsDroppable words start → IsDropped words start new → Rids IsEmptySlab words new
+rids_empty words start new may dropped = record {
+  left = record {
+    shut = record { image = dropped.image; closed = sym dropped.slab.entry ∙ may.closed };
+    bounds = dropped.bounds;
+    roots = sym dropped.slab.root;
+  };
+  loose = dropped.loose;
+  none = record {
+    none = λ other empty.
+        let same : other ≡ start = may.image.steady.sound.empty_slab.same other start (dropped.loose.empty other empty) may.empty in
+        true≢false (sym empty.slab ∙ ap (tables_of new).slab same ∙ dropped.slab.none);
+  };
+}
+
+-- a done slab becomes normal
+
+pub nearly_of : (t : Tables) (start : ℕ) → IsDoneSlab t start → IsNearlyDone t start
+nearly_of t start done = record {
+  slab = done.slab;
+  kind = λ normal. omega (arith, normal, done.kind);
+  none = λ place below live. absurd (true≢false (sym live ∙ done.none place below));
+}
+
+pub rids_done : (words : List ℕ) (start : ℕ) (new : List ℕ) → IsShut words → IsDoneSlab (tables_of words) start → IsEnded words start new → Rids IsDoneSlab words new
+rids_done words start new shut here ended = record {
+  left = record {
+    shut = record { image = ended.steady shut.image; closed = ap (λ (t : Tables). t.open_entry) ended.tables ∙ shut.closed };
+    bounds = ended.bounds;
+    roots = ap (λ (t : Tables). t.root) ended.tables;
+  };
+  loose = ended.loose;
+  none = record {
+    none = λ other done.
+        (ended.nearly other (nearly_of (tables_of new) other done)).1
+        (shut.image.steady.sound.done.same other start (ended.loose.done other done) here);
+  };
+}
+
+-- what is not loose does not come to be so
+
+pub no_large_still : {t u : Tables} → LoosensNothing t u → HasNone (IsLooseLarge t) → HasNone (IsLooseLarge u)
+no_large_still loosens none = record { none = λ start loose. none.none start (loosens.large start loose) }
+
+pub no_empty_still : {t u : Tables} → LoosensNothing t u → HasNone (IsEmptySlab t) → HasNone (IsEmptySlab u)
+no_empty_still loosens none = record { none = λ start empty. none.none start (loosens.empty start empty) }
+
+pub calm_still : {t u : Tables} → LoosensNothing t u → HasNone (IsMorphing t) → HasNone (IsMorphing u)
+calm_still loosens none = record { none = λ start morphing. none.none start (loosens.morphing start morphing) }
+
+-- one part behind another
+pub left_then : {words between new : List ℕ} → IsLeft words between → IsLeft between new → IsLeft words new
+left_then first second = record { shut = second.shut; bounds = second.bounds ∙ first.bounds; roots = second.roots ∙ first.roots }
+
+-- names
+
+starts_still : (t u : Tables) (m n : ℕ) (marks : List Bool) → u.root ≡ t.root → n ≡ m → AreMarks (IsNamedStart t m) marks → AreMarks (IsNamedStart u n) marks
+starts_still t u m n marks root same are =
+    subst (λ k. AreMarks (IsNamedStart u k) marks) (sym same) (record {
+      each = λ k below. (
+        λ marked. let named = (are.each k below).0 marked in record { root = named.root; below = named.below; some = λ none. named.some (sym (ap (λ (f : ℕ → ℕ). f named.root) root) ∙ none); here = ap (λ (f : ℕ → ℕ). f named.root) root ∙ named.here },
+        λ named. (are.each k below).1 (record { root = named.root; below = named.below; some = λ none. named.some (ap (λ (f : ℕ → ℕ). f named.root) root ∙ none); here = sym (ap (λ (f : ℕ → ℕ). f named.root) root) ∙ named.here }),
+      );
+    })
+
+granules_still : (t u : Tables) (m n : ℕ) (marks : List Bool) → u.root ≡ t.root → n ≡ m → AreMarks (IsNamedGranule t m) marks → AreMarks (IsNamedGranule u n) marks
+granules_still t u m n marks root same are =
+    subst (λ k. AreMarks (IsNamedGranule u k) marks) (sym same) (record {
+      each = λ k below. (
+        λ marked. let named = (are.each k below).0 marked in record { root = named.root; below = named.below; some = λ none. named.some (sym (ap (λ (f : ℕ → ℕ). f named.root) root) ∙ none); here = ap (λ (f : ℕ → ℕ). f named.root / 16384) root ∙ named.here },
+        λ named. (are.each k below).1 (record { root = named.root; below = named.below; some = λ none. named.some (ap (λ (f : ℕ → ℕ). f named.root) root ∙ none); here = sym (ap (λ (f : ℕ → ℕ). f named.root / 16384) root) ∙ named.here }),
+      );
+    })
+
+-- each root holds what it held, so the names are the same
+pub names_same : (names : Names) (words new : List ℕ) → bounds_of new ≡ bounds_of words → (tables_of new).root ≡ (tables_of words).root → AreNames names words → AreNames names new
+names_same names words new bounds same are =
+    let granules : granules_in new ≡ granules_in words = ap (λ (b : Bounds). b.granules) bounds in
+    let roots : (layout_of (version_in new)).roots ≡ (layout_of (version_in words)).roots = ap (λ (b : Bounds). b.roots) bounds in
+    record {
+      starts_size = are.starts_size ∙ sym granules;
+      granules_size = are.granules_size ∙ sym granules;
+      starts = starts_still (tables_of words) (tables_of new) (layout_of (version_in words)).roots (layout_of (version_in new)).roots names.starts same roots are.starts;
+      granules = granules_still (tables_of words) (tables_of new) (layout_of (version_in words)).roots (layout_of (version_in new)).roots names.granules same roots are.granules;
+    }
+
+pub names_left : (names : Names) (words new : List ℕ) → IsLeft words new → AreNames names words → AreNames names new
+names_left names words new left are = names_same names words new left.bounds left.roots are
+
+-- all five parts
+pub left_all : {a b c d e f : List ℕ} → IsLeft a b → Calms b c → Rids IsLooseLarge c d → Rids IsEmptySlab d e → Rids IsDoneSlab e f → IsLeft a f
+left_all settled calm large empty done = left_then settled (left_then calm.left (left_then large.left (left_then empty.left done.left)))

@@ -1,0 +1,135 @@
+-- Where no slab is done beside another that is nearly so, a sound image is steady; where one is, its transition may end.
+use Rattle.std.proofs.Common.{◌≡◌, ◌≢◌, ◌⊎◌, ◌<◌, ℕ, true, List, refl, sym, ap, subst, ◌∙◌, inl, inr, ⊎_elim, Option, Some}
+use Rattle.std.proofs.lemmas.Bool.{cases_eq}
+use Rattle.image_tables.specs.declared.entry.WalEntry.{WalEntry}
+use Rattle.image_tables.specs.declared.entry.WalEntry.TheVariants.{Place}
+use Rattle.image_tables.specs.Forms.{morphing_kind, morphed_kind}
+use Rattle.image_tables.specs.Tables.{Tables, tables_of}
+use Rattle.heap_model.specs.Machine.{Bounds, slab_block}
+use Rattle.heap_check.specs.Sound.{IsInSlab, IsSound, AtMostOne, IsMorphing, IsDoneSlab, IsLeaving, IsNearlyDone}
+use Rattle.heap_check.specs.Image.{IsSoundImage, IsSteadyImage}
+use Rattle.heap_check.proofs.Geometry.{one_slab}
+use Rattle.image_defects.specs.Least.{HasNone}
+use Rattle.settle_steps.proofs.EntrySlabs.{in_slab_old}
+use Rattle.transition_steps.specs.Transitions.{IsEndable, IsEnded}
+use Rattle.recovery_steps.specs.Nearly.{IsDoneBesides}
+use Rattle.recovery_steps.specs.Parts.{IsSteadied}
+use Rattle.defect_search.proofs.NoneLoose.{search_below}
+use Rattle.recovery_steps.proofs.Leaving.{nearly_of}
+
+-- the last live old block of a slab is leaving
+record IsLeavingLast (t : Tables) (start : ℕ) : Type 0 where
+  pub place : ℕ
+  pub slab : t.slab start ≡ true
+  pub kind : t.kind start ≡ morphed_kind
+  pub below : place < t.index_count start
+  pub leaving : IsLeaving t start place
+
+-- what a slab that is nearly done may be
+abbrev IsNear : Tables → ℕ → Type 0
+IsNear t start = IsDoneSlab t start ⊎ (IsMorphing t start ⊎ IsLeavingLast t start)
+
+near_kinds : {b : Bounds} {t : Tables} → IsSound b t → (start : ℕ) → IsNearlyDone t start → IsNear t start
+near_kinds {b} {t} sound start near = ⊎_elim
+    (λ normal. absurd (near.kind normal))
+    (λ rest. ⊎_elim
+    (λ (morphing : t.kind start ≡ morphing_kind). inr (inl (record { slab = near.slab; kind = morphing })))
+    (λ (morphed : t.kind start ≡ morphed_kind). ⊎_elim
+    (λ found. inr (inr (record { place = found.0; slab = near.slab; kind = morphed; below = found.1; leaving = near.none found.0 found.1 found.2 })))
+    (λ none. inl (record { slab = near.slab; kind = morphed; none = none }))
+    (search_below (t.live start) (t.index_count start)))
+    rest)
+    (sound.slabs start near.slab).state.kinds
+
+-- the address of an entry
+abbrev place_at : Option WalEntry → ℕ
+place_at (Some (Place root at old place)) = at
+place_at other = 0
+
+module _ {b : Bounds} {t : Tables} (sound : IsSound b t) where
+  -- the open entry is of a block in the slab whose last one is leaving
+  leaving_inside : (start : ℕ) (last : IsLeavingLast t start) → IsInSlab t start (slab_block start (t.old start) (t.number start last.place)).at
+  leaving_inside start last =
+      in_slab_old sound (slab_block start (t.old start) (t.number start last.place)).at last.place (record { start = start; slab = last.slab; kind = last.kind; below = last.below; is = refl })
+
+  -- so there is one such slab
+  one_leaving : (one other : ℕ) → IsLeavingLast t one → IsLeavingLast t other → one ≡ other
+  one_leaving one other first second =
+      let same : (slab_block one (t.old one) (t.number one first.place)).at ≡ (slab_block other (t.old other) (t.number other second.place)).at =
+      ap place_at (sym first.leaving.entry ∙ second.leaving.entry) in
+      one_slab sound one other (slab_block one (t.old one) (t.number one first.place)).at (leaving_inside one first)
+      (subst (λ at. IsInSlab t other at) (sym same) (leaving_inside other second))
+
+  -- while the entry is open no slab is in Morphing
+  not_both : (one other : ℕ) → IsMorphing t one → IsLeavingLast t other → ⊥
+  not_both one other morphing last = (sound.open_entry _ last.leaving.entry).calm one morphing.slab morphing.kind
+
+  neither : (one other : ℕ) → (IsMorphing t one ⊎ IsLeavingLast t one) → (IsMorphing t other ⊎ IsLeavingLast t other) → one ≡ other
+  neither one other first second = ⊎_elim
+      (λ (m : IsMorphing t one). ⊎_elim (λ n. sound.morphing.same one other m n) (λ last. absurd (not_both one other m last)) second)
+      (λ (last : IsLeavingLast t one). ⊎_elim (λ (n : IsMorphing t other). absurd (not_both other one n last)) (λ also. one_leaving one other last also) second)
+      first
+
+  pub one_near : HasNone (IsDoneBesides t) → AtMostOne (IsNearlyDone t)
+  one_near none = record { same = same }
+    where
+      same : (one other : ℕ) → IsNearlyDone t one → IsNearlyDone t other → one ≡ other
+      same one other first second = ⊎_elim
+          (λ is. is)
+          (λ (differ : one ≢ other). ⊎_elim
+          (λ done. absurd (none.none one (record { done = done; another = record { other = other; differ = λ e. differ (sym e); near = second } })))
+          (λ rest. ⊎_elim
+          (λ done. absurd (none.none other (record { done = done; another = record { other = one; differ = differ; near = first } })))
+          (λ also. neither one other rest also)
+          (near_kinds sound other second))
+          (near_kinds sound one first))
+          (cases_eq one other)
+
+  -- the open entry is of none of its old blocks
+  elsewhere : (start : ℕ) → IsDoneBesides t start → (root at place : ℕ) → t.open_entry ≡ Some (Place root at true place) → ¬ (IsInSlab t start at)
+  elsewhere start besides root at place opens inside =
+      let another = besides.another in
+      ⊎_elim
+      (λ (done : IsDoneSlab t another.other). another.differ (sound.done.same another.other start done besides.done))
+      (λ rest. ⊎_elim
+      (λ (morphing : IsMorphing t another.other). (sound.open_entry (Place root at true place) opens).calm another.other morphing.slab morphing.kind)
+      (λ (last : IsLeavingLast t another.other).
+      let same : (slab_block another.other (t.old another.other) (t.number another.other last.place)).at ≡ at = ap place_at (sym last.leaving.entry ∙ opens) in
+      another.differ (one_slab sound another.other start at (subst (λ a. IsInSlab t another.other a) same (leaving_inside another.other last)) inside))
+      rest)
+      (near_kinds sound another.other another.near)
+
+pub steady_of : (words : List ℕ) → IsSoundImage words → HasNone (IsDoneBesides (tables_of words)) → IsSteadyImage words
+steady_of words image none = record { formed = image.formed; steady = record { sound = image.sound; one_done = one_near image.sound none } }
+
+pub endable_of : (words : List ℕ) → IsSoundImage words → (start : ℕ) → IsDoneBesides (tables_of words) start → IsEndable words start
+endable_of words image start besides = record { image = image; here = besides.done; elsewhere = elsewhere image.sound start besides }
+
+-- of a steady image no slab is done beside another that is nearly so
+pub none_besides : (words : List ℕ) → IsSteadyImage words → HasNone (IsDoneBesides (tables_of words))
+none_besides words image = record {
+  none = λ start besides. besides.another.differ (image.steady.one_done.same besides.another.other start besides.another.near (nearly_of (tables_of words) start besides.done));
+}
+
+-- once its transition has ended the image is steady
+pub steadied_of : (words : List ℕ) (start : ℕ) (new : List ℕ) → IsSoundImage words → IsDoneBesides (tables_of words) start → IsEnded words start new → IsSteadied words new
+steadied_of words start new image besides ended = record {
+  keeps = record {
+    steady = steady_of new ended.image (record {
+      none = λ other again.
+          (ended.nearly other (nearly_of (tables_of new) other again.done)).1
+          (image.sound.done.same other start (ended.loose.done other again.done) besides.done);
+    });
+    heap = ended.heap;
+    blocks = ended.blocks;
+  };
+  bounds = ended.bounds;
+  roots = ap (λ (t : Tables). t.root) ended.tables;
+}
+
+pub steadied_self : (words : List ℕ) → IsSteadyImage words → IsSteadied words words
+steadied_self words image = record {
+  keeps = record { steady = image; heap = record { each = λ root. refl }; blocks = record { each = λ root other range k was is word. refl } };
+  bounds = refl;
+  roots = refl;
+}

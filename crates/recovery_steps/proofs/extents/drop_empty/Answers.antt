@@ -1,0 +1,35 @@
+use Rattle.std.proofs.Common.{List, ℕ, subst, arith}
+use Rattle.pmem_lines.specs.Pmem.{words_of}
+use Rattle.pmem_lines.proofs.Steps.{step_wider}
+use Rattle.image_tables.specs.Tables.{tables_of}
+use Rattle.heap_check.specs.Sound.{IsEmptySlab}
+use Rattle.image_defects.specs.Least.{HasNone}
+use Rattle.extent_steps.specs.Slabs.{drop_events}
+use Rattle.recovery_steps.specs.Recovery.{DropsSlab}
+use Rattle.recovery_steps.proofs.Chains.{either_keeps, part_none, part_of, takes_none, takes_one}
+use Rattle.recovery_steps.proofs.Leaving.{rids_empty}
+use Rattle.recovery_steps.proofs.extents.drop_empty.Given as given
+use Rattle.recovery_steps.proofs.extents.drop_empty.Goals as goal
+
+-- the slab that was found
+here_in : (g : given.Over) (c : goal.After-drop_slab g) → IsEmptySlab (tables_of (words_of (g.P.Pmem.state c.args.p.now))) c.in-Some.start
+here_in g c = subst (λ (ws : List ℕ). IsEmptySlab (tables_of ws) c.in-Some.start) c.all_words.ensures c.in-Some.ensures
+
+pub returns-in-Some-clause-part : goal.returns-in-Some-clause-part
+returns-in-Some-clause-part g c =
+    let words = words_of (g.P.Pmem.state c.args.p.now) in
+    let new = words_of (g.P.Pmem.state c.drop_slab.new.p) in
+    let start = c.in-Some.start in
+    let done = c.drop_slab.ensures in
+    part_of DropsSlab 682 (drop_events words start) (takes_one start (here_in g c)) (omega (arith, done.few, done.step.appends.count))
+    (step_wider (λ image left. either_keeps words new image done.dropped.heap left) done.step)
+
+pub returns-in-Some-clause-rids : goal.returns-in-Some-clause-rids
+returns-in-Some-clause-rids g c =
+    rids_empty (words_of (g.P.Pmem.state c.args.p.now)) c.in-Some.start (words_of (g.P.Pmem.state c.drop_slab.new.p))
+    (record { image = c.requires.shut.image; closed = c.requires.shut.closed; empty = here_in g c }) c.drop_slab.ensures.dropped
+
+pub returns-in-None-clause-part : goal.returns-in-None-clause-part
+returns-in-None-clause-part g c =
+    part_none DropsSlab 682 c.requires.quiet c.requires.shut.image
+    (takes_none (subst (λ (ws : List ℕ). HasNone (IsEmptySlab (tables_of ws))) c.all_words.ensures c.in-None.ensures))

@@ -1,0 +1,53 @@
+use Rattle.std.proofs.Common.{ℕ, List, inl, inr, refl, subst}
+use Rattle.pmem_lines.specs.Pmem.{words_of}
+use Rattle.image_tables.specs.Tables.{tables_of}
+use Rattle.settle_steps.specs.Entries.{settle_events, LiesInSlab}
+use Rattle.settle_steps.proofs.Images.{entry_is}
+use Rattle.recovery_steps.specs.Opening.{IsClosed, IsFoundOpen}
+use Rattle.recovery_steps.specs.Recovery.{SettlesOpen}
+use Rattle.recovery_steps.proofs.Arenas.{sound_of}
+use Rattle.recovery_steps.proofs.Chains.{part_none, part_of}
+use Rattle.recovery_steps.proofs.Leaving.{left_settled}
+use Rattle.recovery_steps.proofs.Openings.{few_settling, settling, book_behind}
+use Rattle.recovery_steps.proofs.opening.settle_open.Given as given
+use Rattle.recovery_steps.proofs.opening.settle_open.Goals as goal
+
+pub settle_entry-requires-clause-slab : goal.settle_entry-requires-clause-slab
+settle_entry-requires-clause-slab g c =
+    let words = words_of (g.P.Pmem.state c.args.p.now) in
+    let found : IsFoundOpen words c.in-Some.found = subst (λ (ws : List ℕ). IsFoundOpen ws c.in-Some.found) c.all_words.ensures c.in-Some.ensures in
+    c.slab_with-start.ensures words (sound_of words c.requires.image) c.requires.book.reads (entry_is words c.in-Some.found.line found.line c.in-Some.found.entry found.open_in)
+
+-- the entry that was found
+found_in : (g : given.Over) (c : goal.After-settle_entry g) → IsFoundOpen (words_of (g.P.Pmem.state c.args.p.now)) c.in-Some.found
+found_in g c = subst (λ (ws : List ℕ). IsFoundOpen ws c.in-Some.found) c.all_words.ensures c.in-Some.ensures
+
+-- the slab that has its block
+lies_in : (g : given.Over) (c : goal.After-settle_entry g) → LiesInSlab (tables_of (words_of (g.P.Pmem.state c.args.p.now))) c.slab_with-start.result c.in-Some.found.entry
+lies_in g c =
+    let words = words_of (g.P.Pmem.state c.args.p.now) in
+    let found = found_in g c in
+    c.slab_with-start.ensures words (sound_of words c.requires.image) c.requires.book.reads (entry_is words c.in-Some.found.line found.line c.in-Some.found.entry found.open_in)
+
+pub returns-in-Some-clause-part : goal.returns-in-Some-clause-part
+returns-in-Some-clause-part g c =
+    let words = words_of (g.P.Pmem.state c.args.p.now) in
+    let line = c.in-Some.found.line in
+    let entry = c.in-Some.found.entry in
+    let start = c.slab_with-start.result in
+    let found = found_in g c in
+    part_of SettlesOpen 6 (settle_events words line start entry) (inr (settling words line start entry found.line found.open_in (lies_in g c))) (few_settling words line start entry) c.settle_entry.ensures.step
+
+pub returns-in-Some-clause-left : goal.returns-in-Some-clause-left
+returns-in-Some-clause-left g c =
+    left_settled (words_of (g.P.Pmem.state c.args.p.now)) c.in-Some.found.line c.slab_with-start.result c.in-Some.found.entry (words_of (g.P.Pmem.state c.settle_entry.new.p)) c.settle_entry.ensures.settled
+
+pub returns-in-Some-clause-book : goal.returns-in-Some-clause-book
+returns-in-Some-clause-book g c =
+    let found = found_in g c in
+    book_behind (words_of (g.P.Pmem.state c.args.p.now)) c.in-Some.found.line c.slab_with-start.result c.in-Some.found.entry found.line found.open_in (lies_in g c) c.args.log.now (words_of (g.P.Pmem.state c.settle_entry.new.p)) c.requires.book c.settle_entry.ensures.settled
+
+pub returns-in-None-clause-part : goal.returns-in-None-clause-part
+returns-in-None-clause-part g c =
+    let closed = subst (λ (ws : List ℕ). IsClosed ws) c.all_words.ensures c.in-None.ensures in
+    part_none SettlesOpen 6 c.requires.quiet c.requires.image (inl (closed.closed, refl))

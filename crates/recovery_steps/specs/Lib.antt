@@ -1,0 +1,5 @@
+pub mod Names
+pub mod Nearly
+pub mod Opening
+pub mod Parts
+pub mod Recovery

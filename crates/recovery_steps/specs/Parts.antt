@@ -1,0 +1,60 @@
+-- A part of recovery: what it stores, what a crash within it leaves, and what it leaves; and parts one after another.
+use Rattle.std.specs.Prelude.{◌≡◌, ℕ, ◌≤◌, List, ◌++◌, length, None}
+use Rattle.pmem_lines.specs.declared.event.Event.{Event}
+use Rattle.pmem_lines.specs.Pmem.{PmemState, words_of}
+use Rattle.pmem_lines.specs.Events.{reading}
+use Rattle.pmem_lines.specs.Steps.{IsQuietStep}
+use Rattle.image_tables.specs.Tables.{Tables, tables_of}
+use Rattle.heap_check.specs.Sound.{LoosensNothing, IsMorphing}
+use Rattle.heap_check.specs.Image.{bounds_of, IsSteadyImage}
+use Rattle.image_defects.specs.Least.{HasNone}
+use Rattle.settle_steps.specs.Settled.{KeepsHeap}
+
+-- events
+
+-- Some events, so many at most, that stand in this relation to the words before them. What a crash within them leaves stands
+-- in another: mostly that it keeps the heap (`KeepsHeap`).
+pub record IsPart (Leaves : List ℕ → List ℕ → Type 0) (old new : PmemState) (Stores : List ℕ → List Event → Type 0) (most : ℕ) : Type 0 where
+  pub events : List Event
+  pub stores : Stores (words_of old) events
+  pub few : length events ≤ most
+  pub step : IsQuietStep old new events (Leaves (words_of old))
+
+-- the events of one part, and then those of another, which go by the words that the first leaves
+pub record Then (First Second : List ℕ → List Event → Type 0) (words : List ℕ) (events : List Event) : Type 0 where
+  pub front : List Event
+  pub back : List Event
+  pub is : events ≡ front ++ back
+  pub first : First words front
+  pub second : Second (reading words front) back
+
+-- what is left
+
+-- the image is steady, and no entry is open
+pub record IsShut (words : List ℕ) : Type 0 where
+  pub image : IsSteadyImage words
+  pub closed : (tables_of words).open_entry ≡ None
+
+-- such an image with the same numbers, in which each root holds what it held
+pub record IsLeft (words new : List ℕ) : Type 0 where
+  pub shut : IsShut new
+  pub bounds : bounds_of new ≡ bounds_of words
+  pub roots : (tables_of new).root ≡ (tables_of words).root
+
+-- The image is steady with the same heap, in which each block has its words, and the same numbers; each root holds what it
+-- held.
+pub record IsSteadied (words new : List ℕ) : Type 0 where
+  pub keeps : KeepsHeap words new
+  pub bounds : bounds_of new ≡ bounds_of words
+  pub roots : (tables_of new).root ≡ (tables_of words).root
+
+-- no slab is in Morphing any more
+pub record Calms (words new : List ℕ) : Type 0 where
+  pub left : IsLeft words new
+  pub none : HasNone (IsMorphing (tables_of new))
+
+-- nothing is loose any more in this way, and nothing comes to be loose
+pub record Rids (IsLoose : Tables → ℕ → Type 0) (words new : List ℕ) : Type 0 where
+  pub left : IsLeft words new
+  pub loose : LoosensNothing (tables_of words) (tables_of new)
+  pub none : HasNone (IsLoose (tables_of new))

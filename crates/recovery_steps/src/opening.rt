@@ -1,0 +1,73 @@
+// The open write-ahead entry is settled.
+ghost use Rattle.std.specs.Prelude.{◌≡◌, ◌≤◌, ◌+◌, ◌<◌, ℕ, List, Some, length, MatchOption};
+ghost use Rattle.pmem_lines.specs.Events.{IsQuiet};
+ghost use Rattle.pmem_lines.specs.Pmem.{words_of, HasRoom};
+ghost use Rattle.image_tables.specs.Tables.{is_slab, tables_of};
+ghost use Rattle.book_log.specs.Book.{Reads};
+ghost use Rattle.heap_check.specs.Heap.{slab_of};
+ghost use Rattle.heap_check.specs.Image.{IsSoundImage, IsSteadyImage};
+ghost use Rattle.log_steps.specs.Log.{IsBookOf};
+ghost use Rattle.settle_steps.specs.Entries.{LiesInSlab};
+ghost use Rattle.recovery_steps.specs.Opening.{IsClosed, IsFoundOpen};
+ghost use Rattle.settle_steps.specs.Settled.{KeepsHeap};
+ghost use Rattle.recovery_steps.specs.Parts.{IsPart, IsLeft};
+ghost use Rattle.recovery_steps.specs.Recovery.{SettlesOpen};
+
+use crate::search::all_words;
+use attach_wal::{WalEntry, entry_of};
+use book_log::BookLog;
+use defect_search::{next_line, slab_of};
+use image_reading::wal_word;
+use pmem_lines::Pmem;
+use pool_layout::GRANULE_BYTES;
+use settle_steps::settle_entry;
+
+// An entry that is open, and its line.
+#[derive(Clone, Copy)]
+pub(crate) struct OpenEntry {
+    pub(crate) line: u32,
+    pub(crate) entry: WalEntry,
+}
+
+// The open entry, if there is one.
+fn open_in(words: &[u64]) -> Option<OpenEntry>
+    requires image { IsSteadyImage words.now }
+    ensures { MatchOption result (IsClosed words.now) (IsFoundOpen words.now) }
+{
+    match next_line(words, 0) {
+        None => None,
+        Some(line) => match entry_of(wal_word(words, line)) {
+            Some(entry) => Some(OpenEntry { line, entry }),
+            None => unreachable!(),
+        },
+    }
+}
+
+// Where the slab begins that has the block of an open place entry.
+fn slab_with(log: &BookLog, entry: WalEntry) -> u32
+    ensures { (words : List ℕ) → IsSoundImage words → Reads log.now words → (tables_of words).open_entry ≡ Some entry → LiesInSlab (tables_of words) result entry }
+{
+    match entry {
+        WalEntry::Place { at, .. } => slab_of(log, at / GRANULE_BYTES),
+        WalEntry::Move { .. } => 0,
+    }
+}
+
+/// Settles the open entry, if there is one, and closes it, by at most six events.
+pub(crate) fn settle_open<P: Pmem>(p: &mut P, log: &BookLog)
+    requires image { IsSteadyImage (words_of (P.state p.old)) }
+    requires book { IsBookOf log.now (words_of (P.state p.old)) }
+    requires quiet { IsQuiet (P.state p.old).events }
+    requires room { HasRoom (P.state p.old) 6 }
+    ensures part { IsPart KeepsHeap (P.state p.old) (P.state p.new) SettlesOpen 6 }
+    ensures left { IsLeft (words_of (P.state p.old)) (words_of (P.state p.new)) }
+    ensures book { IsBookOf log.now (words_of (P.state p.new)) }
+{
+    match open_in(all_words(p)) {
+        Some(found) => {
+            let start = slab_with(log, found.entry);
+            settle_entry(p, found.line, found.entry, start);
+        }
+        None => {}
+    }
+}
