@@ -17,7 +17,7 @@ use Rattle.heap_check.proofs.Blank.{IsSteady-but}
 use Rattle.heap_check.proofs.Geometry.{granules_at-slab}
 use Rattle.heap_check.proofs.Sizes.{sizes_of}
 use Rattle.log_steps.specs.Log.{IsBookOf}
-use Rattle.transition_steps.specs.Transitions.{end_events, IsEndable, LeavesHeap, IsEnded}
+use Rattle.transition_steps.specs.Transitions.{end_events, IsEndable, LeavesEntry, IsEnded}
 use Rattle.arena_core.specs.declared.volatile.Volatile.{Volatile}
 use Rattle.arena_core.specs.Arena.{IsIndexOf, IsSlabsOf, AreCountsOf}
 use Rattle.arena_core.specs.Call.{IsReady}
@@ -112,7 +112,7 @@ module _ (s : PmemState) (volatile : Volatile) (start : ℕ) (untidy : IsUntidy 
   }
 
   -- and it ended
-  module _ (some : slice_index volatile.lives start ≢ 0) (done : IsDoneSlab (tables_of (words_of s)) start) (u : PmemState) (step : IsQuietStep s u (end_events (words_of s) start) (LeavesHeap (words_of s))) (ended : IsEnded (words_of s) start (words_of u)) where
+  module _ (some : slice_index volatile.lives start ≢ 0) (done : IsDoneSlab (tables_of (words_of s)) start) (u : PmemState) (step : IsQuietStep s u (end_events (words_of s) start) (LeavesEntry (words_of s))) (ended : IsEnded (words_of s) start (words_of u)) where
     abbrev new : List ℕ
     new = words_of u
 

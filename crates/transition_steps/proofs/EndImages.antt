@@ -10,7 +10,7 @@ use Rattle.heap_check.specs.Image.{bounds_of, IsFormed, IsSteadyImage}
 use Rattle.heap_model.specs.Machine.{Bounds}
 use Rattle.slab_morph.specs.SlabHeaders.{SlabHeader, header_at, header_of, put_header}
 use Rattle.slab_morph.specs.Stages.{settled, IsSettleStage, AllHoldSame, KeepsHeld, IsValidHeader, IsDone}
-use Rattle.transition_steps.specs.Transitions.{IsEndable, LeavesHeap, IsEnded}
+use Rattle.transition_steps.specs.Transitions.{IsEndable, LeavesEntry, IsEnded}
 use Rattle.transition_steps.proofs.Ending.{ended, IsSound-ending, IsSteady-ending, heap-ending, loosens-ending, nearly-ending}
 use Rattle.transition_steps.proofs.HeaderImages.{lies_here, slabs_here, is_valid_here, header_here, formed_after, bounds_after, blocks_after}
 
@@ -79,7 +79,7 @@ module _ (words : List ℕ) (start : ℕ) (may : IsEndable words start) where
       tables_same : tables_of image ≡ t
       tables_same = kept.left.tables slabs is_here ∙ ap (put_header t start) (same ∙ sym header_is) ∙ put_own t start
 
-      same_keeps : LeavesHeap words image
+      same_keeps : LeavesEntry words image
       same_keeps = record {
         entry = ap (λ (x : Tables). x.open_entry) tables_same;
         keeps = λ steady. record {
@@ -112,7 +112,7 @@ module _ (words : List ℕ) (start : ℕ) (may : IsEndable words start) where
       heap_same : (root : ℕ) → heap (tables_of image) root ≡ heap t root
       heap_same root = ap (λ (x : Tables). heap x root) tables_are ∙ heap-ending start sound may.here may.elsewhere held root
 
-      done_keeps : LeavesHeap words image
+      done_keeps : LeavesEntry words image
       done_keeps = record {
         entry = ap (λ (x : Tables). x.open_entry) tables_are;
         keeps = λ steady. record {
@@ -136,5 +136,5 @@ module _ (words : List ℕ) (start : ℕ) (may : IsEndable words start) where
         nearly = λ other near. nearly-ending start sound may.here may.elsewhere held other (subst (λ (x : Tables). IsNearlyDone x other) tables_are near);
       }
 
-    pub end_keeps : LeavesHeap words image
+    pub end_keeps : LeavesEntry words image
     end_keeps = ⊎_elim same_keeps done_keeps kept.left.header

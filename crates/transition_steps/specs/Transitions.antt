@@ -37,11 +37,14 @@ pub record IsEndable (words : List ℕ) (start : ℕ) : Type 0 where
 
 -- what is left
 
--- A crash leaves the open entry; and where the words were steady, it leaves them steady with the same heap, in which each
--- block has its words.
-pub record LeavesHeap (words image : List ℕ) : Type 0 where
+-- where the words were steady, a crash leaves them steady with the same heap, in which each block has its words
+abbrev pub LeavesHeap : List ℕ → List ℕ → Type 0
+LeavesHeap words image = IsSteadyImage words → KeepsHeap words image
+
+-- so it does, and the open entry stays
+pub record LeavesEntry (words image : List ℕ) : Type 0 where
   pub entry : (tables_of image).open_entry ≡ (tables_of words).open_entry
-  pub keeps : IsSteadyImage words → KeepsHeap words image
+  pub keeps : LeavesHeap words image
 
 -- Nothing comes to be loose, but that the slab at the granule may be done; and no slab is in Morphing.
 pub record LoosensDone (t new : Tables) (start : ℕ) : Type 0 where

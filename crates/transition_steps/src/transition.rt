@@ -4,7 +4,7 @@ ghost use Rattle.pmem_lines.specs.Events.{IsQuiet};
 ghost use Rattle.pmem_lines.specs.Steps.{IsQuietStep};
 ghost use Rattle.pmem_lines.specs.Pmem.{words_of, HasRoom};
 ghost use Rattle.settle_steps.specs.Settled.{KeepsHeap};
-ghost use Rattle.transition_steps.specs.Transitions.{IsInMorphing, finish_events, IsFinished, IsEndable, end_events, LeavesHeap, IsEnded};
+ghost use Rattle.transition_steps.specs.Transitions.{IsInMorphing, finish_events, IsFinished, IsEndable, end_events, LeavesEntry, IsEnded};
 
 use pmem_lines::Pmem;
 use pool_layout::granule_at;
@@ -31,7 +31,7 @@ pub fn end_transition<P: Pmem>(p: &mut P, start: u32)
     requires endable { IsEndable (words_of (P.state p.old)) start }
     requires quiet { IsQuiet (P.state p.old).events }
     requires room { HasRoom (P.state p.old) 3 }
-    ensures step { IsQuietStep (P.state p.old) (P.state p.new) (end_events (words_of (P.state p.old)) start) (LeavesHeap (words_of (P.state p.old))) }
+    ensures step { IsQuietStep (P.state p.old) (P.state p.new) (end_events (words_of (P.state p.old)) start) (LeavesEntry (words_of (P.state p.old))) }
     ensures count { length (P.state p.new).events ≡ length (P.state p.old).events + 3 }
     ensures ended { IsEnded (words_of (P.state p.old)) start (words_of (P.state p.new)) }
 {

@@ -23,7 +23,7 @@ returns-in-Some-clause-part g c =
     let start = c.in-Some.start in
     let done = c.end_transition.ensures in
     part_of EndsDone 3 (end_events words start) (takes_one start (here_in g c)) (omega (arith, done.count, done.step.appends.count))
-    (step_wider (λ image leaves. leaves c.requires.shut.image) done.step)
+    (step_wider (λ image leaves. leaves.keeps c.requires.shut.image) done.step)
 
 pub returns-in-Some-clause-rids : goal.returns-in-Some-clause-rids
 returns-in-Some-clause-rids g c =

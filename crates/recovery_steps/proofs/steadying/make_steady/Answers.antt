@@ -1,5 +1,6 @@
 use Rattle.std.proofs.Common.{ℕ, List, subst, arith}
 use Rattle.pmem_lines.specs.Pmem.{words_of}
+use Rattle.pmem_lines.proofs.Steps.{step_wider}
 use Rattle.image_tables.specs.Tables.{tables_of}
 use Rattle.image_defects.specs.Least.{HasNone}
 use Rattle.transition_steps.specs.Transitions.{end_events}
@@ -27,7 +28,7 @@ returns-in-Some-clause-part g c =
       events = end_events (words_of (g.P.Pmem.state c.args.p.now)) c.in-Some.start;
       stores = takes_one c.in-Some.start (here_in g c);
       few = omega (arith, done.count, done.step.appends.count);
-      step = done.step;
+      step = step_wider (λ image leaves. leaves.keeps) done.step;
     }
 
 pub returns-in-Some-clause-steadied : goal.returns-in-Some-clause-steadied
