@@ -11,10 +11,10 @@ ghost use Rattle.log_steps.specs.Log.{IsBookOf};
 ghost use Rattle.arena_core.specs.Arena.{IsIndexOf, IsSlabsOf, AreCountsOf};
 ghost use Rattle.arena_core.specs.Adopting.{IsReadBelow, IsNextRead, IsWithSlabOf, HasCounted};
 
+use crate::plan::{layout_in, root_word, slab_with};
 use book_log::{BookLog, LogEntry};
 use extent_index::ExtentIndex;
 use pmem_lines::Pmem;
-use crate::plan::{layout_in, root_word, slab_with};
 use pool_layout::{GRANULE_BYTES, SLAB_GRANULES, granule_at};
 use size_classes::capacity;
 use slab_header::class_at;
