@@ -1,6 +1,5 @@
 // What recovery needs beside the device.
-ghost use Rattle.std.specs.Prelude.{◌≡◌, OnOk, IfOk, IfErr};
-ghost use Rattle.pmem_lines.specs.Pmem.{words_of};
+ghost use Rattle.std.specs.Prelude.{OnOk, IfOk, IfErr};
 ghost use Rattle.heap_check.specs.Image.{IsSoundImage};
 ghost use Rattle.image_defects.specs.Defects.{IsFirstDefect};
 ghost use Rattle.recover.specs.Faults.{IfDefect};
@@ -10,7 +9,6 @@ use crate::RecoverFault;
 use crate::fault::fault_of;
 use book_log::BookLog;
 use image_check::check_arena;
-use pmem_lines::Pmem;
 use recovery_steps::RootNames;
 use std::alloc::Global;
 

@@ -1,5 +1,4 @@
 // The transition of a slab without a live old block comes to its end.
-ghost use Rattle.std.specs.Prelude.{◌≤◌, ◌+◌, length};
 ghost use Rattle.pmem_lines.specs.Events.{IsQuiet};
 ghost use Rattle.pmem_lines.specs.Pmem.{words_of, HasRoom};
 ghost use Rattle.log_steps.specs.Log.{IsBookOf};

@@ -1,5 +1,4 @@
 // Extents that no root's block lies in get a Tomb.
-ghost use Rattle.std.specs.Prelude.{◌≤◌, ◌+◌, length};
 ghost use Rattle.pmem_lines.specs.Events.{IsQuiet};
 ghost use Rattle.pmem_lines.specs.Pmem.{words_of, HasRoom};
 ghost use Rattle.log_steps.specs.Log.{IsBookOf};

@@ -1,5 +1,4 @@
 // A slab in Morphing comes to its class.
-ghost use Rattle.std.specs.Prelude.{◌≤◌, ◌+◌, length};
 ghost use Rattle.pmem_lines.specs.Events.{IsQuiet};
 ghost use Rattle.pmem_lines.specs.Pmem.{words_of, HasRoom};
 ghost use Rattle.log_steps.specs.Log.{IsBookOf};

@@ -1,5 +1,5 @@
 // Slabs that are nearly done.
-ghost use Rattle.std.specs.Prelude.{◌≡◌, ◌↔◌, ◌≢◌, ◌<◌, ℕ, true, IsTrue, MatchOption};
+ghost use Rattle.std.specs.Prelude.{◌≡◌, ◌↔◌, ◌<◌, ℕ, true, IsTrue, MatchOption};
 ghost use Rattle.image_tables.specs.Tables.{tables_of};
 ghost use Rattle.heap_model.specs.Machine.{slab_block};
 ghost use Rattle.heap_check.specs.Sound.{IsLeaving, IsNearlyDone};

@@ -1,10 +1,9 @@
 // The open write-ahead entry is settled.
-ghost use Rattle.std.specs.Prelude.{◌≡◌, ◌≤◌, ◌+◌, ◌<◌, ℕ, List, Some, length, MatchOption};
+ghost use Rattle.std.specs.Prelude.{◌≡◌, ℕ, List, Some, MatchOption};
 ghost use Rattle.pmem_lines.specs.Events.{IsQuiet};
 ghost use Rattle.pmem_lines.specs.Pmem.{words_of, HasRoom};
-ghost use Rattle.image_tables.specs.Tables.{is_slab, tables_of};
+ghost use Rattle.image_tables.specs.Tables.{tables_of};
 ghost use Rattle.book_log.specs.Book.{Reads};
-ghost use Rattle.heap_check.specs.Heap.{slab_of};
 ghost use Rattle.heap_check.specs.Image.{IsSoundImage, IsSteadyImage};
 ghost use Rattle.log_steps.specs.Log.{IsBookOf};
 ghost use Rattle.settle_steps.specs.Entries.{LiesInSlab};

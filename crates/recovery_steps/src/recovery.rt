@@ -1,5 +1,4 @@
 // The parts of recovery, one after another.
-ghost use Rattle.std.specs.Prelude.{◌≤◌, ◌+◌, length};
 ghost use Rattle.pmem_lines.specs.Events.{IsQuiet};
 ghost use Rattle.pmem_lines.specs.Pmem.{words_of, HasRoom};
 ghost use Rattle.heap_check.specs.Image.{IsExactImage, IsSoundImage, IsSteadyImage};
