@@ -16,9 +16,8 @@ use Rattle.heap_check.proofs.Geometry.{granules_at-slab}
 use Rattle.heap_check.proofs.OneBlock.{stage_of}
 use Rattle.heap_check.proofs.Sizes.{sizes_of}
 use Rattle.attach_steps.specs.Steps.{KeepsOthers, GivesOne, IsDetachable, IsDetached, IsOldDetachable, IsOldDetached}
-use Rattle.log_steps.specs.Log.{IsBookOf}
 use Rattle.arena_core.specs.declared.volatile.Volatile.{Volatile}
-use Rattle.arena_core.specs.Arena.{IsIndexOf, IsSlabsOf, live_in, AreCountsOf, old_range}
+use Rattle.arena_core.specs.Arena.{IsSlabsOf, IsCurrent, live_in, AreCountsOf, old_range}
 use Rattle.arena_core.specs.Carried.{IsDone, IsTaken, IsTidied}
 use Rattle.arena_core.specs.Effect.{slabs_but}
 use Rattle.arena_core.specs.Events.{holds_none, tidy_events}
@@ -91,16 +90,23 @@ old_more words line root block may new detached =
 pub taken_by : {old new : PmemState} (was : Volatile) (fewer : SlabSet) (counts : List ℕ) {root start k : ℕ} (bits lives : Bool → ℕ → ℕ → Bool) {events : List Event} → IsBlockChange (words_of old) was.line root start k →
     IsQuietStep old new events (IsEitherHeap (words_of old) (words_of new)) → IsExactButImage (words_of new) start → bounds_of (words_of new) ≡ bounds_of (words_of old) →
     tables_of (words_of new) ≡ stage_of (tables_of (words_of old)) bits lives root false 0 None → GivesOne (words_of old) root None (words_of new) → KeepsOthers (words_of old) was.line root k (words_of new) →
-    IsBookOf was.log (words_of old) → IsIndexOf was.free (words_of old) → IsSlabsOf fewer (words_of new) → AreCountsOf counts (words_of new) → IsTaken old new was (record was { slabs = fewer; lives = counts }) root start events
-taken_by {old} {new} was fewer counts {root} {start} {k} bits lives {events} change step image bounds tables gives rest log index slabs_are counts_are =
+    IsCurrent old was → IsSlabsOf fewer (words_of new) → AreCountsOf counts (words_of new) → IsTaken old new was (record was { slabs = fewer; lives = counts }) root start events
+taken_by {old} {new} was fewer counts {root} {start} {k} bits lives {events} change step image bounds tables gives rest current slabs_are counts_are =
     let words = words_of old in
     let left = words_of new in
     let t = tables_of words in
     let slab = ap (λ (x : Tables). x.slab start) tables ∙ change.slab in
     record {
       step = step;
-      image = image;
-      slab = slab;
+      untidy = record {
+        ready = record { quiet = step.quiet; room = omega (arith, current.ready.room, step.appends.room) };
+        image = image;
+        slab = slab;
+        log = book_small change left rest bounds was.log current.log;
+        index = index_small words bits lives root false 0 left bounds tables was.free current.index;
+        slabs = slabs_are;
+        lives = counts_are;
+      };
       last = last_of t root start image.but slab change.slab (ap (λ (x : Tables). x.root root) tables ∙ put_at-same t.root root 0) (λ other differ. ap (λ (x : Tables). x.root other) tables ∙ put_at-other t.root root other 0 differ);
       gives = record {
         here = gives.here;
@@ -109,10 +115,6 @@ taken_by {old} {new} was fewer counts {root} {start} {k} bits lives {events} cha
         keeps = keeps_small change left rest;
         bounds = bounds;
       };
-      log = book_small change left rest bounds was.log log;
-      index = index_small words bits lives root false 0 left bounds tables was.free index;
-      slabs = slabs_are;
-      lives = counts_are;
       line = refl;
     }
 

@@ -12,7 +12,7 @@ use Rattle.heap_model.specs.Machine.{Bounds}
 use Rattle.heap_model.specs.Below.{any_below}
 use Rattle.heap_check.specs.Heap.{slabs, IsUnusedIn, heap}
 use Rattle.heap_check.specs.Sound.{IsVacant, IsDoneSlab, IsInSlab}
-use Rattle.heap_check.specs.Image.{bounds_of, IsExactImage, IsExactButImage, IsSteadyImage}
+use Rattle.heap_check.specs.Image.{bounds_of, IsExactImage, IsSteadyImage}
 use Rattle.heap_check.proofs.Blank.{IsSteady-but}
 use Rattle.heap_check.proofs.Geometry.{granules_at-slab}
 use Rattle.heap_check.proofs.Sizes.{sizes_of}
@@ -20,8 +20,7 @@ use Rattle.log_steps.specs.Log.{IsBookOf}
 use Rattle.transition_steps.specs.Transitions.{end_events, IsEndable, LeavesEntry, IsEnded}
 use Rattle.arena_core.specs.declared.volatile.Volatile.{Volatile}
 use Rattle.arena_core.specs.Arena.{IsIndexOf, IsSlabsOf, AreCountsOf}
-use Rattle.arena_core.specs.Call.{IsReady}
-use Rattle.arena_core.specs.Carried.{IsTidied}
+use Rattle.arena_core.specs.Carried.{IsUntidy, IsTidied}
 use Rattle.arena_core.specs.Effect.{slabs_but}
 use Rattle.arena_core.specs.Events.{holds_none, is_done, tidy_events}
 use Rattle.arena_core.proofs.Arenas.{same_heap}
@@ -49,16 +48,6 @@ pub not_done_by_test : (t : Tables) (start : ℕ) → t.slab start ≡ true → 
 not_done_by_test t start slab lively = false_from_ne_true (is_done t start) (λ is.
     let parts = and_parts (t.kind start == morphed_kind) (not (any_below (t.live start) (t.index_count start))) is in
     lively (record { slab = slab; kind = eqb-true (t.kind start) morphed_kind parts.0; none = λ place below. any_below-each (t.live start) (t.index_count start) (not_true (any_below (t.live start) (t.index_count start)) parts.1) place below }))
-
--- what an arena has, but that a slab may hold nothing, or be done
-pub record IsUntidy (s : PmemState) (volatile : Volatile) (start : ℕ) : Type 0 where
-  pub image : IsExactButImage (words_of s) start
-  pub ready : IsReady s
-  pub log : IsBookOf volatile.log (words_of s)
-  pub index : IsIndexOf volatile.free (words_of s)
-  pub slabs : IsSlabsOf volatile.slabs (words_of s)
-  pub lives : AreCountsOf volatile.lives (words_of s)
-  pub slab : (tables_of (words_of s)).slab start ≡ true
 
 module _ (s : PmemState) (volatile : Volatile) (start : ℕ) (untidy : IsUntidy s volatile start) where
   abbrev words : List ℕ

@@ -13,7 +13,7 @@ use Rattle.heap_check.specs.State.{HaveSameHeap, KeepsBlocks, IsEitherHeap}
 use Rattle.log_steps.specs.Log.{IsBookOf}
 use Rattle.arena_core.specs.declared.volatile.Volatile.{Volatile}
 use Rattle.arena_core.specs.Arena.{IsIndexOf, IsSlabsOf, AreCountsOf, IsCurrent, IsArena}
-use Rattle.arena_core.specs.Call.{IsStepOfAny}
+use Rattle.arena_core.specs.Call.{IsReady, IsStepOfAny}
 use Rattle.arena_core.specs.Effect.{slabs_but, GivesRoot, IsLastOf}
 use Rattle.arena_core.specs.Events.{holds_none, tidy_events, call_events, line_after}
 
@@ -25,17 +25,22 @@ pub record IsDone (old new : PmemState) (left : Volatile) (root : ℕ) (block : 
   pub lives : AreCountsOf left.lives (words_of new)
   pub gives : GivesRoot (words_of old) root block slab (words_of new)
 
+-- what an arena keeps, but that a slab may be without a block, or done
+pub record IsUntidy (device : PmemState) (volatile : Volatile) (start : ℕ) : Type 0 where
+  pub ready : IsReady device
+  pub image : IsExactButImage (words_of device) start
+  pub slab : (tables_of (words_of device)).slab start ≡ true
+  pub log : IsBookOf volatile.log (words_of device)
+  pub index : IsIndexOf volatile.free (words_of device)
+  pub slabs : IsSlabsOf volatile.slabs (words_of device)
+  pub lives : AreCountsOf volatile.lives (words_of device)
+
 -- a block went from its root, and its slab may be without a block, or done
 pub record IsTaken (old new : PmemState) (was left : Volatile) (root start : ℕ) (events : List Event) : Type 0 where
   pub step : IsQuietStep old new events (IsEitherHeap (words_of old) (words_of new))
-  pub image : IsExactButImage (words_of new) start
-  pub slab : (tables_of (words_of new)).slab start ≡ true
+  pub untidy : IsUntidy new left start
   pub last : IsLastOf (tables_of (words_of old)) root start (holds_none (tables_of (words_of new)) start)
   pub gives : GivesRoot (words_of old) root None (Heap.slabs (tables_of (words_of old))) (words_of new)
-  pub log : IsBookOf left.log (words_of new)
-  pub index : IsIndexOf left.free (words_of new)
-  pub slabs : IsSlabsOf left.slabs (words_of new)
-  pub lives : AreCountsOf left.lives (words_of new)
   pub line : left.line ≡ was.line
 
 -- A slab was dropped, where it held no block, or its transition ended, where its last old block was gone: the image is

@@ -1,6 +1,6 @@
 // What a call does, once it has begun: it changes the words and what stands beside them together.
 ghost use Rattle.std.specs.Prelude.{◌≡◌, ◌<◌, ◌≤◌, ◌*◌, ℕ, true, [], ◌++◌, Some, None, Ok, length};
-ghost use Rattle.pmem_lines.specs.Events.{reading, IsQuiet};
+ghost use Rattle.pmem_lines.specs.Events.{reading};
 ghost use Rattle.pmem_lines.specs.Steps.{IsQuietStep};
 ghost use Rattle.pmem_lines.specs.Pmem.{words_of};
 ghost use Rattle.image_tables.specs.Tables.{tables_of};
@@ -16,7 +16,7 @@ ghost use Rattle.attach_steps.specs.Steps.{attach_events, detach_events, detach_
 ghost use Rattle.arena_core.specs.Answer.{malloc_reply, free_reply};
 ghost use Rattle.arena_core.specs.Arena.{IsIndexOf, IsSlabsOf, AreSlabsBut, AreCountsOf, IsCurrent, IsArena};
 ghost use Rattle.arena_core.specs.Call.{IsReady};
-ghost use Rattle.arena_core.specs.Carried.{IsDone, IsTaken, IsTidied, IsCalled};
+ghost use Rattle.arena_core.specs.Carried.{IsDone, IsUntidy, IsTaken, IsTidied, IsCalled};
 ghost use Rattle.arena_core.specs.Effect.{IsLastOf, slabs_but};
 ghost use Rattle.arena_core.specs.Events.{place_events, take_events, fresh_events, unsmall_events, tidy_events, holds_none};
 ghost use Rattle.arena_core.specs.Plan.{IsAskedOf, IsVacantRow, IsGivable, IsTakable, IsNamedSmall, IsNamedOld, IsHeldBy, IsMallocPlan, IsFreePlan};
@@ -252,15 +252,8 @@ impl Volatile {
     // Behind a block that went: drops its slab where it holds no other, and ends the slab's transition where that was the
     // last old one.
     fn tidy<P: Pmem>(&mut self, device: &mut P, start: u32)
-        requires image { IsExactButImage (words_of (P.state device.old)) start }
-        requires quiet { IsQuiet (P.state device.old).events }
+        requires untidy { IsUntidy (P.state device.old) self.old start }
         requires few { length (P.state device.old).events ≤ 11 }
-        requires room { 2048 ≤ (P.state device.old).room }
-        requires book { IsBookOf self.old.log (words_of (P.state device.old)) }
-        requires index { IsIndexOf self.old.free (words_of (P.state device.old)) }
-        requires slabs { IsSlabsOf self.old.slabs (words_of (P.state device.old)) }
-        requires lives { AreCountsOf self.old.lives (words_of (P.state device.old)) }
-        requires slab { (tables_of (words_of (P.state device.old))).slab start ≡ true }
         ensures tidied { IsTidied (P.state device.old) (P.state device.new) self.new start }
         ensures line { self.new.line ≡ self.old.line }
     {

@@ -51,7 +51,7 @@ returns g c =
     let detached = c.detach.ensures.detached in
     record {
       taken = taken_by c.args.self.now c.give.new.self c.lower.new.self (bits_with t block.start block.number) (lives_as t) (change_bit c.requires.detachable.block_in arena.few) c.detach.ensures.step detached.image detached.bounds detached.tables detached.gives detached.rest
-          arena.current.log arena.current.index
+          arena.current
           (slabs_small words c.args.root block.start block.number false 0 new detached.bounds detached.tables
           c.args.self.now.slabs c.give.new.self (record { granules = c.give.ensures.granules; classes = c.give.ensures.classes; blocks = c.give.ensures.blocks })
           (unused_taken words c.args.self.now.line c.args.root block c.requires.detachable new detached) arena.slabs)

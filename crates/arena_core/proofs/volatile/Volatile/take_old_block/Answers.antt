@@ -43,6 +43,6 @@ returns g c =
     let detached = c.detach_old.ensures.detached in
     record {
       taken = taken_by c.args.self.now c.give_covered.new.slabs c.lower.new.self (bits_as t) (lives_with t block.start block.place) (change_index c.requires.detachable arena.few) c.detach_old.ensures.step detached.image detached.bounds detached.tables detached.gives detached.rest
-          arena.current.log arena.current.index c.give_covered.ensures
+          arena.current c.give_covered.ensures
           (counts_lowered new words c.args.root block.start _ c.args.self.now.lives c.lower.new.self (old_more (words_of (state c.args.device.now)) c.args.self.now.line c.args.root c.args.block c.requires.detachable (words_of (state c.detach_old.new.p)) c.detach_old.ensures.detached) c.lower.ensures.size c.lower.ensures.counts arena.lives);
     }

@@ -12,34 +12,32 @@ use Rattle.arena_core.specs.Events.{holds_none, tidy_events}
 use Rattle.arena_core.proofs.HeldBlocks.{slab_here}
 use Rattle.arena_core.proofs.LastBlocks.{empty_by_tests}
 use Rattle.arena_core.proofs.SlabChanges.{held_row, classes_dropped, index_dropped, slabs_dropped, lives_dropped, keeps_dropped}
-use Rattle.arena_core.proofs.Tidying.{IsUntidy, none_by_count, tidied_none, endable, tidied_ended}
+use Rattle.arena_core.proofs.Tidying.{none_by_count, tidied_none, endable, tidied_ended}
 use Rattle.arena_core.proofs.volatile.Volatile.tidy.Goals as goal
 
 pub drop_slab-requires-clause-droppable : goal.drop_slab-requires-clause-droppable
 drop_slab-requires-clause-droppable g c =
-    let image = c.requires.image in
+    let image = c.requires.untidy.image in
     let old = g.P.Pmem.state c.args.device.now in
-    let all : IsUntidy old c.args.self.now c.args.start = record { image = image; ready = record { quiet = c.requires.quiet; room = c.requires.room }; log = c.requires.book; index = c.requires.index; slabs = c.requires.slabs; lives = c.requires.lives; slab = c.requires.slab } in
     record {
       image = record { formed = image.formed; steady = IsSteady-but image.but };
       closed = image.but.closed;
-      empty = empty_by_tests c.args.start image.but c.requires.slab (none_by_count old c.args.self.now c.args.start all (sym c.at.ensures ∙ c.if-at-eq0.true));
+      empty = empty_by_tests c.args.start image.but c.requires.untidy.slab (none_by_count old c.args.self.now c.args.start c.requires.untidy (sym c.at.ensures ∙ c.if-at-eq0.true));
     }
 
 pub give-requires : goal.give-requires
-give-requires g c = held_row (words_of (g.P.Pmem.state c.args.device.now)) c.args.self.now.free c.args.start c.requires.image c.requires.slab c.requires.index
+give-requires g c = held_row (words_of (g.P.Pmem.state c.args.device.now)) c.args.self.now.free c.args.start c.requires.untidy.image c.requires.untidy.slab c.requires.untidy.index
 
 pub is_done-requires : goal.is_done-requires
 is_done-requires g c =
-    record { here = slab_here (words_of (g.P.Pmem.state c.args.device.now)) c.args.start c.granule_at.result (omega (arith, c.granule_at.ensures)) c.requires.image.formed c.requires.image.but.sound c.requires.slab }
+    record { here = slab_here (words_of (g.P.Pmem.state c.args.device.now)) c.args.start c.granule_at.result (omega (arith, c.granule_at.ensures)) c.requires.untidy.image.formed c.requires.untidy.image.but.sound c.requires.untidy.slab }
 
 pub end_transition-requires-clause-endable : goal.end_transition-requires-clause-endable
 end_transition-requires-clause-endable g c =
     let old = g.P.Pmem.state c.args.device.now in
-    let all : IsUntidy old c.args.self.now c.args.start = record { image = c.requires.image; ready = record { quiet = c.requires.quiet; room = c.requires.room }; log = c.requires.book; index = c.requires.index; slabs = c.requires.slabs; lives = c.requires.lives; slab = c.requires.slab } in
     let start : c.granule_at.result / 16384 ≡ c.args.start = omega (arith, c.granule_at.ensures) in
     let says = subst (λ s. IsTrue c.is_done.result ↔ IsDoneSlab (tables_of (words_of old)) s) start c.is_done.ensures in
-    endable old c.args.self.now c.args.start all (says.0 c.if-is_done.true)
+    endable old c.args.self.now c.args.start c.requires.untidy (says.0 c.if-is_done.true)
 
 pub returns-then-at-eq0-clause-tidied : goal.returns-then-at-eq0-clause-tidied
 returns-then-at-eq0-clause-tidied g c =
@@ -48,25 +46,24 @@ returns-then-at-eq0-clause-tidied g c =
     let words = words_of old in
     let new = words_of left in
     let start = c.args.start in
-    let image = c.requires.image in
-    let all : IsUntidy old c.args.self.now start = record { image = image; ready = record { quiet = c.requires.quiet; room = c.requires.room }; log = c.requires.book; index = c.requires.index; slabs = c.requires.slabs; lives = c.requires.lives; slab = c.requires.slab } in
+    let image = c.requires.untidy.image in
     let zero = sym c.at.ensures ∙ c.if-at-eq0.true in
-    let none = none_by_count old c.args.self.now start all zero in
-    let empty = empty_by_tests start image.but c.requires.slab none in
+    let none = none_by_count old c.args.self.now start c.requires.untidy zero in
+    let empty = empty_by_tests start image.but c.requires.untidy.slab none in
     let drop = c.drop_slab.ensures in
     let dropped = drop.dropped in
     let events : tidy_events words start ≡ drop_events words start = cond-true (holds_none (tables_of words) start) (drop_events words start) _ none in
     record {
       step = step_by (drop_events words start) (tidy_events words start) (sym events) drop.step;
       current = record {
-        ready = record { quiet = drop.step.quiet; room = omega (arith, c.requires.room, drop.step.appends.room) };
+        ready = record { quiet = drop.step.quiet; room = omega (arith, c.requires.untidy.ready.room, drop.step.appends.room) };
         exact = dropped.exact image.but;
         log = drop.book;
-        index = index_dropped words start image empty new dropped c.args.self.now.free c.give.new.self c.give.ensures.granules c.give.ensures.free c.requires.index;
+        index = index_dropped words start image empty new dropped c.args.self.now.free c.give.new.self c.give.ensures.granules c.give.ensures.free c.requires.untidy.index;
       };
       slabs = slabs_dropped words start image empty new dropped c.args.self.now.slabs c.remove.new.self
-          (record { granules = c.remove.ensures.granules; classes = c.remove.ensures.classes; blocks = c.remove.ensures.blocks }) c.requires.slabs;
-      lives = lives_dropped words start image empty new dropped c.args.self.now.lives zero c.requires.lives;
+          (record { granules = c.remove.ensures.granules; classes = c.remove.ensures.classes; blocks = c.remove.ensures.blocks }) c.requires.untidy.slabs;
+      lives = lives_dropped words start image empty new dropped c.args.self.now.lives zero c.requires.untidy.lives;
       bounds = dropped.bounds;
       heap = dropped.heap;
       slab = λ other. classes_dropped words start image empty new dropped other ∙ sym (ap (λ gone. slabs_but (slabs (tables_of words)) start gone other) none);
@@ -76,15 +73,13 @@ returns-then-at-eq0-clause-tidied g c =
 pub returns-then-is_done-clause-tidied : goal.returns-then-is_done-clause-tidied
 returns-then-is_done-clause-tidied g c =
     let old = g.P.Pmem.state c.args.device.now in
-    let all : IsUntidy old c.args.self.now c.args.start = record { image = c.requires.image; ready = record { quiet = c.requires.quiet; room = c.requires.room }; log = c.requires.book; index = c.requires.index; slabs = c.requires.slabs; lives = c.requires.lives; slab = c.requires.slab } in
     let start : c.granule_at.result / 16384 ≡ c.args.start = omega (arith, c.granule_at.ensures) in
     let says = subst (λ s. IsTrue c.is_done.result ↔ IsDoneSlab (tables_of (words_of old)) s) start c.is_done.ensures in
-    tidied_ended old c.args.self.now c.args.start all (λ zero. c.if-at-eq0.false (c.at.ensures ∙ zero)) (says.0 c.if-is_done.true) (g.P.Pmem.state c.end_transition.new.p) c.end_transition.ensures.step c.end_transition.ensures.ended
+    tidied_ended old c.args.self.now c.args.start c.requires.untidy (λ zero. c.if-at-eq0.false (c.at.ensures ∙ zero)) (says.0 c.if-is_done.true) (g.P.Pmem.state c.end_transition.new.p) c.end_transition.ensures.step c.end_transition.ensures.ended
 
 pub returns-else-is_done-clause-tidied : goal.returns-else-is_done-clause-tidied
 returns-else-is_done-clause-tidied g c =
     let old = g.P.Pmem.state c.args.device.now in
-    let all : IsUntidy old c.args.self.now c.args.start = record { image = c.requires.image; ready = record { quiet = c.requires.quiet; room = c.requires.room }; log = c.requires.book; index = c.requires.index; slabs = c.requires.slabs; lives = c.requires.lives; slab = c.requires.slab } in
     let start : c.granule_at.result / 16384 ≡ c.args.start = omega (arith, c.granule_at.ensures) in
     let says = subst (λ s. IsTrue c.is_done.result ↔ IsDoneSlab (tables_of (words_of old)) s) start c.is_done.ensures in
-    tidied_none old c.args.self.now c.args.start all (λ zero. c.if-at-eq0.false (c.at.ensures ∙ zero)) (λ done. true≢false (sym (says.1 done) ∙ c.if-is_done.false))
+    tidied_none old c.args.self.now c.args.start c.requires.untidy (λ zero. c.if-at-eq0.false (c.at.ensures ∙ zero)) (λ done. true≢false (sym (says.1 done) ∙ c.if-is_done.false))
