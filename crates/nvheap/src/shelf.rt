@@ -1,6 +1,6 @@
 // Where devices come from, and where they stay.
-ghost use Rattle.std.specs.Prelude.{◌≡◌, ℕ, ◌<◌, ◌≤◌, List, Option, Some, None, vec_len, IfOk, option_copied, replicate, slice_index_or};
-ghost use Rattle.pmem_lines.specs.Pmem.{PmemState, IsZeroed};
+ghost use Rattle.std.specs.Prelude.{◌≡◌, ℕ, ◌<◌, ◌≤◌, List, Option, Some, None, vec_len, IfOk, OnOk, OnErr, length, ◌%◌, option_copied, replicate, slice_index_or};
+ghost use Rattle.pmem_lines.specs.Pmem.{PmemState, IsZeroed, fresh, risen};
 ghost use Rattle.nvheap.specs.Outside.{put_device};
 
 use pmem_lines::{OutOfMemory, Pmem, SimPmem};
@@ -13,23 +13,46 @@ pub trait Shelf {
     /// What stands in each of the 16 places, where the shelf tells it.
     ghost places: { Self → Option (List (Option PmemState)) };
 
-    /// A device of `lines` lines of zeros, from 1 to 1,048,576, with room for `room` events. The places stay.
+    /// How many devices were made of images so far; it stays at 2^64 - 1 once it is there.
+    ghost images: { Self → ℕ };
+
+    /// A device of `lines` lines of zeros, from 1 to 1,048,576, with room for `room` events. The places and the count of
+    /// images stay.
     fn take(&mut self, alloc: Global, lines: u32, room: u32) -> Result<Self::Device, OutOfMemory>
         requires some { 1 ≤ lines }
         requires few { lines ≤ 1048576 }
         ensures device { IfOk result (λ device. IsZeroed (Self.Device.state device) lines room) }
-        ensures places { places self.new ≡ places self.old };
+        ensures places { places self.new ≡ places self.old }
+        ensures images { images self.new ≡ images self.old };
 
-    /// Sets a place to a device; the other places stay. It takes no memory.
+    /// A device with these words, of whole lines, from 1 to 1,048,576, with room for `room` events. The places stay, and the
+    /// count of images rises by one; a refusal leaves it.
+    fn take_image(
+        &mut self,
+        alloc: Global,
+        words: &[u64],
+        room: u32,
+    ) -> Result<Self::Device, OutOfMemory>
+        requires whole { length words.now % 8 ≡ 0 }
+        requires some { 8 ≤ length words.now }
+        requires few { length words.now ≤ 8388608 }
+        ensures device { IfOk result (λ device. Self.Device.state device ≡ fresh words.now room) }
+        ensures places { places self.new ≡ places self.old }
+        ensures images { OnOk result (images self.new ≡ risen (images self.old) 1) }
+        ensures refused { OnErr result (images self.new ≡ images self.old) };
+
+    /// Sets a place to a device; the other places stay, and so does the count of images. It takes no memory.
     fn put(&mut self, arena: u32, device: Self::Device)
         requires { arena < 16 }
-        ensures { places self.new ≡ put_device (places self.old) arena (Self.Device.state device) };
+        ensures places { places self.new ≡ put_device (places self.old) arena (Self.Device.state device) }
+        ensures images { images self.new ≡ images self.old };
 }
 
 /// Keeps what is put.
 #[derive(Drop)]
 pub struct KeptShelf {
     devices: Vec<Option<SimPmem>>,
+    images: u64,
     ghost sixteen: { vec_len devices ≡ 16 },
 }
 
@@ -45,7 +68,7 @@ impl KeptShelf {
                 Err(_) => return Err(OutOfMemory),
             }
         }
-        Ok(KeptShelf { devices })
+        Ok(KeptShelf { devices, images: 0 })
     }
 
     /// The device at a place, if there is one.
@@ -62,8 +85,21 @@ impl Shelf for KeptShelf {
 
     ghost places = { λ s. Some s.devices.items };
 
+    ghost images = { λ s. s.images };
+
     fn take(&mut self, alloc: Global, lines: u32, room: u32) -> Result<SimPmem, OutOfMemory> {
         SimPmem::zeroed(alloc, lines, room)
+    }
+
+    fn take_image(
+        &mut self,
+        alloc: Global,
+        words: &[u64],
+        room: u32,
+    ) -> Result<SimPmem, OutOfMemory> {
+        let device = SimPmem::from_image(alloc, words, room)?;
+        self.images = self.images.saturating_add(1);
+        Ok(device)
     }
 
     fn put(&mut self, arena: u32, device: SimPmem) {
@@ -71,17 +107,41 @@ impl Shelf for KeptShelf {
     }
 }
 
-/// Drops what is put, and tells of no place.
+/// Drops what is put, and tells of no place. It counts the devices that it made of images.
 #[derive(Drop)]
-pub struct DropShelf;
+pub struct DropShelf {
+    images: u64,
+}
+
+impl DropShelf {
+    /// A shelf that made no device yet.
+    pub fn new() -> DropShelf
+        ensures { result.images ≡ 0 }
+    {
+        DropShelf { images: 0 }
+    }
+}
 
 impl Shelf for DropShelf {
     type Device = SimPmem;
 
     ghost places = { λ _. None };
 
+    ghost images = { λ s. s.images };
+
     fn take(&mut self, alloc: Global, lines: u32, room: u32) -> Result<SimPmem, OutOfMemory> {
         SimPmem::zeroed(alloc, lines, room)
+    }
+
+    fn take_image(
+        &mut self,
+        alloc: Global,
+        words: &[u64],
+        room: u32,
+    ) -> Result<SimPmem, OutOfMemory> {
+        let device = SimPmem::from_image(alloc, words, room)?;
+        self.images = self.images.saturating_add(1);
+        Ok(device)
     }
 
     fn put(&mut self, _arena: u32, _device: SimPmem) {}

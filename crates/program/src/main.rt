@@ -40,7 +40,7 @@ fn main(rt: HostRuntime) -> ExitCode {
         Ok(words) => {
             let mut source = ReadSource::new(rt.stdin());
             let mut sink = WriteSink::new(rt.stdout());
-            let mut shelf = DropShelf;
+            let mut shelf = DropShelf::new();
             run(
                 &rt,
                 rt.alloc(),

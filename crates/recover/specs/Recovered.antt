@@ -2,6 +2,7 @@
 use Rattle.std.specs.Prelude.{◌≡◌, ◌≤◌, List, ℕ, length}
 use Rattle.pmem_lines.specs.Pmem.{PmemState, words_of, began, appended}
 use Rattle.pmem_lines.specs.Events.{IsQuiet, CrashOnly}
+use Rattle.pool_layout.specs.Header.{granules_in}
 use Rattle.heap_check.specs.Image.{IsExactImage, IsSteadyImage}
 use Rattle.heap_check.specs.State.{HaveSameHeap, KeepsBlocks}
 use Rattle.log_steps.specs.Log.{IsBookOf}
@@ -10,10 +11,11 @@ use Rattle.recovery_steps.specs.Names.{AreNames}
 use Rattle.recovery_steps.specs.Recovery.{Recovers, RecoversSound}
 use Rattle.recover.specs.declared.preparing.Prepared.{Prepared}
 
--- the log and the names are those of an arena of these words
+-- the log and the names are those of an arena of these words, and the memory is for one of its size
 pub record IsPrepared (words : List ℕ) (prepared : Prepared) : Type 0 where
   pub book : IsBookOf prepared.log words
   pub names : AreNames prepared.names words
+  pub space : prepared.space ≡ granules_in words
 
 -- One call began on the device, and its events are those of recovery. It is quiet, and its image is exact with the heap
 -- that it had, in which each block has its words.
@@ -29,3 +31,13 @@ pub record IsRecovered (old new : PmemState) : Type 0 where
   -- from a steady image
   pub steady_stores : IsSteadyImage (words_of old) → Recovers (words_of old) new.events
   pub crash : IsSteadyImage (words_of old) → CrashOnly (words_of old) new.events (KeepsHeap (words_of old))
+
+-- A recovered device of these words: one call began on it, over just these words. It is quiet, and its image is exact with
+-- their heap, in which each block has the words that it has in them.
+pub record IsRecoveredDevice (words : List ℕ) (device : PmemState) : Type 0 where
+  pub base : device.base ≡ words
+  pub begins : device.begins ≡ 1
+  pub quiet : IsQuiet device.events
+  pub exact : IsExactImage (words_of device)
+  pub heap : HaveSameHeap words (words_of device)
+  pub blocks : KeepsBlocks words (words_of device)

@@ -1,5 +1,6 @@
 // Why a device was not recovered.
 
+ghost use Rattle.recover.specs.declared.fault.RecoverFault.TheVariants as faults;
 ghost use Rattle.recover.specs.Faults.{fault_of};
 ghost use Rattle.std.specs.Prelude.{◌≡◌};
 
@@ -17,6 +18,14 @@ pub enum RecoverFault {
     /// Its image is not sound, and this is the first defect.
     #[error("Defect")]
     Defect(Defect),
+}
+
+impl From<OutOfMemory> for RecoverFault {
+    ghost from_gives = { λ error fault. fault ≡ faults.Memory error };
+
+    fn from(error: OutOfMemory) -> Self {
+        RecoverFault::Memory(error)
+    }
 }
 
 /// The fault of a check.

@@ -7,6 +7,7 @@ ghost use Rattle.recover.specs.Recovered.{IsPrepared};
 
 use crate::RecoverFault;
 use crate::fault::fault_of;
+use arena_core::ArenaRoom;
 use book_log::BookLog;
 use image_check::check_arena;
 use recovery_steps::RootNames;
@@ -15,11 +16,12 @@ use std::alloc::Global;
 // Words of a granule.
 const GRANULE_WORDS: usize = 2048;
 
-/// The log of an arena, and what its roots name.
+/// The log of an arena, what its roots name, and the memory of an arena of its size.
 #[derive(Drop)]
 pub(crate) struct Prepared {
     pub(crate) log: BookLog,
     pub(crate) names: RootNames,
+    pub(crate) space: ArenaRoom,
 }
 
 /// Judges the words of an arena, and reads what recovery needs of them. It takes all the memory.
@@ -35,20 +37,16 @@ pub(crate) fn prepare(alloc: Global, words: &[u64]) -> Result<Prepared, RecoverF
     read(alloc, words)
 }
 
-// Reads the log, and what the roots name.
+// Reads the log and what the roots name, and takes the memory of an arena.
 fn read(alloc: Global, words: &[u64]) -> Result<Prepared, RecoverFault>
     requires { IsSoundImage words.now }
     ensures prepared { IfOk result (IsPrepared words.now) }
     ensures memory { IfErr result (λ fault. IfDefect fault (λ defect. ⊥)) }
 {
     let granules = (words.len() / GRANULE_WORDS) as u32;
-    let mut log = match BookLog::new(alloc, granules) {
-        Ok(log) => log,
-        Err(error) => return Err(RecoverFault::Memory(error)),
-    };
+    let mut log = BookLog::new(alloc, granules)?;
     log.load_words(words);
-    match RootNames::new(alloc, words, granules) {
-        Ok(names) => Ok(Prepared { log, names }),
-        Err(error) => Err(RecoverFault::Memory(error)),
-    }
+    let names = RootNames::new(alloc, words, granules)?;
+    let space = ArenaRoom::new(alloc, granules)?;
+    Ok(Prepared { log, names, space })
 }

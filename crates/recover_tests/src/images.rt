@@ -1,9 +1,11 @@
 // Images, and what becomes of them.
 ghost use Rattle.std.specs.Prelude.{◌≡◌, IfOk, length};
 
+use arena_core::Placed;
+use heap_model::Block;
 use pmem_lines::{OutOfMemory, Pmem, SimPmem};
 use pool_layout::Defect;
-use recover::{RecoverFault, recover_device};
+use recover::{RecoverFault, recover};
 use std::alloc::Global;
 
 /// A word of an image: its number, and what it is.
@@ -63,8 +65,9 @@ pub fn recovered(
     let mut wanted = image(alloc, base, changes)?;
     put(&mut wanted, after);
     let device = SimPmem::from_image(alloc, &before, 2048)?;
-    match recover_device(alloc, device) {
-        Ok(device) => {
+    match recover(alloc, device) {
+        Ok(arena) => {
+            let device = arena.into_pmem();
             if device.words(0, device.size_words()) == wanted.as_slice() {
                 Ok(Became::Wanted {
                     events: device.event_count(),
@@ -83,5 +86,26 @@ pub fn recovered(
                 Ok(Became::Changed)
             }
         }
+    }
+}
+
+/// What an arena that was recovered from the words of a row has at a root, and where it puts a block of another.
+pub fn goes_on(
+    alloc: Global,
+    base: &[Put],
+    changes: &[Put],
+    held: u32,
+    root: u32,
+    size: u64,
+) -> Result<(Option<Block>, Option<Placed>), OutOfMemory> {
+    let words = image(alloc, base, changes)?;
+    let device = SimPmem::from_image(alloc, &words, 2048)?;
+    match recover(alloc, device) {
+        Ok(mut arena) => {
+            let block = arena.block(held);
+            Ok((block, arena.malloc_to(0, root, size).ok()))
+        }
+        Err((RecoverFault::Memory(error), _)) => Err(error),
+        Err((RecoverFault::Defect(_), _)) => Ok((None, None)),
     }
 }

@@ -1,0 +1,43 @@
+-- A device that recovery made exact, from what its steps say.
+use Rattle.std.proofs.Common.{◌≡◌, ◌≤◌, List, ℕ, length, sym, ap, subst, ◌∙◌}
+use Rattle.pmem_lines.specs.declared.event.Event.{Event}
+use Rattle.pmem_lines.specs.Pmem.{PmemState, words_of, began, appended, fresh}
+use Rattle.pmem_lines.specs.Events.{CrashOnly}
+use Rattle.heap_check.specs.Image.{IsExactImage, IsSteadyImage}
+use Rattle.settle_steps.specs.Settled.{KeepsHeap}
+use Rattle.transition_steps.specs.Transitions.{LeavesHeap}
+use Rattle.recovery_steps.specs.Parts.{IsPart}
+use Rattle.recovery_steps.specs.Recovery.{Recovers, RecoversSound}
+use Rattle.recover.specs.Recovered.{IsRecovered, IsRecoveredDevice}
+
+-- the events of a part that begins a call are those of the call
+events_are : {Leaves : List ℕ → List ℕ → Type 0} {Stores : List ℕ → List Event → Type 0} {most : ℕ} (old new : PmemState) (part : IsPart Leaves (began old) new Stores most) → part.events ≡ new.events
+events_are old new part = sym (ap (λ (s : PmemState). s.events) part.step.appends.state)
+
+-- the whole of it, where it begins a call
+pub recovered : (old new : PmemState) → IsPart LeavesHeap (began old) new RecoversSound 1452 → (IsSteadyImage (words_of old) → IsPart KeepsHeap (began old) new Recovers 1449) →
+    IsExactImage (words_of new) → KeepsHeap (words_of old) (words_of new) → IsRecovered old new
+recovered old new part steady exact keeps =
+    let same = events_are old new part in
+    record {
+      state = part.step.appends.state ∙ ap (λ (es : List Event). appended (began old) es) same;
+      quiet = part.step.quiet;
+      exact = exact;
+      heap = keeps.heap;
+      blocks = keeps.blocks;
+      stores = subst (λ (es : List Event). RecoversSound (words_of old) es) same part.stores;
+      few = subst (λ (es : List Event). length es ≤ 1452) same part.few;
+      steady_stores = λ is. subst (λ (es : List Event). Recovers (words_of old) es) (events_are old new (steady is)) (steady is).stores;
+      crash = λ is. subst (λ (es : List Event). CrashOnly (words_of old) es (KeepsHeap (words_of old))) (events_are old new (steady is)) (steady is).step.crash;
+    }
+
+-- a device that was made with these words
+pub recovered_device : (words : List ℕ) (room : ℕ) (device : PmemState) → IsRecovered (fresh words room) device → IsRecoveredDevice words device
+recovered_device words room device is = record {
+  base = ap (λ (s : PmemState). s.base) is.state;
+  begins = ap (λ (s : PmemState). s.begins) is.state;
+  quiet = is.quiet;
+  exact = is.exact;
+  heap = is.heap;
+  blocks = is.blocks;
+}
