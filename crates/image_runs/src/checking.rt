@@ -28,10 +28,11 @@ pub fn check_pool(alloc: Global, bytes: &[u8]) -> Result<Vec<u8>, ImageFault>
     }
 }
 
-// The header of arena 0 of a pool.
-fn pool_header(words: &[u64]) -> PoolHeader
+/// The header of arena 0 of a pool.
+pub fn pool_header(words: &[u64]) -> PoolHeader
     requires { HasPool words.now }
-    ensures { (header : PoolHeader) → IsPoolImage words.now header → result ≡ header }
+    ensures pool { IsPoolImage words.now result }
+    ensures one { (header : PoolHeader) → IsPoolImage words.now header → result ≡ header }
 {
     match header_of(words) {
         Ok(header) => header,

@@ -2,7 +2,7 @@
 use Rattle.std.proofs.Common.{◌≡◌, ℕ, List, [], ◌∷◌, length, map, get_or, sym, ap, arith, codes, Option, Some, None}
 use Rattle.std.specs.Option.{MatchOption}
 use Rattle.nvheap.specs.declared.command.Command.{Command}
-use Rattle.nvheap.specs.declared.command.Command.TheVariants.{Replay, Image, Check, Crash}
+use Rattle.nvheap.specs.declared.command.Command.TheVariants.{Replay, Image, Check, Recover, Crash}
 use Rattle.nvheap.specs.Command.{IsCommand, IsNoCommand, IsCrashOf, IsNoCrash}
 
 module _ {X Y : Type 0} (f : X → Y) where
@@ -25,6 +25,7 @@ no_crash : (words : List (List ℕ)) (first second third : List ℕ) → words �
 no_crash words first second third is none Replay said = absurd (cc)
 no_crash words first second third is none Image said = absurd (cc)
 no_crash words first second third is none Check said = absurd (cc)
+no_crash words first second third is none Recover said = absurd (cc)
 no_crash words first second third is none (Crash arena event seed) said = none (Crash arena event seed) (cc (is, said.0), cc (is, said.0), cc (is, said.0), said.1, said.2, said.3)
 
 -- four words of which the first is `crash` say a crash exactly where the others are its numbers
@@ -34,4 +35,5 @@ crash_words words first second third None is none = λ command. no_crash words f
 crash_words words first second third (Some Replay) is crash = absurd crash
 crash_words words first second third (Some Image) is crash = absurd crash
 crash_words words first second third (Some Check) is crash = absurd crash
+crash_words words first second third (Some Recover) is crash = absurd crash
 crash_words words first second third (Some (Crash arena event seed)) is crash = (cc (is, crash.0, crash.1, crash.2), crash.3, crash.4, crash.5)

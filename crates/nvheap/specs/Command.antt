@@ -1,13 +1,14 @@
 -- The words of the program.
 use Rattle.std.specs.Prelude.{◌≡◌, ℕ, ◌<◌, ◌^◌, List, [], ◌∷◌, decimal, codes}
 use Rattle.nvheap.specs.declared.command.Command.{Command}
-use Rattle.nvheap.specs.declared.command.Command.TheVariants.{Replay, Image, Check, Crash}
+use Rattle.nvheap.specs.declared.command.Command.TheVariants.{Replay, Image, Check, Recover, Crash}
 
 -- these texts are the numbers of a crash, each in its one decimal form
 abbrev pub IsCrashOf : List ℕ → List ℕ → List ℕ → Command → Type 0
 IsCrashOf first second third Replay = ⊥
 IsCrashOf first second third Image = ⊥
 IsCrashOf first second third Check = ⊥
+IsCrashOf first second third Recover = ⊥
 IsCrashOf first second third (Crash arena event seed) =
     (first ≡ decimal arena) × (second ≡ decimal event) × (third ≡ decimal seed) × (arena < 16) × (event < 2 ^ 64) × (seed < 2 ^ 64)
 
@@ -20,6 +21,7 @@ abbrev pub IsCommand : List (List ℕ) → Command → Type 0
 IsCommand words Replay = words ≡ codes "replay" ∷ []
 IsCommand words Image = words ≡ codes "image" ∷ []
 IsCommand words Check = words ≡ codes "check" ∷ []
+IsCommand words Recover = words ≡ codes "recover" ∷ []
 IsCommand words (Crash arena event seed) =
     (words ≡ codes "crash" ∷ decimal arena ∷ decimal event ∷ decimal seed ∷ []) × (arena < 16) × (event < 2 ^ 64) × (seed < 2 ^ 64)
 

@@ -17,7 +17,7 @@ use Rattle.nvheap.specs.declared.status.Status.{Status}
 use Rattle.nvheap.specs.declared.status.Status.TheVariants.{Done, Usage, Refused, ReadFault, WriteFault, Memory, TooLong}
 use Rattle.nvheap.specs.Outside.{GivesAll, GivesMore, Takes, TakesFront}
 use Rattle.nvheap.specs.Command.{IsCommand}
-use Rattle.nvheap.specs.Answers.{AnswersReplay, AnswersImage, AnswersCrash, LacksArena, LacksEvent}
+use Rattle.nvheap.specs.Answers.{AnswersReplay, AnswersImage, AnswersRecover, AnswersCrash, LacksArena, LacksEvent}
 
 -- the most bytes that a trace may have
 unfoldable pub longest_trace : ℕ
@@ -32,6 +32,7 @@ abbrev pub longest : Command → ℕ
 longest commands.Replay = longest_trace
 longest commands.Image = longest_trace
 longest commands.Check = longest_image
+longest commands.Recover = longest_image
 longest (commands.Crash arena event seed) = longest_trace
 
 -- the exit code
@@ -49,6 +50,7 @@ abbrev pub Answers : Command → List ℕ → List ℕ → Option (List (Option 
 Answers commands.Replay input output old new = AnswersReplay input output old new
 Answers commands.Image input output old new = AnswersImage input output old new
 Answers commands.Check input output old new = IsChecked input output × (new ≡ old)
+Answers commands.Recover input output old new = AnswersRecover input output old new
 Answers (commands.Crash arena event seed) input output old new = (arena ≡ 0) × AnswersCrash input output event seed × (new ≡ old)
 
 -- the line that says why an input is refused
@@ -76,6 +78,8 @@ Refuses commands.Image input (causes.Trace refusal) = RefusesTrace input refusal
 Refuses commands.Image input (causes.Image arena defect) = ⊥
 Refuses commands.Check input (causes.Trace refusal) = ⊥
 Refuses commands.Check input (causes.Image arena defect) = IsPoolDefect input arena defect
+Refuses commands.Recover input (causes.Trace refusal) = ⊥
+Refuses commands.Recover input (causes.Image arena defect) = IsPoolDefect input arena defect
 Refuses (commands.Crash asked event seed) input (causes.Trace refusal) = RefusesCrash asked event input refusal
 Refuses (commands.Crash asked event seed) input (causes.Image arena defect) = ⊥
 

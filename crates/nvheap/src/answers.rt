@@ -1,5 +1,5 @@
 // What each command has to say of its input.
-ghost use Rattle.std.specs.Prelude.{◌≡◌, ◌<◌, ◌^◌, List, Option, length, IfOk, OnErr};
+ghost use Rattle.std.specs.Prelude.{◌≡◌, ◌≢◌, ◌<◌, ◌^◌, List, Option, length, IfOk, OnErr};
 ghost use Rattle.pmem_lines.specs.Pmem.{PmemState, words_of};
 ghost use Rattle.pool_layout.specs.Bytes.{bytes_of_words};
 ghost use Rattle.nvheap.specs.declared.command.Command.TheVariants as commands;
@@ -7,6 +7,7 @@ ghost use Rattle.nvheap.specs.Ends.{IsAnswer, IsFaultLine};
 
 use crate::cause::{Cause, write_cause};
 use crate::command::Command;
+use crate::recovering::recover_answer;
 use crate::shelf::Shelf;
 use image_runs::check_pool;
 use pmem_lines::{OutOfMemory, Pmem};
@@ -37,11 +38,13 @@ pub(crate) fn answer_to<H: Shelf>(
 ) -> Result<Answer, OutOfMemory>
     ensures answer { IfOk result (IsAnswer command input.now (H.places shelf.old) (H.places shelf.new)) }
     ensures kept { OnErr result (H.places shelf.new ≡ H.places shelf.old) }
+    ensures images { command ≢ commands.Recover → H.images shelf.new ≡ H.images shelf.old }
 {
     match command {
         Command::Replay => replay_answer(alloc, input, shelf),
         Command::Image => image_answer(alloc, input, shelf),
         Command::Check => check_answer(alloc, input),
+        Command::Recover => recover_answer(alloc, input, shelf),
         Command::Crash { arena, event, seed } => crash_answer(alloc, input, arena, event, seed),
     }
 }
@@ -54,6 +57,7 @@ fn replay_answer<H: Shelf>(
 ) -> Result<Answer, OutOfMemory>
     ensures answer { IfOk result (IsAnswer commands.Replay input.now (H.places shelf.old) (H.places shelf.new)) }
     ensures kept { OnErr result (H.places shelf.new ≡ H.places shelf.old) }
+    ensures images { H.images shelf.new ≡ H.images shelf.old }
 {
     let trace = match read_trace(alloc, input) {
         Ok(trace) => trace,
@@ -73,6 +77,7 @@ fn replay_answer<H: Shelf>(
 fn image_answer<H: Shelf>(alloc: Global, input: &[u8], shelf: &mut H) -> Result<Answer, OutOfMemory>
     ensures answer { IfOk result (IsAnswer commands.Image input.now (H.places shelf.old) (H.places shelf.new)) }
     ensures kept { OnErr result (H.places shelf.new ≡ H.places shelf.old) }
+    ensures images { H.images shelf.new ≡ H.images shelf.old }
 {
     let trace = match read_trace(alloc, input) {
         Ok(trace) => trace,
@@ -158,8 +163,8 @@ fn check_answer(alloc: Global, input: &[u8]) -> Result<Answer, OutOfMemory>
     }
 }
 
-// One line that says why an input is refused.
-fn fault_line(alloc: Global, cause: Cause) -> Result<Answer, OutOfMemory>
+/// One line that says why an input is refused.
+pub(crate) fn fault_line(alloc: Global, cause: Cause) -> Result<Answer, OutOfMemory>
     ensures { IfOk result (IsFaultLine cause) }
 {
     let mut text = Vec::new(alloc);

@@ -13,6 +13,8 @@ pub enum Command {
     Image,
     /// Check the image of a pool, and print what each of its arenas has.
     Check,
+    /// Recover the image of a pool, and print the heap of each of its arenas.
+    Recover,
     /// Run a trace on one arena, from 0 to 15, up to an event, and print the heap that a crash leaves there.
     Crash { arena: u32, event: u64, seed: u64 },
 }
@@ -29,6 +31,9 @@ pub(crate) fn command_of(words: &[String]) -> Option<Command>
     }
     if words.len() == 1 && is_word(&words[0], "check") {
         return Some(Command::Check);
+    }
+    if words.len() == 1 && is_word(&words[0], "recover") {
+        return Some(Command::Recover);
     }
     if words.len() == 4 && is_word(&words[0], "crash") {
         return crash_of(

@@ -1,7 +1,8 @@
 // The top call.
-ghost use Rattle.std.specs.Prelude.{◌≡◌, ◌↔◌, ◌<◌, ◌^◌, map, string_bytes};
+ghost use Rattle.std.specs.Prelude.{◌≡◌, ◌≢◌, ◌↔◌, ◌<◌, ◌^◌, map, string_bytes};
+ghost use Rattle.nvheap.specs.declared.command.Command.TheVariants as commands;
 ghost use Rattle.nvheap.specs.Outside.{Rose};
-ghost use Rattle.nvheap.specs.Command.{IsNoCommand};
+ghost use Rattle.nvheap.specs.Command.{IsCommand, IsNoCommand};
 ghost use Rattle.nvheap.specs.Ends.{longest, IsDone, IsRefused, IsCutShort, IsTooLong, IsSilent, IsAside, RunsOn};
 
 use crate::answers::{Answer, answer_to};
@@ -45,6 +46,7 @@ pub fn run<R: Threads + Wait + Sync, S: Source, K: Sink, G: Gate + Sync, H: Shel
     ensures too_long { result ≡ Status.TooLong → IsTooLong (map string_bytes words.now) (S.left source.old) (S.left source.new) }
     ensures silent { IsSilent result → K.taken sink.new ≡ K.taken sink.old }
     ensures aside { IsAside result → H.places shelf.new ≡ H.places shelf.old }
+    ensures images { ¬ (IsCommand (map string_bytes words.now) commands.Recover) → H.images shelf.new ≡ H.images shelf.old }
 {
     let Some(command) = command_of(words) else {
         return Status::Usage;
@@ -65,7 +67,7 @@ fn longest_of(command: Command) -> usize
 {
     match command {
         Command::Replay | Command::Image | Command::Crash { .. } => LONGEST_TRACE,
-        Command::Check => LONGEST_IMAGE,
+        Command::Check | Command::Recover => LONGEST_IMAGE,
     }
 }
 
@@ -79,6 +81,7 @@ fn run_on<K: Sink, H: Shelf>(
 ) -> Status
     ensures ends { RunsOn command input.now (K.taken sink.old) (K.taken sink.new) (H.places shelf.old) (H.places shelf.new) result }
     ensures write_fault { result ≡ Status.WriteFault → Rose (K.faults sink.old) (K.faults sink.new) }
+    ensures images { command ≢ commands.Recover → H.images shelf.new ≡ H.images shelf.old }
 {
     match answer_to(alloc, command, input, shelf) {
         Ok(Answer::Output(text)) => match write_all(sink, &text) {

@@ -14,8 +14,8 @@ use pmem_lines::{OutOfMemory, Pmem};
 use pool_layout::layout_of;
 use std::alloc::Global;
 
-/// The blocks of an arena.
-pub(crate) fn blocks_of<P: Pmem>(alloc: Global, arena: &Arena<P>) -> Result<Vec<Block>, OutOfMemory>
+/// The blocks of an arena, by rising root. It takes the memory of the list.
+pub fn blocks_of<P: Pmem>(alloc: Global, arena: &Arena<P>) -> Result<Vec<Block>, OutOfMemory>
     ensures { IfOk result (λ blocks. blocks.items ≡ blocks_of (heap (tables_of (words_of arena.now.device)))) }
 {
     let mut blocks = Vec::new(alloc);

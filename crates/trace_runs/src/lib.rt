@@ -1,7 +1,7 @@
 // The calls of a trace, made on an arena: what `replay` reports, the device that they leave, and what a crash at a chosen
 // event leaves.
 //
-// `replay` makes all calls and gives the report and the device that went through them, `run_calls` the device alone; `crash`
+// `blocks_of` lists the blocks of an arena. `replay` makes all calls and gives the report and the device that went through them, `run_calls` the device alone; `crash`
 // makes the calls up to the
 // one under way at an event, takes the image that a seed picks, and reports the heap of the image. What they promise
 // stands in `specs/Replay.antt` (`IsReport`, `IsRunThrough`, `HasRun`) and `specs/Crash.antt` (`IsCrashReport`, `HasFewer`), in the words
@@ -20,6 +20,7 @@ mod laws;
 mod opening;
 mod replaying;
 
+pub use blocks::blocks_of;
 pub use crashing::{CrashFault, crash};
 pub use imaging::run_calls;
 pub use laws::{law_of_one_report, law_of_one_run};

@@ -22,13 +22,13 @@ pub returns-in-Ok-check_arenas-clause-checked : goal.returns-in-Ok-check_arenas-
 returns-in-Ok-check_arenas-clause-checked c =
     let image = c.in-Ok.ensures.image in
     checked_by c.args.bytes.now c.in-Ok.words.items c.deref-2.result.now c.in-Ok-check_arenas.text.items c.pool_header-header.result image c.deref-2.ensures.value
-    (c.pool_header-header.ensures image.header (subst (λ (ws : List ℕ). IsPoolImage ws image.header) (sym c.deref.ensures.value) image.pool))
+    (c.pool_header-header.ensures.one image.header (subst (λ (ws : List ℕ). IsPoolImage ws image.header) (sym c.deref.ensures.value) image.pool))
     c.in-Ok-check_arenas.ensures.lines
 
 pub returns-clause-defect : goal.returns-clause-defect
 returns-clause-defect c =
     let image = c.in-Ok.ensures.image in
-    let is = c.pool_header-header.ensures image.header (subst (λ (ws : List ℕ). IsPoolImage ws image.header) (sym c.deref.ensures.value) image.pool) in
+    let is = c.pool_header-header.ensures.one image.header (subst (λ (ws : List ℕ). IsPoolImage ws image.header) (sym c.deref.ensures.value) image.pool) in
     wider c.in-Err-check_arenas.fault (HasUnsound c.deref-2.result.now c.pool_header-header.result) (IsPoolDefect c.args.bytes.now)
     (λ arena defect unsound. inr (record {
       words = c.in-Ok.words.items;

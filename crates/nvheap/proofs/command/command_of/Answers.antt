@@ -20,11 +20,16 @@ returns-then-is_word-3 c =
 
 pub returns-then-is_word-4 : goal.returns-then-is_word-4
 returns-then-is_word-4 c =
+    one_word string_bytes c.args.words.now c.index-words-0-then-words-eq1-4.result c.if-words-eq1-4.true c.index-words-0-then-words-eq1-4.is
+    ∙ ap (λ (word : List ℕ). word ∷ []) (c.is_word-then-words-eq1-4.ensures.0 c.if-is_word-4.true)
+
+pub returns-then-is_word-5 : goal.returns-then-is_word-5
+returns-then-is_word-5 c =
     let first = c.as_bytes.ensures.value in
-    let second = c.as_bytes-then-is_word-4.ensures.value in
-    let third = c.as_bytes-then-is_word-4-2.ensures.value in
+    let second = c.as_bytes-then-is_word-5.ensures.value in
+    let third = c.as_bytes-then-is_word-5-2.ensures.value in
     let whole = four_words string_bytes c.args.words.now c.index-words-0-then-words-eq4.result c.index-words-1.result c.index-words-2.result c.index-words-3.result
     c.if-words-eq4.true c.index-words-0-then-words-eq4.is c.index-words-1.is c.index-words-2.is c.index-words-3.is in
-    let said : string_bytes c.index-words-0-then-words-eq4.result ≡ codes "crash" = c.is_word-then-words-eq4.ensures.0 c.if-is_word-4.true in
-    crash_words (map string_bytes c.args.words.now) c.as_bytes.result.now c.as_bytes-then-is_word-4.result.now c.as_bytes-then-is_word-4-2.result.now c.crash_of.result
+    let said : string_bytes c.index-words-0-then-words-eq4.result ≡ codes "crash" = c.is_word-then-words-eq4.ensures.0 c.if-is_word-5.true in
+    crash_words (map string_bytes c.args.words.now) c.as_bytes.result.now c.as_bytes-then-is_word-5.result.now c.as_bytes-then-is_word-5-2.result.now c.crash_of.result
     (cc (whole, said, first, second, third)) c.crash_of.ensures

@@ -1,0 +1,109 @@
+-- The arenas of a pool, recovered one after another from one on.
+use Rattle.std.proofs.Common.{◌≡◌, ◌≢◌, ◌⊎◌, ℕ, zero, suc, ◌+◌, ◌-◌, ◌*◌, ◌%◌, ◌<◌, ◌≤◌, List, length, ◌++◌, Option, sym, ap, subst, ◌∙◌, inl, inr, ⊎_elim, [], arith, refl, append_assoc}
+use Rattle.std.proofs.lemmas.Bool.{cases_lt}
+use Rattle.pmem_lines.specs.Pmem.{PmemState, fresh}
+use Rattle.pool_layout.specs.declared.header.PoolHeader.{PoolHeader}
+use Rattle.pool_layout.specs.declared.defect.Defect.{Defect as Found}
+use Rattle.pool_layout.specs.declared.image.ImageFault.{ImageFault}
+use Rattle.pool_layout.specs.Image.{part_of, IsFirstHeader, IsPoolImage, IsImageOf, IfDefect}
+use Rattle.pool_layout.specs.Layout.{layout_of}
+use Rattle.pool_layout.proofs.Images.{length-part_of}
+use Rattle.heap_check.specs.Image.{IsSoundImage}
+use Rattle.heap_check.proofs.Sizes.{sizes_of}
+use Rattle.image_defects.specs.Defects.{IsFirstDefect}
+use Rattle.recover.specs.Recovered.{IsRecovered, IsRecoveredDevice}
+use Rattle.recover.proofs.Recoveries.{recovered_device}
+use Rattle.image_runs.specs.Checks.{HasUnsound, IsOwnDefect, IsPoolDefect}
+use Rattle.image_runs.specs.Recoveries.{heap_lines, heaps_from}
+use Rattle.image_runs.proofs.Faults.{wider}
+use Rattle.nvheap.specs.Outside.{put_device}
+use Rattle.nvheap.specs.Answers.{HasRecovered, HasUnsoundFrom, AnswersRecover}
+
+split : (a b : ℕ) → a ≤ b → (a ≡ b) ⊎ (a + 1 ≤ b)
+split a b low = ⊎_elim (λ (h : a < b). inr (omega (arith, h))) (λ (h : b ≤ a). inl (omega (arith, h, low))) (cases_lt a b)
+
+-- one arena more, at the front
+pub heaps_more : (words : List ℕ) (granules arena arenas : ℕ) → arena < arenas →
+    heaps_from words granules arena (arenas - arena) ≡ heap_lines arena (part_of words granules arena) ++ heaps_from words granules (arena + 1) (arenas - (arena + 1))
+heaps_more words granules arena arenas below =
+    let more : arenas - arena ≡ suc (arenas - (arena + 1)) = omega (arith, below) in
+    ap (λ n. heaps_from words granules arena n) more
+
+pub recovered_more : (words : List ℕ) (granules arena arenas room : ℕ) (device : PmemState) (old rest new : Option (List (Option PmemState))) → arena < arenas →
+    IsSoundImage (part_of words granules arena) → IsRecovered (fresh (part_of words granules arena) room) device → HasRecovered words granules (arena + 1) (arenas - (arena + 1)) old rest →
+    new ≡ put_device rest arena device → HasRecovered words granules arena (arenas - arena) old new
+recovered_more words granules arena arenas room device old rest new below sound is further put =
+    let more : arenas - arena ≡ suc (arenas - (arena + 1)) = omega (arith, below) in
+    subst (λ n. HasRecovered words granules arena n old new) (sym more)
+    (device, rest, sound, recovered_device (part_of words granules arena) room device is, further, put)
+
+-- no arena is left
+pub recovered_none : (words : List ℕ) (granules arena arenas : ℕ) (places : Option (List (Option PmemState))) → arena ≡ arenas → HasRecovered words granules arena (arenas - arena) places places
+recovered_none words granules arena arenas places same =
+    let none : arenas - arena ≡ 0 = omega (arith, same) in
+    subst (λ n. HasRecovered words granules arena n places places) (sym none) refl
+
+pub heaps_none : (words : List ℕ) (granules arena arenas : ℕ) → arena ≡ arenas → heaps_from words granules arena (arenas - arena) ≡ []
+heaps_none words granules arena arenas same =
+    let none : arenas - arena ≡ 0 = omega (arith, same) in
+    ap (λ n. heaps_from words granules arena n) none
+
+-- the first arena is the one that is not sound
+pub unsound_here : (words : List ℕ) (header : PoolHeader) (arena : ℕ) (fault : ImageFault) → arena < header.arenas → IfDefect fault (IsOwnDefect (part_of words header.granules arena) arena) →
+    IfDefect fault (HasUnsoundFrom words header arena)
+unsound_here words header arena fault below =
+    wider fault (IsOwnDefect (part_of words header.granules arena) arena) (HasUnsoundFrom words header arena)
+    (λ found defect own. record {
+      low = omega (arith, own.same);
+      inside = omega (arith, own.same, below);
+      before = λ earlier from to. absurd (omega (arith, own.same, from, to));
+      first = subst (λ a. IsFirstDefect (part_of words header.granules a) defect) (sym own.same) own.first;
+    })
+
+-- the first is sound, and a later one is not
+pub unsound_later : (words : List ℕ) (header : PoolHeader) (arena : ℕ) (fault : ImageFault) → IsSoundImage (part_of words header.granules arena) → IfDefect fault (HasUnsoundFrom words header (arena + 1)) →
+    IfDefect fault (HasUnsoundFrom words header arena)
+unsound_later words header arena fault sound =
+    wider fault (HasUnsoundFrom words header (arena + 1)) (HasUnsoundFrom words header arena)
+    (λ found defect later. record {
+      low = omega (arith, later.low);
+      inside = later.inside;
+      before = λ earlier from to. sound_between earlier from to later;
+      first = later.first;
+    })
+  where
+    sound_between : {found : ℕ} {defect : Found} (earlier : ℕ) → arena ≤ earlier → earlier < found → HasUnsoundFrom words header (arena + 1) found defect → IsSoundImage (part_of words header.granules earlier)
+    sound_between earlier from to later = by_order (split arena earlier from)
+      where
+        by_order : (arena ≡ earlier) ⊎ (arena + 1 ≤ earlier) → IsSoundImage (part_of words header.granules earlier)
+        by_order (inl same) = subst (λ a. IsSoundImage (part_of words header.granules a)) same sound
+        by_order (inr above) = later.before earlier above to
+
+-- from arena 0 on that is the first of all
+pub unsound_of_pool : (bytes words : List ℕ) (header : PoolHeader) (image : IsImageOf bytes words) (fault : ImageFault) → header ≡ image.header → IfDefect fault (HasUnsoundFrom words header 0) → IfDefect fault (IsPoolDefect bytes)
+unsound_of_pool bytes words header image fault same =
+    wider fault (HasUnsoundFrom words header 0) (IsPoolDefect bytes)
+    (λ arena defect from. inr (record {
+      words = words;
+      image = image;
+      unsound = subst (λ (h : PoolHeader). HasUnsound words h arena defect) same (record { inside = from.inside; before = λ earlier below. from.before earlier (omega arith) below; first = from.first });
+    }))
+
+-- an arena of a pool has so many granules at most
+pub few_granules : (header : PoolHeader) → IsFirstHeader header → header.granules ≤ 1024
+unfolding layout_of
+few_granules header first = first.valid.greatest
+
+-- all arenas of a pool, by the words and the header that the code has
+pub answers_by : (bytes words found empty text : List ℕ) (header : PoolHeader) (image : IsImageOf bytes words) (old new : Option (List (Option PmemState))) → found ≡ words → header ≡ image.header → empty ≡ [] →
+    text ≡ empty ++ heaps_from found header.granules 0 (header.arenas - 0) → HasRecovered found header.granules 0 (header.arenas - 0) old new → AnswersRecover bytes text old new
+answers_by bytes words found empty text header image old new same is none text_is shelf =
+    let all : header.arenas - 0 ≡ header.arenas = omega arith in
+    record {
+      words = words;
+      image = image;
+      is = text_is ∙ ap (λ (t : List ℕ). t ++ heaps_from found header.granules 0 (header.arenas - 0)) none ∙ ap (λ n. heaps_from found header.granules 0 n) all
+          ∙ ap (λ (ws : List ℕ). heaps_from ws header.granules 0 header.arenas) same ∙ ap (λ (h : PoolHeader). heaps_from words h.granules 0 h.arenas) is;
+      shelf = subst (λ (h : PoolHeader). HasRecovered words h.granules 0 h.arenas old new) is
+          (subst (λ (ws : List ℕ). HasRecovered ws header.granules 0 header.arenas old new) same (subst (λ n. HasRecovered found header.granules 0 n old new) all shelf));
+    }
