@@ -1,17 +1,15 @@
 -- The arenas of a pool, recovered one after another from one on.
-use Rattle.std.proofs.Common.{◌≡◌, ◌≢◌, ◌⊎◌, ℕ, zero, suc, ◌+◌, ◌-◌, ◌*◌, ◌%◌, ◌<◌, ◌≤◌, List, length, ◌++◌, Option, sym, ap, subst, ◌∙◌, inl, inr, ⊎_elim, [], arith, refl, append_assoc}
+use Rattle.std.proofs.Common.{◌≡◌, ◌⊎◌, ℕ, suc, ◌+◌, ◌-◌, ◌<◌, ◌≤◌, List, ◌++◌, Option, sym, ap, subst, ◌∙◌, inl, inr, ⊎_elim, [], arith, refl}
 use Rattle.std.proofs.lemmas.Bool.{cases_lt}
 use Rattle.pmem_lines.specs.Pmem.{PmemState, fresh}
 use Rattle.pool_layout.specs.declared.header.PoolHeader.{PoolHeader}
 use Rattle.pool_layout.specs.declared.defect.Defect.{Defect as Found}
 use Rattle.pool_layout.specs.declared.image.ImageFault.{ImageFault}
-use Rattle.pool_layout.specs.Image.{part_of, IsFirstHeader, IsPoolImage, IsImageOf, IfDefect}
+use Rattle.pool_layout.specs.Image.{part_of, IsFirstHeader, IsImageOf, IfDefect}
 use Rattle.pool_layout.specs.Layout.{layout_of}
-use Rattle.pool_layout.proofs.Images.{length-part_of}
 use Rattle.heap_check.specs.Image.{IsSoundImage}
-use Rattle.heap_check.proofs.Sizes.{sizes_of}
 use Rattle.image_defects.specs.Defects.{IsFirstDefect}
-use Rattle.recover.specs.Recovered.{IsRecovered, IsRecoveredDevice}
+use Rattle.recover.specs.Recovered.{IsRecovered}
 use Rattle.recover.proofs.Recoveries.{recovered_device}
 use Rattle.image_runs.specs.Checks.{HasUnsound, IsOwnDefect, IsPoolDefect}
 use Rattle.image_runs.specs.Recoveries.{heap_lines, heaps_from}

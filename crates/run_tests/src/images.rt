@@ -1,4 +1,4 @@
-// `check` over images made by hand.
+// `check` and `recover` over images made by hand.
 use crate::runs::ends;
 use nvheap::{MemSink, Status, SureSource};
 use std::alloc::{AllocError, Global};
@@ -43,7 +43,22 @@ fn image_of(alloc: Global, size: usize, runs: &[&[Run]]) -> Result<Vec<u8>, Allo
     Ok(bytes)
 }
 
-// How `check` ends on these bytes, and whether it writes this text.
+// Whether the program, by this word, ends so on these bytes and writes this text.
+fn writes<R: Threads + Wait + Sync>(
+    rt: &R,
+    alloc: Global,
+    word: &str,
+    bytes: &[u8],
+    status: Status,
+    text: &str,
+) -> Result<bool, Fail> {
+    let mut source = SureSource::new(bytes);
+    let mut sink = MemSink::new(alloc, &[], usize::MAX);
+    let ended = ends(rt, alloc, word, &mut source, &mut sink)?;
+    Ok(ended == status && sink.bytes() == text.as_bytes())
+}
+
+// Whether `check` ends so on these bytes and writes this text.
 fn checks<R: Threads + Wait + Sync>(
     rt: &R,
     alloc: Global,
@@ -51,10 +66,60 @@ fn checks<R: Threads + Wait + Sync>(
     status: Status,
     text: &str,
 ) -> Result<bool, Fail> {
-    let mut source = SureSource::new(bytes);
-    let mut sink = MemSink::new(alloc, &[], usize::MAX);
-    let ended = ends(rt, alloc, "check", &mut source, &mut sink)?;
-    Ok(ended == status && sink.bytes() == text.as_bytes())
+    writes(rt, alloc, "check", bytes, status, text)
+}
+
+#[test]
+fn recovers_the_heap(rt: HostRuntime) -> Result<(), Fail> {
+    let rows: [(&[Run], &str); 4] = [
+        (&[], "arena 0 heap 1\n5 67584 112\n"),
+        (&[OPEN, (65600, &[0])], "arena 0 heap 1\n5 67584 112\n"),
+        (&[OPEN, (16424, &[0, 0, 0])], "arena 0 heap 0\n"),
+        (&[(49280, &[1, 8, 0, 2])], "arena 0 heap 1\n5 67584 112\n"),
+    ];
+    for (changes, text) in &rows {
+        let bytes = image_of(rt.alloc(), 262144, &[&IMAGE, changes])?;
+        assert!(rt; writes(&rt, rt.alloc(), "recover", &bytes, Status::Done, text)?);
+    }
+    Ok(())
+}
+
+#[test]
+fn refuses_to_recover(rt: HostRuntime) -> Result<(), Fail> {
+    let bytes = image_of(rt.alloc(), 262144, &[&IMAGE, &[(65536, &[9])]])?;
+    assert!(rt;
+        writes(
+            &rt,
+            rt.alloc(),
+            "recover",
+            &bytes,
+            Status::Refused,
+            "arena 0 bad slab 4 1545\n"
+        )?
+    );
+    let bytes = image_of(rt.alloc(), 524288, &[&TWO])?;
+    assert!(rt;
+        writes(
+            &rt,
+            rt.alloc(),
+            "recover",
+            &bytes,
+            Status::Done,
+            "arena 0 heap 0\narena 1 heap 0\n"
+        )?
+    );
+    let bytes = image_of(rt.alloc(), 524288, &[&TWO, &[(262160, &[17])]])?;
+    assert!(rt;
+        writes(
+            &rt,
+            rt.alloc(),
+            "recover",
+            &bytes,
+            Status::Refused,
+            "arena 1 bad directory 17\n"
+        )?
+    );
+    Ok(())
 }
 
 #[test]
