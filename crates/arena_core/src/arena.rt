@@ -76,7 +76,8 @@ impl<P: Pmem> Arena<P> {
         Arena { device, volatile }
     }
 
-    /// Makes an arena over a memory whose image is exact; `room` is for as many granules as the image has. It begins no call and has no event, and the heap is that of the image. It takes no memory.
+    /// Makes an arena over a memory whose image is exact; `room` is for as many granules as the image has. It begins no call
+    /// and has no event, and the heap is that of the image. It takes no memory.
     pub fn adopt(room: ArenaRoom, device: P) -> Arena<P>
         requires quiet { IsQuiet (P.state device).events }
         requires room { 2048 ≤ (P.state device).room }
