@@ -1,7 +1,7 @@
 // Images, and what becomes of them.
 ghost use Rattle.std.specs.Prelude.{◌≡◌, IfOk, length};
 
-use arena_core::Placed;
+use arena_core::{Freed, Placed};
 use heap_model::Block;
 use pmem_lines::{OutOfMemory, Pmem, SimPmem};
 use pool_layout::Defect;
@@ -107,5 +107,43 @@ pub fn goes_on(
         }
         Err((RecoverFault::Memory(error), _)) => Err(error),
         Err((RecoverFault::Defect(_), _)) => Ok((None, None)),
+    }
+}
+
+/// What an arena answers to a malloc, a free behind it, and the same malloc for another root; and how many events the free
+/// has.
+#[derive(Clone, Copy, Debug, PartialEq, Eq)]
+pub struct Answered {
+    pub before: Option<Placed>,
+    pub freed: Option<Freed>,
+    pub events: u32,
+    pub after: Option<Placed>,
+}
+
+/// An arena that was recovered from the words of a row gives root 3 so many bytes, frees the block of a root, and gives root
+/// 4 as many. `None` where its image is not sound.
+pub fn frees_between(
+    alloc: Global,
+    base: &[Put],
+    root: u32,
+    size: u64,
+) -> Result<Option<Answered>, OutOfMemory> {
+    let words = image(alloc, base, &[])?;
+    let device = SimPmem::from_image(alloc, &words, 2048)?;
+    match recover(alloc, device) {
+        Ok(mut arena) => {
+            let before = arena.malloc_to(0, 3, size).ok();
+            let freed = arena.free_from(0, root).ok();
+            let events = arena.pmem().event_count();
+            let after = arena.malloc_to(0, 4, size).ok();
+            Ok(Some(Answered {
+                before,
+                freed,
+                events,
+                after,
+            }))
+        }
+        Err((RecoverFault::Memory(error), _)) => Err(error),
+        Err((RecoverFault::Defect(_), _)) => Ok(None),
     }
 }

@@ -1,6 +1,7 @@
 // An arena with a large block of 8 granules and a slab at granule 12 that took class 19 and was of class 3 before: one block
 // of each lives.
-use crate::images::{Became, Put, recovered};
+use crate::images::{Answered, Became, Put, frees_between, recovered};
+use arena_core::{Freed, Placed};
 use pool_layout::Defect;
 use std::test::Fail;
 
@@ -111,5 +112,28 @@ fn defects(rt: HostRuntime) -> Result<(), Fail> {
             at: 199680,
         })
     );
+    Ok(())
+}
+
+// Block 0 of the class overlaps the old block, so it is given out only once that is freed. With it goes the slab's
+// transition: behind the 11 events of the free the state word says Normal, by 3.
+#[test]
+fn old_block_goes(rt: HostRuntime) -> Result<(), Fail> {
+    let wanted = Answered {
+        before: Some(Placed {
+            at: 200704,
+            size: 1024,
+        }),
+        freed: Some(Freed {
+            at: 198656,
+            size: 64,
+        }),
+        events: 14,
+        after: Some(Placed {
+            at: 198656,
+            size: 1024,
+        }),
+    };
+    assert_eq!(rt; frees_between(rt.alloc(), &IMAGE, 1, 1000)?, Some(wanted));
     Ok(())
 }
