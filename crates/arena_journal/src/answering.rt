@@ -1,23 +1,26 @@
-// One call of an arena, and the machine's word for its answer.
+// One call of an arena, as an entry of its journal.
 ghost use Rattle.std.specs.Prelude.{◌≡◌, ◌<◌};
 ghost use Rattle.arena_core.specs.Answer.{malloc_reply, free_reply};
-ghost use Rattle.shared_pool.specs.Held.{IsServed, HasAnswered};
+ghost use Rattle.arena_journal.specs.Journals.{IsServed, HasAnswered};
 
 use arena_core::{Arena, FreeRefusal, Freed, MallocRefusal, Placed};
-use heap_model::{Call, Reply};
+use heap_model::{Call, Entry, Reply};
 use pmem_lines::Pmem;
 
-/// Makes one call on an arena, and gives the machine's word for the answer.
-pub(crate) fn reply_to<P: Pmem>(arena: &mut Arena<P>, seat: u32, call: Call) -> Reply
+/// Makes one call of an arena by a seat, below 64, and gives its entry. It takes no memory.
+pub fn answer<P: Pmem>(arena: &mut Arena<P>, seat: u32, call: Call) -> Entry
     requires seat { seat < 64 }
     requires served { IsServed call }
-    ensures { HasAnswered seat arena.old arena.new call result }
+    ensures seat { result.seat ≡ seat }
+    ensures call { result.call ≡ call }
+    ensures answered { HasAnswered seat arena.old arena.new call result.reply }
 {
-    match call {
+    let reply = match call {
         Call::Malloc { root, size } => malloc_reply(arena.malloc_to(seat, root, size)),
         Call::Free { root } => free_reply(arena.free_from(seat, root)),
         _ => unreachable!(),
-    }
+    };
+    Entry { seat, call, reply }
 }
 
 // The machine's word for the answer to a malloc.

@@ -17,7 +17,7 @@ use Rattle.arena_core.specs.Call.{IsReady}
 use Rattle.arena_core.specs.Events.{call_events, line_after}
 use Rattle.arena_lock.specs.declared.opening.Opening.{Opening}
 use Rattle.arena_lock.specs.Legality.{opening_words, machine_in, IsLegal}
-use Rattle.shared_pool.specs.Held.{opened, IsServed, begins_call, begun_by, line_behind, IsUntouched, IsBehindCall, IsHeld, HasAnswered}
+use Rattle.arena_journal.specs.Journals.{opened, IsServed, begins_call, begun_by, line_behind, IsUntouched, IsBehindCall, IsBehind, HasAnswered}
 
 -- an entry more leads on
 leads_more : {State : Type 0} (Steps : State → Entry → State → Type 0) (m middle next : State) (journal : List Entry) (e : Entry) → Leads Steps m journal middle → Steps middle e next → Leads Steps m (journal ++ e ∷ []) next
@@ -56,8 +56,8 @@ served_begins (Read root index) h = absurd h
 served_begins (Move from to) h = absurd h
 
 -- nothing was asked yet
-pub held_none : (a : ArenaState) → IsReady a.device → IsExactImage (words_of a.device) → IsHeld (opened a) [] a
-held_none a ready exact =
+pub behind_none : (a : ArenaState) → IsReady a.device → IsExactImage (words_of a.device) → IsBehind (opened a) [] a
+behind_none a ready exact =
     let state : HasState (words_of a.device) (machine_in (words_of a.device)) = record { blocks = λ root. refl; slabs = λ start. refl; values = λ root index word e. absurd (cc e) } in record {
       machine = machine_in (words_of a.device);
       leads = refl;
@@ -72,7 +72,7 @@ held_none a ready exact =
     }
 
 -- a call more that is no Read
-module _ (o : Opening) (journal : List Entry) (old new : ArenaState) (e : Entry) (held : IsHeld o journal old) (begins : begins_call e.call ≡ true) (answered : HasAnswered e.seat old new e.call e.reply) where
+module _ (o : Opening) (journal : List Entry) (old new : ArenaState) (e : Entry) (held : IsBehind o journal old) (begins : begins_call e.call ≡ true) (answered : HasAnswered e.seat old new e.call e.reply) where
   base : words_of old.device ≡ new.device.base
   base = sym (ap (λ (s : PmemState). s.base) answered.device)
 
@@ -104,8 +104,8 @@ module _ (o : Opening) (journal : List Entry) (old new : ArenaState) (e : Entry)
   begun : new.device.begins ≡ risen o.begins (begun_by (journal ++ e ∷ []))
   begun = ap (λ (s : PmemState). s.begins) answered.device ∙ (ap (λ n. risen n 1) held.begins ∙ (risen_one o.begins (begun_by journal) ∙ ap (risen o.begins) (sym count)))
 
-  pub held_more : IsHeld o (journal ++ e ∷ []) new
-  held_more = record {
+  pub behind_more : IsBehind o (journal ++ e ∷ []) new
+  behind_more = record {
     machine = found.0;
     leads = leads_more (IsPlacedEntry plain (bounds_of (opening_words o))) _ (bare held.machine) (bare found.0) journal e held.leads found.1;
     state = found.2;
@@ -127,8 +127,15 @@ untouched o now (inl u) = ap opened u.same
 untouched o now (inr c) = absurd (none_of c.before c.reads c.entry c.is)
 
 -- where no call was made the arena is as it was
-pub held_still : (o : Opening) (now : ArenaState) → IsHeld o [] now → opened now ≡ o
-held_still o now h = untouched o now h.last
+pub behind_still : (o : Opening) (now : ArenaState) → IsBehind o [] now → opened now ≡ o
+behind_still o now h = untouched o now h.last
 
-pub held_legal : (o : Opening) (journal : List Entry) (now : ArenaState) → IsHeld o journal now → IsLegal o journal
-held_legal o journal now h = (bare h.machine, h.leads)
+pub behind_legal : (o : Opening) (journal : List Entry) (now : ArenaState) → IsBehind o journal now → IsLegal o journal
+behind_legal o journal now h = (bare h.machine, h.leads)
+
+-- the same of an entry that tells of its seat and its call
+pub behind_answered : (o : Opening) (journal : List Entry) (old new : ArenaState) (seat : ℕ) (call : Call) (e : Entry) → IsBehind o journal old → IsServed call → e.seat ≡ seat → e.call ≡ call →
+    HasAnswered seat old new call e.reply → IsBehind o (journal ++ e ∷ []) new
+behind_answered o journal old new seat call e behind served is_seat is_call answered =
+    behind_more o journal old new e behind (subst (λ (c : Call). begins_call c ≡ true) (sym is_call) (served_begins call served))
+    (subst (λ (s : ℕ). HasAnswered s old new e.call e.reply) (sym is_seat) (subst (λ (c : Call). HasAnswered seat old new c e.reply) (sym is_call) answered))

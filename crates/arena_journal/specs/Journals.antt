@@ -1,5 +1,6 @@
--- The value behind an arena's lock: the arena as it was handed over, the calls since, and the arena now.
-use Rattle.std.specs.Prelude.{◌≡◌, ◌⊎◌, ℕ, suc, Bool, true, false, if◌then◌else◌, List, [], ◌∷◌, ◌++◌, length, Result, Ok, Err}
+-- What a journal says of the arena that it is of: the opening, which is the arena as the journal began, the entries since,
+-- and the arena as it is now.
+use Rattle.std.specs.Prelude.{◌≡◌, ◌⊎◌, ℕ, suc, Bool, true, false, if◌then◌else◌, List, [], ◌∷◌, ◌++◌}
 use Rattle.pmem_lines.specs.Events.{CrashOnly}
 use Rattle.pmem_lines.specs.Pmem.{words_of, began, appended, risen}
 use Rattle.heap_model.specs.declared.call.Call.{Call}
@@ -15,7 +16,6 @@ use Rattle.arena_core.specs.Call.{IsReady, IsStepOf}
 use Rattle.arena_core.specs.Events.{call_events, line_after}
 use Rattle.arena_lock.specs.declared.opening.Opening.{Opening}
 use Rattle.arena_lock.specs.Legality.{opening_words, LeadsTo}
-use Rattle.shared_pool.specs.declared.job.Receipt.{Receipt}
 
 -- openings
 
@@ -25,12 +25,6 @@ opened a = record { base = a.device.base; events = a.device.events; room = a.dev
 
 abbrev pub arena_of : Opening → ArenaState
 arena_of o = record { device = record { base = o.base; events = o.events; room = o.room; begins = o.begins; made = o.made }; line = o.next_line }
-
--- the value that a lock has: the arena when it was handed over, the calls since, and the arena now
-pub record Held : Type 0 where
-  pub opening : Opening
-  pub journal : List Entry
-  pub now : ArenaState
 
 -- calls
 
@@ -87,7 +81,7 @@ pub record IsBehindCall (o : Opening) (journal : List Entry) (now : ArenaState) 
 -- The journal leads from the opening to the arena as it is: to its blocks, slabs and words, with all stacks empty, to its
 -- write-ahead line, and to its count of begun calls. No two blocks overlap, and the memory is quiet and exact. Base and
 -- events are those of the last call that is no Read, or those of the opening.
-pub record IsHeld (o : Opening) (journal : List Entry) (now : ArenaState) : Type 0 where
+pub record IsBehind (o : Opening) (journal : List Entry) (now : ArenaState) : Type 0 where
   pub machine : Machine
   pub leads : LeadsTo o journal (bare machine)
   pub state : HasState (words_of now.device) machine
@@ -112,8 +106,3 @@ pub record HasAnswered (seat : ℕ) (old new : ArenaState) (call : Call) (reply 
   pub exact : IsExactImage (words_of new.device)
   pub ready : IsReady new.device
   pub crash : CrashOnly new.device.base new.device.events (IsEitherHeap (words_of old.device) (words_of new.device))
-
--- the journal grew by the receipt's entry, of this seat and call, which stands at the receipt's place; or it stayed
-abbrev pub Receives : {E : Type 0} → ℕ → Call → List Entry → List Entry → Result Receipt E → Type 0
-Receives seat call before after (Ok r) = (after ≡ before ++ r.entry ∷ []) × (r.place ≡ length before) × (r.entry.seat ≡ seat) × (r.entry.call ≡ call)
-Receives seat call before after (Err e) = after ≡ before
