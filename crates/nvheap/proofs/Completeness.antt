@@ -1,5 +1,5 @@
 -- An input that a command accepts is not refused, so that without a fault the command is done, or wants memory.
-use Rattle.std.proofs.Common.{◌≡◌, ◌⊎◌, ℕ, ◌+◌, ◌*◌, ◌<◌, ◌≤◌, List, [], ◌∷◌, ◌++◌, length, length-append, Option, Some, None, codes, refl, sym, ap, ◌∙◌, subst, inl, inr, arith}
+use Rattle.std.proofs.Common.{◌≡◌, ◌⊎◌, ℕ, ◌+◌, ◌*◌, ◌<◌, ◌≤◌, List, [], ◌++◌, ◌^◌, length, length-append, get_or, Option, Some, None, refl, sym, ap, ◌∙◌, subst, inl, inr, arith}
 use Rattle.std.specs.Prelude.{decimal}
 use Rattle.std.proofs.lemmas.List.{append-nil}
 use Rattle.std.proofs.lemmas.Fmt.{decimal_injective}
@@ -8,32 +8,29 @@ use Rattle.pool_layout.specs.declared.header.PoolHeader.{PoolHeader}
 use Rattle.pool_layout.specs.declared.defect.Defect.{Defect}
 use Rattle.pool_layout.specs.Header.{header_word, fields_of}
 use Rattle.pool_layout.specs.Places.{fields_word}
-use Rattle.pool_layout.specs.Image.{part_of, IsImageOf, IsPoolImage}
+use Rattle.pool_layout.specs.Image.{part_of, IsPoolImage}
 use Rattle.pool_layout.proofs.Headers.{header_fits, fields_of-header_word}
 use Rattle.pool_layout.proofs.Images.{some_granules, word_at-part_of}
 use Rattle.pool_layout.proofs.OneImage.{law_of_no_defect}
-use Rattle.heap_check.specs.Image.{IsSoundImage}
-use Rattle.image_defects.specs.Defects.{IsFirstDefect}
 use Rattle.image_defects.proofs.Faultless.{faultless_of}
 use Rattle.image_defects.proofs.Order.{no_defect}
-use Rattle.image_runs.specs.Checks.{HasUnsound, HasUnsoundArena, IsPoolDefect}
+use Rattle.image_runs.specs.Checks.{HasUnsound, IsPoolDefect}
 use Rattle.trace_text.specs.declared.call.Refusal.{Refusal}
 use Rattle.trace_text.specs.declared.call.Refusal.TheVariants.{BadLine, NoArena, NoEvent}
 use Rattle.trace_text.specs.declared.call.TraceCall.{TraceCall}
-use Rattle.trace_text.specs.Grammar.{IsTrace}
 use Rattle.trace_text.proofs.OneMeaning.{law_of_one_trace, law_of_no_refusal}
-use Rattle.trace_runs.specs.Crash.{HasFewer, IsRunOf, total_events, Stage}
+use Rattle.trace_runs.specs.Crash.{HasFewer}
 use Rattle.nvheap.specs.declared.command.Command.{Command}
 use Rattle.nvheap.specs.declared.command.Command.TheVariants.{Replay, Image, Check, Recover, Crash}
 use Rattle.nvheap.specs.declared.cause.Cause.{Cause}
 use Rattle.nvheap.specs.declared.cause.Cause.TheVariants as causes
 use Rattle.nvheap.specs.declared.status.Status.{Status}
 use Rattle.nvheap.specs.declared.status.Status.TheVariants as ends
-use Rattle.nvheap.specs.Outside.{Outside, Gives, GivesAll, GivesMore}
+use Rattle.nvheap.specs.Outside.{Outside, Gives}
 use Rattle.nvheap.specs.Command.{IsCommand}
 use Rattle.nvheap.specs.Inputs.{limit_of, HasLeft, HasRead, HasReadMore}
 use Rattle.nvheap.specs.Answers.{LacksEvent}
-use Rattle.nvheap.specs.Ends.{Refuses, RefusesTrace, RefusesCrash, Ends, IsSaid}
+use Rattle.nvheap.specs.Ends.{Refuses, RefusesTrace, RefusesCrash, Ends}
 use Rattle.nvheap.specs.Accepted.{HasTrace, HasEvents, HasSoundArenas, Accepts, HasAcceptable, IsAccepted}
 
 -- one input
@@ -63,39 +60,63 @@ not_more (Some n) left (Some after) input has more =
 
 -- one command
 
-one_command : (words : List (List ℕ)) (a b : Command) → IsCommand words a → IsCommand words b → a ≡ b
-one_command words Replay Replay p q = refl
-one_command words Replay Image p q = absurd (cc)
-one_command words Replay Check p q = absurd (cc)
-one_command words Replay Recover p q = absurd (cc)
-one_command words Replay (Crash a e s) p q = absurd (cc (p, q.0))
-one_command words Image Replay p q = absurd (cc)
-one_command words Image Image p q = refl
-one_command words Image Check p q = absurd (cc)
-one_command words Image Recover p q = absurd (cc)
-one_command words Image (Crash a e s) p q = absurd (cc (p, q.0))
-one_command words Check Replay p q = absurd (cc)
-one_command words Check Image p q = absurd (cc)
-one_command words Check Check p q = refl
-one_command words Check Recover p q = absurd (cc)
-one_command words Check (Crash a e s) p q = absurd (cc (p, q.0))
-one_command words Recover Replay p q = absurd (cc)
-one_command words Recover Image p q = absurd (cc)
-one_command words Recover Check p q = absurd (cc)
-one_command words Recover Recover p q = refl
-one_command words Recover (Crash a e s) p q = absurd (cc (p, q.0))
-one_command words (Crash a e s) Replay p q = absurd (cc (p.0, q))
-one_command words (Crash a e s) Image p q = absurd (cc (p.0, q))
-one_command words (Crash a e s) Check p q = absurd (cc (p.0, q))
-one_command words (Crash a e s) Recover p q = absurd (cc (p.0, q))
-one_command words (Crash a e s) (Crash b f t) p q =
+-- the fourth letter of the first word tells commands apart
+abbrev letter : List (List ℕ) → ℕ
+letter words = get_or (get_or words 0 []) 3 0
+
+abbrev letter_of : Command → ℕ
+letter_of Replay = 108
+letter_of Image = 103
+letter_of Check = 99
+letter_of Recover = 111
+letter_of (Crash arena event seed) = 115
+
+said_letter : (words : List (List ℕ)) (command : Command) → IsCommand words command → letter words ≡ letter_of command
+said_letter words Replay said = ap letter said
+said_letter words Image said = ap letter said
+said_letter words Check said = ap letter said
+said_letter words Recover said = ap letter said
+said_letter words (Crash arena event seed) said = ap letter said.0
+
+same_number : (a b : ℕ) → decimal a ≡ decimal b → a < 2 ^ 64 → b < 2 ^ 64 → a ≡ b
+same_number a b same fits other = decimal_injective a b (omega (arith, fits)) (omega (arith, other)) same
+
+same_crash : (words : List (List ℕ)) (a e s b f t : ℕ) → IsCommand words (Crash a e s) → IsCommand words (Crash b f t) → Crash a e s ≡ Crash b f t
+same_crash words a e s b f t p q =
     let arena : decimal a ≡ decimal b = cc (p.0, q.0) in
     let event : decimal e ≡ decimal f = cc (p.0, q.0) in
     let seed : decimal s ≡ decimal t = cc (p.0, q.0) in
-    let same_arena : a ≡ b = decimal_injective a b (omega (arith, p.1)) (omega (arith, q.1)) arena in
-    let same_event : e ≡ f = decimal_injective e f (omega (arith, p.2)) (omega (arith, q.2)) event in
-    let same_seed : s ≡ t = decimal_injective s t (omega (arith, p.3)) (omega (arith, q.3)) seed in
-    cc
+    cc (same_number a b arena (omega (arith, p.1)) (omega (arith, q.1)), same_number e f event p.2 q.2, same_number s t seed p.3 q.3)
+
+one_of_letter : (words : List (List ℕ)) (a b : Command) → letter_of a ≡ letter_of b → IsCommand words a → IsCommand words b → a ≡ b
+one_of_letter words Replay Replay same p q = refl
+one_of_letter words Replay Image same p q = absurd (omega (arith, same))
+one_of_letter words Replay Check same p q = absurd (omega (arith, same))
+one_of_letter words Replay Recover same p q = absurd (omega (arith, same))
+one_of_letter words Replay (Crash b f t) same p q = absurd (omega (arith, same))
+one_of_letter words Image Replay same p q = absurd (omega (arith, same))
+one_of_letter words Image Image same p q = refl
+one_of_letter words Image Check same p q = absurd (omega (arith, same))
+one_of_letter words Image Recover same p q = absurd (omega (arith, same))
+one_of_letter words Image (Crash b f t) same p q = absurd (omega (arith, same))
+one_of_letter words Check Replay same p q = absurd (omega (arith, same))
+one_of_letter words Check Image same p q = absurd (omega (arith, same))
+one_of_letter words Check Check same p q = refl
+one_of_letter words Check Recover same p q = absurd (omega (arith, same))
+one_of_letter words Check (Crash b f t) same p q = absurd (omega (arith, same))
+one_of_letter words Recover Replay same p q = absurd (omega (arith, same))
+one_of_letter words Recover Image same p q = absurd (omega (arith, same))
+one_of_letter words Recover Check same p q = absurd (omega (arith, same))
+one_of_letter words Recover Recover same p q = refl
+one_of_letter words Recover (Crash b f t) same p q = absurd (omega (arith, same))
+one_of_letter words (Crash a e s) Replay same p q = absurd (omega (arith, same))
+one_of_letter words (Crash a e s) Image same p q = absurd (omega (arith, same))
+one_of_letter words (Crash a e s) Check same p q = absurd (omega (arith, same))
+one_of_letter words (Crash a e s) Recover same p q = absurd (omega (arith, same))
+one_of_letter words (Crash a e s) (Crash b f t) same p q = same_crash words a e s b f t p q
+
+one_command : (words : List (List ℕ)) (a b : Command) → IsCommand words a → IsCommand words b → a ≡ b
+one_command words a b p q = one_of_letter words a b (sym (said_letter words a p) ∙ said_letter words b q) p q
 
 -- no refusal
 

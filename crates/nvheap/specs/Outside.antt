@@ -15,6 +15,14 @@ pub record Outside : Type 0 where
 abbrev pub told_by : {S K H : Type 0} → (S → Option (List ℕ)) → (K → Option (List ℕ)) → (H → Option (List (Option PmemState))) → (H → ℕ) → S → K → H → Outside
 told_by left taken places images source sink shelf = record { left = left source; taken = taken sink; places = places shelf; images = images shelf }
 
+-- what stands in the shelf's places stays
+abbrev pub KeepsPlaces : Outside → Outside → Type 0
+KeepsPlaces old new = new.places ≡ old.places
+
+-- the shelf's count of devices made of images stays
+abbrev pub KeepsImages : Outside → Outside → Type 0
+KeepsImages old new = new.images ≡ old.images
+
 -- a count of faults rose, or it stands at the end of its type
 abbrev pub Rose : ℕ → ℕ → Type 0
 Rose old new = (old < new) ⊎ (new ≡ 2 ^ 64 - 1)

@@ -1,7 +1,7 @@
 // The top call.
 ghost use Rattle.std.specs.Prelude.{◌≡◌, ◌≢◌, ◌↔◌, ◌⊎◌, map, string_bytes};
 ghost use Rattle.nvheap.specs.declared.command.Command.TheVariants as commands;
-ghost use Rattle.nvheap.specs.Outside.{told_by, Rose};
+ghost use Rattle.nvheap.specs.Outside.{told_by, Rose, KeepsPlaces, KeepsImages};
 ghost use Rattle.nvheap.specs.Command.{IsCommand, IsNoCommand};
 ghost use Rattle.nvheap.specs.Ends.{Ends, IsDone, IsRefused, IsWithinLimit, IsCutShort, IsTooLong, IsSilent, IsAside};
 ghost use Rattle.nvheap.specs.Accepted.{IsAccepted};
@@ -51,8 +51,10 @@ pub fn run<R: Threads + Wait + Sync, S: Source, K: Sink, G: Gate + Sync, H: Shel
         IsAccepted (map string_bytes words.now) (told source.old sink.old shelf.old) → ¬ (Rose (S.faults source.old) (S.faults source.new)) → ¬ (Rose (K.faults sink.old) (K.faults sink.new)) →
         (result ≡ Status.Done) ⊎ (result ≡ Status.Memory) }
     ensures silent { IsSilent result → sink.new ≡ sink.old }
-    ensures aside { IsAside result → H.places shelf.new ≡ H.places shelf.old }
-    ensures images { ¬ (IsCommand (map string_bytes words.now) commands.Recover) → H.images shelf.new ≡ H.images shelf.old }
+    ensures aside { let told = told_by S.left K.taken H.places H.images in
+        IsAside result → KeepsPlaces (told source.old sink.old shelf.old) (told source.new sink.new shelf.new) }
+    ensures images { let told = told_by S.left K.taken H.places H.images in
+        ¬ (IsCommand (map string_bytes words.now) commands.Recover) → KeepsImages (told source.old sink.old shelf.old) (told source.new sink.new shelf.new) }
 {
     let Some(command) = command_of(words) else {
         return Status::Usage;
