@@ -29,19 +29,20 @@ pub(crate) enum Answer {
     FaultLine(Vec<u8>),
 }
 
-/// The answer of a command. A refusal and want of memory leave the shelf's places as they were.
+/// The answer of a command that does not wait. A refusal and want of memory leave the shelf's places as they were.
 pub(crate) fn answer_to<H: Shelf>(
     alloc: Global,
     command: Command,
     input: &[u8],
     shelf: &mut H,
 ) -> Result<Answer, OutOfMemory>
+    requires { command ≢ commands.Replay }
     ensures answer { IfOk result (IsAnswer command input.now (H.places shelf.old) (H.places shelf.new)) }
     ensures kept { OnErr result (H.places shelf.new ≡ H.places shelf.old) }
     ensures images { command ≢ commands.Recover → H.images shelf.new ≡ H.images shelf.old }
 {
     match command {
-        Command::Replay => replay_answer(alloc, input, shelf),
+        Command::Replay => unreachable!(),
         Command::Image => image_answer(alloc, input, shelf),
         Command::Check => check_answer(alloc, input),
         Command::Recover => recover_answer(alloc, input, shelf),
@@ -49,8 +50,8 @@ pub(crate) fn answer_to<H: Shelf>(
     }
 }
 
-// The report of a trace; its device is put into place 0.
-fn replay_answer<H: Shelf>(
+/// The report of a trace; its device is put into place 0.
+pub(crate) fn replay_answer<H: Shelf>(
     alloc: Global,
     input: &[u8],
     shelf: &mut H,
