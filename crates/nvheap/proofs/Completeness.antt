@@ -17,7 +17,10 @@ use Rattle.image_defects.proofs.Order.{no_defect}
 use Rattle.image_runs.specs.Checks.{HasUnsound, IsPoolDefect}
 use Rattle.trace_text.specs.declared.call.Refusal.{Refusal}
 use Rattle.trace_text.specs.declared.call.Refusal.TheVariants.{BadLine, NoArena, NoEvent}
+use Rattle.trace_text.specs.declared.call.PoolSize.{PoolSize}
 use Rattle.trace_text.specs.declared.call.TraceCall.{TraceCall}
+use Rattle.trace_runs.specs.Arenas.{header_for}
+use Rattle.trace_runs.specs.Calls.{calls_of}
 use Rattle.trace_text.proofs.OneMeaning.{law_of_one_trace, law_of_no_refusal}
 use Rattle.trace_runs.specs.Crash.{HasFewer}
 use Rattle.nvheap.specs.declared.command.Command.{Command}
@@ -29,7 +32,6 @@ use Rattle.nvheap.specs.declared.status.Status.TheVariants as ends
 use Rattle.nvheap.specs.Outside.{Outside, Gives}
 use Rattle.nvheap.specs.Command.{IsCommand}
 use Rattle.nvheap.specs.Inputs.{limit_of, HasLeft, HasRead, HasReadMore}
-use Rattle.nvheap.specs.Answers.{LacksEvent}
 use Rattle.nvheap.specs.Ends.{Refuses, RefusesTrace, RefusesCrash, Ends}
 use Rattle.nvheap.specs.Accepted.{HasTrace, HasEvents, HasSoundArenas, Accepts, HasAcceptable, IsAccepted}
 
@@ -144,19 +146,22 @@ sound_not_refused input arena defect all (inr un) =
 
 -- a trace has no refused line
 trace_not_refused : (input : List ℕ) (refusal : Refusal) → HasTrace input → ¬ (RefusesTrace input refusal)
-trace_not_refused input (BadLine line) has refused = law_of_no_refusal input has.granules has.calls line has.trace refused
+trace_not_refused input (BadLine line) has refused = law_of_no_refusal input has.pool has.calls line has.trace refused
 trace_not_refused input (NoArena arena arenas) has refused = refused
 trace_not_refused input (NoEvent event events) has refused = refused
 
 -- where the trace has the arena, and its calls the event, `crash` refuses nothing
-crash_not_refused : (arena event : ℕ) (input : List ℕ) (refusal : Refusal) → arena ≡ 0 → HasEvents input event → ¬ (RefusesCrash arena event input refusal)
-crash_not_refused arena event input (BadLine line) first has refused = law_of_no_refusal input has.granules has.calls line has.trace refused
-crash_not_refused arena event input (NoArena number arenas) first has refused = omega (arith, first, refused.lacks)
-crash_not_refused arena event input (NoEvent number events) first has refused =
-    let lacks : LacksEvent input event number events = refused.1 in
-    let same = law_of_one_trace input lacks.granules has.granules lacks.calls has.calls lacks.trace has.trace in
-    let fewer : HasFewer has.granules has.calls event events =
-    subst (λ (cs : List TraceCall). HasFewer has.granules cs event events) same.1 (subst (λ n. HasFewer n lacks.calls event events) same.0 lacks.fewer) in
+crash_not_refused : (arena event : ℕ) (input : List ℕ) (refusal : Refusal) → HasEvents input arena event → ¬ (RefusesCrash arena event input refusal)
+crash_not_refused arena event input (BadLine line) has refused = law_of_no_refusal input has.pool has.calls line has.trace refused
+crash_not_refused arena event input (NoArena number arenas) has refused =
+    let same = law_of_one_trace input refused.pool has.pool refused.calls has.calls refused.trace has.trace in
+    let few : refused.pool.arenas ≡ has.pool.arenas = ap (λ (p : PoolSize). p.arenas) same.0 in
+    omega (arith, few, refused.lacks, has.inside)
+crash_not_refused arena event input (NoEvent number events) has lacks =
+    let same = law_of_one_trace input lacks.pool has.pool lacks.calls has.calls lacks.trace has.trace in
+    let fewer : HasFewer (header_for has.pool arena) (calls_of arena has.calls) event events =
+    subst (λ (cs : List TraceCall). HasFewer (header_for has.pool arena) (calls_of arena cs) event events) same.1
+    (subst (λ (p : PoolSize). HasFewer (header_for p arena) (calls_of arena lacks.calls) event events) same.0 lacks.fewer) in
     omega (arith, fewer.lacks, fewer.is_all, has.enough fewer.stages fewer.run)
 
 -- what a command accepts it does not refuse
@@ -169,7 +174,7 @@ accepted_not_refused Check input (causes.Trace refusal) has refused = refused
 accepted_not_refused Check input (causes.Image arena defect) has refused = sound_not_refused input arena defect has refused
 accepted_not_refused Recover input (causes.Trace refusal) has refused = refused
 accepted_not_refused Recover input (causes.Image arena defect) has refused = sound_not_refused input arena defect has refused
-accepted_not_refused (Crash arena event seed) input (causes.Trace refusal) has refused = crash_not_refused arena event input refusal has.0 has.1 refused
+accepted_not_refused (Crash arena event seed) input (causes.Trace refusal) has refused = crash_not_refused arena event input refusal has refused
 accepted_not_refused (Crash arena event seed) input (causes.Image found defect) has refused = refused
 
 -- how a command ends on what it accepts, where neither the source nor the sink failed

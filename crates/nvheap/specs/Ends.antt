@@ -36,7 +36,7 @@ Answers commands.Replay input output old new = AnswersReplay input output old ne
 Answers commands.Image input output old new = AnswersImage input output old new
 Answers commands.Check input output old new = IsChecked input output × (new ≡ old)
 Answers commands.Recover input output old new = AnswersRecover input output old new
-Answers (commands.Crash arena event seed) input output old new = (arena ≡ 0) × AnswersCrash input output event seed × (new ≡ old)
+Answers (commands.Crash arena event seed) input output old new = AnswersCrash input output arena event seed old new
 
 -- the line that says why an input is refused
 abbrev pub cause_text : Cause → List ℕ
@@ -53,7 +53,7 @@ RefusesTrace input (NoEvent event events) = ⊥
 abbrev pub RefusesCrash : ℕ → ℕ → List ℕ → Refusal → Type 0
 RefusesCrash asked event input (BadLine line) = IsRefusedLine input line
 RefusesCrash asked event input (NoArena arena arenas) = LacksArena input asked arena arenas
-RefusesCrash asked event input (NoEvent found events) = (asked ≡ 0) × LacksEvent input event found events
+RefusesCrash asked event input (NoEvent found events) = LacksEvent input asked event found events
 
 -- why a command refuses an input
 abbrev pub Refuses : Command → List ℕ → Cause → Type 0

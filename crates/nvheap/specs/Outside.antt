@@ -1,6 +1,6 @@
 -- What the outside tells: what a source gives and a sink takes, where they tell their bytes, and what stands on a shelf, where
 -- it tells that.
-use Rattle.std.specs.Prelude.{◌≡◌, ◌⊎◌, ◌<◌, ◌≤◌, ℕ, ◌-◌, ◌+◌, ◌^◌, List, [], ◌++◌, length, Option, Some, None, slice_set}
+use Rattle.std.specs.Prelude.{◌≡◌, ◌⊎◌, ◌<◌, ◌≤◌, ℕ, suc, ◌-◌, ◌+◌, ◌^◌, List, [], ◌∷◌, ◌++◌, length, Option, Some, None, slice_set}
 use Rattle.pmem_lines.specs.Pmem.{PmemState}
 
 -- what the outside tells: the bytes that the source has left, those that the sink took, what stands in the places of the
@@ -77,3 +77,8 @@ pub record TakesFront (old new : Option (List ℕ)) (bytes : List ℕ) : Type 0 
 abbrev pub put_device : Option (List (Option PmemState)) → ℕ → PmemState → Option (List (Option PmemState))
 put_device (Some places) arena state = Some (slice_set places arena (Some state))
 put_device None arena state = None
+
+-- places of a shelf are set, from one on
+abbrev pub put_devices : Option (List (Option PmemState)) → ℕ → List PmemState → Option (List (Option PmemState))
+put_devices places arena [] = places
+put_devices places arena (device ∷ devices) = put_device (put_devices places (suc arena) devices) arena device

@@ -41,6 +41,7 @@ pub(crate) fn read_input<S: Source>(
     source: &mut S,
 ) -> Result<Vec<u8>, Status>
     ensures read { IfOk result (λ input. HasRead (limit_of command) (S.left source.old) (S.left source.new) input.items) }
+    ensures short { IfOk result (λ input. length input.items < 2 ^ 32) }
     ensures unread { IfErr result (IsUnread command (S.left source.old) (S.left source.new)) }
     ensures failed { result ≡ Err Status.ReadFault → Rose (S.faults source.old) (S.faults source.new) }
 {

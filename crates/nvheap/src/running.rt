@@ -2,15 +2,15 @@
 ghost use Rattle.std.specs.Prelude.{◌≡◌, ◌≢◌, ◌↔◌, ◌⊎◌, map, string_bytes};
 ghost use Rattle.nvheap.specs.declared.command.Command.TheVariants as commands;
 ghost use Rattle.nvheap.specs.Outside.{told_by, Rose, KeepsPlaces, KeepsImages};
-ghost use Rattle.nvheap.specs.Command.{IsCommand, IsNoCommand};
-ghost use Rattle.nvheap.specs.Ends.{Ends, IsDone, IsRefused, IsWithinLimit, IsCutShort, IsTooLong, IsSilent, IsAside};
+ghost use Rattle.nvheap.specs.Command.{IsNoCommand, Recovers};
+ghost use Rattle.nvheap.specs.Ends.{Ends, IsSaid, IsDone, IsRefused, IsWithinLimit, IsCutShort, IsTooLong, IsSilent, IsAside};
 ghost use Rattle.nvheap.specs.Accepted.{IsAccepted};
 
-use crate::answers::{answer_to, replay_answer};
+use crate::answers::answer_to;
 use crate::command::{Command, command_of};
-use crate::gate::Gate;
 use crate::input::read_input;
 use crate::output::write_answer;
+use crate::replaying::replay_answer;
 use crate::shelf::Shelf;
 use crate::sink::Sink;
 use crate::source::Source;
@@ -18,6 +18,7 @@ use crate::status::Status;
 use std::alloc::Global;
 use std::sync::Wait;
 use std::thread::Threads;
+use trace_workers::Gate;
 
 /// Does all that the program does: reads the words, then all of the source, runs the command, and then writes. `words`
 /// are the words after the program's name.
@@ -54,7 +55,7 @@ pub fn run<R: Threads + Wait + Sync, S: Source, K: Sink, G: Gate + Sync, H: Shel
     ensures aside { let told = told_by S.left K.taken H.places H.images in
         IsAside result → KeepsPlaces (told source.old sink.old shelf.old) (told source.new sink.new shelf.new) }
     ensures images { let told = told_by S.left K.taken H.places H.images in
-        ¬ (IsCommand (map string_bytes words.now) commands.Recover) → KeepsImages (told source.old sink.old shelf.old) (told source.new sink.new shelf.new) }
+        ¬ (IsSaid (map string_bytes words.now) Recovers) → KeepsImages (told source.old sink.old shelf.old) (told source.new sink.new shelf.new) }
 {
     let Some(command) = command_of(words) else {
         return Status::Usage;
@@ -67,11 +68,11 @@ pub fn run<R: Threads + Wait + Sync, S: Source, K: Sink, G: Gate + Sync, H: Shel
 
 // Runs `replay`, the command that may wait.
 fn run_waiting<R: Threads + Wait + Sync, S: Source, K: Sink, G: Gate + Sync, H: Shelf>(
-    _rt: &R,
+    rt: &R,
     alloc: Global,
     source: &mut S,
     sink: &mut K,
-    _gate: &G,
+    gate: &G,
     shelf: &mut H,
 ) -> Status
     ensures ends { let told = told_by S.left K.taken H.places H.images in
@@ -86,7 +87,7 @@ fn run_waiting<R: Threads + Wait + Sync, S: Source, K: Sink, G: Gate + Sync, H: 
         Ok(input) => input,
         Err(status) => return status,
     };
-    match replay_answer(alloc, &input, shelf) {
+    match replay_answer(rt, alloc, &input, gate, shelf) {
         Ok(answer) => write_answer(sink, &answer),
         Err(_) => Status::Memory,
     }
@@ -107,7 +108,7 @@ fn run_returning<S: Source, K: Sink, H: Shelf>(
     ensures write_fault { result ≡ Status.WriteFault → Rose (K.faults sink.old) (K.faults sink.new) }
     ensures silent { IsSilent result → sink.new ≡ sink.old }
     ensures aside { IsAside result → H.places shelf.new ≡ H.places shelf.old }
-    ensures images { command ≢ commands.Recover → H.images shelf.new ≡ H.images shelf.old }
+    ensures images { ¬ (Recovers command) → H.images shelf.new ≡ H.images shelf.old }
 {
     let input = match read_input(alloc, command, source) {
         Ok(input) => input,

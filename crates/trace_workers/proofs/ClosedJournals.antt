@@ -78,9 +78,9 @@ answers_from calls seats a ps [] (c ∷ cs) all by d h = h
 answers_from calls seats a ps (o ∷ os) [] all by d h = h
 answers_from calls seats a ps (o ∷ os) (c ∷ cs) all by d h = (
   (
-    let threads : (t : ℕ) → calls_in (calls_by t c.0) ≡ asked t a calls = λ t. threads_of seats t a calls ps c.0 (below_or t seats) all by d h.0.agree h.0.below in
-    record { behind = h.0.held; threads = threads; few = few_entries seats a calls c.0 h.0.below threads }
-  ),
+      let threads : (t : ℕ) → calls_in (calls_by t c.0) ≡ asked t a calls = λ t. threads_of seats t a calls ps c.0 (below_or t seats) all by d h.0.agree h.0.below in
+      record { behind = h.0.held; threads = threads; few = few_entries seats a calls c.0 h.0.below threads }
+      ),
   answers_from calls seats (suc a) (map behead ps) os cs (subst (λ ns. HasAll seats ns) (sym (numbers_behead ps)) all) by (from_next a calls ps d) h.1,
 )
 

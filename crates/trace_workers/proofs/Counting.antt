@@ -1,5 +1,5 @@
 -- A journal of which every thread has just what it asks has no more entries than the trace has calls.
-use Rattle.std.proofs.Common.{◌≡◌, ◌≢◌, ℕ, zero, suc, ◌+◌, ◌≤◌, ◌<◌, ◌==◌, ◌&&◌, Bool, true, false, if◌then◌else◌, List, [], ◌∷◌, map, length, refl, ap, sym, ◌∙◌, arith, eq-eqb, ne_eqb, ⊎_elim}
+use Rattle.std.proofs.Common.{◌≡◌, ◌≢◌, ℕ, zero, suc, ◌+◌, ◌≤◌, ◌<◌, ◌==◌, ◌&&◌, Bool, true, false, if◌then◌else◌, List, [], ◌∷◌, length, refl, ap, sym, ◌∙◌, arith, eq-eqb, ne_eqb, ⊎_elim}
 use Rattle.std.proofs.lemmas.List.{length-map}
 use Rattle.std.proofs.lemmas.Bool.{cases_lt, cases_eq}
 use Rattle.heap_model.specs.declared.call.Call.{Call}
@@ -9,11 +9,11 @@ use Rattle.trace_text.specs.declared.call.TraceCall.{TraceCall}
 use Rattle.trace_workers.specs.Answers.{asked, calls_in}
 
 -- the sum over the numbers below n
-sum_below : ℕ → (ℕ → ℕ) → ℕ
+abbrev sum_below : ℕ → (ℕ → ℕ) → ℕ
 sum_below zero f = 0
 sum_below (suc n) f = sum_below n f + f n
 
-one_if : Bool → ℕ
+abbrev one_if : Bool → ℕ
 one_if true = 1
 one_if false = 0
 
@@ -39,9 +39,9 @@ once_below s zero less = absurd (omega arith)
 once_below s (suc n) less = ⊎_elim
     (λ (same : s ≡ n). let rest = none_above s n (omega (arith, same)) in let here = ap one_if (eq-eqb s n same) in omega (arith, rest, here))
     (λ (differ : s ≢ n). ⊎_elim
-        (λ (below : s < n). let rest = once_below s n below in let here = ap one_if (ne_eqb s n differ) in omega (arith, rest, here))
-        (λ (above : n ≤ s). absurd (differ (let e : s ≡ n = omega (arith, above, less) in e)))
-        (cases_lt s n))
+    (λ (below : s < n). let rest = once_below s n below in let here = ap one_if (ne_eqb s n differ) in omega (arith, rest, here))
+    (λ (above : n ≤ s). absurd (differ (let e : s ≡ n = omega (arith, above, less) in e)))
+    (cases_lt s n))
     (cases_eq s n)
 
 once : (s n : ℕ) → sum_below n (λ t. one_if (s == t)) ≤ 1
@@ -52,8 +52,8 @@ once s n = ⊎_elim
 
 -- each entry is of one thread
 more_called : (b : Bool) (e : Entry) (es : List Entry) → length (if b then e ∷ es else es) ≡ one_if b + length es
-more_called true e es = refl
-more_called false e es = refl
+more_called true e es = let one : suc (length es) ≡ 1 + length es = omega arith in one
+more_called false e es = let none : length es ≡ 0 + length es = omega arith in none
 
 length_called : (seats : ℕ) (journal : List Entry) → AllBelow seats journal → length journal ≡ sum_below seats (λ t. length (calls_by t journal))
 length_called seats [] below = sym (sum_none seats)

@@ -1,8 +1,10 @@
 -- The report of closed arenas is that of runs that answer the trace.
-use Rattle.std.proofs.Common.{◌≡◌, ℕ, suc, ◌+◌, ◌≤◌, ◌<◌, ◌^◌, List, [], ◌∷◌, ◌++◌, length, map, take, get_or, sym, ap, ◌∙◌, refl, arith, subst}
+use Rattle.std.proofs.Common.{◌≡◌, ℕ, zero, suc, ◌+◌, ◌≤◌, ◌<◌, ◌^◌, List, [], ◌∷◌, ◌++◌, length, map, take, get_or, remove, sym, ap, ◌∙◌, refl, arith, subst, Result, Ok, Err}
 use Rattle.std.specs.List.{All}
+use Rattle.std.specs.Result.{IfOk}
 use Rattle.std.proofs.lemmas.List.{append_assoc, append-nil}
 use Rattle.std.proofs.lemmas.List.Elements.{All-head, All-tail}
+use mathlib.Core.List.{map-append}
 use Rattle.pmem_lines.specs.Pmem.{PmemState, words_of}
 use Rattle.image_tables.specs.Tables.{tables_of}
 use Rattle.heap_model.specs.declared.block.Block.{Block}
@@ -40,6 +42,16 @@ by_up n m (x ∷ xs) le by = (omega (arith, le, by.0), by_up n m xs le by.1)
 by_append : (n : ℕ) (xs : List TraceCall) (c : TraceCall) → AllBy n xs → c.thread < n → AllBy n (xs ++ c ∷ [])
 by_append n [] c by below = (below, tt)
 by_append n (x ∷ xs) c by below = (by.0, by_append n xs c by.1 below)
+
+pub by_at : (n : ℕ) (calls : List TraceCall) (i : ℕ) (d : TraceCall) → i < length calls → AllBy n calls → (get_or calls i d).thread < n
+by_at n [] i d here by = absurd (omega (arith, here))
+by_at n (c ∷ cs) zero d here by = by.0
+by_at n (c ∷ cs) (suc i) d here by = by_at n cs i d (omega (arith, here)) by.1
+
+-- each thread of a trace is one of 64
+pub AllBy-trace : (arenas : ℕ) (calls : List TraceCall) → All (IsTraceCall arenas) calls → AllBy 64 calls
+AllBy-trace arenas [] valid = tt
+AllBy-trace arenas (c ∷ cs) valid = ((All-head (IsTraceCall arenas) c cs valid).thread, AllBy-trace arenas cs (All-tail (IsTraceCall arenas) c cs valid))
 
 -- one call further
 pub by_more : (n m : ℕ) (calls : List TraceCall) (i : ℕ) (d : TraceCall) → i < length calls → n ≤ m → (get_or calls i d).thread < m → AllBy n (take i calls) → AllBy m (take (i + 1) calls)
@@ -97,3 +109,26 @@ texts_more arena text more closed rest one whole is =
     let next : arena + 1 ≡ suc arena = omega arith in
     ap (λ n. more ++ closed_texts n rest) next ∙ ap (λ (t : List ℕ). t ++ closed_texts (suc arena) rest) is
     ∙ append_assoc text (closed_text arena one) (closed_texts (suc arena) rest) ∙ ap (λ (cs : List (List Entry × ArenaState)). text ++ closed_texts arena cs) (sym whole)
+
+pub head_back : {A : Type 0} (xs ys : List A) (x : A) → 0 < length xs → x ≡ get_or xs 0 x → ys ≡ remove xs 0 → xs ≡ x ∷ ys
+head_back [] ys x some first rest = absurd (omega (arith, some))
+head_back (z ∷ zs) ys x some first rest = cc (first, rest)
+
+-- the devices of closed arenas, one arena further
+pub devices_more : {A D : Type 0} (state : D → PmemState) (f : A → List Entry × ArenaState) (devices more : List D) (d : D) (closed rest : List A) (one : A) → closed ≡ one ∷ rest → more ≡ devices ++ d ∷ [] →
+    state d ≡ (f one).1.device → map state more ++ closed_devices (map f rest) ≡ map state devices ++ closed_devices (map f closed)
+devices_more state f devices more d closed rest one whole pushed is =
+    ap (λ ds. map state ds ++ closed_devices (map f rest)) pushed
+    ∙ ap (λ (ss : List PmemState). ss ++ closed_devices (map f rest)) (map-append state devices (d ∷ []))
+    ∙ append_assoc (map state devices) (state d ∷ []) (closed_devices (map f rest))
+    ∙ ap (λ (s : PmemState). map state devices ++ (s ∷ closed_devices (map f rest))) is
+    ∙ ap (λ cs. map state devices ++ closed_devices (map f cs)) (sym whole)
+
+pub devices_none : (devices : List PmemState) (closed : List (List Entry × ArenaState)) → length closed ≡ 0 → devices ++ closed_devices closed ≡ devices
+devices_none devices [] none = append-nil devices
+devices_none devices (c ∷ cs) none = absurd (omega (arith, none))
+
+-- what an Ok says in two clauses implies more
+pub IfOk-both : {X E : Type 0} (r : Result X E) (P Q S : X → Type 0) → ((x : X) → P x → Q x → S x) → IfOk r P → IfOk r Q → IfOk r S
+IfOk-both (Ok x) P Q S both p q = both x p q
+IfOk-both (Err e) P Q S both p q = tt

@@ -54,11 +54,20 @@ fn seats_of(calls: &[TraceCall]) -> u32
 {
     let mut seats = 1;
     for call in calls {
-        if call.thread >= seats {
-            seats = call.thread + 1;
-        }
+        seats = seats_with(seats, call.thread);
     }
     seats
+}
+
+// So many seats, or more where a thread needs them.
+fn seats_with(seats: u32, thread: u32) -> u32
+    requires few { seats ≤ 64 }
+    requires below { thread < 64 }
+    ensures more { seats ≤ result }
+    ensures few { result ≤ 64 }
+    ensures thread { thread < result }
+{
+    if thread < seats { seats } else { thread + 1 }
 }
 
 // The report of closed arenas, and their devices.

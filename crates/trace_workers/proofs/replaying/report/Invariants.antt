@@ -1,6 +1,5 @@
-use Rattle.std.proofs.Common.{◌≡◌, ◌≤◌, ◌+◌, ◌++◌, ◌<◌, ◌^◌, length}
+use Rattle.std.proofs.Common.{◌≡◌, ◌+◌, ◌++◌, ◌<◌, ◌^◌, length}
 use Rattle.shared_pool.specs.Rows.{each_of}
-use Rattle.pmem_lines.specs.declared.pmem.Pmem.{Pmem}
 use Rattle.trace_workers.specs.Reports.{closed_texts, closed_devices}
 use Rattle.trace_workers.proofs.replaying.report.Given as goal
 

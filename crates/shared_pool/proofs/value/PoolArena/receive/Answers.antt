@@ -1,5 +1,4 @@
-use Rattle.std.proofs.Common.{rules, ◌≡◌, ◌++◌, [], ◌∷◌, subst, sym, List, ℕ}
-use Rattle.heap_model.specs.declared.call.Call.{Call}
+use Rattle.std.proofs.Common.{rules, ◌≡◌, ◌++◌, [], ◌∷◌, subst, sym, List}
 use Rattle.heap_model.specs.declared.call.Entry.{Entry}
 use Rattle.arena_journal.specs.Journals.{opened, IsBehind}
 use Rattle.arena_journal.proofs.Journals.{behind_answered, behind_legal}

@@ -1,6 +1,6 @@
 use Rattle.pmem_lines.specs.Pmem.{words_of}
 use Rattle.nvheap.proofs.Bytes.{bytes-written}
-use Rattle.nvheap.proofs.answers.bytes_of.Goals as goal
+use Rattle.nvheap.proofs.imaging.bytes_of.Goals as goal
 
 pub returns : goal.returns
 returns g c =

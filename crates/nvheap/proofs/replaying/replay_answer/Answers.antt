@@ -1,9 +1,11 @@
 use Rattle.trace_text.specs.declared.call.Refusal.TheVariants.{BadLine}
+use Rattle.trace_text.specs.Grammar.{pool_of}
+use Rattle.shared_pool.specs.Rows.{each_of}
 use Rattle.nvheap.specs.declared.cause.Cause.TheVariants.{Trace}
 use Rattle.nvheap.specs.declared.command.Command.TheVariants.{Replay}
 use Rattle.nvheap.specs.Ends.{IsAnswer, IsFaultLine}
 use Rattle.nvheap.proofs.Answering.{IfOk-more, IsAnswer-refused}
-use Rattle.nvheap.proofs.answers.replay_answer.Goals as goal
+use Rattle.nvheap.proofs.replaying.replay_answer.Goals as goal
 
 pub returns-in-Err-BadLine-clause-answer : goal.returns-in-Err-BadLine-clause-answer
 returns-in-Err-BadLine-clause-answer g c =

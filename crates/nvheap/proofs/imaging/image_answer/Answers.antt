@@ -3,7 +3,7 @@ use Rattle.nvheap.specs.declared.cause.Cause.TheVariants.{Trace}
 use Rattle.nvheap.specs.declared.command.Command.TheVariants.{Image}
 use Rattle.nvheap.specs.Ends.{IsAnswer, IsFaultLine}
 use Rattle.nvheap.proofs.Answering.{IfOk-more, IsAnswer-refused}
-use Rattle.nvheap.proofs.answers.image_answer.Goals as goal
+use Rattle.nvheap.proofs.imaging.image_answer.Goals as goal
 
 pub returns-in-Err-BadLine-clause-answer : goal.returns-in-Err-BadLine-clause-answer
 returns-in-Err-BadLine-clause-answer g c =
