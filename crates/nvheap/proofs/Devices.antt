@@ -1,5 +1,5 @@
 -- Devices of several arenas, one arena further.
-use Rattle.std.proofs.Common.{◌≡◌, ℕ, zero, suc, ◌+◌, ◌<◌, List, [], ◌∷◌, ◌++◌, length, map, flat_map, ◌≤◌, ◌%◌, Option, Some, None, sym, ap, ◌∙◌, refl, subst, arith}
+use Rattle.std.proofs.Common.{◌≡◌, ℕ, suc, ◌+◌, List, [], ◌∷◌, ◌++◌, length, map, ◌≤◌, ◌%◌, Option, sym, ap, ◌∙◌, refl, subst, arith}
 use Rattle.std.proofs.lemmas.List.{append_assoc, append-nil, length-map}
 use mathlib.Core.List.{map-append}
 use Rattle.heap_check.specs.Image.{IsSoundImage}

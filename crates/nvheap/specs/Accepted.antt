@@ -1,5 +1,5 @@
 -- The inputs that a command does not refuse.
-use Rattle.std.specs.Prelude.{◌≡◌, ℕ, ◌<◌, ◌≤◌, List, Option}
+use Rattle.std.specs.Prelude.{ℕ, ◌<◌, ◌≤◌, List, Option}
 use Rattle.pool_layout.specs.Image.{part_of, IsImageOf}
 use Rattle.heap_check.specs.Image.{IsSoundImage}
 use Rattle.trace_text.specs.declared.call.PoolSize.{PoolSize}

@@ -1,4 +1,4 @@
-use Rattle.std.proofs.Common.{◌≡◌, ◌∙◌, ◌+◌, ◌++◌, ◌∷◌, [], ap, sym, subst, length, map, List, ℕ, arith, length-append}
+use Rattle.std.proofs.Common.{◌≡◌, ◌∙◌, ◌∷◌, [], ap, sym, subst, length, map, arith, length-append}
 use Rattle.trace_text.specs.Grammar.{pool_of}
 use Rattle.nvheap.specs.Answers.{AreRunThrough, images_of}
 use Rattle.nvheap.proofs.Devices.{AreRunThrough-pushed, images_of-more}

@@ -1,6 +1,4 @@
 use Rattle.trace_text.specs.declared.call.Refusal.TheVariants.{BadLine}
-use Rattle.trace_text.specs.Grammar.{pool_of}
-use Rattle.shared_pool.specs.Rows.{each_of}
 use Rattle.nvheap.specs.declared.cause.Cause.TheVariants.{Trace}
 use Rattle.nvheap.specs.declared.command.Command.TheVariants.{Replay}
 use Rattle.nvheap.specs.Ends.{IsAnswer, IsFaultLine}

@@ -1,4 +1,4 @@
-use Rattle.std.proofs.Common.{rules, ◌≡◌, ◌∙◌, ◌+◌, ◌++◌, ◌∷◌, [], ap, sym, subst, length, List, arith, length-append}
+use Rattle.std.proofs.Common.{◌≡◌, ◌∙◌, ◌+◌, ◌∷◌, [], ap, sym, subst, length, List, arith, length-append}
 use Rattle.arena_core.specs.Arena.{ArenaState}
 use Rattle.trace_text.specs.Grammar.{pool_of}
 use Rattle.trace_runs.specs.Arenas.{header_for, IsNewArena}

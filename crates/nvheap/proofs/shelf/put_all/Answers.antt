@@ -1,4 +1,4 @@
-use Rattle.std.proofs.Common.{rules, ◌≡◌, ◌∙◌, ◌≤◌, ap, sym, length, map, Option, List, arith}
+use Rattle.std.proofs.Common.{rules, ◌≡◌, ◌∙◌, ◌≤◌, ap, sym, length, map, Option, List}
 use Rattle.pmem_lines.specs.Pmem.{PmemState}
 use Rattle.nvheap.specs.Outside.{put_device, put_devices}
 use Rattle.nvheap.proofs.Devices.{put_devices-none, put_devices-popped}
