@@ -3,8 +3,8 @@
 use Rattle.std.specs.Prelude.{◌≡◌, ◌⊎◌, ◌<◌, ◌≤◌, ℕ, suc, ◌-◌, ◌+◌, ◌^◌, List, [], ◌∷◌, ◌++◌, length, Option, Some, None, slice_set}
 use Rattle.pmem_lines.specs.Pmem.{PmemState}
 
--- what the outside tells: the bytes that the source has left, those that the sink took, what stands in the places of the
--- shelf, and how many devices the shelf made of images
+-- what the outside tells: the bytes that the source has left, those that the sink took, what stands in the places of
+-- the shelf, and how many devices the shelf made of images
 pub record Outside : Type 0 where
   pub left : Option (List ℕ)
   pub taken : Option (List ℕ)
