@@ -1,8 +1,9 @@
 -- What an index keeps beside the set of slabs: which words of blocks are not 0, and which slabs of each class have an
 -- available block.
-use Rattle.std.specs.Prelude.{◌≡◌, ◌==◌, ℕ, ◌-◌, ◌*◌, ◌/◌, ◌%◌, ◌^◌, ◌<◌, ◌≤◌, Bool, true, false, ◌&&◌, not, nat_lt, List, length, Option, Some, None, slice_index, slice_index_or}
+use Rattle.std.specs.Prelude.{◌≡◌, ◌≢◌, ◌==◌, ℕ, ◌*◌, ◌/◌, ◌%◌, ◌^◌, ◌<◌, ◌≤◌, Bool, true, false, ◌&&◌, nat_lt, List, length, Option, Some, None, slice_index, slice_index_or, if◌then◌else◌}
+use Rattle.std.specs.Int.{bit_at}
 use Rattle.size_classes.specs.Classes.{class_capacity}
-use Rattle.bit_words.specs.Numbers.{has, ones}
+use Rattle.bit_words.specs.Numbers.{has}
 use Rattle.slab_index.specs.SlabSet.{SlabSet}
 
 -- the slabs that these lists say
@@ -26,6 +27,13 @@ is_class (Some other) class = other == class
 -- the slab at number `k mod 1024` has class `k div 1024`, and an available block
 abbrev pub has_block : List (Option ℕ) → List ℕ → ℕ → Bool
 has_block classes some k = is_class (slice_index_or classes (k % 1024) None) (k / 1024) && nat_lt 0 (slice_index some (k % 1024))
+
+-- from one word of a set the numbers are taken that a word has
+pub record IsTakenFrom (old : List ℕ) (at word : ℕ) (new : List ℕ) : Type 0 where
+  pub size : length new ≡ length old
+  pub each : (k : ℕ) → has new k ≡ (if k / 64 == at && bit_at word (k % 64) == 1 then false else has old k)
+  pub others : (i : ℕ) → i ≢ at → slice_index new i ≡ slice_index old i
+  pub fits : ((i : ℕ) → slice_index old i < 2 ^ 64) → (i : ℕ) → slice_index new i < 2 ^ 64
 
 pub record IsIndex (granules : ℕ) (classes : List (Option ℕ)) (blocks some starts : List ℕ) : Type 0 where
   pub least : 16 ≤ granules

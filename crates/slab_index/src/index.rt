@@ -7,6 +7,7 @@ ghost use Rattle.bit_words.specs.Numbers.{has as has_number};
 ghost use Rattle.slab_index.specs.SlabSet.{class_in, is_available, IsSlab, IsBlock, HasNoBlock, IsLowest};
 
 use crate::SlabBlock;
+use crate::words::{STARTS, summarize, take_numbers};
 use bit_words::{fill, has, least_in, least_of, ones, put};
 use pmem_lines::OutOfMemory;
 use size_classes::capacity;
@@ -18,9 +19,7 @@ const BLOCKS: u32 = 4096;
 
 const BLOCK_WORDS: usize = 64;
 
-// How many numbers there are for each class among the starts, and how many words have them.
-const STARTS: u32 = 1024;
-
+// How many words the starts of a class have.
 const START_WORDS: usize = 16;
 
 const CLASSES: usize = 36;
@@ -198,11 +197,8 @@ impl SlabIndex {
     {
         if let Some(class) = self.class_at(start) {
             let place = 64 * start + at;
-            let left = self.blocks[place as usize] & !word;
-            self.blocks[place as usize] = left;
-            put(&mut self.some, place, left != 0);
-            let any = self.some[start as usize] != 0;
-            put(&mut self.starts, STARTS * u32::from(class) + start, any);
+            take_numbers(&mut self.blocks, place, word);
+            summarize(&self.blocks, &mut self.some, &mut self.starts, class, place);
         }
     }
 
@@ -214,12 +210,14 @@ impl SlabIndex {
         ensures blocks { (s i : ℕ) → is_available self.new s i ≡ (if s == start && i == number then on else is_available self.old s i) }
     {
         if let Some(class) = self.class_at(start) {
-            let at = 64 * start + number / 64;
             put(&mut self.blocks, BLOCKS * start + number, on);
-            let word = self.blocks[at as usize];
-            put(&mut self.some, at, word != 0);
-            let any = self.some[start as usize] != 0;
-            put(&mut self.starts, STARTS * u32::from(class) + start, any);
+            summarize(
+                &self.blocks,
+                &mut self.some,
+                &mut self.starts,
+                class,
+                64 * start + number / 64,
+            );
         }
     }
 }
