@@ -9,6 +9,7 @@ ghost use Rattle.image_tables.specs.Tables.{is_slab, state_word, tables_of};
 ghost use Rattle.heap_model.specs.Machine.{AreApart, slab_block};
 ghost use Rattle.heap_check.specs.Heap.{IsUnusedIn};
 ghost use Rattle.heap_check.specs.Sound.{IsValidSlab};
+ghost use Rattle.slab_morph.specs.Overlaps.{IsCoveredRange};
 ghost use Rattle.slab_morph.specs.SlabHeaders.{header_at, IsSlabHere};
 
 use crate::held::{Fields, fields_of, live_at, number_at, state_at};
@@ -54,30 +55,29 @@ fn is_covered<P: Pmem>(p: &P, slab: u32, state: Fields, number: u32) -> bool
     ensures none { let h = header_at (words_of (P.state p.now)) (slab / 16384) in result ≡ false → (place : ℕ) → place < state.entries → h.live place ≡ true → AreApart (slab_block (slab / 16384) state.old (h.number place)) (slab_block (slab / 16384) state.class number) }
 {
     for place in 0..state.entries {
-        if covers(p, slab, state, place, number) {
+        let (from, end) = covered(p, slab, state, place);
+        if from <= number && number < end {
             return true;
         }
     }
     false
 }
 
-// Whether the old block at a place of the index table lives and overlaps block `number` of the slab's class.
-fn covers<P: Pmem>(p: &P, slab: u32, state: Fields, place: u32, number: u32) -> bool
+// The blocks of the slab's class that the old block at a place of the index table overlaps, where it lives: the first one's
+// number, and one past the last one's.
+fn covered<P: Pmem>(p: &P, slab: u32, state: Fields, place: u32) -> (u32, u32)
     requires aligned { slab % 16384 ≡ 0 }
     requires inside { slab + 2048 ≤ 8 * length (words_of (P.state p.now)) }
     requires class { state.class < 36 }
     requires old { state.old < 36 }
     requires place { place < 64 }
-    requires number { number < class_capacity state.class }
     requires small { (header_at (words_of (P.state p.now)) (slab / 16384)).number place < class_capacity state.old }
-    ensures some { let h = header_at (words_of (P.state p.now)) (slab / 16384) in result ≡ true → (h.live place ≡ true) × ¬ (AreApart (slab_block (slab / 16384) state.old (h.number place)) (slab_block (slab / 16384) state.class number)) }
-    ensures none { let h = header_at (words_of (P.state p.now)) (slab / 16384) in result ≡ false → h.live place ≡ true → AreApart (slab_block (slab / 16384) state.old (h.number place)) (slab_block (slab / 16384) state.class number) }
+    ensures { IsCoveredRange (header_at (words_of (P.state p.now)) (slab / 16384)) (slab / 16384) state.old state.class place result.0 result.1 }
 {
     if !live_at(p, slab, place) {
-        return false;
+        return (0, 0);
     }
-    let (from, end) = overlaps(state.old, number_at(p, slab, place), state.class);
-    from <= number && number < end
+    overlaps(state.old, number_at(p, slab, place), state.class)
 }
 
 /// The blocks of its class in the slab that begins at byte `slab` that are not unused, as a set of numbers. Its bitmap is
@@ -90,7 +90,8 @@ pub fn used_blocks<P: Pmem>(p: &P, slab: u32) -> [u64; SET_WORDS]
     let state = fields_of(state_at(p, slab));
     let mut used = marked_blocks(p, slab, state);
     for place in 0..state.entries {
-        put_covered(p, slab, state, place, &mut used);
+        let (from, end) = covered(p, slab, state, place);
+        put_range(&mut used, from, end);
     }
     used
 }
@@ -107,27 +108,6 @@ fn marked_blocks<P: Pmem>(p: &P, slab: u32, state: Fields) -> [u64; SET_WORDS]
     } else {
         [0; SET_WORDS]
     }
-}
-
-// Puts the blocks of the slab's class into the set that the old block at a place of the index table overlaps, where it
-// lives.
-fn put_covered<P: Pmem>(p: &P, slab: u32, state: Fields, place: u32, used: &mut [u64])
-    requires aligned { slab % 16384 ≡ 0 }
-    requires inside { slab + 2048 ≤ 8 * length (words_of (P.state p.now)) }
-    requires class { state.class < 36 }
-    requires old { state.old < 36 }
-    requires place { place < 64 }
-    requires small { (header_at (words_of (P.state p.now)) (slab / 16384)).number place < class_capacity state.old }
-    requires size { length used.old ≡ 64 }
-    ensures size { length used.new ≡ 64 }
-    ensures some { let h = header_at (words_of (P.state p.now)) (slab / 16384) in (i : ℕ) → i < class_capacity state.class → has used.new i ≡ true → (has used.old i ≡ true) ⊎ ((h.live place ≡ true) × ¬ (AreApart (slab_block (slab / 16384) state.old (h.number place)) (slab_block (slab / 16384) state.class i))) }
-    ensures none { let h = header_at (words_of (P.state p.now)) (slab / 16384) in (i : ℕ) → i < class_capacity state.class → has used.new i ≡ false → (has used.old i ≡ false) × (h.live place ≡ true → AreApart (slab_block (slab / 16384) state.old (h.number place)) (slab_block (slab / 16384) state.class i)) }
-{
-    if !live_at(p, slab, place) {
-        return;
-    }
-    let (from, end) = overlaps(state.old, number_at(p, slab, place), state.class);
-    put_range(used, from, end);
 }
 
 // Puts the numbers from one on and before another into the set.
