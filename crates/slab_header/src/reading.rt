@@ -12,6 +12,9 @@ use pool_layout::slab_header_at;
 // The words of a slab's header.
 const HEADER_WORDS: u32 = 256;
 
+// How many words a set of 4096 numbers has.
+const SET_WORDS: usize = 64;
+
 /// The class of the slab that begins at this byte, a multiple of 16384, by its state word.
 pub fn class_at<P: Pmem>(p: &P, at: u32) -> u8
     requires aligned { at % 16384 ≡ 0 }
@@ -36,7 +39,7 @@ pub fn bit_at<P: Pmem>(p: &P, at: u32, i: u32) -> bool
 
 /// The blocks of the slab that begins at this byte, a multiple of 16384, whose bits are set: a set of numbers below 4096.
 /// Its bitmap is read by words.
-pub fn set_bits<P: Pmem>(p: &P, at: u32) -> [u64; 64]
+pub fn set_bits<P: Pmem>(p: &P, at: u32) -> [u64; SET_WORDS]
     requires aligned { at % 16384 ≡ 0 }
     requires inside { at + 2048 ≤ 8 * length (words_of (P.state p.now)) }
     ensures size { length result ≡ 64 }
