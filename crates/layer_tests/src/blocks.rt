@@ -61,7 +61,6 @@ impl Plain {
         }
         None
     }
-
 }
 
 // Adds or removes the slab at a granule.
@@ -193,7 +192,10 @@ fn like_a_plain_list(rt: HostRuntime) -> Result<(), Fail> {
         assert_eq!(rt; index.lowest(class), plain.lowest(class), "after {turn}");
         for start in 0..=GRANULES {
             let number = (drawn % 131) as u32;
-            assert!(rt; agree(&index, &plain, start, number), "at {start} after {turn}");
+            assert!(rt;
+                agree(&index, &plain, start, number),
+                "at {start} after {turn}"
+            );
         }
     }
     Ok(())
