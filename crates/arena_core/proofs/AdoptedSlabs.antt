@@ -1,6 +1,6 @@
 -- The indexes take over a slab of an exact image, and how many live blocks each slab has.
-use Rattle.std.proofs.Common.{◌≡◌, ◌≢◌, ◌↔◌, ◌==◌, ◌+◌, ◌*◌, ◌/◌, ◌<◌, ◌≤◌, ◌&&◌, ℕ, true, false, true≢false, cond, ltb, eqb, List, length, slice_index, Option, Some, None, refl, sym, ap, subst, ◌∙◌, ⊎_elim, arith, if◌then◌else◌}
-use Rattle.std.proofs.lemmas.Bool.{cond-true, cond-false, cases_lt, cases_eq, cases_Bool, lt-ltb, eq-eqb, ne_eqb, and_from, false_from_ne_true}
+use Rattle.std.proofs.Common.{◌≡◌, ◌≢◌, ◌↔◌, ◌==◌, ◌+◌, ◌*◌, ◌/◌, ◌<◌, ◌≤◌, ◌&&◌, ℕ, Bool, true, false, true≢false, cond, ltb, eqb, List, length, slice_index, Option, Some, None, refl, sym, ap, subst, ◌∙◌, ⊎_elim, arith, if◌then◌else◌}
+use Rattle.std.proofs.lemmas.Bool.{cond-true, cond-false, cases_eq, cases_Bool, lt-ltb, eq-eqb, ne_eqb, false_from_ne_true}
 use Rattle.size_classes.specs.Classes.{class_capacity}
 use Rattle.image_tables.specs.Tables.{Tables, is_slab, tables_of}
 use Rattle.image_tables.proofs.Tables.{slab_table}
@@ -14,18 +14,9 @@ use Rattle.heap_check.proofs.Heaps.{heap-none}
 use Rattle.arena_core.specs.Adopting.{IsWithSlabOf, HasCounted}
 use Rattle.arena_core.specs.Plan.{IsInNoSlabOf}
 use Rattle.arena_core.proofs.LiveCounts.{one_if, live_next, live_below-most, begins_only}
-use Rattle.arena_core.proofs.UnusedBlocks.{iff_same}
+use Rattle.arena_core.proofs.UnusedBlocks.{iff_same, iff_then}
 use Rattle.heap_check.specs.Sound.{IsInSlab, IsSound}
 use Rattle.heap_check.specs.Image.{bounds_of}
-
--- the first n blocks of a slab that was added are read, and the others are available yet
-pub record IsReading (words : List ℕ) (old new : SlabSet) (start class n : ℕ) : Type 0 where
-  pub granules : new.granules ≡ old.granules
-  pub here : class_in new start ≡ Some class
-  pub done : (i : ℕ) → i < n → (is_available new start i ≡ true) ↔ IsUnusedIn (tables_of words) start ((tables_of words).class start) i
-  pub rest : (i : ℕ) → n ≤ i → i < class_capacity class → is_available new start i ≡ true
-  pub classes : (other : ℕ) → ¬ (other ≡ start) → class_in new other ≡ class_in old other
-  pub others : (other i : ℕ) → ¬ (other ≡ start) → is_available new other i ≡ is_available old other i
 
 -- a condition that holds, and one that doesn't
 if_same : {X : Type 0} (k j : ℕ) (yes_x no_x : X) → k ≡ j → cond (eqb k j) yes_x no_x ≡ yes_x
@@ -34,61 +25,29 @@ if_same k j yes_x no_x same = cond-true (eqb k j) yes_x no_x (eq-eqb k j same)
 if_other : {X : Type 0} (k j : ℕ) (yes_x no_x : X) → k ≢ j → cond (eqb k j) yes_x no_x ≡ no_x
 if_other k j yes_x no_x apart = cond-false (eqb k j) yes_x no_x (ne_eqb k j apart)
 
-pub IsReading-first : (words : List ℕ) (old new : SlabSet) (start class : ℕ) → new.granules ≡ old.granules → ((s : ℕ) → class_in new s ≡ with_key (class_in old) start (Some class) s) →
-    ((s i : ℕ) → is_available new s i ≡ cond (eqb s start) (ltb i (class_capacity class)) (is_available old s i)) → IsReading words old new start class 0
-IsReading-first words old new start class granules classes blocks = record {
-  granules = granules;
-  here = classes start ∙ if_same start start (Some class) (class_in old start) refl;
-  done = λ i less. absurd (omega (arith, less));
-  rest = λ i low few. blocks start i ∙ if_same start start (ltb i (class_capacity class)) (is_available old start i) refl ∙ lt-ltb i (class_capacity class) few;
-  classes = λ other apart. classes other ∙ if_other other start (Some class) (class_in old other) apart;
-  others = λ other i apart. blocks other i ∙ if_other other start (ltb i (class_capacity class)) (is_available old other i) apart;
+-- a slab was added with all of its blocks, and those were taken that are not unused
+pub with_slab : (words : List ℕ) (old added new : SlabSet) (start slab class : ℕ) {used : ℕ → Bool} → slab / 16384 ≡ start → class ≡ (tables_of words).class start → added.granules ≡ old.granules → ((s : ℕ) → class_in added s ≡ with_key (class_in old) start (Some class) s) →
+    ((s i : ℕ) → is_available added s i ≡ cond (eqb s start) (ltb i (class_capacity class)) (is_available old s i)) → new.granules ≡ added.granules → ((s : ℕ) → class_in new s ≡ class_in added s) →
+    ((s i : ℕ) → is_available new s i ≡ cond (eqb s start && used i) false (is_available added s i)) →
+    ((i : ℕ) → i < class_capacity ((tables_of words).class (slab / 16384)) → (used i ≡ false) ↔ IsUnusedIn (tables_of words) (slab / 16384) ((tables_of words).class (slab / 16384)) i) → IsWithSlabOf words old new start
+with_slab words old added new start slab class {used} at is granules classes blocks kept same taken unused = record {
+  granules = kept ∙ granules;
+  here = same start ∙ classes start ∙ if_same start start (Some class) (class_in old start) refl ∙ ap (λ c. Some c) is;
+  blocks = λ i few.
+      let all : is_available added start i ≡ true = blocks start i ∙ if_same start start (ltb i (class_capacity class)) (is_available old start i) refl ∙ lt-ltb i (class_capacity class) (subst (λ c. i < class_capacity c) (sym is) few) in
+      let left : is_available new start i ≡ cond (used i) false true = taken start i ∙ ap (λ b. cond (b && used i) false (is_available added start i)) (eq-eqb start start refl) ∙ ap (cond (used i) false) all in
+      iff_then (iff_same left (not_used (used i))) (subst (λ s. i < class_capacity ((tables_of words).class s) → (used i ≡ false) ↔ IsUnusedIn (tables_of words) s ((tables_of words).class s) i) at (unused i) few);
+  classes = λ other apart. same other ∙ classes other ∙ if_other other start (Some class) (class_in old other) apart;
+  others = λ other i apart.
+      taken other i
+      ∙ ap (λ b. cond (b && used i) false (is_available added other i)) (ne_eqb other start apart)
+      ∙ blocks other i
+      ∙ if_other other start (ltb i (class_capacity class)) (is_available old other i) apart;
 }
-
--- the next block is unused
-pub IsReading-unused : (words : List ℕ) (old new : SlabSet) (start class n : ℕ) → n < class_capacity class → IsUnusedIn (tables_of words) start ((tables_of words).class start) n → IsReading words old new start class n → IsReading words old new start class (n + 1)
-IsReading-unused words old new start class n few unused read = record {
-  granules = read.granules;
-  here = read.here;
-  done = λ i less. ⊎_elim
-      (λ (lower : i < n). read.done i lower)
-      (λ (last : n ≤ i). let same : i ≡ n = omega (arith, less, last) in
-      subst (λ k. (is_available new start k ≡ true) ↔ IsUnusedIn (tables_of words) start ((tables_of words).class start) k) (sym same) (λ is. unused, λ is. read.rest n (omega arith) few))
-      (cases_lt i n);
-  rest = λ i low few_i. read.rest i (omega (arith, low)) few_i;
-  classes = read.classes;
-  others = read.others;
-}
-
--- it is not, and is taken
-pub IsReading-used : (words : List ℕ) (old new next : SlabSet) (start class n : ℕ) → ¬ (IsUnusedIn (tables_of words) start ((tables_of words).class start) n) → next.granules ≡ new.granules → ((s : ℕ) → class_in next s ≡ class_in new s) →
-    ((s i : ℕ) → is_available next s i ≡ cond (eqb s start && eqb i n) false (is_available new s i)) → IsReading words old new start class n → IsReading words old next start class (n + 1)
-IsReading-used words old new next start class n used granules classes blocks read =
-    let taken : is_available next start n ≡ false = blocks start n ∙ cond-true (eqb start start && eqb n n) false (is_available new start n) (and_from (eqb start start) (eqb n n) (eq-eqb start start refl) (eq-eqb n n refl)) in
-    let kept : (i : ℕ) → i ≢ n → is_available next start i ≡ is_available new start i =
-    λ i apart. blocks start i ∙ ap (λ b. cond (b && eqb i n) false (is_available new start i)) (eq-eqb start start refl) ∙ ap (λ b. cond b false (is_available new start i)) (ne_eqb i n apart) in
-    record {
-      granules = granules ∙ read.granules;
-      here = classes start ∙ read.here;
-      done = λ i less. ⊎_elim
-          (λ (lower : i < n). iff_same (kept i (λ same. omega (arith, same, lower))) (read.done i lower))
-          (λ (last : n ≤ i). let same : i ≡ n = omega (arith, less, last) in
-          subst (λ k. (is_available next start k ≡ true) ↔ IsUnusedIn (tables_of words) start ((tables_of words).class start) k) (sym same) (λ is. absurd (true≢false (sym is ∙ taken)), λ is. absurd (used is)))
-          (cases_lt i n);
-      rest = λ i low few. kept i (λ same. omega (arith, same, low)) ∙ read.rest i (omega (arith, low)) few;
-      classes = λ other apart. classes other ∙ read.classes other apart;
-      others = λ other i apart. blocks other i ∙ ap (λ b. cond (b && eqb i n) false (is_available new other i)) (ne_eqb other start apart) ∙ read.others other i apart;
-    }
-
--- all of them are read
-pub IsReading-all : (words : List ℕ) (old new : SlabSet) (start class n : ℕ) → class ≡ (tables_of words).class start → class_capacity class ≤ n → IsReading words old new start class n → IsWithSlabOf words old new start
-IsReading-all words old new start class n is all read = record {
-  granules = read.granules;
-  here = read.here ∙ ap (λ c. Some c) is;
-  blocks = λ i few. let among : i < class_capacity class = subst (λ c. i < class_capacity c) (sym is) few in read.done i (omega (arith, among, all));
-  classes = read.classes;
-  others = read.others;
-}
+  where
+    not_used : (b : Bool) → (cond b false true ≡ true) ↔ (b ≡ false)
+    not_used true = (λ is. absurd (true≢false (sym is)), λ is. absurd (true≢false is))
+    not_used false = (λ is. refl, λ is. refl)
 
 -- the class that was read is the slab's
 pub class_read : (words : List ℕ) (at start class : ℕ) → at ≡ 16384 * start → (tables_of words).slab start ≡ true → (is_slab words (at / 16384) ≡ true → class ≡ (tables_of words).class (at / 16384)) → class ≡ (tables_of words).class start

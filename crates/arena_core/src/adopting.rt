@@ -16,10 +16,9 @@ use book_log::{BookLog, LogEntry};
 use extent_index::ExtentIndex;
 use pmem_lines::Pmem;
 use pool_layout::{GRANULE_BYTES, SLAB_GRANULES, granule_at};
-use size_classes::capacity;
 use slab_header::class_at;
 use slab_index::{LiveCounts, SlabIndex};
-use slab_morph::is_unused;
+use slab_morph::used_blocks;
 
 /// Makes the indexes those of an exact image: all of the heap was free before, and no slab was there. `log` is the
 /// image's.
@@ -70,13 +69,8 @@ fn read_slab<P: Pmem>(device: &P, slabs: &mut SlabIndex, start: u32)
     ensures { IsWithSlabOf (words_of (P.state device.now)) slabs.old slabs.new start }
 {
     let at = granule_at(start);
-    let class = class_at(device, at);
-    slabs.add(start, class);
-    for i in 0..capacity(class) {
-        if !is_unused(device, at, i) {
-            slabs.take(start, i);
-        }
-    }
+    slabs.add(start, class_at(device, at));
+    slabs.take_all(start, &used_blocks(device, at));
 }
 
 /// Counts the live blocks of each slab of an exact image, by the words of its roots; all counts were 0 before.

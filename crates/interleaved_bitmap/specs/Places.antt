@@ -1,5 +1,5 @@
 -- Where the bit of a block lies in a header, and what a header says of a block.
-use Rattle.std.specs.Prelude.{◌≡◌, ◌≢◌, ℕ, ◌+◌, ◌*◌, ◌/◌, ◌%◌, ◌<◌, Bool, List, length, slice_index, slice_set}
+use Rattle.std.specs.Prelude.{◌≡◌, ◌≢◌, ◌==◌, ◌&&◌, ℕ, ◌+◌, ◌*◌, ◌/◌, ◌%◌, ◌<◌, Bool, List, length, slice_index, slice_set}
 use Rattle.interleaved_bitmap.specs.Bits.{is_set}
 
 -- the line of the header
@@ -21,6 +21,10 @@ bit_in_word i = bit_in_line i % 64
 -- a block's bit is set in a header
 unfoldable pub bit_of_header : List ℕ → ℕ → Bool
 bit_of_header header i = is_set (slice_index header (word_of_bit i)) (bit_in_word i)
+
+-- a word at its place in a header has the bit of a block, and it is set
+unfoldable pub is_marked : ℕ → ℕ → ℕ → Bool
+is_marked place word i = word_of_bit i == place && is_set word (bit_in_word i)
 
 -- a header is another with one block's bit set or cleared
 pub record IsHeaderWithBit (old : List ℕ) (i : ℕ) (on : Bool) (new : List ℕ) : Type 0 where

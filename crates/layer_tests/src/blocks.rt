@@ -61,10 +61,6 @@ impl Plain {
         }
         None
     }
-
-    fn is_whole(&self, start: u32) -> bool {
-        self.taken.iter().all(|block| block.start != start)
-    }
 }
 
 // Adds or removes the slab at a granule.
@@ -113,7 +109,7 @@ fn give_one(index: &mut SlabIndex, plain: &mut Plain, drawn: u64)
     }
 }
 
-// One of three changes, by a drawn number.
+// One of four changes, by a drawn number.
 fn change(
     index: &mut SlabIndex,
     plain: &mut Plain,
@@ -126,18 +122,50 @@ fn change(
 {
     match drawn % 48 {
         0 => change_slab(index, plain, (drawn / 48 % 24) as u32, class),
-        1..=32 => take_lowest(index, plain, class)?,
+        1 => {
+            let start = (drawn / 48 % 24) as u32;
+            let word = drawn.rotate_left(17) & drawn.rotate_left(40);
+            take_some(index, plain, start, (drawn / 1152 % 3) as u32, word)?;
+        }
+        2..=32 => take_lowest(index, plain, class)?,
         _ => give_one(index, plain, drawn / 48),
     }
     Ok(())
 }
 
-// Both say the same of the slab at a granule.
-fn agree(index: &SlabIndex, plain: &Plain, start: u32) -> bool {
+// Takes the blocks of the slab at a granule that a word of numbers has, 64 of them from a word's first on.
+fn take_some(
+    index: &mut SlabIndex,
+    plain: &mut Plain,
+    start: u32,
+    at: u32,
+    word: u64,
+) -> Result<(), OutOfMemory>
+    requires at { at < 64 }
+    ensures { index.new.granules ≡ index.old.granules }
+{
+    let mut numbers = [0; 64];
+    numbers[at as usize] = word;
+    if index.class_at(start).is_some() {
+        for bit in 0..64 {
+            let number = 64 * at + bit;
+            if (word >> bit) & 1 == 1 && index.is_available(start, number) {
+                plain.taken.push(SlabBlock { start, number })?;
+            }
+        }
+        index.take_all(start, &numbers);
+    }
+    Ok(())
+}
+
+// Both say the same of the slab at a granule, and of one of its blocks.
+fn agree(index: &SlabIndex, plain: &Plain, start: u32, number: u32) -> bool {
     match index.class_at(start) {
         None => plain.class_at(start).is_none(),
         Some(class) => {
-            plain.class_at(start) == Some(class) && index.is_whole(start) == plain.is_whole(start)
+            plain.class_at(start) == Some(class)
+                && (number >= capacity(class)
+                    || index.is_available(start, number) != plain.is_taken(start, number))
         }
     }
 }
@@ -163,7 +191,11 @@ fn like_a_plain_list(rt: HostRuntime) -> Result<(), Fail> {
         change(&mut index, &mut plain, drawn, class)?;
         assert_eq!(rt; index.lowest(class), plain.lowest(class), "after {turn}");
         for start in 0..=GRANULES {
-            assert!(rt; agree(&index, &plain, start), "at {start} after {turn}");
+            let number = (drawn % 131) as u32;
+            assert!(rt;
+                agree(&index, &plain, start, number),
+                "at {start} after {turn}"
+            );
         }
     }
     Ok(())

@@ -16,11 +16,17 @@ abbrev header_of : List ℕ → ℕ → List ℕ
 header_of words start = words_at words (granule_word start) 256
 
 -- a block's bit in the header and in the slab
-header_bit : (words : List ℕ) (start i : ℕ) → i < 4096 → bit_of_header (header_of words start) i ≡ slab_bit words start i
+pub header_bit : (words : List ℕ) (start i : ℕ) → i < 4096 → bit_of_header (header_of words start) i ≡ slab_bit words start i
 unfolding bit_of_header
 header_bit words start i below =
     ap (λ w. is_set w (bit_in_word i)) (get_or-words_at words (granule_word start) 256 (word_of_bit i) (omega arith))
     ∙ sym (bit_of_word-is_set (word_at words (bitmap_word start i)) (i / 8 % 64))
+
+-- the header that is lent from a slab's first byte
+pub header_lent : (words header : List ℕ) (at : ℕ) → at % 16384 ≡ 0 → header ≡ words_at words (at / 8) 256 → header ≡ header_of words (at / 16384)
+header_lent words header at aligned lent =
+    let here : at / 8 ≡ granule_word (at / 16384) = omega (arith, aligned) in
+    lent ∙ ap (λ k. words_at words k 256) here
 
 -- a word with a block's bit set or cleared is put in the place of the one that has the bit
 pub puts_bit : (words : List ℕ) (start i : ℕ) (on : Bool) (value : ℕ) → i < 4096 → granule_word start + 256 ≤ length words → PutsWord (word_at words (bitmap_word start i)) (i / 8 % 64) on value →

@@ -1,11 +1,11 @@
 -- An index in which no slab begins.
-use Rattle.std.proofs.Common.{◌≡◌, ℕ, ◌+◌, ◌-◌, ◌*◌, ◌/◌, ◌%◌, ◌<◌, ◌≤◌, ⊎_elim, false, ltb, not, ◌&&◌, List, Option, None, get_or, replicate, sym, ap, ◌∙◌, arith}
-use Rattle.std.proofs.lemmas.Bool.{cases_lt, eq-eqb, and_right, false≢true}
+use Rattle.std.proofs.Common.{◌≡◌, ℕ, ◌+◌, ◌*◌, ◌/◌, ◌%◌, ◌<◌, ◌≤◌, ⊎_elim, false, ltb, ◌&&◌, List, Option, None, get_or, replicate, sym, ap, ◌∙◌, arith}
+use Rattle.std.proofs.lemmas.Bool.{cases_lt, and_right, false≢true}
 use Rattle.std.proofs.lemmas.List.{get_or-replicate, get_or_past, length-replicate}
-use Rattle.bit_words.specs.Numbers.{has, ones}
+use Rattle.bit_words.specs.Numbers.{has}
 use Rattle.slab_index.specs.SlabSet.{class_in, is_available}
 use Rattle.slab_index.specs.Kept.{set_of, capacity_or_none, capacity_at, is_class, IsIndex}
-use Rattle.bit_words.proofs.Bits.{has-zeros, get_or-zeros, ones-none}
+use Rattle.bit_words.proofs.Bits.{has-zeros, get_or-zeros}
 
 -- no slab is in a list of none
 pub get_or-nones : (n i : ℕ) → get_or {A = Option ℕ} (replicate n None) i None ≡ None
@@ -16,7 +16,7 @@ get_or-nones n i = ⊎_elim
 
 -- no slab has a block, and no word lacks one
 pub IsIndex-fresh : (granules : ℕ) → 16 ≤ granules → granules ≤ 1024 →
-    IsIndex granules (replicate granules None) (replicate (64 * granules) 0) (replicate granules 0) (replicate granules 0) (replicate 576 0)
+    IsIndex granules (replicate granules None) (replicate (64 * granules) 0) (replicate granules 0) (replicate 576 0)
 IsIndex-fresh granules least most =
     let none = get_or-nones granules in
     let empty : (s : ℕ) → capacity_at (replicate granules None) s ≡ 0 = λ s. ap capacity_or_none (none s) in
@@ -26,18 +26,12 @@ IsIndex-fresh granules least most =
       classes_size = length-replicate {A = Option ℕ} granules None;
       blocks_size = length-replicate {A = ℕ} (64 * granules) 0;
       some_size = length-replicate {A = ℕ} granules 0;
-      short_size = length-replicate {A = ℕ} granules 0;
       starts_size = length-replicate {A = ℕ} 576 0;
       known = λ s c is. absurd (let h = none s in cc);
       fits = λ i. omega (arith, get_or-zeros (64 * granules) i);
       few = λ s. omega (arith, empty s);
       below = λ k is. absurd (false≢true (sym (has-zeros (64 * granules) k) ∙ is));
       some_is = λ i. has-zeros granules i ∙ sym (ap (ltb 0) (get_or-zeros (64 * granules) i));
-      short_is = λ i.
-          let full : capacity_at (replicate granules None) (i / 64) - 64 * (i % 64) ≡ 0 = omega (arith, empty (i / 64)) in
-          has-zeros granules i
-          ∙ sym (ap not (eq-eqb (get_or {A = ℕ} (replicate (64 * granules) 0) i 0) (ones (capacity_at (replicate granules None) (i / 64) - 64 * (i % 64)))
-          (get_or-zeros (64 * granules) i ∙ sym (ap ones full ∙ ones-none))));
       starts_is = λ k. has-zeros 576 k ∙ sym (ap (λ slab. is_class slab (k / 1024) && ltb 0 (get_or {A = ℕ} (replicate granules 0) (k % 1024) 0)) (none (k % 1024)));
     }
 

@@ -2,4 +2,4 @@ pub mod Fresh
 pub mod Lowest
 pub mod Steps
 pub mod Views
-pub mod Whole
+pub mod Taken

@@ -18,7 +18,7 @@ record IsStart (classes : List (Option ℕ)) (some : List ℕ) (class start : �
   slab : get_or classes start None ≡ Some class
   word : 0 < get_or some start 0
 
-module _ {granules : ℕ} {classes : List (Option ℕ)} {blocks some short starts : List ℕ} {set : SlabSet} (is : set_of granules classes blocks ≡ set) (index : IsIndex granules classes blocks some short starts) where
+module _ {granules : ℕ} {classes : List (Option ℕ)} {blocks some starts : List ℕ} {set : SlabSet} (is : set_of granules classes blocks ≡ set) (index : IsIndex granules classes blocks some starts) where
   -- a number in its class's set is a slab's
   start_of : (class start : ℕ) → start < 1024 → has starts (1024 * class + start) ≡ true → IsStart classes some class start
   start_of class start small found =

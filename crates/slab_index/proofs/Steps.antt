@@ -1,14 +1,11 @@
 -- An index after a step is an index again.
-use Rattle.std.proofs.Common.{◌≡◌, ◌≢◌, ℕ, ◌+◌, ◌-◌, ◌*◌, ◌/◌, ◌%◌, ◌<◌, ◌≤◌, min, ⊎_elim, Bool, true, false, eqb, ltb, not, ◌&&◌, List, Option, Some, None, length, get_or, set, refl, sym, ap, ◌∙◌, subst, arith}
-use Rattle.std.specs.Int.{bit_at}
+use Rattle.std.proofs.Common.{◌≡◌, ◌≢◌, ℕ, ◌+◌, ◌*◌, ◌/◌, ◌%◌, ◌^◌, ◌<◌, ◌≤◌, min, ⊎_elim, Bool, true, false, eqb, ltb, not, ◌&&◌, List, Option, Some, None, length, get_or, set, refl, sym, ap, ◌∙◌, subst, arith}
 use Rattle.std.proofs.lemmas.Bool.{cases_eq, eq-eqb, ne_eqb, lt-ltb, le-ltb, ltb-true, cond-true, cond-false, and_left}
 use Rattle.std.proofs.lemmas.List.{get_or_read, get_or-set_same, get_or-set_other, length-set}
-use Rattle.std.proofs.lemmas.Nat.Bits.{bit_at-zero}
-use Rattle.size_classes.specs.Classes.{class_capacity}
 use Rattle.bit_words.specs.Numbers.{has, ones, IsPut, IsFilled}
-use Rattle.slab_index.specs.Kept.{capacity_or_none, capacity_at, is_class, lacks, has_block, IsIndex}
-use Rattle.bit_words.proofs.Bits.{has-set, put_beside, told_after}
-use Rattle.bit_words.proofs.Fills.{word_filled, word_beside, fits_filled, has_filled, some_filled}
+use Rattle.slab_index.specs.Kept.{capacity_or_none, capacity_at, is_class, has_block, IsIndex}
+use Rattle.bit_words.proofs.Bits.{put_beside, told_after}
+use Rattle.bit_words.proofs.Fills.{fits_filled, has_filled, some_filled}
 
 -- one slab of the list is another
 pub record IsReplaced (old : List (Option ℕ)) (start : ℕ) (slab : Option ℕ) (new : List (Option ℕ)) : Type 0 where
@@ -71,75 +68,53 @@ some_by_word word kept is = ⊎_elim
     (λ (more : word ≢ 0). ap not (ne_eqb word 0 more) ∙ sym (lt-ltb 0 kept (omega arith)))
     (cases_eq word 0)
 
--- `word != all`
-pub lacks_by_word : (classes : List (Option ℕ)) (words : List ℕ) (start number class word all : ℕ) → get_or classes start None ≡ Some class → number < 4096 →
-    word ≡ get_or words (64 * start + number / 64) 0 → all ≡ ones (class_capacity class - 64 * (number / 64)) → not (eqb word all) ≡ lacks classes words (64 * start + number / 64)
-lacks_by_word classes words start number class word all slab small word_is all_is =
-    let i = 64 * start + number / 64 in
-    let place : i / 64 ≡ start = omega arith in
-    let rest : i % 64 ≡ number / 64 = omega arith in
-    let full : all ≡ ones (capacity_at classes (i / 64) - 64 * (i % 64)) =
-    all_is
-    ∙ ap (λ s. ones (capacity_or_none s - 64 * (number / 64))) (sym slab)
-    ∙ ap (λ s. ones (capacity_at classes s - 64 * (number / 64))) (sym place)
-    ∙ ap (λ m. ones (capacity_at classes (i / 64) - 64 * m)) (sym rest) in
-    ap (λ w. not (eqb w all)) word_is ∙ ap (λ a. not (eqb (get_or words i 0) a)) full
+-- an index after one word of its blocks changed
+pub IsIndex-turned : {granules : ℕ} {classes : List (Option ℕ)} {blocks some starts : List ℕ} (turned some' starts' : List ℕ) (i class : ℕ) →
+    IsIndex granules classes blocks some starts → get_or classes (i / 64) None ≡ Some class → i / 64 < granules → length turned ≡ length blocks →
+    ((j : ℕ) → j ≢ i → get_or turned j 0 ≡ get_or blocks j 0) → ((j : ℕ) → get_or turned j 0 < 2 ^ 64) → ((k : ℕ) → has turned k ≡ true → k % 4096 < capacity_at classes (k / 4096)) →
+    IsPut some i (ltb 0 (get_or turned i 0)) some' → IsPut starts (1024 * class + i / 64) (ltb 0 (get_or some' (i / 64) 0)) starts' →
+    IsIndex granules classes turned some' starts'
+IsIndex-turned {granules} {classes} {blocks} {some} {starts} turned some' starts' i class index slab inside size others fits below put_some put_start = record {
+  least = index.least;
+  most = index.most;
+  classes_size = index.classes_size;
+  blocks_size = size ∙ index.blocks_size;
+  some_size = put_some.size ∙ index.some_size;
+  starts_size = put_start.size ∙ index.starts_size;
+  known = index.known;
+  fits = fits;
+  few = index.few;
+  below = below;
+  some_is = told_after (λ j. ltb 0 (get_or blocks j 0)) (λ j. ltb 0 (get_or turned j 0)) put_some index.some_is refl (λ j apart. ap (ltb 0) (sym (others j apart)));
+  starts_is = told_after (has_block classes some) (has_block classes some') put_start index.starts_is
+      (ap (λ b. b && ltb 0 (get_or some' (i / 64) 0)) (sym (eq-eqb class class refl))
+      ∙ sym (start_here classes some' (i / 64) class (Some class) (omega (arith, index.most)) slab))
+      (λ j apart. starts_beside classes classes some some' (i / 64) class j (λ other differ. refl)
+      (λ other differ. put_some.others other (λ e. differ (omega (arith, e))))
+      (HasOnly-some (get_or classes (i / 64) None) class slab)
+      (HasOnly-some (get_or classes (i / 64) None) class slab)
+      apart);
+}
 
--- an index after one block was taken or given back
-pub IsIndex-turned : {granules : ℕ} {classes : List (Option ℕ)} {blocks some short starts : List ℕ} {on is_some is_short has_some : Bool} (turned some' short' starts' : List ℕ) (start number class : ℕ) →
-    IsIndex granules classes blocks some short starts → get_or classes start None ≡ Some class → start < granules → number < capacity_at classes start →
-    IsPut blocks (4096 * start + number) on turned →
-    IsPut some (64 * start + number / 64) is_some some' → is_some ≡ ltb 0 (get_or turned (64 * start + number / 64) 0) →
-    IsPut short (64 * start + number / 64) is_short short' → is_short ≡ lacks classes turned (64 * start + number / 64) →
-    IsPut starts (1024 * class + start) has_some starts' → has_some ≡ ltb 0 (get_or some' start 0) →
-    IsIndex granules classes turned some' short' starts'
-IsIndex-turned {granules} {classes} {blocks} {some} {short} {starts} {on} {is_some} {is_short} {has_some} turned some' short' starts' start number class index slab inside below put put_some some_is put_short short_is put_start start_is =
-    let k = 4096 * start + number in
-    let i = 64 * start + number / 64 in
-    let few : number < 4096 = omega (arith, index.few start) in
-    let word : k / 64 ≡ i = omega arith in
-    let same_word : (j : ℕ) → j ≢ i → get_or turned j 0 ≡ get_or blocks j 0 = λ j apart. put.others j (λ e. apart (omega (arith, e))) in
-    record {
-      least = index.least;
-      most = index.most;
-      classes_size = index.classes_size;
-      blocks_size = put.size ∙ index.blocks_size;
-      some_size = put_some.size ∙ index.some_size;
-      short_size = put_short.size ∙ index.short_size;
-      starts_size = put_start.size ∙ index.starts_size;
-      known = index.known;
-      fits = put.fits index.fits;
-      few = index.few;
-      below = λ j is. ⊎_elim
-          (λ (same : j ≡ k).
-          let place : j / 4096 ≡ start = omega arith in
-          subst (λ s. j % 4096 < capacity_at classes s) (sym place) (omega arith))
-          (λ (apart : j ≢ k). index.below j (sym (put_beside put j apart) ∙ is))
-          (cases_eq j k);
-      some_is = told_after (λ j. ltb 0 (get_or blocks j 0)) (λ j. ltb 0 (get_or turned j 0)) put_some index.some_is some_is (λ j apart. ap (ltb 0) (sym (same_word j apart)));
-      short_is = told_after (lacks classes blocks) (lacks classes turned) put_short index.short_is short_is
-          (λ j apart. ap (λ w. not (eqb w (ones (capacity_at classes (j / 64) - 64 * (j % 64))))) (sym (same_word j apart)));
-      starts_is = told_after (has_block classes some) (has_block classes some') put_start index.starts_is
-          (start_is
-          ∙ ap (λ b. b && ltb 0 (get_or some' start 0)) (sym (eq-eqb class class refl))
-          ∙ sym (start_here classes some' start class (Some class) (omega (arith, index.most)) slab))
-          (λ j apart. starts_beside classes classes some some' start class j (λ other differ. refl)
-          (λ other differ. put_some.others other (λ e. differ (omega (arith, e))))
-          (HasOnly-some (get_or classes start None) class slab)
-          (HasOnly-some (get_or classes start None) class slab)
-          apart);
-    }
+-- the numbers of a slab's word after one was put in or out
+pub below_put : (classes : List (Option ℕ)) {blocks turned : List ℕ} {on : Bool} (start number : ℕ) → number < capacity_at classes start → number < 4096 → ((k : ℕ) → has blocks k ≡ true → k % 4096 < capacity_at classes (k / 4096)) →
+    IsPut blocks (4096 * start + number) on turned → (k : ℕ) → has turned k ≡ true → k % 4096 < capacity_at classes (k / 4096)
+below_put classes start number below small were put k is = ⊎_elim
+    (λ (same : k ≡ 4096 * start + number).
+    let place : k / 4096 ≡ start = omega (arith, same) in
+    subst (λ s. k % 4096 < capacity_at classes s) (sym place) (omega (arith, same)))
+    (λ (apart : k ≢ 4096 * start + number). were k (sym (put_beside put k apart) ∙ is))
+    (cases_eq k (4096 * start + number))
 
 -- an index after a slab was added or taken out
-pub IsIndex-filled : {granules : ℕ} {classes : List (Option ℕ)} {blocks some short starts : List ℕ} (later : List (Option ℕ)) (filled starts' : List ℕ) (start class n word : ℕ) (slab : Option ℕ) (on : Bool) →
-    IsIndex granules classes blocks some short starts → start < granules → IsReplaced classes start slab later → IsFilled blocks start n filled → n ≡ capacity_or_none slab → n ≤ 4096 → word ≡ ones (n / 64 + min 1 (n % 64)) →
+pub IsIndex-filled : {granules : ℕ} {classes : List (Option ℕ)} {blocks some starts : List ℕ} (later : List (Option ℕ)) (filled starts' : List ℕ) (start class n word : ℕ) (slab : Option ℕ) (on : Bool) →
+    IsIndex granules classes blocks some starts → start < granules → IsReplaced classes start slab later → IsFilled blocks start n filled → n ≡ capacity_or_none slab → n ≤ 4096 → word ≡ ones (n / 64 + min 1 (n % 64)) →
     HasOnly (get_or classes start None) class → HasOnly slab class → ((other : ℕ) → slab ≡ Some other → other < 36) →
     IsPut starts (1024 * class + start) on starts' → on ≡ (is_class slab class && ltb 0 word) →
-    IsIndex granules later filled (set some start word) (set short start 0) starts'
-IsIndex-filled {granules} {classes} {blocks} {some} {short} {starts} later filled starts' start class n word slab on index inside replaced fills room small word_is only only_later known put on_is =
+    IsIndex granules later filled (set some start word) starts'
+IsIndex-filled {granules} {classes} {blocks} {some} {starts} later filled starts' start class n word slab on index inside replaced fills room small word_is only only_later known put on_is =
     let more = set some start word in
     let in_some : start < length some = omega (arith, index.some_size) in
-    let in_short : start < length short = omega (arith, index.short_size) in
     let here : capacity_at later start ≡ n = ap capacity_or_none replaced.here ∙ sym room in
     let there : (other : ℕ) → other ≢ start → capacity_at later other ≡ capacity_at classes other = λ other apart. ap capacity_or_none (replaced.others other apart) in
     record {
@@ -148,7 +123,6 @@ IsIndex-filled {granules} {classes} {blocks} {some} {short} {starts} later fille
       classes_size = replaced.size ∙ index.classes_size;
       blocks_size = fills.size ∙ index.blocks_size;
       some_size = length-set some start word ∙ index.some_size;
-      short_size = length-set short start 0 ∙ index.short_size;
       starts_size = put.size ∙ index.starts_size;
       known = λ s c is. ⊎_elim
           (λ (same : s ≡ start). known c (sym replaced.here ∙ ap (λ t. get_or later t None) (sym same) ∙ is))
@@ -168,18 +142,6 @@ IsIndex-filled {granules} {classes} {blocks} {some} {short} {starts} later fille
           omega (arith, index.below k before, there (k / 4096) apart))
           (cases_eq (k / 4096) start);
       some_is = some_filled some word fills word_is in_some index.some_is;
-      short_is = λ i. has-set short start 0 i in_short ∙ ⊎_elim
-          (λ (same : i / 64 ≡ start).
-          let full : get_or filled i 0 ≡ ones (capacity_at later (i / 64) - 64 * (i % 64)) = word_filled fills i same ∙ ap (λ m. ones (m - 64 * (i % 64))) (sym here ∙ ap (capacity_at later) (sym same)) in
-          cond-true (eqb (i / 64) start) (eqb (bit_at 0 (i % 64)) 1) (has short i) (eq-eqb (i / 64) start same)
-          ∙ ap (λ b. eqb b 1) (bit_at-zero (i % 64))
-          ∙ sym (ap not (eq-eqb (get_or filled i 0) (ones (capacity_at later (i / 64) - 64 * (i % 64))) full)))
-          (λ (apart : i / 64 ≢ start).
-          cond-false (eqb (i / 64) start) (eqb (bit_at 0 (i % 64)) 1) (has short i) (ne_eqb (i / 64) start apart)
-          ∙ index.short_is i
-          ∙ ap (λ w. not (eqb w (ones (capacity_at classes (i / 64) - 64 * (i % 64))))) (sym (word_beside fills i apart))
-          ∙ ap (λ m. not (eqb (get_or filled i 0) (ones (m - 64 * (i % 64))))) (sym (there (i / 64) apart)))
-          (cases_eq (i / 64) start);
       starts_is = told_after (has_block classes some) (has_block later more) put index.starts_is
           (on_is
           ∙ ap (λ w. is_class slab class && ltb 0 w) (sym (get_or-set_same some start word 0 in_some))

@@ -1,8 +1,9 @@
--- What an index keeps beside the set of slabs: which words of blocks are not 0, which lack a block, and which slabs of
--- each class have an available block.
-use Rattle.std.specs.Prelude.{◌≡◌, ◌==◌, ℕ, ◌-◌, ◌*◌, ◌/◌, ◌%◌, ◌^◌, ◌<◌, ◌≤◌, Bool, true, false, ◌&&◌, not, nat_lt, List, length, Option, Some, None, slice_index, slice_index_or}
+-- What an index keeps beside the set of slabs: which words of blocks are not 0, and which slabs of each class have an
+-- available block.
+use Rattle.std.specs.Prelude.{◌≡◌, ◌≢◌, ◌==◌, ℕ, ◌*◌, ◌/◌, ◌%◌, ◌^◌, ◌<◌, ◌≤◌, Bool, true, false, ◌&&◌, nat_lt, List, length, Option, Some, None, slice_index, slice_index_or, if◌then◌else◌}
+use Rattle.std.specs.Int.{bit_at}
 use Rattle.size_classes.specs.Classes.{class_capacity}
-use Rattle.bit_words.specs.Numbers.{has, ones}
+use Rattle.bit_words.specs.Numbers.{has}
 use Rattle.slab_index.specs.SlabSet.{SlabSet}
 
 -- the slabs that these lists say
@@ -23,26 +24,27 @@ abbrev pub is_class : Option ℕ → ℕ → Bool
 is_class None class = false
 is_class (Some other) class = other == class
 
--- word i of the blocks lacks a block that its slab has
-abbrev pub lacks : List (Option ℕ) → List ℕ → ℕ → Bool
-lacks classes blocks i = not (slice_index blocks i == ones (capacity_at classes (i / 64) - 64 * (i % 64)))
-
 -- the slab at number `k mod 1024` has class `k div 1024`, and an available block
 abbrev pub has_block : List (Option ℕ) → List ℕ → ℕ → Bool
 has_block classes some k = is_class (slice_index_or classes (k % 1024) None) (k / 1024) && nat_lt 0 (slice_index some (k % 1024))
 
-pub record IsIndex (granules : ℕ) (classes : List (Option ℕ)) (blocks some short starts : List ℕ) : Type 0 where
+-- from one word of a set the numbers are taken that a word has
+pub record IsTakenFrom (old : List ℕ) (at word : ℕ) (new : List ℕ) : Type 0 where
+  pub size : length new ≡ length old
+  pub each : (k : ℕ) → has new k ≡ (if k / 64 == at && bit_at word (k % 64) == 1 then false else has old k)
+  pub others : (i : ℕ) → i ≢ at → slice_index new i ≡ slice_index old i
+  pub fits : ((i : ℕ) → slice_index old i < 2 ^ 64) → (i : ℕ) → slice_index new i < 2 ^ 64
+
+pub record IsIndex (granules : ℕ) (classes : List (Option ℕ)) (blocks some starts : List ℕ) : Type 0 where
   pub least : 16 ≤ granules
   pub most : granules ≤ 1024
   pub classes_size : length classes ≡ granules
   pub blocks_size : length blocks ≡ 64 * granules
   pub some_size : length some ≡ granules
-  pub short_size : length short ≡ granules
   pub starts_size : length starts ≡ 576
   pub known : (start class : ℕ) → slice_index_or classes start None ≡ Some class → class < 36
   pub fits : (i : ℕ) → slice_index blocks i < 2 ^ 64
   pub few : (start : ℕ) → capacity_at classes start ≤ 4096
   pub below : (k : ℕ) → has blocks k ≡ true → k % 4096 < capacity_at classes (k / 4096)
   pub some_is : (i : ℕ) → has some i ≡ nat_lt 0 (slice_index blocks i)
-  pub short_is : (i : ℕ) → has short i ≡ lacks classes blocks i
   pub starts_is : (k : ℕ) → has starts k ≡ has_block classes some k

@@ -30,10 +30,6 @@ pub record IsBlock (set : SlabSet) (start number : ℕ) : Type 0 where
   pub slab : class_in set start ≡ Some class
   pub below : number < class_capacity class
 
--- every block of the slab at a granule is available
-pub record IsWhole (set : SlabSet) (start : ℕ) : Type 0 where
-  pub each : (number : ℕ) → IsBlock set start number → is_available set start number ≡ true
-
 -- no slab of the class has an available block
 pub record HasNoBlock (set : SlabSet) (class : ℕ) : Type 0 where
   pub none : (start number : ℕ) → class_in set start ≡ Some class → is_available set start number ≡ false

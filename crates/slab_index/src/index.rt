@@ -1,10 +1,13 @@
 // The index of slabs.
-ghost use Rattle.std.specs.Prelude.{◌≡◌, ◌==◌, ℕ, ◌<◌, ◌≤◌, ◌↔◌, ◌&&◌, nat_lt, IsTrue, true, false, Some, None, if◌then◌else◌, MatchOption, IfSome, IfOk};
+ghost use Rattle.std.specs.Prelude.{◌≡◌, ◌==◌, ℕ, ◌/◌, ◌%◌, ◌<◌, ◌≤◌, ◌&&◌, nat_lt, true, false, Some, None, length, if◌then◌else◌, MatchOption, IfSome, IfOk};
+ghost use Rattle.std.specs.Int.{bit_at};
 ghost use Rattle.size_classes.specs.Classes.{class_capacity};
 ghost use Rattle.heap_model.specs.Machine.{with_key};
-ghost use Rattle.slab_index.specs.SlabSet.{class_in, is_available, IsSlab, IsBlock, IsWhole, HasNoBlock, IsLowest};
+ghost use Rattle.bit_words.specs.Numbers.{has as has_number};
+ghost use Rattle.slab_index.specs.SlabSet.{class_in, is_available, IsSlab, IsBlock, HasNoBlock, IsLowest};
 
 use crate::SlabBlock;
+use crate::words::{STARTS, summarize, take_numbers};
 use bit_words::{fill, has, least_in, least_of, ones, put};
 use pmem_lines::OutOfMemory;
 use size_classes::capacity;
@@ -16,9 +19,7 @@ const BLOCKS: u32 = 4096;
 
 const BLOCK_WORDS: usize = 64;
 
-// How many numbers there are for each class among the starts, and how many words have them.
-const STARTS: u32 = 1024;
-
+// How many words the starts of a class have.
 const START_WORDS: usize = 16;
 
 const CLASSES: usize = 36;
@@ -33,8 +34,6 @@ pub struct SlabIndex {
     blocks: Vec<u64>,
     // The words of `blocks` that are not 0.
     some: Vec<u64>,
-    // The words of `blocks` that lack a block of their slab.
-    short: Vec<u64>,
     // The slabs that have an available block, with 1024 numbers for each class.
     starts: Vec<u64>,
 }
@@ -48,11 +47,11 @@ impl Model for SlabIndex {
 
     ghost view = { λ a. set_of a.granules a.classes.items a.blocks.items };
 
-    ghost invariant = { λ a. IsIndex a.granules a.classes.items a.blocks.items a.some.items a.short.items a.starts.items };
+    ghost invariant = { λ a. IsIndex a.granules a.classes.items a.blocks.items a.some.items a.starts.items };
 }
 
 impl SlabIndex {
-    /// An index of an arena of 16 to 1024 granules, in which no slab begins. It takes 530 bytes for each granule and 4608
+    /// An index of an arena of 16 to 1024 granules, in which no slab begins. It takes 522 bytes for each granule and 4608
     /// beside, and refuses where there is no memory for them; no later call takes any.
     pub fn new(alloc: Global, granules: u32) -> Result<SlabIndex, OutOfMemory>
         requires least { 16 ≤ granules }
@@ -65,14 +64,12 @@ impl SlabIndex {
         let classes = vec![in alloc; None; count]?;
         let blocks = vec![in alloc; 0; BLOCK_WORDS * count]?;
         let some = vec![in alloc; 0; count]?;
-        let short = vec![in alloc; 0; count]?;
         let starts = vec![in alloc; 0; START_WORDS * CLASSES]?;
         Ok(SlabIndex {
             granules,
             classes,
             blocks,
             some,
-            short,
             starts,
         })
     }
@@ -117,7 +114,6 @@ impl SlabIndex {
         self.classes[at] = Some(class);
         fill(&mut self.blocks, start, blocks);
         self.some[at] = ones(blocks.div_ceil(64));
-        self.short[at] = 0;
         put(&mut self.starts, STARTS * u32::from(class) + start, true);
     }
 
@@ -134,7 +130,6 @@ impl SlabIndex {
             self.classes[at] = None;
             fill(&mut self.blocks, start, 0);
             self.some[at] = 0;
-            self.short[at] = 0;
             put(&mut self.starts, STARTS * u32::from(class) + start, false);
         }
     }
@@ -178,12 +173,33 @@ impl SlabIndex {
         self.turn(start, number, true);
     }
 
-    /// Whether every block of the slab is available.
-    pub fn is_whole(&self, start: u32) -> bool
-        requires { IsSlab self.now start }
-        ensures { IsTrue result ↔ IsWhole self.now start }
+    /// Takes the blocks of a slab that a set of 4096 numbers has, those of them that are available. The slabs and the other
+    /// blocks stay as they are.
+    pub fn take_all(&mut self, start: u32, numbers: &[u64])
+        requires slab { IsSlab self.old start }
+        requires size { length numbers.now ≡ 64 }
+        ensures granules { self.new.granules ≡ self.old.granules }
+        ensures classes { (s : ℕ) → class_in self.new s ≡ class_in self.old s }
+        ensures blocks { (s i : ℕ) → is_available self.new s i ≡ (if s == start && has_number numbers.now i then false else is_available self.old s i) }
     {
-        least_of(&self.short, start as usize).is_none()
+        for at in 0..BLOCK_WORDS as u32 {
+            self.take_word(start, at, numbers[at as usize]);
+        }
+    }
+
+    // Takes those blocks of a slab that a word of a set has, which is word `at` of it.
+    fn take_word(&mut self, start: u32, at: u32, word: u64)
+        requires slab { IsSlab self.old start }
+        requires at { at < 64 }
+        ensures granules { self.new.granules ≡ self.old.granules }
+        ensures classes { (s : ℕ) → class_in self.new s ≡ class_in self.old s }
+        ensures blocks { (s i : ℕ) → is_available self.new s i ≡ (if s == start && (i / 64 == at && bit_at word (i % 64) == 1) then false else is_available self.old s i) }
+    {
+        if let Some(class) = self.class_at(start) {
+            let place = 64 * start + at;
+            take_numbers(&mut self.blocks, place, word);
+            summarize(&self.blocks, &mut self.some, &mut self.starts, class, place);
+        }
     }
 
     // Makes a block of a slab available or not.
@@ -194,14 +210,14 @@ impl SlabIndex {
         ensures blocks { (s i : ℕ) → is_available self.new s i ≡ (if s == start && i == number then on else is_available self.old s i) }
     {
         if let Some(class) = self.class_at(start) {
-            let at = 64 * start + number / 64;
             put(&mut self.blocks, BLOCKS * start + number, on);
-            let word = self.blocks[at as usize];
-            put(&mut self.some, at, word != 0);
-            let all = ones(capacity(class).saturating_sub(64 * (number / 64)));
-            put(&mut self.short, at, word != all);
-            let any = self.some[start as usize] != 0;
-            put(&mut self.starts, STARTS * u32::from(class) + start, any);
+            summarize(
+                &self.blocks,
+                &mut self.some,
+                &mut self.starts,
+                class,
+                64 * start + number / 64,
+            );
         }
     }
 }

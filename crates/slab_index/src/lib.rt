@@ -14,6 +14,7 @@
 mod block;
 mod index;
 mod lives;
+mod words;
 
 pub use block::SlabBlock;
 pub use index::SlabIndex;

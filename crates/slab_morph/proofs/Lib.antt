@@ -10,6 +10,7 @@ pub mod BitmapEvents
 pub mod StateEvents
 pub mod Storing
 pub mod UnusedBlocks
+pub mod UsedBlocks
 pub mod OldBlocks
 pub mod Validity
 pub mod Stages

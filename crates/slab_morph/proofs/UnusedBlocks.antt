@@ -12,7 +12,7 @@ use Rattle.heap_model.specs.Machine.{Range, AreApart, slab_block}
 use Rattle.heap_check.specs.Heap.{HoldsBit, HoldsOld, IsUnusedIn}
 use Rattle.heap_check.specs.Sound.{IsValidSlab}
 use Rattle.heap_check.proofs.Small.{blocks_apart}
-use Rattle.slab_morph.specs.Overlaps.{IsOverlapRange}
+use Rattle.slab_morph.specs.Overlaps.{IsCoveredRange}
 use Rattle.slab_morph.specs.SlabHeaders.{SlabHeader, header_at, HasState}
 use Rattle.slab_morph.proofs.HeaderTables.{header_of-slab}
 
@@ -43,9 +43,11 @@ module _ (t : Tables) (start number : ℕ) (slab : t.slab start ≡ true) (valid
   pub used_by_old : (place : ℕ) → place < t.index_count start → t.live start place ≡ true → ¬ (AreApart (slab_block start (t.old start) (t.number start place)) (slab_block start (t.class start) number)) → ¬ (IsUnusedIn t start (t.class start) number)
   used_by_old place under live overlap unused = overlap (unused.each (slab_block start (t.old start) (t.number start place)) (record { slab = slab; block = inr (record { place = place; below = under; live = live; is = refl }) }))
 
--- a number outside the range of those that overlap is apart
-pub outside_range : (old n class from end start number : ℕ) → IsOverlapRange old n class from end → number < class_capacity class → ¬ ((from ≤ number) × (number < end)) → AreApart (slab_block start old n) (slab_block start class number)
-outside_range old n class from end start number range below none = range.outside start number below (⊎_elim (λ (less : number < from). inl less) (λ (more : from ≤ number). inr (⊎_elim (λ (within : number < end). absurd (none (more, within))) (λ (past : end ≤ number). past) (cases_lt number end))) (cases_lt number from))
+-- a number outside the range of those that an old block covers is apart from it
+pub outside_covered : {h : SlabHeader} {start old class place from end : ℕ} → IsCoveredRange h start old class place from end → (number : ℕ) → number < class_capacity class → ¬ ((from ≤ number) × (number < end)) → h.live place ≡ true →
+    AreApart (slab_block start old (h.number place)) (slab_block start class number)
+outside_covered {h} {start} {old} {class} {place} {from} {end} range number below none =
+    range.outside number below (⊎_elim (λ (less : number < from). inl less) (λ (more : from ≤ number). inr (⊎_elim (λ (within : number < end). absurd (none (more, within))) (λ (past : end ≤ number). past) (cases_lt number end))) (cases_lt number from))
 
 -- What is read of a slab's header, by the fields of its state, is what the tables say.
 pub record IsRead (words : List ℕ) (start class old entries : ℕ) (reads : Bool) : Type 0 where

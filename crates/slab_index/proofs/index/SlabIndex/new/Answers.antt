@@ -8,9 +8,8 @@ invariant_of-result c =
     let classes : c.in_ok-classes.classes.items ≡ replicate {A = Option ℕ} c.args.granules None = c.in_ok-classes.ensures.items_if_clones_equal (λ y h. grind (arith, common_steps)) in
     let blocks = c.in_ok-blocks.ensures.items_if_clones_equal (λ y h. h) in
     let some = c.in_ok-some.ensures.items_if_clones_equal (λ y h. h) in
-    let short = c.in_ok-short.ensures.items_if_clones_equal (λ y h. h) in
     let starts = c.in_ok-starts.ensures.items_if_clones_equal (λ y h. h) in
-    rw (classes, blocks, some, short, starts) (IsIndex-fresh c.args.granules c.requires.least c.requires.most)
+    rw (classes, blocks, some, starts) (IsIndex-fresh c.args.granules c.requires.least c.requires.most)
 
 pub returns-clause-classes : goal.returns-clause-classes
 returns-clause-classes c =
