@@ -70,10 +70,22 @@ $2 crash 1 0 0
 no arena 1 of 1
 $1
 $1 replay x
+$1 replay replay
+$1 Replay
 $1 --help
+$1 --version
+$1 image x
+$1 check x
+$1 recover 0
+$1 gen 0 1
+$1 gen 01 1
+$1 crash
 $1 crash 0 1
+$1 crash 0 1 0 0
 $1 crash 16 0 0
 $1 crash 00 0 0
+$1 crash 0 -1 0
+$1 crash 0 0 18446744073709551616
 ----
 # one call
 pool 1 16
@@ -220,6 +232,8 @@ bad line 2
 pool 1 16
 00 0 m 5 1
 $2 replay
+bad line 2
+$2 image
 bad line 2
 $2 crash 1 0 0
 bad line 2
@@ -373,7 +387,7 @@ fn short_traces(rt: HostRuntime) -> Result<(), Fail> {
         for asked in runs.split('$') {
             let (line, text) = halves(asked, '\n');
             let (code, words) = halves(line, ' ');
-            let (status, taken) = ends_and_writes(&rt, rt.alloc(), words, trace)?;
+            let (status, taken) = ends_and_writes(&rt, rt.alloc(), words, trace.as_bytes())?;
             assert_eq!(rt; code.parse(), Ok(status.code()), "{line} over {trace}");
             assert_eq!(rt; taken.as_slice(), text.as_bytes(), "{line} over {trace}");
         }
