@@ -14,16 +14,16 @@ pub type Put = (usize, u64);
 // Words of an arena of 16 granules.
 const ARENA_WORDS: usize = 32768;
 
-// So many words, all 0.
-fn blank(alloc: Global, size: usize) -> Result<Vec<u64>, OutOfMemory>
+/// So many words, all 0.
+pub fn blank(alloc: Global, size: usize) -> Result<Vec<u64>, OutOfMemory>
     ensures { IfOk result (λ words. length words.items ≡ size) }
 {
     let words = vec![in alloc; 0; size]?;
     Ok(words)
 }
 
-// Puts words into an image.
-fn put(words: &mut [u64], puts: &[Put]) {
+/// Puts words into an image.
+pub fn put(words: &mut [u64], puts: &[Put]) {
     for (word, value) in puts {
         if *word < words.len() {
             words[*word] = *value;
