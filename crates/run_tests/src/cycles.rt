@@ -95,3 +95,36 @@ fn images_byte_by_byte(rt: HostRuntime) -> Result<(), Fail> {
     );
     Ok(())
 }
+
+// Chunk 8 of a log that was written anew: the entries of 16 extents of two granules by rising granule, from 4 on, and behind
+// them that of the block for which room was made. Entry 0 is in the chunk's line 1, and entry 15 is the second of it.
+const ANEW: [Run; 17] = [
+    (64, &[1, 4, 0, 2]),
+    (128, &[1, 6, 0, 2]),
+    (192, &[1, 8, 0, 2]),
+    (256, &[1, 10, 0, 2]),
+    (320, &[1, 12, 0, 2]),
+    (384, &[1, 14, 0, 2]),
+    (448, &[1, 16, 0, 2]),
+    (512, &[1, 18, 0, 2]),
+    (576, &[1, 20, 0, 2]),
+    (640, &[1, 22, 0, 2]),
+    (704, &[1, 24, 0, 2]),
+    (768, &[1, 26, 0, 2]),
+    (832, &[1, 28, 0, 2]),
+    (896, &[1, 30, 0, 2]),
+    (960, &[1, 32, 0, 2]),
+    (72, &[1, 34, 0, 2]),
+    (136, &[1, 36, 0, 2]),
+];
+
+#[test]
+fn log_written_anew(rt: HostRuntime) -> Result<(), Fail> {
+    let trace = expanded(rt.alloc(), WRITES_ANEW)?;
+    let (ended, image) = ends_and_writes(&rt, rt.alloc(), "image", trace.as_bytes())?;
+    assert_eq!(rt; ended, Status::Done);
+    assert_eq!(rt; image.get(16..24), Some(&[9, 0, 0, 0, 0, 0, 0, 0][..]));
+    let chunk = image_of(rt.alloc(), 1024, &ANEW, &[])?;
+    assert_eq!(rt; image.get(57344..58368), Some(chunk.as_slice()));
+    Ok(())
+}

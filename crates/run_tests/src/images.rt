@@ -60,8 +60,8 @@ pub(crate) fn image_of(
     Ok(bytes)
 }
 
-// Puts a run into an image, as far as it lies inside.
-fn put(bytes: &mut [u8], at: usize, run: &[u8]) {
+/// Puts a run into an image, as far as it lies inside.
+pub(crate) fn put(bytes: &mut [u8], at: usize, run: &[u8]) {
     for (i, byte) in run.iter().enumerate() {
         if let Some(place) = at.checked_add(i) {
             if place < bytes.len() {

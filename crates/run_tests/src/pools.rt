@@ -1,5 +1,5 @@
-// Images of two arenas, and images of the wrong length.
-use crate::images::{Defective, ONE_BLOCK, Run, both_refuse, both_tell, image_of};
+// Images of several arenas, and images of the wrong length.
+use crate::images::{Defective, ONE_BLOCK, Run, both_refuse, both_tell, image_of, put};
 use std::test::Fail;
 
 // Two arenas of 16 granules: the header lines, and the first word of each log's directory.
@@ -54,6 +54,28 @@ fn two_arenas(rt: HostRuntime) -> Result<(), Fail> {
     let recover = "arena 0 heap 0\narena 1 heap 0\n";
     both_tell(&rt, rt.alloc(), "no block", &sound, 0, check, recover)?;
     both_refuse(&rt, rt.alloc(), 524288, &TWO, &DEFECTS)
+}
+
+// Sixteen arenas of 16 granules, which are the most, without a block. Then the last has a bad directory.
+#[test]
+fn sixteen_arenas(rt: HostRuntime) -> Result<(), Fail> {
+    let mut bytes = image_of(rt.alloc(), 4_194_304, &[], &[])?;
+    let mut check = String::new(rt.alloc());
+    let mut recover = String::new(rt.alloc());
+    for arena in 0..16u8 {
+        let at = 262_144 * usize::from(arena);
+        put(&mut bytes, at, b"NVALLOG1");
+        put(&mut bytes, at + 8, &[1, 0, arena, 0, 16, 0, 16, 0]);
+        put(&mut bytes, at + 16, &[1]);
+        let line = format!(in rt.alloc(); "arena {arena} large 0 slabs 0 blocks 0 loose 0\n")?;
+        check.push_str(&line)?;
+        let line = format!(in rt.alloc(); "arena {arena} heap 0\n")?;
+        recover.push_str(&line)?;
+    }
+    both_tell(&rt, rt.alloc(), "no block", &bytes, 0, &check, &recover)?;
+    put(&mut bytes, 3_932_176, &[17]);
+    let line = "arena 15 bad directory 17\n";
+    both_tell(&rt, rt.alloc(), "chunk 16", &bytes, 2, line, line)
 }
 
 // The first so many bytes of an image, zeros behind it. Below 64 bytes there is no header to say how many there must be.

@@ -15,12 +15,6 @@ heap 1
 $0 crash 0 0 7
 call 1 before
 heap 0
-$0 crash 0 75 0
-call 1 before
-heap 0
-$0 crash 0 78 0
-call 1 before
-heap 0
 $0 crash 0 81 7
 call 1 before
 heap 0
@@ -373,6 +367,13 @@ call 0 same
 heap 0
 $2 crash 0 1 0
 no event 1 of 0
+----
+pool 1 1024
+0 0 m 5 16711680
+$0 crash 0 6 0
+call 1 after
+heap 1
+5 65536 16711680
 ";
 
 // The two sides of a mark's first place; with no such place all is before it.
