@@ -1,5 +1,5 @@
-// Images of an arena of 1024 granules that are dear to check: all roots, all slabs, all live extents and all bits that there
-// may be, and what is wrong, if anything, at the end of a search.
+// Images of an arena of 1024 granules that are dear to check: all roots, all slabs, all live extents and all bits that
+// there may be, and what is wrong, if anything, at the end of a search.
 ghost use Rattle.std.specs.Prelude.{◌<◌};
 
 use crate::answers::{Put, answer_of, blank, counts, put};
@@ -69,8 +69,8 @@ fn arena_of(alloc: Global, slabs: u64, state: u64) -> Result<Vec<u64>, OutOfMemo
     Ok(words)
 }
 
-// Roots 0 to 4094 hold a block of 16 bytes each, by falling address, and root 4095 the block of root 4094. That is the last
-// of all pairs of roots.
+// Roots 0 to 4094 hold a block of 16 bytes each, by falling address, and root 4095 the block of root 4094. That is the
+// last of all pairs of roots.
 #[test]
 fn the_last_pair_of_roots(rt: HostRuntime) -> Result<(), Fail> {
     let mut words = arena_of(rt.alloc(), 2, 1)?;
@@ -90,9 +90,9 @@ fn the_last_pair_of_roots(rt: HostRuntime) -> Result<(), Fail> {
     Ok(())
 }
 
-// Each slab took class 19 and was of class 3, and has 64 index entries. The last 16 are live in each, and the 16 before them
-// in the first slab too, so that each root holds an old block. Then the last entry of the last slab has the number of the
-// first.
+// Each slab took class 19 and was of class 3, and has 64 index entries. The last 16 are live in each, and the 16 before
+// them in the first slab too, so that each root holds an old block. Then the last entry of the last slab has the number
+// of the first.
 #[test]
 fn all_slabs_in_transition(rt: HostRuntime) -> Result<(), Fail> {
     let mut words = arena_of(rt.alloc(), SLABS, 0x4003_1303)?;
@@ -121,9 +121,9 @@ fn all_slabs_in_transition(rt: HostRuntime) -> Result<(), Fail> {
     Ok(())
 }
 
-// The heap has 510 large extents of two granules, which is the most that there may be, and a root for each. The log's eight
-// chunks are full: 450 entries say that nothing is at a granule, and then the extents follow. Then the last two have no root,
-// and then the one before the last has a granule of the last.
+// The heap has 510 large extents of two granules, which is the most that there may be, and a root for each. The log's
+// eight chunks are full: 450 entries say that nothing is at a granule, and then the extents follow. Then the last two
+// have no root, and then the one before the last has a granule of the last.
 #[test]
 fn all_extents(rt: HostRuntime) -> Result<(), Fail> {
     let mut words = arena_of(rt.alloc(), 0, 0)?;
@@ -166,8 +166,8 @@ fn set_all_bits(words: &mut [u64]) {
     }
 }
 
-// Slabs of class 27 have 15 blocks, and a root holds each: bits behind them do not count. Slabs of class 0 have 3968, and
-// roots hold the first 16 of each; the lowest that none has is block 16 of the first slab.
+// Slabs of class 27 have 15 blocks, and a root holds each: bits behind them do not count. Slabs of class 0 have 3968,
+// and roots hold the first 16 of each; the lowest that none has is block 16 of the first slab.
 #[test]
 fn all_bits(rt: HostRuntime) -> Result<(), Fail> {
     let mut words = arena_of(rt.alloc(), SLABS, 0x1b01)?;

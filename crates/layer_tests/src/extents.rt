@@ -35,8 +35,8 @@ fn counted<L: Ledger>(index: &ExtentIndex, granules: u32, blank: Blank) -> Optio
     index.best_fit_counted(granules, &mut steps)
 }
 
-// A heap of 1024 granules whose free runs are 5 granules at 10, 4 at 100 and 4 at 50: the lowest of the shortest that fits
-// is given. Once the rows between them come back one run is left.
+// A heap of 1024 granules whose free runs are 5 granules at 10, 4 at 100 and 4 at 50: the lowest of the shortest that
+// fits is given. Once the rows between them come back one run is left.
 #[test]
 fn best_fit_in_words(rt: HostRuntime) -> Result<(), Fail> {
     let mut index = ExtentIndex::new(rt.alloc(), 1024)?;

@@ -125,8 +125,8 @@ fn images_by_counting(rt: HostRuntime) -> Result<(), Fail> {
     Ok(())
 }
 
-// The largest memory of zeros, and one of as many words as the largest arena has: its last word, before and after a crash
-// that keeps no store of it.
+// The largest memory of zeros, and one of as many words as the largest arena has: its last word, before and after a
+// crash that keeps no store of it.
 #[test]
 fn largest_memories(rt: HostRuntime) -> Result<(), Fail> {
     let zeroed = SimPmem::zeroed(rt.alloc(), 1_048_576, 2048)?;

@@ -110,8 +110,8 @@ pub fn goes_on(
     }
 }
 
-/// What an arena answers to a malloc, a free behind it, and the same malloc for another root; and how many events the free
-/// has.
+/// What an arena answers to a malloc, a free behind it, and the same malloc for another root; and how many events the
+/// free has.
 #[derive(Clone, Copy, Debug, PartialEq, Eq)]
 pub struct Answered {
     pub before: Option<Placed>,
@@ -120,8 +120,8 @@ pub struct Answered {
     pub after: Option<Placed>,
 }
 
-/// An arena that was recovered from the words of a row gives root 3 so many bytes, frees the block of a root, and gives root
-/// 4 as many. `None` where its image is not sound.
+/// An arena that was recovered from the words of a row gives root 3 so many bytes, frees the block of a root, and gives
+/// root 4 as many. `None` where its image is not sound.
 pub fn frees_between(
     alloc: Global,
     base: &[Put],

@@ -7,8 +7,8 @@ use std::sync::Wait;
 use std::test::Fail;
 use std::thread::Threads;
 
-// The first and the last of some numbers of events, and what `crash` may write after so many: one text or the other, as the
-// seed picks.
+// The first and the last of some numbers of events, and what `crash` may write after so many: one text or the other, as
+// the seed picks.
 type Events<'a> = (u32, u32, &'a str, &'a str);
 
 // Whatever the seed, the run writes one of both texts after so many events.
@@ -42,9 +42,9 @@ const PLACED_2: &str = "call 2 before\nheap 1\n5 67584 112\n";
 
 const EMPTY_2: &str = "call 2 after\nheap 0\n";
 
-// The first block of a slab: 75 events make the slab, 3 put it into the log, 3 open the entry, and then the bit is stored
-// and flushed, and the root. Its fence is event 86. The free opens its entry by events 90 to 92, stores and flushes the root
-// and then the bit, and its fence is event 97.
+// The first block of a slab: 75 events make the slab, 3 put it into the log, 3 open the entry, and then the bit is
+// stored and flushed, and the root. Its fence is event 86. The free opens its entry by events 90 to 92, stores and
+// flushes the root and then the bit, and its fence is event 97.
 #[test]
 fn in_small_calls(rt: HostRuntime) -> Result<(), Fail> {
     let events = [
@@ -77,8 +77,9 @@ const PLACED_122: &str = "call 122 before\nheap 1\n0 65536 32768\n";
 
 const EMPTY_122: &str = "call 122 after\nheap 0\n";
 
-// The last malloc finds the log full. Behind the 12 events of each of 60 pairs it has 139 that make room and 3 that put the
-// entry into the log; event 863 stores the root, and 865 is its fence. The free stores it by event 866, and fences by 868.
+// The last malloc finds the log full. Behind the 12 events of each of 60 pairs it has 139 that make room and 3 that put
+// the entry into the log; event 863 stores the root, and 865 is its fence. The free stores it by event 866, and fences
+// by 868.
 #[test]
 fn where_the_log_rolls(rt: HostRuntime) -> Result<(), Fail> {
     let events = [
@@ -93,9 +94,10 @@ fn where_the_log_rolls(rt: HostRuntime) -> Result<(), Fail> {
     crash_writes(&rt, rt.alloc(), &trace, &events)
 }
 
-// The last malloc writes the log anew. It begins behind event 6733, and has 139 events that do so and 3 that put the entry
-// into the log; event 6876 stores the root, and 6878 is its fence. Of the 120 entries of the new chunk, which are stored
-// first, a few are stopped at: then come its 15 flushes and their fence, 6869, and the directory with its own, 6872.
+// The last malloc writes the log anew. It begins behind event 6733, and has 139 events that do so and 3 that put the
+// entry into the log; event 6876 stores the root, and 6878 is its fence. Of the 120 entries of the new chunk, which are
+// stored first, a few are stopped at: then come its 15 flushes and their fence, 6869, and the directory with its own,
+// 6872.
 #[test]
 fn where_the_log_is_written_anew(rt: HostRuntime) -> Result<(), Fail> {
     let last = around_sixteen(rt.alloc(), "call 960 after\nheap 16\n", "")?;

@@ -8,8 +8,8 @@ use std::sync::Wait;
 use std::test::Fail;
 use std::thread::Threads;
 
-// The heaps of a report, as `recover` writes them: the line `heap M` of an arena names the arena, and its blocks are those
-// of the report.
+// The heaps of a report, as `recover` writes them: the line `heap M` of an arena names the arena, and its blocks are
+// those of the report.
 fn heaps_of(alloc: Global, report: &str) -> Result<String, Fail> {
     let mut heaps = String::new(alloc);
     for part in report.split("arena ") {
@@ -96,8 +96,9 @@ fn images_byte_by_byte(rt: HostRuntime) -> Result<(), Fail> {
     Ok(())
 }
 
-// Chunk 8 of a log that was written anew: the entries of 16 extents of two granules by rising granule, from 4 on, and behind
-// them that of the block for which room was made. Entry 0 is in the chunk's line 1, and entry 15 is the second of it.
+// Chunk 8 of a log that was written anew: the entries of 16 extents of two granules by rising granule, from 4 on, and
+// behind them that of the block for which room was made. Entry 0 is in the chunk's line 1, and entry 15 is the second
+// of it.
 const ANEW: [Run; 17] = [
     (64, &[1, 4, 0, 2]),
     (128, &[1, 6, 0, 2]),

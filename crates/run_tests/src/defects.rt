@@ -70,9 +70,9 @@ fn of_one_block(rt: HostRuntime) -> Result<(), Fail> {
     both_refuse(&rt, rt.alloc(), 262144, &ONE_BLOCK, &OF_ONE_BLOCK)
 }
 
-// Of several pairs the one with the lowest first root is named, and of those the one with the lowest second, whatever the
-// addresses are. Block 1 of the slab is at 67696. The block of an open entry counts as that of its root, which may hold
-// nothing.
+// Of several pairs the one with the lowest first root is named, and of those the one with the lowest second, whatever
+// the addresses are. Block 1 of the slab is at 67696. The block of an open entry counts as that of its root, which may
+// hold nothing.
 const SHARED: [Defective; 3] = [
     (
         "the block of an open entry of root 5, which root 6 has",
@@ -106,8 +106,8 @@ const SHARED: [Defective; 3] = [
     ),
 ];
 
-// Blocks 17 and 18 of class 3 are at 199744 and 199808. Both lie within block 1 of class 19, which begins at 199680 and has
-// 1024 bytes.
+// Blocks 17 and 18 of class 3 are at 199744 and 199808. Both lie within block 1 of class 19, which begins at 199680 and
+// has 1024 bytes.
 const SHARED_IN_TRANSITION: [Defective; 2] = [
     (
         "root 1's old block within root 2's block",
@@ -140,8 +140,8 @@ fn shared_blocks(rt: HostRuntime) -> Result<(), Fail> {
     )
 }
 
-// A second slab stands at granule 8, and no root holds a block: both slabs are empty. In Morphing and once it is over they
-// have one index entry, which is dead.
+// A second slab stands at granule 8, and no root holds a block: both slabs are empty. In Morphing and once it is over
+// they have one index entry, which is dead.
 const LOOSE: [Defective; 3] = [
     (
         "two empty slabs",

@@ -1,5 +1,5 @@
-// Images with an open write-ahead entry, or a loose extent. An open entry is one loose thing; a block that a slab holds and
-// no root, and a slab in which no root's block lies, are one each.
+// Images with an open write-ahead entry, or a loose extent. An open entry is one loose thing; a block that a slab holds
+// and no root, and a slab in which no root's block lies, are one each.
 use crate::images::{ONE_BLOCK, Row, both_tell, image_of};
 use std::test::Fail;
 

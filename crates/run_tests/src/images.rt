@@ -27,8 +27,8 @@ pub(crate) const ONE_BLOCK: [Run; 7] = [
     (65600, &[1]),
 ];
 
-/// An arena of 16 granules with a large block of 8 granules, of root 0, and a slab at granule 12 that took class 19 and was
-/// of class 3 before: root 1 holds block 0 of class 3, and root 2 block 1 of class 19. All else is 0.
+/// An arena of 16 granules with a large block of 8 granules, of root 0, and a slab at granule 12 that took class 19 and
+/// was of class 3 before: root 1 holds block 0 of class 3, and root 2 block 1 of class 19. All else is 0.
 pub(crate) const IN_TRANSITION: [Run; 11] = [
     (0, b"NVALLOG1"),
     (8, &[1, 0, 0, 0, 16, 0, 1, 0]),

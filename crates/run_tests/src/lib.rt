@@ -1,11 +1,12 @@
-// Tests of whole runs, over memory: each row has words and a trace or the bytes of an image, and how the run ends and what it
-// writes, worked by hand.
+// Tests of whole runs, over memory: each row has words and a trace or the bytes of an image, and how the run ends and
+// what it writes, worked by hand.
 //
-// The crate has no code. It stands apart from `nvheap`, since a crate with tests is proved twice. `rows` has short traces,
-// `logs` traces that fill an arena's log (`traces` has them), `crashes` a crash at every event of some calls, `cycles` traces
-// whose image is checked and recovered, `words` what is left on the device. `images` makes images, and has how `check` and
-// `recover` run over them: `entries` with open entries, `transition` of a slab that takes another class, `defects` with a
-// defect, `pools` of two arenas and of wrong lengths. `faults` has sources and sinks that fail, and `runs` how they all run.
+// The crate has no code. It stands apart from `nvheap`, since a crate with tests is proved twice. `rows` has short
+// traces, `logs` traces that fill an arena's log (`traces` has them), `crashes` a crash at every event of some calls,
+// `cycles` traces whose image is checked and recovered, `words` what is left on the device. `images` makes images, and
+// has how `check` and `recover` run over them: `entries` with open entries, `transition` of a slab that takes another
+// class, `defects` with a defect, `pools` of two arenas and of wrong lengths. `faults` has sources and sinks that fail,
+// and `runs` how they all run.
 #![tactic(auto)]
 
 #[cfg(test)]

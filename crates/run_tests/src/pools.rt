@@ -78,7 +78,8 @@ fn sixteen_arenas(rt: HostRuntime) -> Result<(), Fail> {
     both_tell(&rt, rt.alloc(), "chunk 16", &bytes, 2, line, line)
 }
 
-// The first so many bytes of an image, zeros behind it. Below 64 bytes there is no header to say how many there must be.
+// The first so many bytes of an image, zeros behind it. Below 64 bytes there is no header to say how many there must
+// be.
 #[test]
 fn lengths(rt: HostRuntime) -> Result<(), Fail> {
     let rows = [

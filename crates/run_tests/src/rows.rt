@@ -2,9 +2,9 @@
 use crate::runs::ends_and_writes;
 use std::test::Fail;
 
-// Traces, with runs over each. A run is a line with `$`, the code with which it ends and its words; and below it what it
-// writes. A trace that runs into its first `$` lacks its last line feed. Under `crash` the store of a root that no fence
-// made durable is kept with the seeds 0 and 7, and with seed 2 it is not.
+// Traces, with runs over each. A run is a line with `$`, the code with which it ends and its words; and below it what
+// it writes. A trace that runs into its first `$` lacks its last line feed. Under `crash` the store of a root that no
+// fence made durable is kept with the seeds 0 and 7, and with seed 2 it is not.
 const TRACES: &str = "pool 1 16
 0 0 m 5 100
 $0 replay

@@ -45,8 +45,9 @@ pub(crate) const REPEATS: &str = "pool 1 64
 0 0 f 0
 ";
 
-/// Three slabs of classes of which no slab ever takes another class, since so few of its blocks fit; a large block; and a
-/// log whose second chunk is needless once the third is full. Then one of the blocks goes, and a block of a new class comes.
+/// Three slabs of classes of which no slab ever takes another class, since so few of its blocks fit; a large block; and
+/// a log whose second chunk is needless once the third is full. Then one of the blocks goes, and a block of a new class
+/// comes.
 pub(crate) const MIXED: &str = "pool 1 64
 0 0 m 8 16384
 1 0 m 9 16384
@@ -59,8 +60,8 @@ pub(crate) const MIXED: &str = "pool 1 64
 2 0 m 4095 100
 ";
 
-/// A text around the lines of the blocks that the roots below 16 have in `WRITES_ANEW`: two granules each, one block behind
-/// the other.
+/// A text around the lines of the blocks that the roots below 16 have in `WRITES_ANEW`: two granules each, one block
+/// behind the other.
 pub(crate) fn around_sixteen(alloc: Global, before: &str, behind: &str) -> Result<String, Fail> {
     let mut text = String::from_str(alloc, before)?;
     for root in 0..16u32 {

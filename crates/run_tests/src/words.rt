@@ -6,8 +6,8 @@ use std::test::Fail;
 // The text `NVALLOG1` of an arena's header, as a word.
 const TEXT: u64 = 0x3147_4f4c_4c41_564e;
 
-// A block of 100 bytes at root 5: the header line, the root, the log's first entry, the state word, block 0's bit. All else
-// is 0, the first write-ahead line too.
+// A block of 100 bytes at root 5: the header line, the root, the log's first entry, the state word, block 0's bit. All
+// else is 0, the first write-ahead line too.
 #[test]
 fn one_small_block(rt: HostRuntime) -> Result<(), Fail> {
     let rows = [
