@@ -6,7 +6,7 @@ use Rattle.pool_layout.specs.declared.image.ImageFault.TheVariants as images
 use Rattle.image_tables.specs.Tables.{tables_of}
 use Rattle.heap_check.specs.Heap.{heap}
 use Rattle.trace_text.specs.ImageReport.{recovered_text}
-use Rattle.trace_runs.specs.Replay.{blocks_of}
+use Rattle.trace_runs.specs.Blocks.{blocks_of}
 use Rattle.recover.specs.declared.fault.RecoverFault.{RecoverFault}
 use Rattle.recover.specs.declared.fault.RecoverFault.TheVariants as faults
 

@@ -2,19 +2,54 @@
 ghost use Rattle.std.specs.Prelude.{◌≡◌, ◌≤◌, ◌++◌, IfOk, IfErr, OnOk};
 ghost use Rattle.pmem_lines.specs.Events.{IsQuiet};
 ghost use Rattle.pmem_lines.specs.Pmem.{words_of};
-ghost use Rattle.pool_layout.specs.Image.{IfDefect};
+ghost use Rattle.pool_layout.specs.Image.{IfDefect as IfPoolDefect};
+ghost use Rattle.image_tables.specs.Tables.{tables_of};
+ghost use Rattle.heap_check.specs.Heap.{heap};
+ghost use Rattle.image_defects.specs.Defects.{IsFirstDefect};
+ghost use Rattle.trace_runs.specs.Blocks.{blocks_of};
 ghost use Rattle.heap_check.specs.Image.{IsSoundImage};
+ghost use Rattle.recover.specs.Faults.{IfDefect};
 ghost use Rattle.recover.specs.Recovered.{IsRecovered};
 ghost use Rattle.image_runs.specs.Checks.{IsOwnDefect};
 ghost use Rattle.image_runs.specs.Recoveries.{fault_at, heap_lines};
 
-use arena_core::Arena;
-use pmem_lines::{OutOfMemory, Pmem};
+use heap_model::Block;
+use pmem_lines::Pmem;
 use pool_layout::ImageFault;
 use recover::{RecoverFault, recover};
 use std::alloc::Global;
 use trace_runs::blocks_of;
 use trace_text::write_recovered;
+
+/// The heap of an arena that was recovered, by rising root, and its device.
+#[derive(Drop)]
+pub struct Recovered<P: Pmem + Drop> {
+    pub blocks: Vec<Block>,
+    pub device: P,
+}
+
+/// Recovers an arena from its device, and gives the blocks that the device's words had before. The device is quiet and has
+/// room for 2048 events. `Defect` comes exactly where its image is not sound, and yields to want of memory.
+pub fn recover_heap<P: Pmem + Drop>(alloc: Global, device: P) -> Result<Recovered<P>, RecoverFault>
+    requires quiet { IsQuiet (P.state device).events }
+    requires room { 2048 ≤ (P.state device).room }
+    ensures sound { OnOk result (IsSoundImage (words_of (P.state device))) }
+    ensures recovered { IfOk result (λ done. IsRecovered (P.state device) (P.state done.device)) }
+    ensures blocks { IfOk result (λ done. done.blocks.items ≡ blocks_of (heap (tables_of (words_of (P.state device))))) }
+    ensures defect { IfErr result (λ fault. IfDefect fault (IsFirstDefect (words_of (P.state device)))) }
+{
+    let arena = match recover(alloc, device) {
+        Ok(arena) => arena,
+        Err((fault, _)) => return Err(fault),
+    };
+    match blocks_of(alloc, &arena) {
+        Ok(blocks) => Ok(Recovered {
+            blocks,
+            device: arena.into_pmem(),
+        }),
+        Err(error) => Err(RecoverFault::Memory(error)),
+    }
+}
 
 /// Recovers the arena of this number from its device, and writes its heap behind what stands in `text`: how many blocks, and
 /// each of them, as the device's words had them before. The device is quiet and has room for 2048 events. `Defect` comes
@@ -30,29 +65,16 @@ pub fn recover_arena<P: Pmem + Drop>(
     ensures sound { OnOk result (IsSoundImage (words_of (P.state device))) }
     ensures recovered { IfOk result (λ exact. IsRecovered (P.state device) (P.state exact)) }
     ensures text { OnOk result (text.new.items ≡ text.old.items ++ heap_lines arena (words_of (P.state device))) }
-    ensures defect { IfErr result (λ fault. IfDefect fault (IsOwnDefect (words_of (P.state device)) arena)) }
+    ensures defect { IfErr result (λ fault. IfPoolDefect fault (IsOwnDefect (words_of (P.state device)) arena)) }
 {
-    let recovered = match recover(alloc, device) {
+    let recovered = match recover_heap(alloc, device) {
         Ok(recovered) => recovered,
-        Err((fault, _)) => return Err(fault_at(arena, fault)),
+        Err(fault) => return Err(fault_at(arena, fault)),
     };
-    match write_heap_of(alloc, &recovered, arena, text) {
-        Ok(()) => Ok(recovered.into_pmem()),
+    match write_recovered(text, arena, &recovered.blocks) {
+        Ok(()) => Ok(recovered.device),
         Err(error) => Err(ImageFault::Memory(error)),
     }
-}
-
-// Writes the heap of the arena of this number behind what stands in a text.
-fn write_heap_of<P: Pmem>(
-    alloc: Global,
-    recovered: &Arena<P>,
-    arena: u32,
-    text: &mut Vec<u8>,
-) -> Result<(), OutOfMemory>
-    ensures { OnOk result (text.new.items ≡ text.old.items ++ heap_lines arena (words_of recovered.now.device)) }
-{
-    let blocks = blocks_of(alloc, recovered)?;
-    write_recovered(text, arena, &blocks)
 }
 
 // The fault of an arena's recovery, as one of its pool.

@@ -17,4 +17,4 @@ IfOk-more (Err e) P Q more is = tt
 pub IsAnswer-refused : (command : Command) (input : List ℕ) (places : Option (List (Option PmemState))) (why : Cause) (answer : Answer) →
     Refuses command input why → IsFaultLine why answer → IsAnswer command input places places answer
 IsAnswer-refused command input places why (Output text) cause line = absurd line
-IsAnswer-refused command input places why (FaultLine text) cause line = (why, cause, line, refl)
+IsAnswer-refused command input places why (FaultLine text) cause line = record { why = why; cause = cause; line = line; aside = refl }

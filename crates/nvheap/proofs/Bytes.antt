@@ -5,7 +5,8 @@ use Rattle.std.proofs.lemmas.Grind.{common_steps}
 use Rattle.pmem_lines.specs.Words.{words_at}
 use Rattle.pool_layout.specs.Bytes.{bytes_of_words}
 use Rattle.pool_layout.proofs.Words.{length-bytes_of_words}
-use Rattle.nvheap.specs.Outside.{Gives, GivesOnto, Takes, TakesFront}
+use Rattle.std.specs.Io.KnownBytes.{Consumes, Keeps, Appends, IsAtEnd as End}
+use Rattle.nvheap.specs.Outside.{Gives, GivesOnto, IsAtEnd, Takes, TakesFront}
 
 -- a front is a shorter front and what follows it
 pub take-add : (i j : ℕ) (xs : List ℕ) → take (i + j) xs ≡ take i xs ++ take j (drop i xs)
@@ -18,20 +19,40 @@ take-add (suc i) j (x ∷ xs) =
 -- nothing was given yet
 pub Gives-none : (left : Option (List ℕ)) → Gives left left []
 Gives-none (Some left) = refl
-Gives-none None = refl
+Gives-none None = tt
 
 -- one piece and then another
 pub Gives-then : (a b c : Option (List ℕ)) (xs ys : List ℕ) → Gives a b xs → Gives b c ys → Gives a c (xs ++ ys)
 Gives-then (Some a) (Some b) (Some c) xs ys first second = first ∙ ap (λ (zs : List ℕ). xs ++ zs) second ∙ sym (append_assoc xs ys c)
 Gives-then (Some a) (Some b) None xs ys first second = absurd second
 Gives-then (Some a) None c xs ys first second = absurd first
-Gives-then None (Some b) c xs ys first second = absurd (cc)
-Gives-then None None c xs ys first second = second
+Gives-then None b c xs ys first second = tt
 
 -- what was given so far, and a piece more
 pub Gives-onto : (a b c : Option (List ℕ)) (before after : List ℕ) → Gives a b before → GivesOnto b c before after → Gives a c after
 Gives-onto a b c before after first second =
     subst (λ (xs : List ℕ). Gives a c xs) (sym second.added) (Gives-then a b c before second.more first second.gives)
+
+-- a piece, and then nothing
+pub Gives-no_more : (a b c : Option (List ℕ)) (xs : List ℕ) → Gives a b xs → Gives b c [] → Gives a c xs
+Gives-no_more a b c xs first second = subst (λ (ys : List ℕ). Gives a c ys) (append-nil xs) (Gives-then a b c xs [] first second)
+
+-- what a reader of the system consumed
+pub Gives-consumed : (a b : Option (List ℕ)) (xs : List ℕ) → Consumes a b xs → Gives a b xs
+Gives-consumed None b xs is = tt
+Gives-consumed (Some a) None xs is = absurd is
+Gives-consumed (Some a) (Some b) xs is = is
+
+-- what a reader of the system kept
+pub Gives-kept : (a b : Option (List ℕ)) → Keeps a b → Gives a b []
+Gives-kept None b is = tt
+Gives-kept (Some a) None is = absurd is
+Gives-kept (Some a) (Some b) is = sym is
+
+-- a reader of the system at its end
+pub IsAtEnd-read : (a : Option (List ℕ)) → End a → IsAtEnd a
+IsAtEnd-read None is = tt
+IsAtEnd-read (Some a) is = is
 
 -- nothing was taken yet
 pub Takes-none : (taken : Option (List ℕ)) → Takes taken taken []
@@ -45,6 +66,22 @@ Takes-then (Some a) (Some b) c xs ys first second =
     second ∙ ap (λ (zs : List ℕ). Some (zs ++ ys)) same ∙ ap (λ (zs : List ℕ). Some zs) (append_assoc a xs ys)
 Takes-then (Some a) None c xs ys first second = absurd (cc)
 Takes-then None b c xs ys first second = tt
+
+-- a piece, and then nothing
+pub Takes-no_more : (a b c : Option (List ℕ)) (xs : List ℕ) → Takes a b xs → Takes b c [] → Takes a c xs
+Takes-no_more a b c xs first second = subst (λ (ys : List ℕ). Takes a c ys) (append-nil xs) (Takes-then a b c xs [] first second)
+
+-- what a writer of the system appended
+pub Takes-appended : (a b : Option (List ℕ)) (xs : List ℕ) → Appends a b xs → Takes a b xs
+Takes-appended None b xs is = tt
+Takes-appended (Some a) None xs is = absurd is
+Takes-appended (Some a) (Some b) xs is = ap (λ (ys : List ℕ). Some ys) is
+
+-- what a writer of the system kept
+pub Takes-kept : (a b : Option (List ℕ)) → Keeps a b → Takes a b []
+Takes-kept None b is = tt
+Takes-kept (Some a) None is = absurd is
+Takes-kept (Some a) (Some b) is = ap (λ (ys : List ℕ). Some ys) (is ∙ sym (append-nil a))
 
 -- the front of a text
 pub TakesFront-take : (old new : Option (List ℕ)) (text : List ℕ) (n : ℕ) → Takes old new (take n text) → TakesFront old new text

@@ -28,3 +28,11 @@ IsCommand words (Crash arena event seed) =
 -- the words say no command
 abbrev pub IsNoCommand : List (List ℕ) → Type 0
 IsNoCommand words = (command : Command) → ¬ (IsCommand words command)
+
+-- the command recovers what an image says, on devices that the shelf makes of images
+abbrev pub Recovers : Command → Type 0
+Recovers Replay = ⊥
+Recovers Image = ⊥
+Recovers Check = ⊥
+Recovers Recover = Unit {0}
+Recovers (Crash arena event seed) = Unit {0}

@@ -1,5 +1,5 @@
 -- How a run ends: what each status says of the words, the input, the output and the shelf.
-use Rattle.std.specs.Prelude.{◌≡◌, ◌⊎◌, ◌≤◌, ℕ, List, length, Option}
+use Rattle.std.specs.Prelude.{◌≡◌, ◌⊎◌, ℕ, List, Option}
 use Rattle.pmem_lines.specs.Pmem.{PmemState}
 use Rattle.trace_text.specs.declared.call.Refusal.{Refusal}
 use Rattle.trace_text.specs.declared.call.Refusal.TheVariants.{BadLine, NoArena, NoEvent}
@@ -15,25 +15,10 @@ use Rattle.nvheap.specs.declared.cause.Cause.{Cause}
 use Rattle.nvheap.specs.declared.cause.Cause.TheVariants as causes
 use Rattle.nvheap.specs.declared.status.Status.{Status}
 use Rattle.nvheap.specs.declared.status.Status.TheVariants.{Done, Usage, Refused, ReadFault, WriteFault, Memory, TooLong}
-use Rattle.nvheap.specs.Outside.{GivesAll, GivesMore, Takes, TakesFront}
+use Rattle.nvheap.specs.Outside.{Outside, Takes, TakesFront}
+use Rattle.nvheap.specs.Inputs.{limit_of, HasRead, HasReadFew, HasReadMore}
 use Rattle.nvheap.specs.Command.{IsCommand}
 use Rattle.nvheap.specs.Answers.{AnswersReplay, AnswersImage, AnswersRecover, AnswersCrash, LacksArena, LacksEvent}
-
--- the most bytes that a trace may have
-unfoldable pub longest_trace : ℕ
-longest_trace = 67108864
-
--- the most bytes that an image may have
-unfoldable pub longest_image : ℕ
-longest_image = 268435456
-
--- the most bytes that a command's input may have
-abbrev pub longest : Command → ℕ
-longest commands.Replay = longest_trace
-longest commands.Image = longest_trace
-longest commands.Check = longest_image
-longest commands.Recover = longest_image
-longest (commands.Crash arena event seed) = longest_trace
 
 -- the exit code
 abbrev pub code_of : Status → ℕ
@@ -51,7 +36,7 @@ Answers commands.Replay input output old new = AnswersReplay input output old ne
 Answers commands.Image input output old new = AnswersImage input output old new
 Answers commands.Check input output old new = IsChecked input output × (new ≡ old)
 Answers commands.Recover input output old new = AnswersRecover input output old new
-Answers (commands.Crash arena event seed) input output old new = (arena ≡ 0) × AnswersCrash input output event seed × (new ≡ old)
+Answers (commands.Crash arena event seed) input output old new = AnswersCrash input output arena event seed old new
 
 -- the line that says why an input is refused
 abbrev pub cause_text : Cause → List ℕ
@@ -68,7 +53,7 @@ RefusesTrace input (NoEvent event events) = ⊥
 abbrev pub RefusesCrash : ℕ → ℕ → List ℕ → Refusal → Type 0
 RefusesCrash asked event input (BadLine line) = IsRefusedLine input line
 RefusesCrash asked event input (NoArena arena arenas) = LacksArena input asked arena arenas
-RefusesCrash asked event input (NoEvent found events) = (asked ≡ 0) × LacksEvent input event found events
+RefusesCrash asked event input (NoEvent found events) = LacksEvent input asked event found events
 
 -- why a command refuses an input
 abbrev pub Refuses : Command → List ℕ → Cause → Type 0
@@ -83,54 +68,97 @@ Refuses commands.Recover input (causes.Image arena defect) = IsPoolDefect input 
 Refuses (commands.Crash asked event seed) input (causes.Trace refusal) = RefusesCrash asked event input refusal
 Refuses (commands.Crash asked event seed) input (causes.Image arena defect) = ⊥
 
--- what a command has to say of an input: its output, or the line that says why it refuses, at which the shelf stays
+-- the text is the line that says why a command refuses an input, and the shelf's places are as they were
+pub record SaysWhy (command : Command) (input text : List ℕ) (old new : Option (List (Option PmemState))) : Type 0 where
+  pub why : Cause
+  pub cause : Refuses command input why
+  pub line : text ≡ cause_text why
+  pub aside : new ≡ old
+
+-- what a command has to say of an input: its output, or the line that says why it refuses
 abbrev pub IsAnswer : Command → List ℕ → Option (List (Option PmemState)) → Option (List (Option PmemState)) → Answer → Type 0
 IsAnswer command input old new (Output text) = Answers command input text.items old new
-IsAnswer command input old new (FaultLine text) = (cause : Cause) × Refuses command input cause × (text.items ≡ cause_text cause) × (new ≡ old)
+IsAnswer command input old new (FaultLine text) = SaysWhy command input text.items old new
 
 -- the line that says why
 abbrev pub IsFaultLine : Cause → Answer → Type 0
 IsFaultLine cause (Output text) = ⊥
 IsFaultLine cause (FaultLine text) = text.items ≡ cause_text cause
 
--- Done: the input was read to its end, and the whole output was taken
-pub record IsDone (words : List (List ℕ)) (left left_after taken taken_after : Option (List ℕ)) (places places_after : Option (List (Option PmemState))) : Type 0 where
-  pub command : Command
-  pub said : IsCommand words command
+-- what a sink took of an answer, by how its writing ended: all of it, or at a fault its front
+abbrev pub IsWritten : Answer → Option (List ℕ) → Option (List ℕ) → Status → Type 0
+IsWritten (Output text) old new Done = Takes old new text.items
+IsWritten (Output text) old new WriteFault = TakesFront old new text.items
+IsWritten (FaultLine text) old new Refused = Takes old new text.items
+IsWritten (FaultLine text) old new WriteFault = TakesFront old new text.items
+IsWritten answer old new _ = ⊥
+
+-- why a command has no input, and what was read then
+abbrev pub IsUnread : Command → Option (List ℕ) → Option (List ℕ) → Status → Type 0
+IsUnread command old new ReadFault = HasReadFew (limit_of command) old new
+IsUnread command old new Memory = Unit {0}
+IsUnread command old new TooLong = HasReadMore (limit_of command) old new
+IsUnread command old new _ = ⊥
+
+-- Done: the input was read, and the whole output was taken
+pub record HasDone (command : Command) (old new : Outside) : Type 0 where
   pub input : List ℕ
-  pub gives : GivesAll left left_after input
-  pub short : length input ≤ longest command
+  pub read : HasRead (limit_of command) old.left new.left input
   pub output : List ℕ
-  pub answer : Answers command input output places places_after
-  pub takes : Takes taken taken_after output
+  pub answer : Answers command input output old.places new.places
+  pub takes : Takes old.taken new.taken output
 
--- Refused: the input was read to its end, and the line that says why was taken whole
-pub record IsRefused (words : List (List ℕ)) (left left_after taken taken_after : Option (List ℕ)) : Type 0 where
-  pub command : Command
-  pub said : IsCommand words command
+-- Refused: the input was read, and the line that says why it is refused was taken whole
+pub record HasRefused (command : Command) (old new : Outside) : Type 0 where
   pub input : List ℕ
-  pub gives : GivesAll left left_after input
-  pub short : length input ≤ longest command
-  pub why : Cause
-  pub cause : Refuses command input why
-  pub takes : Takes taken taken_after (cause_text why)
+  pub read : HasRead (limit_of command) old.left new.left input
+  pub line : List ℕ
+  pub says : SaysWhy command input line old.places new.places
+  pub takes : Takes old.taken new.taken line
 
--- WriteFault: the front of the output, or of the line that says why there is none, was taken
-pub record IsCutShort (words : List (List ℕ)) (left left_after taken taken_after : Option (List ℕ)) (places places_after : Option (List (Option PmemState))) : Type 0 where
-  pub command : Command
-  pub said : IsCommand words command
+-- WriteFault: the input was read, and the front of the output, or of the line that says why there is none, was taken
+pub record WasCutShort (command : Command) (old new : Outside) : Type 0 where
   pub input : List ℕ
-  pub gives : GivesAll left left_after input
-  pub short : length input ≤ longest command
+  pub read : HasRead (limit_of command) old.left new.left input
   pub text : List ℕ
-  pub whole : Answers command input text places places_after ⊎ ((why : Cause) × Refuses command input why × (text ≡ cause_text why))
-  pub takes : TakesFront taken taken_after text
+  pub whole : Answers command input text old.places new.places ⊎ SaysWhy command input text old.places new.places
+  pub takes : TakesFront old.taken new.taken text
 
--- TooLong: one byte more than the command's input may have was read, and no more
-pub record IsTooLong (words : List (List ℕ)) (left left_after : Option (List ℕ)) : Type 0 where
+-- how a command ends
+abbrev pub Ends : Command → Outside → Outside → Status → Type 0
+Ends command old new Done = HasDone command old new
+Ends command old new Usage = ⊥
+Ends command old new Refused = HasRefused command old new
+Ends command old new ReadFault = HasReadFew (limit_of command) old.left new.left
+Ends command old new WriteFault = WasCutShort command old new
+Ends command old new Memory = Unit {0}
+Ends command old new TooLong = HasReadMore (limit_of command) old.left new.left
+
+-- the words say a command that this holds of
+pub record IsSaid (words : List (List ℕ)) (Holds : Command → Type 0) : Type 0 where
   pub command : Command
   pub said : IsCommand words command
-  pub more : GivesMore left left_after (longest command)
+  pub holds : Holds command
+
+-- the words say a command, its input was read, and its whole output was taken
+abbrev pub IsDone : List (List ℕ) → Outside → Outside → Type 0
+IsDone words old new = IsSaid words (λ command. HasDone command old new)
+
+-- the words say a command, its input was read, and the line that says why it is refused was taken whole
+abbrev pub IsRefused : List (List ℕ) → Outside → Outside → Type 0
+IsRefused words old new = IsSaid words (λ command. HasRefused command old new)
+
+-- the words say a command, and no more was read than its input may have
+abbrev pub IsWithinLimit : List (List ℕ) → Outside → Outside → Type 0
+IsWithinLimit words old new = IsSaid words (λ command. HasReadFew (limit_of command) old.left new.left)
+
+-- the words say a command, its input was read, and the front of what it has to say was taken
+abbrev pub IsCutShort : List (List ℕ) → Outside → Outside → Type 0
+IsCutShort words old new = IsSaid words (λ command. WasCutShort command old new)
+
+-- the words say a command, and one byte more than its input may have was read, and no more
+abbrev pub IsTooLong : List (List ℕ) → Outside → Outside → Type 0
+IsTooLong words old new = IsSaid words (λ command. HasReadMore (limit_of command) old.left new.left)
 
 -- nothing is written
 abbrev pub IsSilent : Status → Type 0
@@ -151,15 +179,3 @@ IsAside ReadFault = Unit {0}
 IsAside WriteFault = ⊥
 IsAside Memory = Unit {0}
 IsAside TooLong = Unit {0}
-
--- how a command ends on an input that was read, by what was taken and what stands on the shelf
-abbrev pub RunsOn : Command → List ℕ → Option (List ℕ) → Option (List ℕ) → Option (List (Option PmemState)) → Option (List (Option PmemState)) → Status → Type 0
-RunsOn command input taken taken_after places places_after Done = (output : List ℕ) × Answers command input output places places_after × Takes taken taken_after output
-RunsOn command input taken taken_after places places_after Usage = ⊥
-RunsOn command input taken taken_after places places_after Refused =
-    (why : Cause) × Refuses command input why × Takes taken taken_after (cause_text why) × (places_after ≡ places)
-RunsOn command input taken taken_after places places_after ReadFault = ⊥
-RunsOn command input taken taken_after places places_after WriteFault =
-    (text : List ℕ) × (Answers command input text places places_after ⊎ ((why : Cause) × Refuses command input why × (text ≡ cause_text why))) × TakesFront taken taken_after text
-RunsOn command input taken taken_after places places_after Memory = (taken_after ≡ taken) × (places_after ≡ places)
-RunsOn command input taken taken_after places places_after TooLong = ⊥

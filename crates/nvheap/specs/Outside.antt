@@ -1,6 +1,27 @@
--- What a source gives and a sink takes, where they tell their bytes, and what stands on a shelf, where it tells that.
-use Rattle.std.specs.Prelude.{◌≡◌, ◌⊎◌, ◌<◌, ℕ, ◌-◌, ◌+◌, ◌^◌, List, [], ◌++◌, length, Option, Some, None, slice_set}
+-- What the outside tells: what a source gives and a sink takes, where they tell their bytes, and what stands on a shelf, where
+-- it tells that.
+use Rattle.std.specs.Prelude.{◌≡◌, ◌⊎◌, ◌<◌, ◌≤◌, ℕ, suc, ◌-◌, ◌+◌, ◌^◌, List, [], ◌∷◌, ◌++◌, length, Option, Some, None, slice_set}
 use Rattle.pmem_lines.specs.Pmem.{PmemState}
+
+-- what the outside tells: the bytes that the source has left, those that the sink took, what stands in the places of the
+-- shelf, and how many devices the shelf made of images
+pub record Outside : Type 0 where
+  pub left : Option (List ℕ)
+  pub taken : Option (List ℕ)
+  pub places : Option (List (Option PmemState))
+  pub images : ℕ
+
+-- what a source, a sink and a shelf tell, by what their types tell
+abbrev pub told_by : {S K H : Type 0} → (S → Option (List ℕ)) → (K → Option (List ℕ)) → (H → Option (List (Option PmemState))) → (H → ℕ) → S → K → H → Outside
+told_by left taken places images source sink shelf = record { left = left source; taken = taken sink; places = places shelf; images = images shelf }
+
+-- what stands in the shelf's places stays
+abbrev pub KeepsPlaces : Outside → Outside → Type 0
+KeepsPlaces old new = new.places ≡ old.places
+
+-- the shelf's count of devices made of images stays
+abbrev pub KeepsImages : Outside → Outside → Type 0
+KeepsImages old new = new.images ≡ old.images
 
 -- a count of faults rose, or it stands at the end of its type
 abbrev pub Rose : ℕ → ℕ → Type 0
@@ -10,7 +31,7 @@ Rose old new = (old < new) ⊎ (new ≡ 2 ^ 64 - 1)
 abbrev pub Gives : Option (List ℕ) → Option (List ℕ) → List ℕ → Type 0
 Gives (Some old) (Some new) bytes = old ≡ bytes ++ new
 Gives (Some old) None bytes = ⊥
-Gives None new bytes = new ≡ None
+Gives None new bytes = Unit {0}
 
 -- a source has no bytes left
 abbrev pub IsAtEnd : Option (List ℕ) → Type 0
@@ -34,6 +55,12 @@ pub record GivesMore (old new : Option (List ℕ)) (limit : ℕ) : Type 0 where
   pub count : length bytes ≡ limit + 1
   pub gives : Gives old new bytes
 
+-- a source gave so many bytes at most
+pub record GivesFew (old new : Option (List ℕ)) (limit : ℕ) : Type 0 where
+  pub bytes : List ℕ
+  pub few : length bytes ≤ limit
+  pub gives : Gives old new bytes
+
 -- a sink took these bytes
 abbrev pub Takes : Option (List ℕ) → Option (List ℕ) → List ℕ → Type 0
 Takes (Some old) new bytes = new ≡ Some (old ++ bytes)
@@ -50,3 +77,8 @@ pub record TakesFront (old new : Option (List ℕ)) (bytes : List ℕ) : Type 0 
 abbrev pub put_device : Option (List (Option PmemState)) → ℕ → PmemState → Option (List (Option PmemState))
 put_device (Some places) arena state = Some (slice_set places arena (Some state))
 put_device None arena state = None
+
+-- places of a shelf are set, from one on
+abbrev pub put_devices : Option (List (Option PmemState)) → ℕ → List PmemState → Option (List (Option PmemState))
+put_devices places arena [] = places
+put_devices places arena (device ∷ devices) = put_device (put_devices places (suc arena) devices) arena device

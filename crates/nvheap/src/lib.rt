@@ -12,10 +12,12 @@
 mod answers;
 mod cause;
 mod command;
-mod gate;
+mod crashing;
+mod imaging;
 mod input;
 mod output;
 mod recovering;
+mod replaying;
 mod running;
 mod shelf;
 mod sink;
@@ -24,9 +26,9 @@ mod status;
 
 pub use cause::Cause;
 pub use command::Command;
-pub use gate::{Gate, OpenGate};
 pub use running::run;
 pub use shelf::{DropShelf, KeptShelf, Shelf};
 pub use sink::{MemSink, Sink, SureSink, WriteSink};
 pub use source::{Failed, MemSource, ReadSource, Source, SureSource};
 pub use status::Status;
+pub use trace_workers::{Gate, OpenGate};

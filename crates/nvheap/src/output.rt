@@ -1,12 +1,32 @@
-// All bytes of a text, to a sink.
+// What a command has to say, to a sink.
 ghost use Rattle.std.specs.Prelude.{◌≡◌, ◌<◌, ◌≤◌, length, take, drop, OnOk, OnErr};
 ghost use Rattle.nvheap.specs.Outside.{Rose, Takes, TakesFront};
+ghost use Rattle.nvheap.specs.Ends.{IsWritten};
 
+use crate::answers::Answer;
 use crate::sink::Sink;
 use crate::source::Failed;
+use crate::status::Status;
 
-/// Writes a text whole. Where the sink fails, it took the front of it.
-pub(crate) fn write_all<K: Sink>(sink: &mut K, text: &[u8]) -> Result<(), Failed>
+/// Writes what a command has to say, and tells how its run ends.
+pub(crate) fn write_answer<K: Sink>(sink: &mut K, answer: &Answer) -> Status
+    ensures written { IsWritten answer.now (K.taken sink.old) (K.taken sink.new) result }
+    ensures failed { result ≡ Status.WriteFault → Rose (K.faults sink.old) (K.faults sink.new) }
+{
+    match answer {
+        Answer::Output(text) => match write_all(sink, text) {
+            Ok(()) => Status::Done,
+            Err(_) => Status::WriteFault,
+        },
+        Answer::FaultLine(text) => match write_all(sink, text) {
+            Ok(()) => Status::Refused,
+            Err(_) => Status::WriteFault,
+        },
+    }
+}
+
+// Writes a text whole. Where the sink fails, it took the front of it.
+fn write_all<K: Sink>(sink: &mut K, text: &[u8]) -> Result<(), Failed>
     ensures all { OnOk result (Takes (K.taken sink.old) (K.taken sink.new) text.now) }
     ensures front { OnErr result (TakesFront (K.taken sink.old) (K.taken sink.new) text.now) }
     ensures failed { OnErr result (Rose (K.faults sink.old) (K.faults sink.new)) }

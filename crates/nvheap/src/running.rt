@@ -1,15 +1,16 @@
 // The top call.
-ghost use Rattle.std.specs.Prelude.{◌≡◌, ◌≢◌, ◌↔◌, ◌<◌, ◌^◌, map, string_bytes};
+ghost use Rattle.std.specs.Prelude.{◌≡◌, ◌≢◌, ◌↔◌, ◌⊎◌, map, string_bytes};
 ghost use Rattle.nvheap.specs.declared.command.Command.TheVariants as commands;
-ghost use Rattle.nvheap.specs.Outside.{Rose};
-ghost use Rattle.nvheap.specs.Command.{IsCommand, IsNoCommand};
-ghost use Rattle.nvheap.specs.Ends.{longest, IsDone, IsRefused, IsCutShort, IsTooLong, IsSilent, IsAside, RunsOn};
+ghost use Rattle.nvheap.specs.Outside.{told_by, Rose, KeepsPlaces, KeepsImages};
+ghost use Rattle.nvheap.specs.Command.{IsNoCommand, Recovers};
+ghost use Rattle.nvheap.specs.Ends.{Ends, IsSaid, IsDone, IsRefused, IsWithinLimit, IsCutShort, IsTooLong, IsSilent, IsAside};
+ghost use Rattle.nvheap.specs.Accepted.{IsAccepted};
 
-use crate::answers::{Answer, answer_to};
+use crate::answers::answer_to;
 use crate::command::{Command, command_of};
-use crate::gate::Gate;
-use crate::input::{Unread, read_all};
-use crate::output::write_all;
+use crate::input::read_input;
+use crate::output::write_answer;
+use crate::replaying::replay_answer;
 use crate::shelf::Shelf;
 use crate::sink::Sink;
 use crate::source::Source;
@@ -17,11 +18,7 @@ use crate::status::Status;
 use std::alloc::Global;
 use std::sync::Wait;
 use std::thread::Threads;
-
-// The most bytes that a trace may have, and an image.
-const LONGEST_TRACE: usize = 67_108_864;
-
-const LONGEST_IMAGE: usize = 268_435_456;
+use trace_workers::Gate;
 
 /// Does all that the program does: reads the words, then all of the source, runs the command, and then writes. `words`
 /// are the words after the program's name.
@@ -29,69 +26,96 @@ const LONGEST_IMAGE: usize = 268_435_456;
 /// `Usage` comes exactly where the words say no command. The other answers come in the order `ReadFault`, `TooLong`,
 /// `Refused`, `WriteFault`, `Done`, each where no earlier one came; `Memory` may stand in the place of any of them.
 pub fn run<R: Threads + Wait + Sync, S: Source, K: Sink, G: Gate + Sync, H: Shelf>(
-    _rt: &R,
+    rt: &R,
     alloc: Global,
     words: &[String],
     source: &mut S,
     sink: &mut K,
-    _gate: &G,
+    gate: &G,
     shelf: &mut H,
 ) -> Status
     ensures usage { (result ≡ Status.Usage) ↔ IsNoCommand (map string_bytes words.now) }
-    ensures done { result ≡ Status.Done → IsDone (map string_bytes words.now) (S.left source.old) (S.left source.new) (K.taken sink.old) (K.taken sink.new) (H.places shelf.old) (H.places shelf.new) }
-    ensures refused { result ≡ Status.Refused → IsRefused (map string_bytes words.now) (S.left source.old) (S.left source.new) (K.taken sink.old) (K.taken sink.new) }
+    ensures untouched { result ≡ Status.Usage → (source.new ≡ source.old) × (sink.new ≡ sink.old) × (shelf.new ≡ shelf.old) }
+    ensures done { let told = told_by S.left K.taken H.places H.images in
+        result ≡ Status.Done → IsDone (map string_bytes words.now) (told source.old sink.old shelf.old) (told source.new sink.new shelf.new) }
+    ensures refused { let told = told_by S.left K.taken H.places H.images in
+        result ≡ Status.Refused → IsRefused (map string_bytes words.now) (told source.old sink.old shelf.old) (told source.new sink.new shelf.new) }
     ensures read_fault { result ≡ Status.ReadFault → Rose (S.faults source.old) (S.faults source.new) }
+    ensures within_limit { let told = told_by S.left K.taken H.places H.images in
+        result ≡ Status.ReadFault → IsWithinLimit (map string_bytes words.now) (told source.old sink.old shelf.old) (told source.new sink.new shelf.new) }
     ensures write_fault { result ≡ Status.WriteFault → Rose (K.faults sink.old) (K.faults sink.new) }
-    ensures cut_short { result ≡ Status.WriteFault → IsCutShort (map string_bytes words.now) (S.left source.old) (S.left source.new) (K.taken sink.old) (K.taken sink.new) (H.places shelf.old) (H.places shelf.new) }
-    ensures too_long { result ≡ Status.TooLong → IsTooLong (map string_bytes words.now) (S.left source.old) (S.left source.new) }
-    ensures silent { IsSilent result → K.taken sink.new ≡ K.taken sink.old }
-    ensures aside { IsAside result → H.places shelf.new ≡ H.places shelf.old }
-    ensures images { ¬ (IsCommand (map string_bytes words.now) commands.Recover) → H.images shelf.new ≡ H.images shelf.old }
+    ensures cut_short { let told = told_by S.left K.taken H.places H.images in
+        result ≡ Status.WriteFault → IsCutShort (map string_bytes words.now) (told source.old sink.old shelf.old) (told source.new sink.new shelf.new) }
+    ensures too_long { let told = told_by S.left K.taken H.places H.images in
+        result ≡ Status.TooLong → IsTooLong (map string_bytes words.now) (told source.old sink.old shelf.old) (told source.new sink.new shelf.new) }
+    ensures complete { let told = told_by S.left K.taken H.places H.images in
+        IsAccepted (map string_bytes words.now) (told source.old sink.old shelf.old) → ¬ (Rose (S.faults source.old) (S.faults source.new)) → ¬ (Rose (K.faults sink.old) (K.faults sink.new)) →
+        (result ≡ Status.Done) ⊎ (result ≡ Status.Memory) }
+    ensures silent { IsSilent result → sink.new ≡ sink.old }
+    ensures aside { let told = told_by S.left K.taken H.places H.images in
+        IsAside result → KeepsPlaces (told source.old sink.old shelf.old) (told source.new sink.new shelf.new) }
+    ensures images { let told = told_by S.left K.taken H.places H.images in
+        ¬ (IsSaid (map string_bytes words.now) Recovers) → KeepsImages (told source.old sink.old shelf.old) (told source.new sink.new shelf.new) }
 {
     let Some(command) = command_of(words) else {
         return Status::Usage;
     };
-    match read_all(alloc, source, longest_of(command)) {
-        Ok(input) => run_on(alloc, command, &input, sink, shelf),
-        Err(Unread::Failed) => Status::ReadFault,
-        Err(Unread::Memory) => Status::Memory,
-        Err(Unread::TooLong) => Status::TooLong,
-    }
-}
-
-// The most bytes that a command's input may have.
-#[tactic(auto, unfolding(crate::specs::Ends::longest_trace, crate::specs::Ends::longest_image))]
-fn longest_of(command: Command) -> usize
-    ensures longest { result ≡ longest command }
-    ensures few { result < 2 ^ 32 }
-{
     match command {
-        Command::Replay | Command::Image | Command::Crash { .. } => LONGEST_TRACE,
-        Command::Check | Command::Recover => LONGEST_IMAGE,
+        Command::Replay => run_waiting(rt, alloc, source, sink, gate, shelf),
+        _ => run_returning(alloc, command, source, sink, shelf),
     }
 }
 
-// Runs a command on its input, and writes what it has to say.
-fn run_on<K: Sink, H: Shelf>(
+// Runs `replay`, the command that may wait.
+fn run_waiting<R: Threads + Wait + Sync, S: Source, K: Sink, G: Gate + Sync, H: Shelf>(
+    rt: &R,
+    alloc: Global,
+    source: &mut S,
+    sink: &mut K,
+    gate: &G,
+    shelf: &mut H,
+) -> Status
+    ensures ends { let told = told_by S.left K.taken H.places H.images in
+        Ends commands.Replay (told source.old sink.old shelf.old) (told source.new sink.new shelf.new) result }
+    ensures read_fault { result ≡ Status.ReadFault → Rose (S.faults source.old) (S.faults source.new) }
+    ensures write_fault { result ≡ Status.WriteFault → Rose (K.faults sink.old) (K.faults sink.new) }
+    ensures silent { IsSilent result → sink.new ≡ sink.old }
+    ensures aside { IsAside result → H.places shelf.new ≡ H.places shelf.old }
+    ensures images { H.images shelf.new ≡ H.images shelf.old }
+{
+    let input = match read_input(alloc, Command::Replay, source) {
+        Ok(input) => input,
+        Err(status) => return status,
+    };
+    match replay_answer(rt, alloc, &input, gate, shelf) {
+        Ok(answer) => write_answer(sink, &answer),
+        Err(_) => Status::Memory,
+    }
+}
+
+// Runs one of the other commands. They wait for nobody.
+fn run_returning<S: Source, K: Sink, H: Shelf>(
     alloc: Global,
     command: Command,
-    input: &[u8],
+    source: &mut S,
     sink: &mut K,
     shelf: &mut H,
 ) -> Status
-    ensures ends { RunsOn command input.now (K.taken sink.old) (K.taken sink.new) (H.places shelf.old) (H.places shelf.new) result }
+    requires { command ≢ commands.Replay }
+    ensures ends { let told = told_by S.left K.taken H.places H.images in
+        Ends command (told source.old sink.old shelf.old) (told source.new sink.new shelf.new) result }
+    ensures read_fault { result ≡ Status.ReadFault → Rose (S.faults source.old) (S.faults source.new) }
     ensures write_fault { result ≡ Status.WriteFault → Rose (K.faults sink.old) (K.faults sink.new) }
-    ensures images { command ≢ commands.Recover → H.images shelf.new ≡ H.images shelf.old }
+    ensures silent { IsSilent result → sink.new ≡ sink.old }
+    ensures aside { IsAside result → H.places shelf.new ≡ H.places shelf.old }
+    ensures images { ¬ (Recovers command) → H.images shelf.new ≡ H.images shelf.old }
 {
-    match answer_to(alloc, command, input, shelf) {
-        Ok(Answer::Output(text)) => match write_all(sink, &text) {
-            Ok(()) => Status::Done,
-            Err(_) => Status::WriteFault,
-        },
-        Ok(Answer::FaultLine(text)) => match write_all(sink, &text) {
-            Ok(()) => Status::Refused,
-            Err(_) => Status::WriteFault,
-        },
+    let input = match read_input(alloc, command, source) {
+        Ok(input) => input,
+        Err(status) => return status,
+    };
+    match answer_to(alloc, command, &input, shelf) {
+        Ok(answer) => write_answer(sink, &answer),
         Err(_) => Status::Memory,
     }
 }

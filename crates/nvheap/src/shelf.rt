@@ -1,7 +1,8 @@
 // Where devices come from, and where they stay.
 ghost use Rattle.std.specs.Prelude.{◌≡◌, ℕ, ◌<◌, ◌≤◌, List, Option, Some, None, vec_len, IfOk, OnOk, OnErr, length, ◌%◌, option_copied, replicate, slice_index_or};
 ghost use Rattle.pmem_lines.specs.Pmem.{PmemState, IsZeroed, fresh, risen};
-ghost use Rattle.nvheap.specs.Outside.{put_device};
+ghost use Rattle.shared_pool.specs.Rows.{each_of};
+ghost use Rattle.nvheap.specs.Outside.{put_device, put_devices};
 
 use pmem_lines::{OutOfMemory, Pmem, SimPmem};
 use std::alloc::Global;
@@ -46,6 +47,17 @@ pub trait Shelf {
         requires { arena < 16 }
         ensures places { places self.new ≡ put_device (places self.old) arena (Self.Device.state device) }
         ensures images { images self.new ≡ images self.old };
+}
+
+/// Sets the places from 0 on to these devices, of which there are at most 16.
+pub(crate) fn put_all<H: Shelf>(shelf: &mut H, mut devices: Vec<H::Device>)
+    requires { length devices.items ≤ 16 }
+    ensures places { H.places shelf.new ≡ put_devices (H.places shelf.old) 0 (each_of devices.items (λ d. H.Device.state d)) }
+    ensures images { H.images shelf.new ≡ H.images shelf.old }
+{
+    while let Some(device) = devices.pop() {
+        shelf.put(devices.len() as u32, device);
+    }
 }
 
 /// Keeps what is put.

@@ -15,12 +15,12 @@ pub trait Sink {
     ghost faults: { Self → ℕ };
 
     /// Takes the first `Ok(n)` bytes of the piece, at least one of a piece that is not empty. `Failed` comes only
-    /// where the count of faults rose, and then the bytes taken stay as they were.
+    /// where the count of faults rose, and takes no byte.
     fn write(&mut self, piece: &[u8]) -> Result<usize, Failed>
         ensures count { IfOk result (λ n. n ≤ length piece.now) }
         ensures some { IfOk result (λ n. 0 < length piece.now → 0 < n) }
         ensures bytes { IfOk result (λ n. Takes (taken self.old) (taken self.new) (take n piece.now)) }
-        ensures err { OnErr result (taken self.new ≡ taken self.old) }
+        ensures err { OnErr result (Takes (taken self.old) (taken self.new) []) }
         ensures cause { OnErr result (Rose (faults self.old) (faults self.new)) }
         ensures later { faults self.old ≤ faults self.new };
 }
@@ -90,8 +90,8 @@ impl Sink for MemSink<'_> {
     }
 }
 
-/// Takes bytes to a writer of the system. It counts the failures, among them a write of no bytes, and tells nothing
-/// of the bytes.
+/// Takes bytes to a writer of the system, and tells them where the writer does. It counts the failures, among them a
+/// write of no bytes.
 #[derive(Drop)]
 pub struct WriteSink<W: Write + Drop> {
     writer: W,
@@ -100,13 +100,16 @@ pub struct WriteSink<W: Write + Drop> {
 
 impl<W: Write + Drop> WriteSink<W> {
     /// A sink over this writer.
-    pub fn new(writer: W) -> Self {
+    pub fn new(writer: W) -> Self
+        ensures writer { result.writer ≡ writer }
+        ensures failed { result.failed ≡ 0 }
+    {
         WriteSink { writer, failed: 0 }
     }
 }
 
 impl<W: Write + Drop> Sink for WriteSink<W> {
-    ghost taken = { λ _. None };
+    ghost taken = { λ s. W.contents s.writer };
 
     ghost faults = { λ s. s.failed };
 

@@ -17,11 +17,12 @@ pub trait Source {
     ghost faults: { Self → ℕ };
 
     /// Puts `Ok(n)` bytes at the front of `into`. `Ok(0)` on a buffer that is not empty is the end. `Failed` comes
-    /// only where the count of faults rose.
+    /// only where the count of faults rose, and gives no byte.
     fn read(&mut self, into: &mut [u8]) -> Result<usize, Failed>
         ensures count { IfOk result (λ n. n ≤ length into.old) }
         ensures bytes { IfOk result (λ n. Gives (left self.old) (left self.new) (take n into.new)) }
         ensures end { IfOk result (λ n. n ≡ 0 → 0 < length into.old → IsAtEnd (left self.new)) }
+        ensures err { OnErr result (Gives (left self.old) (left self.new) []) }
         ensures cause { OnErr result (Rose (faults self.old) (faults self.new)) }
         ensures later { faults self.old ≤ faults self.new };
 }
@@ -103,7 +104,7 @@ fn give(bytes: &mut &[u8], into: &mut [u8]) -> usize
     n
 }
 
-/// Bytes from a reader of the system. It counts the failures, and tells nothing of the bytes.
+/// Bytes from a reader of the system, told where the reader tells them. It counts the failures.
 #[derive(Drop)]
 pub struct ReadSource<R: Read + Drop> {
     reader: R,
@@ -112,13 +113,16 @@ pub struct ReadSource<R: Read + Drop> {
 
 impl<R: Read + Drop> ReadSource<R> {
     /// A source over this reader.
-    pub fn new(reader: R) -> Self {
+    pub fn new(reader: R) -> Self
+        ensures reader { result.reader ≡ reader }
+        ensures failed { result.failed ≡ 0 }
+    {
         ReadSource { reader, failed: 0 }
     }
 }
 
 impl<R: Read + Drop> Source for ReadSource<R> {
-    ghost left = { λ _. None };
+    ghost left = { λ s. R.remaining s.reader };
 
     ghost faults = { λ s. s.failed };
 

@@ -57,6 +57,17 @@ fn tells_that_the_input_is_too_long(rt: HostRuntime) -> Result<(), Fail> {
 }
 
 #[test]
+fn reads_nothing_where_the_words_are_none(rt: HostRuntime) -> Result<(), Fail> {
+    let mut source = LineFeeds { left: 5 };
+    let mut sink = MemSink::new(rt.alloc(), &[], usize::MAX);
+    let status = ends(&rt, rt.alloc(), "replay image", &mut source, &mut sink)?;
+    assert_eq!(rt; status, Status::Usage);
+    assert_eq!(rt; source.left, 5);
+    assert_eq!(rt; sink.bytes().len(), 0);
+    Ok(())
+}
+
+#[test]
 fn has_codes(rt: HostRuntime) {
     let rows = [
         (Status::Done, 0),

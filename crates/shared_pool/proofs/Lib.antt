@@ -1,4 +1,3 @@
-mod HeldJournals
 mod PassParts
 mod PassTurns
 mod FreshPasses

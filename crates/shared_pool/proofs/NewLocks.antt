@@ -8,12 +8,12 @@ use Rattle.heap_model.specs.declared.call.Entry.{Entry}
 use Rattle.arena_lock.specs.declared.opening.Opening.{Opening}
 use Rattle.arena_lock.specs.Journal.{calls_by, owns, AllBelow, Since}
 use Rattle.shared_pool.specs.Begun.{IsBegun, AllBegun}
-use Rattle.shared_pool.specs.Held.{opened, arena_of, IsHeld}
+use Rattle.arena_journal.specs.Journals.{opened, arena_of, IsBehind}
 use Rattle.shared_pool.specs.Passes.{first_calls}
 use Rattle.shared_pool.specs.Rows.{lines}
 use Rattle.arena_lock.specs.Known.{Lock, Known, AllAt, AllFit, Covers, all_numbers, new_seats}
 use Rattle.arena_core.specs.Arena.{ArenaState}
-use Rattle.shared_pool.proofs.HeldJournals.{held_still}
+use Rattle.arena_journal.proofs.Journals.{behind_still}
 use Rattle.shared_pool.proofs.Closings.{below_since}
 
 front_begun : (seats : ℕ) (xs : List (Lock × List Known)) (x : Lock × List Known) → AllBegun seats (xs ++ x ∷ []) → AllBegun seats xs × IsBegun seats x
@@ -71,11 +71,11 @@ nothing n (e ∷ es) b h =
     let one : e ∷ calls_by e.seat es ≡ [] = sym (ap (λ (t : Bool). if t then e ∷ calls_by e.seat es else calls_by e.seat es) (eq-eqb e.seat e.seat refl)) ∙ h e.seat b.0 in absurd (cc one)
 
 -- where no call was made the state is the opening one
-pub as_was : (seats : ℕ) (s : Lock × List Known) (o : Opening) (now : ArenaState) (log : List Entry) → IsBegun seats s → Since s.0.seats s.0.start log → AllFit log s.1 → o ≡ s.0.opening → IsHeld o log now → opened now ≡ s.0.opening
+pub as_was : (seats : ℕ) (s : Lock × List Known) (o : Opening) (now : ArenaState) (log : List Entry) → IsBegun seats s → Since s.0.seats s.0.start log → AllFit log s.1 → o ≡ s.0.opening → IsBehind o log now → opened now ≡ s.0.opening
 as_was seats s o now log b since seen opening legal =
     let below : AllBelow seats log = subst (λ n. AllBelow n log) b.count (below_since s.0.seats s.0.start log b.fresh since) in
     let none : log ≡ [] = nothing seats log below (λ i l. new_seen s.0.id s.0.opening 0 seats i log (omega arith) (omega (arith, l)) (subst (λ ps. AllFit log ps) b.dealt seen)) in
-    held_still o now (subst (λ l. IsHeld o l now) none legal) ∙ opening
+    behind_still o now (subst (λ l. IsBehind o l now) none legal) ∙ opening
 
 pub begun_head : {B : Type 0} (xs ys : List B) (x : B) (f : B → Lock × List Known) (seats : ℕ) → xs ≡ x ∷ ys → AllBegun seats (map f xs) → IsBegun seats (f x) × AllBegun seats (map f ys)
 begun_head xs ys x f seats whole h = subst (λ l. AllBegun seats (map f l)) whole h

@@ -4,7 +4,7 @@ use mathlib.Core.List.{IsPrefix}
 use Rattle.heap_model.specs.declared.call.Entry.{Entry}
 use Rattle.arena_lock.specs.Journal.{calls_by, calls_of, owns}
 use Rattle.arena_lock.specs.Legality.{IsLegal}
-use Rattle.shared_pool.specs.Held.{Receives}
+use Rattle.shared_pool.specs.Value.{Receives}
 use Rattle.shared_pool.specs.Passes.{Declined, PassState, PoolState, IsPassOf, nobody, first_calls, part_at, with_part, seen_at, mine_at, Called, Refused}
 use Rattle.shared_pool.specs.Rows.{SameAnswer, part_of, AllTell}
 use Rattle.arena_lock.specs.Known.{Lock, Known, Turned}

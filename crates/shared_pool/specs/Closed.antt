@@ -7,7 +7,7 @@ use Rattle.arena_core.specs.Arena.{ArenaState}
 use Rattle.arena_lock.specs.declared.opening.Opening.{Opening}
 use Rattle.arena_lock.specs.Journal.{calls_by, AllBelow}
 use Rattle.arena_lock.specs.Known.{Known}
-use Rattle.shared_pool.specs.Held.{IsHeld}
+use Rattle.arena_journal.specs.Journals.{IsBehind}
 use Rattle.shared_pool.specs.Passes.{PassState, part_at, seen_at, mine_at}
 
 -- all passes of a pool
@@ -36,7 +36,7 @@ AllAgree a (p ∷ ps) journal = (IsPrefix (seen_at p a) journal × (calls_by p.n
 -- Arena a of so many passes at the end: its journal leads from the opening to the arena as it is, agrees with each pass, and
 -- has no calls but theirs.
 pub record IsClosed (seats a : ℕ) (passes : List PassState) (opening : Opening) (closed : List Entry × ArenaState) : Type 0 where
-  pub held : IsHeld opening closed.0 closed.1
+  pub held : IsBehind opening closed.0 closed.1
   pub below : AllBelow seats closed.0
   pub agree : AllAgree a passes closed.0
 

@@ -1,5 +1,5 @@
 pub mod Begun
 pub mod Closed
-pub mod Held
+pub mod Value
 pub mod Passes
 pub mod Rows

@@ -2,7 +2,8 @@
 ghost use Rattle.std.specs.Prelude.{◌≡◌, ◌<◌, IfOk, OnErr};
 ghost use Rattle.arena_lock.specs.Journal.{Grows};
 ghost use Rattle.arena_lock.specs.Legality.{IsLegal};
-ghost use Rattle.shared_pool.specs.Held.{IsServed, Receives, HasAnswered};
+ghost use Rattle.arena_journal.specs.Journals.{IsServed, HasAnswered};
+ghost use Rattle.shared_pool.specs.Value.{Receives};
 
 use crate::value::PoolArena;
 use arena_lock::{Job, Logged};
@@ -28,7 +29,8 @@ impl<P: Pmem> Job<PoolArena<P>> for PoolJob {
     type Out = Result<Receipt, OutOfMemory>;
 
     ghost use Rattle.std.specs.Prelude.{◌<◌};
-    ghost use Rattle.shared_pool.specs.Held.{IsServed, Receives};
+    ghost use Rattle.arena_journal.specs.Journals.{IsServed};
+    ghost use Rattle.shared_pool.specs.Value.{Receives};
 
     ghost number = { λ j. j.seat };
 
@@ -61,7 +63,8 @@ impl<P: Pmem> Job<PoolArena<P>> for Counted {
     type Out = (Result<Receipt, OutOfMemory>, u64);
 
     ghost use Rattle.std.specs.Prelude.{◌≡◌, ◌<◌, length};
-    ghost use Rattle.shared_pool.specs.Held.{IsServed, Receives};
+    ghost use Rattle.arena_journal.specs.Journals.{IsServed};
+    ghost use Rattle.shared_pool.specs.Value.{Receives};
 
     ghost number = { λ j. j.job.seat };
 

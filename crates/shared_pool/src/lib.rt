@@ -5,13 +5,12 @@
 // tells the place. `try_` calls and `published` wait for nobody. `close` ends the pool and gives each arena with its
 // journal.
 //
-// `specs/Held.antt` says what a lock's value is at all times (`IsHeld`): a legal journal from the opening to the arena as
-// it is. `specs/Passes.antt` says what a pass knows and what each call makes of it (`Called`, `Refused`, `Declined`),
+// A lock's value is at all times an arena behind a legal journal from its opening (`IsBehind` of `arena_journal`).
+// `specs/Passes.antt` says what a pass knows and what each call makes of it (`Called`, `Refused`, `Declined`),
 // `specs/Closed.antt` what is left at the end (`IsClosed`). The layer above knows these, and nothing of how seats are
 // dealt out and gathered (`specs/Rows.antt`, `specs/Begun.antt`). In words, all of it stands in docs/threads.md.
 #![tactic(auto)]
 
-mod answering;
 mod closing;
 mod dealing;
 mod job;

@@ -2,7 +2,7 @@
 ghost use Rattle.std.specs.Prelude.{◌≡◌, ◌≤◌, ◌<◌, map, length, IfOk, IfErr};
 ghost use Rattle.heap_model.specs.declared.call.Call.TheVariants as calls;
 ghost use Rattle.arena_lock.specs.Known.{Lock, after_read};
-ghost use Rattle.shared_pool.specs.Held.{opened, IsServed};
+ghost use Rattle.arena_journal.specs.Journals.{opened, IsServed};
 ghost use Rattle.shared_pool.specs.Passes.{PassState, IsPassOf, part_at, with_part, seen_at, fresh_passes, Called, Refused, Declined};
 ghost use Rattle.shared_pool.specs.Closed.{AllFitLocks, HasAll, AllClosed};
 ghost use Rattle.shared_pool.specs.Rows.{each_of, SameAnswer};

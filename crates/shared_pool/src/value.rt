@@ -1,11 +1,12 @@
 // The value behind an arena's lock.
 ghost use Rattle.std.specs.Prelude.{◌≡◌, [], ◌<◌, IfOk, OnErr};
 ghost use Rattle.arena_lock.specs.Legality.{IsLegal};
-ghost use Rattle.shared_pool.specs.Held.{Held, opened, IsHeld, IsServed, Receives, HasAnswered};
+ghost use Rattle.arena_journal.specs.Journals.{opened, IsBehind, IsServed, HasAnswered};
+ghost use Rattle.shared_pool.specs.Value.{Held, Receives};
 
-use crate::answering::reply_to;
 use crate::job::Receipt;
 use arena_core::Arena;
+use arena_journal::answer;
 use arena_lock::Logged;
 use heap_model::{Call, Entry};
 use pmem_lines::{OutOfMemory, Pmem};
@@ -24,13 +25,14 @@ pub struct PoolArena<P: Pmem> {
 }
 
 impl<P: Pmem> Model for PoolArena<P> {
-    ghost use Rattle.shared_pool.specs.Held.{Held, opened, IsHeld};
+    ghost use Rattle.arena_journal.specs.Journals.{opened, IsBehind};
+    ghost use Rattle.shared_pool.specs.Value.{Held};
 
     ghost Value = { Held };
 
     ghost view = { λ s. record { opening = opened s.was.value; journal = s.journal.items; now = s.arena } };
 
-    ghost invariant = { λ s. IsHeld (opened s.was.value) s.journal.items s.arena };
+    ghost invariant = { λ s. IsBehind (opened s.was.value) s.journal.items s.arena };
 }
 
 impl<P: Pmem> PoolArena<P> {
@@ -50,7 +52,7 @@ impl<P: Pmem> PoolArena<P> {
     /// Lends the arena, and tells what is true of each such value.
     pub fn arena(&self) -> &Arena<P>
         ensures arena { result.now ≡ self.now.now }
-        ensures held { IsHeld self.now.opening self.now.journal self.now.now }
+        ensures held { IsBehind self.now.opening self.now.journal self.now.now }
     {
         &self.arena
     }
@@ -59,7 +61,7 @@ impl<P: Pmem> PoolArena<P> {
     pub(crate) fn into_parts(self) -> (Arena<P>, Vec<Entry>)
         ensures arena { result.0 ≡ self.now }
         ensures journal { result.1.items ≡ self.journal }
-        ensures held { IsHeld self.opening self.journal self.now }
+        ensures held { IsBehind self.opening self.journal self.now }
     {
         let PoolArena {
             was: _,
@@ -82,8 +84,7 @@ impl<P: Pmem> PoolArena<P> {
     {
         self.journal.reserve(1)?;
         let place = self.journal.len() as u64;
-        let reply = reply_to(&mut self.arena, seat, call);
-        let entry = Entry { seat, call, reply };
+        let entry = answer(&mut self.arena, seat, call);
         self.journal.push_reserved(entry);
         Ok(Receipt { place, entry })
     }

@@ -9,7 +9,6 @@ use Rattle.pool_layout.proofs.Layouts.{layout_rules}
 use Rattle.image_tables.specs.Tables.{tables_of}
 use Rattle.image_tables.specs.Updates.{HasNoMove}
 use Rattle.image_tables.proofs.Tables.{root_table}
-use Rattle.heap_model.specs.declared.block.Block.{Block}
 use Rattle.heap_model.specs.declared.call.Call.{Call}
 use Rattle.heap_model.specs.declared.call.Reply.{Reply}
 use Rattle.heap_model.specs.declared.call.Reply.TheVariants.{Placed, Freed, Wrote, Value, Moved, NoRoot, Occupied, Empty, ZeroSize, TooLarge, OutOfRange, NoSpace}
@@ -17,20 +16,20 @@ use Rattle.heap_model.specs.Machine.{Range, Machine, with_key}
 use Rattle.heap_model.specs.Policy.{plain}
 use Rattle.heap_model.specs.Step.{root_of}
 use Rattle.heap_model.proofs.Outcomes.{IsGift, IsLoss, gift, loss}
-use Rattle.heap_model.proofs.Maps.{with_key-here, with_key-other}
+use Rattle.heap_model.proofs.Maps.{with_key-here}
 use Rattle.heap_check.specs.Heap.{heap, slabs, size_at}
 use Rattle.heap_check.specs.Image.{bounds_of, IsFormed, IsExactImage}
 use Rattle.heap_check.specs.State.{HasState, HaveSameHeap}
 use Rattle.arena_core.specs.Call.{IsStepOf}
 use Rattle.trace_runs.specs.Crash.{IsSide}
-use Rattle.trace_runs.specs.Blocks.{range_of, range_if, IsChangeBy, IsHeapBut, side_of}
+use Rattle.trace_runs.specs.Blocks.{ChangesHeap, gives_block, side_of}
 
--- A call gave the block to its root, or took it from that root. Every other root has the same block as before.
-pub record IsChange (old new : List ℕ) (block : Block) (given : Bool) : Type 0 where
-  pub below : block.root < (layout_of 1).roots
-  pub before : heap (tables_of old) block.root ≡ (if given then None else Some (range_of block))
-  pub after : heap (tables_of new) block.root ≡ range_if block given
-  pub others : (root : ℕ) → root ≢ block.root → heap (tables_of new) root ≡ heap (tables_of old) root
+-- A call gave its root a block, or took it from that root.
+pub record IsChange (old new : List ℕ) (root : ℕ) (given : Bool) : Type 0 where
+  pub below : root < (layout_of 1).roots
+  pub range : Range
+  pub before : heap (tables_of old) root ≡ (if given then None else Some range)
+  pub after : heap (tables_of new) root ≡ (if given then Some range else None)
 
 -- a formed image has version 1
 pub version-formed : (words : List ℕ) → IsFormed words → version_in words ≡ 1
@@ -49,46 +48,41 @@ heap_with : (new : List ℕ) (next : Machine) (map : ℕ → Option Range) (key 
     (root : ℕ) → heap (tables_of new) root ≡ with_key map key value root
 heap_with new next map key value state after root = state.blocks root ∙ ap (λ (f : ℕ → Option Range). f root) after
 
--- a call whose reply is a block that was given or taken changes the heap at its root alone
-pub IsChange-step : (seat : ℕ) (old new : List ℕ) (call : Call) (reply : Reply) (block : Block) (given : Bool) → IsExactImage old → IsStepOf seat old new call reply →
-    IsChangeBy (root_of call) reply block given → IsChange old new block given
+-- a call whose reply is a block that was given or taken changes the heap at its root
+pub IsChange-step : (seat : ℕ) (old new : List ℕ) (call : Call) (reply : Reply) → IsExactImage old → IsStepOf seat old new call reply → ChangesHeap reply → IsChange old new (root_of call) (gives_block reply)
 unfolding machine_of
-IsChange-step seat old new call (Placed at size) block given exact steps by =
+IsChange-step seat old new call (Placed at size) exact steps changes =
     let m = machine_of old in
     let root = root_of call in
     let found = steps.each m (HasState-machine_of old) in
     let gift : IsGift (bounds_of old) m root (record { at = at; size = size }) found.0 = gift plain (bounds_of old) m found.0 call at size found.1.step in
-    let same = heap_with new found.0 m.block root (Some (record { at = at; size = size })) found.2 gift.after in
-    let change : IsChange old new (record { root = root; at = at; size = size }) true = record {
+    record {
       below = subst (λ v. root < (layout_of v).roots) (version-formed old exact.formed) gift.below;
+      range = record { at = at; size = size };
       before = gift.none;
-      after = same root ∙ with_key-here m.block root (Some (record { at = at; size = size }));
-      others = λ other apart. same other ∙ with_key-other m.block root other (Some (record { at = at; size = size })) apart;
-    } in
-    rw (by.0, by.1) change
-IsChange-step seat old new call (Freed at size) block given exact steps by =
+      after = heap_with new found.0 m.block root (Some (record { at = at; size = size })) found.2 gift.after root ∙ with_key-here m.block root (Some (record { at = at; size = size }));
+    }
+IsChange-step seat old new call (Freed at size) exact steps changes =
     let m = machine_of old in
     let root = root_of call in
     let found = steps.each m (HasState-machine_of old) in
     let loss : IsLoss (bounds_of old) m root (record { at = at; size = size }) found.0 = loss plain (bounds_of old) m found.0 call at size found.1.step in
-    let same = heap_with new found.0 m.block root None found.2 loss.after in
-    let change : IsChange old new (record { root = root; at = at; size = size }) false = record {
+    record {
       below = subst (λ v. root < (layout_of v).roots) (version-formed old exact.formed) loss.below;
+      range = record { at = at; size = size };
       before = loss.named;
-      after = same root ∙ with_key-here m.block root None;
-      others = λ other apart. same other ∙ with_key-other m.block root other None apart;
-    } in
-    rw (by.0, by.1) change
-IsChange-step seat old new call Wrote block given exact steps by = absurd by
-IsChange-step seat old new call (Value word) block given exact steps by = absurd by
-IsChange-step seat old new call (Moved at size) block given exact steps by = absurd by
-IsChange-step seat old new call NoRoot block given exact steps by = absurd by
-IsChange-step seat old new call (Occupied at) block given exact steps by = absurd by
-IsChange-step seat old new call Empty block given exact steps by = absurd by
-IsChange-step seat old new call ZeroSize block given exact steps by = absurd by
-IsChange-step seat old new call TooLarge block given exact steps by = absurd by
-IsChange-step seat old new call OutOfRange block given exact steps by = absurd by
-IsChange-step seat old new call NoSpace block given exact steps by = absurd by
+      after = heap_with new found.0 m.block root None found.2 loss.after root ∙ with_key-here m.block root None;
+    }
+IsChange-step seat old new call Wrote exact steps changes = absurd changes
+IsChange-step seat old new call (Value word) exact steps changes = absurd changes
+IsChange-step seat old new call (Moved at size) exact steps changes = absurd changes
+IsChange-step seat old new call NoRoot exact steps changes = absurd changes
+IsChange-step seat old new call (Occupied at) exact steps changes = absurd changes
+IsChange-step seat old new call Empty exact steps changes = absurd changes
+IsChange-step seat old new call ZeroSize exact steps changes = absurd changes
+IsChange-step seat old new call TooLarge exact steps changes = absurd changes
+IsChange-step seat old new call OutOfRange exact steps changes = absurd changes
+IsChange-step seat old new call NoSpace exact steps changes = absurd changes
 
 -- a root's word is what the tables say of it, while no move entry is open
 root_is : (words : List ℕ) (root : ℕ) → IsFormed words → HasNoMove (tables_of words).open_entry → root < (layout_of 1).roots → (tables_of words).root root ≡ word_at words (root_word root)
@@ -108,55 +102,43 @@ heap-some words root formed still below some none =
     cond-false _ None (Some range) (ne_eqb ((tables_of words).root root) 0 (λ e. some (sym (root_is words root formed still below) ∙ e))) in
     absurd (cc)
 
--- By whether the root of a call has a block in an image, which has the heap before the call or the one after it: the
--- side of the call, and the heap.
-pub record IsToldBy (old new image : List ℕ) (block : Block) (given has : Bool) : Type 0 where
-  pub side : IsSide old new image (side_of has given)
-  pub but : IsHeapBut new block has (heap (tables_of image))
+-- the heaps before and after a call that gives or takes a block differ
+differ : (old new : List ℕ) (root : ℕ) (given : Bool) → IsChange old new root given → ¬ (HaveSameHeap old new)
+differ old new root true change same = let e : None ≡ Some change.range = sym change.before ∙ sym (same.each root) ∙ change.after in absurd (cc)
+differ old new root false change same = let e : Some change.range ≡ None = sym change.before ∙ sym (same.each root) ∙ change.after in absurd (cc)
 
--- an image with the heap after the call
-told_after : (old new image : List ℕ) (block : Block) (given has : Bool) → IsChange old new block given → HaveSameHeap new image → range_if block has ≡ heap (tables_of new) block.root →
-    IsHeapBut new block has (heap (tables_of image))
-told_after old new image block given has change same is = record { here = same.each block.root ∙ sym is; others = λ root apart. same.each root }
-
--- an image with the heap before the call
-told_before : (old new image : List ℕ) (block : Block) (given has : Bool) → IsChange old new block given → HaveSameHeap old image → range_if block has ≡ heap (tables_of old) block.root →
-    IsHeapBut new block has (heap (tables_of image))
-told_before old new image block given has change same is = record {
-  here = same.each block.root ∙ sym is;
-  others = λ root apart. same.each root ∙ sym (change.others root apart);
-}
-
-pub IsToldBy-heap : (old new image : List ℕ) (block : Block) (given has : Bool) → IsChange old new block given → HaveSameHeap old image ⊎ HaveSameHeap new image →
-    (has ≡ true → heap (tables_of image) block.root ≢ None) → (has ≡ false → heap (tables_of image) block.root ≡ None) → IsToldBy old new image block given has
-IsToldBy-heap old new image block true true change either some none = ⊎_elim
-    (λ (same : HaveSameHeap old image). absurd (some refl (same.each block.root ∙ change.before)))
-    (λ (same : HaveSameHeap new image). record {
-      side = ((λ alike. let e : None ≡ Some (range_of block) = sym change.before ∙ sym (alike.each block.root) ∙ change.after in absurd (cc)), same);
-      but = told_after old new image block true true change same (sym change.after);
-    })
-    either
-IsToldBy-heap old new image block true false change either some none = ⊎_elim
-    (λ (same : HaveSameHeap old image). record {
-      side = ((λ alike. let e : None ≡ Some (range_of block) = sym change.before ∙ sym (alike.each block.root) ∙ change.after in absurd (cc)), same);
-      but = told_before old new image block true false change same (sym change.before);
-    })
-    (λ (same : HaveSameHeap new image). let e : None ≡ Some (range_of block) = sym (none refl) ∙ same.each block.root ∙ change.after in absurd (cc))
-    either
-IsToldBy-heap old new image block false true change either some none = ⊎_elim
-    (λ (same : HaveSameHeap old image). record {
-      side = ((λ alike. let e : Some (range_of block) ≡ None = sym change.before ∙ sym (alike.each block.root) ∙ change.after in absurd (cc)), same);
-      but = told_before old new image block false true change same (sym change.before);
-    })
-    (λ (same : HaveSameHeap new image). absurd (some refl (same.each block.root ∙ change.after)))
-    either
-IsToldBy-heap old new image block false false change either some none = ⊎_elim
-    (λ (same : HaveSameHeap old image). let e : None ≡ Some (range_of block) = sym (none refl) ∙ same.each block.root ∙ change.before in absurd (cc))
-    (λ (same : HaveSameHeap new image). record {
-      side = ((λ alike. let e : Some (range_of block) ≡ None = sym change.before ∙ sym (alike.each block.root) ∙ change.after in absurd (cc)), same);
-      but = told_after old new image block false false change same (sym change.after);
-    })
-    either
+-- By whether the root of a call has a block in an image, which has the heap before the call or the one after it: the side
+-- of the call.
+pub IsSide-told : (old new image : List ℕ) (root : ℕ) (given has : Bool) → IsChange old new root given → HaveSameHeap old image ⊎ HaveSameHeap new image →
+    (has ≡ true → heap (tables_of image) root ≢ None) → (has ≡ false → heap (tables_of image) root ≡ None) → IsSide old new image (side_of has given)
+IsSide-told old new image root true true change either some none = (
+  differ old new root true change,
+  ⊎_elim
+      (λ (same : HaveSameHeap old image). absurd (some refl (same.each root ∙ change.before)))
+      (λ (same : HaveSameHeap new image). same)
+      either,
+)
+IsSide-told old new image root true false change either some none = (
+  differ old new root true change,
+  ⊎_elim
+      (λ (same : HaveSameHeap old image). same)
+      (λ (same : HaveSameHeap new image). let e : None ≡ Some change.range = sym (none refl) ∙ same.each root ∙ change.after in absurd (cc))
+      either,
+)
+IsSide-told old new image root false true change either some none = (
+  differ old new root false change,
+  ⊎_elim
+      (λ (same : HaveSameHeap old image). same)
+      (λ (same : HaveSameHeap new image). absurd (some refl (same.each root ∙ change.after)))
+      either,
+)
+IsSide-told old new image root false false change either some none = (
+  differ old new root false change,
+  ⊎_elim
+      (λ (same : HaveSameHeap old image). let e : None ≡ Some change.range = sym (none refl) ∙ same.each root ∙ change.before in absurd (cc))
+      (λ (same : HaveSameHeap new image). same)
+      either,
+)
 
 -- a root's number fits sixteen bits
 pub root-fits : (root : ℕ) → root < (layout_of 1).roots → root < 2 ^ 16

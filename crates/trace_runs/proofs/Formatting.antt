@@ -11,8 +11,9 @@ use Rattle.heap_check.specs.Image.{bounds_of, IsFormed, IsExactImage}
 use Rattle.heap_check.specs.State.{HasState}
 use Rattle.arena_core.specs.Arena.{ArenaState}
 use Rattle.arena_core.specs.Events.{format_events}
-use Rattle.trace_runs.specs.Replay.{header_for, bounds_for, formatted}
-use Rattle.trace_runs.specs.Calls.{IsNewArena}
+use Rattle.pool_layout.specs.declared.header.PoolHeader.{PoolHeader}
+use Rattle.arena_core.specs.Call.{IsReady}
+use Rattle.trace_runs.specs.Arenas.{bounds_for, formatted, IsNewArena}
 use Rattle.trace_runs.proofs.Changes.{version-formed}
 
 -- the numbers of formed words of so many granules
@@ -23,26 +24,28 @@ bounds-formed words granules formed size =
     ∙ ap (λ n. let b : Bounds = record { roots = (layout_of 1).roots; first = (layout_of 1).first_granule; granules = n } in b) many
 
 -- over a memory of zeros
-made_new : (granules : ℕ) (arena : ArenaState) → arena.device ≡ appended (began (fresh (zeros (2048 * granules)) 2048)) (format_events (header_for granules)) →
-    arena.line ≡ 0 → IsExactImage (words_of arena.device) → HasState (words_of arena.device) no_heap → IsNewArena granules arena
+made_new : (header : PoolHeader) (arena : ArenaState) → arena.device ≡ appended (began (fresh (zeros (2048 * header.granules)) 2048)) (format_events header) →
+    arena.line ≡ 0 → IsReady arena.device → IsExactImage (words_of arena.device) → HasState (words_of arena.device) no_heap → IsNewArena header arena
 unfolding formatted
-made_new granules arena made first exact empty =
-    let words : words_of arena.device ≡ formatted granules = ap (λ (s : PmemState). words_of s) made in
-    let size : length (words_of arena.device) ≡ 2048 * granules =
-    ap length words ∙ length-reading (zeros (2048 * granules)) (format_events (header_for granules)) ∙ length-zeros (2048 * granules) in
+made_new header arena made first ready exact empty =
+    let words : words_of arena.device ≡ formatted header = ap (λ (s : PmemState). words_of s) made in
+    let size : length (words_of arena.device) ≡ 2048 * header.granules =
+    ap length words ∙ length-reading (zeros (2048 * header.granules)) (format_events header) ∙ length-zeros (2048 * header.granules) in
     record {
       words = words;
-      bounds = bounds-formed (words_of arena.device) granules exact.formed size;
+      bounds = bounds-formed (words_of arena.device) header.granules exact.formed size;
       empty = empty;
       base = ap (λ (s : PmemState). s.base) made;
       events = ap (λ (s : PmemState). s.events) made;
       begins = ap (λ (s : PmemState). s.begins) made;
       line = first;
+      ready = ready;
+      exact = exact;
     }
 
-pub IsNewArena-format : (granules : ℕ) (device : PmemState) (arena : ArenaState) → IsZeroed device (256 * granules) 2048 → arena.device ≡ appended (began device) (format_events (header_for granules)) →
-    arena.line ≡ 0 → IsExactImage (words_of arena.device) → HasState (words_of arena.device) no_heap → IsNewArena granules arena
-IsNewArena-format granules device arena zeroed made line exact empty =
-    let lines : 8 * (256 * granules) ≡ 2048 * granules = omega arith in
-    let first : device ≡ fresh (zeros (2048 * granules)) 2048 = zeroed.state ∙ ap (λ n. fresh (zeros n) 2048) lines in
-    made_new granules arena (made ∙ ap (λ (s : PmemState). appended (began s) (format_events (header_for granules))) first) line exact empty
+pub IsNewArena-format : (header : PoolHeader) (device : PmemState) (arena : ArenaState) → IsZeroed device (256 * header.granules) 2048 → arena.device ≡ appended (began device) (format_events header) →
+    arena.line ≡ 0 → IsReady arena.device → IsExactImage (words_of arena.device) → HasState (words_of arena.device) no_heap → IsNewArena header arena
+IsNewArena-format header device arena zeroed made line ready exact empty =
+    let lines : 8 * (256 * header.granules) ≡ 2048 * header.granules = omega arith in
+    let first : device ≡ fresh (zeros (2048 * header.granules)) 2048 = zeroed.state ∙ ap (λ n. fresh (zeros n) 2048) lines in
+    made_new header arena (made ∙ ap (λ (s : PmemState). appended (began s) (format_events header)) first) line ready exact empty

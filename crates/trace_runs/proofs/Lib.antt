@@ -1,8 +1,9 @@
-pub mod Listing
-pub mod Changes
+pub mod Answers
+mod Changes
 pub mod Formatting
 pub mod Journals
-pub mod Runs
-pub mod Seeking
-pub mod Reports
-pub mod Settled
+pub mod Listing
+mod Crashes
+mod Runs
+mod Seeking
+mod Settled

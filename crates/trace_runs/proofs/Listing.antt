@@ -1,5 +1,5 @@
 -- The blocks of some roots, one after another.
-use Rattle.std.proofs.Common.{◌≡◌, ℕ, zero, suc, ◌+◌, ◌-◌, ◌<◌, ◌≤◌, List, [], ◌∷◌, ◌++◌, Option, Some, None, Bool, sym, ap, ◌∙◌, refl, arith, append_assoc}
+use Rattle.std.proofs.Common.{◌≡◌, ℕ, zero, suc, ◌+◌, ◌-◌, ◌<◌, ◌≤◌, List, [], ◌∷◌, ◌++◌, Option, Some, None, sym, ap, ◌∙◌, refl, arith, append_assoc}
 use Rattle.std.proofs.lemmas.List.{append-nil}
 use Rattle.pool_layout.specs.Layout.{layout_of}
 use Rattle.image_tables.specs.Tables.{tables_of}
@@ -7,8 +7,7 @@ use Rattle.heap_model.specs.declared.block.Block.{Block}
 use Rattle.heap_model.specs.Machine.{Range}
 use Rattle.heap_check.specs.Heap.{heap}
 use Rattle.arena_core.specs.Arena.{IsBlockOfRoot}
-use Rattle.trace_runs.specs.Replay.{listed, blocks_from, blocks_of}
-use Rattle.trace_runs.specs.Blocks.{range_if, IsHeapBut}
+use Rattle.trace_runs.specs.Blocks.{listed, blocks_from, blocks_of}
 
 -- the blocks of m roots, and of n roots behind them
 blocks_from-split : (h : ℕ → Option Range) (i m n : ℕ) → blocks_from h i (m + n) ≡ blocks_from h i m ++ blocks_from h (i + m) n
@@ -42,31 +41,6 @@ blocks_from-same h g i (suc n) same =
 -- two heaps with the same blocks
 pub blocks_of-same : (h g : ℕ → Option Range) → ((root : ℕ) → h root ≡ g root) → blocks_of h ≡ blocks_of g
 blocks_of-same h g same = blocks_from-same h g 0 (layout_of 1).roots (λ root low high. same root)
-
-blocks_from-none : (h : ℕ → Option Range) (i n : ℕ) → ((root : ℕ) → h root ≡ None) → blocks_from h i n ≡ []
-blocks_from-none h i zero none = refl
-blocks_from-none h i (suc n) none =
-    ap (λ (o : Option Range). listed i o ++ blocks_from h (i + 1) n) (none i) ∙ blocks_from-none h (i + 1) n none
-
--- a heap with no block
-pub blocks_of-none : (h : ℕ → Option Range) → ((root : ℕ) → h root ≡ None) → blocks_of h ≡ []
-blocks_of-none h none = blocks_from-none h 0 (layout_of 1).roots none
-
--- the blocks before a root, its own, and those behind it
-pub blocks_of-but : (words : List ℕ) (block : Block) (has : Bool) (other : ℕ → Option Range) → block.root < (layout_of 1).roots → IsHeapBut words block has other →
-    (blocks_from (heap (tables_of words)) 0 (block.root - 0) ++ listed block.root (range_if block has)) ++ blocks_from (heap (tables_of words)) (block.root + 1) ((layout_of 1).roots - (block.root + 1)) ≡ blocks_of other
-blocks_of-but words block has other below but =
-    let n = (layout_of 1).roots in
-    let root = block.root in
-    let h = heap (tables_of words) in
-    let whole : (root - 0) + suc (n - (root + 1)) ≡ n = omega arith in
-    let here : 0 + (root - 0) ≡ root = omega arith in
-    append_assoc (blocks_from h 0 (root - 0)) (listed root (range_if block has)) (blocks_from h (root + 1) (n - (root + 1)))
-    ∙ ap (λ (bs : List Block). bs ++ (listed root (range_if block has) ++ blocks_from h (root + 1) (n - (root + 1)))) (blocks_from-same h other 0 (root - 0) (λ r low high. sym (but.others r (omega arith))))
-    ∙ ap (λ (o : Option Range). blocks_from other 0 (root - 0) ++ (listed root o ++ blocks_from h (root + 1) (n - (root + 1)))) (sym but.here)
-    ∙ ap (λ (bs : List Block). blocks_from other 0 (root - 0) ++ (listed root (other root) ++ bs)) (blocks_from-same h other (root + 1) (n - (root + 1)) (λ r low high. sym (but.others r (omega arith))))
-    ∙ sym (ap (λ m. blocks_from other 0 m) (sym whole) ∙ blocks_from-split other 0 (root - 0) (suc (n - (root + 1)))
-    ∙ ap (λ r. blocks_from other 0 (root - 0) ++ (listed r (other r) ++ blocks_from other (r + 1) (n - (root + 1)))) here)
 
 -- the blocks up to a root, and then its own, where it has one
 pub blocks_from-some : (words : List ℕ) (from root : ℕ) (before items : List Block) (block : Block) → from ≤ root → items ≡ before ++ blocks_from (heap (tables_of words)) from (root - from) →

@@ -1,6 +1,5 @@
 -- Runs of calls, one call further.
-use Rattle.std.proofs.Math.Seq.{take-suc}
-use Rattle.std.proofs.Common.{◌≡◌, ℕ, suc, ◌+◌, ◌<◌, List, [], ◌∷◌, ◌++◌, length, take, get_or, sym, ap, ◌∙◌, refl, arith, subst, append_assoc}
+use Rattle.std.proofs.Common.{◌≡◌, ℕ, List, [], ◌∷◌, ◌++◌, sym, ap, ◌∙◌, refl, subst, append_assoc}
 use Rattle.std.proofs.lemmas.List.{append-nil}
 use Rattle.pmem_lines.specs.Pmem.{PmemState, words_of}
 use Rattle.heap_model.specs.declared.call.Reply.{Reply}
@@ -12,7 +11,7 @@ use Rattle.heap_check.specs.State.{HasState}
 use Rattle.arena_core.specs.Arena.{ArenaState}
 use Rattle.trace_text.specs.declared.call.TraceCall.{TraceCall}
 use Rattle.trace_runs.specs.Crash.{Stage, IsStage, IsRun}
-use Rattle.trace_runs.specs.Calls.{HasAnswered}
+use Rattle.arena_journal.specs.Journals.{HasAnswered}
 use Rattle.trace_runs.specs.Seek.{last_stage}
 
 -- these calls made these stages and led to this arena and this state, and whatever more calls make comes behind them
@@ -49,7 +48,7 @@ IsStage-answered b old new machine next call reply answered step state = record 
 }
 
 -- one call further
-IsRunTo-call : (b : Bounds) (start : List ℕ) (first : Machine) (calls : List TraceCall) (old new : ArenaState) (machine : Machine) (call : TraceCall) (reply : Reply) (stages : List Stage) →
+pub IsRunTo-call : (b : Bounds) (start : List ℕ) (first : Machine) (calls : List TraceCall) (old new : ArenaState) (machine : Machine) (call : TraceCall) (reply : Reply) (stages : List Stage) →
     IsRunTo b start first calls old machine stages → HasAnswered call.thread old new call.call reply →
     (next : Machine) × IsRunTo b start first (calls ++ call ∷ []) new next (stages ++ last_stage new.device ∷ [])
 IsRunTo-call b start first calls old new machine call reply stages to answered =
@@ -66,13 +65,3 @@ IsRunTo-call b start first calls old new machine call reply stages to answered =
             (to.run (call ∷ rest) (last_stage new.device ∷ more) (new.line, found.0, stage, run)));
       },
     )
-
--- the same, call by call of a list
-pub IsRunTo-more : (b : Bounds) (start : List ℕ) (first : Machine) (calls : List TraceCall) (old new : ArenaState) (machine : Machine) (i : ℕ) (d : TraceCall) (reply : Reply) (stages : List Stage) →
-    IsRunTo b start first (take i calls) old machine stages → i < length calls → HasAnswered (get_or calls i d).thread old new (get_or calls i d).call reply →
-    (next : Machine) × IsRunTo b start first (take (i + 1) calls) new next (stages ++ last_stage new.device ∷ [])
-IsRunTo-more b start first calls old new machine i d reply stages to here answered =
-    let one : suc i ≡ i + 1 = omega arith in
-    let more : take i calls ++ get_or calls i d ∷ [] ≡ take (i + 1) calls = sym (take-suc calls i d here) ∙ ap (λ n. take n calls) one in
-    subst (λ (cs : List TraceCall). (next : Machine) × IsRunTo b start first cs new next (stages ++ last_stage new.device ∷ [])) more
-    (IsRunTo-call b start first (take i calls) old new machine (get_or calls i d) reply stages to answered)

@@ -1,11 +1,14 @@
 -- The search for the call under way, call by call.
-use Rattle.std.proofs.Common.{◌≡◌, ℕ, ◌+◌, ◌-◌, ◌<◌, ◌≤◌, ◌&&◌, true, false, List, [], ◌∷◌, ◌++◌, length, take, get_or, sym, ap, ◌∙◌, refl, arith, subst, append_assoc, ⊎_elim, ltb, leb}
+use Rattle.std.proofs.Common.{◌≡◌, ◌≢◌, ℕ, ◌+◌, ◌-◌, ◌<◌, ◌≤◌, ◌&&◌, true, false, List, [], ◌∷◌, ◌++◌, length, length-append, take, drop, take-append-drop, get_or, sym, ap, ◌∙◌, refl, arith, subst, append_assoc, ⊎_elim, ltb, leb}
 use Rattle.std.proofs.lemmas.Bool.{cases_lt, lt-ltb, le-ltb, le-leb, lt-leb, and_from, and_left, and_right}
 use Rattle.std.proofs.lemmas.List.{append-nil, take_all}
+use Rattle.std.proofs.Math.Seq.{take-append_seam}
 use Rattle.std.specs.Bool.{MatchBool}
 use Rattle.pmem_lines.specs.Events.{CrashOnly}
 use Rattle.pmem_lines.specs.Pmem.{PmemState, words_of}
+use Rattle.heap_model.specs.declared.call.Call.{Call}
 use Rattle.heap_model.specs.declared.call.Reply.{Reply}
+use Rattle.trace_text.specs.Grammar.{IsAsked}
 use Rattle.heap_model.specs.declared.call.Entry.{Entry}
 use Rattle.heap_model.specs.Machine.{Machine, no_heap}
 use Rattle.heap_check.specs.Image.{IsExactImage}
@@ -14,18 +17,23 @@ use Rattle.arena_core.specs.Events.{call_events}
 use Rattle.heap_check.specs.State.{IsEitherHeap}
 use Rattle.arena_core.specs.Call.{IsStepOf}
 use Rattle.trace_text.specs.declared.call.TraceCall.{TraceCall}
-use Rattle.trace_runs.specs.Replay.{bounds_for, formatted}
+use Rattle.pool_layout.specs.declared.header.PoolHeader.{PoolHeader}
+use Rattle.trace_runs.specs.Arenas.{bounds_for, formatted, IsNewArena}
+use Rattle.trace_runs.specs.Calls.{calls_of}
 use Rattle.trace_runs.specs.Crash.{Stage, IsRun, CrashLeft, IsLeft, IsLeftWithin, IsLeftIdle, is_under_way, total_events}
-use Rattle.trace_runs.specs.Calls.{IsNewArena, HasAnswered}
+use Rattle.arena_journal.specs.Journals.{HasAnswered}
 use Rattle.trace_runs.specs.Seek.{last_stage, IsBehindEntry, IsBehindSought, IsBehindAll}
-use Rattle.trace_runs.proofs.Runs.{IsRunTo, IsRunTo-none, IsRunTo-more, IsRun-to}
+use Rattle.trace_runs.proofs.Answers.{calls_of-append, calls_of-here, calls_of-other}
+use Rattle.trace_runs.proofs.Runs.{IsRunTo, IsRunTo-none, IsRunTo-call, IsRun-to}
 
--- the first i calls have these many events, and the event lies so many behind them
-pub record Seeking (granules : ℕ) (calls : List TraceCall) (event : ℕ) (arena : ArenaState) (i left events : ℕ) : Type 0 where
+-- the arena's calls among the first i calls of a trace are so many, they have these many events, and the event lies so many
+-- behind them
+pub record Seeking (header : PoolHeader) (number : ℕ) (calls : List TraceCall) (event : ℕ) (arena : ArenaState) (i many left events : ℕ) : Type 0 where
   pub stages : List Stage
   pub machine : Machine
-  pub to : IsRunTo (bounds_for granules) (formatted granules) no_heap (take i calls) arena machine stages
-  pub leaves : (more : List Stage) (seed : ℕ) (found : CrashLeft) → IsLeft (formatted granules) i more left seed found → IsLeft (formatted granules) 0 (stages ++ more) event seed found
+  pub count : many ≡ length (calls_of number (take i calls))
+  pub to : IsRunTo (bounds_for header.granules) (formatted header) no_heap (calls_of number (take i calls)) arena machine stages
+  pub leaves : (more : List Stage) (seed : ℕ) (found : CrashLeft) → IsLeft (formatted header) many more left seed found → IsLeft (formatted header) 0 (stages ++ more) event seed found
   pub total : total_events stages ≡ events
 
 total_events-append : (stages more : List Stage) → total_events (stages ++ more) ≡ total_events stages + total_events more
@@ -33,13 +41,15 @@ total_events-append [] more = omega arith
 total_events-append (stage ∷ stages) more = omega (arith, total_events-append stages more)
 
 -- at the start
-pub Seeking-none : (granules : ℕ) (calls : List TraceCall) (event : ℕ) (arena : ArenaState) → IsNewArena granules arena → Seeking granules calls event arena 0 event 0
-Seeking-none granules calls event arena new =
-    let to : IsRunTo (bounds_for granules) (words_of arena.device) no_heap [] arena no_heap [] = IsRunTo-none (bounds_for granules) arena no_heap new.empty new.bounds new.line in
+pub Seeking-none : (header : PoolHeader) (number : ℕ) (calls : List TraceCall) (event : ℕ) (arena : ArenaState) → IsNewArena header arena → Seeking header number calls event arena 0 0 event 0
+Seeking-none header number calls event arena new =
+    let b = bounds_for header.granules in
+    let to : IsRunTo b (words_of arena.device) no_heap [] arena no_heap [] = IsRunTo-none b arena no_heap new.empty new.bounds new.line in
     record {
       stages = [];
       machine = no_heap;
-      to = subst (λ (start : List ℕ). IsRunTo (bounds_for granules) start no_heap [] arena no_heap []) new.words to;
+      count = refl;
+      to = subst (λ (start : List ℕ). IsRunTo b start no_heap [] arena no_heap []) new.words to;
       leaves = λ more seed found is. is;
       total = refl;
     }
@@ -51,68 +61,105 @@ not_under_way n event few = ⊎_elim
     (λ (none : n ≤ 0). and_left (ltb 0 n) (leb event n) (le-ltb 0 n none))
     (cases_lt 0 n)
 
--- one call further, where it is not under way
-pub Seeking-more : (granules : ℕ) (calls : List TraceCall) (event : ℕ) (old new : ArenaState) (i left events : ℕ) (d : TraceCall) (reply : Reply) →
-    Seeking granules calls event old i left events → i < length calls → HasAnswered (get_or calls i d).thread old new (get_or calls i d).call reply → (0 < length new.device.events → length new.device.events < left) →
-    Seeking granules calls event new (i + 1) (left - length new.device.events) (events + length new.device.events)
-Seeking-more granules calls event old new i left events d reply seeking here answered few =
-    let next = IsRunTo-more (bounds_for granules) (formatted granules) no_heap calls old new seeking.machine i d reply seeking.stages seeking.to here answered in
-    let apart : is_under_way new.device.events left ≡ false = not_under_way (length new.device.events) left few in
+-- a call of another arena
+pub Seeking-other : (header : PoolHeader) (number : ℕ) (calls : List TraceCall) (event : ℕ) (arena : ArenaState) (i many left events : ℕ) (d : TraceCall) →
+    Seeking header number calls event arena i many left events → i < length calls → (get_or calls i d).arena ≢ number → Seeking header number calls event arena (i + 1) many left events
+Seeking-other header number calls event arena i many left events d seeking here other =
+    let same = sym (calls_of-other number calls i d here other) in
     record {
-      stages = seeking.stages ++ last_stage new.device ∷ [];
-      machine = next.0;
-      to = next.1;
-      leaves = λ more seed found is.
-          let Within : Type 0 = IsLeftWithin (last_stage new.device) (i + 1) left seed found in
-          let Later : Type 0 = IsLeft (formatted granules) (i + 1) more (left - length new.device.events) seed found in
-          subst (λ (ss : List Stage). IsLeft (formatted granules) 0 ss event seed found) (sym (append_assoc seeking.stages (last_stage new.device ∷ []) more))
-          (seeking.leaves (last_stage new.device ∷ more) seed found (subst (λ b. MatchBool b Within Later) (sym apart) is));
-      total = total_events-append seeking.stages (last_stage new.device ∷ []) ∙ omega (arith, seeking.total);
+      stages = seeking.stages;
+      machine = seeking.machine;
+      count = seeking.count ∙ ap length same;
+      to = subst (λ (cs : List TraceCall). IsRunTo (bounds_for header.granules) (formatted header) no_heap cs arena seeking.machine seeking.stages) same seeking.to;
+      leaves = seeking.leaves;
+      total = seeking.total;
     }
 
--- the call is the one under way
-pub IsBehindSought-here : (granules : ℕ) (calls : List TraceCall) (event : ℕ) (old new : ArenaState) (i left events : ℕ) (d : TraceCall) (reply : Reply) →
-    Seeking granules calls event old i left events → i < length calls → HasAnswered (get_or calls i d).thread old new (get_or calls i d).call reply →
-    0 < length new.device.events → left ≤ length new.device.events → events + left ≡ event → IsBehindSought granules calls event new.device (i + 1) left
-IsBehindSought-here granules calls event old new i left events d reply seeking here answered some within sum =
-    let next = IsRunTo-more (bounds_for granules) (formatted granules) no_heap calls old new seeking.machine i d reply seeking.stages seeking.to here answered in
-    let test : is_under_way new.device.events left ≡ true = and_from (ltb 0 (length new.device.events)) (leb left (length new.device.events)) (lt-ltb 0 (length new.device.events) some) (le-leb left (length new.device.events) within) in
-    record {
-      some = omega arith;
-      before = seeking.stages;
-      run = IsRun-to (bounds_for granules) (formatted granules) no_heap (take (i + 1) calls) new next.0 (seeking.stages ++ last_stage new.device ∷ []) next.1;
-      leaves = λ seed found is.
-          let Within : Type 0 = IsLeftWithin (last_stage new.device) (i + 1) left seed found in
-          let Later : Type 0 = IsLeft (formatted granules) (i + 1) [] (left - length new.device.events) seed found in
-          seeking.leaves (last_stage new.device ∷ []) seed found (subst (λ b. MatchBool b Within Later) (sym test) is);
-      within = omega (arith, total_events-append seeking.stages (last_stage new.device ∷ []), seeking.total);
-    }
+-- one call of the arena more was answered
+module _ (header : PoolHeader) (number : ℕ) (calls : List TraceCall) (event : ℕ) (old new : ArenaState) (i many left events : ℕ) (d : TraceCall) (reply : Reply)
+    (seeking : Seeking header number calls event old i many left events) (here : i < length calls) (mine : (get_or calls i d).arena ≡ number)
+    (answered : HasAnswered (get_or calls i d).thread old new (get_or calls i d).call reply) where
+  more : calls_of number (take i calls) ++ get_or calls i d ∷ [] ≡ calls_of number (take (i + 1) calls)
+  more = sym (calls_of-here number calls i d here mine)
+
+  next : (machine : Machine) × IsRunTo (bounds_for header.granules) (formatted header) no_heap (calls_of number (take (i + 1) calls)) new machine (seeking.stages ++ last_stage new.device ∷ [])
+  next =
+      subst (λ (cs : List TraceCall). (machine : Machine) × IsRunTo (bounds_for header.granules) (formatted header) no_heap cs new machine (seeking.stages ++ last_stage new.device ∷ [])) more
+      (IsRunTo-call (bounds_for header.granules) (formatted header) no_heap (calls_of number (take i calls)) old new seeking.machine (get_or calls i d) reply seeking.stages seeking.to answered)
+
+  count : many + 1 ≡ length (calls_of number (take (i + 1) calls))
+  count = ap (λ n. n + 1) seeking.count ∙ sym (length-append (calls_of number (take i calls)) (get_or calls i d ∷ [])) ∙ ap length more
+
+  -- where it is not under way
+  pub Seeking-here : (0 < length new.device.events → length new.device.events < left) →
+      Seeking header number calls event new (i + 1) (many + 1) (left - length new.device.events) (events + length new.device.events)
+  Seeking-here few =
+      let apart : is_under_way new.device.events left ≡ false = not_under_way (length new.device.events) left few in
+      record {
+        stages = seeking.stages ++ last_stage new.device ∷ [];
+        machine = next.0;
+        count = count;
+        to = next.1;
+        leaves = λ further seed found is.
+            let Within : Type 0 = IsLeftWithin (last_stage new.device) (many + 1) left seed found in
+            let Later : Type 0 = IsLeft (formatted header) (many + 1) further (left - length new.device.events) seed found in
+            subst (λ (ss : List Stage). IsLeft (formatted header) 0 ss event seed found) (sym (append_assoc seeking.stages (last_stage new.device ∷ []) further))
+            (seeking.leaves (last_stage new.device ∷ further) seed found (subst (λ b. MatchBool b Within Later) (sym apart) is));
+        total = total_events-append seeking.stages (last_stage new.device ∷ []) ∙ omega (arith, seeking.total);
+      }
+
+  -- the arena's calls up to and with this one
+  front : take (many + 1) (calls_of number calls) ≡ calls_of number (take (i + 1) calls)
+  front =
+      let whole : calls ≡ take (i + 1) calls ++ drop (i + 1) calls = sym (take-append-drop (i + 1) calls) in
+      ap (λ n. take n (calls_of number calls)) count
+      ∙ ap (λ (cs : List TraceCall). take (length (calls_of number (take (i + 1) calls))) cs) (ap (calls_of number) whole ∙ calls_of-append number (take (i + 1) calls) (drop (i + 1) calls))
+      ∙ take-append_seam (calls_of number (take (i + 1) calls)) (calls_of number (drop (i + 1) calls))
+
+  -- where it is the one under way
+  pub IsBehindSought-here : 0 < length new.device.events → left ≤ length new.device.events → events + left ≡ event → IsBehindSought header (calls_of number calls) event new.device (many + 1) left
+  IsBehindSought-here some within sum =
+      let b = bounds_for header.granules in
+      let test : is_under_way new.device.events left ≡ true =
+      and_from (ltb 0 (length new.device.events)) (leb left (length new.device.events)) (lt-ltb 0 (length new.device.events) some) (le-leb left (length new.device.events) within) in
+      record {
+        some = omega arith;
+        before = seeking.stages;
+        run = subst (λ (cs : List TraceCall). IsRun b (formatted header) 0 no_heap cs (seeking.stages ++ last_stage new.device ∷ [])) (sym front)
+            (IsRun-to b (formatted header) no_heap (calls_of number (take (i + 1) calls)) new next.0 (seeking.stages ++ last_stage new.device ∷ []) next.1);
+        leaves = λ seed found is.
+            let Within : Type 0 = IsLeftWithin (last_stage new.device) (many + 1) left seed found in
+            let Later : Type 0 = IsLeft (formatted header) (many + 1) [] (left - length new.device.events) seed found in
+            seeking.leaves (last_stage new.device ∷ []) seed found (subst (λ b. MatchBool b Within Later) (sym test) is);
+        within = omega (arith, total_events-append seeking.stages (last_stage new.device ∷ []), seeking.total);
+      }
 
 -- what the arena was asked last
-pub IsBehindEntry-answered : (old new : ArenaState) (entry : Entry) → HasAnswered entry.seat old new entry.call entry.reply → 0 < length new.device.events → IsBehindEntry new.device entry
-IsBehindEntry-answered old new entry answered some =
+pub IsBehindEntry-answered : (old new : ArenaState) (thread : ℕ) (call : Call) (entry : Entry) → IsAsked call → entry.seat ≡ thread → entry.call ≡ call → HasAnswered thread old new call entry.reply → 0 < length new.device.events →
+    IsBehindEntry new.device entry
+IsBehindEntry-answered old new thread call entry asked is_seat is_call answered some =
     let base : words_of old.device ≡ new.device.base = sym (ap (λ (s : PmemState). s.base) answered.device) in
-    let events : new.device.events ≡ call_events (words_of old.device) old.line entry.call entry.reply = ap (λ (s : PmemState). s.events) answered.device in
+    let events : new.device.events ≡ call_events (words_of old.device) old.line call entry.reply = ap (λ (s : PmemState). s.events) answered.device in
     record {
-      asked = answered.asked;
-      exact = subst IsExactImage base answered.exact;
-      step = subst (λ (words : List ℕ). IsStepOf entry.seat words (words_of new.device) entry.call entry.reply) base answered.step;
+      asked = subst IsAsked (sym is_call) asked;
+      exact = subst IsExactImage base answered.was_exact;
+      step = subst (λ (c : Call). IsStepOf entry.seat new.device.base (words_of new.device) c entry.reply) (sym is_call) (subst (λ (t : ℕ). IsStepOf t new.device.base (words_of new.device) call entry.reply) (sym is_seat) (subst (λ (words : List ℕ). IsStepOf thread words (words_of new.device) call entry.reply) base answered.step));
       line = old.line;
-      events = subst (λ (words : List ℕ). new.device.events ≡ call_events words old.line entry.call entry.reply) base events;
+      events = subst (λ (c : Call). new.device.events ≡ call_events new.device.base old.line c entry.reply) (sym is_call) (subst (λ (words : List ℕ). new.device.events ≡ call_events words old.line call entry.reply) base events);
       some = some;
       crash = subst (λ (words : List ℕ). CrashOnly new.device.base new.device.events (IsEitherHeap words (words_of new.device))) base answered.crash;
     }
 
 -- no call is under way
-pub IsBehindAll-none : (granules : ℕ) (calls : List TraceCall) (event : ℕ) (arena : ArenaState) (i left events : ℕ) → Seeking granules calls event arena i left events → length calls ≤ i →
-    events + left ≡ event → IsBehindAll granules calls event events
-IsBehindAll-none granules calls event arena i left events seeking all sum = record {
+pub IsBehindAll-none : (header : PoolHeader) (number : ℕ) (calls : List TraceCall) (event : ℕ) (arena : ArenaState) (i many left events : ℕ) → Seeking header number calls event arena i many left events → length calls ≤ i →
+    events + left ≡ event → IsBehindAll header (calls_of number calls) event events
+IsBehindAll-none header number calls event arena i many left events seeking all sum = record {
   stages = seeking.stages;
-  run = subst (λ (cs : List TraceCall). IsRun (bounds_for granules) (formatted granules) 0 no_heap cs seeking.stages) (take_all i calls all)
-      (IsRun-to (bounds_for granules) (formatted granules) no_heap (take i calls) arena seeking.machine seeking.stages seeking.to);
+  run = subst (λ (cs : List TraceCall). IsRun (bounds_for header.granules) (formatted header) 0 no_heap (calls_of number cs) seeking.stages) (take_all i calls all)
+      (IsRun-to (bounds_for header.granules) (formatted header) no_heap (calls_of number (take i calls)) arena seeking.machine seeking.stages seeking.to);
   total = sym seeking.total;
   leaves = λ few seed found idle.
       let none : 0 ≡ left = omega arith in
-      subst (λ (ss : List Stage). IsLeft (formatted granules) 0 ss event seed found) (append-nil seeking.stages)
-      (seeking.leaves [] seed found (subst (λ n. IsLeftIdle (formatted granules) n found) none idle));
+      subst (λ (ss : List Stage). IsLeft (formatted header) 0 ss event seed found) (append-nil seeking.stages)
+      (seeking.leaves [] seed found (subst (λ n. IsLeftIdle (formatted header) n found) none idle));
 }

@@ -1,4 +1,4 @@
--- What the calls of a trace settle.
+-- What the calls of an arena settle.
 use Rattle.std.proofs.Common.{◌≡◌, ℕ, List, [], ◌∷◌, sym, ap, ◌∙◌, refl, subst}
 use Rattle.std.specs.List.{All}
 use Rattle.std.proofs.lemmas.List.Elements.{All-head, All-tail}
@@ -10,14 +10,14 @@ use Rattle.heap_model.specs.Machine.{Bounds, Machine, no_heap}
 use Rattle.heap_model.specs.Policy.{plain}
 use Rattle.heap_model.specs.Placement.{PlacedState, bare}
 use Rattle.heap_model.specs.Journal.{IsOfBlock, AskTheSame}
-use Rattle.heap_model.proofs.Placements.{law_of_one_journal}
+use Rattle.heap_model.proofs.Placements.{law_of_one_journal as one_journal}
 use Rattle.arena_core.specs.Events.{call_events, line_after}
 use Rattle.trace_text.specs.declared.call.TraceCall.{TraceCall}
-use Rattle.trace_text.specs.Grammar.{IsAsked, IsTraceCall}
-use Rattle.trace_text.specs.Report.{arena_text}
-use Rattle.trace_runs.specs.Replay.{bounds_for, blocks_of, formatted, AreAnswers}
+use Rattle.trace_text.specs.Grammar.{IsAsked}
+use Rattle.trace_runs.specs.Arenas.{bounds_for, formatted}
+use Rattle.trace_runs.specs.Calls.{CanBeMade, AreAnswers}
 use Rattle.trace_runs.specs.Crash.{Stage, IsStage, IsRun, words_after}
-use Rattle.trace_runs.specs.Laws.{LawOfOneReport, LawOfOneRun}
+use Rattle.trace_runs.specs.Laws.{LawOfOneJournal, LawOfOneRun}
 
 -- a trace asks for mallocs and frees alone
 is_of_block : (call : Call) → IsAsked call → IsOfBlock call
@@ -28,7 +28,7 @@ is_of_block (Read root index) asked = absurd asked
 is_of_block (Move from to) asked = absurd asked
 
 -- two journals of the calls ask the same
-ask_the_same : (calls : List TraceCall) (journal other : List Entry) → All IsTraceCall calls → AreAnswers calls journal → AreAnswers calls other → AskTheSame journal other
+ask_the_same : (calls : List TraceCall) (journal other : List Entry) → All CanBeMade calls → AreAnswers calls journal → AreAnswers calls other → AskTheSame journal other
 ask_the_same [] [] [] valid one two = tt
 ask_the_same [] [] (entry ∷ other) valid one two = absurd two
 ask_the_same [] (entry ∷ journal) other valid one two = absurd one
@@ -37,25 +37,25 @@ ask_the_same (call ∷ calls) (entry ∷ journal) [] valid one two = absurd two
 ask_the_same (call ∷ calls) (entry ∷ journal) (another ∷ other) valid one two = (
   one.0 ∙ sym two.0,
   one.1 ∙ sym two.1,
-  subst IsOfBlock (sym one.1) (is_of_block call.call (All-head IsTraceCall call calls valid).asked),
-  ask_the_same calls journal other (All-tail IsTraceCall call calls valid) one.2 two.2,
+  subst IsOfBlock (sym one.1) (is_of_block call.call (All-head CanBeMade call calls valid).1),
+  ask_the_same calls journal other (All-tail CanBeMade call calls valid) one.2 two.2,
 )
 
-pub law_of_one_report : LawOfOneReport
-law_of_one_report granules calls journal other machine another text more valid first second =
-    let same = law_of_one_journal plain (bounds_for granules) (bare no_heap) (bare machine) (bare another) journal other (ask_the_same calls journal other valid first.answers second.answers) first.legal second.legal in
-    first.is ∙ ap (λ (entries : List Entry). arena_text 0 entries (blocks_of machine.block)) same.0 ∙ ap (λ (s : PlacedState). arena_text 0 other (blocks_of s.machine.block)) same.1 ∙ sym second.is
+pub law_of_one_journal : LawOfOneJournal
+law_of_one_journal granules calls journal other machine another valid first second one two =
+    let same = one_journal plain (bounds_for granules) (bare no_heap) (bare machine) (bare another) journal other (ask_the_same calls journal other valid first second) one two in
+    (same.0, ap (λ (s : PlacedState). s.machine) same.1)
 
 -- the entry of a stage
 entry_of : TraceCall → Reply → Entry
 entry_of call reply = record { seat = call.thread; call = call.call; reply = reply }
 
 -- one call, from the same words, line and state, makes one stage
-stage_once : (b : Bounds) (words : List ℕ) (line : ℕ) (m next last : Machine) (later after : ℕ) (call : TraceCall) (stage other : Stage) → IsTraceCall call → IsStage b words line m call stage later next → IsStage b words line m call other after last →
+stage_once : (b : Bounds) (words : List ℕ) (line : ℕ) (m next last : Machine) (later after : ℕ) (call : TraceCall) (stage other : Stage) → CanBeMade call → IsStage b words line m call stage later next → IsStage b words line m call other after last →
     (stage ≡ other) × (later ≡ after) × (next ≡ last)
 unfolding entry_of
 stage_once b words line m next last later after call stage other valid one two =
-    let same = law_of_one_journal plain b (bare m) (bare next) (bare last) (entry_of call one.reply ∷ []) (entry_of call two.reply ∷ []) (refl, refl, is_of_block call.call valid.asked, tt) (bare next, one.step, refl) (bare last, two.step, refl) in
+    let same = one_journal plain b (bare m) (bare next) (bare last) (entry_of call one.reply ∷ []) (entry_of call two.reply ∷ []) (refl, refl, is_of_block call.call valid.1, tt) (bare next, one.step, refl) (bare last, two.step, refl) in
     let replies : one.reply ≡ two.reply = ap (λ (entries : List Entry). reply_of one.reply entries) same.0 in
     let events : stage.events ≡ other.events = one.events ∙ ap (λ reply. call_events words line call.call reply) replies ∙ sym two.events in
     let begins : stage.words ≡ other.words = one.begins ∙ sym two.begins in
@@ -65,16 +65,16 @@ stage_once b words line m next last later after call stage other valid one two =
     reply_of none [] = none
     reply_of none (entry ∷ entries) = entry.reply
 
-run_once : (b : Bounds) (words : List ℕ) (line : ℕ) (m : Machine) (calls : List TraceCall) (stages others : List Stage) → All IsTraceCall calls → IsRun b words line m calls stages → IsRun b words line m calls others → stages ≡ others
+run_once : (b : Bounds) (words : List ℕ) (line : ℕ) (m : Machine) (calls : List TraceCall) (stages others : List Stage) → All CanBeMade calls → IsRun b words line m calls stages → IsRun b words line m calls others → stages ≡ others
 run_once b words line m [] stages others valid one two = one ∙ sym two
 run_once b words line m (call ∷ calls) [] others valid one two = absurd one
 run_once b words line m (call ∷ calls) (stage ∷ stages) [] valid one two = absurd two
 run_once b words line m (call ∷ calls) (stage ∷ stages) (other ∷ others) valid one two =
-    let same = stage_once b words line m one.1 two.1 one.0 two.0 call stage other (All-head IsTraceCall call calls valid) one.2 two.2 in
-    let rest : stages ≡ others = run_once b (words_after stage) one.0 one.1 calls stages others (All-tail IsTraceCall call calls valid) one.3
+    let same = stage_once b words line m one.1 two.1 one.0 two.0 call stage other (All-head CanBeMade call calls valid) one.2 two.2 in
+    let rest : stages ≡ others = run_once b (words_after stage) one.0 one.1 calls stages others (All-tail CanBeMade call calls valid) one.3
     (subst (λ (n : Machine). IsRun b (words_after stage) one.0 n calls others) (sym same.2)
     (subst (λ line. IsRun b (words_after stage) line two.1 calls others) (sym same.1) (subst (λ (s : Stage). IsRun b (words_after s) two.0 two.1 calls others) (sym same.0) two.3))) in
     λ i. same.0 i ∷ rest i
 
 pub law_of_one_run : LawOfOneRun
-law_of_one_run granules calls stages others valid one two = run_once (bounds_for granules) (formatted granules) 0 no_heap calls stages others valid one two
+law_of_one_run header calls stages others valid one two = run_once (bounds_for header.granules) (formatted header) 0 no_heap calls stages others valid one two

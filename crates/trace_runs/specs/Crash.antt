@@ -1,25 +1,24 @@
--- What `crash` prints: the heap that a crash leaves after the first so many events of all calls.
+-- What a crash leaves after the first so many events of all calls of an arena.
 use Rattle.std.specs.Prelude.{◌≡◌, ◌&&◌, ℕ, zero, suc, ◌+◌, ◌-◌, ◌≤◌, ◌<◌, nat_lt, nat_le, Bool, List, [], ◌∷◌, length, take}
 use Rattle.std.specs.Bool.{MatchBool}
+use Rattle.pool_layout.specs.declared.header.PoolHeader.{PoolHeader}
 use Rattle.pmem_lines.specs.declared.event.Event.{Event}
 use Rattle.pmem_lines.specs.Events.{reading}
 use Rattle.pmem_lines.specs.Picks.{picked_image}
-use Rattle.image_tables.specs.Tables.{tables_of}
 use Rattle.heap_model.specs.declared.call.Reply.{Reply}
 use Rattle.heap_model.specs.Machine.{Bounds, Machine, no_heap}
 use Rattle.heap_model.specs.Policy.{plain}
 use Rattle.heap_model.specs.Placement.{bare, IsPlacedStep}
-use Rattle.heap_check.specs.Heap.{heap}
 use Rattle.heap_check.specs.Image.{IsSteadyImage}
 use Rattle.heap_check.specs.State.{HasState, HaveSameHeap}
 use Rattle.arena_core.specs.Events.{call_events, line_after}
 use Rattle.trace_text.specs.declared.call.CrashSide.{CrashSide}
 use Rattle.trace_text.specs.declared.call.CrashSide.TheVariants.{Same, Before, After}
 use Rattle.trace_text.specs.declared.call.TraceCall.{TraceCall}
-use Rattle.trace_text.specs.Report.{crash_text}
 use Rattle.trace_runs.specs.declared.crashing.CrashFault.{CrashFault}
 use Rattle.trace_runs.specs.declared.crashing.CrashFault.TheVariants.{Memory, NoEvent}
-use Rattle.trace_runs.specs.Replay.{blocks_of, bounds_for, formatted}
+use Rattle.trace_runs.specs.declared.crashing.Crashed.{Crashed}
+use Rattle.trace_runs.specs.Arenas.{bounds_for, formatted}
 
 -- the calls of a run
 
@@ -100,33 +99,35 @@ IsLeft words number (stage ∷ stages) event seed left =
     (IsLeftWithin stage (number + 1) event seed left)
     (IsLeft words (number + 1) stages (event - length stage.events) seed left)
 
--- the calls make these stages, in an arena of so many granules that was formatted
-abbrev pub IsRunOf : ℕ → List TraceCall → List Stage → Type 0
-IsRunOf granules calls stages = IsRun (bounds_for granules) (formatted granules) 0 no_heap calls stages
+-- the calls make these stages, in an arena that was formatted with this header
+abbrev pub IsRunOf : PoolHeader → List TraceCall → List Stage → Type 0
+IsRunOf header calls stages = IsRun (bounds_for header.granules) (formatted header) 0 no_heap calls stages
 
 -- the calls up to and with the one of this number, counted from 1; all of them for 0
 abbrev pub calls_up_to : ℕ → List TraceCall → List TraceCall
 calls_up_to zero calls = calls
 calls_up_to (suc n) calls = take (suc n) calls
 
--- The text is the report of what a crash leaves after this event of the calls. The run is that of the calls up to the one
--- under way, or of all where none is.
-pub record IsCrashReport (granules : ℕ) (calls : List TraceCall) (event seed : ℕ) (text : List ℕ) : Type 0 where
-  pub left : CrashLeft
+-- what the code gives of it
+abbrev pub left_of : Crashed → CrashLeft
+left_of crashed = record { call = crashed.call; side = crashed.side; image = crashed.image.items }
+
+-- This is what a crash leaves after so many events of the calls of an arena that was formatted with this header. The run is
+-- that of the calls up to the one under way, or of all where none is.
+pub record IsCrashOf (header : PoolHeader) (calls : List TraceCall) (event seed : ℕ) (left : CrashLeft) : Type 0 where
   pub stages : List Stage
-  pub run : IsRunOf granules (calls_up_to left.call calls) stages
+  pub run : IsRunOf header (calls_up_to left.call calls) stages
   pub within : event ≤ total_events stages
-  pub leaves : IsLeft (formatted granules) 0 stages event seed left
-  pub report : text ≡ crash_text left.call left.side (blocks_of (heap (tables_of left.image)))
+  pub leaves : IsLeft (formatted header) 0 stages event seed left
 
 -- the calls have so many events, which are fewer than are asked for
-pub record HasFewer (granules : ℕ) (calls : List TraceCall) (asked events : ℕ) : Type 0 where
+pub record HasFewer (header : PoolHeader) (calls : List TraceCall) (asked events : ℕ) : Type 0 where
   pub stages : List Stage
-  pub run : IsRunOf granules calls stages
+  pub run : IsRunOf header calls stages
   pub is_all : events ≡ total_events stages
   pub lacks : events < asked
 
 -- what a fault says of the calls, where it is that they have too few events
-abbrev pub IfNoEvent : ℕ → List TraceCall → ℕ → CrashFault → Type 0
-IfNoEvent granules calls event (Memory error) = Unit {0}
-IfNoEvent granules calls event (NoEvent events) = HasFewer granules calls event events
+abbrev pub IfNoEvent : PoolHeader → List TraceCall → ℕ → CrashFault → Type 0
+IfNoEvent header calls event (Memory error) = Unit {0}
+IfNoEvent header calls event (NoEvent events) = HasFewer header calls event events

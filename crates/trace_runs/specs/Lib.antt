@@ -1,6 +1,7 @@
-pub mod Replay
-pub mod Crash
-pub mod Calls
+pub mod Arenas
 pub mod Blocks
+pub mod Calls
+pub mod Journals
+pub mod Crash
 pub mod Seek
 pub mod Laws

@@ -1,31 +1,34 @@
 // What a crash leaves after a chosen event of the calls of a trace.
-ghost use Rattle.std.specs.Prelude.{◌≡◌, ◌≢◌, ◌↔◌, ◌<◌, ◌≤◌, ◌^◌, ℕ, [], IsTrue, IfOk, IfErr, length, take};
+ghost use Rattle.std.specs.Prelude.{◌≡◌, ◌≢◌, ◌↔◌, ◌<◌, ◌≤◌, ◌^◌, IsTrue, IfOk, IfErr, length, take};
 ghost use Rattle.std.specs.List.{All};
 ghost use Rattle.pmem_lines.specs.Words.{word_at};
 ghost use Rattle.pmem_lines.specs.Events.{IsImage};
 ghost use Rattle.pmem_lines.specs.Pmem.{words_of};
 ghost use Rattle.pool_layout.specs.Places.{root_word};
 ghost use Rattle.heap_model.specs.Step.{root_of};
-ghost use Rattle.trace_text.specs.Grammar.{IsTraceCall};
-ghost use Rattle.trace_text.specs.Report.{crash_text};
+ghost use Rattle.heap_check.specs.Image.{IsSoundImage};
+ghost use Rattle.trace_text.specs.declared.call.CrashSide.{CrashSide};
+ghost use Rattle.trace_text.specs.declared.call.PoolSize.{PoolSize};
+ghost use Rattle.trace_text.specs.Grammar.{pool_of, IsPool, IsTraceCall};
+ghost use Rattle.pool_layout.specs.declared.header.PoolHeader.{PoolHeader};
 ghost use Rattle.trace_runs.specs.declared.crashing.CrashFault.TheVariants as faults;
-ghost use Rattle.trace_runs.specs.Crash.{crash_image, IsCrashReport, IfNoEvent};
-ghost use Rattle.trace_runs.specs.Calls.{IsNewArena};
-ghost use Rattle.trace_runs.specs.Blocks.{ChangesHeap, IsChangeBy, side_of};
-ghost use Rattle.trace_runs.specs.Seek.{last_stage, IsBehindEntry, IsSought, IsReportable, IsLeftBy, IsReportWithin};
+ghost use Rattle.trace_runs.specs.Arenas.{header_for, IsNewArena};
+ghost use Rattle.trace_runs.specs.Blocks.{ChangesHeap, gives_block, side_of};
+ghost use Rattle.trace_runs.specs.Calls.{calls_of, CanBeMade};
+ghost use Rattle.trace_runs.specs.Crash.{crash_image, left_of, IsLeftWithin, IsCrashOf, IfNoEvent};
+ghost use Rattle.trace_runs.specs.Seek.{last_stage, IsBehindEntry, IsSought, IsReportable};
 
-use crate::blocks::blocks_but;
-use crate::journal::answer;
 use crate::opening::new_arena;
 use arena_core::Arena;
-use heap_model::{Block, Call, Entry, Reply};
+use arena_journal::answer;
+use heap_model::{Call, Entry, Reply};
 use pmem_lines::{OutOfMemory, Pmem, SimPmem};
 use pool_layout::root_at;
 use rand_core::SeedableRng;
 use rand_xoshiro::SplitMix64;
 use std::alloc::Global;
 use thiserror::Error;
-use trace_text::{CrashSide, Trace, TraceCall, write_crash};
+use trace_text::{CrashSide, PoolSize, Trace, TraceCall};
 
 /// The bytes of a granule, in lines.
 const GRANULE_LINES: u32 = 256;
@@ -52,27 +55,56 @@ impl From<OutOfMemory> for CrashFault {
     }
 }
 
-/// The report of what a crash leaves after the first `event` events of the calls of a trace, as a generator from `seed`
-/// picks. The calls are made on a simulated device, up to and with the one that is under way. `NoEvent` comes exactly
-/// where the calls have fewer events.
-pub fn crash(alloc: Global, trace: &Trace, event: u64, seed: u64) -> Result<Vec<u8>, CrashFault>
-    requires least { 16 ≤ trace.now.granules }
-    requires most { trace.now.granules ≤ 1024 }
-    requires each { All IsTraceCall trace.now.calls.items }
-    ensures report { IfOk result (λ text. IsCrashReport trace.now.granules trace.now.calls.items event seed text.items) }
-    ensures fault { IfErr result (IfNoEvent trace.now.granules trace.now.calls.items event) }
+/// What a crash left: the number of the call under way, counted from 1, on which side of that call the heap stands, and
+/// the image. With no call under way the number is 0 and the image is the formatted one.
+#[derive(Drop)]
+pub struct Crashed {
+    pub call: u64,
+    pub side: CrashSide,
+    pub image: Vec<u64>,
+}
+
+/// What a crash leaves after the first `event` events of the calls of one arena of a trace, as a generator from `seed`
+/// picks. The calls are made on a simulated device, in the order of the lines, up to and with the one that is under way.
+/// `NoEvent` comes exactly where they have fewer events.
+pub fn crash(
+    alloc: Global,
+    trace: &Trace,
+    arena: u32,
+    event: u64,
+    seed: u64,
+) -> Result<Crashed, CrashFault>
+    requires pool { IsPool (pool_of trace.now) }
+    requires each { All (IsTraceCall trace.now.arenas) trace.now.calls.items }
+    requires inside { arena < trace.now.arenas }
+    ensures crashed { IfOk result (λ crashed. IsCrashOf (header_for (pool_of trace.now) arena) (calls_of arena trace.now.calls.items) event seed (left_of crashed)) }
+    ensures sound { IfOk result (λ crashed. IsSoundImage crashed.image.items) }
+    ensures fault { IfErr result (IfNoEvent (header_for (pool_of trace.now) arena) (calls_of arena trace.now.calls.items) event) }
 {
-    let device = SimPmem::zeroed(alloc, GRANULE_LINES * trace.granules, ROOM)?;
-    let mut arena = new_arena(alloc, device, trace.granules)?;
-    match seek(&mut arena, &trace.calls, event) {
+    let pool = PoolSize {
+        arenas: trace.arenas,
+        granules: trace.granules,
+    };
+    let mut made = format_new(alloc, pool, arena)?;
+    match seek(&mut made, arena, &trace.calls, event) {
         Sought::UnderWay {
             number,
             entry,
             done,
-        } => Ok(report_within(alloc, &arena, &entry, number, done, seed)?),
+        } => Ok(left_within(alloc, &made, &entry, number, done, seed)?),
         Sought::Past { events } if event > events => Err(CrashFault::NoEvent { events }),
-        Sought::Past { .. } => Ok(report_idle(alloc)?),
+        Sought::Past { .. } => Ok(left_idle(alloc, &format_new(alloc, pool, arena)?)?),
     }
+}
+
+// An arena of a pool over a new simulated device.
+fn format_new(alloc: Global, pool: PoolSize, arena: u32) -> Result<Arena<SimPmem>, OutOfMemory>
+    requires pool { IsPool pool }
+    requires inside { arena < pool.arenas }
+    ensures { IfOk result (λ made. IsNewArena (header_for pool arena) made) }
+{
+    let device = SimPmem::zeroed(alloc, GRANULE_LINES * pool.granules, ROOM)?;
+    new_arena(alloc, device, pool, arena)
 }
 
 // Where an event of the calls lies.
@@ -90,34 +122,33 @@ enum Sought {
     },
 }
 
-// What a crash within a call left: on which side of the call the heap stands, and its blocks.
-#[derive(Drop)]
-struct Left {
-    side: CrashSide,
-    blocks: Vec<Block>,
-}
-
-// A block that a call gave to its root, or took from it.
+// A call gave its root a block, or took it.
 #[derive(Clone, Copy)]
 struct Change {
-    block: Block,
+    root: u32,
     given: bool,
 }
 
-// Makes calls in order up to and with the one that is under way at an event, counted over all calls.
-fn seek(arena: &mut Arena<SimPmem>, calls: &[TraceCall], event: u64) -> Sought
-    requires { All IsTraceCall calls.now }
-    ensures sought { (granules : ℕ) → IsNewArena granules arena.old → IsSought granules calls.now event arena.new.device result }
-    ensures next { IsReportable arena.new.device result }
+// Makes the calls of the arena of this number in order, up to and with the one that is under way at an event, counted over
+// all of them.
+fn seek(made: &mut Arena<SimPmem>, arena: u32, calls: &[TraceCall], event: u64) -> Sought
+    requires each { All CanBeMade calls.now }
+    ensures sought { (header : PoolHeader) → IsNewArena header made.old → IsSought header (calls_of arena calls.now) event made.new.device result }
+    ensures next { IsReportable made.new.device result }
 {
     let mut left = event;
     let mut events: u64 = 0;
-    for (i, call) in calls.iter().enumerate() {
-        let entry = answer(arena, call);
-        let count = u64::from(arena.pmem().event_count());
+    let mut number: u64 = 0;
+    for call in calls {
+        if call.arena != arena {
+            continue;
+        }
+        let entry = answer(made, call.thread, call.call);
+        number += 1;
+        let count = u64::from(made.pmem().event_count());
         if count > 0 && left <= count {
             return Sought::UnderWay {
-                number: i as u64 + 1,
+                number,
                 entry,
                 done: left as u32,
             };
@@ -128,56 +159,51 @@ fn seek(arena: &mut Arena<SimPmem>, calls: &[TraceCall], event: u64) -> Sought
     Sought::Past { events }
 }
 
-// The report of a crash after the first events of the call that an arena answered last, as a generator from the seed
-// picks; the call has this number and this entry.
-fn report_within(
+// What a crash leaves after the first events of the call that an arena answered last, as a generator from the seed picks;
+// the call has this number and this entry. The heap is the one before the call or the one after it, and those differ at
+// the call's root alone.
+fn left_within(
     alloc: Global,
-    arena: &Arena<SimPmem>,
+    made: &Arena<SimPmem>,
     entry: &Entry,
     number: u64,
     done: u32,
     seed: u64,
-) -> Result<Vec<u8>, OutOfMemory>
-    requires behind { IsBehindEntry arena.now.device entry.now }
-    requires within { done ≤ length arena.now.device.events }
-    ensures { IfOk result (λ text. IsReportWithin (last_stage arena.now.device) number done seed text.items) }
+) -> Result<Crashed, OutOfMemory>
+    requires behind { IsBehindEntry made.now.device entry.now }
+    requires within { done ≤ length made.now.device.events }
+    ensures { IfOk result (λ crashed. IsLeftWithin (last_stage made.now.device) number done seed (left_of crashed)) }
 {
-    let left = crash_within(alloc, arena, entry, done, seed)?;
-    let mut text = Vec::new(alloc);
-    write_crash(&mut text, number, left.side, &left.blocks)?;
-    Ok(text)
-}
-
-// The report of a crash with no call under way: no event is done, and no root has a block.
-fn report_idle(alloc: Global) -> Result<Vec<u8>, OutOfMemory>
-    ensures { IfOk result (λ text. text.items ≡ crash_text 0 CrashSide.Same []) }
-{
-    let mut text = Vec::new(alloc);
-    write_crash(&mut text, 0, CrashSide::Same, &[])?;
-    Ok(text)
-}
-
-// What a crash leaves after the first events of the call that an arena answered last, as a generator from the seed picks.
-// The heap is the one before the call or the one after it, and those differ at the call's root alone.
-fn crash_within(
-    alloc: Global,
-    arena: &Arena<SimPmem>,
-    entry: &Entry,
-    done: u32,
-    seed: u64,
-) -> Result<Left, OutOfMemory>
-    requires behind { IsBehindEntry arena.now.device entry.now }
-    requires within { done ≤ length arena.now.device.events }
-    ensures { IfOk result (λ left. IsLeftBy (last_stage arena.now.device) done seed left.side left.blocks.items) }
-{
-    let image = image_of(alloc, arena.pmem(), done, seed)?;
+    let image = image_of(alloc, made.pmem(), done, seed)?;
     let change = change_of(entry);
-    let has = has_block(&image, change.block.root);
-    let blocks = blocks_but(alloc, arena, change.block, has)?;
-    Ok(Left {
+    let has = has_block(&image, change.root);
+    Ok(Crashed {
+        call: number,
         side: side_of(has, change.given),
-        blocks,
+        image,
     })
+}
+
+// What is left with no call under way: an arena as it is formatted.
+fn left_idle(alloc: Global, made: &Arena<SimPmem>) -> Result<Crashed, OutOfMemory>
+    ensures call { IfOk result (λ crashed. crashed.call ≡ 0) }
+    ensures side { IfOk result (λ crashed. crashed.side ≡ CrashSide.Same) }
+    ensures image { IfOk result (λ crashed. crashed.image.items ≡ words_of made.now.device) }
+{
+    let device = made.pmem();
+    let image = copy_of(alloc, device.words(0, device.size_words()))?;
+    Ok(Crashed {
+        call: 0,
+        side: CrashSide::Same,
+        image,
+    })
+}
+
+// A copy of these words.
+fn copy_of(alloc: Global, words: &[u64]) -> Result<Vec<u64>, OutOfMemory>
+    ensures { IfOk result (λ copy. copy.items ≡ words.now) }
+{
+    Ok(words.to_vec(alloc)?)
 }
 
 // The side of a call by whether its root has a block, which it has after a call that gives one, and before one that takes
@@ -192,22 +218,15 @@ fn side_of(has: bool, given: bool) -> CrashSide
     }
 }
 
-// The block that a call gave to its root or took from it.
+// Which root a call gave a block or took it from.
 fn change_of(entry: &Entry) -> Change
     requires { ChangesHeap entry.now.reply }
-    ensures { IsChangeBy (root_of entry.now.call) entry.now.reply result.block result.given }
+    ensures root { result.root ≡ root_of entry.now.call }
+    ensures given { result.given ≡ gives_block entry.now.reply }
 {
-    let root = root_of(&entry.call);
-    match entry.reply {
-        Reply::Placed { at, size } => Change {
-            block: Block { root, at, size },
-            given: true,
-        },
-        Reply::Freed { at, size } => Change {
-            block: Block { root, at, size },
-            given: false,
-        },
-        _ => unreachable!(),
+    Change {
+        root: root_of(&entry.call),
+        given: matches!(entry.reply, Reply::Placed { .. }),
     }
 }
 

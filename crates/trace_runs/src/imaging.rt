@@ -1,37 +1,55 @@
-// The calls of a trace, made for the device that they leave.
-ghost use Rattle.std.specs.Prelude.{◌≤◌, ◌*◌, ℕ, IfOk};
+// The calls of a trace, made on one arena for the device that they leave.
+ghost use Rattle.std.specs.Prelude.{◌≤◌, ◌<◌, ◌*◌, ◌^◌, length, IfOk};
 ghost use Rattle.std.specs.List.{All};
-ghost use Rattle.pmem_lines.specs.Pmem.{IsZeroed};
-ghost use Rattle.trace_text.specs.Grammar.{IsTraceCall};
-ghost use Rattle.trace_runs.specs.Replay.{IsRunThrough};
-ghost use Rattle.trace_runs.specs.Calls.{IsNewArena, HasMadeAll};
+ghost use Rattle.pmem_lines.specs.Pmem.{words_of, IsZeroed};
+ghost use Rattle.heap_check.specs.Image.{IsExactImage};
+ghost use Rattle.arena_core.specs.Call.{IsReady};
+ghost use Rattle.trace_text.specs.Grammar.{pool_of, IsPool, IsTraceCall};
+ghost use Rattle.trace_runs.specs.Arenas.{header_for};
+ghost use Rattle.trace_runs.specs.Calls.{calls_of, CanBeMade, HasMadeAll};
+ghost use Rattle.trace_runs.specs.Journals.{IsRunThrough};
 
-use crate::journal::answer;
 use crate::opening::new_arena;
 use arena_core::Arena;
+use arena_journal::answer;
 use pmem_lines::{OutOfMemory, Pmem};
 use std::alloc::Global;
-use trace_text::{Trace, TraceCall};
+use trace_text::{PoolSize, Trace, TraceCall};
 
-/// Makes the calls of a trace on an arena over a new device of zeros, in the order of the lines, and gives the device.
-pub fn run_calls<P: Pmem + Drop>(alloc: Global, trace: &Trace, device: P) -> Result<P, OutOfMemory>
-    requires least { 16 ≤ trace.now.granules }
-    requires most { trace.now.granules ≤ 1024 }
-    requires each { All IsTraceCall trace.now.calls.items }
+/// Makes the calls of a trace that are those of one arena, in the order of the lines, on the arena over a new device of
+/// zeros, and gives the device.
+pub fn run_calls<P: Pmem + Drop>(
+    alloc: Global,
+    trace: &Trace,
+    arena: u32,
+    device: P,
+) -> Result<P, OutOfMemory>
+    requires pool { IsPool (pool_of trace.now) }
+    requires each { All (IsTraceCall trace.now.arenas) trace.now.calls.items }
+    requires few { length trace.now.calls.items < 2 ^ 32 }
+    requires inside { arena < trace.now.arenas }
     requires zeroed { IsZeroed (P.state device) (256 * trace.now.granules) 2048 }
-    ensures { IfOk result (λ left. IsRunThrough trace.now.granules trace.now.calls.items (P.state left)) }
+    ensures { IfOk result (λ left. IsRunThrough (header_for (pool_of trace.now) arena) (calls_of arena trace.now.calls.items) (P.state left)) }
 {
-    let mut arena = new_arena(alloc, device, trace.granules)?;
-    make_calls(&mut arena, &trace.calls);
-    Ok(arena.into_pmem())
+    let pool = PoolSize {
+        arenas: trace.arenas,
+        granules: trace.granules,
+    };
+    let mut made = new_arena(alloc, device, pool, arena)?;
+    make_calls(&mut made, arena, &trace.calls);
+    Ok(made.into_pmem())
 }
 
-// Makes all calls of a trace on an arena, in order.
-fn make_calls<P: Pmem>(arena: &mut Arena<P>, calls: &[TraceCall])
-    requires { All IsTraceCall calls.now }
-    ensures { (granules : ℕ) → IsNewArena granules arena.old → HasMadeAll granules arena.new calls.now }
+// Makes those calls that are of the arena of this number, in order.
+fn make_calls<P: Pmem>(made: &mut Arena<P>, arena: u32, calls: &[TraceCall])
+    requires each { All CanBeMade calls.now }
+    ensures { HasMadeAll made.old made.new (calls_of arena calls.now) }
 {
+    let _device = made.pmem();
     for call in calls {
-        answer(arena, call);
+        if call.arena != arena {
+            continue;
+        }
+        answer(made, call.thread, call.call);
     }
 }

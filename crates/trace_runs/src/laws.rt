@@ -1,9 +1,9 @@
 // Laws of runs: what the calls of a trace settle.
-ghost use Rattle.trace_runs.specs.Laws.{LawOfOneReport, LawOfOneRun};
+ghost use Rattle.trace_runs.specs.Laws.{LawOfOneJournal, LawOfOneRun};
 
-/// The calls of a trace have one report.
-pub fn law_of_one_report()
-    ensures { LawOfOneReport }
+/// The calls of an arena have one journal that answers them in order.
+pub fn law_of_one_journal()
+    ensures { LawOfOneJournal }
 {}
 
 /// They make one run, whose events are so many. What a crash leaves is said over it.

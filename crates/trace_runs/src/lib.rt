@@ -1,13 +1,12 @@
-// The calls of a trace, made on an arena: what `replay` reports, the device that they leave, and what a crash at a chosen
-// event leaves.
+// The calls of a trace that are one arena's, made on it by one caller in the order of the lines: the device that they leave,
+// and what a crash at a chosen event leaves.
 //
-// `blocks_of` lists the blocks of an arena. `replay` makes all calls and gives the report and the device that went through
-// them, `run_calls` the device alone; `crash` makes the calls up to the one under way at an event, takes the image that a
-// seed picks, and reports the heap of the image. What they promise stands in `specs/Replay.antt` (`IsReport`,
-// `IsRunThrough`, `HasRun`) and `specs/Crash.antt` (`IsCrashReport`, `HasFewer`), in the words of the heap machine and of
-// images: each call is a step of the placement for its thread (`IsPlacedStep`), by the plain policy: no stack is filled, and
-// no slab takes another class. The calls settle both: `law_of_one_report`, `law_of_one_run`. The rest of `specs/` is for the
-// functions below them.
+// `new_arena` formats an arena of the trace's pool, and `blocks_of` lists the blocks of one. `run_calls` makes all calls of
+// an arena and gives the device that went through them; `crash` makes those up to the one under way at an event, and gives
+// the image that a seed picks. What they promise stands in `specs/Journals.antt` (`HasRun`, `IsRunThrough`) and
+// `specs/Crash.antt` (`IsCrashOf`, `HasFewer`), in the words of the heap machine and of images: each call is a step of the
+// placement for its thread (`IsPlacedStep`), by the plain policy: no stack is filled, and no slab takes another class. The
+// calls settle both: `law_of_one_journal`, `law_of_one_run`. The rest of `specs/` is for the functions below them.
 //
 // The layer above has a parsed trace and knows where devices come from and where bytes go.
 #![tactic(auto)]
@@ -15,13 +14,11 @@
 mod blocks;
 mod crashing;
 mod imaging;
-mod journal;
 mod laws;
 mod opening;
-mod replaying;
 
 pub use blocks::blocks_of;
-pub use crashing::{CrashFault, crash};
+pub use crashing::{CrashFault, Crashed, crash};
 pub use imaging::run_calls;
-pub use laws::{law_of_one_report, law_of_one_run};
-pub use replaying::{Replayed, replay};
+pub use laws::{law_of_one_journal, law_of_one_run};
+pub use opening::new_arena;

@@ -1,23 +1,27 @@
-// The arena of a trace, made anew.
-ghost use Rattle.std.specs.Prelude.{◌≤◌, ◌*◌, IfOk};
+// An arena of a trace's pool, made anew.
+ghost use Rattle.std.specs.Prelude.{◌≤◌, ◌<◌, ◌*◌, IfOk};
 ghost use Rattle.pmem_lines.specs.Pmem.{IsZeroed};
-ghost use Rattle.trace_runs.specs.Calls.{IsNewArena};
+ghost use Rattle.trace_text.specs.declared.call.PoolSize.{PoolSize};
+ghost use Rattle.trace_text.specs.Grammar.{IsPool};
+ghost use Rattle.trace_runs.specs.Arenas.{header_for, IsNewArena};
 
 use arena_core::{Arena, ArenaRoom};
 use pmem_lines::{OutOfMemory, Pmem};
 use std::alloc::Global;
+use trace_text::PoolSize;
 
-/// Formats a device of zeros as the one arena of a pool.
-pub(crate) fn new_arena<P: Pmem + Drop>(
+/// Formats a device of zeros as the arena of this number of a pool.
+pub fn new_arena<P: Pmem + Drop>(
     alloc: Global,
     device: P,
-    granules: u32,
+    pool: PoolSize,
+    arena: u32,
 ) -> Result<Arena<P>, OutOfMemory>
-    requires least { 16 ≤ granules }
-    requires most { granules ≤ 1024 }
-    requires zeroed { IsZeroed (P.state device) (256 * granules) 2048 }
-    ensures { IfOk result (λ arena. IsNewArena granules arena) }
+    requires pool { IsPool pool }
+    requires inside { arena < pool.arenas }
+    requires zeroed { IsZeroed (P.state device) (256 * pool.granules) 2048 }
+    ensures { IfOk result (λ made. IsNewArena (header_for pool arena) made) }
 {
-    let room = ArenaRoom::new(alloc, granules)?;
-    Ok(Arena::format(room, device, 0, 1))
+    let room = ArenaRoom::new(alloc, pool.granules)?;
+    Ok(Arena::format(room, device, arena, pool.arenas))
 }

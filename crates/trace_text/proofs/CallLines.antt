@@ -1,10 +1,11 @@
--- The words of a call line, one by one.
-use Rattle.std.proofs.Common.{◌≡◌, ℕ, ◌<◌, ◌≤◌, ◌^◌, List, ◌∷◌, ◌++◌, ◌∙◌, arith}
-use Rattle.std.specs.Prelude.{decimal}
+-- The words of a pool's line and of a call line, one by one.
+use Rattle.std.proofs.Common.{◌≡◌, ℕ, ◌<◌, ◌≤◌, ◌^◌, List, ◌∷◌, ◌++◌, ◌∙◌, sym, arith}
+use Rattle.std.specs.Prelude.{decimal, codes}
 use Rattle.std.proofs.lemmas.List.{append_assoc}
+use Rattle.trace_text.specs.declared.call.PoolSize.{PoolSize}
 use Rattle.trace_text.specs.declared.call.TraceCall.{TraceCall}
 use Rattle.trace_text.specs.Words.{call_text}
-use Rattle.trace_text.specs.Grammar.{IsCallLine}
+use Rattle.trace_text.specs.Grammar.{IsPoolLine, IsCallLine}
 use Rattle.trace_text.proofs.Numbers.{as_field, other_field}
 
 -- one number before a space, and one rest
@@ -13,15 +14,23 @@ same_field line m n x y p q d e =
     let h = other_field line m n (32 ∷ x) y (as_field line m x p d) q e in (h.0, let s : 32 ∷ x ≡ 32 ∷ y = h.1 in cc)
 
 -- a call line, word by word
-pub call_words : (line : List ℕ) (call : TraceCall) → IsCallLine line call → line ≡ decimal call.thread ++ 32 ∷ (decimal call.arena ++ 32 ∷ call_text call.call)
-call_words line call is = is.text ∙ append_assoc (decimal call.thread) (32 ∷ decimal call.arena) (32 ∷ call_text call.call)
+pub call_words : (arenas : ℕ) (line : List ℕ) (call : TraceCall) → IsCallLine arenas line call → line ≡ decimal call.thread ++ 32 ∷ (decimal call.arena ++ 32 ∷ call_text call.call)
+call_words arenas line call is = is.text ∙ append_assoc (decimal call.thread) (32 ∷ decimal call.arena) (32 ∷ call_text call.call)
 
 -- behind the thread
-pub behind_thread : (line : List ℕ) (thread : ℕ) (rest : List ℕ) (call : TraceCall) → thread ≤ 63 → line ≡ decimal thread ++ 32 ∷ rest → IsCallLine line call → rest ≡ decimal call.arena ++ 32 ∷ call_text call.call
-behind_thread line thread rest call le e is =
-    (same_field line thread call.thread rest _ (omega arith) (omega (arith, is.valid.thread)) e (call_words line call is)).1
+pub behind_thread : (arenas : ℕ) (line : List ℕ) (thread : ℕ) (rest : List ℕ) (call : TraceCall) → thread ≤ 63 → line ≡ decimal thread ++ 32 ∷ rest → IsCallLine arenas line call → rest ≡ decimal call.arena ++ 32 ∷ call_text call.call
+behind_thread arenas line thread rest call le e is =
+    (same_field line thread call.thread rest _ (omega arith) (omega (arith, is.valid.thread)) e (call_words arenas line call is)).1
 
--- behind the arena
-pub behind_arena : (line : List ℕ) (thread arena : ℕ) (rest words : List ℕ) (call : TraceCall) → thread ≤ 63 → arena ≤ 0 → line ≡ decimal thread ++ 32 ∷ rest → rest ≡ decimal arena ++ 32 ∷ words → IsCallLine line call → words ≡ call_text call.call
-behind_arena line thread arena rest words call le none d e is =
-    (same_field rest arena call.arena words _ (omega arith) (omega (arith, is.valid.arena)) e (behind_thread line thread rest call le d is)).1
+-- the arena, and what stands behind it, in a pool of at most 16 arenas
+pub behind_arena : (arenas : ℕ) (line : List ℕ) (thread arena : ℕ) (rest words : List ℕ) (call : TraceCall) → arenas ≤ 2 ^ 32 → thread ≤ 63 → arena < arenas → line ≡ decimal thread ++ 32 ∷ rest → rest ≡ decimal arena ++ 32 ∷ words → IsCallLine arenas line call →
+    (arena ≡ call.arena) × (words ≡ call_text call.call)
+behind_arena arenas line thread arena rest words call few le below d e is =
+    same_field rest arena call.arena words _ (omega (arith, few, below)) (omega (arith, few, is.valid.arena)) e (behind_thread arenas line thread rest call le d is)
+
+-- the arenas of a pool's line, and what stands behind them
+pub behind_pool : (line rest words : List ℕ) (arenas : ℕ) (pool : PoolSize) → line ≡ codes "pool " ++ rest → arenas ≤ 16 → rest ≡ decimal arenas ++ 32 ∷ words → IsPoolLine line pool →
+    (arenas ≡ pool.arenas) × (words ≡ decimal pool.granules)
+behind_pool line rest words arenas pool front few is says =
+    let same : rest ≡ decimal pool.arenas ++ 32 ∷ decimal pool.granules = (let e = sym front ∙ says.text in cc) in
+    same_field rest arenas pool.arenas words (decimal pool.granules) (omega (arith, few)) (omega (arith, says.valid.few)) is same

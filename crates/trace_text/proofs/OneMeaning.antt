@@ -1,11 +1,12 @@
 -- A line says one thing, so a text says one trace, or has one refused line.
-use Rattle.std.proofs.Common.{◌≡◌, ◌⊎◌, ℕ, zero, suc, ◌+◌, ◌<◌, List, [], ◌∷◌, ◌++◌, length, refl, sym, ◌∙◌, ap, inl, inr, arith}
+use Rattle.std.proofs.Common.{◌≡◌, ◌⊎◌, ℕ, zero, suc, ◌+◌, ◌<◌, ◌≤◌, ◌^◌, List, [], ◌∷◌, ◌++◌, length, refl, sym, ◌∙◌, ap, subst, inl, inr, arith}
 use Rattle.std.specs.Prelude.{decimal}
 use Rattle.std.specs.Str.Parse.{AllDigits}
 use Rattle.std.proofs.lemmas.Str.Parse.{digit_from_value}
 use Rattle.std.proofs.lemmas.Fmt.{decimal_is_IsNumeral, decimal_injective}
 use Rattle.heap_model.specs.declared.call.Call.{Call}
 use Rattle.heap_model.specs.declared.call.Call.TheVariants.{Malloc, Free, Write, Read, Move}
+use Rattle.trace_text.specs.declared.call.PoolSize.{PoolSize}
 use Rattle.trace_text.specs.declared.call.TraceCall.{TraceCall}
 use Rattle.trace_text.specs.Words.{call_text}
 use Rattle.trace_text.specs.Grammar.{lines_of, IsPassedOver, IsAsked, IsPoolLine, IsCallLine, AreCalls, AreTrace, IsNoCallAt, IsNoTraceAt}
@@ -13,9 +14,9 @@ use Rattle.trace_text.specs.Laws.{LawOfOneTrace, LawOfNoRefusal, LawOfOneRefusal
 use Rattle.trace_text.proofs.CallLines.{same_field, call_words, behind_arena}
 
 -- a line that is passed over says no pool
-no_pool_passed : (line : List ℕ) (granules : ℕ) → IsPassedOver line → ¬ (IsPoolLine line granules)
-no_pool_passed [] granules passed pool = let e = pool.text in cc
-no_pool_passed (byte ∷ line) granules passed pool = let e = pool.text in let same : byte ≡ 112 = cc in omega (arith, same, passed)
+no_pool_passed : (line : List ℕ) (pool : PoolSize) → IsPassedOver line → ¬ (IsPoolLine line pool)
+no_pool_passed [] pool passed says = let e = says.text in cc
+no_pool_passed (byte ∷ line) pool passed says = let e = says.text in let same : byte ≡ 112 = cc in omega (arith, same, passed)
 
 -- numerals do not begin with `#`
 no_digit_passed : (digits rest line : List ℕ) → 0 < length digits → AllDigits 10 digits → line ≡ digits ++ rest → ¬ (IsPassedOver line)
@@ -24,17 +25,19 @@ no_digit_passed (d ∷ ds) rest [] some digits is passed = cc
 no_digit_passed (d ∷ ds) rest (byte ∷ line) some digits is passed = let same : byte ≡ d = cc in let r = digit_from_value d digits.0 in omega (arith, same, passed, r.0)
 
 -- a line that is passed over makes no call
-no_call_passed : (line : List ℕ) (call : TraceCall) → IsPassedOver line → ¬ (IsCallLine line call)
-no_call_passed line call passed makes =
+no_call_passed : (arenas : ℕ) (line : List ℕ) (call : TraceCall) → IsPassedOver line → ¬ (IsCallLine arenas line call)
+no_call_passed arenas line call passed makes =
     let numeral = decimal_is_IsNumeral call.thread (omega (arith, makes.valid.thread)) in
-    no_digit_passed (decimal call.thread) _ line numeral.0.0 numeral.0.1 (call_words line call makes) passed
+    no_digit_passed (decimal call.thread) _ line numeral.0.0 numeral.0.1 (call_words arenas line call makes) passed
 
 -- a line says one pool
-one_pool : (line : List ℕ) (m n : ℕ) → IsPoolLine line m → IsPoolLine line n → m ≡ n
+one_pool : (line : List ℕ) (m n : PoolSize) → IsPoolLine line m → IsPoolLine line n → m ≡ n
 one_pool line m n p q =
     let e = sym p.text ∙ q.text in
-    let same : decimal m ≡ decimal n = cc in
-    decimal_injective m n (omega (arith, p.most)) (omega (arith, q.most)) same
+    let words : decimal m.arenas ++ 32 ∷ decimal m.granules ≡ decimal n.arenas ++ 32 ∷ decimal n.granules = cc in
+    let h = same_field (decimal n.arenas ++ 32 ∷ decimal n.granules) m.arenas n.arenas (decimal m.granules) (decimal n.granules) (omega (arith, p.valid.few)) (omega (arith, q.valid.few)) (sym words) refl in
+    let granules : m.granules ≡ n.granules = decimal_injective m.granules n.granules (omega (arith, p.valid.most)) (omega (arith, q.valid.most)) h.1 in
+    λ i. record { arenas = h.0 i; granules = granules i }
 
 -- texts that are the same begin with the same byte
 same_letter : (a b : ℕ) (x y : List ℕ) → a ∷ x ≡ b ∷ y → a ≡ b
@@ -69,90 +72,94 @@ same_call : (a b : TraceCall) → a.thread ≡ b.thread → a.arena ≡ b.arena 
 same_call a b thread arena call = λ i. record { thread = thread i; arena = arena i; call = call i }
 
 -- a line makes one call
-one_call : (line : List ℕ) (a b : TraceCall) → IsCallLine line a → IsCallLine line b → a ≡ b
-one_call line a b p q =
-    let first = call_words line a p in
-    let thread = (same_field line a.thread b.thread _ _ (omega (arith, p.valid.thread)) (omega (arith, q.valid.thread)) first (call_words line b q)).0 in
-    let words = behind_arena line a.thread a.arena _ (call_text a.call) b (omega (arith, p.valid.thread)) (omega (arith, p.valid.arena)) first refl q in
-    same_call a b thread (p.valid.arena ∙ sym q.valid.arena) (one_asked a.call b.call p.valid.asked q.valid.asked words)
+one_call : (arenas : ℕ) (line : List ℕ) (a b : TraceCall) → arenas ≤ 2 ^ 32 → IsCallLine arenas line a → IsCallLine arenas line b → a ≡ b
+one_call arenas line a b few p q =
+    let first = call_words arenas line a p in
+    let thread = (same_field line a.thread b.thread _ _ (omega (arith, p.valid.thread)) (omega (arith, q.valid.thread)) first (call_words arenas line b q)).0 in
+    let rest = behind_arena arenas line a.thread a.arena _ (call_text a.call) b few (omega (arith, p.valid.thread)) p.valid.arena first refl q in
+    same_call a b thread rest.0 (one_asked a.call b.call p.valid.asked q.valid.asked rest.1)
 
 -- lines make one list of calls
-one_list : (lines : List (List ℕ)) (a b : List TraceCall) → AreCalls lines a → AreCalls lines b → a ≡ b
-one_list [] a b p q = p ∙ sym q
-one_list (line ∷ lines) [] [] p q = refl
-one_list (line ∷ lines) [] (d ∷ ds) p (inl q) = one_list lines [] (d ∷ ds) p.1 q.1
-one_list (line ∷ lines) [] (d ∷ ds) p (inr q) = absurd (no_call_passed line d p.0 q.0)
-one_list (line ∷ lines) (c ∷ cs) [] (inl p) q = one_list lines (c ∷ cs) [] p.1 q.1
-one_list (line ∷ lines) (c ∷ cs) [] (inr p) q = absurd (no_call_passed line c q.0 p.0)
-one_list (line ∷ lines) (c ∷ cs) (d ∷ ds) (inl p) (inl q) = one_list lines (c ∷ cs) (d ∷ ds) p.1 q.1
-one_list (line ∷ lines) (c ∷ cs) (d ∷ ds) (inl p) (inr q) = absurd (no_call_passed line d p.0 q.0)
-one_list (line ∷ lines) (c ∷ cs) (d ∷ ds) (inr p) (inl q) = absurd (no_call_passed line c q.0 p.0)
-one_list (line ∷ lines) (c ∷ cs) (d ∷ ds) (inr p) (inr q) =
-    let call : c ≡ d = one_call line c d p.0 q.0 in
-    let rest : cs ≡ ds = one_list lines cs ds p.1 q.1 in
+one_list : (arenas : ℕ) (lines : List (List ℕ)) (a b : List TraceCall) → arenas ≤ 2 ^ 32 → AreCalls arenas lines a → AreCalls arenas lines b → a ≡ b
+one_list arenas [] a b few p q = p ∙ sym q
+one_list arenas (line ∷ lines) [] [] few p q = refl
+one_list arenas (line ∷ lines) [] (d ∷ ds) few p (inl q) = one_list arenas lines [] (d ∷ ds) few p.1 q.1
+one_list arenas (line ∷ lines) [] (d ∷ ds) few p (inr q) = absurd (no_call_passed arenas line d p.0 q.0)
+one_list arenas (line ∷ lines) (c ∷ cs) [] few (inl p) q = one_list arenas lines (c ∷ cs) [] few p.1 q.1
+one_list arenas (line ∷ lines) (c ∷ cs) [] few (inr p) q = absurd (no_call_passed arenas line c q.0 p.0)
+one_list arenas (line ∷ lines) (c ∷ cs) (d ∷ ds) few (inl p) (inl q) = one_list arenas lines (c ∷ cs) (d ∷ ds) few p.1 q.1
+one_list arenas (line ∷ lines) (c ∷ cs) (d ∷ ds) few (inl p) (inr q) = absurd (no_call_passed arenas line d p.0 q.0)
+one_list arenas (line ∷ lines) (c ∷ cs) (d ∷ ds) few (inr p) (inl q) = absurd (no_call_passed arenas line c q.0 p.0)
+one_list arenas (line ∷ lines) (c ∷ cs) (d ∷ ds) few (inr p) (inr q) =
+    let call : c ≡ d = one_call arenas line c d few p.0 q.0 in
+    let rest : cs ≡ ds = one_list arenas lines cs ds few p.1 q.1 in
     cc
 
 -- lines say one trace
-one_trace : (lines : List (List ℕ)) (m n : ℕ) (a b : List TraceCall) → AreTrace lines m a → AreTrace lines n b → (m ≡ n) × (a ≡ b)
+one_trace : (lines : List (List ℕ)) (m n : PoolSize) (a b : List TraceCall) → AreTrace lines m a → AreTrace lines n b → (m ≡ n) × (a ≡ b)
 one_trace [] m n a b p q = absurd p
 one_trace (line ∷ lines) m n a b (inl p) (inl q) = one_trace lines m n a b p.1 q.1
 one_trace (line ∷ lines) m n a b (inl p) (inr q) = absurd (no_pool_passed line n p.0 q.0)
 one_trace (line ∷ lines) m n a b (inr p) (inl q) = absurd (no_pool_passed line m q.0 p.0)
-one_trace (line ∷ lines) m n a b (inr p) (inr q) = (one_pool line m n p.0 q.0, one_list lines a b p.1 q.1)
+one_trace (line ∷ lines) m n a b (inr p) (inr q) =
+    let same : m ≡ n = one_pool line m n p.0 q.0 in
+    (same, one_list m.arenas lines a b (omega (arith, p.0.valid.few)) p.1 (subst (λ (pool : PoolSize). AreCalls pool.arenas lines b) (sym same) q.1))
 
 -- lines that make calls have none that is no call
-calls_not_refused : (lines : List (List ℕ)) (calls : List TraceCall) (n : ℕ) → AreCalls lines calls → ¬ (IsNoCallAt lines n)
-calls_not_refused [] calls n are refused = refused
-calls_not_refused (line ∷ lines) [] zero are refused = refused.0 are.0
-calls_not_refused (line ∷ lines) [] (suc n) are refused = calls_not_refused lines [] n are.1 refused.1
-calls_not_refused (line ∷ lines) (c ∷ cs) zero (inl are) refused = refused.0 are.0
-calls_not_refused (line ∷ lines) (c ∷ cs) zero (inr are) refused = refused.1 c are.0
-calls_not_refused (line ∷ lines) (c ∷ cs) (suc n) (inl are) refused = calls_not_refused lines (c ∷ cs) n are.1 refused.1
-calls_not_refused (line ∷ lines) (c ∷ cs) (suc n) (inr are) refused = calls_not_refused lines cs n are.1 refused.1
+calls_not_refused : (arenas : ℕ) (lines : List (List ℕ)) (calls : List TraceCall) (n : ℕ) → AreCalls arenas lines calls → ¬ (IsNoCallAt arenas lines n)
+calls_not_refused arenas [] calls n are refused = refused
+calls_not_refused arenas (line ∷ lines) [] zero are refused = refused.0 are.0
+calls_not_refused arenas (line ∷ lines) [] (suc n) are refused = calls_not_refused arenas lines [] n are.1 refused.1
+calls_not_refused arenas (line ∷ lines) (c ∷ cs) zero (inl are) refused = refused.0 are.0
+calls_not_refused arenas (line ∷ lines) (c ∷ cs) zero (inr are) refused = refused.1 c are.0
+calls_not_refused arenas (line ∷ lines) (c ∷ cs) (suc n) (inl are) refused = calls_not_refused arenas lines (c ∷ cs) n are.1 refused.1
+calls_not_refused arenas (line ∷ lines) (c ∷ cs) (suc n) (inr are) refused = calls_not_refused arenas lines cs n are.1 refused.1
 
 -- lines that say a trace have none outside it
-trace_not_refused : (lines : List (List ℕ)) (granules : ℕ) (calls : List TraceCall) (n : ℕ) → AreTrace lines granules calls → ¬ (IsNoTraceAt lines n)
-trace_not_refused [] granules calls n are refused = are
-trace_not_refused (line ∷ lines) granules calls zero (inl are) refused = refused.0 are.0
-trace_not_refused (line ∷ lines) granules calls zero (inr are) refused = refused.1 granules are.0
-trace_not_refused (line ∷ lines) granules calls (suc n) (inl are) (inl refused) = trace_not_refused lines granules calls n are.1 refused.1
-trace_not_refused (line ∷ lines) granules calls (suc n) (inl are) (inr refused) = no_pool_passed line refused.0.0 are.0 refused.0.1
-trace_not_refused (line ∷ lines) granules calls (suc n) (inr are) (inl refused) = no_pool_passed line granules refused.0 are.0
-trace_not_refused (line ∷ lines) granules calls (suc n) (inr are) (inr refused) = calls_not_refused lines calls n are.1 refused.1
+trace_not_refused : (lines : List (List ℕ)) (pool : PoolSize) (calls : List TraceCall) (n : ℕ) → AreTrace lines pool calls → ¬ (IsNoTraceAt lines n)
+trace_not_refused [] pool calls n are refused = are
+trace_not_refused (line ∷ lines) pool calls zero (inl are) refused = refused.0 are.0
+trace_not_refused (line ∷ lines) pool calls zero (inr are) refused = refused.1 pool are.0
+trace_not_refused (line ∷ lines) pool calls (suc n) (inl are) (inl refused) = trace_not_refused lines pool calls n are.1 refused.1
+trace_not_refused (line ∷ lines) pool calls (suc n) (inl are) (inr refused) = no_pool_passed line refused.0 are.0 refused.1
+trace_not_refused (line ∷ lines) pool calls (suc n) (inr are) (inl refused) = no_pool_passed line pool refused.0 are.0
+trace_not_refused (line ∷ lines) pool calls (suc n) (inr are) (inr refused) =
+    calls_not_refused pool.arenas lines calls n are.1 (subst (λ (other : PoolSize). IsNoCallAt other.arenas lines n) (one_pool line refused.0 pool refused.1 are.0) refused.2)
 
 -- a line that is no call is not one that was read
-no_call_read : (line : List ℕ) → ¬ (IsPassedOver line) → ((call : TraceCall) → ¬ (IsCallLine line call)) → ¬ (IsPassedOver line ⊎ ((call : TraceCall) × IsCallLine line call))
-no_call_read line kept none (inl passed) = kept passed
-no_call_read line kept none (inr makes) = none makes.0 makes.1
+no_call_read : (arenas : ℕ) (line : List ℕ) → ¬ (IsPassedOver line) → ((call : TraceCall) → ¬ (IsCallLine arenas line call)) → ¬ (IsPassedOver line ⊎ ((call : TraceCall) × IsCallLine arenas line call))
+no_call_read arenas line kept none (inl passed) = kept passed
+no_call_read arenas line kept none (inr makes) = none makes.0 makes.1
 
 -- one line is the first that is no call
-one_no_call : (lines : List (List ℕ)) (m n : ℕ) → IsNoCallAt lines m → IsNoCallAt lines n → m ≡ n
-one_no_call [] m n p q = absurd p
-one_no_call (line ∷ lines) zero zero p q = refl
-one_no_call (line ∷ lines) zero (suc n) p q = absurd (no_call_read line p.0 p.1 q.0)
-one_no_call (line ∷ lines) (suc m) zero p q = absurd (no_call_read line q.0 q.1 p.0)
-one_no_call (line ∷ lines) (suc m) (suc n) p q = ap suc (one_no_call lines m n p.1 q.1)
+one_no_call : (arenas : ℕ) (lines : List (List ℕ)) (m n : ℕ) → IsNoCallAt arenas lines m → IsNoCallAt arenas lines n → m ≡ n
+one_no_call arenas [] m n p q = absurd p
+one_no_call arenas (line ∷ lines) zero zero p q = refl
+one_no_call arenas (line ∷ lines) zero (suc n) p q = absurd (no_call_read arenas line p.0 p.1 q.0)
+one_no_call arenas (line ∷ lines) (suc m) zero p q = absurd (no_call_read arenas line q.0 q.1 p.0)
+one_no_call arenas (line ∷ lines) (suc m) (suc n) p q = ap suc (one_no_call arenas lines m n p.1 q.1)
 
 -- one line is the first outside a trace
 one_refusal : (lines : List (List ℕ)) (m n : ℕ) → IsNoTraceAt lines m → IsNoTraceAt lines n → m ≡ n
 one_refusal [] m n p q = p ∙ sym q
 one_refusal (line ∷ lines) zero zero p q = refl
 one_refusal (line ∷ lines) zero (suc n) p (inl q) = absurd (p.0 q.0)
-one_refusal (line ∷ lines) zero (suc n) p (inr q) = absurd (p.1 q.0.0 q.0.1)
+one_refusal (line ∷ lines) zero (suc n) p (inr q) = absurd (p.1 q.0 q.1)
 one_refusal (line ∷ lines) (suc m) zero (inl p) q = absurd (q.0 p.0)
-one_refusal (line ∷ lines) (suc m) zero (inr p) q = absurd (q.1 p.0.0 p.0.1)
+one_refusal (line ∷ lines) (suc m) zero (inr p) q = absurd (q.1 p.0 p.1)
 one_refusal (line ∷ lines) (suc m) (suc n) (inl p) (inl q) = ap suc (one_refusal lines m n p.1 q.1)
-one_refusal (line ∷ lines) (suc m) (suc n) (inl p) (inr q) = absurd (no_pool_passed line q.0.0 p.0 q.0.1)
-one_refusal (line ∷ lines) (suc m) (suc n) (inr p) (inl q) = absurd (no_pool_passed line p.0.0 q.0 p.0.1)
-one_refusal (line ∷ lines) (suc m) (suc n) (inr p) (inr q) = ap suc (one_no_call lines m n p.1 q.1)
+one_refusal (line ∷ lines) (suc m) (suc n) (inl p) (inr q) = absurd (no_pool_passed line q.0 p.0 q.1)
+one_refusal (line ∷ lines) (suc m) (suc n) (inr p) (inl q) = absurd (no_pool_passed line p.0 q.0 p.1)
+one_refusal (line ∷ lines) (suc m) (suc n) (inr p) (inr q) =
+    ap suc (one_no_call p.0.arenas lines m n p.2 (subst (λ (pool : PoolSize). IsNoCallAt pool.arenas lines n) (one_pool line q.0 p.0 q.1 p.1) q.2))
 
 -- a text says one trace at most
 pub law_of_one_trace : LawOfOneTrace
-law_of_one_trace text granules others calls more p q = one_trace (lines_of text) granules others calls more p.lines q.lines
+law_of_one_trace text pool other calls more p q = one_trace (lines_of text) pool other calls more p.lines q.lines
 
 -- a trace has no refused line
 pub law_of_no_refusal : LawOfNoRefusal
-law_of_no_refusal text granules calls number is refused = trace_not_refused (lines_of text) granules calls refused.before is.lines refused.lines
+law_of_no_refusal text pool calls number is refused = trace_not_refused (lines_of text) pool calls refused.before is.lines refused.lines
 
 -- a text has one refused line at most
 pub law_of_one_refusal : LawOfOneRefusal

@@ -4,7 +4,9 @@ use Rattle.std.specs.Prelude.{◌≡◌, ◌==◌, ◌⊎◌, ℕ, zero, suc, �
 use Rattle.std.specs.List.{slice_split}
 use Rattle.heap_model.specs.declared.call.Call.{Call}
 use Rattle.heap_model.specs.declared.call.Call.TheVariants.{Malloc, Free, Write, Read, Move}
+use Rattle.trace_text.specs.declared.call.PoolSize.{PoolSize}
 use Rattle.trace_text.specs.declared.call.TraceCall.{TraceCall}
+use Rattle.trace_text.specs.declared.trace.Trace.{Trace}
 use Rattle.trace_text.specs.declared.trace.TraceFault.{TraceFault}
 use Rattle.trace_text.specs.declared.trace.TraceFault.TheVariants.{Memory, BadLine}
 use Rattle.trace_text.specs.Words.{call_text}
@@ -24,11 +26,21 @@ abbrev pub IsPassedOver : List ℕ → Type 0
 IsPassedOver [] = Unit {0}
 IsPassedOver (byte ∷ line) = byte ≡ 35
 
--- the line says that the pool has one arena of this many granules
-pub record IsPoolLine (line : List ℕ) (granules : ℕ) : Type 0 where
-  pub text : line ≡ codes "pool 1 " ++ decimal granules
-  pub least : 16 ≤ granules
-  pub most : granules ≤ 1024
+-- the pool of a trace
+abbrev pub pool_of : Trace → PoolSize
+pool_of trace = record { arenas = trace.arenas; granules = trace.granules }
+
+-- a pool that a trace may have: 1 to 16 arenas, of 16 to 1024 granules each
+pub record IsPool (pool : PoolSize) : Type 0 where
+  pub some : 1 ≤ pool.arenas
+  pub few : pool.arenas ≤ 16
+  pub least : 16 ≤ pool.granules
+  pub most : pool.granules ≤ 1024
+
+-- the line says this pool: how many arenas, and the granules of each
+pub record IsPoolLine (line : List ℕ) (pool : PoolSize) : Type 0 where
+  pub text : line ≡ codes "pool " ++ decimal pool.arenas ++ 32 ∷ decimal pool.granules
+  pub valid : IsPool pool
 
 -- the calls that a trace may ask for, with numbers that fit
 abbrev pub IsAsked : Call → Type 0
@@ -38,43 +50,43 @@ IsAsked (Write root index value) = ⊥
 IsAsked (Read root index) = ⊥
 IsAsked (Move from to) = ⊥
 
--- a call that a trace may have
-pub record IsTraceCall (call : TraceCall) : Type 0 where
+-- a call that a trace of so many arenas may have
+pub record IsTraceCall (arenas : ℕ) (call : TraceCall) : Type 0 where
   pub thread : call.thread < 64
-  pub arena : call.arena ≡ 0
+  pub arena : call.arena < arenas
   pub asked : IsAsked call.call
 
 -- the line makes this call: the thread, the arena and what is asked, with one space between them
-pub record IsCallLine (line : List ℕ) (call : TraceCall) : Type 0 where
+pub record IsCallLine (arenas : ℕ) (line : List ℕ) (call : TraceCall) : Type 0 where
   pub text : line ≡ decimal call.thread ++ 32 ∷ decimal call.arena ++ 32 ∷ call_text call.call
-  pub valid : IsTraceCall call
+  pub valid : IsTraceCall arenas call
 
 -- the lines make these calls, in order, and say nothing else
-abbrev pub AreCalls : List (List ℕ) → List TraceCall → Type 0
-AreCalls [] calls = calls ≡ []
-AreCalls (line ∷ lines) [] = IsPassedOver line × AreCalls lines []
-AreCalls (line ∷ lines) (call ∷ calls) = (IsPassedOver line × AreCalls lines (call ∷ calls)) ⊎ (IsCallLine line call × AreCalls lines calls)
+abbrev pub AreCalls : ℕ → List (List ℕ) → List TraceCall → Type 0
+AreCalls arenas [] calls = calls ≡ []
+AreCalls arenas (line ∷ lines) [] = IsPassedOver line × AreCalls arenas lines []
+AreCalls arenas (line ∷ lines) (call ∷ calls) = (IsPassedOver line × AreCalls arenas lines (call ∷ calls)) ⊎ (IsCallLine arenas line call × AreCalls arenas lines calls)
 
 -- the first line that isn't passed over says the pool, and the lines after it make the calls
-abbrev pub AreTrace : List (List ℕ) → ℕ → List TraceCall → Type 0
-AreTrace [] granules calls = ⊥
-AreTrace (line ∷ lines) granules calls = (IsPassedOver line × AreTrace lines granules calls) ⊎ (IsPoolLine line granules × AreCalls lines calls)
+abbrev pub AreTrace : List (List ℕ) → PoolSize → List TraceCall → Type 0
+AreTrace [] pool calls = ⊥
+AreTrace (line ∷ lines) pool calls = (IsPassedOver line × AreTrace lines pool calls) ⊎ (IsPoolLine line pool × AreCalls pool.arenas lines calls)
 
 -- behind n lines of calls there is one that is no call
-abbrev pub IsNoCallAt : List (List ℕ) → ℕ → Type 0
-IsNoCallAt [] n = ⊥
-IsNoCallAt (line ∷ lines) zero = ¬ (IsPassedOver line) × ((call : TraceCall) → ¬ (IsCallLine line call))
-IsNoCallAt (line ∷ lines) (suc n) = (IsPassedOver line ⊎ ((call : TraceCall) × IsCallLine line call)) × IsNoCallAt lines n
+abbrev pub IsNoCallAt : ℕ → List (List ℕ) → ℕ → Type 0
+IsNoCallAt arenas [] n = ⊥
+IsNoCallAt arenas (line ∷ lines) zero = ¬ (IsPassedOver line) × ((call : TraceCall) → ¬ (IsCallLine arenas line call))
+IsNoCallAt arenas (line ∷ lines) (suc n) = (IsPassedOver line ⊎ ((call : TraceCall) × IsCallLine arenas line call)) × IsNoCallAt arenas lines n
 
 -- behind n lines in the grammar there is one that isn't, or the text ends with no pool
 abbrev pub IsNoTraceAt : List (List ℕ) → ℕ → Type 0
 IsNoTraceAt [] n = n ≡ 0
-IsNoTraceAt (line ∷ lines) zero = ¬ (IsPassedOver line) × ((granules : ℕ) → ¬ (IsPoolLine line granules))
-IsNoTraceAt (line ∷ lines) (suc n) = (IsPassedOver line × IsNoTraceAt lines n) ⊎ (((granules : ℕ) × IsPoolLine line granules) × IsNoCallAt lines n)
+IsNoTraceAt (line ∷ lines) zero = ¬ (IsPassedOver line) × ((pool : PoolSize) → ¬ (IsPoolLine line pool))
+IsNoTraceAt (line ∷ lines) (suc n) = (IsPassedOver line × IsNoTraceAt lines n) ⊎ ((pool : PoolSize) × IsPoolLine line pool × IsNoCallAt pool.arenas lines n)
 
 -- the text is a trace of this pool and these calls
-pub record IsTrace (text : List ℕ) (granules : ℕ) (calls : List TraceCall) : Type 0 where
-  pub lines : AreTrace (lines_of text) granules calls
+pub record IsTrace (text : List ℕ) (pool : PoolSize) (calls : List TraceCall) : Type 0 where
+  pub lines : AreTrace (lines_of text) pool calls
 
 -- the line of this number, counted from 1, is the first outside the grammar; a text that ends with no pool is refused
 -- just behind its last line

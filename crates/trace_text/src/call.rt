@@ -2,6 +2,13 @@
 
 use heap_model::Call;
 
+/// The pool of a trace: 1 to 16 arenas, and the granules of each, from 16 to 1024.
+#[derive(Clone, Copy, Debug, PartialEq, Eq)]
+pub struct PoolSize {
+    pub arenas: u32,
+    pub granules: u32,
+}
+
 /// One call of a trace: the thread that makes it, from 0 to 63, the arena, and what is asked.
 #[derive(Clone, Copy, Debug, PartialEq, Eq)]
 pub struct TraceCall {

@@ -16,7 +16,7 @@ mod report;
 mod trace;
 mod writing;
 
-pub use call::{CrashSide, Refusal, TraceCall};
+pub use call::{CrashSide, PoolSize, Refusal, TraceCall};
 pub use image_report::{write_defect, write_recovered, write_summary};
 pub use laws::{law_of_no_refusal, law_of_one_refusal, law_of_one_trace};
 pub use number::whole_number;

@@ -1,22 +1,23 @@
 // One line of a trace.
 ghost use Rattle.std.specs.Prelude.{◌≡◌, ◌≢◌, ◌↔◌, ℕ, ◌<◌, ◌≤◌, ◌^◌, ◌∷◌, ◌++◌, decimal, IsTrue, MatchOption};
 ghost use Rattle.heap_model.specs.declared.call.Call.{Call};
+ghost use Rattle.trace_text.specs.declared.call.PoolSize.{PoolSize};
 ghost use Rattle.trace_text.specs.declared.call.TraceCall.{TraceCall};
 ghost use Rattle.trace_text.specs.Words.{call_text};
 ghost use Rattle.trace_text.specs.Grammar.{IsPassedOver, IsAsked, IsCallLine, IsPoolLine};
 
-use crate::TraceCall;
 use crate::number::{after, read_field, whole_number};
+use crate::{PoolSize, TraceCall};
 use heap_model::Call;
 
 /// The greatest thread number.
 const LAST_THREAD: u64 = 63;
 
-/// The one arena.
-const LAST_ARENA: u64 = 0;
-
 /// The greatest root number.
 const LAST_ROOT: u64 = 0xFFFF_FFFF;
+
+/// The most arenas of a pool.
+const MOST_ARENAS: u64 = 16;
 
 /// The fewest granules of an arena, and the most.
 const FEWEST_GRANULES: u64 = 16;
@@ -30,15 +31,19 @@ pub(crate) fn is_passed_over(line: &[u8]) -> bool
     line.is_empty() || line[0] == b'#'
 }
 
-/// The granules of the pool that a line says; none where it says no pool.
-pub(crate) fn read_pool_line(line: &[u8]) -> Option<u32>
-    ensures { MatchOption result ((granules : ℕ) → ¬ (IsPoolLine line.now granules)) (λ granules. IsPoolLine line.now granules) }
+/// The pool that a line says; none where it says no pool.
+pub(crate) fn read_pool_line(line: &[u8]) -> Option<PoolSize>
+    ensures { MatchOption result ((pool : PoolSize) → ¬ (IsPoolLine line.now pool)) (λ pool. IsPoolLine line.now pool) }
 {
-    let granules = whole_number(after(line, b"pool 1 ")?, MOST_GRANULES)?;
-    if granules < FEWEST_GRANULES {
+    let (arenas, rest) = read_field(after(line, b"pool ")?, MOST_ARENAS)?;
+    let granules = whole_number(rest, MOST_GRANULES)?;
+    if arenas == 0 || granules < FEWEST_GRANULES {
         return None;
     }
-    Some(granules as u32)
+    Some(PoolSize {
+        arenas: arenas as u32,
+        granules: granules as u32,
+    })
 }
 
 /// A root and a size with a space between; none where the words are something else.
@@ -74,12 +79,13 @@ fn read_asked(words: &[u8]) -> Option<Call>
     }
 }
 
-/// The call that a line makes; none where it makes no call.
-pub(crate) fn read_call_line(line: &[u8]) -> Option<TraceCall>
-    ensures { MatchOption result ((call : TraceCall) → ¬ (IsCallLine line.now call)) (λ call. IsCallLine line.now call) }
+/// The call that a line makes in a pool of so many arenas, at least one; none where it makes no call.
+pub(crate) fn read_call_line(arenas: u32, line: &[u8]) -> Option<TraceCall>
+    requires { 1 ≤ arenas }
+    ensures { MatchOption result ((call : TraceCall) → ¬ (IsCallLine arenas line.now call)) (λ call. IsCallLine arenas line.now call) }
 {
     let (thread, rest) = read_field(line, LAST_THREAD)?;
-    let (arena, words) = read_field(rest, LAST_ARENA)?;
+    let (arena, words) = read_field(rest, u64::from(arenas) - 1)?;
     let call = read_asked(words)?;
     Some(TraceCall {
         thread: thread as u32,

@@ -1,11 +1,11 @@
 // Traces, read from their text.
 ghost use Rattle.std.specs.Prelude.{◌≡◌, ◌+◌, ◌<◌, ◌≤◌, ◌^◌, ◌∷◌, length, IfOk, IfErr, MatchResult};
 ghost use Rattle.std.specs.List.{All};
-ghost use Rattle.trace_text.specs.Grammar.{lines_of, AreCalls, IsTraceCall, IsTrace, IsRefusedLine, IfBadLine};
+ghost use Rattle.trace_text.specs.Grammar.{lines_of, AreCalls, pool_of, IsPool, IsTraceCall, IsTrace, IsRefusedLine, IfBadLine};
 ghost use Rattle.trace_text.specs.Lines.{IsBehindPool, IsRefusedCall};
 
-use crate::TraceCall;
 use crate::line::{is_passed_over, read_call_line, read_pool_line};
+use crate::{PoolSize, TraceCall};
 use pmem_lines::OutOfMemory;
 use std::alloc::Global;
 use thiserror::Error;
@@ -29,10 +29,10 @@ pub enum TraceFault {
     BadLine { line: u64 },
 }
 
-/// What stands behind the pool's line: the granules that it says, the number of lines up to it, and the rest.
+/// What stands behind the pool's line: the pool that it says, the number of lines up to it, and the rest.
 #[derive(Clone, Copy)]
 struct BehindPool<'a> {
-    granules: u32,
+    pool: PoolSize,
     many: u64,
     rest: &'a [u8],
 }
@@ -54,7 +54,7 @@ fn next_line(text: &[u8]) -> (&[u8], &[u8])
 /// The pool that a text begins with, behind lines that are passed over; the number of the line that says none where
 /// it doesn't.
 fn read_pool(text: &[u8]) -> Result<BehindPool<'_>, u64>
-    ensures { MatchResult result (λ pool. IsBehindPool text.now pool.rest.now pool.granules pool.many) (IsRefusedLine text.now) }
+    ensures { MatchResult result (λ behind. IsBehindPool text.now behind.rest.now behind.pool behind.many) (IsRefusedLine text.now) }
 {
     let mut rest = text;
     let mut many: u64 = 0;
@@ -62,8 +62,8 @@ fn read_pool(text: &[u8]) -> Result<BehindPool<'_>, u64>
         let (line, after) = next_line(rest);
         if !is_passed_over(line) {
             return match read_pool_line(line) {
-                Some(granules) => Ok(BehindPool {
-                    granules,
+                Some(pool) => Ok(BehindPool {
+                    pool,
                     many: many + 1,
                     rest: after,
                 }),
@@ -76,12 +76,18 @@ fn read_pool(text: &[u8]) -> Result<BehindPool<'_>, u64>
     Err(many + 1)
 }
 
-/// The calls that a text makes, of which as many lines stand before it.
-fn read_calls(alloc: Global, text: &[u8], before: u64) -> Result<Vec<TraceCall>, TraceFault>
-    requires { before + length text.now < 2 ^ 64 }
-    ensures calls { IfOk result (λ calls. AreCalls (lines_of text.now) calls.items) }
+/// The calls of a pool of so many arenas, at least one, that a text makes, of which as many lines stand before it.
+fn read_calls(
+    alloc: Global,
+    arenas: u32,
+    text: &[u8],
+    before: u64,
+) -> Result<Vec<TraceCall>, TraceFault>
+    requires some { 1 ≤ arenas }
+    requires short { before + length text.now < 2 ^ 64 }
+    ensures calls { IfOk result (λ calls. AreCalls arenas (lines_of text.now) calls.items) }
     ensures few { IfOk result (λ calls. length calls.items ≤ length text.now) }
-    ensures refused { IfErr result (λ fault. IfBadLine fault (IsRefusedCall text.now before)) }
+    ensures refused { IfErr result (λ fault. IfBadLine fault (IsRefusedCall arenas text.now before)) }
 {
     let mut calls = Vec::new(alloc);
     let mut rest = text;
@@ -91,7 +97,7 @@ fn read_calls(alloc: Global, text: &[u8], before: u64) -> Result<Vec<TraceCall>,
         rest = after;
         many += 1;
         if !is_passed_over(line) {
-            match read_call_line(line) {
+            match read_call_line(arenas, line) {
                 Some(call) => {
                     if calls.push(call).is_err() {
                         return Err(TraceFault::Memory(OutOfMemory));
@@ -109,25 +115,25 @@ fn read_calls(alloc: Global, text: &[u8], before: u64) -> Result<Vec<TraceCall>,
 }
 
 /// Reads the text of a trace: lines, each ended by a line feed that the last one may lack, of which those that are empty
-/// or begin with `#` are passed over. The first of the others is `pool 1 G` with G from 16 to 1024 granules, and each
-/// after it is `T 0 m R S` or `T 0 f R`: thread T, from 0 to 63, asks arena 0 for a block of S bytes, a number of 64
-/// bits, for root R, or to free the block of root R, a number of 32 bits. A text that is no trace is refused with the
-/// number of its first line outside this grammar, or, where it ends with no pool, with the number behind its last line.
+/// or begin with `#` are passed over. The first of the others is `pool A G` with A from 1 to 16 arenas of G from 16 to
+/// 1024 granules, and each after it is `T B m R S` or `T B f R`: thread T, from 0 to 63, asks arena B, below A, for a
+/// block of S bytes, a number of 64 bits, for root R, or to free the block of root R, a number of 32 bits. A text that is
+/// no trace is refused with the number of its first line outside this grammar, or, where it ends with no pool, with the
+/// number behind its last line.
 pub fn read_trace(alloc: Global, bytes: &[u8]) -> Result<Trace, TraceFault>
-    ensures trace { IfOk result (λ trace. IsTrace bytes.now trace.granules trace.calls.items) }
-    ensures arenas { IfOk result (λ trace. trace.arenas ≡ 1) }
-    ensures granules { IfOk result (λ trace. (16 ≤ trace.granules) × (trace.granules ≤ 1024)) }
-    ensures each { IfOk result (λ trace. All IsTraceCall trace.calls.items) }
+    ensures trace { IfOk result (λ trace. IsTrace bytes.now (pool_of trace) trace.calls.items) }
+    ensures pool { IfOk result (λ trace. IsPool (pool_of trace)) }
+    ensures each { IfOk result (λ trace. All (IsTraceCall trace.arenas) trace.calls.items) }
     ensures few { IfOk result (λ trace. length trace.calls.items ≤ length bytes.now) }
     ensures refused { IfErr result (λ fault. IfBadLine fault (IsRefusedLine bytes.now)) }
 {
     match read_pool(bytes) {
         Err(line) => Err(TraceFault::BadLine { line }),
-        Ok(pool) => {
-            let calls = read_calls(alloc, pool.rest, pool.many)?;
+        Ok(behind) => {
+            let calls = read_calls(alloc, behind.pool.arenas, behind.rest, behind.many)?;
             Ok(Trace {
-                arenas: 1,
-                granules: pool.granules,
+                arenas: behind.pool.arenas,
+                granules: behind.pool.granules,
                 calls,
             })
         }

@@ -6,7 +6,7 @@ use mathlib.Core.Logic.{dite}
 use native.Mathlib.Decide.{ℕ_discrete}
 use Rattle.heap_model.specs.declared.call.Entry.{Entry}
 use Rattle.shared_pool.specs.declared.job.Receipt.{Receipt}
-use Rattle.shared_pool.specs.Held.{IsServed}
+use Rattle.arena_journal.specs.Journals.{IsServed}
 use Rattle.shared_pool.specs.Passes.{PassState, PoolState, IsPassOf, nobody, part_at, Called, mine_at, first_calls}
 use Rattle.trace_workers.specs.Answers.{asked, calls_in}
 use Rattle.trace_workers.specs.Workers.{AllIn, HasDone, HasTurns, AllReady, AllOf, AllDone}

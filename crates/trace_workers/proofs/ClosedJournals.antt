@@ -10,6 +10,7 @@ use Rattle.shared_pool.specs.Passes.{PassState, PoolState, mine_at, fresh_pass, 
 use Rattle.trace_workers.specs.Answers.{asked, calls_in, AllAnswer}
 use Rattle.trace_workers.specs.Workers.{HasTurns, AllBy, AllReady, AllOf, AllDone}
 use Rattle.arena_core.specs.Arena.{ArenaState}
+use Rattle.trace_workers.proofs.Counting.{few_entries}
 use Rattle.trace_text.specs.declared.call.TraceCall.{TraceCall}
 
 below_or : (t n : ℕ) → (t < n) ⊎ (n ≤ t)
@@ -76,10 +77,10 @@ answers_from calls seats a ps [] [] all by d h = tt
 answers_from calls seats a ps [] (c ∷ cs) all by d h = h
 answers_from calls seats a ps (o ∷ os) [] all by d h = h
 answers_from calls seats a ps (o ∷ os) (c ∷ cs) all by d h = (
-  record {
-    held = h.0.held;
-    threads = λ t. threads_of seats t a calls ps c.0 (below_or t seats) all by d h.0.agree h.0.below;
-  },
+  (
+      let threads : (t : ℕ) → calls_in (calls_by t c.0) ≡ asked t a calls = λ t. threads_of seats t a calls ps c.0 (below_or t seats) all by d h.0.agree h.0.below in
+      record { behind = h.0.held; threads = threads; few = few_entries seats a calls c.0 h.0.below threads }
+      ),
   answers_from calls seats (suc a) (map behead ps) os cs (subst (λ ns. HasAll seats ns) (sym (numbers_behead ps)) all) by (from_next a calls ps d) h.1,
 )
 

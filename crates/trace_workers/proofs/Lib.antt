@@ -1,2 +1,4 @@
 mod Calls
 mod ClosedJournals
+mod Counting
+mod Replays

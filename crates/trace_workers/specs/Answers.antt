@@ -1,11 +1,11 @@
 -- What answers a trace that threads carry out.
-use Rattle.std.specs.Prelude.{◌≡◌, ℕ, suc, ◌==◌, ◌&&◌, if◌then◌else◌, List, [], ◌∷◌, map}
+use Rattle.std.specs.Prelude.{◌≡◌, ◌≤◌, ℕ, suc, ◌==◌, ◌&&◌, if◌then◌else◌, List, [], ◌∷◌, map, length}
 use Rattle.heap_model.specs.declared.call.Call.{Call}
 use Rattle.heap_model.specs.declared.call.Entry.{Entry}
 use Rattle.arena_core.specs.Arena.{ArenaState}
 use Rattle.arena_lock.specs.declared.opening.Opening.{Opening}
 use Rattle.arena_lock.specs.Journal.{calls_by}
-use Rattle.shared_pool.specs.Held.{IsHeld}
+use Rattle.arena_journal.specs.Journals.{IsBehind}
 use Rattle.trace_text.specs.declared.call.TraceCall.{TraceCall}
 
 -- what a thread asks of an arena, in order
@@ -18,10 +18,11 @@ abbrev pub calls_in : List Entry → List Call
 calls_in es = map (λ e. e.call) es
 
 -- The journal leads from the opening to the arena at the end. Of every thread it has just the calls that the thread asks of
--- the arena, in order, each once; so it has nothing else.
+-- the arena, in order, each once; so it has nothing else, and no more entries than there are calls.
 pub record IsAnswer (calls : List TraceCall) (arena : ℕ) (opening : Opening) (closed : List Entry × ArenaState) : Type 0 where
-  pub held : IsHeld opening closed.0 closed.1
+  pub behind : IsBehind opening closed.0 closed.1
   pub threads : (thread : ℕ) → calls_in (calls_by thread closed.0) ≡ asked thread arena calls
+  pub few : length closed.0 ≤ length calls
 
 -- the same of each arena, from this number on
 abbrev pub AllAnswer : List TraceCall → ℕ → List Opening → List (List Entry × ArenaState) → Type 0

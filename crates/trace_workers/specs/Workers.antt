@@ -1,6 +1,6 @@
 -- What workers need and do.
 use Rattle.std.specs.Prelude.{◌≡◌, ℕ, ◌+◌, ◌^◌, ◌<◌, ◌≤◌, List, [], ◌∷◌, length}
-use Rattle.shared_pool.specs.Held.{IsServed}
+use Rattle.arena_journal.specs.Journals.{IsServed}
 use Rattle.shared_pool.specs.Passes.{PassState, PoolState, IsPassOf, part_at, mine_at}
 use Rattle.trace_text.specs.declared.call.TraceCall.{TraceCall}
 use Rattle.trace_workers.specs.Answers.{asked, calls_in}

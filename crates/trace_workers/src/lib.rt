@@ -3,14 +3,18 @@
 // `run_trace` puts the arenas into a pool of `shared_pool`, has each thread's calls made by a worker with the pass of that
 // number, and closes the pool. What it gives answers the trace (`AllAnswer` of `specs/Answers.antt`): each arena with a
 // journal that leads to it from the arena that was handed in, and that has of each thread just the calls that the thread
-// asks of the arena, in order, each once. `Gate` is called around each call of a worker, so that a test can hold one.
+// asks of the arena, in order, each once. `replay` does it with the new arenas of the trace's pool, and writes the report:
+// journal and heap of each arena (`IsReplayed` of `specs/Reports.antt`). `Gate` is called around each call of a worker, so
+// that a test can hold one.
 #![tactic(auto)]
 
 mod gate;
+mod replaying;
 mod running;
 #[cfg(test)]
 mod tests;
 mod working;
 
 pub use gate::{Gate, OpenGate};
+pub use replaying::{Replayed, replay};
 pub use running::run_trace;

@@ -1,7 +1,7 @@
 // All workers.
 ghost use Rattle.std.specs.Prelude.{◌≡◌, ◌<◌, ◌≤◌, ◌^◌, map, length, IfOk};
 ghost use Rattle.std.specs.Thread.{IsSync};
-ghost use Rattle.shared_pool.specs.Held.{opened};
+ghost use Rattle.arena_journal.specs.Journals.{opened};
 ghost use Rattle.shared_pool.specs.Rows.{each_of};
 ghost use Rattle.trace_workers.specs.Workers.{AllIn, AllBy, AllReady, AllOf, AllDone};
 ghost use Rattle.trace_workers.specs.Answers.{AllAnswer};

@@ -1,6 +1,6 @@
 // One worker.
 ghost use Rattle.std.specs.Prelude.{◌≡◌, ◌<◌, ◌^◌, length, IfOk, IfErr};
-ghost use Rattle.shared_pool.specs.Held.{IsServed};
+ghost use Rattle.arena_journal.specs.Journals.{IsServed};
 ghost use Rattle.shared_pool.specs.Passes.{IsPassOf, part_at, Called, Refused};
 ghost use Rattle.trace_workers.specs.Workers.{AllIn, IsFresh, HasDone};
 

@@ -1,14 +1,13 @@
-use Rattle.std.proofs.Common.{arith, subst, sym, Option, List, ℕ, take}
+use Rattle.std.proofs.Common.{arith, take}
 use Rattle.std.proofs.lemmas.List.{length-take, length-drop}
-use Rattle.nvheap.specs.Outside.{Takes}
-use Rattle.nvheap.proofs.Bytes.{Takes-further, TakesFront-take}
+use Rattle.nvheap.proofs.Bytes.{Takes-further, Takes-no_more, TakesFront-take}
 use Rattle.nvheap.proofs.output.write_all.Goals as goal
 
 pub returns-in_default-clause-front : goal.returns-in_default-clause-front
 returns-in_default-clause-front g c =
     let taken = g.K.Sink.taken in
     TakesFront-take (taken c.args.sink.now) (taken c.write.new.self) c.args.text.now c.loop-done.done
-    (subst (λ (o : Option (List ℕ)). Takes (taken c.args.sink.now) o (take c.loop-done.done c.args.text.now)) (sym c.in_default.ensures.err) c.loop-done.invariant.taken)
+    (Takes-no_more (taken c.args.sink.now) (taken c.loop-done.sink) (taken c.write.new.self) (take c.loop-done.done c.args.text.now) c.loop-done.invariant.taken c.in_default.ensures.err)
 
 pub loop-done-preserved : goal.loop-done-preserved
 loop-done-preserved g c =

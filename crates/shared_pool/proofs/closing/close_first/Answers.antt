@@ -5,7 +5,7 @@ use Rattle.heap_model.specs.declared.call.Entry.{Entry}
 use Rattle.arena_lock.specs.declared.opening.Opening.{Opening}
 use Rattle.arena_lock.specs.Journal.{AllBelow}
 use Rattle.shared_pool.specs.Closed.{AllAgree}
-use Rattle.shared_pool.specs.Held.{IsHeld}
+use Rattle.arena_journal.specs.Journals.{IsBehind}
 use Rattle.shared_pool.specs.Rows.{heads, AllLong, HeadsBelong}
 use Rattle.arena_core.specs.Arena.{ArenaState}
 use Rattle.shared_pool.proofs.Closings.{long_of, at_heads, some_heads, covers_heads, agree_heads, below_since}
@@ -43,7 +43,7 @@ returns-clause-closed g c =
     let journal = c.into_parts-arena.ensures.journal in
     let start = ap (λ l. l.start) c.into_inner-lock.ensures ∙ c.requires.new.0 in
     let count = ap (λ l. l.seats) c.into_inner-lock.ensures ∙ c.requires.new.1 in record {
-      held = subst (λ (z : Opening × List Entry × ArenaState). IsHeld z.0 z.1 z.2) (λ i. (opening i, sym journal i, sym c.into_parts-arena.ensures.arena i)) c.into_parts-arena.ensures.held;
+      held = subst (λ (z : Opening × List Entry × ArenaState). IsBehind z.0 z.1 z.2) (λ i. (opening i, sym journal i, sym c.into_parts-arena.ensures.arena i)) c.into_parts-arena.ensures.held;
       below = subst (λ (z : ℕ × List Entry). AllBelow z.0 z.1) (λ i. (count i, sym journal i)) (below_since _ _ _ start c.close.ensures.since);
       agree = subst (λ (l : List Entry). AllAgree 0 P l) (sym journal)
           (agree_heads _ c.requires.fits.0 P c.close.result.journal c.requires.fits.1 (subst HeadsBelong c.as_mut_slice.ensures.value c.column.ensures.belong) (subst (λ l. AllFit c.close.result.journal l) row c.close.ensures.seats));

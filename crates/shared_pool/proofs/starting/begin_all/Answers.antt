@@ -5,7 +5,8 @@ use Rattle.crossbeam_utils.specs.Padded.{padded_value}
 use Rattle.atomic_table.specs.Seated.{TableId}
 use Rattle.heap_model.specs.declared.call.Entry.{Entry}
 use Rattle.arena_lock.specs.declared.opening.Opening.{Opening}
-use Rattle.shared_pool.specs.Held.{Held, opened}
+use Rattle.arena_journal.specs.Journals.{opened}
+use Rattle.shared_pool.specs.Value.{Held}
 use Rattle.shared_pool.specs.Rows.{each_of}
 use Rattle.shared_pool.proofs.Closings.{head_back}
 use Rattle.shared_pool.proofs.NewLocks.{begun_more, moved}

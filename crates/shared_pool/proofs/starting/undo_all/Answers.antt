@@ -5,7 +5,7 @@ use Rattle.crossbeam_utils.specs.Padded.{padded_value}
 use Rattle.atomic_table.specs.Seated.{TableId}
 use Rattle.heap_model.specs.declared.call.Entry.{Entry}
 use Rattle.arena_lock.specs.Journal.{Since}
-use Rattle.shared_pool.specs.Held.{opened}
+use Rattle.arena_journal.specs.Journals.{opened}
 use Rattle.shared_pool.specs.Rows.{each_of}
 use Rattle.shared_pool.proofs.NewLocks.{last_begun, moved, begun_some, begun_at, begun_covers, as_was}
 use Rattle.shared_pool.proofs.starting.undo_all.Goals as goal

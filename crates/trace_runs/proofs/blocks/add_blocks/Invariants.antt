@@ -2,7 +2,7 @@ use Rattle.std.proofs.Common.{◌≡◌, ◌++◌, ◌-◌}
 use Rattle.pmem_lines.specs.Pmem.{words_of}
 use Rattle.image_tables.specs.Tables.{tables_of}
 use Rattle.heap_check.specs.Heap.{heap}
-use Rattle.trace_runs.specs.Replay.{blocks_from}
+use Rattle.trace_runs.specs.Blocks.{blocks_from}
 use Rattle.trace_runs.proofs.blocks.add_blocks.Given as goal
 
 abbrev pub invariant-loop-root : goal.invariant-loop-root

@@ -1,10 +1,12 @@
-use Rattle.std.proofs.Common.{◌≡◌, ◌+◌, ℕ}
-use Rattle.trace_runs.specs.Calls.{IsNewArena}
+use Rattle.std.proofs.Common.{◌≡◌, ◌+◌, ◌≤◌}
+use Rattle.pool_layout.specs.declared.header.PoolHeader.{PoolHeader}
+use Rattle.trace_runs.specs.Arenas.{IsNewArena}
 use Rattle.trace_runs.proofs.Seeking.{Seeking}
 use Rattle.trace_runs.proofs.crashing.seek.Given as goal
 
-abbrev pub invariant-loop-i : goal.invariant-loop-i
-invariant-loop-i l = record {
-  seeking : (granules : ℕ) → IsNewArena granules l.fn.arena → Seeking granules l.calls l.event l.arena l.i l.left l.events;
+abbrev pub invariant-loop-call : goal.invariant-loop-call
+invariant-loop-call l = record {
+  seeking : (header : PoolHeader) → IsNewArena header l.fn.made → Seeking header l.arena l.calls l.event l.made l.call-index l.number l.left l.events;
   sum : l.events + l.left ≡ l.event;
+  few : l.number ≤ l.call-index;
 }

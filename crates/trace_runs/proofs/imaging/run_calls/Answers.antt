@@ -2,17 +2,19 @@ use Rattle.std.proofs.Common.{List, sym, subst}
 use Rattle.pmem_lines.specs.Pmem.{PmemState}
 use Rattle.arena_core.specs.Arena.{ArenaState}
 use Rattle.trace_text.specs.declared.call.TraceCall.{TraceCall}
-use Rattle.trace_runs.specs.Replay.{IsRunThrough}
-use Rattle.trace_runs.specs.Calls.{HasMadeAll}
-use Rattle.trace_runs.proofs.Journals.{IsRunThrough-made}
+use Rattle.trace_text.specs.Grammar.{pool_of}
+use Rattle.trace_runs.specs.Arenas.{header_for}
+use Rattle.trace_runs.specs.Calls.{calls_of, HasMadeAll}
+use Rattle.trace_runs.specs.Journals.{IsRunThrough}
+use Rattle.trace_runs.proofs.Answers.{IsRunThrough-made}
 use Rattle.trace_runs.proofs.imaging.run_calls.Goals as goal
 
 pub returns : goal.returns
 returns g c =
-    let granules = c.args.trace.now.granules in
+    let header = header_for (pool_of c.args.trace.now) c.args.arena in
     let calls = c.args.trace.now.calls.items in
-    let arena : ArenaState = c.make_calls.new.arena in
-    let made : HasMadeAll granules arena calls =
-    subst (λ (cs : List TraceCall). HasMadeAll granules arena cs) c.deref.ensures.value (c.make_calls.ensures granules c.in_ok-arena.ensures) in
-    subst (λ (s : PmemState). IsRunThrough granules calls s) (sym c.into_pmem.ensures.device)
-    (IsRunThrough-made granules arena calls made c.into_pmem.ensures.ready c.into_pmem.ensures.exact)
+    let first : ArenaState = c.in_ok-made.made in
+    let now : ArenaState = c.make_calls.new.made in
+    let made : HasMadeAll first now (calls_of c.args.arena calls) = subst (λ (cs : List TraceCall). HasMadeAll first now (calls_of c.args.arena cs)) c.deref.ensures.value c.make_calls.ensures in
+    subst (λ (s : PmemState). IsRunThrough header (calls_of c.args.arena calls) s) (sym c.into_pmem.ensures.device)
+    (IsRunThrough-made header calls c.args.arena first now c.in_ok-made.ensures c.requires.few made)

@@ -1,12 +1,13 @@
 use Rattle.std.proofs.Common.{◌≡◌, subst}
 use Rattle.pmem_lines.specs.Pmem.{PmemState, began, appended}
 use Rattle.arena_core.specs.Events.{format_events}
-use Rattle.trace_runs.specs.Replay.{header_for}
+use Rattle.trace_runs.specs.Arenas.{header_for}
 use Rattle.trace_runs.proofs.Formatting.{IsNewArena-format}
 use Rattle.trace_runs.proofs.opening.new_arena.Goals as goal
 
 pub returns : goal.returns
 returns g c =
     let device : PmemState = g.P.Pmem.state c.args.device in
-    IsNewArena-format c.args.granules device c.format.result c.requires.zeroed
-    (subst (λ n. c.format.result.device ≡ appended (began device) (format_events (header_for n))) c.in_ok-room.ensures c.format.ensures.device) c.format.ensures.line c.format.ensures.exact c.format.ensures.empty
+    IsNewArena-format (header_for c.args.pool c.args.arena) device c.format.result c.requires.zeroed
+    (subst (λ n. c.format.result.device ≡ appended (began device) (format_events (header_for (record { arenas = c.args.pool.arenas; granules = n }) c.args.arena))) c.in_ok-room.ensures c.format.ensures.device)
+    c.format.ensures.line c.format.ensures.ready c.format.ensures.exact c.format.ensures.empty

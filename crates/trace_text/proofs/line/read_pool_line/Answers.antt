@@ -1,10 +1,15 @@
-use Rattle.std.proofs.Common.{◌≡◌, sym, ◌∙◌, arith}
-use Rattle.std.specs.Prelude.{decimal}
+use Rattle.std.proofs.Common.{sym, ◌∙◌, arith}
 use Rattle.std.proofs.lemmas.Fmt.{decimal_injective}
+use Rattle.trace_text.proofs.CallLines.{behind_pool}
 use Rattle.trace_text.proofs.line.read_pool_line.Goals as goal
 
-pub returns-then-granules-lt-FEWEST_GRANULES : goal.returns-then-granules-lt-FEWEST_GRANULES
-returns-then-granules-lt-FEWEST_GRANULES c granules is =
-    let rest : c.in_ok-after.field-0.now ≡ decimal granules = (let e = sym c.in_ok-after.ensures ∙ is.text in cc) in
-    let same = decimal_injective c.in_ok-granules.granules granules (omega (arith, c.in_ok-granules.ensures.0)) (omega (arith, is.most)) (sym c.in_ok-granules.ensures.1 ∙ rest) in
-    omega (arith, same, is.least)
+pub returns-in_err-granules : goal.returns-in_err-granules
+returns-in_err-granules c = rw c.from_residual-in_err-granules.ensures (λ pool is.
+    let words = behind_pool c.args.line.now c.in_ok-after.field-0.now _ _ pool c.in_ok-after.ensures c.in_ok-arenas.ensures.0 c.in_ok-arenas.ensures.1 is in
+    c.in_err-granules.ensures pool.granules (omega (arith, is.valid.most)) words.1)
+
+pub returns-then-arenas-eq0 : goal.returns-then-arenas-eq0
+returns-then-arenas-eq0 c pool is =
+    let words = behind_pool c.args.line.now c.in_ok-after.field-0.now _ _ pool c.in_ok-after.ensures c.in_ok-arenas.ensures.0 c.in_ok-arenas.ensures.1 is in
+    let granules = decimal_injective c.in_ok-granules.granules pool.granules (omega (arith, c.in_ok-granules.ensures.0)) (omega (arith, is.valid.most)) (sym c.in_ok-granules.ensures.1 ∙ words.1) in
+    grind (arith, words.0, granules, is.valid.some, is.valid.least)

@@ -26,7 +26,7 @@ pub loop-rest-preserved-else-is_err : goal.loop-rest-preserved-else-is_err
 loop-rest-preserved-else-is_err c =
     let pushed : c.push.new.self.items ≡ c.loop-rest.calls.items ++ c.in-Some.call ∷ [] = grind (arith, common_steps) in
     record {
-      so_far = subst (λ (calls : List TraceCall). CallsSoFar (lines_of c.args.text.now) (lines_of c.next_line.result.1.now) calls (c.loop-rest.many + 1)) (sym pushed)
+      so_far = subst (λ (calls : List TraceCall). CallsSoFar c.args.arenas (lines_of c.args.text.now) (lines_of c.next_line.result.1.now) calls (c.loop-rest.many + 1)) (sym pushed)
           (one_more_call c.loop-rest.invariant.so_far c.next_line.ensures.lines c.in-Some.call c.in-Some.ensures);
       within = omega (arith, c.next_line.ensures.shorter);
       few = grind (arith, common_steps, c.next_line.ensures.shorter, pushed);

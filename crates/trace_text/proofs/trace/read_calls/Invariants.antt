@@ -5,7 +5,7 @@ use Rattle.trace_text.proofs.trace.read_calls.Given as goal
 
 abbrev pub invariant-loop-rest : goal.invariant-loop-rest
 invariant-loop-rest l = record {
-  so_far : CallsSoFar (lines_of l.text) (lines_of l.rest) l.calls.items l.many;
+  so_far : CallsSoFar l.arenas (lines_of l.text) (lines_of l.rest) l.calls.items l.many;
   within : l.many + length l.rest ≤ length l.text;
   few : length l.calls.items + length l.rest ≤ length l.text;
 }

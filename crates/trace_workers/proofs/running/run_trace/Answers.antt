@@ -2,7 +2,7 @@ use Rattle.std.proofs.Common.{rules, ◌≡◌, ℕ, ◌∙◌, ap, sym, subst, 
 use Rattle.arena_lock.specs.declared.opening.Opening.{Opening}
 use Rattle.arena_lock.specs.Known.{Lock}
 use Rattle.shared_pool.specs.Closed.{AllFitLocks, HasAll, AllClosed}
-use Rattle.shared_pool.specs.Held.{opened}
+use Rattle.arena_journal.specs.Journals.{opened}
 use Rattle.shared_pool.specs.Passes.{PassState, fresh_passes}
 use Rattle.shared_pool.specs.Rows.{each_of}
 use Rattle.trace_workers.specs.Workers.{AllReady}

@@ -1,15 +1,15 @@
 use Rattle.std.proofs.Common.{rules, ◌≡◌, [], subst, sym, List}
 use Rattle.heap_model.specs.declared.call.Entry.{Entry}
 use Rattle.arena_core.specs.Arena.{ArenaState}
-use Rattle.shared_pool.specs.Held.{opened, IsHeld}
-use Rattle.shared_pool.proofs.HeldJournals.{held_none, held_legal}
+use Rattle.arena_journal.specs.Journals.{opened, IsBehind}
+use Rattle.arena_journal.proofs.Journals.{behind_none, behind_legal}
 use Rattle.shared_pool.proofs.value.PoolArena.open.Goals as goal
 
 pub invariant_of-result : goal.invariant_of-result
 invariant_of-result g c =
     let was : c.of.result.value ≡ c.args.arena = search rules in
     let none : c.new.result.items ≡ [] = search rules in
-    subst (λ (z : ArenaState × List Entry). IsHeld (opened z.0) z.1 c.args.arena) (λ i. (sym was i, sym none i)) (held_none c.args.arena c.pmem-memory.ensures.ready c.pmem-memory.ensures.exact)
+    subst (λ (z : ArenaState × List Entry). IsBehind (opened z.0) z.1 c.args.arena) (λ i. (sym was i, sym none i)) (behind_none c.args.arena c.pmem-memory.ensures.ready c.pmem-memory.ensures.exact)
 
 pub returns-clause-legal : goal.returns-clause-legal
-returns-clause-legal g c = held_legal (opened c.of.result.value) c.new.result.items c.args.arena (invariant_of-result g c)
+returns-clause-legal g c = behind_legal (opened c.of.result.value) c.new.result.items c.args.arena (invariant_of-result g c)

@@ -1,0 +1,141 @@
+-- Journals that grow, with the arena that they lead to.
+use Rattle.std.proofs.Common.{◌≡◌, ◌≢◌, ◌⊎◌, inl, inr, ℕ, suc, ◌+◌, Bool, true, false, if◌then◌else◌, List, [], ◌∷◌, ◌++◌, refl, ap, sym, ◌∙◌, subst, arith}
+use Rattle.pmem_lines.specs.Pmem.{PmemState, words_of, risen}
+use Rattle.pmem_lines.specs.Events.{CrashOnly}
+use Rattle.heap_model.specs.declared.call.Call.{Call}
+use Rattle.heap_model.specs.declared.call.Call.TheVariants.{Malloc, Free, Write, Read, Move}
+use Rattle.heap_model.specs.declared.call.Entry.{Entry}
+use Rattle.heap_model.specs.Policy.{plain}
+use Rattle.heap_model.specs.Machine.{Bounds, Machine}
+use Rattle.heap_model.specs.Placement.{bare, IsPlacedStep}
+use Rattle.heap_model.specs.Journal.{Leads, IsPlacedEntry}
+use Rattle.heap_check.specs.Image.{bounds_of, IsExactImage}
+use Rattle.heap_check.specs.State.{HasState, IsEitherHeap}
+use Rattle.heap_check.proofs.ExactStates.{law_of_exact_state}
+use Rattle.arena_core.specs.Arena.{ArenaState}
+use Rattle.arena_core.specs.Call.{IsReady}
+use Rattle.arena_core.specs.Events.{call_events, line_after}
+use Rattle.arena_lock.specs.declared.opening.Opening.{Opening}
+use Rattle.arena_lock.specs.Legality.{opening_words, machine_in, IsLegal}
+use Rattle.arena_journal.specs.Journals.{opened, IsServed, begins_call, begun_by, line_behind, IsUntouched, IsBehindCall, IsBehind, HasAnswered}
+
+-- an entry more leads on
+leads_more : {State : Type 0} (Steps : State → Entry → State → Type 0) (m middle next : State) (journal : List Entry) (e : Entry) → Leads Steps m journal middle → Steps middle e next → Leads Steps m (journal ++ e ∷ []) next
+leads_more Steps m middle next [] e h s = (next, subst (λ n. Steps n e next) h s, refl)
+leads_more Steps m middle next (x ∷ xs) e h s = (h.0, h.1, leads_more Steps h.0 middle next xs e h.2 s)
+
+line_more : (line : ℕ) (journal : List Entry) (e : Entry) → line_behind line (journal ++ e ∷ []) ≡ line_after (line_behind line journal) e.reply
+line_more line [] e = refl
+line_more line (x ∷ xs) e = line_more (line_after line x.reply) xs e
+
+-- how many entries are no Read
+
+count_if : (b : Bool) (m n : ℕ) → (if b then suc (m + n) else m + n) ≡ (if b then suc m else m) + n
+count_if true m n = let e : suc (m + n) ≡ suc m + n = omega arith in e
+count_if false m n = refl
+
+begun_append : (xs ys : List Entry) → begun_by (xs ++ ys) ≡ begun_by xs + begun_by ys
+begun_append [] ys = let e : begun_by ys ≡ 0 + begun_by ys = omega arith in e
+begun_append (x ∷ xs) ys = ap (λ (n : ℕ). if begins_call x.call then suc n else n) (begun_append xs ys) ∙ count_if (begins_call x.call) (begun_by xs) (begun_by ys)
+
+one_begun : (e : Entry) (b : Bool) → begins_call e.call ≡ b → begun_by (e ∷ []) ≡ (if b then 1 else 0)
+one_begun e b is = ap (λ (z : Bool). if z then 1 else 0) is
+
+risen_one : (b n : ℕ) → risen (risen b n) 1 ≡ risen b (n + 1)
+risen_one b n = omega arith
+
+risen_none : (b : ℕ) → b ≡ risen b 0
+risen_none b = omega arith
+
+-- each call that is served begins one on the memory
+pub served_begins : (c : Call) → IsServed c → begins_call c ≡ true
+served_begins (Malloc root size) h = refl
+served_begins (Free root) h = refl
+served_begins (Write root index word) h = absurd h
+served_begins (Read root index) h = absurd h
+served_begins (Move from to) h = absurd h
+
+-- nothing was asked yet
+pub behind_none : (a : ArenaState) → IsReady a.device → IsExactImage (words_of a.device) → IsBehind (opened a) [] a
+behind_none a ready exact =
+    let state : HasState (words_of a.device) (machine_in (words_of a.device)) = record { blocks = λ root. refl; slabs = λ start. refl; values = λ root index word e. absurd (cc e) } in record {
+      machine = machine_in (words_of a.device);
+      leads = refl;
+      state = state;
+      apart = law_of_exact_state (words_of a.device) (machine_in (words_of a.device)) exact state;
+      ready = ready;
+      exact = exact;
+      bounds = refl;
+      line = refl;
+      begins = risen_none a.device.begins;
+      last = inl (record { none = refl; same = refl });
+    }
+
+-- a call more that is no Read
+module _ (o : Opening) (journal : List Entry) (old new : ArenaState) (e : Entry) (held : IsBehind o journal old) (begins : begins_call e.call ≡ true) (answered : HasAnswered e.seat old new e.call e.reply) where
+  base : words_of old.device ≡ new.device.base
+  base = sym (ap (λ (s : PmemState). s.base) answered.device)
+
+  found : (next : Machine) × IsPlacedStep plain (bounds_of (opening_words o)) e.seat (bare held.machine) e.call e.reply (bare next) × HasState (words_of new.device) next
+  found = let f = answered.step.each held.machine held.state in (f.0, subst (λ (b : Bounds). IsPlacedStep plain b e.seat (bare held.machine) e.call e.reply (bare f.0)) held.bounds f.1, f.2)
+
+  events : new.device.events ≡ call_events (words_of old.device) (line_behind o.next_line journal) e.call e.reply
+  events = ap (λ (s : PmemState). s.events) answered.device ∙ ap (λ line. call_events (words_of old.device) line e.call e.reply) held.line
+
+  behind : IsBehindCall o (journal ++ e ∷ []) new
+  behind = record {
+    before = journal;
+    entry = e;
+    reads = [];
+    is = refl;
+    begins = begins;
+    none = refl;
+    machine = held.machine;
+    leads = held.leads;
+    exact = subst IsExactImage base answered.was_exact;
+    state = subst (λ (words : List ℕ). HasState words held.machine) base held.state;
+    events = subst (λ (words : List ℕ). new.device.events ≡ call_events words (line_behind o.next_line journal) e.call e.reply) base events;
+    crash = subst (λ (words : List ℕ). CrashOnly new.device.base new.device.events (IsEitherHeap words (words_of new.device))) base answered.crash;
+  }
+
+  count : begun_by (journal ++ e ∷ []) ≡ begun_by journal + 1
+  count = begun_append journal (e ∷ []) ∙ ap (λ n. begun_by journal + n) (one_begun e true begins)
+
+  begun : new.device.begins ≡ risen o.begins (begun_by (journal ++ e ∷ []))
+  begun = ap (λ (s : PmemState). s.begins) answered.device ∙ (ap (λ n. risen n 1) held.begins ∙ (risen_one o.begins (begun_by journal) ∙ ap (risen o.begins) (sym count)))
+
+  pub behind_more : IsBehind o (journal ++ e ∷ []) new
+  behind_more = record {
+    machine = found.0;
+    leads = leads_more (IsPlacedEntry plain (bounds_of (opening_words o))) _ (bare held.machine) (bare found.0) journal e held.leads found.1;
+    state = found.2;
+    apart = law_of_exact_state (words_of new.device) found.0 answered.exact found.2;
+    ready = answered.ready;
+    exact = answered.exact;
+    bounds = answered.step.bounds ∙ held.bounds;
+    line = answered.line ∙ (ap (λ line. line_after line e.reply) held.line ∙ sym (line_more o.next_line journal e));
+    begins = begun;
+    last = inr behind;
+  }
+
+none_of : (xs ys : List Entry) (e : Entry) → [] ≢ xs ++ e ∷ ys
+none_of [] ys e h = absurd (cc h)
+none_of (x ∷ xs) ys e h = absurd (cc h)
+
+untouched : (o : Opening) (now : ArenaState) → IsUntouched o [] now ⊎ IsBehindCall o [] now → opened now ≡ o
+untouched o now (inl u) = ap opened u.same
+untouched o now (inr c) = absurd (none_of c.before c.reads c.entry c.is)
+
+-- where no call was made the arena is as it was
+pub behind_still : (o : Opening) (now : ArenaState) → IsBehind o [] now → opened now ≡ o
+behind_still o now h = untouched o now h.last
+
+pub behind_legal : (o : Opening) (journal : List Entry) (now : ArenaState) → IsBehind o journal now → IsLegal o journal
+behind_legal o journal now h = (bare h.machine, h.leads)
+
+-- the same of an entry that tells of its seat and its call
+pub behind_answered : (o : Opening) (journal : List Entry) (old new : ArenaState) (seat : ℕ) (call : Call) (e : Entry) → IsBehind o journal old → IsServed call → e.seat ≡ seat → e.call ≡ call →
+    HasAnswered seat old new call e.reply → IsBehind o (journal ++ e ∷ []) new
+behind_answered o journal old new seat call e behind served is_seat is_call answered =
+    behind_more o journal old new e behind (subst (λ (c : Call). begins_call c ≡ true) (sym is_call) (served_begins call served))
+    (subst (λ (s : ℕ). HasAnswered s old new e.call e.reply) (sym is_seat) (subst (λ (c : Call). HasAnswered seat old new c e.reply) (sym is_call) answered))

@@ -1,0 +1,108 @@
+-- What a journal says of the arena that it is of: the opening, which is the arena as the journal began, the entries since,
+-- and the arena as it is now.
+use Rattle.std.specs.Prelude.{◌≡◌, ◌⊎◌, ℕ, suc, Bool, true, false, if◌then◌else◌, List, [], ◌∷◌, ◌++◌}
+use Rattle.pmem_lines.specs.Events.{CrashOnly}
+use Rattle.pmem_lines.specs.Pmem.{words_of, began, appended, risen}
+use Rattle.heap_model.specs.declared.call.Call.{Call}
+use Rattle.heap_model.specs.declared.call.Call.TheVariants.{Malloc, Free, Write, Read, Move}
+use Rattle.heap_model.specs.declared.call.Reply.{Reply}
+use Rattle.heap_model.specs.declared.call.Entry.{Entry}
+use Rattle.heap_model.specs.Machine.{Machine, IsOverlapFree}
+use Rattle.heap_model.specs.Placement.{bare}
+use Rattle.heap_check.specs.Image.{bounds_of, IsExactImage}
+use Rattle.heap_check.specs.State.{HasState, KeepsBlocks, IsEitherHeap}
+use Rattle.arena_core.specs.Arena.{ArenaState}
+use Rattle.arena_core.specs.Call.{IsReady, IsStepOf}
+use Rattle.arena_core.specs.Events.{call_events, line_after}
+use Rattle.arena_lock.specs.declared.opening.Opening.{Opening}
+use Rattle.arena_lock.specs.Legality.{opening_words, LeadsTo}
+
+-- openings
+
+-- an arena as the state that a journal begins at, and back
+abbrev pub opened : ArenaState → Opening
+opened a = record { base = a.device.base; events = a.device.events; room = a.device.room; begins = a.device.begins; made = a.device.made; next_line = a.line }
+
+abbrev pub arena_of : Opening → ArenaState
+arena_of o = record { device = record { base = o.base; events = o.events; room = o.room; begins = o.begins; made = o.made }; line = o.next_line }
+
+-- calls
+
+-- an arena serves these calls
+abbrev pub IsServed : Call → Type 0
+IsServed (Malloc root size) = Unit {0}
+IsServed (Free root) = Unit {0}
+IsServed (Write root index word) = ⊥
+IsServed (Read root index) = ⊥
+IsServed (Move from to) = ⊥
+
+-- the call begins one on the memory: all but a Read do
+abbrev pub begins_call : Call → Bool
+begins_call (Malloc root size) = true
+begins_call (Free root) = true
+begins_call (Write root index word) = true
+begins_call (Read root index) = false
+begins_call (Move from to) = true
+
+-- how many entries are no Read
+abbrev pub begun_by : List Entry → ℕ
+begun_by [] = 0
+begun_by (e ∷ es) = if begins_call e.call then suc (begun_by es) else begun_by es
+
+-- the write-ahead line of the next entry, behind calls before which it was this one
+abbrev pub line_behind : ℕ → List Entry → ℕ
+line_behind line [] = line
+line_behind line (e ∷ es) = line_behind (line_after line e.reply) es
+
+-- the arena and its journal
+
+-- every entry is a Read, and the arena is as it was handed over
+pub record IsUntouched (o : Opening) (journal : List Entry) (now : ArenaState) : Type 0 where
+  pub none : begun_by journal ≡ 0
+  pub same : now ≡ arena_of o
+
+-- The memory went through the last call that is no Read: its base is exact, with the state that the entries before lead
+-- to, and its events are that call's, at the write-ahead line that those entries lead to. A crash within it leaves the
+-- heap before it or after it.
+pub record IsBehindCall (o : Opening) (journal : List Entry) (now : ArenaState) : Type 0 where
+  pub before : List Entry
+  pub entry : Entry
+  pub reads : List Entry
+  pub is : journal ≡ before ++ entry ∷ reads
+  pub begins : begins_call entry.call ≡ true
+  pub none : begun_by reads ≡ 0
+  pub machine : Machine
+  pub leads : LeadsTo o before (bare machine)
+  pub exact : IsExactImage now.device.base
+  pub state : HasState now.device.base machine
+  pub events : now.device.events ≡ call_events now.device.base (line_behind o.next_line before) entry.call entry.reply
+  pub crash : CrashOnly now.device.base now.device.events (IsEitherHeap now.device.base (words_of now.device))
+
+-- The journal leads from the opening to the arena as it is: to its blocks, slabs and words, with all stacks empty, to its
+-- write-ahead line, and to its count of begun calls. No two blocks overlap, and the memory is quiet and exact. Base and
+-- events are those of the last call that is no Read, or those of the opening.
+pub record IsBehind (o : Opening) (journal : List Entry) (now : ArenaState) : Type 0 where
+  pub machine : Machine
+  pub leads : LeadsTo o journal (bare machine)
+  pub state : HasState (words_of now.device) machine
+  pub apart : IsOverlapFree (bounds_of (words_of now.device)) machine
+  pub ready : IsReady now.device
+  pub exact : IsExactImage (words_of now.device)
+  pub bounds : bounds_of (words_of now.device) ≡ bounds_of (opening_words o)
+  pub line : now.line ≡ line_behind o.next_line journal
+  pub begins : now.device.begins ≡ risen o.begins (begun_by journal)
+  pub last : IsUntouched o journal now ⊎ IsBehindCall o journal now
+
+-- one call
+
+-- From an exact image the arena answered a call of a seat: a step of the machine, with exactly the events of the call.
+-- Every other block keeps its words. A crash within it leaves the heap before it or after it.
+pub record HasAnswered (seat : ℕ) (old new : ArenaState) (call : Call) (reply : Reply) : Type 0 where
+  pub step : IsStepOf seat (words_of old.device) (words_of new.device) call reply
+  pub device : new.device ≡ appended (began old.device) (call_events (words_of old.device) old.line call reply)
+  pub line : new.line ≡ line_after old.line reply
+  pub keeps : KeepsBlocks (words_of old.device) (words_of new.device)
+  pub was_exact : IsExactImage (words_of old.device)
+  pub exact : IsExactImage (words_of new.device)
+  pub ready : IsReady new.device
+  pub crash : CrashOnly new.device.base new.device.events (IsEitherHeap (words_of old.device) (words_of new.device))

@@ -1,0 +1,16 @@
+use Rattle.std.proofs.Common.{arith, refl}
+use Rattle.trace_text.specs.declared.call.Refusal.TheVariants.{BadLine, NoArena, NoEvent}
+use Rattle.trace_text.specs.Grammar.{pool_of}
+use Rattle.trace_runs.specs.Crash.{left_of}
+use Rattle.nvheap.specs.declared.cause.Cause.TheVariants.{Trace}
+use Rattle.nvheap.specs.declared.command.Command.TheVariants.{Crash}
+use Rattle.nvheap.specs.Ends.{IsAnswer, IsFaultLine}
+use Rattle.nvheap.proofs.Answering.{IfOk-more, IsAnswer-refused}
+use Rattle.nvheap.proofs.crashing.crash_answer.Goals as goal
+
+pub returns-in-Err-BadLine-clause-answer : goal.returns-in-Err-BadLine-clause-answer
+returns-in-Err-BadLine-clause-answer g c =
+    let command = Crash c.args.arena c.args.event c.args.seed in
+    let places = g.H.Shelf.places c.args.shelf.now in
+    IfOk-more c.fault_line.result (IsFaultLine (Trace (BadLine c.in-Err-BadLine.line))) (IsAnswer command c.args.input.now places places)
+    (λ answer line. IsAnswer-refused command c.args.input.now places (Trace (BadLine c.in-Err-BadLine.line)) answer (rw c.in-Err-BadLine.field-0-is at c.in-Err-BadLine.ensures.refused) line) c.fault_line.ensures

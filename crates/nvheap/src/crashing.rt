@@ -1,0 +1,87 @@
+// What `crash` has to say of its input, and the device that it leaves.
+ghost use Rattle.std.specs.Prelude.{◌≡◌, ◌<◌, IfOk, OnErr};
+ghost use Rattle.image_tables.specs.Tables.{tables_of};
+ghost use Rattle.heap_check.specs.Heap.{heap};
+ghost use Rattle.heap_check.specs.Image.{IsSoundImage};
+ghost use Rattle.trace_text.specs.Report.{crash_text};
+ghost use Rattle.trace_runs.specs.Blocks.{blocks_of};
+ghost use Rattle.nvheap.specs.declared.command.Command.TheVariants as commands;
+ghost use Rattle.nvheap.specs.Answers.{PutsRecovered};
+ghost use Rattle.nvheap.specs.Ends.{IsAnswer};
+
+use crate::answers::{Answer, fault_line};
+use crate::cause::Cause;
+use crate::shelf::Shelf;
+use image_runs::recover_heap;
+use pmem_lines::OutOfMemory;
+use recover::RecoverFault;
+use std::alloc::Global;
+use trace_runs::{CrashFault, Crashed, crash};
+use trace_text::{Refusal, TraceFault, read_trace, write_crash};
+
+const ROOM: u32 = 2048;
+
+/// The report of what a crash leaves after an event of the calls of an arena of a trace. The image is recovered on a device
+/// of the shelf, which is put into the place of the arena's number; its heap is reported.
+pub(crate) fn crash_answer<H: Shelf>(
+    alloc: Global,
+    input: &[u8],
+    arena: u32,
+    event: u64,
+    seed: u64,
+    shelf: &mut H,
+) -> Result<Answer, OutOfMemory>
+    ensures answer { IfOk result (IsAnswer (commands.Crash arena event seed) input.now (H.places shelf.old) (H.places shelf.new)) }
+    ensures kept { OnErr result (H.places shelf.new ≡ H.places shelf.old) }
+{
+    let trace = match read_trace(alloc, input) {
+        Ok(trace) => trace,
+        Err(TraceFault::Memory(fault)) => return Err(fault),
+        Err(TraceFault::BadLine { line }) => return fault_line(
+            alloc,
+            Cause::Trace(Refusal::BadLine { line }),
+        ),
+    };
+    if arena >= trace.arenas {
+        return fault_line(
+            alloc,
+            Cause::Trace(Refusal::NoArena {
+                arena: u64::from(arena),
+                arenas: u64::from(trace.arenas),
+            }),
+        );
+    }
+    match crash(alloc, &trace, arena, event, seed) {
+        Ok(crashed) => Ok(Answer::Output(recovered_report(alloc, &crashed, arena, shelf)?)),
+        Err(CrashFault::NoEvent { events }) => fault_line(
+            alloc,
+            Cause::Trace(Refusal::NoEvent { event, events }),
+        ),
+        Err(CrashFault::Memory(fault)) => Err(fault),
+    }
+}
+
+// Recovers the image that a crash left, and reports its heap.
+fn recovered_report<H: Shelf>(
+    alloc: Global,
+    crashed: &Crashed,
+    arena: u32,
+    shelf: &mut H,
+) -> Result<Vec<u8>, OutOfMemory>
+    requires sound { IsSoundImage crashed.now.image.items }
+    requires arena { arena < 16 }
+    ensures text { IfOk result (λ text. text.items ≡ crash_text crashed.now.call crashed.now.side (blocks_of (heap (tables_of crashed.now.image.items)))) }
+    ensures put { IfOk result (λ _. PutsRecovered crashed.now.image.items arena (H.places shelf.old) (H.places shelf.new)) }
+    ensures kept { OnErr result (H.places shelf.new ≡ H.places shelf.old) }
+{
+    let device = shelf.take_image(alloc, &crashed.image, ROOM)?;
+    let recovered = match recover_heap(alloc, device) {
+        Ok(recovered) => recovered,
+        Err(RecoverFault::Memory(fault)) => return Err(fault),
+        Err(RecoverFault::Defect(_)) => unreachable!(),
+    };
+    let mut text = Vec::new(alloc);
+    write_crash(&mut text, crashed.call, crashed.side, &recovered.blocks)?;
+    shelf.put(arena, recovered.device);
+    Ok(text)
+}

@@ -1,0 +1,62 @@
+// Runs from readers and to writers of the standard library.
+use crate::runs::ends;
+use nvheap::{ReadSource, Status, WriteSink};
+use std::io;
+use std::io::Read;
+use std::test::Fail;
+
+const TRACE: &str = "pool 1 16\n0 0 m 5 100\n";
+
+const REPORT: &str = "arena 0 calls 1\n0 m 5 100 placed 67584 112\nheap 1\n5 67584 112\n";
+
+// Gives its bytes, and then fails.
+#[derive(Drop)]
+struct Torn<'a> {
+    bytes: &'a [u8],
+}
+
+impl Read for Torn<'_> {
+    fn read(&mut self, into: &mut [u8]) -> io::Result<usize> {
+        match self.bytes.read(into)? {
+            0 => Err(io::Error::from(io::ErrorKind::Other)),
+            n => Ok(n),
+        }
+    }
+}
+
+#[test]
+fn reads_piece_by_piece_and_writes(rt: HostRuntime) -> Result<(), Fail> {
+    let (first, second) = TRACE.as_bytes().split_at(12);
+    let mut source = ReadSource::new(first.chain(second));
+    let mut written = Vec::new(rt.alloc());
+    let mut sink = WriteSink::new(&mut written);
+    let status = ends(&rt, rt.alloc(), "replay", &mut source, &mut sink)?;
+    assert_eq!(rt; status, Status::Done);
+    assert_eq!(rt; written.as_slice(), REPORT.as_bytes());
+    Ok(())
+}
+
+#[test]
+fn a_reader_that_fails_is_a_read_fault(rt: HostRuntime) -> Result<(), Fail> {
+    let mut source = ReadSource::new(Torn {
+        bytes: TRACE.as_bytes(),
+    });
+    let mut written = Vec::new(rt.alloc());
+    let mut sink = WriteSink::new(&mut written);
+    let status = ends(&rt, rt.alloc(), "replay", &mut source, &mut sink)?;
+    assert_eq!(rt; status, Status::ReadFault);
+    assert_eq!(rt; written.len(), 0);
+    Ok(())
+}
+
+// A write that takes nothing is a fault.
+#[test]
+fn a_writer_without_room_is_a_write_fault(rt: HostRuntime) -> Result<(), Fail> {
+    let mut source = ReadSource::new(TRACE.as_bytes());
+    let mut room = [0u8; 10];
+    let mut sink = WriteSink::new(&mut room[..]);
+    let status = ends(&rt, rt.alloc(), "replay", &mut source, &mut sink)?;
+    assert_eq!(rt; status, Status::WriteFault);
+    assert_eq!(rt; room.as_slice(), b"arena 0 ca".as_slice());
+    Ok(())
+}

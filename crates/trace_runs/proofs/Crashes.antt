@@ -1,0 +1,99 @@
+-- What a crash within the call that a device went through last leaves.
+use Rattle.std.proofs.Common.{◌≡◌, ◌≢◌, ◌↔◌, ℕ, zero, suc, ◌/◌, ◌<◌, ◌≤◌, Bool, IsTrue, List, [], ◌∷◌, ◌++◌, length, take, sym, ap, ◌∙◌, refl, arith, subst}
+use Rattle.std.proofs.lemmas.List.{take_all}
+use Rattle.pmem_lines.specs.Words.{word_at, words_at}
+use Rattle.pmem_lines.specs.Events.{IsImage}
+use Rattle.pmem_lines.specs.Pmem.{PmemState, words_of}
+use Rattle.pmem_lines.specs.declared.event.Event.{Event}
+use Rattle.pool_layout.specs.declared.header.PoolHeader.{PoolHeader}
+use Rattle.pool_layout.specs.Places.{root_word}
+use Rattle.heap_model.specs.declared.call.Call.{Call}
+use Rattle.heap_model.specs.declared.call.Call.TheVariants.{Malloc, Free, Write, Read, Move}
+use Rattle.heap_model.specs.declared.call.Entry.{Entry}
+use Rattle.heap_model.specs.declared.call.Reply.{Reply}
+use Rattle.heap_model.specs.declared.call.Reply.TheVariants.{Placed, Freed}
+use Rattle.heap_model.specs.Step.{root_of}
+use Rattle.arena_core.specs.Arena.{ArenaState}
+use Rattle.arena_core.specs.Events.{call_events}
+use Rattle.heap_check.specs.State.{IsEitherHeap}
+use Rattle.trace_text.specs.declared.call.CrashSide.TheVariants.{Same}
+use Rattle.trace_text.specs.declared.call.TraceCall.{TraceCall}
+use Rattle.trace_text.specs.Grammar.{IsAsked}
+use Rattle.trace_runs.specs.Arenas.{IsNewArena}
+use Rattle.trace_runs.specs.Crash.{Stage, IsRunOf, calls_up_to, CrashLeft, IsCrashOf, IsLeftWithin, crash_image}
+use Rattle.trace_runs.specs.Blocks.{ChangesHeap, gives_block, side_of}
+use Rattle.trace_runs.specs.Seek.{last_stage, IsBehindEntry, IsBehindSought, IsBehindAll}
+use Rattle.trace_runs.proofs.Changes.{IsChange, IsChange-step, IsSide-told, heap-some, heap-zero, zero_or}
+
+-- of the calls that a trace may ask for, those that have events change the heap
+changes_by : (words : List ℕ) (line : ℕ) (call : Call) (reply : Reply) (events : List Event) → IsAsked call → 0 < length events → events ≡ call_events words line call reply → ChangesHeap reply
+changes_by words line (Malloc root size) (Placed at given) events asked some is = tt
+changes_by words line (Malloc root size) (Freed at given) events asked some is = tt
+changes_by words line (Malloc root size) reply events asked some is = absurd (omega (arith, some, ap length is))
+changes_by words line (Free root) (Placed at given) events asked some is = tt
+changes_by words line (Free root) (Freed at given) events asked some is = tt
+changes_by words line (Free root) reply events asked some is = absurd (omega (arith, some, ap length is))
+changes_by words line (Write root index word) reply events asked some is = absurd asked
+changes_by words line (Read root index) reply events asked some is = absurd asked
+changes_by words line (Move from to) reply events asked some is = absurd asked
+
+pub changes_behind : (device : PmemState) (entry : Entry) → IsBehindEntry device entry → ChangesHeap entry.reply
+changes_behind device entry behind = changes_by device.base behind.line entry.call entry.reply device.events behind.asked behind.some behind.events
+
+-- the call changed the heap at its root, and an image that a crash leaves has the heap before it or after it
+pub record IsChanged (device : PmemState) (entry : Entry) (image : List ℕ) : Type 0 where
+  pub change : IsChange device.base (words_of device) (root_of entry.call) (gives_block entry.reply)
+  pub either : IsEitherHeap device.base (words_of device) image
+
+pub IsChanged-behind : (device : PmemState) (entry : Entry) (done : ℕ) (image : List ℕ) → IsBehindEntry device entry → IsImage device.base (take done device.events) image → IsChanged device entry image
+IsChanged-behind device entry done image behind one = record {
+  change = IsChange-step entry.seat device.base (words_of device) entry.call entry.reply behind.exact behind.step (changes_behind device entry behind);
+  either = behind.crash.each done image one;
+}
+
+-- what is left, by whether the call's root has a block in the image
+pub IsLeftWithin-told : (device : PmemState) (entry : Entry) (number done seed : ℕ) (image : List ℕ) (has : Bool) → IsChanged device entry image → image ≡ crash_image (last_stage device) done seed →
+    (IsTrue has ↔ (word_at image (root_word (root_of entry.call)) ≢ 0)) → IsLeftWithin (last_stage device) number done seed (record { call = number; side = side_of has (gives_block entry.reply); image = image })
+IsLeftWithin-told device entry number done seed image has changed is reads =
+    let root = root_of entry.call in
+    let formed = changed.either.steady.formed in
+    record {
+      call = refl;
+      image = is;
+      steady = changed.either.steady;
+      side = IsSide-told device.base (words_of device) image root (gives_block entry.reply) has changed.change changed.either.heap
+          (λ some. heap-some image root formed changed.either.still changed.change.below (reads.0 some))
+          (λ none. heap-zero image root formed changed.either.still changed.change.below (zero_or has (word_at image (root_word root)) none reads.1));
+    }
+
+-- the calls up to and with one that has a number
+calls_up_to-some : (n : ℕ) (calls : List TraceCall) → 0 < n → calls_up_to n calls ≡ take n calls
+calls_up_to-some zero calls some = absurd (omega arith)
+calls_up_to-some (suc n) calls some = refl
+
+-- what a crash within the call under way leaves is what the crash leaves
+pub IsCrashOf-within : (header : PoolHeader) (calls : List TraceCall) (event seed : ℕ) (device : PmemState) (number done : ℕ) (left : CrashLeft) →
+    IsBehindSought header calls event device number done → IsLeftWithin (last_stage device) number done seed left → IsCrashOf header calls event seed left
+IsCrashOf-within header calls event seed device number done left sought within =
+    let stages : List Stage = sought.before ++ last_stage device ∷ [] in
+    record {
+      stages = stages;
+      run = subst (λ (n : ℕ). IsRunOf header (calls_up_to n calls) stages) (sym within.call) (subst (λ (cs : List TraceCall). IsRunOf header cs stages) (sym (calls_up_to-some number calls sought.some)) sought.run);
+      within = sought.within;
+      leaves = sought.leaves seed left within;
+    }
+
+-- with no call under way it is the formatted arena
+pub IsCrashOf-idle : (header : PoolHeader) (calls : List TraceCall) (event seed : ℕ) (arena : ArenaState) (events : ℕ) → IsNewArena header arena → IsBehindAll header calls event events → event ≤ events →
+    IsCrashOf header calls event seed (record { call = 0; side = Same; image = words_of arena.device })
+IsCrashOf-idle header calls event seed arena events new behind few = record {
+  stages = behind.stages;
+  run = behind.run;
+  within = omega (arith, behind.total, few);
+  leaves = behind.leaves few seed _ (record { done = refl; no_call = refl; no_side = refl; image = new.words });
+}
+
+-- all words of a memory
+pub all_words : (words : List ℕ) (n : ℕ) → n ≡ length words → words_at words (0 / 8) n ≡ words
+unfolding words_at
+all_words words n is = ap (λ m. take m words) is ∙ take_all (length words) words (omega arith)
