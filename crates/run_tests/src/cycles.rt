@@ -1,7 +1,7 @@
 // Images that `image` makes of a trace, and what `check` and `recover` write of them.
 use crate::images::{ONE_BLOCK, Run, both_tell, image_of};
 use crate::runs::{ends_and_writes, tells};
-use crate::traces::{MIXED, REPEATS, ROLLS, WRITES_ANEW, expanded};
+use crate::traces::{MIXED, REPEATS, ROLLS, SIXTEEN_ARENAS, TWO_ARENAS, WRITES_ANEW, expanded};
 use nvheap::Status;
 use std::alloc::Global;
 use std::sync::Wait;
@@ -32,6 +32,25 @@ fn reads_heaps_off_a_report(rt: HostRuntime) -> Result<(), Fail> {
     Ok(())
 }
 
+// What `check` writes of `SIXTEEN_ARENAS`.
+const SIXTEEN: &str = "arena 0 large 1 slabs 0 blocks 1 loose 0
+arena 1 large 0 slabs 0 blocks 0 loose 0
+arena 2 large 0 slabs 0 blocks 0 loose 0
+arena 3 large 0 slabs 0 blocks 0 loose 0
+arena 4 large 0 slabs 0 blocks 0 loose 0
+arena 5 large 0 slabs 0 blocks 0 loose 0
+arena 6 large 0 slabs 0 blocks 0 loose 0
+arena 7 large 0 slabs 0 blocks 0 loose 0
+arena 8 large 0 slabs 0 blocks 0 loose 0
+arena 9 large 0 slabs 0 blocks 0 loose 0
+arena 10 large 0 slabs 0 blocks 0 loose 0
+arena 11 large 0 slabs 0 blocks 0 loose 0
+arena 12 large 0 slabs 0 blocks 0 loose 0
+arena 13 large 0 slabs 0 blocks 0 loose 0
+arena 14 large 0 slabs 0 blocks 0 loose 0
+arena 15 large 0 slabs 1 blocks 1 loose 0
+";
+
 // Each trace has its image checked, and recovered to the heaps of its report. The counts are those of the trace: large
 // blocks, slabs, and all blocks; what calls leave has nothing loose.
 #[test]
@@ -46,6 +65,11 @@ fn heaps_come_back(rt: HostRuntime) -> Result<(), Fail> {
         (ROLLS, "arena 0 large 0 slabs 0 blocks 0 loose 0\n"),
         (WRITES_ANEW, "arena 0 large 17 slabs 0 blocks 17 loose 0\n"),
         (REPEATS, "arena 0 large 1 slabs 0 blocks 1 loose 0\n"),
+        (
+            TWO_ARENAS,
+            "arena 0 large 0 slabs 1 blocks 2 loose 0\narena 1 large 1 slabs 1 blocks 2 loose 0\n",
+        ),
+        (SIXTEEN_ARENAS, SIXTEEN),
     ];
     for (text, counts) in rows {
         let trace = expanded(rt.alloc(), text)?;

@@ -2,15 +2,18 @@
 // what it writes, worked by hand.
 //
 // The crate has no code. It stands apart from `nvheap`, since a crate with tests is proved twice. `rows` has short
-// traces, `logs` traces that fill an arena's log (`traces` has them), `crashes` a crash at every event of some calls,
-// `cycles` traces whose image is checked and recovered, `words` what is left on the device. `images` makes images, and
-// has how `check` and `recover` run over them: `entries` with open entries, `transition` of a slab that takes another
-// class, `defects` with a defect, `pools` of several arenas and of wrong lengths. `faults` has sources and sinks that
-// fail, `adapters` readers and writers of the standard library, and `runs` how they all run.
+// traces, `arenas` traces of several arenas and threads, `logs` traces that fill an arena's log (`traces` has them),
+// `crashes` a crash at every event of some calls, `cycles` traces whose image is checked and recovered, `words` what is
+// left on the device. `images` makes images, and has how `check` and `recover` run over them: `entries` with open
+// entries, `transition` of a slab that takes another class, `defects` with a defect, `pools` of several arenas and of
+// wrong lengths. `faults` has sources and sinks that fail, `adapters` readers and writers of the standard library, and
+// `runs` how they all run.
 #![tactic(auto)]
 
 #[cfg(test)]
 mod adapters;
+#[cfg(test)]
+mod arenas;
 #[cfg(test)]
 mod crashes;
 #[cfg(test)]

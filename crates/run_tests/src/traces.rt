@@ -50,14 +50,31 @@ pub(crate) const REPEATS: &str = "pool 1 64
 /// comes.
 pub(crate) const MIXED: &str = "pool 1 64
 0 0 m 8 16384
-1 0 m 9 16384
+0 0 m 9 16384
 0 0 m 10 16384
 0 0 m 11 16384
 0 0 m 12 14000
 0 0 m 13 100000
-200 times 0 0 m 0 20000, 63 0 f 0
+200 times 0 0 m 0 20000, 0 0 f 0
 0 0 f 9
-2 0 m 4095 100
+0 0 m 4095 100
+";
+
+/// Two arenas, each with a thread of its own. Both logs roll: in one arena a large block comes and goes, in the other a
+/// slab. Then a large block finds no space there, and a small one does.
+pub(crate) const TWO_ARENAS: &str = "pool 2 32
+0 0 m 0 16384
+1 1 m 5 300000
+70 times 0 0 m 1 20000, 1 1 m 6 100, 0 0 f 1, 1 1 f 6
+1 1 m 7 200000
+1 1 m 7 1
+0 0 m 2 16384
+";
+
+/// Sixteen arenas, of which the first and the last have a block.
+pub(crate) const SIXTEEN_ARENAS: &str = "pool 16 16
+0 15 m 4095 16
+0 0 m 1 196608
 ";
 
 /// A text around the lines of the blocks that the roots below 16 have in `WRITES_ANEW`: two granules each, one block
