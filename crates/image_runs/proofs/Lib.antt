@@ -1,4 +1,3 @@
 pub mod Lines
 pub mod Headers
 pub mod Faults
-pub mod Heaps

@@ -35,7 +35,7 @@ pub fn recover_heap<P: Pmem + Drop>(alloc: Global, device: P) -> Result<Recovere
     requires room { 2048 ≤ (P.state device).room }
     ensures sound { OnOk result (IsSoundImage (words_of (P.state device))) }
     ensures recovered { IfOk result (λ done. IsRecovered (P.state device) (P.state done.device)) }
-    ensures blocks { IfOk result (λ done. done.blocks.items ≡ blocks_of (heap (tables_of (words_of (P.state device))))) }
+    ensures heap { IfOk result (λ done. done.blocks.items ≡ blocks_of (heap (tables_of (words_of (P.state device))))) }
     ensures defect { IfErr result (λ fault. IfDefect fault (IsFirstDefect (words_of (P.state device)))) }
 {
     let arena = match recover(alloc, device) {

@@ -7,8 +7,8 @@ use Rattle.nvheap.proofs.imaging.run_arenas.Given as goal
 abbrev pub invariant-loop-arena : goal.invariant-loop-arena
 invariant-loop-arena g l = record {
   all : length l.devices.items ≡ l.arena;
-  runs : AreRunThrough (pool_of l.trace) l.trace.calls.items 0 (each_of l.devices.items (λ d. g.H.Shelf.Device.Pmem.state d));
-  bytes : l.bytes.items ≡ images_of (each_of l.devices.items (λ d. g.H.Shelf.Device.Pmem.state d));
+  runs : AreRunThrough (pool_of l.trace) l.trace.calls.items 0 (each_of l.devices.items (λ d. g.H.Device.Pmem.state d));
+  bytes : l.bytes.items ≡ images_of (each_of l.devices.items (λ d. g.H.Device.Pmem.state d));
   places : g.H.Shelf.places l.shelf ≡ g.H.Shelf.places l.fn.shelf;
   images : g.H.Shelf.images l.shelf ≡ g.H.Shelf.images l.fn.shelf;
 }

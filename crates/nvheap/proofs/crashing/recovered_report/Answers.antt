@@ -1,0 +1,31 @@
+use Rattle.std.proofs.Common.{arith, subst, sym, ap, ◌∙◌, ◌≡◌, length, List, ℕ}
+use Rattle.pmem_lines.specs.Pmem.{PmemState, words_of}
+use Rattle.heap_check.specs.Image.{IsSoundImage}
+use Rattle.image_defects.proofs.Faultless.{faultless_of}
+use Rattle.image_defects.proofs.Order.{no_defect}
+use Rattle.nvheap.proofs.Devices.{few_words}
+use Rattle.nvheap.proofs.crashing.recovered_report.Goals as goal
+
+pub take_image-requires-clause-few : goal.take_image-requires-clause-few
+take_image-requires-clause-few g c =
+    let same = ap length c.deref.ensures.value in
+    let few = (few_words c.args.crashed.now.image.items c.requires.sound).0 in
+    omega (arith, same, few)
+
+pub take_image-requires-clause-some : goal.take_image-requires-clause-some
+take_image-requires-clause-some g c =
+    let same = ap length c.deref.ensures.value in
+    let some = (few_words c.args.crashed.now.image.items c.requires.sound).1 in
+    omega (arith, same, some)
+
+pub take_image-requires-clause-whole : goal.take_image-requires-clause-whole
+take_image-requires-clause-whole g c =
+    let same = ap length c.deref.ensures.value in
+    let whole = (few_words c.args.crashed.now.image.items c.requires.sound).2 in
+    omega (arith, same, whole)
+
+pub unreachable-requires : goal.unreachable-requires
+unreachable-requires g c =
+    let words = words_of (g.H.Device.Pmem.state c.in_ok-device.device) in
+    let same : words ≡ c.args.crashed.now.image.items = ap (λ (s : PmemState). words_of s) c.in_ok-device.ensures.device ∙ c.deref.ensures.value in
+    no_defect words c.in-Err-Defect.field-0-0 (faultless_of words (subst IsSoundImage (sym same) c.requires.sound)) (rw c.in-Err-Defect.field-0-is at c.in-Err-Defect.ensures.defect)
