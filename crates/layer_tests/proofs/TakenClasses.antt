@@ -1,5 +1,5 @@
 -- A slab of which a state was read may take a class, is on its way to one, or has no old block left.
-use Rattle.std.proofs.Common.{◌≡◌, ◌+◌, ◌%◌, ◌<◌, ◌≤◌, ◌∙◌, ℕ, true, false, eqb, length, List, sym, ap, subst, arith}
+use Rattle.std.proofs.Common.{◌≡◌, ◌%◌, ◌<◌, ◌≤◌, ◌∙◌, ℕ, true, false, eqb, List, sym, ap, subst, arith}
 use Rattle.size_classes.specs.Classes.{class_capacity}
 use Rattle.pmem_lines.specs.Words.{word_at}
 use Rattle.image_tables.specs.Forms.{IsStateWord}
@@ -8,9 +8,9 @@ use Rattle.slab_header.specs.declared.state.SlabState.{SlabState}
 use Rattle.slab_header.specs.declared.state.SlabState.TheVariants.{Normal, Morphing, Morphed}
 use Rattle.slab_header.specs.State.{kind_of, class_of, entries_of, IsWordOfState, SaysOfState}
 use Rattle.slab_header.proofs.Entries.{bit_of_word-lowest}
-use Rattle.slab_morph.specs.SlabHeaders.{SlabHeader, header_at, HasState}
+use Rattle.slab_morph.specs.SlabHeaders.{header_at, HasState}
 use Rattle.slab_morph.specs.Fitness.{IsFitHeader}
-use Rattle.slab_morph.specs.Stages.{set_numbers, morph_count, IsMorphable, IsOnItsWay, IsDone}
+use Rattle.slab_morph.specs.Stages.{morph_count, IsMorphable, IsOnItsWay, IsDone}
 use Rattle.slab_morph.proofs.Morphable.{few_set}
 use Rattle.slab_morph.proofs.Numbers.{numbers_among}
 use Rattle.slab_morph.proofs.Reading.{bit_by, live_read, state_read}

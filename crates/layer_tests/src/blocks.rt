@@ -6,7 +6,7 @@ use rand_core::SeedableRng;
 use rand_core::utils::NextWord;
 use rand_xoshiro::SplitMix64;
 use size_classes::capacity;
-use slab_index::{SlabBlock, SlabIndex};
+use slab_index::{LiveCounts, SlabBlock, SlabIndex};
 use std::test::Fail;
 
 const GRANULES: u32 = 24;
@@ -198,5 +198,24 @@ fn like_a_plain_list(rt: HostRuntime) -> Result<(), Fail> {
             );
         }
     }
+    Ok(())
+}
+
+// The last slab of the largest arena, of the class with the most blocks, and a count of its live blocks.
+#[test]
+fn slabs_of_the_largest_arena(rt: HostRuntime) -> Result<(), Fail> {
+    let mut index = SlabIndex::new(rt.alloc(), 1024)?;
+    assert_eq!(rt; (index.class_at(1020), index.lowest(0)), (None, None));
+    index.add(1020, 0);
+    let first = SlabBlock {
+        start: 1020,
+        number: 0,
+    };
+    assert_eq!(rt; index.lowest(0), Some(first));
+    assert!(rt; index.is_available(1020, 3967) && !index.is_available(1020, 3968));
+    let mut lives = LiveCounts::new(rt.alloc(), 1024)?;
+    assert_eq!(rt; lives.at(1020), 0);
+    lives.raise(1020);
+    assert_eq!(rt; (lives.at(1020), lives.at(1023), lives.at(1024)), (1, 0, 0));
     Ok(())
 }

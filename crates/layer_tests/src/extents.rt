@@ -1,7 +1,7 @@
 // Heaps of which some granules are taken and given back.
-ghost use Rattle.std.specs.Prelude.{◌≡◌, ◌<◌, ◌≤◌};
+ghost use Rattle.std.specs.Prelude.{◌≡◌, ◌<◌, ◌≤◌, length};
 
-use extent_index::{ExtentIndex, Steps};
+use extent_index::{ExtentIndex, Steps, WordTable};
 use std::marker::Brand;
 use std::sync::ledger::{Blank, Ledger};
 use std::test::Fail;
@@ -35,8 +35,8 @@ fn counted<L: Ledger>(index: &ExtentIndex, granules: u32, blank: Blank) -> Optio
     index.best_fit_counted(granules, &mut steps)
 }
 
-// A heap of 1024 granules whose free runs are 5 granules at 10, 4 at 100 and 4 at 50: the lowest of the shortest that fits
-// is given. Once the rows between them come back one run is left.
+// A heap of 1024 granules whose free runs are 5 granules at 10, 4 at 100 and 4 at 50: the lowest of the shortest that
+// fits is given. Once the rows between them come back one run is left.
 #[test]
 fn best_fit_in_words(rt: HostRuntime) -> Result<(), Fail> {
     let mut index = ExtentIndex::new(rt.alloc(), 1024)?;
@@ -84,5 +84,27 @@ fn best_fit_in_the_largest_heap(rt: HostRuntime) -> Result<(), Fail> {
         (index.best_fit(4092), index.best_fit(4093)),
         (Some(4), None)
     );
+    Ok(())
+}
+
+// The last of so many words.
+fn last_word<L: Ledger>(table: &WordTable, count: u32, blank: Blank) -> u64
+    requires words { count ≤ length table.now }
+    requires word { 1 ≤ count }
+    requires name { blank.name ≡ L.name }
+    requires parts { blank.parts ≡ L.parts }
+    requires some { 0 < blank.parts }
+{
+    let mut steps = Steps::<L>::new(blank);
+    table.look(count - 1, &mut steps)
+}
+
+// As many words as an index of the largest arena has, with 16 for each length of a free run.
+#[test]
+fn words_of_a_table(rt: HostRuntime) -> Result<(), Fail> {
+    let mut table = WordTable::new(rt.alloc(), 16384)?;
+    assert_eq!(rt; last_word::<Brand>(&table, 16384, Blank::new(1)), 0);
+    table.put(64 * 16383 + 5, true);
+    assert_eq!(rt; last_word::<Brand>(&table, 16384, Blank::new(1)), 32);
     Ok(())
 }

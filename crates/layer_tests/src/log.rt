@@ -43,3 +43,11 @@ fn last_entry_counts(rt: HostRuntime) -> Result<(), Fail> {
     assert_eq!(rt; words, [0x0300_0601, 0x0602, 0x0603]);
     Ok(())
 }
+
+#[test]
+fn log_of_the_largest_arena(rt: HostRuntime) -> Result<(), Fail> {
+    let log = BookLog::new(rt.alloc(), 1024)?;
+    assert_eq!(rt; log.granules(), 1024);
+    assert_eq!(rt; (log.has_room(), log.next_live(0)), (false, None));
+    Ok(())
+}

@@ -124,3 +124,19 @@ fn images_by_counting(rt: HostRuntime) -> Result<(), Fail> {
     }
     Ok(())
 }
+
+// The largest memory of zeros, and one of as many words as the largest arena has: its last word, before and after a
+// crash that keeps no store of it.
+#[test]
+fn largest_memories(rt: HostRuntime) -> Result<(), Fail> {
+    let zeroed = SimPmem::zeroed(rt.alloc(), 1_048_576, 2048)?;
+    assert_eq!(rt; (zeroed.size_words(), zeroed.room()), (8_388_608, 2048));
+    assert_eq!(rt; zeroed.load(67_108_856), 0);
+    let base = vec![in rt.alloc(); 9u64; 2_097_152]?;
+    let device = SimPmem::from_image(rt.alloc(), &base, 2048)?;
+    assert_eq!(rt; device.load(16_777_208), 9);
+    let mut picks = SplitMix64::from_seed([0; 8]);
+    let words = device.image(rt.alloc(), 0, &mut picks)?;
+    assert!(rt; words == base);
+    Ok(())
+}

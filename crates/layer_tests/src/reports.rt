@@ -1,7 +1,10 @@
 // What is printed, byte by byte.
 use heap_model::{Block, Call, Entry, Reply};
+use pool_layout::Defect;
+use std::test::Fail;
 use trace_text::{
-    CrashSide, Refusal, write_arena, write_crash, write_entry, write_heap, write_refusal,
+    CrashSide, Refusal, write_arena, write_crash, write_defect, write_entry, write_heap,
+    write_recovered, write_refusal, write_summary,
 };
 
 // The first seat asks for a block.
@@ -72,4 +75,74 @@ fn prints_crashes_and_refusals(rt: HostRuntime) {
     let want =
         b"call 3 before\nheap 1\n4095 65536 32768\ncall 0 same\nheap 0\nbad line 2\nno arena 1 of 1\nno event 9 of 8\n";
     assert_eq!(rt; out.as_slice(), &want[..]);
+}
+
+// Each call, and each answer that only some other call gets.
+#[test]
+fn prints_calls_and_answers(rt: HostRuntime) -> Result<(), Fail> {
+    let [at, size] = [67584, 112];
+    let free = Call::Free { root: 4095 };
+    let write = Call::Write {
+        root: 1,
+        index: 13,
+        value: u64::MAX,
+    };
+    let read = Call::Read { root: 1, index: 0 };
+    let moved = Call::Move { from: 5, to: 9 };
+    let rows: [(Call, Reply, &[u8]); 11] = [
+        (free, Reply::Freed { at, size }, b"f 4095 freed 67584 112\n"),
+        (free, Reply::NoRoot, b"f 4095 no root\n"),
+        (free, Reply::Empty, b"f 4095 empty\n"),
+        (write, Reply::Wrote, b"w 1 13 18446744073709551615 wrote\n"),
+        (
+            write,
+            Reply::OutOfRange,
+            b"w 1 13 18446744073709551615 out of range\n",
+        ),
+        (read, Reply::Value { word: 7 }, b"r 1 0 value 7\n"),
+        (moved, Reply::Moved { at, size }, b"v 5 9 moved 67584 112\n"),
+        (moved, Reply::Occupied { at }, b"v 5 9 occupied 67584\n"),
+        (
+            asked(5, 0, Reply::ZeroSize).call,
+            Reply::ZeroSize,
+            b"m 5 0 zero size\n",
+        ),
+        (
+            asked(5, 1, Reply::NoSpace).call,
+            Reply::NoSpace,
+            b"m 5 1 no space\n",
+        ),
+        (
+            asked(5, u64::MAX, Reply::TooLarge).call,
+            Reply::TooLarge,
+            b"m 5 18446744073709551615 too large\n",
+        ),
+    ];
+    for (call, reply, text) in rows {
+        let mut out = Vec::new(rt.alloc());
+        write_entry(
+            &mut out,
+            Entry {
+                seat: 63,
+                call,
+                reply,
+            },
+        )?;
+        assert!(rt; out.as_slice().strip_prefix(b"63 ") == Some(text));
+    }
+    Ok(())
+}
+
+#[test]
+fn prints_images(rt: HostRuntime) -> Result<(), Fail> {
+    let mut out = Vec::new(rt.alloc());
+    write_summary(&mut out, 15, 510, 255, 4096, 3)?;
+    write_recovered(&mut out, 0, &[])?;
+    write_recovered(&mut out, 15, &[block(5, 65536), block(4095, 98304)])?;
+    write_defect(&mut out, 3, &Defect::BadLength { have: 1, need: 64 })?;
+    write_defect(&mut out, 3, &Defect::StrayBit { at: 67584 })?;
+    let want =
+        b"arena 15 large 510 slabs 255 blocks 4096 loose 3\narena 0 heap 0\narena 15 heap 2\n5 65536 32768\n4095 98304 32768\nbad length 1 64\narena 3 stray bit 67584\n";
+    assert_eq!(rt; out.as_slice(), &want[..]);
+    Ok(())
 }

@@ -14,16 +14,16 @@ pub type Put = (usize, u64);
 // Words of an arena of 16 granules.
 const ARENA_WORDS: usize = 32768;
 
-// So many words, all 0.
-fn blank(alloc: Global, size: usize) -> Result<Vec<u64>, OutOfMemory>
+/// So many words, all 0.
+pub fn blank(alloc: Global, size: usize) -> Result<Vec<u64>, OutOfMemory>
     ensures { IfOk result (λ words. length words.items ≡ size) }
 {
     let words = vec![in alloc; 0; size]?;
     Ok(words)
 }
 
-// Puts words into an image.
-fn put(words: &mut [u64], puts: &[Put]) {
+/// Puts words into an image.
+pub fn put(words: &mut [u64], puts: &[Put]) {
     for (word, value) in puts {
         if *word < words.len() {
             words[*word] = *value;
@@ -110,8 +110,8 @@ pub fn goes_on(
     }
 }
 
-/// What an arena answers to a malloc, a free behind it, and the same malloc for another root; and how many events the free
-/// has.
+/// What an arena answers to a malloc, a free behind it, and the same malloc for another root; and how many events the
+/// free has.
 #[derive(Clone, Copy, Debug, PartialEq, Eq)]
 pub struct Answered {
     pub before: Option<Placed>,
@@ -120,8 +120,8 @@ pub struct Answered {
     pub after: Option<Placed>,
 }
 
-/// An arena that was recovered from the words of a row gives root 3 so many bytes, frees the block of a root, and gives root
-/// 4 as many. `None` where its image is not sound.
+/// An arena that was recovered from the words of a row gives root 3 so many bytes, frees the block of a root, and gives
+/// root 4 as many. `None` where its image is not sound.
 pub fn frees_between(
     alloc: Global,
     base: &[Put],

@@ -1,13 +1,16 @@
-// Tests of recovery: images that were worked by hand, with the words that each has once it is recovered, and how many events
-// that took.
+// Tests of recovery: images that were worked by hand, with the words that each has once it is recovered, and how many
+// events that took.
 //
-// An image is given by its words that are not 0. `small` has an arena with one slab and one block, `morphing` one with a
-// large block and a slab that took another class, and images in which several things are loose. The crate has no code of its
-// own beside what makes the images, and stands apart from `recover`, since a crate with tests is proved twice.
+// An image is given by its words that are not 0. `small` has an arena with one slab and one block, `morphing` one with
+// a large block and a slab that took another class, and images in which several things are loose; `largest` has arenas
+// of as many granules as there may be. The crate has no code of its own beside what makes the images, and stands apart
+// from `recover`, since a crate with tests is proved twice.
 #![tactic(auto)]
 
 #[cfg(test)]
 mod images;
+#[cfg(test)]
+mod largest;
 #[cfg(test)]
 mod morphing;
 #[cfg(test)]

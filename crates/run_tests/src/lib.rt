@@ -1,14 +1,27 @@
-// Tests of whole runs, over memory: each row has words and a trace, and how the run ends and what it writes, worked by
-// hand.
+// Tests of whole runs, over memory: each row has words and a trace or the bytes of an image, and how the run ends and
+// what it writes, worked by hand.
 //
-// The crate has no code. It stands apart from `nvheap`, since a crate with tests is proved twice. `rows` has the rows,
-// `images` has `check` over images, `faults` sources and sinks that fail, `adapters` readers and writers of the
-// standard library, `logs` traces that fill an arena's log, `words` what is left on the device, and `runs` how they all
-// run.
+// The crate has no code. It stands apart from `nvheap`, since a crate with tests is proved twice. `rows` has short
+// traces, `arenas` traces of several arenas and threads, `logs` traces that fill an arena's log (`traces` has them),
+// `crashes` a crash at every event of some calls, `cycles` traces whose image is checked and recovered, `words` what is
+// left on the device. `images` makes images, and has how `check` and `recover` run over them: `entries` with open
+// entries, `transition` of a slab that takes another class, `defects` with a defect, `pools` of several arenas and of
+// wrong lengths. `faults` has sources and sinks that fail, `adapters` readers and writers of the standard library, and
+// `runs` how they all run.
 #![tactic(auto)]
 
 #[cfg(test)]
 mod adapters;
+#[cfg(test)]
+mod arenas;
+#[cfg(test)]
+mod crashes;
+#[cfg(test)]
+mod cycles;
+#[cfg(test)]
+mod defects;
+#[cfg(test)]
+mod entries;
 #[cfg(test)]
 mod faults;
 #[cfg(test)]
@@ -16,8 +29,14 @@ mod images;
 #[cfg(test)]
 mod logs;
 #[cfg(test)]
+mod pools;
+#[cfg(test)]
 mod rows;
 #[cfg(test)]
 mod runs;
+#[cfg(test)]
+mod traces;
+#[cfg(test)]
+mod transition;
 #[cfg(test)]
 mod words;

@@ -2,9 +2,9 @@
 use crate::runs::ends_and_writes;
 use std::test::Fail;
 
-// Traces, with runs over each. A run is a line with `$`, the code with which it ends and its words; and below it what it
-// writes. A trace that runs into its first `$` lacks its last line feed. Under `crash` the store of a root that no fence
-// made durable is kept with the seeds 0 and 7, and with seed 2 it is not.
+// Traces, with runs over each. A run is a line with `$`, the code with which it ends and its words; and below it what
+// it writes. A trace that runs into its first `$` lacks its last line feed. Under `crash` the store of a root that no
+// fence made durable is kept with the seeds 0 and 7, and with seed 2 it is not.
 const TRACES: &str = "pool 1 16
 0 0 m 5 100
 $0 replay
@@ -13,12 +13,6 @@ arena 0 calls 1
 heap 1
 5 67584 112
 $0 crash 0 0 7
-call 1 before
-heap 0
-$0 crash 0 75 0
-call 1 before
-heap 0
-$0 crash 0 78 0
 call 1 before
 heap 0
 $0 crash 0 81 7
@@ -70,10 +64,22 @@ $2 crash 1 0 0
 no arena 1 of 1
 $1
 $1 replay x
+$1 replay replay
+$1 Replay
 $1 --help
+$1 --version
+$1 image x
+$1 check x
+$1 recover 0
+$1 gen 0 1
+$1 gen 01 1
+$1 crash
 $1 crash 0 1
+$1 crash 0 1 0 0
 $1 crash 16 0 0
 $1 crash 00 0 0
+$1 crash 0 -1 0
+$1 crash 0 0 18446744073709551616
 ----
 # one call
 pool 1 16
@@ -221,6 +227,8 @@ pool 1 16
 00 0 m 5 1
 $2 replay
 bad line 2
+$2 image
+bad line 2
 $2 crash 1 0 0
 bad line 2
 ----
@@ -359,6 +367,13 @@ call 0 same
 heap 0
 $2 crash 0 1 0
 no event 1 of 0
+----
+pool 1 1024
+0 0 m 5 16711680
+$0 crash 0 6 0
+call 1 after
+heap 1
+5 65536 16711680
 ";
 
 // The two sides of a mark's first place; with no such place all is before it.
@@ -373,7 +388,7 @@ fn short_traces(rt: HostRuntime) -> Result<(), Fail> {
         for asked in runs.split('$') {
             let (line, text) = halves(asked, '\n');
             let (code, words) = halves(line, ' ');
-            let (status, taken) = ends_and_writes(&rt, rt.alloc(), words, trace)?;
+            let (status, taken) = ends_and_writes(&rt, rt.alloc(), words, trace.as_bytes())?;
             assert_eq!(rt; code.parse(), Ok(status.code()), "{line} over {trace}");
             assert_eq!(rt; taken.as_slice(), text.as_bytes(), "{line} over {trace}");
         }

@@ -2,6 +2,7 @@
 use nvheap::{KeptShelf, MemSink, OpenGate, Sink, Source, Status, SureSource, run};
 use pmem_lines::Pmem;
 use std::alloc::{AllocError, Global};
+use std::str;
 use std::sync::Wait;
 use std::test::Fail;
 use std::thread::Threads;
@@ -28,18 +29,30 @@ pub(crate) fn ends<R: Threads + Wait + Sync, S: Source, K: Sink>(
     Ok(run(rt, alloc, &words, source, sink, &OpenGate, &mut shelf))
 }
 
-/// How a run over a trace ends, and what it writes.
+/// How a run over bytes ends, and what it writes.
 pub(crate) fn ends_and_writes<R: Threads + Wait + Sync>(
     rt: &R,
     alloc: Global,
     line: &str,
-    trace: &str,
+    input: &[u8],
 ) -> Result<(Status, Vec<u8>), Fail> {
-    let mut source = SureSource::new(trace.as_bytes());
+    let mut source = SureSource::new(input);
     let mut sink = MemSink::new(alloc, &[], usize::MAX);
     let status = ends(rt, alloc, line, &mut source, &mut sink)?;
     let taken = sink.bytes().to_vec(alloc)?;
     Ok((status, taken))
+}
+
+/// The code with which a run over bytes ends, and the text that it writes.
+pub(crate) fn tells<R: Threads + Wait + Sync>(
+    rt: &R,
+    alloc: Global,
+    line: &str,
+    input: &[u8],
+) -> Result<(u8, String), Fail> {
+    let (status, taken) = ends_and_writes(rt, alloc, line, input)?;
+    let text = String::from_str(alloc, str::from_utf8(&taken)?)?;
+    Ok((status.code(), text))
 }
 
 /// The word at an address of the device that a replay of a trace leaves on a shelf. The address lies in the first 16

@@ -1,4 +1,4 @@
-use Rattle.std.proofs.Common.{◌<◌, ◌≡◌, subst, arith}
+use Rattle.std.proofs.Common.{◌<◌, arith}
 use Rattle.size_classes.specs.Classes.{class_capacity}
 use Rattle.pmem_lines.specs.Pmem.{words_of}
 use Rattle.layer_tests.proofs.TakenClasses.{may_take, takes_few}

@@ -1,0 +1,193 @@
+// Images of an arena of 1024 granules that are dear to check: all roots, all slabs, all live extents and all bits that
+// there may be, and what is wrong, if anything, at the end of a search.
+ghost use Rattle.std.specs.Prelude.{◌<◌};
+
+use crate::answers::{Put, answer_of, blank, counts, put};
+use pmem_lines::OutOfMemory;
+use pool_layout::Defect;
+use std::alloc::Global;
+use std::test::Fail;
+
+// The header line of the only arena, of 1024 granules, and a directory of eight chunks.
+const LARGEST: [Put; 3] = [
+    (0, 3550894020320384590),
+    (1, 0x0001_0400_0000_0001),
+    (2, 0x0807_0605_0403_0201),
+];
+
+// How many slabs the heap may have. Slab k begins at granule 4 + 4k.
+const SLABS: u64 = 255;
+
+// Puts a word into an image, where it has one.
+fn set(words: &mut [u64], at: u64, value: u64) {
+    if at < words.len() as u64 {
+        words[at as usize] = value;
+    }
+}
+
+// Puts an entry of the log's list, of which each chunk has 120, into its place.
+fn put_entry(words: &mut [u64], number: u64, entry: u64)
+    requires { number < 960 }
+{
+    let own = number % 120;
+    set(
+        words,
+        6152 + 128 * (number / 120) + 8 * (own % 15) + own / 15,
+        entry,
+    );
+}
+
+// Has root number `root` hold a block of a slab, by its place behind the slab's header in bytes.
+fn hold(words: &mut [u64], root: u64, slab: u64, place: u64)
+    requires root { root < 4096 }
+    requires slab { slab < 255 }
+    requires place { place < 65536 }
+{
+    set(words, 2048 + root, 65536 * (1 + slab) + 2048 + place);
+}
+
+// Sets the bit of a block of a slab.
+fn set_bit(words: &mut [u64], slab: u64, number: u64)
+    requires slab { slab < 255 }
+    requires number { number < 4096 }
+{
+    let at = 8192 * (1 + slab) + 8 * (1 + number % 8) + number / 512;
+    let bit = 1 << (number / 8 % 64);
+    if at < words.len() as u64 {
+        words[at as usize] |= bit;
+    }
+}
+
+// An arena with so many slabs, each with this state word, and else nothing.
+fn arena_of(alloc: Global, slabs: u64, state: u64) -> Result<Vec<u64>, OutOfMemory> {
+    let mut words = blank(alloc, 2_097_152)?;
+    put(&mut words, &LARGEST);
+    for slab in 0..slabs.min(SLABS) {
+        put_entry(&mut words, slab, 2 + 256 * (4 + 4 * slab));
+        set(&mut words, 8192 * (1 + slab), state);
+    }
+    Ok(words)
+}
+
+// Roots 0 to 4094 hold a block of 16 bytes each, by falling address, and root 4095 the block of root 4094. That is the
+// last of all pairs of roots.
+#[test]
+fn the_last_pair_of_roots(rt: HostRuntime) -> Result<(), Fail> {
+    let mut words = arena_of(rt.alloc(), 2, 1)?;
+    for root in 0..4095 {
+        let block = 4094 - root;
+        set_bit(&mut words, block / 3968, block % 3968);
+        hold(&mut words, root, block / 3968, 16 * (block % 3968));
+    }
+    hold(&mut words, 4095, 0, 0);
+    assert_eq!(rt;
+        answer_of(rt.alloc(), &words)?,
+        Err(Defect::SharedBlock {
+            first: 4094,
+            second: 4095
+        })
+    );
+    Ok(())
+}
+
+// Each slab took class 19 and was of class 3, and has 64 index entries. The last 16 are live in each, and the 16 before
+// them in the first slab too, so that each root holds an old block. Then the last entry of the last slab has the number
+// of the first.
+#[test]
+fn all_slabs_in_transition(rt: HostRuntime) -> Result<(), Fail> {
+    let mut words = arena_of(rt.alloc(), SLABS, 0x4003_1303)?;
+    for slab in 0..SLABS {
+        for place in 0..64 {
+            let at = 8192 * (1 + slab) + 8 * (9 + place % 8) + place / 8;
+            let is_live = place >= 48 || (slab == 0 && place >= 32);
+            set(&mut words, at, 65536 * place + u64::from(is_live));
+        }
+        for place in 48..64 {
+            hold(&mut words, 16 * slab + place - 48, slab, 64 * place);
+        }
+    }
+    for place in 32..48 {
+        hold(&mut words, 4048 + place, 0, 64 * place);
+    }
+    assert_eq!(rt; answer_of(rt.alloc(), &words)?, counts(0, 255, 4096, 0));
+    set(&mut words, 8192 * SLABS + 8 * 16 + 7, 1);
+    assert_eq!(rt;
+        answer_of(rt.alloc(), &words)?,
+        Err(Defect::BadSlab {
+            start: 1020,
+            value: 1
+        })
+    );
+    Ok(())
+}
+
+// The heap has 510 large extents of two granules, which is the most that there may be, and a root for each. The log's
+// eight chunks are full: 450 entries say that nothing is at a granule, and then the extents follow. Then the last two
+// have no root, and then the one before the last has a granule of the last.
+#[test]
+fn all_extents(rt: HostRuntime) -> Result<(), Fail> {
+    let mut words = arena_of(rt.alloc(), 0, 0)?;
+    for number in 0..450 {
+        put_entry(&mut words, number, 3 + 256 * (4 + number));
+    }
+    for extent in 0..510 {
+        let start = 4 + 2 * extent;
+        put_entry(&mut words, 450 + extent, 1 + 256 * start + 0x0200_0000);
+        set(&mut words, 2048 + extent, 16384 * start);
+    }
+    assert_eq!(rt; answer_of(rt.alloc(), &words)?, counts(510, 0, 510, 0));
+    put(&mut words, &[(2048 + 508, 0), (2048 + 509, 0)]);
+    assert_eq!(rt;
+        answer_of(rt.alloc(), &words)?,
+        Err(Defect::TooManyLoose {
+            large: 2,
+            empty: 0,
+            morphing: 0,
+            done: 0
+        })
+    );
+    put_entry(&mut words, 958, 1 + 256 * 1020 + 0x0300_0000);
+    assert_eq!(rt;
+        answer_of(rt.alloc(), &words)?,
+        Err(Defect::Overlap {
+            first: 1020,
+            second: 1022
+        })
+    );
+    Ok(())
+}
+
+// Sets all bits of all slabs, also those behind the last block.
+fn set_all_bits(words: &mut [u64]) {
+    for slab in 0..SLABS {
+        for word in 8..72 {
+            set(words, 8192 * (1 + slab) + word, u64::MAX);
+        }
+    }
+}
+
+// Slabs of class 27 have 15 blocks, and a root holds each: bits behind them do not count. Slabs of class 0 have 3968,
+// and roots hold the first 16 of each; the lowest that none has is block 16 of the first slab.
+#[test]
+fn all_bits(rt: HostRuntime) -> Result<(), Fail> {
+    let mut words = arena_of(rt.alloc(), SLABS, 0x1b01)?;
+    set_all_bits(&mut words);
+    for slab in 0..SLABS {
+        for number in 0..15 {
+            hold(&mut words, 15 * slab + number, slab, 4096 * number);
+        }
+    }
+    assert_eq!(rt; answer_of(rt.alloc(), &words)?, counts(0, 255, 3825, 0));
+    let mut words = arena_of(rt.alloc(), SLABS, 1)?;
+    set_all_bits(&mut words);
+    for slab in 0..SLABS {
+        for number in 0..16 {
+            hold(&mut words, 16 * slab + number, slab, 16 * number);
+        }
+    }
+    assert_eq!(rt;
+        answer_of(rt.alloc(), &words)?,
+        Err(Defect::StrayBit { at: 67840 })
+    );
+    Ok(())
+}

@@ -1,0 +1,155 @@
+// Images that `image` makes of a trace, and what `check` and `recover` write of them.
+use crate::images::{ONE_BLOCK, Run, both_tell, image_of};
+use crate::runs::{ends_and_writes, tells};
+use crate::traces::{MIXED, REPEATS, ROLLS, SIXTEEN_ARENAS, TWO_ARENAS, WRITES_ANEW, expanded};
+use nvheap::Status;
+use std::alloc::Global;
+use std::sync::Wait;
+use std::test::Fail;
+use std::thread::Threads;
+
+// The heaps of a report, as `recover` writes them: the line `heap M` of an arena names the arena, and its blocks are
+// those of the report.
+fn heaps_of(alloc: Global, report: &str) -> Result<String, Fail> {
+    let mut heaps = String::new(alloc);
+    for part in report.split("arena ") {
+        if let Some((arena, rest)) = part.split_once(" calls ") {
+            if let Some((_, heap)) = rest.split_once("heap ") {
+                let lines = format!(in alloc; "arena {arena} heap {heap}")?;
+                heaps.push_str(&lines)?;
+            }
+        }
+    }
+    Ok(heaps)
+}
+
+#[test]
+fn reads_heaps_off_a_report(rt: HostRuntime) -> Result<(), Fail> {
+    let report =
+        "arena 0 calls 1\n0 m 5 1 placed 8 16\nheap 1\n5 8 16\narena 1 calls 1\n0 f 0 empty\nheap 0\n";
+    let heaps = heaps_of(rt.alloc(), report)?;
+    assert_eq!(rt; heaps.as_str(), "arena 0 heap 1\n5 8 16\narena 1 heap 0\n");
+    Ok(())
+}
+
+// What `check` writes of `SIXTEEN_ARENAS`.
+const SIXTEEN: &str = "arena 0 large 1 slabs 0 blocks 1 loose 0
+arena 1 large 0 slabs 0 blocks 0 loose 0
+arena 2 large 0 slabs 0 blocks 0 loose 0
+arena 3 large 0 slabs 0 blocks 0 loose 0
+arena 4 large 0 slabs 0 blocks 0 loose 0
+arena 5 large 0 slabs 0 blocks 0 loose 0
+arena 6 large 0 slabs 0 blocks 0 loose 0
+arena 7 large 0 slabs 0 blocks 0 loose 0
+arena 8 large 0 slabs 0 blocks 0 loose 0
+arena 9 large 0 slabs 0 blocks 0 loose 0
+arena 10 large 0 slabs 0 blocks 0 loose 0
+arena 11 large 0 slabs 0 blocks 0 loose 0
+arena 12 large 0 slabs 0 blocks 0 loose 0
+arena 13 large 0 slabs 0 blocks 0 loose 0
+arena 14 large 0 slabs 0 blocks 0 loose 0
+arena 15 large 0 slabs 1 blocks 1 loose 0
+";
+
+// Each trace has its image checked, and recovered to the heaps of its report. The counts are those of the trace: large
+// blocks, slabs, and all blocks; what calls leave has nothing loose.
+#[test]
+fn heaps_come_back(rt: HostRuntime) -> Result<(), Fail> {
+    let rows = [
+        ("pool 1 16\n", "arena 0 large 0 slabs 0 blocks 0 loose 0\n"),
+        (
+            "pool 1 1024\n0 0 m 5 16711680\n0 0 m 6 1\n",
+            "arena 0 large 1 slabs 0 blocks 1 loose 0\n",
+        ),
+        (MIXED, "arena 0 large 1 slabs 4 blocks 6 loose 0\n"),
+        (ROLLS, "arena 0 large 0 slabs 0 blocks 0 loose 0\n"),
+        (WRITES_ANEW, "arena 0 large 17 slabs 0 blocks 17 loose 0\n"),
+        (REPEATS, "arena 0 large 1 slabs 0 blocks 1 loose 0\n"),
+        (
+            TWO_ARENAS,
+            "arena 0 large 0 slabs 1 blocks 2 loose 0\narena 1 large 1 slabs 1 blocks 2 loose 0\n",
+        ),
+        (SIXTEEN_ARENAS, SIXTEEN),
+    ];
+    for (text, counts) in rows {
+        let trace = expanded(rt.alloc(), text)?;
+        let (code, report) = tells(&rt, rt.alloc(), "replay", trace.as_bytes())?;
+        assert_eq!(rt; code, 0, "{text}");
+        let (ended, image) = ends_and_writes(&rt, rt.alloc(), "image", trace.as_bytes())?;
+        assert_eq!(rt; ended, Status::Done, "{text}");
+        let heaps = heaps_of(rt.alloc(), &report)?;
+        both_tell(&rt, rt.alloc(), text, &image, 0, counts, &heaps)?;
+    }
+    Ok(())
+}
+
+// The image of a trace is this one, byte by byte.
+fn leaves<R: Threads + Wait + Sync>(
+    rt: &R,
+    alloc: Global,
+    trace: &str,
+    size: usize,
+    runs: &[Run],
+) -> Result<bool, Fail> {
+    let wanted = image_of(alloc, size, runs, &[])?;
+    let (ended, image) = ends_and_writes(rt, alloc, "image", trace.as_bytes())?;
+    Ok(ended == Status::Done && image == wanted)
+}
+
+#[test]
+fn images_byte_by_byte(rt: HostRuntime) -> Result<(), Fail> {
+    assert!(rt;
+        leaves(
+            &rt,
+            rt.alloc(),
+            "pool 1 16\n0 0 m 5 100\n",
+            262144,
+            &ONE_BLOCK
+        )?
+    );
+    let largest: [Run; 3] = [(0, b"NVALLOG1"), (8, &[1, 0, 0, 0, 0, 4, 1, 0]), (16, &[1])];
+    assert!(rt;
+        leaves(
+            &rt,
+            rt.alloc(),
+            "pool 1 1024\n0 0 f 5\n",
+            16777216,
+            &largest
+        )?
+    );
+    Ok(())
+}
+
+// Chunk 8 of a log that was written anew: the entries of 16 extents of two granules by rising granule, from 4 on, and
+// behind them that of the block for which room was made. Entry 0 is in the chunk's line 1, and entry 15 is the second
+// of it.
+const ANEW: [Run; 17] = [
+    (64, &[1, 4, 0, 2]),
+    (128, &[1, 6, 0, 2]),
+    (192, &[1, 8, 0, 2]),
+    (256, &[1, 10, 0, 2]),
+    (320, &[1, 12, 0, 2]),
+    (384, &[1, 14, 0, 2]),
+    (448, &[1, 16, 0, 2]),
+    (512, &[1, 18, 0, 2]),
+    (576, &[1, 20, 0, 2]),
+    (640, &[1, 22, 0, 2]),
+    (704, &[1, 24, 0, 2]),
+    (768, &[1, 26, 0, 2]),
+    (832, &[1, 28, 0, 2]),
+    (896, &[1, 30, 0, 2]),
+    (960, &[1, 32, 0, 2]),
+    (72, &[1, 34, 0, 2]),
+    (136, &[1, 36, 0, 2]),
+];
+
+#[test]
+fn log_written_anew(rt: HostRuntime) -> Result<(), Fail> {
+    let trace = expanded(rt.alloc(), WRITES_ANEW)?;
+    let (ended, image) = ends_and_writes(&rt, rt.alloc(), "image", trace.as_bytes())?;
+    assert_eq!(rt; ended, Status::Done);
+    assert_eq!(rt; image.get(16..24), Some(&[9, 0, 0, 0, 0, 0, 0, 0][..]));
+    let chunk = image_of(rt.alloc(), 1024, &ANEW, &[])?;
+    assert_eq!(rt; image.get(57344..58368), Some(chunk.as_slice()));
+    Ok(())
+}

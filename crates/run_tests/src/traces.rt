@@ -1,0 +1,120 @@
+// Long traces, in short. A line `N times A, B` stands for N times the lines A and B, one after the other.
+use std::alloc::Global;
+use std::test::Fail;
+
+/// One block 61 times: the first chunk of the log is full then, and no extent of it lives.
+pub(crate) const ROLLS: &str = "pool 1 16
+61 times 0 0 m 0 20000, 0 0 f 0
+";
+
+/// Eight chunks of the log, each with the extents of two live blocks, and one block more: the log is written anew.
+pub(crate) const WRITES_ANEW: &str = "pool 1 64
+0 0 m 0 20000
+59 times 0 0 m 100 20000, 0 0 f 100
+0 0 m 1 20000
+0 0 m 2 20000
+59 times 0 0 m 100 20000, 0 0 f 100
+0 0 m 3 20000
+0 0 m 4 20000
+59 times 0 0 m 100 20000, 0 0 f 100
+0 0 m 5 20000
+0 0 m 6 20000
+59 times 0 0 m 100 20000, 0 0 f 100
+0 0 m 7 20000
+0 0 m 8 20000
+59 times 0 0 m 100 20000, 0 0 f 100
+0 0 m 9 20000
+0 0 m 10 20000
+59 times 0 0 m 100 20000, 0 0 f 100
+0 0 m 11 20000
+0 0 m 12 20000
+59 times 0 0 m 100 20000, 0 0 f 100
+0 0 m 13 20000
+0 0 m 14 20000
+59 times 0 0 m 100 20000, 0 0 f 100
+0 0 m 15 20000
+0 0 m 101 20000
+";
+
+/// Two chunks, and the last entry of the second that tells of a live extent says what the first chunk says of it.
+pub(crate) const REPEATS: &str = "pool 1 64
+0 0 m 1 20000
+59 times 0 0 m 0 20000, 0 0 f 0
+0 0 m 0 20000
+60 times 0 0 f 0, 0 0 m 0 20000
+0 0 f 0
+";
+
+/// Three slabs of classes of which no slab ever takes another class, since so few of its blocks fit; a large block; and
+/// a log whose second chunk is needless once the third is full. Then one of the blocks goes, and a block of a new class
+/// comes.
+pub(crate) const MIXED: &str = "pool 1 64
+0 0 m 8 16384
+0 0 m 9 16384
+0 0 m 10 16384
+0 0 m 11 16384
+0 0 m 12 14000
+0 0 m 13 100000
+200 times 0 0 m 0 20000, 0 0 f 0
+0 0 f 9
+0 0 m 4095 100
+";
+
+/// Two arenas, each with a thread of its own. Both logs roll: in one arena a large block comes and goes, in the other a
+/// slab. Then a large block finds no space there, and a small one does.
+pub(crate) const TWO_ARENAS: &str = "pool 2 32
+0 0 m 0 16384
+1 1 m 5 300000
+70 times 0 0 m 1 20000, 1 1 m 6 100, 0 0 f 1, 1 1 f 6
+1 1 m 7 200000
+1 1 m 7 1
+0 0 m 2 16384
+";
+
+/// Sixteen arenas, of which the first and the last have a block.
+pub(crate) const SIXTEEN_ARENAS: &str = "pool 16 16
+0 15 m 4095 16
+0 0 m 1 196608
+";
+
+/// A text around the lines of the blocks that the roots below 16 have in `WRITES_ANEW`: two granules each, one block
+/// behind the other.
+pub(crate) fn around_sixteen(alloc: Global, before: &str, behind: &str) -> Result<String, Fail> {
+    let mut text = String::from_str(alloc, before)?;
+    for root in 0..16u32 {
+        let at = 65536 + 32768 * root;
+        let line = format!(in alloc; "{root} {at} 32768\n")?;
+        text.push_str(&line)?;
+    }
+    text.push_str(behind)?;
+    Ok(text)
+}
+
+/// The trace that a text says.
+pub(crate) fn expanded(alloc: Global, text: &str) -> Result<String, Fail> {
+    let mut trace = String::new(alloc);
+    for line in text.lines() {
+        match line.split_once(" times ") {
+            Some((count, calls)) => add_times(&mut trace, count.parse()?, calls)?,
+            None => add_line(&mut trace, line)?,
+        }
+    }
+    Ok(trace)
+}
+
+// Adds so many times the lines that stand between commas.
+fn add_times(trace: &mut String, count: u32, calls: &str) -> Result<(), Fail> {
+    for _ in 0..count {
+        for line in calls.split(", ") {
+            add_line(trace, line)?;
+        }
+    }
+    Ok(())
+}
+
+// Adds a line.
+fn add_line(trace: &mut String, line: &str) -> Result<(), Fail> {
+    trace.push_str(line)?;
+    trace.push_str("\n")?;
+    Ok(())
+}
