@@ -52,23 +52,7 @@ awk 'BEGIN {
 }' >"$room/longest"
 
 measure() {
-    local name=$1 count=$2 unit=$3
-    python3 - "$program" "$room/$name" "$room/out" "$name" "$count" "$unit" <<'PYTHON'
-import resource, subprocess, sys, time
-
-program, trace, out, name, count, unit = sys.argv[1:]
-best = None
-for _ in range(3):
-    with open(trace, "rb") as source, open(out, "wb") as sink:
-        begun = time.monotonic()
-        ran = subprocess.run([program, "replay"], stdin=source, stdout=sink)
-        took = time.monotonic() - begun
-    if ran.returncode:
-        sys.exit(f"{name}: the program ended with status {ran.returncode}")
-    best = took if best is None else min(best, took)
-peak = resource.getrusage(resource.RUSAGE_CHILDREN).ru_maxrss / 1024
-print(f"{name}: {best:.2f} s, {best * 1e9 / int(count):.1f} ns per {unit}, peak {peak:.0f} MiB")
-PYTHON
+    python3 "$top/bench/measure.py" "$program" "$room/$1" "$room/out" "$1" "$2" "$3" replay
 }
 
 measure rolls 1000000 call
