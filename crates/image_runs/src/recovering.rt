@@ -1,4 +1,4 @@
-// An arena of a pool is recovered, for `recover`.
+// An arena is recovered, for `recover` and `crash`.
 ghost use Rattle.std.specs.Prelude.{◌≡◌, ◌≤◌, ◌++◌, IfOk, IfErr, OnOk};
 ghost use Rattle.pmem_lines.specs.Events.{IsQuiet};
 ghost use Rattle.pmem_lines.specs.Pmem.{words_of};

@@ -117,7 +117,7 @@ one_of_letter words (Crash a e s) Check same p q = absurd (omega (arith, same))
 one_of_letter words (Crash a e s) Recover same p q = absurd (omega (arith, same))
 one_of_letter words (Crash a e s) (Crash b f t) same p q = same_crash words a e s b f t p q
 
-one_command : (words : List (List ℕ)) (a b : Command) → IsCommand words a → IsCommand words b → a ≡ b
+pub one_command : (words : List (List ℕ)) (a b : Command) → IsCommand words a → IsCommand words b → a ≡ b
 one_command words a b p q = one_of_letter words a b (sym (said_letter words a p) ∙ said_letter words b q) p q
 
 -- no refusal

@@ -7,7 +7,7 @@ use Rattle.trace_text.specs.declared.call.TraceCall.{TraceCall}
 use Rattle.trace_runs.specs.Arenas.{header_for}
 use Rattle.trace_runs.specs.Calls.{calls_of}
 use Rattle.trace_text.specs.Grammar.{IsTrace}
-use Rattle.trace_runs.specs.Crash.{Stage, IsRunOf, total_events}
+use Rattle.trace_runs.specs.Runs.{Stage, IsRunOf, total_events}
 use Rattle.nvheap.specs.declared.command.Command.{Command}
 use Rattle.nvheap.specs.declared.command.Command.TheVariants.{Replay, Image, Check, Recover, Crash}
 use Rattle.nvheap.specs.Outside.{Outside}

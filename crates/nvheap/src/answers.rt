@@ -37,6 +37,7 @@ pub(crate) fn answer_to<H: Shelf>(
     ensures answer { IfOk result (IsAnswer command input.now (H.places shelf.old) (H.places shelf.new)) }
     ensures kept { OnErr result (H.places shelf.new ≡ H.places shelf.old) }
     ensures images { ¬ (Recovers command) → H.images shelf.new ≡ H.images shelf.old }
+    ensures idle { command ≡ commands.Check → shelf.new ≡ shelf.old }
 {
     match command {
         Command::Replay => unreachable!(),

@@ -2,7 +2,7 @@
 ghost use Rattle.std.specs.Prelude.{◌≡◌, ◌≢◌, ◌↔◌, ◌⊎◌, map, string_bytes};
 ghost use Rattle.nvheap.specs.declared.command.Command.TheVariants as commands;
 ghost use Rattle.nvheap.specs.Outside.{told_by, Rose, KeepsPlaces, KeepsImages};
-ghost use Rattle.nvheap.specs.Command.{IsNoCommand, Recovers};
+ghost use Rattle.nvheap.specs.Command.{IsCommand, IsNoCommand, Recovers};
 ghost use Rattle.nvheap.specs.Ends.{Ends, IsSaid, IsDone, IsRefused, IsWithinLimit, IsCutShort, IsTooLong, IsSilent, IsAside};
 ghost use Rattle.nvheap.specs.Accepted.{IsAccepted};
 
@@ -54,6 +54,7 @@ pub fn run<R: Threads + Wait + Sync, S: Source, K: Sink, G: Gate + Sync, H: Shel
     ensures silent { IsSilent result → sink.new ≡ sink.old }
     ensures aside { let told = told_by S.left K.taken H.places H.images in
         IsAside result → KeepsPlaces (told source.old sink.old shelf.old) (told source.new sink.new shelf.new) }
+    ensures idle { IsCommand (map string_bytes words.now) commands.Check → shelf.new ≡ shelf.old }
     ensures images { let told = told_by S.left K.taken H.places H.images in
         ¬ (IsSaid (map string_bytes words.now) Recovers) → KeepsImages (told source.old sink.old shelf.old) (told source.new sink.new shelf.new) }
 {
@@ -109,6 +110,7 @@ fn run_returning<S: Source, K: Sink, H: Shelf>(
     ensures silent { IsSilent result → sink.new ≡ sink.old }
     ensures aside { IsAside result → H.places shelf.new ≡ H.places shelf.old }
     ensures images { ¬ (Recovers command) → H.images shelf.new ≡ H.images shelf.old }
+    ensures idle { command ≡ commands.Check → shelf.new ≡ shelf.old }
 {
     let input = match read_input(alloc, command, source) {
         Ok(input) => input,

@@ -71,7 +71,8 @@ pub struct KeptShelf {
 impl KeptShelf {
     /// A shelf of 16 empty places.
     pub fn new(alloc: Global) -> Result<KeptShelf, OutOfMemory>
-        ensures { IfOk result (λ shelf. shelf.devices.items ≡ replicate 16 None) }
+        ensures devices { IfOk result (λ shelf. shelf.devices.items ≡ replicate 16 None) }
+        ensures images { IfOk result (λ shelf. shelf.images ≡ 0) }
     {
         let mut devices = Vec::with_capacity(alloc, 16)?;
         for place in 0..16usize {

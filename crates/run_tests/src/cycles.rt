@@ -1,7 +1,9 @@
 // Images that `image` makes of a trace, and what `check` and `recover` write of them.
 use crate::images::{ONE_BLOCK, Run, both_tell, image_of};
 use crate::runs::{ends_and_writes, tells};
-use crate::traces::{MIXED, REPEATS, ROLLS, SIXTEEN_ARENAS, TWO_ARENAS, WRITES_ANEW, expanded};
+use crate::traces::{
+    BOTH_WRITE_ANEW, MIXED, REPEATS, ROLLS, SIXTEEN_ARENAS, TWO_ARENAS, WRITES_ANEW, expanded,
+};
 use nvheap::Status;
 use std::alloc::Global;
 use std::sync::Wait;
@@ -64,6 +66,10 @@ fn heaps_come_back(rt: HostRuntime) -> Result<(), Fail> {
         (MIXED, "arena 0 large 1 slabs 4 blocks 6 loose 0\n"),
         (ROLLS, "arena 0 large 0 slabs 0 blocks 0 loose 0\n"),
         (WRITES_ANEW, "arena 0 large 17 slabs 0 blocks 17 loose 0\n"),
+        (
+            BOTH_WRITE_ANEW,
+            "arena 0 large 17 slabs 0 blocks 17 loose 0\narena 1 large 17 slabs 0 blocks 17 loose 0\n",
+        ),
         (REPEATS, "arena 0 large 1 slabs 0 blocks 1 loose 0\n"),
         (
             TWO_ARENAS,

@@ -6,8 +6,8 @@
 // `crashes` a crash at every event of some calls, `cycles` traces whose image is checked and recovered, `words` what is
 // left on the device. `images` makes images, and has how `check` and `recover` run over them: `entries` with open
 // entries, `transition` of a slab that takes another class, `defects` with a defect, `pools` of several arenas and of
-// wrong lengths. `faults` has sources and sinks that fail, `adapters` readers and writers of the standard library, and
-// `runs` how they all run.
+// wrong lengths. `faults` has sources and sinks that fail, `adapters` readers and writers of the standard library,
+// `workers` a gate that holds threads, and `runs` how they all run.
 #![tactic(auto)]
 
 #[cfg(test)]
@@ -40,3 +40,5 @@ mod traces;
 mod transition;
 #[cfg(test)]
 mod words;
+#[cfg(test)]
+mod workers;

@@ -17,7 +17,7 @@ use Rattle.trace_text.specs.declared.call.TraceCall.{TraceCall}
 use Rattle.trace_text.specs.Grammar.{IsAsked, IsTraceCall}
 use Rattle.trace_runs.specs.Arenas.{IsNewArena}
 use Rattle.trace_runs.specs.Calls.{calls_of, CanBeMade, AreAnswers, HasMadeAll}
-use Rattle.trace_runs.specs.Journals.{IsRunThrough}
+use Rattle.trace_runs.specs.Journals.{HasRun}
 use Rattle.trace_runs.proofs.Journals.{HasRun-behind}
 
 -- a call that a trace asks for is one that arenas serve
@@ -106,15 +106,10 @@ pub HasMadeAll-other : (number : ℕ) (calls : List TraceCall) (i : ℕ) (d : Tr
     HasMadeAll first now (calls_of number (take i calls)) → HasMadeAll first now (calls_of number (take (i + 1) calls))
 HasMadeAll-other number calls i d first now here is made = subst (λ (cs : List TraceCall). HasMadeAll first now cs) (sym (calls_of-other number calls i d here is)) made
 
--- the device that they leave
-pub IsRunThrough-made : (header : PoolHeader) (calls : List TraceCall) (number : ℕ) (first now : ArenaState) → IsNewArena header first → length calls < 2 ^ 32 → HasMadeAll first now (calls_of number calls) →
-    IsRunThrough header (calls_of number calls) now.device
-IsRunThrough-made header calls number first now new few made =
+-- the device that they leave went through their journal
+pub HasRun-made : (header : PoolHeader) (calls : List TraceCall) (number : ℕ) (first now : ArenaState) → IsNewArena header first → length calls < 2 ^ 32 → (made : HasMadeAll first now (calls_of number calls)) →
+    HasRun header now.device made.journal made.behind.machine
+HasRun-made header calls number first now new few made =
     let many = AreAnswers-length (calls_of number calls) made.journal made.answers in
     let some = calls_of-few number calls in
-    record {
-      journal = made.journal;
-      machine = made.behind.machine;
-      answers = made.answers;
-      run = HasRun-behind header first now made.journal new (omega (arith, many, some, few)) made.behind;
-    }
+    HasRun-behind header first now made.journal new (omega (arith, many, some, few)) made.behind

@@ -20,7 +20,8 @@ use Rattle.trace_text.specs.declared.call.CrashSide.TheVariants.{Same}
 use Rattle.trace_text.specs.declared.call.TraceCall.{TraceCall}
 use Rattle.trace_text.specs.Grammar.{IsAsked}
 use Rattle.trace_runs.specs.Arenas.{IsNewArena}
-use Rattle.trace_runs.specs.Crash.{Stage, IsRunOf, calls_up_to, CrashLeft, IsCrashOf, IsLeftWithin, crash_image}
+use Rattle.trace_runs.specs.Crash.{calls_up_to, CrashLeft, IsCrashOf, IsLeftWithin, crash_image}
+use Rattle.trace_runs.specs.Runs.{Stage, IsRunOf}
 use Rattle.trace_runs.specs.Blocks.{ChangesHeap, gives_block, side_of}
 use Rattle.trace_runs.specs.Seek.{last_stage, IsBehindEntry, IsBehindSought, IsBehindAll}
 use Rattle.trace_runs.proofs.Changes.{IsChange, IsChange-step, IsSide-told, heap-some, heap-zero, zero_or}

@@ -1,6 +1,7 @@
 pub mod Answers
 mod Changes
 pub mod Formatting
+mod Gone
 pub mod Journals
 pub mod Listing
 mod Crashes

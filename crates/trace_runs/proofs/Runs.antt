@@ -10,15 +10,13 @@ use Rattle.heap_check.specs.Image.{bounds_of}
 use Rattle.heap_check.specs.State.{HasState}
 use Rattle.arena_core.specs.Arena.{ArenaState}
 use Rattle.trace_text.specs.declared.call.TraceCall.{TraceCall}
-use Rattle.trace_runs.specs.Crash.{Stage, IsStage, IsRun}
+use Rattle.trace_runs.specs.Runs.{IsRun, IsRunTo, IsStage, Stage, words_after, words_behind}
 use Rattle.arena_journal.specs.Journals.{HasAnswered}
 use Rattle.trace_runs.specs.Seek.{last_stage}
 
--- these calls made these stages and led to this arena and this state, and whatever more calls make comes behind them
-pub record IsRunTo (b : Bounds) (start : List ℕ) (first : Machine) (calls : List TraceCall) (arena : ArenaState) (machine : Machine) (stages : List Stage) : Type 0 where
-  pub state : HasState (words_of arena.device) machine
-  pub bounds : bounds_of (words_of arena.device) ≡ b
-  pub run : (rest : List TraceCall) (more : List Stage) → IsRun b (words_of arena.device) arena.line machine rest more → IsRun b start 0 first (calls ++ rest) (stages ++ more)
+words_behind-last : (start : List ℕ) (stages : List Stage) (last : Stage) → words_behind start (stages ++ last ∷ []) ≡ words_after last
+words_behind-last start [] last = refl
+words_behind-last start (stage ∷ stages) last = words_behind-last (words_after stage) stages last
 
 -- no call was made yet
 pub IsRunTo-none : (b : Bounds) (arena : ArenaState) (first : Machine) → HasState (words_of arena.device) first → bounds_of (words_of arena.device) ≡ b → arena.line ≡ 0 →
@@ -26,6 +24,7 @@ pub IsRunTo-none : (b : Bounds) (arena : ArenaState) (first : Machine) → HasSt
 IsRunTo-none b arena first state bounds line = record {
   state = state;
   bounds = bounds;
+  words = refl;
   run = λ rest more run. subst (λ n. IsRun b (words_of arena.device) n first rest more) line run;
 }
 
@@ -59,6 +58,7 @@ IsRunTo-call b start first calls old new machine call reply stages to answered =
       record {
         state = found.2;
         bounds = answered.step.bounds ∙ to.bounds;
+        words = sym (words_behind-last start stages (last_stage new.device));
         run = λ rest more run.
             subst (λ (cs : List TraceCall). IsRun b start 0 first cs (stages ++ last_stage new.device ∷ [] ++ more)) (sym (append_assoc calls (call ∷ []) rest))
             (subst (λ (ss : List Stage). IsRun b start 0 first (calls ++ (call ∷ rest)) ss) (sym (append_assoc stages (last_stage new.device ∷ []) more))

@@ -20,11 +20,12 @@ use Rattle.trace_text.specs.declared.call.TraceCall.{TraceCall}
 use Rattle.pool_layout.specs.declared.header.PoolHeader.{PoolHeader}
 use Rattle.trace_runs.specs.Arenas.{bounds_for, formatted, IsNewArena}
 use Rattle.trace_runs.specs.Calls.{calls_of}
-use Rattle.trace_runs.specs.Crash.{Stage, IsRun, CrashLeft, IsLeft, IsLeftWithin, IsLeftIdle, is_under_way, total_events}
+use Rattle.trace_runs.specs.Crash.{CrashLeft, IsLeft, IsLeftWithin, IsLeftIdle, is_under_way}
+use Rattle.trace_runs.specs.Runs.{Stage, IsRun, total_events, IsRunTo}
 use Rattle.arena_journal.specs.Journals.{HasAnswered}
 use Rattle.trace_runs.specs.Seek.{last_stage, IsBehindEntry, IsBehindSought, IsBehindAll}
 use Rattle.trace_runs.proofs.Answers.{calls_of-append, calls_of-here, calls_of-other}
-use Rattle.trace_runs.proofs.Runs.{IsRunTo, IsRunTo-none, IsRunTo-call, IsRun-to}
+use Rattle.trace_runs.proofs.Runs.{IsRunTo-none, IsRunTo-call, IsRun-to}
 
 -- the arena's calls among the first i calls of a trace are so many, they have these many events, and the event lies so many
 -- behind them

@@ -16,7 +16,7 @@ use Rattle.trace_text.specs.declared.call.TraceCall.{TraceCall}
 use Rattle.trace_text.specs.Grammar.{IsAsked}
 use Rattle.trace_runs.specs.Arenas.{bounds_for, formatted}
 use Rattle.trace_runs.specs.Calls.{CanBeMade, AreAnswers}
-use Rattle.trace_runs.specs.Crash.{Stage, IsStage, IsRun, words_after}
+use Rattle.trace_runs.specs.Runs.{Stage, IsStage, IsRun, words_after}
 use Rattle.trace_runs.specs.Laws.{LawOfOneJournal, LawOfOneRun}
 
 -- a trace asks for mallocs and frees alone

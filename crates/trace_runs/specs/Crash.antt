@@ -3,58 +3,17 @@ use Rattle.std.specs.Prelude.{◌≡◌, ◌&&◌, ℕ, zero, suc, ◌+◌, ◌-
 use Rattle.std.specs.Bool.{MatchBool}
 use Rattle.pool_layout.specs.declared.header.PoolHeader.{PoolHeader}
 use Rattle.pmem_lines.specs.declared.event.Event.{Event}
-use Rattle.pmem_lines.specs.Events.{reading}
 use Rattle.pmem_lines.specs.Picks.{picked_image}
-use Rattle.heap_model.specs.declared.call.Reply.{Reply}
-use Rattle.heap_model.specs.Machine.{Bounds, Machine, no_heap}
-use Rattle.heap_model.specs.Policy.{plain}
-use Rattle.heap_model.specs.Placement.{bare, IsPlacedStep}
 use Rattle.heap_check.specs.Image.{IsSteadyImage}
-use Rattle.heap_check.specs.State.{HasState, HaveSameHeap}
-use Rattle.arena_core.specs.Events.{call_events, line_after}
+use Rattle.heap_check.specs.State.{HaveSameHeap}
 use Rattle.trace_text.specs.declared.call.CrashSide.{CrashSide}
 use Rattle.trace_text.specs.declared.call.CrashSide.TheVariants.{Same, Before, After}
 use Rattle.trace_text.specs.declared.call.TraceCall.{TraceCall}
 use Rattle.trace_runs.specs.declared.crashing.CrashFault.{CrashFault}
 use Rattle.trace_runs.specs.declared.crashing.CrashFault.TheVariants.{Memory, NoEvent}
 use Rattle.trace_runs.specs.declared.crashing.Crashed.{Crashed}
-use Rattle.trace_runs.specs.Arenas.{bounds_for, formatted}
-
--- the calls of a run
-
--- a call of a run: the words at its begin, and its events
-pub record Stage : Type 0 where
-  pub words : List ℕ
-  pub events : List Event
-
--- the words behind it
-abbrev pub words_after : Stage → List ℕ
-words_after stage = reading stage.words stage.events
-
--- from these words, this write-ahead line and this state on, a call makes this stage: the reply is the placement's, by
--- the plain policy, in which no stack is filled and no slab takes another class; the events are those of the reply, and
--- behind it come the next line, and words with the state that the machine leads to
-pub record IsStage (b : Bounds) (words : List ℕ) (line : ℕ) (m : Machine) (call : TraceCall) (stage : Stage) (later : ℕ) (next : Machine) : Type 0 where
-  pub reply : Reply
-  pub begins : stage.words ≡ words
-  pub events : stage.events ≡ call_events words line call.call reply
-  pub later_is : later ≡ line_after line reply
-  pub step : IsPlacedStep plain b call.thread (bare m) call.call reply (bare next)
-  pub state : HasState (words_after stage) next
-
--- from these words, this write-ahead line and this state on, calls make these stages, one after another
-abbrev pub IsRun : Bounds → List ℕ → ℕ → Machine → List TraceCall → List Stage → Type 0
-IsRun b words line m [] stages = stages ≡ []
-IsRun b words line m (call ∷ calls) [] = ⊥
-IsRun b words line m (call ∷ calls) (stage ∷ stages) =
-    (later : ℕ) × (next : Machine) × IsStage b words line m call stage later next × IsRun b (words_after stage) later next calls stages
-
--- how many events they have
-abbrev pub total_events : List Stage → ℕ
-total_events [] = 0
-total_events (stage ∷ stages) = length stage.events + total_events stages
-
--- crashes within a run
+use Rattle.trace_runs.specs.Arenas.{formatted}
+use Rattle.trace_runs.specs.Runs.{Stage, words_after, total_events, IsRunOf}
 
 -- the image that a generator from this seed picks after the first so many events of a call
 unfoldable pub crash_image : Stage → ℕ → ℕ → List ℕ
@@ -98,10 +57,6 @@ IsLeft words number (stage ∷ stages) event seed left =
     MatchBool (is_under_way stage.events event)
     (IsLeftWithin stage (number + 1) event seed left)
     (IsLeft words (number + 1) stages (event - length stage.events) seed left)
-
--- the calls make these stages, in an arena that was formatted with this header
-abbrev pub IsRunOf : PoolHeader → List TraceCall → List Stage → Type 0
-IsRunOf header calls stages = IsRun (bounds_for header.granules) (formatted header) 0 no_heap calls stages
 
 -- the calls up to and with the one of this number, counted from 1; all of them for 0
 abbrev pub calls_up_to : ℕ → List TraceCall → List TraceCall

@@ -7,7 +7,7 @@ use Rattle.trace_text.specs.declared.call.TraceCall.{TraceCall}
 use Rattle.pool_layout.specs.declared.header.PoolHeader.{PoolHeader}
 use Rattle.trace_runs.specs.Calls.{CanBeMade, AreAnswers}
 use Rattle.trace_runs.specs.Journals.{IsJournal}
-use Rattle.trace_runs.specs.Crash.{Stage, IsRunOf}
+use Rattle.trace_runs.specs.Runs.{Stage, IsRunOf}
 
 -- calls have one journal that answers them in order, and it leads to one state
 abbrev pub LawOfOneJournal : Type 0

@@ -1,6 +1,7 @@
 pub mod Arenas
 pub mod Blocks
 pub mod Calls
+pub mod Runs
 pub mod Journals
 pub mod Crash
 pub mod Seek

@@ -13,7 +13,8 @@ use Rattle.trace_runs.specs.declared.crashing.Sought.TheVariants.{UnderWay, Past
 use Rattle.pool_layout.specs.declared.header.PoolHeader.{PoolHeader}
 use Rattle.trace_runs.specs.Arenas.{formatted}
 use Rattle.trace_text.specs.Grammar.{IsAsked}
-use Rattle.trace_runs.specs.Crash.{Stage, IsRunOf, CrashLeft, IsLeft, IsLeftWithin, IsLeftIdle, total_events}
+use Rattle.trace_runs.specs.Crash.{CrashLeft, IsLeft, IsLeftWithin, IsLeftIdle}
+use Rattle.trace_runs.specs.Runs.{Stage, IsRunOf, total_events}
 
 -- the call that a device went through last
 abbrev pub last_stage : PmemState → Stage

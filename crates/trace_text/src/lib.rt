@@ -4,7 +4,7 @@
 // lists of bytes that share the text of a call. The layers above know `read_trace` (the grammar, with the first line
 // outside it), the writers (exactly the text, behind what stood there) and the laws of the grammar: a text says one
 // trace, or has one refused line, and never both. Both directions are one pass, with no memory taken for a line: a report
-// is written line by line, `write_arena`, `write_entry` for each call as it is answered, and `write_heap`.
+// is written line by line, `write_arena`, `write_entry` for each call, and `write_heap`.
 #![tactic(auto, using(crate::proofs::Fronts::kept_further))]
 
 mod call;

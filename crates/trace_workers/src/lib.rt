@@ -11,8 +11,6 @@
 mod gate;
 mod replaying;
 mod running;
-#[cfg(test)]
-mod tests;
 mod working;
 
 pub use gate::{Gate, OpenGate};

@@ -1,10 +1,10 @@
-use Rattle.std.proofs.Common.{map, subst}
+use Rattle.std.proofs.Common.{◌≡◌, map, subst}
 use Rattle.std.specs.String.{string_bytes}
 use Rattle.nvheap.specs.declared.command.Command.{Command}
-use Rattle.nvheap.specs.declared.command.Command.TheVariants.{Replay}
+use Rattle.nvheap.specs.declared.command.Command.TheVariants.{Replay, Check}
 use Rattle.nvheap.specs.Outside.{told_by, Rose}
 use Rattle.nvheap.specs.Command.{IsCommand}
-use Rattle.nvheap.proofs.Completeness.{completes}
+use Rattle.nvheap.proofs.Completeness.{completes, one_command}
 use Rattle.nvheap.proofs.running.run.Goals as goal
 
 pub returns-in-Replay-clause-complete : goal.returns-in-Replay-clause-complete
@@ -22,3 +22,13 @@ returns-in_default-command-clause-complete g c =
     completes words c.in-Some.command (told c.args.source.now c.args.sink.now c.args.shelf.now) (told c.run_returning.new.source c.run_returning.new.sink c.run_returning.new.shelf) c.run_returning.result
     (Rose (g.S.Source.faults c.args.source.now) (g.S.Source.faults c.run_returning.new.source)) (Rose (g.K.Sink.faults c.args.sink.now) (g.K.Sink.faults c.run_returning.new.sink))
     c.in-Some.ensures c.run_returning.ensures.ends c.run_returning.ensures.read_fault c.run_returning.ensures.write_fault
+
+pub returns-in-Replay-clause-idle : goal.returns-in-Replay-clause-idle
+returns-in-Replay-clause-idle g c check =
+    let words = map string_bytes c.args.words.now in
+    let both : Replay ≡ Check = one_command words Replay Check (subst (λ (command : Command). IsCommand words command) c.in-Replay.is c.in-Some.ensures) check in
+    absurd (cc both)
+
+pub returns-in_default-command-clause-idle : goal.returns-in_default-command-clause-idle
+returns-in_default-command-clause-idle g c check =
+    c.run_returning.ensures.idle (one_command (map string_bytes c.args.words.now) c.in-Some.command Check c.in-Some.ensures check)

@@ -6,7 +6,8 @@ use Rattle.trace_text.specs.Grammar.{pool_of}
 use Rattle.trace_runs.specs.Arenas.{header_for}
 use Rattle.trace_runs.specs.Calls.{calls_of, HasMadeAll}
 use Rattle.trace_runs.specs.Journals.{IsRunThrough}
-use Rattle.trace_runs.proofs.Answers.{IsRunThrough-made}
+use Rattle.trace_runs.specs.Runs.{GoesOn}
+use Rattle.trace_runs.proofs.Gone.{IsRunThrough-gone}
 use Rattle.trace_runs.proofs.imaging.run_calls.Goals as goal
 
 pub returns : goal.returns
@@ -15,6 +16,7 @@ returns g c =
     let calls = c.args.trace.now.calls.items in
     let first : ArenaState = c.in_ok-made.made in
     let now : ArenaState = c.make_calls.new.made in
-    let made : HasMadeAll first now (calls_of c.args.arena calls) = subst (λ (cs : List TraceCall). HasMadeAll first now (calls_of c.args.arena cs)) c.deref.ensures.value c.make_calls.ensures in
+    let made : HasMadeAll first now (calls_of c.args.arena calls) = subst (λ (cs : List TraceCall). HasMadeAll first now (calls_of c.args.arena cs)) c.deref.ensures.value c.make_calls.ensures.made in
+    let gone : GoesOn (calls_of c.args.arena calls) first now = subst (λ (cs : List TraceCall). GoesOn (calls_of c.args.arena cs) first now) c.deref.ensures.value c.make_calls.ensures.gone in
     subst (λ (s : PmemState). IsRunThrough header (calls_of c.args.arena calls) s) (sym c.into_pmem.ensures.device)
-    (IsRunThrough-made header calls c.args.arena first now c.in_ok-made.ensures c.requires.few made)
+    (IsRunThrough-gone header calls c.args.arena first now c.in_ok-made.ensures c.requires.few made (gone header c.in_ok-made.ensures))

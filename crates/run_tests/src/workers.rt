@@ -1,16 +1,13 @@
-// Two threads that wait for each other.
+// Two threads of a trace that wait for each other.
 ghost use Rattle.std.specs.Prelude.{◌<◌, length, IfSome};
 
-use crate::gate::Gate;
-use crate::running::run_trace;
-use arena_core::{Arena, ArenaRoom};
-use heap_model::Call;
-use pmem_lines::{OutOfMemory, SimPmem};
+use crate::runs::words_of;
+use nvheap::{Gate, KeptShelf, MemSink, Status, SureSource, run};
 use shared_pool::Pass;
 use std::sync::Wait;
 use std::sync::atomic::{AtomicU64, Ordering};
-use std::thread;
-use trace_text::TraceCall;
+use std::test::Fail;
+use std::{str, thread};
 
 /// Holds each of two threads ahead of its second call until the other one's first was answered, and notes where somebody
 /// waited in vain, or a pass is not that of the thread or has not seen its calls.
@@ -46,48 +43,40 @@ impl Gate for Held {
     }
 }
 
+// Each thread has two calls on one arena. Root 5 and root 6 keep their blocks, and root 7 has none at the end.
+const TWO_THREADS: &str = "pool 1 16
+0 0 m 5 100
+0 0 m 6 64
+1 0 m 7 100
+1 0 f 7
+";
+
 #[test]
-fn workers_at_the_same_time(rt: HostRuntime) -> Result<(), OutOfMemory> {
+fn workers_at_the_same_time(rt: HostRuntime) -> Result<(), Fail> {
     let alloc = rt.alloc();
-    let room = ArenaRoom::new(alloc, 16)?;
-    let device = SimPmem::zeroed(alloc, 4096, 2048)?;
-    let arenas = vec![in alloc; Arena::format(room, device, 0, 1)]?;
     let gate = Held {
         answered: [AtomicU64::new(0), AtomicU64::new(0)],
         gave_up: AtomicU64::new(0),
         odd: AtomicU64::new(0),
     };
-    let calls = [
-        TraceCall {
-            thread: 0,
-            arena: 0,
-            call: Call::Malloc { root: 5, size: 100 },
-        },
-        TraceCall {
-            thread: 0,
-            arena: 0,
-            call: Call::Malloc { root: 6, size: 64 },
-        },
-        TraceCall {
-            thread: 1,
-            arena: 0,
-            call: Call::Malloc { root: 7, size: 100 },
-        },
-        TraceCall {
-            thread: 1,
-            arena: 0,
-            call: Call::Free { root: 7 },
-        },
-    ];
-    let closed = run_trace(&rt, alloc, arenas, 2, &calls, &gate)?;
+    let words = words_of(alloc, "replay")?;
+    let mut source = SureSource::new(TWO_THREADS.as_bytes());
+    let mut sink = MemSink::new(alloc, &[], usize::MAX);
+    let mut shelf = KeptShelf::new(alloc)?;
+    let status = run(
+        &rt,
+        alloc,
+        &words,
+        &mut source,
+        &mut sink,
+        &gate,
+        &mut shelf,
+    );
+    assert_eq!(&rt; status, Status::Done);
     assert_eq!(&rt; gate.gave_up.load(Ordering::SeqCst), 0);
     assert_eq!(&rt; gate.odd.load(Ordering::SeqCst), 0);
-    assert_eq!(&rt; closed.len(), 1);
-    for arena in &closed {
-        assert_eq!(&rt; arena.journal.len(), 4);
-        assert!(&rt; arena.arena.block(5).is_some());
-        assert!(&rt; arena.arena.block(6).is_some());
-        assert!(&rt; arena.arena.block(7).is_none());
-    }
+    let report = str::from_utf8(sink.bytes())?;
+    assert!(&rt; report.starts_with("arena 0 calls 4\n"));
+    assert!(&rt; report.contains("\nheap 2\n5 "));
     Ok(())
 }
