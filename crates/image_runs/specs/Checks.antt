@@ -2,7 +2,7 @@
 use Rattle.std.specs.Prelude.{◌≡◌, ◌⊎◌, ℕ, ◌+◌, ◌<◌, List, [], ◌∷◌, ◌++◌, length}
 use Rattle.pool_layout.specs.declared.header.PoolHeader.{PoolHeader}
 use Rattle.pool_layout.specs.declared.defect.Defect.{Defect}
-use Rattle.pool_layout.specs.Image.{part_of, IsPoolImage, IsImageOf, IsImageDefect}
+use Rattle.pool_layout.specs.Image.{part_of, IsImageOf, IsImageDefect}
 use Rattle.heap_check.specs.Image.{IsSoundImage}
 use Rattle.image_defects.specs.declared.summary.Summary.{Summary}
 use Rattle.image_defects.specs.Defects.{IsFirstDefect}
@@ -35,11 +35,6 @@ pub record HasUnsound (words : List ℕ) (header : PoolHeader) (arena : ℕ) (de
   pub inside : arena < header.arenas
   pub before : (earlier : ℕ) → earlier < arena → IsSoundImage (part_of words header.granules earlier)
   pub first : IsFirstDefect (part_of words header.granules arena) defect
-
--- the words are those of some pool
-pub record HasPool (words : List ℕ) : Type 0 where
-  pub header : PoolHeader
-  pub pool : IsPoolImage words header
 
 -- The bytes are the image of a pool of which every arena is sound, and the text has the line of each.
 pub record IsChecked (bytes text : List ℕ) : Type 0 where

@@ -1,42 +1,26 @@
 // The report of `check`.
-ghost use Rattle.std.specs.Prelude.{◌≡◌, ◌*◌, length, IfOk, IfErr, OnOk};
-ghost use Rattle.pool_layout.specs.declared.header.PoolHeader.{PoolHeader};
-ghost use Rattle.pool_layout.specs.Image.{IsPoolImage, IfDefect};
-ghost use Rattle.image_runs.specs.Checks.{HasLines, HasUnsound, HasPool, IsChecked, IsPoolDefect, AddsLine, IsOwnDefect};
+ghost use Rattle.std.specs.Prelude.{◌≡◌, ◌*◌, ℕ, List, length, IfOk, IfErr, OnOk};
+ghost use Rattle.pool_layout.specs.Image.{AreWordsOf, AreWords, IfDefect};
+ghost use Rattle.image_runs.specs.Checks.{HasLines, HasUnsound, IsChecked, IsPoolDefect, AddsLine, IsOwnDefect};
 
 use image_check::{CheckFault, check_arena};
-use pool_layout::{ImageFault, PoolHeader, header_of, image_words, parts};
+use pool_layout::{ImageFault, PoolHeader, parts, pool_header};
 use std::alloc::Global;
 use trace_text::write_summary;
 
-/// What is reported of the image of a pool: for each arena in order a line with how many live large extents, live slabs,
-/// roots that hold a block and loose things it has. `Defect` comes exactly where the bytes are no image of a pool or an
-/// arena is not sound: it names the first defect of the bytes, else that of the lowest such arena. Either yields to want of
-/// memory.
-pub fn check_pool(alloc: Global, bytes: &[u8]) -> Result<Vec<u8>, ImageFault>
-    ensures checked { IfOk result (λ text. IsChecked bytes.now text.items) }
-    ensures defect { IfErr result (λ fault. IfDefect fault (IsPoolDefect bytes.now)) }
+/// What is reported of the image of a pool, of which these are the words, and which has so many bytes: for each arena in
+/// order a line with how many live large extents, live slabs, roots that hold a block and loose things it has. `Defect`
+/// comes exactly where the bytes are no image of a pool or an arena is not sound: it names the first defect of the bytes,
+/// else that of the lowest such arena. Either yields to want of memory.
+pub fn check_pool(alloc: Global, words: &[u64], bytes: u64) -> Result<Vec<u8>, ImageFault>
+    requires { AreWords words.now bytes }
+    ensures checked { IfOk result (λ text. (image : List ℕ) → AreWordsOf words.now bytes image → IsChecked image text.items) }
+    ensures defect { IfErr result (λ fault. (image : List ℕ) → AreWordsOf words.now bytes image → IfDefect fault (IsPoolDefect image)) }
 {
-    let words = match image_words(alloc, bytes) {
-        Ok(words) => words,
-        Err(fault) => return Err(fault),
-    };
-    let header = pool_header(&words);
-    match check_arenas(alloc, &words, &header) {
+    let header = pool_header(words, bytes)?;
+    match check_arenas(alloc, words, &header) {
         Ok(text) => Ok(text),
         Err(fault) => Err(fault),
-    }
-}
-
-/// The header of arena 0 of a pool.
-pub fn pool_header(words: &[u64]) -> PoolHeader
-    requires { HasPool words.now }
-    ensures pool { IsPoolImage words.now result }
-    ensures one { (header : PoolHeader) → IsPoolImage words.now header → result ≡ header }
-{
-    match header_of(words) {
-        Ok(header) => header,
-        Err(_) => unreachable!(),
     }
 }
 

@@ -1,7 +1,7 @@
 // What each command over the image of a pool reports.
 //
-// `check_pool` is what `check` does: it reads the bytes as the words of a pool, has the checker look at each arena in order,
-// and gives a line for each, or the first defect and the number of the arena that has it. `specs/Checks.antt` says both, by
+// `check_pool` is what `check` does: it looks at the header lines, has the checker look at each arena in order, and gives a
+// line for each, or the first defect and the number of the arena that has it. `specs/Checks.antt` says both, by
 // the definitions of `pool_layout`, `image_defects` and `trace_text`. It needs no memory device: an image is judged by its
 // words alone. `recover_heap` recovers an arena over a device that has its words, and gives its blocks, which are those of
 // the words; `recover_arena` is what `recover` does for each arena, and has the lines of the heap (`specs/Recoveries.antt`).
@@ -10,5 +10,5 @@
 mod checking;
 mod recovering;
 
-pub use checking::{check_pool, pool_header};
+pub use checking::check_pool;
 pub use recovering::{Recovered, recover_arena, recover_heap};

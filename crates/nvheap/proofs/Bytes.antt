@@ -1,11 +1,11 @@
 -- Bytes that a source gives and a sink takes, piece by piece.
-use Rattle.std.proofs.Common.{◌≡◌, ℕ, zero, suc, ◌+◌, ◌-◌, List, [], ◌∷◌, ◌++◌, length, take, drop, Option, Some, None, sym, ap, ◌∙◌, refl, arith, subst, append_assoc, ◌*◌, ◌/◌}
+use Rattle.std.proofs.Common.{◌≡◌, ℕ, zero, suc, ◌+◌, ◌-◌, List, [], ◌∷◌, ◌++◌, length, take, drop, flat_map, Option, Some, None, sym, ap, ◌∙◌, refl, arith, subst, append_assoc, ◌*◌, ◌/◌}
 use Rattle.std.proofs.lemmas.List.{append-nil, take_all, take_rest, drop_all}
-use Rattle.std.proofs.lemmas.Grind.{common_steps}
+use Rattle.std.specs.Int.{to_le_bytes, w64}
+use Rattle.std.proofs.lemmas.Grind.{common_steps, flat_map-append}
 use Rattle.pmem_lines.specs.Words.{words_at}
 use Rattle.pool_layout.specs.Bytes.{bytes_of_words}
-use Rattle.pool_layout.proofs.Words.{length-bytes_of_words}
-use Rattle.nvheap.specs.Outside.{Gives, GivesOnto, Takes, TakesFront}
+use Rattle.nvheap.specs.Outside.{Gives, Takes, TakesFront}
 
 -- a front is a shorter front and what follows it
 pub take-add : (i j : ℕ) (xs : List ℕ) → take (i + j) xs ≡ take i xs ++ take j (drop i xs)
@@ -26,11 +26,6 @@ Gives-then (Some a) (Some b) (Some c) xs ys first second = first ∙ ap (λ (zs 
 Gives-then (Some a) (Some b) None xs ys first second = absurd second
 Gives-then (Some a) None c xs ys first second = absurd first
 Gives-then None b c xs ys first second = tt
-
--- what was given so far, and a piece more
-pub Gives-onto : (a b c : Option (List ℕ)) (before after : List ℕ) → Gives a b before → GivesOnto b c before after → Gives a c after
-Gives-onto a b c before after first second =
-    subst (λ (xs : List ℕ). Gives a c xs) (sym second.added) (Gives-then a b c before second.more first second.gives)
 
 -- nothing was taken yet
 pub Takes-none : (taken : Option (List ℕ)) → Takes taken taken []
@@ -60,22 +55,11 @@ Takes-further a b c text done n first second =
     subst (λ (xs : List ℕ). Takes a c xs) (sym (take-add done n text)) (Takes-then a b c (take done text) (take n (drop done text)) first rest)
 
 -- a run of words that is all of them
-all_words : (words : List ℕ) → words_at words 0 (length words) ≡ words
+pub all_words : (words : List ℕ) (n : ℕ) → n ≡ length words → words_at words 0 n ≡ words
 unfolding words_at
-all_words words = take_all (length words) words (omega arith)
+all_words words n all = take_all n words (omega (arith, all))
 
--- a front as long as what it is written over, and nothing behind it
-whole_rest : (all front old : List ℕ) → front ≡ all → length front ≡ length old → take (length old) (front ++ drop (length front) old) ≡ all
-whole_rest all front old is long =
-    let none : drop (length front) old ≡ [] = drop_all (length front) old (omega (arith, long)) in
-    let joined : front ++ drop (length front) old ≡ front = ap (λ (rest : List ℕ). front ++ rest) none ∙ append-nil front in
-    ap (λ (xs : List ℕ). take (length old) xs) joined ∙ take_all (length old) front (omega (arith, long)) ∙ is
-
--- as many bytes as the words of a memory fill, written anew; the words were lent whole, and the bytes too
-pub bytes-written : (words lent front old into : List ℕ) (n : ℕ) → lent ≡ words_at words 0 n → n ≡ length words → length old ≡ 8 * length lent → into ≡ old →
-    front ≡ bytes_of_words (words_at lent 0 (length into / 8)) → take (length old) (front ++ drop (length front) old) ≡ bytes_of_words words
-bytes-written words lent front old into n is all size same written =
-    let whole : lent ≡ words = is ∙ rw all (all_words words) in
-    let number : length into / 8 ≡ length words = omega (arith, size, ap length same, ap length whole) in
-    let filled : front ≡ bytes_of_words words = written ∙ rw number (rw whole (ap bytes_of_words (all_words words))) in
-    whole_rest (bytes_of_words words) front old filled (omega (arith, ap length filled, length-bytes_of_words words, size, ap length whole))
+-- the bytes of words, one piece further
+pub bytes_of_words-further : (words : List ℕ) (n m : ℕ) → bytes_of_words (words_at words 0 (n + m)) ≡ bytes_of_words (words_at words 0 n) ++ bytes_of_words (words_at words n m)
+unfolding words_at bytes_of_words
+bytes_of_words-further words n m = ap (flat_map (to_le_bytes w64)) (take-add n m words) ∙ flat_map-append (to_le_bytes w64) (take n words) (take m (drop n words))

@@ -3,7 +3,7 @@ use Rattle.std.proofs.Common.{◌≡◌, ℕ, List, [], ◌∷◌, length, map, 
 use Rattle.std.specs.Option.{MatchOption}
 use Rattle.nvheap.specs.declared.command.Command.{Command}
 use Rattle.nvheap.specs.declared.command.Command.TheVariants.{Replay, Image, Check, Recover, Crash}
-use Rattle.nvheap.specs.Command.{IsCommand, IsNoCommand, IsCrashOf, IsNoCrash}
+use Rattle.nvheap.specs.Command.{IsCommand, IsNoCommand, SaysCrash, IsNoCrash}
 
 module _ {X Y : Type 0} (f : X → Y) where
   pub one_word : (words : List X) (first : X) → length words ≡ 1 → first ≡ get_or words 0 first → map f words ≡ f first ∷ []
@@ -30,7 +30,7 @@ no_crash words first second third is none (Crash arena event seed) said = none (
 
 -- four words of which the first is `crash` say a crash exactly where the others are its numbers
 pub crash_words : (words : List (List ℕ)) (first second third : List ℕ) (said : Option Command) → words ≡ codes "crash" ∷ first ∷ second ∷ third ∷ [] →
-    MatchOption said (IsNoCrash first second third) (IsCrashOf first second third) → MatchOption said (IsNoCommand words) (IsCommand words)
+    MatchOption said (IsNoCrash first second third) (SaysCrash first second third) → MatchOption said (IsNoCommand words) (IsCommand words)
 crash_words words first second third None is none = λ command. no_crash words first second third is none command
 crash_words words first second third (Some Replay) is crash = absurd crash
 crash_words words first second third (Some Image) is crash = absurd crash

@@ -7,22 +7,22 @@ use Rattle.nvheap.specs.declared.status.Status.{Status}
 use Rattle.nvheap.specs.declared.status.Status.TheVariants.{Done, Usage, Refused, ReadFault, WriteFault, Memory, TooLong}
 use Rattle.nvheap.specs.Outside.{Outside}
 use Rattle.nvheap.specs.Inputs.{limit_of, HasRead}
-use Rattle.nvheap.specs.Ends.{IsAnswer, IsWritten, Ends}
+use Rattle.nvheap.specs.Ends.{IsAnswer, CountsImages, IsWritten, Ends}
 
 -- a command that wrote what it has to say
 pub ends_written : (command : Command) (old new : Outside) (input : List ℕ) (answer : Answer) (status : Status) → HasRead (limit_of command) old.left new.left input →
-    IsAnswer command input old.places new.places answer → IsWritten answer old.taken new.taken status → Ends command old new status
-ends_written command old new input (Output text) Done read is written = record { input = input; read = read; output = text.items; answer = is; takes = written }
-ends_written command old new input (Output text) Usage read is written = absurd written
-ends_written command old new input (Output text) Refused read is written = absurd written
-ends_written command old new input (Output text) ReadFault read is written = absurd written
-ends_written command old new input (Output text) WriteFault read is written = record { input = input; read = read; text = text.items; whole = inl is; takes = written }
-ends_written command old new input (Output text) Memory read is written = absurd written
-ends_written command old new input (Output text) TooLong read is written = absurd written
-ends_written command old new input (FaultLine text) Done read is written = absurd written
-ends_written command old new input (FaultLine text) Usage read is written = absurd written
-ends_written command old new input (FaultLine text) Refused read is written = record { input = input; read = read; line = text.items; says = is; takes = written }
-ends_written command old new input (FaultLine text) ReadFault read is written = absurd written
-ends_written command old new input (FaultLine text) WriteFault read is written = record { input = input; read = read; text = text.items; whole = inr is; takes = written }
-ends_written command old new input (FaultLine text) Memory read is written = absurd written
-ends_written command old new input (FaultLine text) TooLong read is written = absurd written
+    IsAnswer command input old.places new.places answer → CountsImages command input old.images new.images answer → IsWritten answer old.taken new.taken status → Ends command old new status
+ends_written command old new input (Output text) Done read is counts written = record { input = input; read = read; output = text.items; answer = record { answers = is; images = counts }; takes = written }
+ends_written command old new input (Output text) Usage read is counts written = absurd written
+ends_written command old new input (Output text) Refused read is counts written = absurd written
+ends_written command old new input (Output text) ReadFault read is counts written = absurd written
+ends_written command old new input (Output text) WriteFault read is counts written = record { input = input; read = read; text = text.items; whole = inl (record { answers = is; images = counts }); takes = written }
+ends_written command old new input (Output text) Memory read is counts written = absurd written
+ends_written command old new input (Output text) TooLong read is counts written = absurd written
+ends_written command old new input (FaultLine text) Done read is counts written = absurd written
+ends_written command old new input (FaultLine text) Usage read is counts written = absurd written
+ends_written command old new input (FaultLine text) Refused read is counts written = record { input = input; read = read; line = text.items; says = is; takes = written }
+ends_written command old new input (FaultLine text) ReadFault read is counts written = absurd written
+ends_written command old new input (FaultLine text) WriteFault read is counts written = record { input = input; read = read; text = text.items; whole = inr is; takes = written }
+ends_written command old new input (FaultLine text) Memory read is counts written = absurd written
+ends_written command old new input (FaultLine text) TooLong read is counts written = absurd written

@@ -11,7 +11,7 @@ use Rattle.heap_check.specs.Image.{IsSoundImage}
 use Rattle.image_defects.specs.Defects.{IsFirstDefect}
 use Rattle.recover.specs.Recovered.{IsRecovered}
 use Rattle.recover.proofs.Recoveries.{recovered_device}
-use Rattle.image_runs.specs.Checks.{HasUnsound, IsOwnDefect, IsPoolDefect}
+use Rattle.image_runs.specs.Checks.{IsOwnDefect, IsPoolDefect}
 use Rattle.image_runs.specs.Recoveries.{heap_lines, heaps_from}
 use Rattle.image_runs.proofs.Faults.{wider}
 use Rattle.nvheap.specs.Outside.{put_device}
@@ -78,13 +78,13 @@ unsound_later words header arena fault sound =
         by_order (inr above) = later.before earlier above to
 
 -- from arena 0 on that is the first of all
-pub unsound_of_pool : (bytes words : List ℕ) (header : PoolHeader) (image : IsImageOf bytes words) (fault : ImageFault) → header ≡ image.header → IfDefect fault (HasUnsoundFrom words header 0) → IfDefect fault (IsPoolDefect bytes)
-unsound_of_pool bytes words header image fault same =
-    wider fault (HasUnsoundFrom words header 0) (IsPoolDefect bytes)
+pub unsound_of_pool : (bytes words : List ℕ) (image : IsImageOf bytes words) (fault : ImageFault) → IfDefect fault (HasUnsoundFrom words image.header 0) → IfDefect fault (IsPoolDefect bytes)
+unsound_of_pool bytes words image fault =
+    wider fault (HasUnsoundFrom words image.header 0) (IsPoolDefect bytes)
     (λ arena defect from. inr (record {
       words = words;
       image = image;
-      unsound = subst (λ (h : PoolHeader). HasUnsound words h arena defect) same (record { inside = from.inside; before = λ earlier below. from.before earlier (omega arith) below; first = from.first });
+      unsound = record { inside = from.inside; before = λ earlier below. from.before earlier (omega arith) below; first = from.first };
     }))
 
 -- an arena of a pool has so many granules at most
@@ -92,16 +92,14 @@ pub few_granules : (header : PoolHeader) → IsFirstHeader header → header.gra
 unfolding layout_of
 few_granules header first = first.valid.greatest
 
--- all arenas of a pool, by the words and the header that the code has
-pub answers_by : (bytes words found empty text : List ℕ) (header : PoolHeader) (image : IsImageOf bytes words) (old new : Option (List (Option PmemState))) → found ≡ words → header ≡ image.header → empty ≡ [] →
-    text ≡ empty ++ heaps_from found header.granules 0 (header.arenas - 0) → HasRecovered found header.granules 0 (header.arenas - 0) old new → AnswersRecover bytes text old new
-answers_by bytes words found empty text header image old new same is none text_is shelf =
-    let all : header.arenas - 0 ≡ header.arenas = omega arith in
+-- all arenas of a pool
+pub answers_by : (bytes words empty text : List ℕ) (image : IsImageOf bytes words) (old new : Option (List (Option PmemState))) → empty ≡ [] →
+    text ≡ empty ++ heaps_from words image.header.granules 0 (image.header.arenas - 0) → HasRecovered words image.header.granules 0 (image.header.arenas - 0) old new → AnswersRecover bytes text old new
+answers_by bytes words empty text image old new none text_is shelf =
+    let all : image.header.arenas - 0 ≡ image.header.arenas = omega arith in
     record {
       words = words;
       image = image;
-      is = text_is ∙ ap (λ (t : List ℕ). t ++ heaps_from found header.granules 0 (header.arenas - 0)) none ∙ ap (λ n. heaps_from found header.granules 0 n) all
-          ∙ ap (λ (ws : List ℕ). heaps_from ws header.granules 0 header.arenas) same ∙ ap (λ (h : PoolHeader). heaps_from words h.granules 0 h.arenas) is;
-      shelf = subst (λ (h : PoolHeader). HasRecovered words h.granules 0 h.arenas old new) is
-          (subst (λ (ws : List ℕ). HasRecovered ws header.granules 0 header.arenas old new) same (subst (λ n. HasRecovered found header.granules 0 n old new) all shelf));
+      is = text_is ∙ ap (λ (t : List ℕ). t ++ heaps_from words image.header.granules 0 (image.header.arenas - 0)) none ∙ ap (λ n. heaps_from words image.header.granules 0 n) all;
+      shelf = subst (λ n. HasRecovered words image.header.granules 0 n old new) all shelf;
     }

@@ -4,17 +4,17 @@ use Rattle.nvheap.specs.declared.command.Command.{Command}
 use Rattle.nvheap.specs.declared.command.Command.TheVariants.{Replay, Image, Check, Recover, Crash}
 
 -- these texts are the numbers of a crash, each in its one decimal form
-abbrev pub IsCrashOf : List ℕ → List ℕ → List ℕ → Command → Type 0
-IsCrashOf first second third Replay = ⊥
-IsCrashOf first second third Image = ⊥
-IsCrashOf first second third Check = ⊥
-IsCrashOf first second third Recover = ⊥
-IsCrashOf first second third (Crash arena event seed) =
+abbrev pub SaysCrash : List ℕ → List ℕ → List ℕ → Command → Type 0
+SaysCrash first second third Replay = ⊥
+SaysCrash first second third Image = ⊥
+SaysCrash first second third Check = ⊥
+SaysCrash first second third Recover = ⊥
+SaysCrash first second third (Crash arena event seed) =
     (first ≡ decimal arena) × (second ≡ decimal event) × (third ≡ decimal seed) × (arena < 16) × (event < 2 ^ 64) × (seed < 2 ^ 64)
 
 -- these texts are the numbers of no crash
 abbrev pub IsNoCrash : List ℕ → List ℕ → List ℕ → Type 0
-IsNoCrash first second third = (command : Command) → ¬ (IsCrashOf first second third command)
+IsNoCrash first second third = (command : Command) → ¬ (SaysCrash first second third command)
 
 -- the words say this command
 abbrev pub IsCommand : List (List ℕ) → Command → Type 0

@@ -1,6 +1,7 @@
 -- How a run ends: what each status says of the words, the input, the output and the shelf.
 use Rattle.std.specs.Prelude.{◌≡◌, ◌⊎◌, ℕ, List, Option}
-use Rattle.pmem_lines.specs.Pmem.{PmemState}
+use Rattle.pmem_lines.specs.Pmem.{PmemState, risen}
+use Rattle.pool_layout.specs.Image.{IsImageOf}
 use Rattle.trace_text.specs.declared.call.Refusal.{Refusal}
 use Rattle.trace_text.specs.declared.call.Refusal.TheVariants.{BadLine, NoArena, NoEvent}
 use Rattle.trace_text.specs.Grammar.{IsRefusedLine}
@@ -37,6 +38,14 @@ Answers commands.Image input output old new = AnswersImage input output old new
 Answers commands.Check input output old new = IsChecked input output × (new ≡ old)
 Answers commands.Recover input output old new = AnswersRecover input output old new
 Answers (commands.Crash arena event seed) input output old new = AnswersCrash input output arena event seed old new
+
+-- how many devices a command makes of images where it has an output: one for each arena that it recovers
+abbrev pub MakesImages : Command → List ℕ → ℕ → ℕ → Type 0
+MakesImages commands.Replay input old new = new ≡ old
+MakesImages commands.Image input old new = new ≡ old
+MakesImages commands.Check input old new = new ≡ old
+MakesImages commands.Recover input old new = (words : List ℕ) × (image : IsImageOf input words) × (new ≡ risen old image.header.arenas)
+MakesImages (commands.Crash arena event seed) input old new = new ≡ risen old 1
 
 -- the line that says why an input is refused
 abbrev pub cause_text : Cause → List ℕ
@@ -80,6 +89,11 @@ abbrev pub IsAnswer : Command → List ℕ → Option (List (Option PmemState)) 
 IsAnswer command input old new (Output text) = Answers command input text.items old new
 IsAnswer command input old new (FaultLine text) = SaysWhy command input text.items old new
 
+-- what became of the count of images with it
+abbrev pub CountsImages : Command → List ℕ → ℕ → ℕ → Answer → Type 0
+CountsImages command input old new (Output text) = MakesImages command input old new
+CountsImages command input old new (FaultLine text) = Unit {0}
+
 -- the line that says why
 abbrev pub IsFaultLine : Cause → Answer → Type 0
 IsFaultLine cause (Output text) = ⊥
@@ -100,12 +114,17 @@ IsUnread command old new Memory = Unit {0}
 IsUnread command old new TooLong = HasReadMore (limit_of command) old new
 IsUnread command old new _ = ⊥
 
+-- the text is the output of a command on an input, with what it leaves on the shelf, and with its images counted
+pub record IsOutput (command : Command) (input text : List ℕ) (old new : Outside) : Type 0 where
+  pub answers : Answers command input text old.places new.places
+  pub images : MakesImages command input old.images new.images
+
 -- Done: the input was read, and the whole output was taken
 pub record HasDone (command : Command) (old new : Outside) : Type 0 where
   pub input : List ℕ
   pub read : HasRead (limit_of command) old.left new.left input
   pub output : List ℕ
-  pub answer : Answers command input output old.places new.places
+  pub answer : IsOutput command input output old new
   pub takes : Takes old.taken new.taken output
 
 -- Refused: the input was read, and the line that says why it is refused was taken whole
@@ -121,7 +140,7 @@ pub record WasCutShort (command : Command) (old new : Outside) : Type 0 where
   pub input : List ℕ
   pub read : HasRead (limit_of command) old.left new.left input
   pub text : List ℕ
-  pub whole : Answers command input text old.places new.places ⊎ SaysWhy command input text old.places new.places
+  pub whole : IsOutput command input text old new ⊎ SaysWhy command input text old.places new.places
   pub takes : TakesFront old.taken new.taken text
 
 -- how a command ends

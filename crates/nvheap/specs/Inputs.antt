@@ -1,8 +1,20 @@
 -- What a command reads, and how much of it.
-use Rattle.std.specs.Prelude.{◌≡◌, ◌≤◌, ℕ, List, [], length, Option, Some, None}
+use Rattle.std.specs.Prelude.{◌≡◌, ◌<◌, ◌≤◌, ◌^◌, ℕ, List, [], length, Option, Some, None}
+use Rattle.pool_layout.specs.Image.{AreWordsOf}
 use Rattle.nvheap.specs.declared.command.Command.{Command}
 use Rattle.nvheap.specs.declared.command.Command.TheVariants.{Replay, Image, Check, Recover, Crash}
-use Rattle.nvheap.specs.Outside.{GivesAll, GivesFew, GivesMore}
+use Rattle.nvheap.specs.declared.input.Input.{Input}
+use Rattle.nvheap.specs.declared.input.Input.TheVariants.{Text, Pool}
+use Rattle.nvheap.specs.Outside.{Gives, GivesAll, GivesFew, GivesMore}
+
+-- the two kinds of input
+abbrev pub IsText : Input → Type 0
+IsText (Text text) = Unit {0}
+IsText (Pool words size) = ⊥
+
+abbrev pub IsPool : Input → Type 0
+IsPool (Text text) = ⊥
+IsPool (Pool words size) = Unit {0}
 
 -- the most bytes that a trace may have
 unfoldable pub longest_trace : ℕ
@@ -39,3 +51,52 @@ HasReadFew None old new = ⊥
 abbrev pub HasReadMore : Option ℕ → Option (List ℕ) → Option (List ℕ) → Type 0
 HasReadMore (Some limit) old new = GivesMore old new limit
 HasReadMore None old new = ⊥
+
+-- what the code has of an input
+
+-- these are its bytes: a text's own, or of an image those of its words
+abbrev pub HasBytes : Input → List ℕ → Type 0
+HasBytes (Text text) bytes = text.items ≡ bytes
+HasBytes (Pool words size) bytes = AreWordsOf words.items size bytes
+
+-- it has some, fewer than 2^32
+pub record IsInput (input : Input) : Type 0 where
+  pub bytes : List ℕ
+  pub has : HasBytes input bytes
+  pub short : length bytes < 2 ^ 32
+
+-- a command reads an input of this kind
+abbrev pub Fits : Command → Input → Type 0
+Fits Replay input = IsText input
+Fits Image input = IsText input
+Fits Check input = IsPool input
+Fits Recover input = IsPool input
+Fits (Crash arena event seed) input = IsText input
+
+-- the input was read: its bytes were all that the source had, within the command's limit
+pub record IsRead (command : Command) (old new : Option (List ℕ)) (input : Input) : Type 0 where
+  pub bytes : List ℕ
+  pub has : HasBytes input bytes
+  pub read : HasRead (limit_of command) old new bytes
+
+-- for the functions below
+
+-- so many bytes of a source came into an input
+pub record HasCome (old new : Option (List ℕ)) (input : Input) (size : ℕ) : Type 0 where
+  pub bytes : List ℕ
+  pub has : HasBytes input bytes
+  pub count : length bytes ≡ size
+  pub gives : Gives old new bytes
+
+-- all bytes of a source came, and they are this many at most
+pub record HasAllCome (old new : Option (List ℕ)) (input : Input) (limit : ℕ) : Type 0 where
+  pub bytes : List ℕ
+  pub has : HasBytes input bytes
+  pub all : GivesAll old new bytes
+  pub few : length bytes ≤ limit
+
+-- a source gave fewer bytes than this
+pub record GivesLess (old new : Option (List ℕ)) (limit : ℕ) : Type 0 where
+  pub bytes : List ℕ
+  pub less : length bytes < limit
+  pub gives : Gives old new bytes

@@ -43,12 +43,6 @@ pub record GivesAll (old new : Option (List ℕ)) (bytes : List ℕ) : Type 0 wh
   pub gives : Gives old new bytes
   pub ended : IsAtEnd new
 
--- a source gave what was added to these bytes
-pub record GivesOnto (old new : Option (List ℕ)) (before after : List ℕ) : Type 0 where
-  pub more : List ℕ
-  pub added : after ≡ before ++ more
-  pub gives : Gives old new more
-
 -- a source gave more bytes than this, one more and no further
 pub record GivesMore (old new : Option (List ℕ)) (limit : ℕ) : Type 0 where
   pub bytes : List ℕ

@@ -1,14 +1,17 @@
 // What each command has to say of its input.
-ghost use Rattle.std.specs.Prelude.{◌≡◌, ◌≢◌, ◌<◌, ◌^◌, List, Option, length, IfOk, OnErr};
+ghost use Rattle.std.specs.Prelude.{◌≡◌, ◌≢◌, ℕ, List, Option, IfOk, OnErr};
 ghost use Rattle.pmem_lines.specs.Pmem.{PmemState};
 ghost use Rattle.nvheap.specs.declared.command.Command.TheVariants as commands;
+ghost use Rattle.pool_layout.specs.Image.{AreWordsOf, AreWords};
 ghost use Rattle.nvheap.specs.Command.{Recovers};
-ghost use Rattle.nvheap.specs.Ends.{IsAnswer, IsFaultLine};
+ghost use Rattle.nvheap.specs.Inputs.{HasBytes, IsInput, Fits};
+ghost use Rattle.nvheap.specs.Ends.{IsAnswer, CountsImages, IsFaultLine};
 
 use crate::cause::{Cause, write_cause};
 use crate::command::Command;
 use crate::crashing::crash_answer;
 use crate::imaging::image_answer;
+use crate::input::Input;
 use crate::recovering::recover_answer;
 use crate::shelf::Shelf;
 use image_runs::check_pool;
@@ -29,32 +32,37 @@ pub(crate) enum Answer {
 pub(crate) fn answer_to<H: Shelf>(
     alloc: Global,
     command: Command,
-    input: &[u8],
+    input: &Input,
     shelf: &mut H,
 ) -> Result<Answer, OutOfMemory>
     requires returns { command ≢ commands.Replay }
-    requires short { length input.now < 2 ^ 32 }
-    ensures answer { IfOk result (IsAnswer command input.now (H.places shelf.old) (H.places shelf.new)) }
+    requires fits { Fits command input.now }
+    requires input { IsInput input.now }
+    ensures answer { IfOk result (λ answer. (bytes : List ℕ) → HasBytes input.now bytes → IsAnswer command bytes (H.places shelf.old) (H.places shelf.new) answer) }
+    ensures counts { IfOk result (λ answer. (bytes : List ℕ) → HasBytes input.now bytes → CountsImages command bytes (H.images shelf.old) (H.images shelf.new) answer) }
     ensures kept { OnErr result (H.places shelf.new ≡ H.places shelf.old) }
     ensures images { ¬ (Recovers command) → H.images shelf.new ≡ H.images shelf.old }
     ensures idle { command ≡ commands.Check → shelf.new ≡ shelf.old }
 {
-    match command {
-        Command::Replay => unreachable!(),
-        Command::Image => image_answer(alloc, input, shelf),
-        Command::Check => check_answer(alloc, input),
-        Command::Recover => recover_answer(alloc, input, shelf),
-        Command::Crash { arena, event, seed } => {
-            crash_answer(alloc, input, arena, event, seed, shelf)
+    match (command, input) {
+        (Command::Image, Input::Text(text)) => image_answer(alloc, text, shelf),
+        (Command::Check, Input::Pool { words, bytes }) => check_answer(alloc, words, *bytes),
+        (Command::Recover, Input::Pool { words, bytes }) => {
+            recover_answer(alloc, words, *bytes, shelf)
         }
+        (Command::Crash { arena, event, seed }, Input::Text(text)) => {
+            crash_answer(alloc, text, arena, event, seed, shelf)
+        }
+        _ => unreachable!(),
     }
 }
 
 // What each arena of a pool's image has.
-fn check_answer(alloc: Global, input: &[u8]) -> Result<Answer, OutOfMemory>
-    ensures { IfOk result (λ answer. (places : Option (List (Option PmemState))) → IsAnswer commands.Check input.now places places answer) }
+fn check_answer(alloc: Global, words: &[u64], bytes: u64) -> Result<Answer, OutOfMemory>
+    requires { AreWords words.now bytes }
+    ensures { IfOk result (λ answer. (image : List ℕ) (places : Option (List (Option PmemState))) → AreWordsOf words.now bytes image → IsAnswer commands.Check image places places answer) }
 {
-    match check_pool(alloc, input) {
+    match check_pool(alloc, words, bytes) {
         Ok(text) => Ok(Answer::Output(text)),
         Err(ImageFault::Defect { arena, defect }) => fault_line(
             alloc,

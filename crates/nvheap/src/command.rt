@@ -1,6 +1,6 @@
 // The words of the program.
 ghost use Rattle.std.specs.Prelude.{◌≡◌, ◌↔◌, IsTrue, map, string_bytes, MatchOption};
-ghost use Rattle.nvheap.specs.Command.{IsCommand, IsNoCommand, IsCrashOf, IsNoCrash};
+ghost use Rattle.nvheap.specs.Command.{IsCommand, IsNoCommand, SaysCrash, IsNoCrash};
 
 use trace_text::whole_number;
 
@@ -54,7 +54,7 @@ fn is_word(word: &String, text: &str) -> bool
 
 // The crash that these three numbers ask for, if they are numbers.
 fn crash_of(arena: &[u8], event: &[u8], seed: &[u8]) -> Option<Command>
-    ensures { MatchOption result (IsNoCrash arena.now event.now seed.now) (IsCrashOf arena.now event.now seed.now) }
+    ensures { MatchOption result (IsNoCrash arena.now event.now seed.now) (SaysCrash arena.now event.now seed.now) }
 {
     let arena = whole_number(arena, 15)?;
     let event = whole_number(event, u64::MAX)?;

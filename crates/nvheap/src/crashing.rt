@@ -1,5 +1,6 @@
 // What `crash` has to say of its input, and the device that it leaves.
-ghost use Rattle.std.specs.Prelude.{◌≡◌, ◌<◌, IfOk, OnErr};
+ghost use Rattle.std.specs.Prelude.{◌≡◌, ◌<◌, IfOk, OnOk, OnErr};
+ghost use Rattle.pmem_lines.specs.Pmem.{risen};
 ghost use Rattle.image_tables.specs.Tables.{tables_of};
 ghost use Rattle.heap_check.specs.Heap.{heap};
 ghost use Rattle.heap_check.specs.Image.{IsSoundImage};
@@ -7,7 +8,7 @@ ghost use Rattle.trace_text.specs.Report.{crash_text};
 ghost use Rattle.trace_runs.specs.Blocks.{blocks_of};
 ghost use Rattle.nvheap.specs.declared.command.Command.TheVariants as commands;
 ghost use Rattle.nvheap.specs.Answers.{PutsRecovered};
-ghost use Rattle.nvheap.specs.Ends.{IsAnswer};
+ghost use Rattle.nvheap.specs.Ends.{IsAnswer, CountsImages};
 
 use crate::answers::{Answer, fault_line};
 use crate::cause::Cause;
@@ -32,6 +33,7 @@ pub(crate) fn crash_answer<H: Shelf>(
     shelf: &mut H,
 ) -> Result<Answer, OutOfMemory>
     ensures answer { IfOk result (IsAnswer (commands.Crash arena event seed) input.now (H.places shelf.old) (H.places shelf.new)) }
+    ensures counts { IfOk result (CountsImages (commands.Crash arena event seed) input.now (H.images shelf.old) (H.images shelf.new)) }
     ensures kept { OnErr result (H.places shelf.new ≡ H.places shelf.old) }
 {
     let trace = match read_trace(alloc, input) {
@@ -72,6 +74,7 @@ fn recovered_report<H: Shelf>(
     requires arena { arena < 16 }
     ensures text { IfOk result (λ text. text.items ≡ crash_text crashed.now.call crashed.now.side (blocks_of (heap (tables_of crashed.now.image.items)))) }
     ensures put { IfOk result (λ _. PutsRecovered crashed.now.image.items arena (H.places shelf.old) (H.places shelf.new)) }
+    ensures images { OnOk result (H.images shelf.new ≡ risen (H.images shelf.old) 1) }
     ensures kept { OnErr result (H.places shelf.new ≡ H.places shelf.old) }
 {
     let device = shelf.take_image(alloc, &crashed.image, ROOM)?;

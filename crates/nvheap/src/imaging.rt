@@ -1,7 +1,6 @@
 // What `image` has to say of its input, and the devices that it leaves.
-ghost use Rattle.std.specs.Prelude.{◌≡◌, ◌<◌, ◌≤◌, ◌^◌, ◌*◌, ◌++◌, length, IfOk, OnOk, OnErr};
+ghost use Rattle.std.specs.Prelude.{◌≡◌, ◌<◌, ◌%◌, ◌^◌, ◌++◌, length, IfOk, OnOk, OnErr};
 ghost use Rattle.std.specs.List.{All};
-ghost use Rattle.pmem_lines.specs.Pmem.{words_of};
 ghost use Rattle.pool_layout.specs.Bytes.{bytes_of_words};
 ghost use Rattle.shared_pool.specs.Rows.{each_of};
 ghost use Rattle.trace_text.specs.Grammar.{pool_of, IsPool, IsTraceCall};
@@ -13,7 +12,7 @@ use crate::answers::{Answer, fault_line};
 use crate::cause::Cause;
 use crate::shelf::{Shelf, put_all};
 use pmem_lines::{OutOfMemory, Pmem};
-use pool_layout::image_bytes;
+use pool_layout::{GRANULE_BYTES, image_bytes};
 use std::alloc::Global;
 use trace_runs::run_calls;
 use trace_text::{Refusal, Trace, TraceFault, read_trace};
@@ -21,6 +20,11 @@ use trace_text::{Refusal, Trace, TraceFault, read_trace};
 const GRANULE_LINES: u32 = 256;
 
 const ROOM: u32 = 2048;
+
+// How many bytes are made of words at once, and of how many words.
+const PIECE: usize = 4096;
+
+const PIECE_WORDS: usize = 512;
 
 // The devices that the calls of a trace leave, by arena, and the bytes of their words.
 #[derive(Drop)]
@@ -69,41 +73,44 @@ fn run_arenas<H: Shelf>(
     ensures places { H.places shelf.new ≡ H.places shelf.old }
     ensures images { H.images shelf.new ≡ H.images shelf.old }
 {
-    let mut bytes = Vec::new(alloc);
+    let mut bytes = Vec::with_capacity(alloc, size_of(trace))?;
+    let mut piece = new_piece(alloc)?;
     let mut devices = Vec::new(alloc);
     for arena in 0..trace.arenas {
         let device = shelf.take(alloc, GRANULE_LINES * trace.granules, ROOM)?;
         let device = run_calls(alloc, trace, arena, device)?;
-        add_bytes(alloc, &mut bytes, &device)?;
+        add_words(&mut bytes, device.words(0, device.size_words()), &mut piece)?;
         devices.push(device)?;
     }
     Ok(Images { bytes, devices })
 }
 
-// Adds the bytes of a memory's words, eight for each, the least first. It has less than 2^29 words.
-fn add_bytes<P: Pmem>(alloc: Global, bytes: &mut Vec<u8>, device: &P) -> Result<(), OutOfMemory>
-    requires { length (words_of (P.state device.now)) < 2 ^ 29 }
-    ensures { OnOk result (bytes.new.items ≡ bytes.old.items ++ bytes_of_words (words_of (P.state device.now))) }
+// How many bytes the image of a trace's pool has.
+fn size_of(trace: &Trace) -> usize
+    requires { IsPool (pool_of trace.now) }
 {
-    bytes.extend_from_slice(&bytes_of(alloc, device)?)?;
+    GRANULE_BYTES as usize * trace.granules as usize * trace.arenas as usize
+}
+
+// A buffer for a piece.
+fn new_piece(alloc: Global) -> Result<Vec<u8>, OutOfMemory>
+    ensures { IfOk result (λ piece. length piece.items ≡ 4096) }
+{
+    let piece = vec![in alloc; 0u8; PIECE]?;
+    Ok(piece)
+}
+
+// Adds the bytes of words, eight for each, the least first. These are whole pieces, and fewer than 2^29.
+fn add_words(bytes: &mut Vec<u8>, words: &[u64], piece: &mut [u8]) -> Result<(), OutOfMemory>
+    requires piece { length piece.old ≡ 4096 }
+    requires whole { length words.now % 512 ≡ 0 }
+    requires few { length words.now < 2 ^ 29 }
+    ensures bytes { OnOk result (bytes.new.items ≡ bytes.old.items ++ bytes_of_words words.now) }
+    ensures piece { length piece.new ≡ 4096 }
+{
+    for at in 0..(words.len() / PIECE_WORDS) as u32 {
+        image_bytes(words, PIECE_WORDS as u32 * at, piece);
+        bytes.extend_from_slice(piece)?;
+    }
     Ok(())
-}
-
-// The bytes of a memory.
-fn bytes_of<P: Pmem>(alloc: Global, device: &P) -> Result<Vec<u8>, OutOfMemory>
-    requires { length (words_of (P.state device.now)) < 2 ^ 29 }
-    ensures { IfOk result (λ bytes. bytes.items ≡ bytes_of_words (words_of (P.state device.now))) }
-{
-    let words = device.words(0, device.size_words());
-    let mut bytes = zeros(alloc, 8 * words.len())?;
-    image_bytes(words, 0, &mut bytes);
-    Ok(bytes)
-}
-
-// So many bytes, all 0.
-fn zeros(alloc: Global, size: usize) -> Result<Vec<u8>, OutOfMemory>
-    ensures { IfOk result (λ bytes. length bytes.items ≡ size) }
-{
-    let bytes = vec![in alloc; 0u8; size]?;
-    Ok(bytes)
 }

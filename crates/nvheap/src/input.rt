@@ -1,12 +1,14 @@
-// All bytes of a source.
-ghost use Rattle.std.specs.Prelude.{◌≡◌, ◌+◌, ◌<◌, ◌≤◌, ◌^◌, [], length, vec_len, Some, IfOk, IfErr, OnOk, Err, IsTrue};
-ghost use Rattle.nvheap.specs.Outside.{Rose, Gives, GivesAll, GivesFew, GivesMore, GivesOnto, IsAtEnd};
-ghost use Rattle.nvheap.specs.Inputs.{limit_of, HasRead};
+// What a command reads.
+ghost use Rattle.std.specs.Prelude.{◌≡◌, ◌-◌, ◌<◌, ◌≤◌, ◌%◌, ◌^◌, ◌++◌, ℕ, List, [], length, take, IfOk, IfErr, OnOk, OnErr, Err};
+ghost use Rattle.nvheap.specs.Outside.{Rose, Gives, GivesFew, GivesMore, IsAtEnd};
+ghost use Rattle.nvheap.specs.Inputs.{limit_of, HasBytes, IsInput, Fits, IsRead, HasCome, HasAllCome, GivesLess};
 ghost use Rattle.nvheap.specs.Ends.{IsUnread};
 
 use crate::command::Command;
-use crate::source::Source;
+use crate::source::{Failed, Source};
 use crate::status::Status;
+use pmem_lines::OutOfMemory;
+use pool_layout::add_words;
 use std::alloc::{AllocError, Global};
 
 // The most bytes that a trace may have, and an image.
@@ -14,7 +16,15 @@ const LONGEST_TRACE: usize = 67_108_864;
 
 const LONGEST_IMAGE: usize = 268_435_456;
 
+// How many bytes are read before they are put behind the others: whole words.
 const PIECE: usize = 65536;
+
+/// What a command reads: a text, or the image of a pool, as its words and its number of bytes.
+#[derive(Drop)]
+pub(crate) enum Input {
+    Text(Vec<u8>),
+    Pool { words: Vec<u64>, bytes: u64 },
+}
 
 /// Why an input was not read.
 #[derive(Debug, Drop)]
@@ -34,19 +44,41 @@ impl From<AllocError> for Unread {
     }
 }
 
-/// The input of a command, or how a run of it ends without one.
+impl From<OutOfMemory> for Unread {
+    ghost use Rattle.nvheap.specs.declared.input.Unread.TheVariants.{Memory};
+
+    ghost from_gives = { λ _ unread. unread ≡ Memory };
+
+    fn from(_error: OutOfMemory) -> Self {
+        Unread::Memory
+    }
+}
+
+impl From<Failed> for Unread {
+    ghost use Rattle.nvheap.specs.declared.input.Unread.TheVariants as unreads;
+
+    ghost from_gives = { λ _ unread. unread ≡ unreads.Failed };
+
+    fn from(_failed: Failed) -> Self {
+        Unread::Failed
+    }
+}
+
+/// The input of a command, or how a run of it ends without one. An image is read into its words in place.
 pub(crate) fn read_input<S: Source>(
     alloc: Global,
     command: Command,
     source: &mut S,
-) -> Result<Vec<u8>, Status>
-    ensures read { IfOk result (λ input. HasRead (limit_of command) (S.left source.old) (S.left source.new) input.items) }
-    ensures short { IfOk result (λ input. length input.items < 2 ^ 32) }
+) -> Result<Input, Status>
+    ensures read { IfOk result (IsRead command (S.left source.old) (S.left source.new)) }
+    ensures fits { IfOk result (Fits command) }
+    ensures input { IfOk result IsInput }
     ensures unread { IfErr result (IsUnread command (S.left source.old) (S.left source.new)) }
     ensures failed { result ≡ Err Status.ReadFault → Rose (S.faults source.old) (S.faults source.new) }
 {
-    match read_all(alloc, source, longest_of(command)) {
-        Ok(input) => Ok(input),
+    let mut input = empty_input(alloc, command);
+    match read_all(alloc, source, &mut input, longest_of(command)) {
+        Ok(()) => Ok(input),
         Err(Unread::Failed) => Err(Status::ReadFault),
         Err(Unread::Memory) => Err(Status::Memory),
         Err(Unread::TooLong) => Err(Status::TooLong),
@@ -57,7 +89,7 @@ pub(crate) fn read_input<S: Source>(
 #[tactic(auto, unfolding(crate::specs::Inputs::longest_trace, crate::specs::Inputs::longest_image))]
 fn longest_of(command: Command) -> usize
     ensures longest { limit_of command ≡ Some result }
-    ensures few { result < 2 ^ 32 }
+    ensures few { result < 2 ^ 32 - 65536 }
 {
     match command {
         Command::Replay | Command::Image | Command::Crash { .. } => LONGEST_TRACE,
@@ -65,56 +97,86 @@ fn longest_of(command: Command) -> usize
     }
 }
 
-// All bytes of a source, which may be `limit` at most: it is read to its end, or one byte past the limit and no
-// further.
-fn read_all<S: Source>(alloc: Global, source: &mut S, limit: usize) -> Result<Vec<u8>, Unread>
-    requires { limit < 2 ^ 32 }
-    ensures all { IfOk result (λ bytes. GivesAll (S.left source.old) (S.left source.new) bytes.items) }
-    ensures short { IfOk result (λ bytes. vec_len bytes ≤ limit) }
+// An input of a command, of which no byte has come.
+#[tactic(auto, unfolding(pool_layout::specs::Bytes::words_of_bytes))]
+fn empty_input(alloc: Global, command: Command) -> Input
+    ensures none { HasBytes result [] }
+    ensures fits { Fits command result }
+{
+    match command {
+        Command::Replay | Command::Image | Command::Crash { .. } => Input::Text(Vec::new(alloc)),
+        Command::Check | Command::Recover => Input::Pool {
+            words: Vec::new(alloc),
+            bytes: 0,
+        },
+    }
+}
+
+// Reads all bytes of a source, which may be `limit` at most, into an input that has none: it is read to its end, or one byte
+// past the limit and no further.
+fn read_all<S: Source>(
+    alloc: Global,
+    source: &mut S,
+    input: &mut Input,
+    limit: usize,
+) -> Result<(), Unread>
+    requires few { limit < 2 ^ 32 - 65536 }
+    requires none { HasBytes input.old [] }
+    ensures all { OnOk result (HasAllCome (S.left source.old) (S.left source.new) input.new limit) }
+    ensures fits { (command : Command) → Fits command input.old → Fits command input.new }
     ensures too_long { result ≡ Err Unread.TooLong → GivesMore (S.left source.old) (S.left source.new) limit }
     ensures few { result ≡ Err Unread.Failed → GivesFew (S.left source.old) (S.left source.new) limit }
     ensures failed { result ≡ Err Unread.Failed → Rose (S.faults source.old) (S.faults source.new) }
 {
-    let mut piece = new_piece(alloc)?;
-    let mut bytes = Vec::new(alloc);
-    while bytes.len() <= limit {
-        if !read_piece(source, &mut piece, &mut bytes, limit)? {
-            return Ok(bytes);
+    let mut piece = vec![in alloc; 0u8; PIECE]?;
+    let mut size = 0;
+    while size <= limit {
+        let most = PIECE.min(limit + 1 - size);
+        let n = fill(source, &mut piece[..most])?;
+        input.add(&piece[..n])?;
+        size += n;
+        if n < most {
+            return Ok(());
         }
     }
     Err(Unread::TooLong)
 }
 
-// A buffer for one read.
-fn new_piece(alloc: Global) -> Result<Vec<u8>, AllocError>
-    ensures { IfOk result (λ piece. 0 < vec_len piece) }
-{
-    vec![in alloc; 0u8; PIECE]
-}
-
-// Reads once, up to one byte past the limit, and says whether bytes came; none come at the end.
-fn read_piece<S: Source>(
-    source: &mut S,
-    piece: &mut [u8],
-    bytes: &mut Vec<u8>,
-    limit: usize,
-) -> Result<bool, Unread>
-    requires fits { limit < 2 ^ 32 }
-    requires some { 0 < length piece.old }
-    requires short { vec_len bytes.old ≤ limit }
-    ensures gives { OnOk result (GivesOnto (S.left source.old) (S.left source.new) bytes.old.items bytes.new.items) }
-    ensures short { OnOk result (vec_len bytes.new ≤ limit + 1) }
-    ensures more { IfOk result (λ more. IsTrue more → vec_len bytes.old < vec_len bytes.new) }
-    ensures end { IfOk result (λ more. ¬ (IsTrue more) → IsAtEnd (S.left source.new) × (vec_len bytes.new ≡ vec_len bytes.old)) }
-    ensures too_long { ¬ (result ≡ Err Unread.TooLong) }
-    ensures none { result ≡ Err Unread.Failed → Gives (S.left source.old) (S.left source.new) [] }
-    ensures failed { result ≡ Err Unread.Failed → Rose (S.faults source.old) (S.faults source.new) }
+// Reads until a buffer is full, or to the source's end, and says how many bytes came.
+fn fill<S: Source>(source: &mut S, piece: &mut [u8]) -> Result<usize, Failed>
+    ensures size { length piece.new ≡ length piece.old }
+    ensures count { IfOk result (λ n. n ≤ length piece.old) }
+    ensures gives { IfOk result (λ n. Gives (S.left source.old) (S.left source.new) (take n piece.new)) }
+    ensures end { IfOk result (λ n. n < length piece.old → IsAtEnd (S.left source.new)) }
+    ensures less { OnErr result (GivesLess (S.left source.old) (S.left source.new) (length piece.old)) }
+    ensures failed { OnErr result (Rose (S.faults source.old) (S.faults source.new)) }
     ensures later { S.faults source.old ≤ S.faults source.new }
 {
-    let most = piece.len().min(limit + 1 - bytes.len());
-    let Ok(n) = source.read(&mut piece[..most]) else {
-        return Err(Unread::Failed);
-    };
-    bytes.extend_from_slice(&piece[..n])?;
-    Ok(n > 0)
+    let mut done = 0;
+    while done < piece.len() {
+        let n = source.read(&mut piece[done..])?;
+        if n == 0 {
+            return Ok(done);
+        }
+        done += n;
+    }
+    Ok(done)
+}
+
+impl Input {
+    // Puts bytes behind those that came. Of an image these are whole words so far.
+    fn add(&mut self, piece: &[u8]) -> Result<(), OutOfMemory>
+        requires { IsInput self.old }
+        ensures bytes { OnOk result ((bytes : List ℕ) → length bytes % 8 ≡ 0 → HasBytes self.old bytes → HasBytes self.new (bytes ++ piece.now)) }
+        ensures fits { (command : Command) → Fits command self.old → Fits command self.new }
+    {
+        match self {
+            Input::Text(text) => text.extend_from_slice(piece)?,
+            Input::Pool { words, bytes } => {
+                add_words(words, piece)?;
+                *bytes += piece.len() as u64;
+            }
+        }
+        Ok(())
+    }
 }

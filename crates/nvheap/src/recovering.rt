@@ -1,18 +1,19 @@
 // What `recover` has to say of its input, and the devices that it leaves.
-ghost use Rattle.std.specs.Prelude.{◌≡◌, ◌≤◌, ◌-◌, ◌++◌, IfOk, IfErr, OnOk, OnErr};
-ghost use Rattle.pool_layout.specs.Image.{IsPoolImage, IfDefect};
+ghost use Rattle.std.specs.Prelude.{◌≡◌, ◌≤◌, ◌-◌, ◌++◌, ℕ, List, IfOk, IfErr, OnOk, OnErr};
+ghost use Rattle.pmem_lines.specs.Pmem.{risen};
+ghost use Rattle.pool_layout.specs.Image.{AreWordsOf, AreWords, IsPoolImage, IfDefect};
 ghost use Rattle.image_runs.specs.Checks.{IsPoolDefect};
 ghost use Rattle.image_runs.specs.Recoveries.{heaps_from};
 ghost use Rattle.nvheap.specs.declared.command.Command.TheVariants as commands;
 ghost use Rattle.nvheap.specs.Answers.{AnswersRecover, HasRecovered, HasUnsoundFrom};
-ghost use Rattle.nvheap.specs.Ends.{IsAnswer};
+ghost use Rattle.nvheap.specs.Ends.{IsAnswer, MakesImages, CountsImages};
 
 use crate::answers::{Answer, fault_line};
 use crate::cause::Cause;
 use crate::shelf::Shelf;
-use image_runs::{pool_header, recover_arena};
+use image_runs::recover_arena;
 use pmem_lines::OutOfMemory;
-use pool_layout::{ImageFault, PoolHeader, image_words, parts};
+use pool_layout::{ImageFault, PoolHeader, parts, pool_header};
 use std::alloc::Global;
 
 const ROOM: u32 = 2048;
@@ -21,13 +22,16 @@ const ROOM: u32 = 2048;
 /// arena's number once all are.
 pub(crate) fn recover_answer<H: Shelf>(
     alloc: Global,
-    input: &[u8],
+    words: &[u64],
+    bytes: u64,
     shelf: &mut H,
 ) -> Result<Answer, OutOfMemory>
-    ensures answer { IfOk result (IsAnswer commands.Recover input.now (H.places shelf.old) (H.places shelf.new)) }
+    requires { AreWords words.now bytes }
+    ensures answer { IfOk result (λ answer. (image : List ℕ) → AreWordsOf words.now bytes image → IsAnswer commands.Recover image (H.places shelf.old) (H.places shelf.new) answer) }
+    ensures counts { IfOk result (λ answer. (image : List ℕ) → AreWordsOf words.now bytes image → CountsImages commands.Recover image (H.images shelf.old) (H.images shelf.new) answer) }
     ensures kept { OnErr result (H.places shelf.new ≡ H.places shelf.old) }
 {
-    match recover_pool(alloc, input, shelf) {
+    match recover_pool(alloc, words, bytes, shelf) {
         Ok(text) => Ok(Answer::Output(text)),
         Err(ImageFault::Defect { arena, defect }) => fault_line(
             alloc,
@@ -38,18 +42,21 @@ pub(crate) fn recover_answer<H: Shelf>(
 }
 
 // The text of it, or the first defect.
-fn recover_pool<H: Shelf>(alloc: Global, bytes: &[u8], shelf: &mut H) -> Result<Vec<u8>, ImageFault>
-    ensures answer { IfOk result (λ text. AnswersRecover bytes.now text.items (H.places shelf.old) (H.places shelf.new)) }
+fn recover_pool<H: Shelf>(
+    alloc: Global,
+    words: &[u64],
+    bytes: u64,
+    shelf: &mut H,
+) -> Result<Vec<u8>, ImageFault>
+    requires { AreWords words.now bytes }
+    ensures answer { IfOk result (λ text. (image : List ℕ) → AreWordsOf words.now bytes image → AnswersRecover image text.items (H.places shelf.old) (H.places shelf.new)) }
+    ensures images { OnOk result ((image : List ℕ) → AreWordsOf words.now bytes image → MakesImages commands.Recover image (H.images shelf.old) (H.images shelf.new)) }
     ensures kept { OnErr result (H.places shelf.new ≡ H.places shelf.old) }
-    ensures defect { IfErr result (λ fault. IfDefect fault (IsPoolDefect bytes.now)) }
+    ensures defect { IfErr result (λ fault. (image : List ℕ) → AreWordsOf words.now bytes image → IfDefect fault (IsPoolDefect image)) }
 {
-    let words = match image_words(alloc, bytes) {
-        Ok(words) => words,
-        Err(fault) => return Err(fault),
-    };
-    let header = pool_header(&words);
+    let header = pool_header(words, bytes)?;
     let mut text = Vec::new(alloc);
-    match recover_from(alloc, &words, &header, 0, &mut text, shelf) {
+    match recover_from(alloc, words, &header, 0, &mut text, shelf) {
         Ok(()) => Ok(text),
         Err(fault) => Err(fault),
     }
@@ -69,6 +76,7 @@ fn recover_from<H: Shelf>(
     requires inside { arena ≤ header.now.arenas }
     ensures text { OnOk result (text.new.items ≡ text.old.items ++ heaps_from words.now header.now.granules arena (header.now.arenas - arena)) }
     ensures recovered { OnOk result (HasRecovered words.now header.now.granules arena (header.now.arenas - arena) (H.places shelf.old) (H.places shelf.new)) }
+    ensures images { OnOk result (H.images shelf.new ≡ risen (H.images shelf.old) (header.now.arenas - arena)) }
     ensures kept { OnErr result (H.places shelf.new ≡ H.places shelf.old) }
     ensures unsound { IfErr result (λ fault. IfDefect fault (HasUnsoundFrom words.now header.now arena)) }
 {

@@ -8,7 +8,7 @@ ghost use Rattle.nvheap.specs.Accepted.{IsAccepted};
 
 use crate::answers::answer_to;
 use crate::command::{Command, command_of};
-use crate::input::read_input;
+use crate::input::{Input, read_input};
 use crate::output::write_answer;
 use crate::replaying::replay_answer;
 use crate::shelf::Shelf;
@@ -84,11 +84,12 @@ fn run_waiting<R: Threads + Wait + Sync, S: Source, K: Sink, G: Gate + Sync, H: 
     ensures aside { IsAside result → H.places shelf.new ≡ H.places shelf.old }
     ensures images { H.images shelf.new ≡ H.images shelf.old }
 {
-    let input = match read_input(alloc, Command::Replay, source) {
-        Ok(input) => input,
+    let text = match read_input(alloc, Command::Replay, source) {
+        Ok(Input::Text(text)) => text,
+        Ok(Input::Pool { .. }) => unreachable!(),
         Err(status) => return status,
     };
-    match replay_answer(rt, alloc, &input, gate, shelf) {
+    match replay_answer(rt, alloc, &text, gate, shelf) {
         Ok(answer) => write_answer(sink, &answer),
         Err(_) => Status::Memory,
     }

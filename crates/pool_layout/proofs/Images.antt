@@ -4,12 +4,13 @@ use Rattle.std.proofs.Math.Nat.{mul-le-mul_left}
 use Rattle.pmem_lines.specs.Words.{word_at}
 use Rattle.pmem_lines.proofs.Words.{length-words_at, get_or-words_at}
 use Rattle.pool_layout.specs.declared.header.PoolHeader.{PoolHeader}
+use Rattle.pool_layout.specs.declared.defect.Defect.{Defect}
 use Rattle.pool_layout.specs.declared.defect.Defect.TheVariants.{BadHeader}
 use Rattle.pool_layout.specs.Layout.{layout_of, IsLayout}
 use Rattle.pool_layout.specs.Places.{text_word, fields_word}
 use Rattle.pool_layout.specs.Header.{header_text, header_word, fields_of, IsPoolHeader, IsHeader}
 use Rattle.pool_layout.specs.Bytes.{words_of_bytes}
-use Rattle.pool_layout.specs.Image.{part_of, header_of_arena, image_length, IsFirstHeader, IsFirstLine, IsFirstFields, IsBadLine, HasHeaders, IsPoolImage, IsImageOf}
+use Rattle.pool_layout.specs.Image.{part_of, header_of_arena, image_length, IsFirstHeader, IsFirstLine, IsFirstFields, IsBadLine, HasBadArena, HasHeaders, IsPoolImage, IsImageOf}
 use Rattle.pool_layout.proofs.Layouts.{layout_rules}
 use Rattle.pool_layout.proofs.Headers.{header_fits, fields_of-header_word}
 use Rattle.pool_layout.proofs.Words.{length-words_of_bytes}
@@ -78,17 +79,30 @@ pub words_in_image : (bytes : List ℕ) (header : PoolHeader) → length bytes �
 words_in_image bytes header size = omega (arith, length-words_of_bytes bytes, size)
 
 -- arena 0's header line, in its own words
-pub IsHeader-first : (bytes : List ℕ) (header : PoolHeader) → length bytes ≡ image_length header → IsFirstLine (words_of_bytes bytes) header →
-    IsHeader (part_of (words_of_bytes bytes) header.granules 0) (header_of_arena header 0)
-IsHeader-first bytes header size line =
-    let words = words_of_bytes bytes in
+pub IsHeader-first : (words : List ℕ) (header : PoolHeader) → length words ≡ header.arenas * header.granules * 2048 → IsFirstLine words header →
+    IsHeader (part_of words header.granules 0) (header_of_arena header 0)
+IsHeader-first words header size line =
     let some = some_granules header line.valid.valid in
     let here : 2048 * header.granules * 0 + 0 ≡ 0 = omega arith in
     let next : 2048 * header.granules * 0 + 1 ≡ 1 = omega arith in
     let text = word_at-part_of words header.granules 0 0 (omega (arith, some)) ∙ ap (word_at words) here in
     let word = word_at-part_of words header.granules 0 1 (omega (arith, some)) ∙ ap (word_at words) next in
-    IsHeader-part words header 0 (word_at words 0) (word_at words 1) (words_in_image bytes header size) line.valid (omega (arith, line.valid.valid.some)) (sym text) line.text (sym word)
+    IsHeader-part words header 0 (word_at words 0) (word_at words 1) size line.valid (omega (arith, line.valid.valid.some)) (sym text) line.text (sym word)
     (line.fields ∙ ap (λ n. header_word (record { version = header.version; number = n; arenas = header.arenas; granules = header.granules })) line.valid.number)
+
+-- the header line of an arena is bad, and no earlier one
+pub bad_arena : (bytes words : List ℕ) (header : PoolHeader) (arena : ℕ) (defect : Defect) → words ≡ words_of_bytes bytes → length bytes ≡ image_length header → IsFirstLine words header → 1 ≤ arena → arena < header.arenas →
+    ((earlier : ℕ) → earlier < arena → IsHeader (part_of words header.granules earlier) (header_of_arena header earlier)) →
+    IsBadLine (part_of words header.granules arena) (λ word. word ≡ header_word (header_of_arena header arena)) defect → HasBadArena bytes arena defect
+bad_arena bytes words header arena defect is size line later inside before bad = record {
+  header = header;
+  line = subst (λ (ws : List ℕ). IsFirstLine ws header) is line;
+  size = size;
+  later = later;
+  inside = inside;
+  before = subst (λ (ws : List ℕ). (earlier : ℕ) → earlier < arena → IsHeader (part_of ws header.granules earlier) (header_of_arena header earlier)) is before;
+  is = subst (λ (ws : List ℕ). IsBadLine (part_of ws header.granules arena) (λ word. word ≡ header_word (header_of_arena header arena)) defect) is bad;
+}
 
 -- bytes with good header lines are an image
 pub IsImageOf-headers : (bytes words : List ℕ) (header : PoolHeader) → HasHeaders bytes header → words ≡ words_of_bytes bytes → IsImageOf bytes words

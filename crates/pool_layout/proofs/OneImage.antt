@@ -215,7 +215,7 @@ arenas_or_not bytes header line size (suc n) within =
     let later : 1 ≤ n = ⊎_elim
     (λ (none : n < 1).
     let first : 0 ≡ n = omega arith in
-    let good : Good n = subst Good first (IsHeader-first bytes header size line) in
+    let good : Good n = subst Good first (IsHeader-first words header (words_in_image bytes header size) line) in
     absurd (no_bad_line part Is bad.0 good.text good.word bad.1))
     (λ (some : 1 ≤ n). some)
     (cases_lt n 1) in

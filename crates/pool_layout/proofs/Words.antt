@@ -6,12 +6,13 @@ use Rattle.std.specs.List.{All}
 use Rattle.std.proofs.lemmas.Nat.{le_bytes_8, from_le_bytes-to_le_bytes_8}
 use Rattle.std.proofs.lemmas.Slice.{take-put_mid}
 use borrow.Rule.Slice.PartMut.{put_mid}
-use Rattle.std.proofs.lemmas.List.{nil_from_length, flat_map_more, drop-drop, take_more, take-append-drop, length-map, length-take-le, length-drop, length-append, get_or-map, get_or-take, get_or-drop, get_or_past}
+use Rattle.std.proofs.lemmas.List.{nil_from_length, flat_map_more, drop-drop, take_more, take-append-drop, take-append-le, drop-append-le, map-append, length-map, length-take-le, length-drop, length-append, get_or-map, get_or-take, get_or-drop, get_or_past}
 use Rattle.std.proofs.lemmas.List.Elements.{All-tail}
 use Rattle.std.proofs.lemmas.Bool.{cases_lt}
 use Rattle.std.proofs.Common.{⊎_elim}
 use Rattle.pmem_lines.specs.Words.{word_at, words_at}
 use Rattle.pool_layout.specs.Bytes.{words_of_bytes, bytes_of_words}
+use Rattle.pool_layout.specs.Laws.{LawOfPieces}
 
 -- chunks
 
@@ -26,7 +27,32 @@ get_or-first_chunks (suc k) (suc i) xs d below =
     let further : 8 + 8 * i ≡ 8 * suc i = omega arith in
     get_or-first_chunks k i (drop 8 xs) d (omega arith) ∙ ap (take 8) (drop-drop (8 * i) 8 xs ∙ ap (λ n. drop n xs) further)
 
+-- the chunks of two rows of bytes, of which the first is whole chunks
+first_chunks-append : (n m : ℕ) (xs ys : List ℕ) → length xs ≡ 8 * n → first_chunks 8 (n + m) (xs ++ ys) ≡ first_chunks 8 n xs ++ first_chunks 8 m ys
+first_chunks-append zero m xs ys size =
+    let same : 0 + m ≡ m = omega arith in
+    ap (λ k. first_chunks 8 k (xs ++ ys)) same ∙ ap (λ (zs : List ℕ). first_chunks 8 m (zs ++ ys)) (nil_from_length xs size)
+first_chunks-append (suc n) m xs ys size =
+    let enough : 8 ≤ length xs = omega (arith, size) in
+    let less : length (drop 8 xs) ≡ 8 * n = omega (arith, size, length-drop 8 xs) in
+    let next : suc n + m ≡ suc (n + m) = omega arith in
+    ap (λ k. first_chunks 8 k (xs ++ ys)) next
+    ∙ ap (λ (zs : List ℕ). zs ∷ first_chunks 8 (n + m) (drop 8 (xs ++ ys))) (take-append-le 8 xs ys enough)
+    ∙ ap (λ (zs : List ℕ). take 8 xs ∷ first_chunks 8 (n + m) zs) (drop-append-le 8 xs ys enough)
+    ∙ ap (λ (zs : List (List ℕ)). take 8 xs ∷ zs) (first_chunks-append n m (drop 8 xs) ys less)
+
 -- words
+
+-- the words of two rows of bytes, of which the first is whole words
+pub words_of_bytes-append : LawOfPieces
+unfolding words_of_bytes
+words_of_bytes-append bytes more whole =
+    let n = length bytes / 8 in
+    let m = length more / 8 in
+    let many : length (bytes ++ more) / 8 ≡ n + m = omega (arith, length-append bytes more, whole) in
+    ap (λ k. map (from_le_bytes w64) (first_chunks 8 k (bytes ++ more))) many
+    ∙ ap (map (from_le_bytes w64)) (first_chunks-append n m bytes more (omega (arith, whole)))
+    ∙ map-append (from_le_bytes w64) (first_chunks 8 n bytes) (first_chunks 8 m more)
 
 pub length-words_of_bytes : (bytes : List ℕ) → length (words_of_bytes bytes) ≡ length bytes / 8
 unfolding words_of_bytes

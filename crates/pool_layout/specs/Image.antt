@@ -34,6 +34,16 @@ pub record IsPoolImage (words : List ℕ) (header : PoolHeader) : Type 0 where
   pub size : length words ≡ header.arenas * header.granules * 2048
   pub each : (arena : ℕ) → arena < header.arenas → IsHeader (part_of words header.granules arena) (header_of_arena header arena)
 
+-- these are the words of bytes, and there are so many of them
+pub record AreWordsOf (words : List ℕ) (size : ℕ) (bytes : List ℕ) : Type 0 where
+  pub words_are : words ≡ words_of_bytes bytes
+  pub size_is : size ≡ length bytes
+
+-- they are the words of some bytes
+pub record AreWords (words : List ℕ) (size : ℕ) : Type 0 where
+  pub bytes : List ℕ
+  pub are : AreWordsOf words size bytes
+
 -- the bytes are the image of a pool, and these are its words
 pub record IsImageOf (bytes words : List ℕ) : Type 0 where
   pub words_are : words ≡ words_of_bytes bytes

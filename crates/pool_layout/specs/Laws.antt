@@ -1,5 +1,5 @@
 -- Laws of images: bytes are an image or have a first defect, and never both; bytes and words undo each other.
-use Rattle.std.specs.Prelude.{◌≡◌, ◌⊎◌, ℕ, ◌*◌, ◌<◌, ◌^◌, List, length}
+use Rattle.std.specs.Prelude.{◌≡◌, ◌⊎◌, ℕ, ◌*◌, ◌%◌, ◌<◌, ◌^◌, List, ◌++◌, length}
 use Rattle.std.specs.List.{All}
 use Rattle.pool_layout.specs.declared.defect.Defect.{Defect}
 use Rattle.pool_layout.specs.Bytes.{words_of_bytes, bytes_of_words}
@@ -24,3 +24,7 @@ LawOfWordsOfBytes = (words : List ℕ) → All (λ word. word < 2 ^ 64) words �
 -- bytes are written back from their words
 abbrev pub LawOfBytesOfWords : Type 0
 LawOfBytesOfWords = (bytes : List ℕ) → All (λ byte. byte < 256) bytes → length bytes ≡ 8 * length (words_of_bytes bytes) → bytes_of_words (words_of_bytes bytes) ≡ bytes
+
+-- the words of bytes are those of their pieces, where all but the last are whole words
+abbrev pub LawOfPieces : Type 0
+LawOfPieces = (bytes more : List ℕ) → length bytes % 8 ≡ 0 → words_of_bytes (bytes ++ more) ≡ words_of_bytes bytes ++ words_of_bytes more

@@ -1,6 +1,6 @@
 // Laws of images. With the contract of `image_words` they say that it gives the words of bytes exactly where these are
 // the image of a pool, and else their one first defect, unless memory runs out.
-ghost use Rattle.pool_layout.specs.Laws.{LawOfImages, LawOfNoDefect, LawOfOneDefect, LawOfWordsOfBytes, LawOfBytesOfWords};
+ghost use Rattle.pool_layout.specs.Laws.{LawOfImages, LawOfNoDefect, LawOfOneDefect, LawOfWordsOfBytes, LawOfBytesOfWords, LawOfPieces};
 
 /// Bytes are the image of a pool, or they have a defect.
 pub fn law_of_images()
@@ -25,4 +25,9 @@ pub fn law_of_words_of_bytes()
 /// Bytes are written back from their words.
 pub fn law_of_bytes_of_words()
     ensures { LawOfBytesOfWords }
+{}
+
+/// The words of bytes are those of their pieces.
+pub fn law_of_pieces()
+    ensures { LawOfPieces }
 {}

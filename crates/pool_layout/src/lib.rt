@@ -18,12 +18,12 @@ mod layout;
 mod place;
 mod text;
 
-pub use bytes::image_bytes;
+pub use bytes::{add_words, image_bytes};
 pub use defect::Defect;
 pub use header::{PoolHeader, header_of, header_text, header_word};
-pub use image::{ImageFault, image_words, parts};
+pub use image::{ArenaDefect, ImageFault, image_words, parts, pool_header};
 pub use laws::{
-    law_of_bytes_of_words, law_of_images, law_of_no_defect, law_of_one_defect,
+    law_of_bytes_of_words, law_of_images, law_of_no_defect, law_of_one_defect, law_of_pieces,
     law_of_words_of_bytes,
 };
 pub use layout::{Layout, is_version, layout_of};

@@ -9,7 +9,7 @@ use Rattle.shared_pool.specs.declared.job.Receipt.{Receipt}
 use Rattle.arena_journal.specs.Journals.{IsServed}
 use Rattle.shared_pool.specs.Passes.{PassState, PoolState, IsPassOf, nobody, part_at, Called, mine_at, first_calls}
 use Rattle.trace_workers.specs.Answers.{asked, calls_in}
-use Rattle.trace_workers.specs.Workers.{AllIn, HasDone, HasTurns, AllReady, AllOf, AllDone}
+use Rattle.trace_workers.specs.Workers.{AllIn, HasMadeOwn, HasTurns, AllReady, AllOf, AllDone}
 use Rattle.arena_lock.specs.Known.{Lock, Known}
 use Rattle.heap_model.specs.declared.call.Call.{Call}
 use Rattle.trace_text.specs.declared.call.TraceCall.{TraceCall}
@@ -36,7 +36,7 @@ and_second true y e = e
 and_second false y e = refl
 
 -- a call of another thread
-pub done_other : (xs : List TraceCall) (c : TraceCall) (p : PassState) → c.thread ≢ p.number → HasDone xs p → HasDone (xs ++ c ∷ []) p
+pub done_other : (xs : List TraceCall) (c : TraceCall) (p : PassState) → c.thread ≢ p.number → HasMadeOwn xs p → HasMadeOwn (xs ++ c ∷ []) p
 done_other xs c p ne done a = done a ∙ sym (asked-append p.number a xs (c ∷ []) ∙ (ap (λ l. asked p.number a xs ++ l) (one_asked c p.number a false (and_first (c.thread == p.number) (c.arena == a) (ne_eqb c.thread p.number ne))) ∙ append-nil (asked p.number a xs)))
 
 get_set : (ps : List Known) (a : ℕ) (w : Known) → a < length ps → get_or (set ps a w) a nobody ≡ w
@@ -61,7 +61,7 @@ pub has_part : (pool : PoolState) (p : PassState) (a : ℕ) → IsPassOf pool p 
 has_part pool p a is l = subst (λ n. a < n) (sym (length-map pool.locks (λ (l : Lock). l.id)) ∙ (ap length is ∙ length-map p.parts (λ (k : Known). k.lock))) l
 
 -- the pass's own call
-pub done_more : (xs : List TraceCall) (c : TraceCall) (p q : PassState) (r : Receipt) → c.arena < length p.parts → c.thread ≡ p.number → Called c.arena c.call p q r → HasDone xs p → HasDone (xs ++ c ∷ []) q
+pub done_more : (xs : List TraceCall) (c : TraceCall) (p q : PassState) (r : Receipt) → c.arena < length p.parts → c.thread ≡ p.number → Called c.arena c.call p q r → HasMadeOwn xs p → HasMadeOwn (xs ++ c ∷ []) q
 done_more xs c p q r room mine called done a =
     let more : asked q.number a (xs ++ c ∷ []) ≡ asked p.number a xs ++ asked p.number a (c ∷ []) = ap (λ (z : PassState). asked z.number a (xs ++ c ∷ [])) called.pass ∙ asked-append p.number a xs (c ∷ []) in
     dite (ℕ_discrete a c.arena)

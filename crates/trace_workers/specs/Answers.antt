@@ -19,7 +19,7 @@ calls_in es = map (λ e. e.call) es
 
 -- The journal leads from the opening to the arena at the end. Of every thread it has just the calls that the thread asks of
 -- the arena, in order, each once; so it has nothing else, and no more entries than there are calls.
-pub record IsAnswer (calls : List TraceCall) (arena : ℕ) (opening : Opening) (closed : List Entry × ArenaState) : Type 0 where
+pub record AnswersThreads (calls : List TraceCall) (arena : ℕ) (opening : Opening) (closed : List Entry × ArenaState) : Type 0 where
   pub behind : IsBehind opening closed.0 closed.1
   pub threads : (thread : ℕ) → calls_in (calls_by thread closed.0) ≡ asked thread arena calls
   pub few : length closed.0 ≤ length calls
@@ -29,4 +29,4 @@ abbrev pub AllAnswer : List TraceCall → ℕ → List Opening → List (List En
 AllAnswer calls a [] [] = Unit {0}
 AllAnswer calls a [] (c ∷ cs) = ⊥
 AllAnswer calls a (o ∷ os) [] = ⊥
-AllAnswer calls a (o ∷ os) (c ∷ cs) = IsAnswer calls a o c × AllAnswer calls (suc a) os cs
+AllAnswer calls a (o ∷ os) (c ∷ cs) = AnswersThreads calls a o c × AllAnswer calls (suc a) os cs

@@ -23,14 +23,14 @@ pub record ArenaRun : Type 0 where
 
 -- The device of the arena of this number went through a legal journal from the empty heap. Of every thread the journal has
 -- just the calls that the thread asks of the arena, in order, each once; so it has nothing else.
-pub record IsRunOf (pool : PoolSize) (calls : List TraceCall) (arena : ℕ) (r : ArenaRun) : Type 0 where
+pub record HasRunThreads (pool : PoolSize) (calls : List TraceCall) (arena : ℕ) (r : ArenaRun) : Type 0 where
   pub run : HasRun (header_for pool arena) r.device r.journal r.machine
   pub threads : (thread : ℕ) → calls_in (calls_by thread r.journal) ≡ asked thread arena calls
 
 -- the same of each arena, from this number on
 abbrev pub AreRuns : PoolSize → List TraceCall → ℕ → List ArenaRun → Type 0
 AreRuns pool calls arena [] = Unit {0}
-AreRuns pool calls arena (r ∷ rs) = IsRunOf pool calls arena r × AreRuns pool calls (suc arena) rs
+AreRuns pool calls arena (r ∷ rs) = HasRunThreads pool calls arena r × AreRuns pool calls (suc arena) rs
 
 -- the report of each arena, from this number on: its journal and its heap
 abbrev pub report_from : ℕ → List ArenaRun → List ℕ

@@ -25,8 +25,8 @@ pub record IsFresh (p : PassState) : Type 0 where
   pub turns : HasTurns 0 p
 
 -- the pass's own calls of each arena are those that its thread asks of it
-abbrev pub HasDone : List TraceCall → PassState → Type 0
-HasDone calls p = (a : ℕ) → calls_in (mine_at p a) ≡ asked p.number a calls
+abbrev pub HasMadeOwn : List TraceCall → PassState → Type 0
+HasMadeOwn calls p = (a : ℕ) → calls_in (mine_at p a) ≡ asked p.number a calls
 
 -- each of these passes is of the pool and has made no call
 abbrev pub AllReady : PoolState → List PassState → Type 0
@@ -39,4 +39,4 @@ AllOf pool (p ∷ ps) = IsPassOf pool p × AllOf pool ps
 
 abbrev pub AllDone : List TraceCall → List PassState → Type 0
 AllDone calls [] = Unit {0}
-AllDone calls (p ∷ ps) = HasDone calls p × AllDone calls ps
+AllDone calls (p ∷ ps) = HasMadeOwn calls p × AllDone calls ps

@@ -2,7 +2,7 @@
 ghost use Rattle.std.specs.Prelude.{◌≡◌, ◌<◌, ◌^◌, length, IfOk, IfErr};
 ghost use Rattle.arena_journal.specs.Journals.{IsServed};
 ghost use Rattle.shared_pool.specs.Passes.{IsPassOf, part_at, Called, Refused};
-ghost use Rattle.trace_workers.specs.Workers.{AllIn, IsFresh, HasDone};
+ghost use Rattle.trace_workers.specs.Workers.{AllIn, IsFresh, HasMadeOwn};
 
 use crate::gate::Gate;
 use heap_model::Call;
@@ -52,7 +52,7 @@ pub(crate) fn work<R: Wait, P: Pmem + Drop, G: Gate>(
     requires few { length calls.now < 2 ^ 32 }
     ensures pass { IsPassOf pool.now pass.new }
     ensures number { pass.new.number ≡ pass.old.number }
-    ensures done { IfOk result (λ _. HasDone calls.now pass.new) }
+    ensures done { IfOk result (λ _. HasMadeOwn calls.now pass.new) }
 {
     let number = pass.number();
     let mut made = 0;

@@ -1,14 +1,17 @@
-use Rattle.std.proofs.Common.{◌+◌, ◌-◌, ◌<◌, ◌≤◌, vec_len}
-use Rattle.nvheap.specs.Outside.{Gives}
+use Rattle.std.proofs.Common.{◌≡◌, ◌+◌, ◌-◌, ◌%◌, ◌<◌, ◌≤◌, vec_len}
+use Rattle.nvheap.specs.declared.command.Command.{Command}
+use Rattle.nvheap.specs.Inputs.{HasCome, Fits}
 use Rattle.nvheap.proofs.input.read_all.Given as goal
 
 abbrev pub invariant-loop-source : goal.invariant-loop-source
 invariant-loop-source g l = record {
-  within : vec_len l.bytes ≤ l.limit + 1;
-  buffer : 0 < vec_len l.piece;
-  gives : Gives (g.S.Source.left l.fn.source) (g.S.Source.left l.source) l.bytes.items;
+  come : HasCome (g.S.Source.left l.fn.source) (g.S.Source.left l.source) l.input l.size;
+  within : l.size ≤ l.limit + 1;
+  whole : l.size ≤ l.limit → l.size % 8 ≡ 0;
+  buffer : vec_len l.piece ≡ 65536;
+  fits : (command : Command) → Fits command l.fn.input → Fits command l.input;
   later : g.S.Source.faults l.fn.source ≤ g.S.Source.faults l.source;
 }
 
 abbrev pub decreases-loop-source : goal.decreases-loop-source
-decreases-loop-source g l = l.limit + 1 - vec_len l.bytes
+decreases-loop-source g l = l.limit + 1 - l.size

@@ -1,7 +1,7 @@
 use Rattle.std.proofs.Common.{rules, arith, ◌≡◌, ◌<◌, ◌≤◌, ◌+◌, ◌++◌, [], ◌∷◌, ◌∙◌, ap, sym, subst, length, List, take, get_or}
 use Rattle.shared_pool.specs.Passes.{PassState, IsPassOf}
 use Rattle.trace_workers.specs.Answers.{calls_in}
-use Rattle.trace_workers.specs.Workers.{HasDone, HasTurns}
+use Rattle.trace_workers.specs.Workers.{HasMadeOwn, HasTurns}
 use Rattle.heap_model.specs.declared.call.Call.TheVariants.{Malloc}
 use Rattle.trace_text.specs.declared.call.TraceCall.{TraceCall}
 use Rattle.trace_workers.proofs.Calls.{in_at, has_part, done_other, done_more, turns_left, turns_other, turns_more, take_next}
@@ -51,14 +51,14 @@ loop-k-preserved g c =
           let q = w.make.new.pass in
           let same : q.number ≡ p.number = w.make.ensures.number in
           let mine : call.thread ≡ p.number = w.if-call-number.true ∙ (c.number-number.ensures ∙ sym number) in
-          let done : HasDone (take k calls ++ call ∷ []) q = done_more (take k calls) call p q w.in_ok-make.field-0 part mine w.in_ok-make.ensures.called inv.3 in
+          let done : HasMadeOwn (take k calls ++ call ∷ []) q = done_more (take k calls) call p q w.in_ok-make.field-0 part mine w.in_ok-make.ensures.called inv.3 in
           let turns : HasTurns (k + 1) q = turns_more k call.arena call.call p q w.in_ok-make.field-0 part w.in_ok-make.ensures.called inv.4 in
           let made : c.if-call-number.made ≤ k + 1 = search rules in
-          subst (λ (z : PassState). IsPassOf c.args.pool.now z × (z.number ≡ c.args.pass.now.number) × (c.if-call-number.made ≤ k + 1) × HasDone (take (k + 1) calls) z × HasTurns (k + 1) z) (sym w.pass-is)
-          (w.make.ensures.pass, same ∙ number, made, subst (λ (l : List TraceCall). HasDone l q) next done, turns)
+          subst (λ (z : PassState). IsPassOf c.args.pool.now z × (z.number ≡ c.args.pass.now.number) × (c.if-call-number.made ≤ k + 1) × HasMadeOwn (take (k + 1) calls) z × HasTurns (k + 1) z) (sym w.pass-is)
+          (w.make.ensures.pass, same ∙ number, made, subst (λ (l : List TraceCall). HasMadeOwn l q) next done, turns)
       | else-call-number w ↦
-          let done : HasDone (take k calls ++ call ∷ []) p = done_other (take k calls) call p (λ e. w.if-call-number.false (e ∙ (number ∙ sym c.number-number.ensures))) inv.3 in
+          let done : HasMadeOwn (take k calls ++ call ∷ []) p = done_other (take k calls) call p (λ e. w.if-call-number.false (e ∙ (number ∙ sym c.number-number.ensures))) inv.3 in
           let made : c.if-call-number.made ≤ k + 1 = search rules in
-          subst (λ (z : PassState). IsPassOf c.args.pool.now z × (z.number ≡ c.args.pass.now.number) × (c.if-call-number.made ≤ k + 1) × HasDone (take (k + 1) calls) z × HasTurns (k + 1) z) (sym w.pass-is)
-          (inv.0, number, made, subst (λ (l : List TraceCall). HasDone l p) next done, turns_other k p inv.4)
+          subst (λ (z : PassState). IsPassOf c.args.pool.now z × (z.number ≡ c.args.pass.now.number) × (c.if-call-number.made ≤ k + 1) × HasMadeOwn (take (k + 1) calls) z × HasTurns (k + 1) z) (sym w.pass-is)
+          (inv.0, number, made, subst (λ (l : List TraceCall). HasMadeOwn l p) next done, turns_other k p inv.4)
     ]
