@@ -21,3 +21,8 @@ pub mod Tidying
 pub mod Plans
 pub mod AdoptedExtents
 pub mod AdoptedSlabs
+pub mod PayloadImages
+pub mod PayloadRows
+pub mod PayloadStates
+pub mod PayloadCalls
+pub mod ByCall

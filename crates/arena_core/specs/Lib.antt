@@ -6,3 +6,5 @@ pub mod Plan
 pub mod Arena
 pub mod Carried
 pub mod Adopting
+pub mod Payload
+pub mod ByCall

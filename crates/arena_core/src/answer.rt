@@ -46,3 +46,17 @@ pub enum FreeRefusal {
     #[error("Empty")]
     Empty,
 }
+
+/// Why the words of a root's block are not written, or not lent. The first that holds is answered.
+#[derive(Clone, Copy, Debug, PartialEq, Eq, Error)]
+pub enum BlockRefusal {
+    /// The root is not below the number of root words.
+    #[error("NoRoot")]
+    NoRoot,
+    /// The root names no block.
+    #[error("Empty")]
+    Empty,
+    /// The words would not all be words of the block.
+    #[error("OutOfRange")]
+    OutOfRange,
+}

@@ -8,16 +8,18 @@ ghost use Rattle.heap_model.specs.declared.call.Call.TheVariants as calls;
 ghost use Rattle.heap_model.specs.Machine.{no_heap};
 ghost use Rattle.heap_check.specs.Image.{IsExactImage};
 ghost use Rattle.heap_check.specs.State.{HasState, KeepsBlocks, IsEitherHeap};
-ghost use Rattle.arena_core.specs.Answer.{malloc_reply, free_reply};
+ghost use Rattle.arena_core.specs.Answer.{malloc_reply, free_reply, write_reply};
 ghost use Rattle.arena_core.specs.Arena.{IsBlockOfRoot};
 ghost use Rattle.arena_core.specs.Call.{IsReady, IsStepOf, IsFormattedOrNot};
 ghost use Rattle.arena_core.specs.Events.{call_events, line_after, format_events};
+ghost use Rattle.arena_core.specs.Payload.{payload_events, IsWriteStep, IsWrittenBy, IsEitherWords, IsViewOf};
 
 use crate::adopting::{count_lives, read_image};
 use crate::formatting::write_header;
+use crate::payload::{block_of, carry_out_write, plan_write};
 use crate::plan::{freed_of, granules_in, held_by, layout_in, plan_free, plan_malloc};
 use crate::volatile::Volatile;
-use crate::{ArenaRoom, FreeRefusal, Freed, MallocRefusal, Placed};
+use crate::{ArenaRoom, BlockRefusal, FreeRefusal, Freed, MallocRefusal, Placed};
 use heap_model::Block;
 use pmem_lines::Pmem;
 use pool_layout::PoolHeader;
@@ -148,6 +150,48 @@ impl<P: Pmem> Arena<P> {
         let plan = plan_free(&self.device, &self.volatile.log, &self.volatile.slabs, root);
         self.device.begin();
         self.volatile.carry_out_free(&mut self.device, root, plan)
+    }
+
+    /// Makes the words of a root's block from word `from` on those that are given, durably. The answer is the machine's:
+    /// `NoRoot` where there is no such root word, then `Empty` where the root names no block, then `OutOfRange` where `from`
+    /// plus the number of words is above the block's size divided by 8. It begins one call, ahead of its events, also where
+    /// it refuses; a refusal has no event and changes no word, and no words make no event. Every other word of the arena is
+    /// as before. After a crash within it each word of the range is old or new, and all else is as before. It takes no
+    /// memory. `words` has at most 512 words.
+    pub fn write(&mut self, root: u32, from: u32, words: &[u64]) -> Result<(), BlockRefusal>
+        requires few { length words.now ≤ 512 }
+        ensures step { IsWriteStep (words_of self.old.device) (words_of self.new.device) root from words.now (write_reply result) }
+        ensures device { self.new.device ≡ appended (began self.old.device) (payload_events (words_of self.old.device) root from words.now (write_reply result)) }
+        ensures line { self.new.line ≡ self.old.line }
+        ensures written { IsWrittenBy (words_of self.old.device) root from words.now (words_of self.new.device) result }
+        ensures was_exact { IsExactImage (words_of self.old.device) }
+        ensures exact { IsExactImage (words_of self.new.device) }
+        ensures ready { IsReady self.new.device }
+        ensures crash { CrashOnly self.new.device.base self.new.device.events (IsEitherWords (words_of self.old.device) (words_of self.new.device)) }
+    {
+        let plan = plan_write(
+            &self.device,
+            &self.volatile.log,
+            &self.volatile.slabs,
+            root,
+            from,
+            words.len() as u64,
+        );
+        self.device.begin();
+        carry_out_write(&mut self.device, plan, words)
+    }
+
+    /// Lends all words of a root's block, in place: as many as its size in bytes divided by 8. `NoRoot` exactly where there
+    /// is no such root word, then `Empty` exactly where the root names no block.
+    pub fn view(&self, root: u32) -> Result<&[u64], BlockRefusal>
+        ensures view { IsViewOf (words_of self.now.device) root result }
+        ensures exact { IsExactImage (words_of self.now.device) }
+        ensures ready { IsReady self.now.device }
+    {
+        match block_of(&self.device, &self.volatile.log, &self.volatile.slabs, root) {
+            Ok(block) => Ok(self.device.words(block.at, block.size / 8)),
+            Err(refusal) => Err(refusal),
+        }
     }
 
     /// The block that a root names. `None` exactly where there is no such root word, or it names no block.

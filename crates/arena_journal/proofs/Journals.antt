@@ -1,23 +1,26 @@
 -- Journals that grow, with the arena that they lead to.
-use Rattle.std.proofs.Common.{◌≡◌, ◌≢◌, ◌⊎◌, inl, inr, ℕ, suc, ◌+◌, Bool, true, false, if◌then◌else◌, List, [], ◌∷◌, ◌++◌, refl, ap, sym, ◌∙◌, subst, arith}
+use Rattle.std.proofs.Common.{◌≡◌, ◌≢◌, ◌⊎◌, inl, inr, ℕ, suc, ◌+◌, Bool, true, false, if◌then◌else◌, List, [], ◌∷◌, ◌++◌, refl, ap, sym, ◌∙◌, subst, arith, append_assoc, ⊎_elim}
+use Rattle.std.proofs.lemmas.Bool.{cases_Bool}
 use Rattle.pmem_lines.specs.Pmem.{PmemState, words_of, risen}
 use Rattle.pmem_lines.specs.Events.{CrashOnly}
 use Rattle.heap_model.specs.declared.call.Call.{Call}
 use Rattle.heap_model.specs.declared.call.Call.TheVariants.{Malloc, Free, Write, Read, Move}
+use Rattle.heap_model.specs.declared.call.Reply.{Reply}
 use Rattle.heap_model.specs.declared.call.Entry.{Entry}
 use Rattle.heap_model.specs.Policy.{plain}
 use Rattle.heap_model.specs.Machine.{Bounds, Machine}
 use Rattle.heap_model.specs.Placement.{bare, IsPlacedStep}
 use Rattle.heap_model.specs.Journal.{Leads, IsPlacedEntry}
 use Rattle.heap_check.specs.Image.{bounds_of, IsExactImage}
-use Rattle.heap_check.specs.State.{HasState, IsEitherHeap}
+use Rattle.heap_check.specs.State.{HasState}
 use Rattle.heap_check.proofs.ExactStates.{law_of_exact_state}
 use Rattle.arena_core.specs.Arena.{ArenaState}
+use Rattle.arena_core.specs.ByCall.{IsLeftBy}
 use Rattle.arena_core.specs.Call.{IsReady}
 use Rattle.arena_core.specs.Events.{call_events, line_after}
 use Rattle.arena_lock.specs.declared.opening.Opening.{Opening}
 use Rattle.arena_lock.specs.Legality.{opening_words, machine_in, IsLegal}
-use Rattle.arena_journal.specs.Journals.{opened, IsServed, begins_call, begun_by, line_behind, IsUntouched, IsBehindCall, IsBehind, HasAnswered}
+use Rattle.arena_journal.specs.Journals.{opened, begins_call, begun_by, line_behind, IsUntouched, IsBehindCall, IsBehind, HasBegun, HasDone, HasAnswered}
 
 -- an entry more leads on
 leads_more : {State : Type 0} (Steps : State → Entry → State → Type 0) (m middle next : State) (journal : List Entry) (e : Entry) → Leads Steps m journal middle → Steps middle e next → Leads Steps m (journal ++ e ∷ []) next
@@ -44,16 +47,27 @@ one_begun e b is = ap (λ (z : Bool). if z then 1 else 0) is
 risen_one : (b n : ℕ) → risen (risen b n) 1 ≡ risen b (n + 1)
 risen_one b n = omega arith
 
+plus_none : (n : ℕ) → n + 0 ≡ n
+plus_none n = omega arith
+
 risen_none : (b : ℕ) → b ≡ risen b 0
 risen_none b = omega arith
 
--- each call that is served begins one on the memory
-pub served_begins : (c : Call) → IsServed c → begins_call c ≡ true
-served_begins (Malloc root size) h = refl
-served_begins (Free root) h = refl
-served_begins (Write root index word) h = absurd h
-served_begins (Read root index) h = absurd h
-served_begins (Move from to) h = absurd h
+-- a call that begins one on the memory did so
+pub begun_done : (old new : ArenaState) (call : Call) (reply : Reply) → begins_call call ≡ true → HasDone old new call reply → HasBegun old new call reply
+begun_done old new (Malloc root size) reply begins done = done
+begun_done old new (Free root) reply begins done = done
+begun_done old new (Write root index word) reply begins done = done
+begun_done old new (Read root index) reply begins done = absurd (cc begins)
+begun_done old new (Move from to) reply begins done = done
+
+-- one that begins none left the arena as it was
+pub read_done : (old new : ArenaState) (call : Call) (reply : Reply) → begins_call call ≡ false → HasDone old new call reply → new ≡ old
+read_done old new (Malloc root size) reply none done = absurd (cc none)
+read_done old new (Free root) reply none done = absurd (cc none)
+read_done old new (Write root index word) reply none done = absurd (cc none)
+read_done old new (Read root index) reply none done = done.same
+read_done old new (Move from to) reply none done = absurd (cc none)
 
 -- nothing was asked yet
 pub behind_none : (a : ArenaState) → IsReady a.device → IsExactImage (words_of a.device) → IsBehind (opened a) [] a
@@ -71,41 +85,14 @@ behind_none a ready exact =
       last = inl (record { none = refl; same = refl });
     }
 
--- a call more that is no Read
-module _ (o : Opening) (journal : List Entry) (old new : ArenaState) (e : Entry) (held : IsBehind o journal old) (begins : begins_call e.call ≡ true) (answered : HasAnswered e.seat old new e.call e.reply) where
-  base : words_of old.device ≡ new.device.base
-  base = sym (ap (λ (s : PmemState). s.base) answered.device)
-
+-- a call more
+module _ (o : Opening) (journal : List Entry) (old new : ArenaState) (e : Entry) (held : IsBehind o journal old) (answered : HasAnswered e.seat old new e.call e.reply) where
   found : (next : Machine) × IsPlacedStep plain (bounds_of (opening_words o)) e.seat (bare held.machine) e.call e.reply (bare next) × HasState (words_of new.device) next
   found = let f = answered.step.each held.machine held.state in (f.0, subst (λ (b : Bounds). IsPlacedStep plain b e.seat (bare held.machine) e.call e.reply (bare f.0)) held.bounds f.1, f.2)
 
-  events : new.device.events ≡ call_events (words_of old.device) (line_behind o.next_line journal) e.call e.reply
-  events = ap (λ (s : PmemState). s.events) answered.device ∙ ap (λ line. call_events (words_of old.device) line e.call e.reply) held.line
-
-  behind : IsBehindCall o (journal ++ e ∷ []) new
-  behind = record {
-    before = journal;
-    entry = e;
-    reads = [];
-    is = refl;
-    begins = begins;
-    none = refl;
-    machine = held.machine;
-    leads = held.leads;
-    exact = subst IsExactImage base answered.was_exact;
-    state = subst (λ (words : List ℕ). HasState words held.machine) base held.state;
-    events = subst (λ (words : List ℕ). new.device.events ≡ call_events words (line_behind o.next_line journal) e.call e.reply) base events;
-    crash = subst (λ (words : List ℕ). CrashOnly new.device.base new.device.events (IsEitherHeap words (words_of new.device))) base answered.crash;
-  }
-
-  count : begun_by (journal ++ e ∷ []) ≡ begun_by journal + 1
-  count = begun_append journal (e ∷ []) ∙ ap (λ n. begun_by journal + n) (one_begun e true begins)
-
-  begun : new.device.begins ≡ risen o.begins (begun_by (journal ++ e ∷ []))
-  begun = ap (λ (s : PmemState). s.begins) answered.device ∙ (ap (λ n. risen n 1) held.begins ∙ (risen_one o.begins (begun_by journal) ∙ ap (risen o.begins) (sym count)))
-
-  pub behind_more : IsBehind o (journal ++ e ∷ []) new
-  behind_more = record {
+  -- all but the last call on the memory
+  behind_by : new.device.begins ≡ risen o.begins (begun_by (journal ++ e ∷ [])) → IsUntouched o (journal ++ e ∷ []) new ⊎ IsBehindCall o (journal ++ e ∷ []) new → IsBehind o (journal ++ e ∷ []) new
+  behind_by begins last = record {
     machine = found.0;
     leads = leads_more (IsPlacedEntry plain (bounds_of (opening_words o))) _ (bare held.machine) (bare found.0) journal e held.leads found.1;
     state = found.2;
@@ -114,9 +101,78 @@ module _ (o : Opening) (journal : List Entry) (old new : ArenaState) (e : Entry)
     exact = answered.exact;
     bounds = answered.step.bounds ∙ held.bounds;
     line = answered.line ∙ (ap (λ line. line_after line e.reply) held.line ∙ sym (line_more o.next_line journal e));
-    begins = begun;
-    last = inr behind;
+    begins = begins;
+    last = last;
   }
+
+  -- one that is no Read
+  module _ (begins : begins_call e.call ≡ true) where
+    did : HasBegun old new e.call e.reply
+    did = begun_done old new e.call e.reply begins answered.done
+
+    base : words_of old.device ≡ new.device.base
+    base = sym (ap (λ (s : PmemState). s.base) did.device)
+
+    events : new.device.events ≡ call_events (words_of old.device) (line_behind o.next_line journal) e.call e.reply
+    events = ap (λ (s : PmemState). s.events) did.device ∙ ap (λ line. call_events (words_of old.device) line e.call e.reply) held.line
+
+    behind : IsBehindCall o (journal ++ e ∷ []) new
+    behind = record {
+      before = journal;
+      entry = e;
+      reads = [];
+      is = refl;
+      begins = begins;
+      none = refl;
+      machine = held.machine;
+      leads = held.leads;
+      exact = subst IsExactImage base answered.was_exact;
+      state = subst (λ (words : List ℕ). HasState words held.machine) base held.state;
+      events = subst (λ (words : List ℕ). new.device.events ≡ call_events words (line_behind o.next_line journal) e.call e.reply) base events;
+      crash = subst (λ (words : List ℕ). CrashOnly new.device.base new.device.events (IsLeftBy e.call words (words_of new.device))) base did.crash;
+    }
+
+    count : begun_by (journal ++ e ∷ []) ≡ begun_by journal + 1
+    count = begun_append journal (e ∷ []) ∙ ap (λ n. begun_by journal + n) (one_begun e true begins)
+
+    begun : new.device.begins ≡ risen o.begins (begun_by (journal ++ e ∷ []))
+    begun = ap (λ (s : PmemState). s.begins) did.device ∙ (ap (λ n. risen n 1) held.begins ∙ (risen_one o.begins (begun_by journal) ∙ ap (risen o.begins) (sym count)))
+
+    behind_call : IsBehind o (journal ++ e ∷ []) new
+    behind_call = behind_by begun (inr behind)
+
+  -- a Read
+  module _ (none : begins_call e.call ≡ false) where
+    same : new ≡ old
+    same = read_done old new e.call e.reply none answered.done
+
+    still_read : (entries : List Entry) → begun_by (entries ++ e ∷ []) ≡ begun_by entries
+    still_read entries = begun_append entries (e ∷ []) ∙ ap (λ n. begun_by entries + n) (one_begun e false none) ∙ plus_none (begun_by entries)
+
+    last_read : IsUntouched o journal old ⊎ IsBehindCall o journal old → IsUntouched o (journal ++ e ∷ []) old ⊎ IsBehindCall o (journal ++ e ∷ []) old
+    last_read (inl u) = inl (record { none = still_read journal ∙ u.none; same = u.same })
+    last_read (inr c) = inr (record {
+      before = c.before;
+      entry = c.entry;
+      reads = c.reads ++ e ∷ [];
+      is = ap (λ (entries : List Entry). entries ++ e ∷ []) c.is ∙ append_assoc c.before (c.entry ∷ c.reads) (e ∷ []);
+      begins = c.begins;
+      none = still_read c.reads ∙ c.none;
+      machine = c.machine;
+      leads = c.leads;
+      exact = c.exact;
+      state = c.state;
+      events = c.events;
+      crash = c.crash;
+    })
+
+    behind_read : IsBehind o (journal ++ e ∷ []) new
+    behind_read = behind_by
+        (ap (λ (a : ArenaState). a.device.begins) same ∙ held.begins ∙ ap (risen o.begins) (sym (still_read journal)))
+        (subst (λ (a : ArenaState). IsUntouched o (journal ++ e ∷ []) a ⊎ IsBehindCall o (journal ++ e ∷ []) a) (sym same) (last_read held.last))
+
+  pub behind_more : IsBehind o (journal ++ e ∷ []) new
+  behind_more = ⊎_elim behind_call behind_read (cases_Bool (begins_call e.call))
 
 none_of : (xs ys : List Entry) (e : Entry) → [] ≢ xs ++ e ∷ ys
 none_of [] ys e h = absurd (cc h)
@@ -134,8 +190,8 @@ pub behind_legal : (o : Opening) (journal : List Entry) (now : ArenaState) → I
 behind_legal o journal now h = (bare h.machine, h.leads)
 
 -- the same of an entry that tells of its seat and its call
-pub behind_answered : (o : Opening) (journal : List Entry) (old new : ArenaState) (seat : ℕ) (call : Call) (e : Entry) → IsBehind o journal old → IsServed call → e.seat ≡ seat → e.call ≡ call →
+pub behind_answered : (o : Opening) (journal : List Entry) (old new : ArenaState) (seat : ℕ) (call : Call) (e : Entry) → IsBehind o journal old → e.seat ≡ seat → e.call ≡ call →
     HasAnswered seat old new call e.reply → IsBehind o (journal ++ e ∷ []) new
-behind_answered o journal old new seat call e behind served is_seat is_call answered =
-    behind_more o journal old new e behind (subst (λ (c : Call). begins_call c ≡ true) (sym is_call) (served_begins call served))
+behind_answered o journal old new seat call e behind is_seat is_call answered =
+    behind_more o journal old new e behind
     (subst (λ (s : ℕ). HasAnswered s old new e.call e.reply) (sym is_seat) (subst (λ (c : Call). HasAnswered seat old new c e.reply) (sym is_call) answered))

@@ -10,8 +10,9 @@ use Rattle.heap_model.specs.declared.call.Entry.{Entry}
 use Rattle.heap_model.specs.Machine.{Machine, IsOverlapFree}
 use Rattle.heap_model.specs.Placement.{bare}
 use Rattle.heap_check.specs.Image.{bounds_of, IsExactImage}
-use Rattle.heap_check.specs.State.{HasState, KeepsBlocks, IsEitherHeap}
+use Rattle.heap_check.specs.State.{HasState}
 use Rattle.arena_core.specs.Arena.{ArenaState}
+use Rattle.arena_core.specs.ByCall.{IsLeftBy, KeepsUnwritten, IsWordRead}
 use Rattle.arena_core.specs.Call.{IsReady, IsStepOf}
 use Rattle.arena_core.specs.Events.{call_events, line_after}
 use Rattle.arena_lock.specs.declared.opening.Opening.{Opening}
@@ -28,12 +29,12 @@ arena_of o = record { device = record { base = o.base; events = o.events; room =
 
 -- calls
 
--- an arena serves these calls
+-- an arena serves these calls: all but a Move
 abbrev pub IsServed : Call → Type 0
 IsServed (Malloc root size) = Unit {0}
 IsServed (Free root) = Unit {0}
-IsServed (Write root index word) = ⊥
-IsServed (Read root index) = ⊥
+IsServed (Write root index word) = Unit {0}
+IsServed (Read root index) = Unit {0}
 IsServed (Move from to) = ⊥
 
 -- the call begins one on the memory: all but a Read do
@@ -62,8 +63,8 @@ pub record IsUntouched (o : Opening) (journal : List Entry) (now : ArenaState) :
   pub same : now ≡ arena_of o
 
 -- The memory went through the last call that is no Read: its base is exact, with the state that the entries before lead
--- to, and its events are that call's, at the write-ahead line that those entries lead to. A crash within it leaves the
--- heap before it or after it.
+-- to, and its events are that call's, at the write-ahead line that those entries lead to. A crash within it leaves what one
+-- within such a call leaves: the heap before it or after it, and of a Write each word old or new.
 pub record IsBehindCall (o : Opening) (journal : List Entry) (now : ArenaState) : Type 0 where
   pub before : List Entry
   pub entry : Entry
@@ -76,7 +77,7 @@ pub record IsBehindCall (o : Opening) (journal : List Entry) (now : ArenaState) 
   pub exact : IsExactImage now.device.base
   pub state : HasState now.device.base machine
   pub events : now.device.events ≡ call_events now.device.base (line_behind o.next_line before) entry.call entry.reply
-  pub crash : CrashOnly now.device.base now.device.events (IsEitherHeap now.device.base (words_of now.device))
+  pub crash : CrashOnly now.device.base now.device.events (IsLeftBy entry.call now.device.base (words_of now.device))
 
 -- The journal leads from the opening to the arena as it is: to its blocks, slabs and words, with all stacks empty, to its
 -- write-ahead line, and to its count of begun calls. No two blocks overlap, and the memory is quiet and exact. Base and
@@ -95,14 +96,33 @@ pub record IsBehind (o : Opening) (journal : List Entry) (now : ArenaState) : Ty
 
 -- one call
 
--- From an exact image the arena answered a call of a seat: a step of the machine, with exactly the events of the call.
--- Every other block keeps its words. A crash within it leaves the heap before it or after it.
+-- The arena began one call on the memory, and has exactly the events of the call. A crash within it leaves what one within
+-- such a call leaves.
+pub record HasBegun (old new : ArenaState) (call : Call) (reply : Reply) : Type 0 where
+  pub device : new.device ≡ appended (began old.device) (call_events (words_of old.device) old.line call reply)
+  pub crash : CrashOnly new.device.base new.device.events (IsLeftBy call (words_of old.device) (words_of new.device))
+
+-- the arena is as it was, and a word that it answers is the one that stands there
+pub record HasRead (old new : ArenaState) (root index : ℕ) (reply : Reply) : Type 0 where
+  pub same : new ≡ old
+  pub word : IsWordRead (words_of old.device) root index reply
+
+-- what an arena did, by the call
+abbrev pub HasDone : ArenaState → ArenaState → Call → Reply → Type 0
+HasDone old new (Malloc root size) reply = HasBegun old new (Malloc root size) reply
+HasDone old new (Free root) reply = HasBegun old new (Free root) reply
+HasDone old new (Write root index word) reply = HasBegun old new (Write root index word) reply
+HasDone old new (Read root index) reply = HasRead old new root index reply
+HasDone old new (Move from to) reply = HasBegun old new (Move from to) reply
+
+-- From an exact image the arena answered a call of a seat: a step of the machine, by which every other block keeps its
+-- words, and of a written one every other word stays. A call that is no Read began one on the memory, and has exactly its
+-- events; a Read leaves the whole arena as it was.
 pub record HasAnswered (seat : ℕ) (old new : ArenaState) (call : Call) (reply : Reply) : Type 0 where
   pub step : IsStepOf seat (words_of old.device) (words_of new.device) call reply
-  pub device : new.device ≡ appended (began old.device) (call_events (words_of old.device) old.line call reply)
+  pub done : HasDone old new call reply
   pub line : new.line ≡ line_after old.line reply
-  pub keeps : KeepsBlocks (words_of old.device) (words_of new.device)
+  pub keeps : KeepsUnwritten call (words_of old.device) (words_of new.device)
   pub was_exact : IsExactImage (words_of old.device)
   pub exact : IsExactImage (words_of new.device)
   pub ready : IsReady new.device
-  pub crash : CrashOnly new.device.base new.device.events (IsEitherHeap (words_of old.device) (words_of new.device))

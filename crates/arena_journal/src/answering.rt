@@ -1,13 +1,14 @@
 // One call of an arena, as an entry of its journal.
 ghost use Rattle.std.specs.Prelude.{◌≡◌, ◌<◌};
-ghost use Rattle.arena_core.specs.Answer.{malloc_reply, free_reply};
+ghost use Rattle.arena_core.specs.Answer.{malloc_reply, free_reply, write_reply, read_reply, block_refusal};
 ghost use Rattle.arena_journal.specs.Journals.{IsServed, HasAnswered};
 
-use arena_core::{Arena, FreeRefusal, Freed, MallocRefusal, Placed};
+use arena_core::{Arena, BlockRefusal, FreeRefusal, Freed, MallocRefusal, Placed};
 use heap_model::{Call, Entry, Reply};
 use pmem_lines::Pmem;
 
-/// Makes one call of an arena by a seat, below 64, and gives its entry. It takes no memory.
+/// Makes one call of an arena by a seat, below 64, and gives its entry. A Write writes one word, and a Read gives one of the
+/// block's view. It takes no memory.
 pub fn answer<P: Pmem>(arena: &mut Arena<P>, seat: u32, call: Call) -> Entry
     requires seat { seat < 64 }
     requires served { IsServed call }
@@ -18,7 +19,9 @@ pub fn answer<P: Pmem>(arena: &mut Arena<P>, seat: u32, call: Call) -> Entry
     let reply = match call {
         Call::Malloc { root, size } => malloc_reply(arena.malloc_to(seat, root, size)),
         Call::Free { root } => free_reply(arena.free_from(seat, root)),
-        _ => unreachable!(),
+        Call::Write { root, index, value } => write_reply(arena.write(root, index, &[value])),
+        Call::Read { root, index } => read_reply(arena.view(root), index),
+        Call::Move { .. } => unreachable!(),
     };
     Entry { seat, call, reply }
 }
@@ -51,5 +54,44 @@ fn free_reply(answered: Result<Freed, FreeRefusal>) -> Reply
         },
         Err(FreeRefusal::NoRoot) => Reply::NoRoot,
         Err(FreeRefusal::Empty) => Reply::Empty,
+    }
+}
+
+// The machine's word for the answer to a write.
+fn write_reply(answered: Result<(), BlockRefusal>) -> Reply
+    ensures { result ≡ write_reply answered }
+{
+    match answered {
+        Ok(()) => Reply::Wrote,
+        Err(refusal) => refused(refusal),
+    }
+}
+
+// The machine's word for what a view has at an index.
+fn read_reply(answered: Result<&[u64], BlockRefusal>, index: u32) -> Reply
+    ensures { result ≡ read_reply answered.entry index }
+{
+    match answered {
+        Ok(words) => {
+            if (index as usize) < words.len() {
+                Reply::Value {
+                    word: words[index as usize],
+                }
+            } else {
+                Reply::OutOfRange
+            }
+        }
+        Err(refusal) => refused(refusal),
+    }
+}
+
+// The machine's word for the refusal of a write or a view.
+fn refused(refusal: BlockRefusal) -> Reply
+    ensures { result ≡ block_refusal refusal }
+{
+    match refusal {
+        BlockRefusal::NoRoot => Reply::NoRoot,
+        BlockRefusal::Empty => Reply::Empty,
+        BlockRefusal::OutOfRange => Reply::OutOfRange,
     }
 }

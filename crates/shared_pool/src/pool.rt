@@ -150,6 +150,51 @@ impl<P: Pmem> SharedPool<P> {
         self.call(rt, pass, arena, Call::Free { root })
     }
 
+    /// Writes the word of number `index` of the block of a root of an arena, durably. It takes its turn as `malloc_to` does.
+    pub fn write<R: Wait>(
+        &self,
+        rt: &R,
+        _alloc: Global,
+        pass: &mut Pass,
+        arena: u32,
+        root: u32,
+        index: u32,
+        value: u64,
+    ) -> Result<Receipt, OutOfMemory>
+        requires pass { IsPassOf self.now pass.old }
+        requires arena { arena < length self.now.locks }
+        requires left { 0 < (part_at pass.old arena).turns }
+        ensures pass { IsPassOf self.now pass.new }
+        ensures number { pass.new.number ≡ pass.old.number }
+        ensures called { IfOk result (λ r. Called arena (calls.Write root index value) pass.old pass.new r) }
+        ensures refused { IfErr result (λ _. Refused arena pass.old pass.new) }
+    {
+        self.call(rt, pass, arena, Call::Write { root, index, value })
+    }
+
+    /// Reads the word of number `index` of the block of a root of an arena. It takes its turn as `malloc_to` does, but begins
+    /// no call on the arena's memory and leaves it as it was. A word that was written since its block was allocated in this
+    /// journal is the last one written there; any other may be any word.
+    pub fn read<R: Wait>(
+        &self,
+        rt: &R,
+        _alloc: Global,
+        pass: &mut Pass,
+        arena: u32,
+        root: u32,
+        index: u32,
+    ) -> Result<Receipt, OutOfMemory>
+        requires pass { IsPassOf self.now pass.old }
+        requires arena { arena < length self.now.locks }
+        requires left { 0 < (part_at pass.old arena).turns }
+        ensures pass { IsPassOf self.now pass.new }
+        ensures number { pass.new.number ≡ pass.old.number }
+        ensures called { IfOk result (λ r. Called arena (calls.Read root index) pass.old pass.new r) }
+        ensures refused { IfErr result (λ _. Refused arena pass.old pass.new) }
+    {
+        self.call(rt, pass, arena, Call::Read { root, index })
+    }
+
     // One journal call, whichever it is.
     fn call<R: Wait>(
         &self,

@@ -11,7 +11,7 @@ use Rattle.heap_model.specs.declared.call.Entry.{Entry}
 use Rattle.heap_check.specs.Image.{IsExactImage}
 use Rattle.arena_core.specs.Arena.{ArenaState}
 use Rattle.arena_core.specs.Call.{IsReady}
-use Rattle.arena_journal.specs.Journals.{opened, IsServed, HasAnswered}
+use Rattle.arena_journal.specs.Journals.{opened, IsServed, begins_call, HasAnswered}
 use Rattle.arena_journal.proofs.Journals.{behind_none, behind_answered}
 use Rattle.trace_text.specs.declared.call.TraceCall.{TraceCall}
 use Rattle.trace_text.specs.Grammar.{IsAsked, IsTraceCall}
@@ -27,6 +27,14 @@ served (Free root) asked = tt
 served (Write root index value) asked = absurd asked
 served (Read root index) asked = absurd asked
 served (Move from to) asked = absurd asked
+
+-- and one that begins a call on the memory
+pub begins_asked : (call : Call) → IsAsked call → begins_call call ≡ true
+begins_asked (Malloc root size) asked = refl
+begins_asked (Free root) asked = refl
+begins_asked (Write root index value) asked = absurd asked
+begins_asked (Read root index) asked = absurd asked
+begins_asked (Move from to) asked = absurd asked
 
 -- each call of a trace can be made
 pub All-made : (arenas : ℕ) (calls : List TraceCall) → All (IsTraceCall arenas) calls → All CanBeMade calls
@@ -99,7 +107,7 @@ HasMadeAll-here number calls i d first old new entry valid here is made seat ask
     subst (λ (cs : List TraceCall). HasMadeAll first new cs) (sym (calls_of-here number calls i d here is)) (record {
       journal = made.journal ++ entry ∷ [];
       answers = AreAnswers-more (calls_of number (take i calls)) made.journal call entry made.answers seat asked;
-      behind = behind_answered (opened first) made.journal old new call.thread call.call entry made.behind (served call.call (valid i d here).1) seat asked answered;
+      behind = behind_answered (opened first) made.journal old new call.thread call.call entry made.behind seat asked answered;
     })
 
 pub HasMadeAll-other : (number : ℕ) (calls : List TraceCall) (i : ℕ) (d : TraceCall) (first now : ArenaState) → i < length calls → (get_or calls i d).arena ≢ number →

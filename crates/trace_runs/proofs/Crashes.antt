@@ -15,7 +15,8 @@ use Rattle.heap_model.specs.declared.call.Reply.TheVariants.{Placed, Freed}
 use Rattle.heap_model.specs.Step.{root_of}
 use Rattle.arena_core.specs.Arena.{ArenaState}
 use Rattle.arena_core.specs.Events.{call_events}
-use Rattle.heap_check.specs.State.{IsEitherHeap}
+use Rattle.arena_core.specs.ByCall.{IsSteadyLeft}
+use Rattle.arena_core.proofs.ByCall.{law_of_crashes}
 use Rattle.trace_text.specs.declared.call.CrashSide.TheVariants.{Same}
 use Rattle.trace_text.specs.declared.call.TraceCall.{TraceCall}
 use Rattle.trace_text.specs.Grammar.{IsAsked}
@@ -44,12 +45,12 @@ changes_behind device entry behind = changes_by device.base behind.line entry.ca
 -- the call changed the heap at its root, and an image that a crash leaves has the heap before it or after it
 pub record IsChanged (device : PmemState) (entry : Entry) (image : List ℕ) : Type 0 where
   pub change : IsChange device.base (words_of device) (root_of entry.call) (gives_block entry.reply)
-  pub either : IsEitherHeap device.base (words_of device) image
+  pub either : IsSteadyLeft device.base (words_of device) image
 
 pub IsChanged-behind : (device : PmemState) (entry : Entry) (done : ℕ) (image : List ℕ) → IsBehindEntry device entry → IsImage device.base (take done device.events) image → IsChanged device entry image
 IsChanged-behind device entry done image behind one = record {
   change = IsChange-step entry.seat device.base (words_of device) entry.call entry.reply behind.exact behind.step (changes_behind device entry behind);
-  either = behind.crash.each done image one;
+  either = law_of_crashes entry.call device.base (words_of device) image (behind.crash.each done image one);
 }
 
 -- what is left, by whether the call's root has a block in the image

@@ -14,7 +14,7 @@ use Rattle.heap_model.specs.Machine.{Machine, no_heap}
 use Rattle.heap_check.specs.Image.{IsExactImage}
 use Rattle.arena_core.specs.Arena.{ArenaState}
 use Rattle.arena_core.specs.Events.{call_events}
-use Rattle.heap_check.specs.State.{IsEitherHeap}
+use Rattle.arena_core.specs.ByCall.{IsLeftBy}
 use Rattle.arena_core.specs.Call.{IsStepOf}
 use Rattle.trace_text.specs.declared.call.TraceCall.{TraceCall}
 use Rattle.pool_layout.specs.declared.header.PoolHeader.{PoolHeader}
@@ -22,9 +22,10 @@ use Rattle.trace_runs.specs.Arenas.{bounds_for, formatted, IsNewArena}
 use Rattle.trace_runs.specs.Calls.{calls_of}
 use Rattle.trace_runs.specs.Crash.{CrashLeft, IsLeft, IsLeftWithin, IsLeftIdle, is_under_way}
 use Rattle.trace_runs.specs.Runs.{Stage, IsRun, total_events, IsRunTo}
-use Rattle.arena_journal.specs.Journals.{HasAnswered}
+use Rattle.arena_journal.specs.Journals.{HasBegun, HasAnswered}
+use Rattle.arena_journal.proofs.Journals.{begun_done}
 use Rattle.trace_runs.specs.Seek.{last_stage, IsBehindEntry, IsBehindSought, IsBehindAll}
-use Rattle.trace_runs.proofs.Answers.{calls_of-append, calls_of-here, calls_of-other}
+use Rattle.trace_runs.proofs.Answers.{begins_asked, calls_of-append, calls_of-here, calls_of-other}
 use Rattle.trace_runs.proofs.Runs.{IsRunTo-none, IsRunTo-call, IsRun-to}
 
 -- the arena's calls among the first i calls of a trace are so many, they have these many events, and the event lies so many
@@ -78,7 +79,7 @@ Seeking-other header number calls event arena i many left events d seeking here 
 
 -- one call of the arena more was answered
 module _ (header : PoolHeader) (number : ℕ) (calls : List TraceCall) (event : ℕ) (old new : ArenaState) (i many left events : ℕ) (d : TraceCall) (reply : Reply)
-    (seeking : Seeking header number calls event old i many left events) (here : i < length calls) (mine : (get_or calls i d).arena ≡ number)
+    (seeking : Seeking header number calls event old i many left events) (here : i < length calls) (mine : (get_or calls i d).arena ≡ number) (asked : IsAsked (get_or calls i d).call)
     (answered : HasAnswered (get_or calls i d).thread old new (get_or calls i d).call reply) where
   more : calls_of number (take i calls) ++ get_or calls i d ∷ [] ≡ calls_of number (take (i + 1) calls)
   more = sym (calls_of-here number calls i d here mine)
@@ -86,7 +87,7 @@ module _ (header : PoolHeader) (number : ℕ) (calls : List TraceCall) (event : 
   next : (machine : Machine) × IsRunTo (bounds_for header.granules) (formatted header) no_heap (calls_of number (take (i + 1) calls)) new machine (seeking.stages ++ last_stage new.device ∷ [])
   next =
       subst (λ (cs : List TraceCall). (machine : Machine) × IsRunTo (bounds_for header.granules) (formatted header) no_heap cs new machine (seeking.stages ++ last_stage new.device ∷ [])) more
-      (IsRunTo-call (bounds_for header.granules) (formatted header) no_heap (calls_of number (take i calls)) old new seeking.machine (get_or calls i d) reply seeking.stages seeking.to answered)
+      (IsRunTo-call (bounds_for header.granules) (formatted header) no_heap (calls_of number (take i calls)) old new seeking.machine (get_or calls i d) reply seeking.stages seeking.to (begins_asked (get_or calls i d).call asked) answered)
 
   count : many + 1 ≡ length (calls_of number (take (i + 1) calls))
   count = ap (λ n. n + 1) seeking.count ∙ sym (length-append (calls_of number (take i calls)) (get_or calls i d ∷ [])) ∙ ap length more
@@ -139,8 +140,9 @@ module _ (header : PoolHeader) (number : ℕ) (calls : List TraceCall) (event : 
 pub IsBehindEntry-answered : (old new : ArenaState) (thread : ℕ) (call : Call) (entry : Entry) → IsAsked call → entry.seat ≡ thread → entry.call ≡ call → HasAnswered thread old new call entry.reply → 0 < length new.device.events →
     IsBehindEntry new.device entry
 IsBehindEntry-answered old new thread call entry asked is_seat is_call answered some =
-    let base : words_of old.device ≡ new.device.base = sym (ap (λ (s : PmemState). s.base) answered.device) in
-    let events : new.device.events ≡ call_events (words_of old.device) old.line call entry.reply = ap (λ (s : PmemState). s.events) answered.device in
+    let did : HasBegun old new call entry.reply = begun_done old new call entry.reply (begins_asked call asked) answered.done in
+    let base : words_of old.device ≡ new.device.base = sym (ap (λ (s : PmemState). s.base) did.device) in
+    let events : new.device.events ≡ call_events (words_of old.device) old.line call entry.reply = ap (λ (s : PmemState). s.events) did.device in
     record {
       asked = subst IsAsked (sym is_call) asked;
       exact = subst IsExactImage base answered.was_exact;
@@ -148,7 +150,7 @@ IsBehindEntry-answered old new thread call entry asked is_seat is_call answered 
       line = old.line;
       events = subst (λ (c : Call). new.device.events ≡ call_events new.device.base old.line c entry.reply) (sym is_call) (subst (λ (words : List ℕ). new.device.events ≡ call_events words old.line call entry.reply) base events);
       some = some;
-      crash = subst (λ (words : List ℕ). CrashOnly new.device.base new.device.events (IsEitherHeap words (words_of new.device))) base answered.crash;
+      crash = subst (λ (c : Call). CrashOnly new.device.base new.device.events (IsLeftBy c new.device.base (words_of new.device))) (sym is_call) (subst (λ (words : List ℕ). CrashOnly new.device.base new.device.events (IsLeftBy call words (words_of new.device))) base did.crash);
     }
 
 -- no call is under way

@@ -4,7 +4,7 @@ use Rattle.pmem_lines.specs.Events.{CrashOnly}
 use Rattle.pmem_lines.specs.Pmem.{PmemState, words_of}
 use Rattle.heap_model.specs.declared.call.Entry.{Entry}
 use Rattle.heap_check.specs.Image.{IsExactImage}
-use Rattle.heap_check.specs.State.{IsEitherHeap}
+use Rattle.arena_core.specs.ByCall.{IsLeftBy}
 use Rattle.arena_core.specs.Call.{IsStepOf}
 use Rattle.arena_core.specs.Events.{call_events}
 use Rattle.trace_text.specs.declared.call.TraceCall.{TraceCall}
@@ -28,7 +28,7 @@ pub record IsBehindEntry (device : PmemState) (entry : Entry) : Type 0 where
   pub line : ℕ
   pub events : device.events ≡ call_events device.base line entry.call entry.reply
   pub some : 0 < length device.events
-  pub crash : CrashOnly device.base device.events (IsEitherHeap device.base (words_of device))
+  pub crash : CrashOnly device.base device.events (IsLeftBy entry.call device.base (words_of device))
 
 -- the device stands behind the call of this number, which is under way at the event, with so many of its events done
 pub record IsBehindSought (header : PoolHeader) (calls : List TraceCall) (event : ℕ) (device : PmemState) (number done : ℕ) : Type 0 where

@@ -33,7 +33,11 @@ fn make<R: Wait, P: Pmem>(
     match call {
         Call::Malloc { root, size } => pool.malloc_to(rt, alloc, pass, arena, root, size),
         Call::Free { root } => pool.free_from(rt, alloc, pass, arena, root),
-        _ => unreachable!(),
+        Call::Write { root, index, value } => {
+            pool.write(rt, alloc, pass, arena, root, index, value)
+        }
+        Call::Read { root, index } => pool.read(rt, alloc, pass, arena, root, index),
+        Call::Move { .. } => unreachable!(),
     }
 }
 

@@ -34,7 +34,7 @@ loop-call-preserved c =
       seeking = λ header fresh.
           subst (λ n. Seeking header c.args.arena c.args.calls.now c.args.event new (c.loop-call.call-index + 1) (c.loop-call.number + 1) (c.loop-call.left - n) (c.loop-call.events + n)) count
           (Seeking-here header c.args.arena c.args.calls.now c.args.event old new c.loop-call.call-index c.loop-call.number c.loop-call.left c.loop-call.events d c.answer-entry.result.reply
-          (c.loop-call.invariant.seeking header fresh) c.loop-call-test.true c.if-call-arena.false c.answer-entry.ensures.answered few);
+          (c.loop-call.invariant.seeking header fresh) c.loop-call-test.true c.if-call-arena.false (c.requires.each c.loop-call.call-index d c.loop-call-test.true).1 c.answer-entry.ensures.answered few);
       sum = omega (arith, count, few, c.loop-call.invariant.sum);
       few = let few = c.loop-call.invariant.few in omega (arith, few);
     }
@@ -45,7 +45,7 @@ returns-then-left-count-clause-sought c header fresh =
     let new : ArenaState = c.answer-entry.new.arena in
     let count : length new.device.events ≡ c.from-count.result = omega (arith, c.from-count.ensures, c.event_count.ensures, ap (λ (s : PmemState). length s.events) c.pmem.ensures.device) in
     IsBehindSought-here header c.args.arena c.args.calls.now c.args.event c.loop-call.made new c.loop-call.call-index c.loop-call.number c.loop-call.left c.loop-call.events d c.answer-entry.result.reply
-    (c.loop-call.invariant.seeking header fresh) c.loop-call-test.true c.if-call-arena.false c.answer-entry.ensures.answered
+    (c.loop-call.invariant.seeking header fresh) c.loop-call-test.true c.if-call-arena.false (c.requires.each c.loop-call.call-index d c.loop-call-test.true).1 c.answer-entry.ensures.answered
     (omega (arith, count, c.if-count-gt0.true)) (omega (arith, count, c.if-left-count.true)) c.loop-call.invariant.sum
 
 pub returns-then-left-count-clause-next : goal.returns-then-left-count-clause-next

@@ -9,7 +9,7 @@ invariant_of-self-2 g c =
     let o = opened c.self.inside.was.value in
     let items : c.push_reserved.new.self.items ≡ c.self.inside.journal.items ++ c.answer-entry.result ∷ [] = search rules in
     subst (λ (l : List Entry). IsBehind o l c.answer-entry.new.arena) (sym items)
-    (behind_answered o c.self.inside.journal.items c.self.inside.arena c.answer-entry.new.arena c.args.seat c.args.call c.answer-entry.result c.self.invariant c.requires.served
+    (behind_answered o c.self.inside.journal.items c.self.inside.arena c.answer-entry.new.arena c.args.seat c.args.call c.answer-entry.result c.self.invariant
     c.answer-entry.ensures.seat c.answer-entry.ensures.call c.answer-entry.ensures.answered)
 
 pub returns-clause-legal : goal.returns-clause-legal

@@ -1,0 +1,201 @@
+-- Words that are written into a root's block, put together: what a write did, and what a crash within it leaves.
+use Rattle.std.proofs.Common.{◌≡◌, ◌<◌, ◌≤◌, ◌+◌, ◌-◌, ◌*◌, ◌/◌, ◌%◌, ℕ, List, [], length, Ok, Err, Result, refl, sym, ap, subst, ◌∙◌, arith, inl, inr, ⊎_elim}
+use Rattle.std.proofs.lemmas.Bool.{cases_lt}
+use Rattle.pmem_lines.specs.Words.{word_at}
+use Rattle.pmem_lines.specs.Events.{CrashOnly}
+use Rattle.pmem_lines.specs.Pmem.{PmemState, words_of, began, appended}
+use Rattle.pmem_lines.specs.Steps.{IsQuietStep}
+use Rattle.pmem_lines.proofs.Steps.{step_by, step_none, step_wider}
+use Rattle.durable_steps.specs.Rows.{IsOldOrNewRow}
+use Rattle.image_tables.specs.Tables.{Tables, tables_of}
+use Rattle.image_tables.proofs.Stores.{HasNoMove-closed}
+use Rattle.size_classes.specs.Classes.{class_size}
+use Rattle.size_classes.proofs.Spacing.{class_size-aligned}
+use Rattle.heap_model.specs.Machine.{slab_block}
+use Rattle.heap_check.specs.Heap.{entry_at}
+use Rattle.heap_check.specs.Image.{bounds_of, IsExactImage}
+use Rattle.heap_check.proofs.Claims.{IsNamed-claim}
+use Rattle.heap_check.proofs.Heaps.{IsClaim-heap}
+use Rattle.heap_check.proofs.Sizes.{sizes_of}
+use Rattle.heap_check.proofs.Within.{IsWithin-claim}
+use Rattle.arena_core.specs.declared.answer.BlockRefusal.{BlockRefusal}
+use Rattle.arena_core.specs.declared.plan.Held.{Held}
+use Rattle.arena_core.specs.declared.plan.Held.TheVariants as holding
+use Rattle.arena_core.specs.declared.volatile.Volatile.{Volatile}
+use Rattle.arena_core.specs.Answer.{write_reply}
+use Rattle.arena_core.specs.Arena.{ArenaState, IsArena}
+use Rattle.arena_core.specs.Call.{IsReady}
+use Rattle.arena_core.specs.Events.{write_events}
+use Rattle.arena_core.specs.Payload.{payload_events, IsWriteStep, IsNamedWord, HasWritten, IsWrittenBy, IsEitherWords, HasBlockAt, IsWritable, IsWritePlan, IsWriteCarried}
+use Rattle.arena_core.specs.Plan.{IsHeldBy, range_held}
+use Rattle.arena_core.proofs.CallEvents.{held_heap, meant}
+use Rattle.arena_core.proofs.PayloadImages.{IsSameOffBlock, bounds_kept, exact_kept, heap_kept, slabs_kept, IsArena-block}
+use Rattle.arena_core.proofs.PayloadRows.{off_write, in_write}
+use Rattle.arena_core.proofs.PayloadStates.{step_written, step_refused}
+
+-- the block of a root
+
+-- blocks begin at whole words
+aligned_block : (start class number : ℕ) → class < 36 → (slab_block start class number).at % 8 ≡ 0
+aligned_block start class number is_class =
+    let sixteenth = class_size class / 16 in
+    let size : class_size class ≡ 16 * sixteenth = omega (arith, class_size-aligned class is_class) in
+    let product : number * class_size class ≡ 16 * (number * sixteenth) = ap (λ n. number * n) size ∙ swap number sixteenth in
+    omega (arith, product)
+  where
+    swap : (n k : ℕ) → n * (16 * k) ≡ 16 * (n * k)
+    swap n k = grind arith
+
+aligned_held : (words : List ℕ) → IsExactImage words → (root : ℕ) (held : Held) → IsHeldBy (bounds_of words) (tables_of words) root held → (range_held held).at % 8 ≡ 0
+aligned_held words image root (holding.Large start count) taken = omega arith
+aligned_held words image root (holding.Small block class) named = aligned_block block.start class block.number (omega (arith, named.class_is, (image.exact.sound.slabs block.start named.slab).state.is_class))
+aligned_held words image root (holding.Old block class) named =
+    let t = tables_of words in
+    let old = (image.exact.sound.slabs block.start named.slab).state.is_old_class in
+    ap (λ at. at % 8) (sym named.place.here) ∙ aligned_block block.start (t.old block.start) (t.number block.start block.place) old
+
+-- what a root holds is a block of it, which lies inside
+pub HasBlockAt-held : (words : List ℕ) → IsExactImage words → (root : ℕ) (held : Held) → root < (bounds_of words).roots → IsHeldBy (bounds_of words) (tables_of words) root held → HasBlockAt words root (range_held held)
+HasBlockAt-held words image root held rooted is =
+    let t = tables_of words in
+    let sizes = sizes_of words image.formed in
+    let named = held_heap words image root held is in
+    let unnamed : entry_at t.open_entry root ≡ 0 = ap (λ e. entry_at e root) image.exact.closed in
+    let claim = IsClaim-heap t root (range_held held) unnamed named in
+    let within = IsWithin-claim image.exact.sound root (range_held held) unnamed claim in
+    let lies = image.exact.sound.starts within.0 (omega (arith, within.1.low, within.1.high, within.1.some)) in
+    record {
+      rooted = rooted;
+      named = named;
+      place = (IsNamed-claim t root (range_held held) unnamed claim).word;
+      aligned = aligned_held words image root held is;
+      inside = omega (arith, within.1.high, lies.1, sizes.size);
+      few = omega (arith, sizes.size, sizes.most);
+    }
+
+-- what a write did
+
+module _ {old new : PmemState} {root from at : ℕ} {words : List ℕ} (image : IsExactImage (words_of old)) (may : IsWritable (words_of old) root from (length words) at)
+    (step : IsQuietStep old new (write_events (tables_of (words_of old)) root from words) (IsOldOrNewRow (words_of old) at words)) where
+  abbrev t : Tables
+  t = tables_of (words_of old)
+
+  -- the words of the row are words of the block
+  off_row_image : (left : List ℕ) → IsOldOrNewRow (words_of old) at words left → IsSameOffBlock (words_of old) left may.range
+  off_row_image left row = record {
+    same_length = row.same_length;
+    others = λ k outside. ⊎_elim
+        (λ same. same)
+        (λ inside. absurd (outside (record { low = omega (arith, inside.0, may.begins); high = omega (arith, inside.1, may.begins, may.within) })))
+        (row.each k);
+  }
+
+  others : (k : ℕ) → ¬ (IsNamedWord (words_of old) root from (length words) k) → word_at (words_of new) k ≡ word_at (words_of old) k
+  others k off = ap (λ ws. word_at ws k) step.appends.words ∙ off_write (words_of old) t root from words k (⊎_elim
+      (λ (before : k < t.root root / 8 + from). inl before)
+      (λ (behind : t.root root / 8 + from ≤ k). ⊎_elim
+      (λ (within : k < t.root root / 8 + from + length words). absurd (off (record { low = behind; high = within })))
+      (λ (past : t.root root / 8 + from + length words ≤ k). inr past)
+      (cases_lt k (t.root root / 8 + from + length words)))
+      (cases_lt k (t.root root / 8 + from)))
+
+  off_block : IsSameOffBlock (words_of old) (words_of new) may.range
+  off_block = record {
+    same_length = step.appends.size;
+    others = λ k outside. others k (λ named. outside (record { low = omega (arith, named.low, may.block.place); high = omega (arith, named.high, may.block.place, may.within) }));
+  }
+
+  written : HasWritten (words_of old) root from words (words_of new)
+  written = record {
+    same_length = step.appends.size;
+    heap = heap_kept image root may.block.named off_block;
+    slabs = slabs_kept image root may.block.named off_block;
+    here = λ i below. ap (λ ws. word_at ws (t.root root / 8 + from + i)) step.appends.words
+        ∙ in_write (words_of old) t root from words i below (omega (arith, below, may.block.place, may.block.inside, may.within));
+    others = others;
+  }
+
+  -- an image of a crash
+  either : (left : List ℕ) → IsOldOrNewRow (words_of old) at words left → IsEitherWords (words_of old) (words_of new) left
+  either left row =
+      let off = off_row_image left row in
+      let exact = exact_kept image root may.block.named off in
+      record {
+        exact = exact;
+        heap = heap_kept image root may.block.named off;
+        each = λ k. ⊎_elim
+            (λ same. inl same)
+            (λ inside.
+            let i = k - at / 8 in
+            let place : t.root root / 8 + from + i ≡ k = omega (arith, inside.0, may.begins, may.block.place) in
+            inr (inside.2 ∙ sym (written.here i (omega (arith, inside.0, inside.1))) ∙ ap (word_at (words_of new)) place))
+            (row.each k);
+        still = HasNoMove-closed exact.exact.closed;
+      }
+
+  pub carried_words : IsReady old → IsWriteCarried old new root from words (Ok tt)
+  carried_words ready = record {
+    carried = step_wider either step;
+    written = written;
+    step = step_written image may (bounds_kept image root may.block.named off_block) written;
+    arena = λ volatile arena. IsArena-block root arena may.block.named off_block (record { quiet = step.quiet; room = omega (arith, ready.room, step.appends.room) });
+  }
+
+-- a crash in which nothing is done
+IsEitherWords-same : (words : List ℕ) → IsExactImage words → IsEitherWords words words words
+IsEitherWords-same words image = record { exact = image; heap = record { each = λ root. refl }; each = λ k. inl refl; still = HasNoMove-closed image.exact.closed }
+
+refused_events : (words : List ℕ) (root from : ℕ) (written : List ℕ) (refusal : BlockRefusal) → payload_events words root from written (write_reply (Err refusal)) ≡ []
+refused_events words root from written refusal = grind arith
+
+pub carried_none : {old : PmemState} {root from : ℕ} {words : List ℕ} (refusal : BlockRefusal) → IsExactImage (words_of old) → IsReady old → IsWritePlan (words_of old) root from (length words) (Err refusal) → IsWriteCarried old old root from words (Err refusal)
+carried_none {old} {root} {from} {words} refusal image ready plan = record {
+  carried = step_by [] (payload_events (words_of old) root from words (write_reply (Err refusal))) (sym (refused_events (words_of old) root from words refusal)) (step_none ready.quiet (IsEitherWords-same (words_of old) image));
+  written = refl;
+  step = step_refused (words_of old) root from words refusal plan;
+  arena = λ volatile arena. arena;
+}
+
+-- a write that an arena answered
+pub record IsWriteAnswered (old new : ArenaState) (left : Volatile) (root from : ℕ) (words : List ℕ) (result : Result (Unit {0}) BlockRefusal) : Type 0 where
+  pub step : IsWriteStep (words_of old.device) (words_of new.device) root from words (write_reply result)
+  pub device : new.device ≡ appended (began old.device) (payload_events (words_of old.device) root from words (write_reply result))
+  pub line_is : new.line ≡ old.line
+  pub written : IsWrittenBy (words_of old.device) root from words (words_of new.device) result
+  pub arena : IsArena new.device left
+  pub crash : CrashOnly new.device.base new.device.events (IsEitherWords (words_of old.device) (words_of new.device))
+
+-- an arena that begins a call
+IsArena-began : {device : PmemState} {was : Volatile} → IsArena device was → IsArena (began device) was
+IsArena-began {device} {was} arena = record {
+  current = record {
+    ready = record { quiet = tt; room = arena.current.ready.room };
+    exact = arena.current.exact;
+    log = arena.current.log;
+    index = arena.current.index;
+  };
+  slabs = arena.slabs;
+  lives = arena.lives;
+  few = arena.few;
+}
+
+-- by what was done behind its begin
+answered : (device new : PmemState) (was : Volatile) (root from : ℕ) (words : List ℕ) (result : Result (Unit {0}) BlockRefusal) → IsArena (began device) was → IsWriteCarried (began device) new root from words result →
+    IsWriteAnswered (meant device was) (meant new was) was root from words result
+answered device new was root from words result arena done =
+    let state : new ≡ appended (began device) (payload_events (words_of device) root from words (write_reply result)) = done.carried.appends.state in
+    record {
+      step = done.step;
+      device = state;
+      line_is = refl;
+      written = done.written;
+      arena = done.arena was arena;
+      crash = subst (λ (s : PmemState). CrashOnly s.base s.events (IsEitherWords (words_of device) (words_of new))) (sym state) done.carried.crash;
+    }
+
+-- of an arena by what it means
+pub write_answered : (device begun new : PmemState) (was : Volatile) (now : ArenaState) (root from : ℕ) (words : List ℕ) (result : Result (Unit {0}) BlockRefusal) → meant device was ≡ now → begun ≡ began device → IsArena device was →
+    IsWriteCarried begun new root from words result → IsWriteAnswered now (meant new was) was root from words result
+write_answered device begun new was now root from words result view is arena done =
+    subst (λ (s : ArenaState). IsWriteAnswered s (meant new was) was root from words result) view
+    (answered device new was root from words result (IsArena-began arena) (subst (λ (s : PmemState). IsWriteCarried s new root from words result) is done))

@@ -1,0 +1,54 @@
+-- What is read behind a row of words, and its events.
+use Rattle.std.proofs.Common.{◌≡◌, ◌⊎◌, ◌<◌, ◌≤◌, ◌+◌, ◌-◌, ◌*◌, ◌/◌, ℕ, List, [], ◌∷◌, ◌++◌, length, get_or, refl, ap, ◌∙◌, arith, inl, inr, ⊎_elim}
+use Rattle.pmem_lines.specs.Words.{word_at, put_word}
+use Rattle.pmem_lines.proofs.Words.{word_at-put_other}
+use Rattle.pmem_lines.specs.declared.event.Event.TheVariants.{Fence}
+use Rattle.pmem_lines.specs.Events.{reading}
+use Rattle.pmem_lines.proofs.Images.{reading-append}
+use Rattle.durable_steps.specs.Rows.{stores_at, flushes_of, lines_of, row_events}
+use Rattle.durable_steps.proofs.Rows.{row_word, reading-flushes}
+use Rattle.image_tables.specs.Tables.{Tables}
+use Rattle.arena_core.specs.Events.{write_events}
+
+-- a word that is none of those that are stored
+off_stores : (base : List ℕ) (at : ℕ) (words : List ℕ) (k : ℕ) → (k < at / 8) ⊎ (at / 8 + length words ≤ k) → word_at (reading base (stores_at at words)) k ≡ word_at base k
+off_stores base at [] k off = refl
+off_stores base at (word ∷ words) k off =
+    let rest : (k < (at + 8) / 8) ⊎ ((at + 8) / 8 + length words ≤ k) = ⊎_elim (λ before. inl (omega (arith, before))) (λ behind. inr (omega (arith, behind))) off in
+    off_stores (put_word base (at / 8) word) (at + 8) words k rest ∙ word_at-put_other base (at / 8) k word (λ e. omega (arith, e, off))
+
+-- the flushes and the fence of a row change no word
+reading-row : (base : List ℕ) (at : ℕ) (words : List ℕ) → reading base (row_events at words) ≡ reading base (stores_at at words)
+reading-row base at words =
+    let lines = lines_of at (length words) in
+    reading-append base (stores_at at words ++ flushes_of (at / 64) lines) (Fence ∷ [])
+    ∙ reading-append base (stores_at at words) (flushes_of (at / 64) lines)
+    ∙ reading-flushes (reading base (stores_at at words)) (at / 64) lines
+
+pub off_row : (base : List ℕ) (at : ℕ) (words : List ℕ) (k : ℕ) → (k < at / 8) ⊎ (at / 8 + length words ≤ k) → word_at (reading base (row_events at words)) k ≡ word_at base k
+off_row base at words k off = ap (λ ws. word_at ws k) (reading-row base at words) ∙ off_stores base at words k off
+
+pub in_row : (base : List ℕ) (at : ℕ) (words : List ℕ) (k : ℕ) → at / 8 ≤ k → k < at / 8 + length words → k < length base → word_at (reading base (row_events at words)) k ≡ get_or words (k - at / 8) 0
+in_row base at words k low high inside = ap (λ ws. word_at ws k) (reading-row base at words) ∙ row_word base at words k low high inside
+
+-- the events of a write, where there are words
+pub write_events-some : (t : Tables) (root from : ℕ) (words : List ℕ) → 0 < length words → write_events t root from words ≡ row_events (t.root root + 8 * from) words
+write_events-some t root from [] some = absurd (omega (arith, some))
+write_events-some t root from (word ∷ words) some = refl
+
+pub write_events-none : (t : Tables) (root from : ℕ) (words : List ℕ) → length words ≡ 0 → write_events t root from words ≡ []
+write_events-none t root from [] none = refl
+write_events-none t root from (word ∷ words) none = absurd (omega (arith, none))
+
+-- what is read behind a write
+pub off_write : (base : List ℕ) (t : Tables) (root from : ℕ) (words : List ℕ) (k : ℕ) → (k < t.root root / 8 + from) ⊎ (t.root root / 8 + from + length words ≤ k) → word_at (reading base (write_events t root from words)) k ≡ word_at base k
+off_write base t root from [] k off = refl
+off_write base t root from (word ∷ words) k off = off_row base (t.root root + 8 * from) (word ∷ words) k (⊎_elim (λ before. inl (omega (arith, before))) (λ behind. inr (omega (arith, behind))) off)
+
+pub in_write : (base : List ℕ) (t : Tables) (root from : ℕ) (words : List ℕ) (i : ℕ) → i < length words → t.root root / 8 + from + i < length base → word_at (reading base (write_events t root from words)) (t.root root / 8 + from + i) ≡ get_or words i 0
+in_write base t root from [] i below inside = absurd (omega (arith, below))
+in_write base t root from (word ∷ words) i below inside =
+    let at = t.root root + 8 * from in
+    let first : at / 8 ≡ t.root root / 8 + from = omega arith in
+    let place : t.root root / 8 + from + i - at / 8 ≡ i = omega (arith, first) in
+    in_row base at (word ∷ words) (t.root root / 8 + from + i) (omega (arith, first)) (omega (arith, first, below)) inside ∙ ap (λ j. get_or (word ∷ words) j 0) place

@@ -1,0 +1,41 @@
+use Rattle.std.proofs.Common.{length, sym, subst}
+use Rattle.pmem_lines.specs.Pmem.{PmemState, words_of}
+use Rattle.arena_core.specs.Payload.{IsWritePlan}
+use Rattle.arena_core.proofs.CallEvents.{meant}
+use Rattle.arena_core.proofs.PayloadCalls.{IsWriteAnswered, write_answered}
+use Rattle.arena_core.proofs.arena.Arena.write.Given as given
+use Rattle.arena_core.proofs.arena.Arena.write.Goals as goal
+
+pub carry_out_write-requires-clause-plan : goal.carry_out_write-requires-clause-plan
+carry_out_write-requires-clause-plan g c = (
+  c.args.root,
+  c.args.from,
+  subst (λ (s : PmemState). IsWritePlan (words_of s) c.args.root c.args.from (length c.args.words.now) c.plan_write-plan.result) (sym c.begin.ensures.state) c.plan_write-plan.ensures,
+)
+
+-- the arena answered the write
+answered : (g : given.Over) (c : goal.After-carry_out_write g) →
+    let state = g.P.Pmem.state in IsWriteAnswered c.args.self.now (meant (state c.carry_out_write.new.device) c.self.inside.volatile) c.self.inside.volatile c.args.root c.args.from c.args.words.now c.carry_out_write.result
+answered g c =
+    let state = g.P.Pmem.state in
+    let plan = subst (λ (s : PmemState). IsWritePlan (words_of s) c.args.root c.args.from (length c.args.words.now) c.plan_write-plan.result) (sym c.begin.ensures.state) c.plan_write-plan.ensures in
+    write_answered (state c.self.inside.device) (state c.begin.new.self) (state c.carry_out_write.new.device) c.self.inside.volatile c.args.self.now c.args.root c.args.from c.args.words.now c.carry_out_write.result
+    c.self.view_is c.begin.ensures.state c.self.invariant (c.carry_out_write.ensures c.args.root c.args.from plan)
+
+pub invariant_of-self : goal.invariant_of-self
+invariant_of-self g c = (answered g c).arena
+
+pub returns-clause-step : goal.returns-clause-step
+returns-clause-step g c = (answered g c).step
+
+pub returns-clause-written : goal.returns-clause-written
+returns-clause-written g c = (answered g c).written
+
+pub returns-clause-exact : goal.returns-clause-exact
+returns-clause-exact g c = (answered g c).arena.current.exact
+
+pub returns-clause-ready : goal.returns-clause-ready
+returns-clause-ready g c = (answered g c).arena.current.ready
+
+pub returns-clause-crash : goal.returns-clause-crash
+returns-clause-crash g c = (answered g c).crash

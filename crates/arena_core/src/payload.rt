@@ -1,0 +1,112 @@
+// The words of a root's block: where they lie, and writing them.
+ghost use Rattle.std.specs.Prelude.{◌≡◌, ◌+◌, ◌*◌, ◌%◌, ◌^◌, ◌<◌, ◌≤◌, ℕ, [], length};
+ghost use Rattle.pmem_lines.specs.Pmem.{words_of};
+ghost use Rattle.pmem_lines.specs.Steps.{IsQuietStep};
+ghost use Rattle.durable_steps.specs.Rows.{IsOldOrNewRow};
+ghost use Rattle.image_tables.specs.Tables.{Tables};
+ghost use Rattle.heap_check.specs.Image.{IsExactImage};
+ghost use Rattle.log_steps.specs.Log.{IsBookOf};
+ghost use Rattle.arena_core.specs.Arena.{IsSlabsOf};
+ghost use Rattle.arena_core.specs.Call.{IsReady};
+ghost use Rattle.arena_core.specs.Events.{write_events};
+ghost use Rattle.arena_core.specs.Payload.{IsBlockPlan, IsWritePlan, IsWriteCarried};
+
+use crate::BlockRefusal;
+use crate::plan::{freed_of, held_by, layout_in};
+use book_log::BookLog;
+use durable_steps::write_row;
+use heap_model::Block;
+use pmem_lines::Pmem;
+use slab_index::SlabIndex;
+
+/// The block of a root, or why there is none.
+pub(crate) fn block_of<P: Pmem>(
+    device: &P,
+    log: &BookLog,
+    slabs: &SlabIndex,
+    root: u32,
+) -> Result<Block, BlockRefusal>
+    requires exact { IsExactImage (words_of (P.state device.now)) }
+    requires log { IsBookOf log.now (words_of (P.state device.now)) }
+    requires slabs { IsSlabsOf slabs.now (words_of (P.state device.now)) }
+    ensures { IsBlockPlan (words_of (P.state device.now)) root result }
+{
+    if root >= layout_in(device).roots {
+        return Err(BlockRefusal::NoRoot);
+    }
+    match held_by(device, log, slabs, root) {
+        Some(held) => {
+            let block = freed_of(held);
+            Ok(Block {
+                root,
+                at: block.at,
+                size: block.size,
+            })
+        }
+        None => Err(BlockRefusal::Empty),
+    }
+}
+
+/// The byte at which a write of `count` words begins, from word `from` of a root's block on, or why there is none.
+pub(crate) fn plan_write<P: Pmem>(
+    device: &P,
+    log: &BookLog,
+    slabs: &SlabIndex,
+    root: u32,
+    from: u32,
+    count: u64,
+) -> Result<u32, BlockRefusal>
+    requires exact { IsExactImage (words_of (P.state device.now)) }
+    requires log { IsBookOf log.now (words_of (P.state device.now)) }
+    requires slabs { IsSlabsOf slabs.now (words_of (P.state device.now)) }
+    requires few { count ≤ 512 }
+    ensures { IsWritePlan (words_of (P.state device.now)) root from count result }
+{
+    match block_of(device, log, slabs, root) {
+        Ok(block) => {
+            if u64::from(from) + count > u64::from(block.size / 8) {
+                return Err(BlockRefusal::OutOfRange);
+            }
+            Ok(block.at + 8 * from)
+        }
+        Err(refusal) => Err(refusal),
+    }
+}
+
+/// Does what the plan of a write says, and answers the call.
+pub(crate) fn carry_out_write<P: Pmem>(
+    device: &mut P,
+    plan: Result<u32, BlockRefusal>,
+    words: &[u64],
+) -> Result<(), BlockRefusal>
+    requires ready { IsReady (P.state device.old) }
+    requires exact { IsExactImage (words_of (P.state device.old)) }
+    requires fresh { (P.state device.old).events ≡ [] }
+    requires few { length words.now ≤ 512 }
+    requires plan { (root : ℕ) × (from : ℕ) × IsWritePlan (words_of (P.state device.old)) root from (length words.now) plan }
+    ensures { (root from : ℕ) → IsWritePlan (words_of (P.state device.old)) root from (length words.now) plan → IsWriteCarried (P.state device.old) (P.state device.new) root from words.now result }
+{
+    match plan {
+        Ok(at) => {
+            write_words(device, at, words);
+            Ok(())
+        }
+        Err(refusal) => Err(refusal),
+    }
+}
+
+// Writes words in a row from an address on: nothing where there are none.
+fn write_words<P: Pmem>(device: &mut P, at: u32, words: &[u64])
+    requires ready { IsReady (P.state device.old) }
+    requires fresh { (P.state device.old).events ≡ [] }
+    requires few { length words.now ≤ 512 }
+    requires aligned { at % 8 ≡ 0 }
+    requires inside { at + 8 * length words.now ≤ 8 * length (words_of (P.state device.old)) }
+    requires fits { at + 8 * length words.now < 2 ^ 32 }
+    requires lines { length (words_of (P.state device.old)) % 8 ≡ 0 }
+    ensures { (t : Tables) (root from : ℕ) → at ≡ t.root root + 8 * from → IsQuietStep (P.state device.old) (P.state device.new) (write_events t root from words.now) (IsOldOrNewRow (words_of (P.state device.old)) at words.now) }
+{
+    if !words.is_empty() {
+        write_row(device, at, words);
+    }
+}
