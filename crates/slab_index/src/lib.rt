@@ -16,6 +16,6 @@ mod index;
 mod lives;
 mod words;
 
-pub use block::SlabBlock;
+pub use block::{SlabBlock, SlabBlocks};
 pub use index::SlabIndex;
 pub use lives::LiveCounts;
