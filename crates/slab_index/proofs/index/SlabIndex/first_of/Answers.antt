@@ -1,6 +1,6 @@
-use Rattle.std.proofs.Common.{Option, Some, None, sym, ◌∙◌, arith}
-use Rattle.std.specs.Option.{MatchOption}
+use Rattle.std.proofs.Common.{sym, ◌∙◌, arith}
 use Rattle.slab_index.proofs.Lowest.{used_up, first_block}
+use Rattle.slab_index.proofs.Searches.{either}
 use Rattle.slab_index.proofs.Views.{class_of_list, slab_inside}
 use Rattle.slab_index.proofs.index.SlabIndex.first_of.Goals as goal
 
@@ -8,11 +8,6 @@ pub least_block-requires-clause-start : goal.least_block-requires-clause-start
 least_block-requires-clause-start c =
     let s = c.self.inside in
     rw c.deref-2.ensures.value (omega (arith, slab_inside c.self.invariant c.args.start c.requires.class (sym (class_of_list c.self.view_is c.args.start) ∙ c.requires.is), c.self.invariant.some_size))
-
--- what follows of either case
-either : {A : Type 0} {None_is None_then : Type 0} {Is Then : A → Type 0} (o : Option A) → (None_is → None_then) → ((x : A) → Is x → Then x) → MatchOption o None_is Is → MatchOption o None_then Then
-either None none some is = none is
-either (Some x) none some is = some x is
 
 pub returns : goal.returns
 returns c =
