@@ -81,16 +81,32 @@ fn change_slab(index: &mut SlabIndex, plain: &mut Plain, start: u32, class: u8)
     }
 }
 
-// Takes the lowest block of the class.
-fn take_lowest(index: &mut SlabIndex, plain: &mut Plain, class: u8) -> Result<(), OutOfMemory>
-    requires { class < 36 }
+// Takes up to so many of the lowest blocks of the class. Whether they are those of the plain list.
+fn take_lowest(
+    index: &mut SlabIndex,
+    plain: &mut Plain,
+    class: u8,
+    most: u32,
+) -> Result<bool, OutOfMemory>
+    requires class { class < 36 }
+    requires some { 0 < most }
+    requires few { most ≤ 8 }
     ensures { index.new.granules ≡ index.old.granules }
 {
-    if let Some(block) = index.lowest(class) {
-        index.take(block.start, block.number);
+    let Some(blocks) = index.take_lowest(class, most) else {
+        return Ok(plain.lowest(class).is_none());
+    };
+    let mut same = true;
+    for number in blocks.numbers.as_slice() {
+        let block = SlabBlock {
+            start: blocks.start,
+            number: *number,
+        };
+        same = same && plain.lowest(class) == Some(block);
         plain.taken.push(block)?;
     }
-    Ok(())
+    let all = blocks.numbers.len() == most as usize;
+    Ok(same && (all || plain.lowest_of(blocks.start, class).is_none()))
 }
 
 // Gives one of the blocks back that were taken.
@@ -109,13 +125,13 @@ fn give_one(index: &mut SlabIndex, plain: &mut Plain, drawn: u64)
     }
 }
 
-// One of four changes, by a drawn number.
+// One of four changes, by a drawn number. `false` where another block was taken than the lowest.
 fn change(
     index: &mut SlabIndex,
     plain: &mut Plain,
     drawn: u64,
     class: u8,
-) -> Result<(), OutOfMemory>
+) -> Result<bool, OutOfMemory>
     requires granules { index.old.granules ≡ 24 }
     requires class { class < 36 }
     ensures { index.new.granules ≡ index.old.granules }
@@ -127,10 +143,10 @@ fn change(
             let word = drawn.rotate_left(17) & drawn.rotate_left(40);
             take_some(index, plain, start, (drawn / 1152 % 3) as u32, word)?;
         }
-        2..=32 => take_lowest(index, plain, class)?,
+        2..=11 => return take_lowest(index, plain, class, 1 + (drawn / 48 % 8) as u32),
         _ => give_one(index, plain, drawn / 48),
     }
-    Ok(())
+    Ok(true)
 }
 
 // Takes the blocks of the slab at a granule that a word of numbers has, 64 of them from a word's first on.
@@ -188,7 +204,8 @@ fn like_a_plain_list(rt: HostRuntime) -> Result<(), Fail> {
             2 => 32,
             _ => 15,
         };
-        change(&mut index, &mut plain, drawn, class)?;
+        let same = change(&mut index, &mut plain, drawn, class)?;
+        assert!(rt; same, "of {class} in {turn}");
         assert_eq!(rt; index.lowest(class), plain.lowest(class), "after {turn}");
         for start in 0..=GRANULES {
             let number = (drawn % 131) as u32;
@@ -198,6 +215,37 @@ fn like_a_plain_list(rt: HostRuntime) -> Result<(), Fail> {
             );
         }
     }
+    Ok(())
+}
+
+// A slab takes another class: it is removed and added again, and the blocks that overlap an old one are taken. Two old
+// blocks of 16 bytes, 0 and 5, lie in the blocks 0 and 1 of 64 bytes.
+#[test]
+fn a_slab_takes_another_class(rt: HostRuntime) -> Result<(), Fail> {
+    let mut index = SlabIndex::new(rt.alloc(), GRANULES)?;
+    index.add(4, 0);
+    for number in [0, 5] {
+        if index.is_available(4, number) {
+            index.take(4, number);
+        }
+    }
+    index.remove(4);
+    if index.class_at(4).is_none() {
+        index.add(4, 3);
+    }
+    let mut covered = [0; 64];
+    covered[0] = 3;
+    if index.class_at(4) == Some(3) {
+        index.take_all(4, &covered);
+    }
+    assert_eq!(rt; (index.class_at(4), index.lowest(0)), (Some(3), None));
+    let first = SlabBlock {
+        start: 4,
+        number: 2,
+    };
+    assert_eq!(rt; index.lowest(3), Some(first));
+    assert!(rt; !index.is_available(4, 1) && index.is_available(4, 991));
+    assert!(rt; !index.is_available(4, 992));
     Ok(())
 }
 

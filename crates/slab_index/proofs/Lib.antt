@@ -1,5 +1,9 @@
+pub mod Firsts
 pub mod Fresh
 pub mod Lowest
+pub mod Marks
+pub mod Others
+pub mod Searches
 pub mod Steps
 pub mod Views
 pub mod Taken

@@ -3,7 +3,7 @@ use Rattle.std.proofs.Common.{◌≡◌, ℕ, ◌+◌, ◌-◌, ◌*◌, ◌/◌
 use Rattle.std.proofs.lemmas.Bool.{cases_lt, eq-eqb, eqb-true, ltb-true, ltb-false, and_parts, false≢true}
 use Rattle.bit_words.specs.Numbers.{has, HasNoneIn, IsLeastIn}
 use Rattle.slab_index.specs.SlabSet.{SlabSet, class_in, is_available, HasNoBlock, IsLowest}
-use Rattle.slab_index.specs.Kept.{set_of, capacity_or_none, capacity_at, is_class, IsIndex}
+use Rattle.slab_index.specs.Kept.{set_of, capacity_or_none, capacity_at, is_class, IsIndex, IsLeastBlock, IsFirstBlock, IsUsedUp}
 use Rattle.bit_words.proofs.Bits.{has-zero}
 use Rattle.slab_index.proofs.Steps.{start_here}
 use Rattle.slab_index.proofs.Views.{class_of_list, available_within, available_past, slab_inside}
@@ -64,25 +64,44 @@ module _ {granules : ℕ} {classes : List (Option ℕ)} {blocks some starts : Li
         none_of_start class start number slab (none.none (1024 * class + start) (omega arith) (omega (arith, inside, index.most)));
   }
 
-  -- the least start of the class, its least word that is not 0, and the least block of that
-  pub lowest : (class first found start word block : ℕ) → first ≡ 1024 * class → start ≡ found - 1024 * class → IsLeastIn starts first 1024 found → IsLeastIn some (64 * start) 64 word → IsLeastIn blocks (64 * word) 64 block →
-      IsLowest set class (record { start = start; number = block - 4096 * start })
-  lowest class first found start word block first_is start_is least_start least_word least_block =
+  -- nor has a slab without such a word
+  pub used_up : (start : ℕ) → get_or some start 0 ≡ 0 → IsUsedUp set start
+  used_up start none = record { none = λ number. none_of_slab start number none }
+
+  -- the least number of a slab is its lowest available block
+  pub first_block : (start number : ℕ) → IsLeastBlock blocks some start number → IsFirstBlock set start number
+  first_block start number least =
+      let word = least.word in
+      let few : number < 4096 = omega (arith, least.least_word.high, least.least.high) in
+      record {
+        available = available_within is start number few ∙ least.least.is;
+        first = λ i before. available_within is start i (omega arith) ∙ ⊎_elim
+            (λ (earlier : 4096 * start + i < 64 * word).
+            none_of_word (4096 * start + i) (least.least_word.least ((4096 * start + i) / 64) (omega arith) (omega arith)))
+            (λ (here : 64 * word ≤ 4096 * start + i). least.least.least (4096 * start + i) here (omega arith))
+            (cases_lt (4096 * start + i) (64 * word));
+      }
+
+  -- a start of the class has a word that is not 0
+  pub start_has_word : (class first found start : ℕ) → first ≡ 1024 * class → start ≡ found - 1024 * class → IsLeastIn starts first 1024 found → 0 < get_or some start 0
+  start_has_word class first found start first_is start_is least_start =
+      let there : found ≡ 1024 * class + start = omega (arith, least_start.low) in
+      (start_of class start (omega (arith, least_start.high)) (ap (has starts) (sym there) ∙ least_start.is)).word
+
+  -- the least start of the class, and the least block of that
+  pub lowest : (class first found start number : ℕ) → first ≡ 1024 * class → start ≡ found - 1024 * class → IsLeastIn starts first 1024 found → IsLeastBlock blocks some start number →
+      IsLowest set class (record { start = start; number = number })
+  lowest class first found start number first_is start_is least_start least_block =
       let there : found ≡ 1024 * class + start = omega (arith, least_start.low) in
       let small : start < 1024 = omega (arith, least_start.high) in
       let slab = start_of class start small (ap (has starts) (sym there) ∙ least_start.is) in
-      let number = block - 4096 * start in
-      let k : 4096 * start + number ≡ block = omega (arith, least_word.low, least_block.low) in
-      let few : number < 4096 = omega (arith, least_word.high, least_block.high) in
-      let place : block / 4096 ≡ start = omega arith in
+      let few : number < 4096 = omega (arith, least_block.least_word.high, least_block.least.high) in
+      let place : (4096 * start + number) / 4096 ≡ start = omega arith in
+      let first = first_block start number least_block in
       record {
         slab = class_of_list is start ∙ slab.slab;
-        below = omega (arith, index.below block least_block.is, ap (capacity_at classes) place, ap capacity_or_none slab.slab);
-        available = available_within is start number few ∙ ap (has blocks) k ∙ least_block.is;
-        first = λ i before. available_within is start i (omega arith) ∙ ⊎_elim
-            (λ (earlier : 4096 * start + i < 64 * word).
-            none_of_word (4096 * start + i) (least_word.least ((4096 * start + i) / 64) (omega arith) (omega arith)))
-            (λ (here : 64 * word ≤ 4096 * start + i). least_block.least (4096 * start + i) here (omega arith))
-            (cases_lt (4096 * start + i) (64 * word));
+        below = omega (arith, index.below (4096 * start + number) least_block.least.is, ap (capacity_at classes) place, ap capacity_or_none slab.slab);
+        available = first.available;
+        first = first.first;
         lower = λ s i before slab. none_of_start class s i slab (least_start.least (1024 * class + s) (omega arith) (omega arith));
       }

@@ -1,10 +1,11 @@
 -- What an index keeps beside the set of slabs: which words of blocks are not 0, and which slabs of each class have an
 -- available block.
-use Rattle.std.specs.Prelude.{◌≡◌, ◌≢◌, ◌==◌, ℕ, ◌*◌, ◌/◌, ◌%◌, ◌^◌, ◌<◌, ◌≤◌, Bool, true, false, ◌&&◌, nat_lt, List, length, Option, Some, None, slice_index, slice_index_or, if◌then◌else◌}
+use Rattle.std.specs.Prelude.{◌≡◌, ◌≢◌, ◌==◌, ℕ, ◌+◌, ◌*◌, ◌/◌, ◌%◌, ◌^◌, ◌<◌, ◌≤◌, Bool, true, false, ◌&&◌, nat_lt, List, length, Option, Some, None, slice_index, slice_index_or, if◌then◌else◌}
 use Rattle.std.specs.Int.{bit_at}
 use Rattle.size_classes.specs.Classes.{class_capacity}
-use Rattle.bit_words.specs.Numbers.{has}
-use Rattle.slab_index.specs.SlabSet.{SlabSet}
+use Rattle.bit_words.specs.Numbers.{has, IsLeastIn}
+use Rattle.heap_model.specs.Placement.{AreLowest}
+use Rattle.slab_index.specs.SlabSet.{SlabSet, class_in, is_available, AreTaken}
 
 -- the slabs that these lists say
 abbrev pub set_of : ℕ → List (Option ℕ) → List ℕ → SlabSet
@@ -28,6 +29,16 @@ is_class (Some other) class = other == class
 abbrev pub has_block : List (Option ℕ) → List ℕ → ℕ → Bool
 has_block classes some k = is_class (slice_index_or classes (k % 1024) None) (k / 1024) && nat_lt 0 (slice_index some (k % 1024))
 
+-- of a set of words the numbers of those that are not 0
+pub record IsSummary (words some : List ℕ) : Type 0 where
+  pub is : (i : ℕ) → has some i ≡ nat_lt 0 (slice_index words i)
+
+-- of 64 words for each slab the least number of a slab, counted from its first
+pub record IsLeastBlock (blocks some : List ℕ) (start number : ℕ) : Type 0 where
+  pub word : ℕ
+  pub least_word : IsLeastIn some (64 * start) 64 word
+  pub least : IsLeastIn blocks (64 * word) 64 (4096 * start + number)
+
 -- from one word of a set the numbers are taken that a word has
 pub record IsTakenFrom (old : List ℕ) (at word : ℕ) (new : List ℕ) : Type 0 where
   pub size : length new ≡ length old
@@ -48,3 +59,29 @@ pub record IsIndex (granules : ℕ) (classes : List (Option ℕ)) (blocks some s
   pub below : (k : ℕ) → has blocks k ≡ true → k % 4096 < capacity_at classes (k / 4096)
   pub some_is : (i : ℕ) → has some i ≡ nat_lt 0 (slice_index blocks i)
   pub starts_is : (k : ℕ) → has starts k ≡ has_block classes some k
+
+-- the lowest available block of a slab
+pub record IsFirstBlock (set : SlabSet) (start number : ℕ) : Type 0 where
+  pub available : is_available set start number ≡ true
+  pub first : (lower : ℕ) → lower < number → is_available set start lower ≡ false
+
+-- a slab has no available block
+pub record IsUsedUp (set : SlabSet) (start : ℕ) : Type 0 where
+  pub none : (number : ℕ) → is_available set start number ≡ false
+
+-- the lowest available block of a slab was taken
+pub record TookFirst (old : SlabSet) (start number : ℕ) (new : SlabSet) : Type 0 where
+  pub first : IsFirstBlock old start number
+  pub granules : new.granules ≡ old.granules
+  pub classes : (s : ℕ) → class_in new s ≡ class_in old s
+  pub blocks : (s i : ℕ) → is_available new s i ≡ (if s == start && i == number then false else is_available old s i)
+
+-- there was none, and nothing changed
+pub record WasUsedUp (old : SlabSet) (start : ℕ) (new : SlabSet) : Type 0 where
+  pub none : IsUsedUp old start
+  pub same : new ≡ old
+
+-- some lowest available blocks of a slab were taken
+pub record TookSome (old : SlabSet) (start most : ℕ) (numbers : List ℕ) (new : SlabSet) : Type 0 where
+  pub lowest : AreLowest (λ number. is_available old start number ≡ true) 0 most numbers
+  pub taken : AreTaken old start numbers new

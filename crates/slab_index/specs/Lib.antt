@@ -1,2 +1,4 @@
+pub mod Candidates
 pub mod Kept
 pub mod SlabSet
+pub mod Sparse

@@ -1,8 +1,10 @@
 -- The slabs of an arena: at which granules they begin, their classes, and which of their blocks may be given out. A slab
 -- has as many blocks as the capacity of its class, numbered from 0.
-use Rattle.std.specs.Prelude.{◌≡◌, ℕ, ◌+◌, ◌*◌, ◌<◌, Bool, true, false, ◌&&◌, nat_lt, List, Option, Some, None, slice_index_or}
+use Rattle.std.specs.Prelude.{◌≡◌, ◌≢◌, ℕ, ◌+◌, ◌*◌, ◌<◌, Bool, true, false, ◌&&◌, nat_lt, List, ◌∷◌, Option, Some, None, slice_index_or}
 use Rattle.size_classes.specs.Classes.{class_capacity}
+use Rattle.heap_model.specs.Placement.{Has, AreLowest}
 use Rattle.slab_index.specs.declared.block.SlabBlock.{SlabBlock}
+use Rattle.slab_index.specs.declared.block.SlabBlocks.{SlabBlocks}
 use Rattle.bit_words.specs.Numbers.{has}
 
 -- the class of the slab that begins at each of so many granules, and the available blocks, with 4096 numbers a granule
@@ -41,3 +43,31 @@ pub record IsLowest (set : SlabSet) (class : ℕ) (block : SlabBlock) : Type 0 w
   pub available : is_available set block.start block.number ≡ true
   pub first : (number : ℕ) → number < block.number → is_available set block.start number ≡ false
   pub lower : (start number : ℕ) → start < block.start → class_in set start ≡ Some class → is_available set start number ≡ false
+
+-- the lowest available blocks of the lowest slab of the class that has one, rising: so many of them, or all where it has fewer
+pub record AreLowestBlocks (set : SlabSet) (class most : ℕ) (blocks : SlabBlocks) : Type 0 where
+  pub slab : class_in set blocks.start ≡ Some class
+  pub lower : (start number : ℕ) → start < blocks.start → class_in set start ≡ Some class → is_available set start number ≡ false
+  pub below : (number : ℕ) → is_available set blocks.start number ≡ true → number < class_capacity class
+  pub first : ℕ
+  pub rest : List ℕ
+  pub numbers : blocks.numbers.items ≡ first ∷ rest
+  pub lowest : AreLowest (λ number. is_available set blocks.start number ≡ true) 0 most (first ∷ rest)
+
+-- these blocks of the slab at a granule are not available any more, and all else is as it was
+pub record AreTaken (old : SlabSet) (start : ℕ) (numbers : List ℕ) (new : SlabSet) : Type 0 where
+  pub granules : new.granules ≡ old.granules
+  pub classes : (s : ℕ) → class_in new s ≡ class_in old s
+  pub taken : (number : ℕ) → Has numbers number → is_available new start number ≡ false
+  pub rest : (number : ℕ) → ¬ (Has numbers number) → is_available new start number ≡ is_available old start number
+  pub others : (s number : ℕ) → s ≢ start → is_available new s number ≡ is_available old s number
+
+-- the lowest blocks of the class were taken
+pub record TookLowest (old : SlabSet) (class most : ℕ) (blocks : SlabBlocks) (new : SlabSet) : Type 0 where
+  pub lowest : AreLowestBlocks old class most blocks
+  pub taken : AreTaken old blocks.start blocks.numbers.items new
+
+-- there was none, and nothing changed
+pub record HadNoBlock (old : SlabSet) (class : ℕ) (new : SlabSet) : Type 0 where
+  pub none : HasNoBlock old class
+  pub same : new ≡ old

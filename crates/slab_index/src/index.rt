@@ -4,19 +4,19 @@ ghost use Rattle.std.specs.Int.{bit_at};
 ghost use Rattle.size_classes.specs.Classes.{class_capacity};
 ghost use Rattle.heap_model.specs.Machine.{with_key};
 ghost use Rattle.bit_words.specs.Numbers.{has as has_number};
-ghost use Rattle.slab_index.specs.SlabSet.{class_in, is_available, IsSlab, IsBlock, HasNoBlock, IsLowest};
+ghost use Rattle.slab_index.specs.SlabSet.{class_in, is_available, IsSlab, IsBlock, HasNoBlock, IsLowest, HadNoBlock, TookLowest};
+ghost use Rattle.slab_index.specs.Kept.{IsUsedUp, IsFirstBlock, WasUsedUp, TookFirst, TookSome};
 
-use crate::SlabBlock;
-use crate::words::{STARTS, summarize, take_numbers};
-use bit_words::{fill, has, least_in, least_of, ones, put};
+use crate::words::{BLOCKS, STARTS, least_block, summarize, take_numbers};
+use crate::{SlabBlock, SlabBlocks};
+use arrayvec::ArrayVec;
+use bit_words::{fill, has, least_in, ones, put};
 use pmem_lines::OutOfMemory;
 use size_classes::capacity;
 use std::alloc::Global;
 use std::marker::Model;
 
-// How many numbers there are for each granule among the blocks, and how many words have them.
-const BLOCKS: u32 = 4096;
-
+// How many words have the blocks of a granule.
 const BLOCK_WORDS: usize = 64;
 
 // How many words the starts of a class have.
@@ -142,12 +142,25 @@ impl SlabIndex {
     {
         let first = START_WORDS * class as usize;
         let start = least_in(&self.starts, first, START_WORDS)? - STARTS * u32::from(class);
-        let word = least_of(&self.some, start as usize)?;
-        let block = least_of(&self.blocks, word as usize)?;
-        Some(SlabBlock {
-            start,
-            number: block - BLOCKS * start,
-        })
+        let number = least_block(&self.blocks, &self.some, start)?;
+        Some(SlabBlock { start, number })
+    }
+
+    /// Takes up to `most` blocks, from one to eight: the lowest available ones of the lowest slab of the class that has one,
+    /// so that they are not available any more. Their numbers rise. `None` exactly where no slab of the class has an
+    /// available block. The slabs and the other blocks stay as they are. It looks at 18 words at most, and at five for each
+    /// block.
+    pub fn take_lowest(&mut self, class: u8, most: u32) -> Option<SlabBlocks>
+        requires class { class < 36 }
+        requires some { 0 < most }
+        requires few { most ≤ 8 }
+        ensures { MatchOption result (HadNoBlock self.old class self.new) (λ blocks. TookLowest self.old class most blocks self.new) }
+    {
+        // That only blocks of slabs are available is known of the fields alone.
+        let _ = &self.blocks;
+        let start = self.lowest(class)?.start;
+        let numbers = self.take_some(start, most);
+        Some(SlabBlocks { start, numbers })
     }
 
     /// Takes a block that is available, so that it is not any more. The slabs and the other blocks stay as they are.
@@ -185,6 +198,40 @@ impl SlabIndex {
         for at in 0..BLOCK_WORDS as u32 {
             self.take_word(start, at, numbers[at as usize]);
         }
+    }
+
+    // Takes up to so many of the lowest available blocks of a slab.
+    fn take_some(&mut self, start: u32, most: u32) -> ArrayVec<u32, 8>
+        requires slab { IsSlab self.old start }
+        requires few { most ≤ 8 }
+        ensures { TookSome self.old start most result.items self.new }
+    {
+        let mut numbers = ArrayVec::new();
+        for _ in 0..most {
+            let Some(number) = self.take_first(start) else {
+                return numbers;
+            };
+            numbers.push(number);
+        }
+        numbers
+    }
+
+    // Takes the lowest available block of a slab.
+    fn take_first(&mut self, start: u32) -> Option<u32>
+        requires { IsSlab self.old start }
+        ensures { MatchOption result (WasUsedUp self.old start self.new) (λ number. TookFirst self.old start number self.new) }
+    {
+        let number = self.first_of(start)?;
+        self.take(start, number);
+        Some(number)
+    }
+
+    // The lowest available block of a slab.
+    fn first_of(&self, start: u32) -> Option<u32>
+        requires { IsSlab self.now start }
+        ensures { MatchOption result (IsUsedUp self.now start) (IsFirstBlock self.now start) }
+    {
+        least_block(&self.blocks, &self.some, start)
     }
 
     // Takes those blocks of a slab that a word of a set has, which is word `at` of it.

@@ -12,10 +12,13 @@
 #![tactic(auto)]
 
 mod block;
+mod candidates;
 mod index;
 mod lives;
+mod sparse;
 mod words;
 
-pub use block::SlabBlock;
+pub use block::{SlabBlock, SlabBlocks};
+pub use candidates::{CalmSlab, Candidate, Candidates};
 pub use index::SlabIndex;
 pub use lives::LiveCounts;

@@ -1,0 +1,153 @@
+-- What candidates keep, after a slab came or went.
+use Rattle.std.proofs.Common.{◌≡◌, ◌≢◌, ℕ, ◌+◌, ◌*◌, ◌/◌, ◌%◌, ◌<◌, ◌≤◌, ⊎_elim, Bool, true, false, cond, eqb, ltb, ◌&&◌, List, Option, Some, None, length, get_or, set, replicate, refl, sym, ap, ◌∙◌, arith}
+use Rattle.std.proofs.lemmas.Bool.{cases_lt, cases_eq, eq-eqb, ne_eqb, cond-true, cond-false}
+use Rattle.std.proofs.lemmas.List.{get_or-set_same, get_or-set_other, length-set, get_or-replicate, get_or_past, length-replicate}
+use Rattle.std.proofs.lemmas.Option.{none-some}
+use Rattle.bit_words.specs.Numbers.{has, IsPut}
+use Rattle.bit_words.proofs.Bits.{has-zeros, get_or-zeros}
+use Rattle.slab_index.specs.declared.candidates.CalmSlab.{CalmSlab}
+use Rattle.slab_index.specs.Candidates.{calm_in}
+use Rattle.slab_index.specs.Kept.{IsSummary}
+use Rattle.slab_index.specs.Sparse.{is_sparse, has_live, has_class, AreKept, IsMarked}
+
+-- the calm slabs after one was replaced
+pub calm_after : (calm : List (Option CalmSlab)) (start : ℕ) (slab : Option CalmSlab) → start < length calm → (s : ℕ) → calm_in (set calm start slab) s ≡ cond (eqb s start) slab (calm_in calm s)
+unfolding calm_in
+calm_after calm start slab inside s = ⊎_elim
+    (λ (same : s ≡ start).
+    ap (λ t. get_or (set calm start slab) t None) same
+    ∙ get_or-set_same calm start slab None inside
+    ∙ sym (cond-true (eqb s start) slab (get_or calm s None) (eq-eqb s start same)))
+    (λ (apart : s ≢ start). get_or-set_other calm start s slab None apart ∙ sym (cond-false (eqb s start) slab (get_or calm s None) (ne_eqb s start apart)))
+    (cases_eq s start)
+
+-- a calm slab of the set is one of the list
+pub calm_of_list : {calm set : List (Option CalmSlab)} → calm ≡ set → (s : ℕ) → get_or calm s None ≡ calm_in set s
+unfolding calm_in
+calm_of_list is s = ap (λ (slabs : List (Option CalmSlab)). get_or slabs s None) is
+
+-- two tests of one meaning
+same_eqb : (a b m n : ℕ) → (a ≡ b → m ≡ n) → (m ≡ n → a ≡ b) → eqb a b ≡ eqb m n
+same_eqb a b m n there back = ⊎_elim
+    (λ (same : a ≡ b). eq-eqb a b same ∙ sym (eq-eqb m n (there same)))
+    (λ (apart : a ≢ b). ne_eqb a b apart ∙ sym (ne_eqb m n (λ e. apart (back e))))
+    (cases_eq a b)
+
+-- a set of starts by keys that a test of slabs tells, after one slab was replaced and its number put in or out
+told_marked : (test : Option CalmSlab → ℕ → Bool) (calm later : List (Option CalmSlab)) (old new : List ℕ) (start key : ℕ) (gate on : Bool) (was now : Option CalmSlab) → start < 4096 →
+    ((k : ℕ) → has old k ≡ test (get_or calm (k % 4096) None) (k / 4096)) → ((k : ℕ) → has new k ≡ cond (eqb k (4096 * key + start) && gate) on (has old k)) →
+    get_or calm start None ≡ was → get_or later start None ≡ now → ((other : ℕ) → other ≢ start → get_or later other None ≡ get_or calm other None) →
+    ((n : ℕ) → test now n ≡ cond (eqb n key && gate) on (test was n)) → (k : ℕ) → has new k ≡ test (get_or later (k % 4096) None) (k / 4096)
+told_marked test calm later old new start key gate on was now small told marked was_is now_is others changes k = ⊎_elim
+    (λ (here : k % 4096 ≡ start).
+    marked k
+    ∙ ap (λ b. cond (b && gate) on (has old k)) (same_eqb k (4096 * key + start) (k / 4096) key (λ e. omega (arith, e, small)) (λ e. omega (arith, e, here)))
+    ∙ ap (cond (eqb (k / 4096) key && gate) on) (told k ∙ ap (λ s. test (get_or calm s None) (k / 4096)) here ∙ ap (λ slab. test slab (k / 4096)) was_is)
+    ∙ sym (changes (k / 4096))
+    ∙ ap (λ slab. test slab (k / 4096)) (sym now_is)
+    ∙ ap (λ s. test (get_or later s None) (k / 4096)) (sym here))
+    (λ (there : k % 4096 ≢ start).
+    marked k
+    ∙ ap (λ b. cond (b && gate) on (has old k)) (ne_eqb k (4096 * key + start) (λ e. there (omega (arith, e, small))))
+    ∙ told k
+    ∙ ap (λ slab. test slab (k / 4096)) (sym (others (k % 4096) there)))
+    (cases_eq (k % 4096) start)
+
+and_true : (x : Bool) → (x && true) ≡ x
+and_true true = refl
+and_true false = refl
+
+-- what is kept, after the sets were marked for a slab that was replaced
+pub AreKept-changed : {calm : List (Option CalmSlab)} {starts some classes : List ℕ} (starts' some' classes' : List ℕ) (start : ℕ) (slab : CalmSlab) (on : Bool) (was now : Option CalmSlab) →
+    AreKept calm starts some classes → start < length calm → get_or calm start None ≡ was →
+    IsMarked starts start slab on starts' → length some' ≡ 65 → IsSummary starts' some' → IsPut classes (4096 * slab.class + start) on classes' →
+    ((n : ℕ) → has_live now n ≡ cond (eqb n slab.live && is_sparse slab) on (has_live was n)) → ((n : ℕ) → has_class now n ≡ cond (eqb n slab.class && true) on (has_class was n)) →
+    ((other : CalmSlab) → now ≡ Some other → other.class < 36) → AreKept (set calm start now) starts' some' classes'
+AreKept-changed {calm} {starts} {some} {classes} starts' some' classes' start slab on was now kept inside was_is marked some_size summary put live_is class_is known =
+    let small : start < 4096 = omega (arith, inside, kept.few) in
+    let later = set calm start now in
+    let here : get_or later start None ≡ now = get_or-set_same calm start now None inside in
+    let others : (other : ℕ) → other ≢ start → get_or later other None ≡ get_or calm other None = λ other apart. get_or-set_other calm start other now None apart in
+    record {
+      few = omega (arith, kept.few, length-set calm start now);
+      starts_size = marked.size ∙ kept.starts_size;
+      some_size = some_size;
+      classes_size = put.size ∙ kept.classes_size;
+      known = λ s other is. ⊎_elim
+          (λ (same : s ≡ start). known other (sym here ∙ ap (λ t. get_or later t None) (sym same) ∙ is))
+          (λ (apart : s ≢ start). kept.known s other (sym (others s apart) ∙ is))
+          (cases_eq s start);
+      starts_are = told_marked has_live calm later starts starts' start slab.live (is_sparse slab) on was now small kept.starts_are marked.each was_is here others live_is;
+      summary = summary;
+      classes_are = told_marked has_class calm later classes classes' start slab.class true on was now small kept.classes_are
+          (λ k. put.each k ∙ ap (λ b. cond b on (has classes k)) (sym (and_true (eqb k (4096 * slab.class + start)))))
+          was_is
+          here
+          others
+          class_is;
+    }
+
+leaves : (x : Bool) → false ≡ cond x false x
+leaves true = refl
+leaves false = refl
+
+leaves_class : (x : Bool) → false ≡ cond (x && true) false x
+leaves_class true = refl
+leaves_class false = refl
+
+comes : (x : Bool) → x ≡ cond x true false
+comes true = refl
+comes false = refl
+
+comes_class : (x : Bool) → x ≡ cond (x && true) true false
+comes_class true = refl
+comes_class false = refl
+
+-- after it went
+pub AreKept-left : {calm : List (Option CalmSlab)} {starts some classes : List ℕ} (starts' some' classes' : List ℕ) (start : ℕ) (slab : CalmSlab) → AreKept calm starts some classes → start < length calm → get_or calm start None ≡ Some slab →
+    IsMarked starts start slab false starts' → length some' ≡ 65 → IsSummary starts' some' → IsPut classes (4096 * slab.class + start) false classes' → AreKept (set calm start None) starts' some' classes'
+AreKept-left starts' some' classes' start slab kept inside was marked some_size summary put =
+    AreKept-changed starts' some' classes' start slab false (Some slab) None kept inside was marked some_size summary put
+    (λ n. leaves (eqb n slab.live && is_sparse slab))
+    (λ n. leaves_class (eqb n slab.class))
+    (λ other e. absurd (none-some other e))
+
+same_Some : (slab other : CalmSlab) → Some slab ≡ Some other → slab.class ≡ other.class
+same_Some slab other e = ap class_of e
+  where
+    class_of : Option CalmSlab → ℕ
+    class_of None = 0
+    class_of (Some slab) = slab.class
+
+-- after it came
+pub AreKept-come : {calm : List (Option CalmSlab)} {starts some classes : List ℕ} (starts' some' classes' : List ℕ) (start : ℕ) (slab : CalmSlab) → AreKept calm starts some classes → start < length calm → get_or calm start None ≡ None → slab.class < 36 →
+    IsMarked starts start slab true starts' → length some' ≡ 65 → IsSummary starts' some' → IsPut classes (4096 * slab.class + start) true classes' → AreKept (set calm start (Some slab)) starts' some' classes'
+AreKept-come starts' some' classes' start slab kept inside was known marked some_size summary put =
+    AreKept-changed starts' some' classes' start slab true None (Some slab) kept inside was marked some_size summary put
+    (λ n. comes (eqb n slab.live && is_sparse slab))
+    (λ n. comes_class (eqb n slab.class))
+    (λ other e. omega (arith, same_Some slab other e, known))
+
+-- no slab is in a list of none
+get_or-nones : (n i : ℕ) → get_or {A = Option CalmSlab} (replicate n None) i None ≡ None
+get_or-nones n i = ⊎_elim
+    (λ (within : i < n). get_or-replicate n i None None within)
+    (λ (past : n ≤ i). get_or_past (replicate n None) i None (omega (arith, length-replicate {A = Option CalmSlab} n None)))
+    (cases_lt i n)
+
+-- where there is none
+pub AreKept-fresh : (granules : ℕ) → granules ≤ 4096 → AreKept (replicate granules None) (replicate 4160 0) (replicate 65 0) (replicate 2304 0)
+AreKept-fresh granules few = record {
+  few = omega (arith, few, length-replicate {A = Option CalmSlab} granules None);
+  starts_size = length-replicate {A = ℕ} 4160 0;
+  some_size = length-replicate {A = ℕ} 65 0;
+  classes_size = length-replicate {A = ℕ} 2304 0;
+  known = λ s slab is. absurd (none-some slab (sym (get_or-nones granules s) ∙ is));
+  starts_are = λ k. has-zeros 4160 k ∙ sym (ap (λ slab. has_live slab (k / 4096)) (get_or-nones granules (k % 4096)));
+  summary = record { is = λ i. has-zeros 65 i ∙ sym (ap (ltb 0) (get_or-zeros 4160 i)) };
+  classes_are = λ k. has-zeros 2304 k ∙ sym (ap (λ slab. has_class slab (k / 4096)) (get_or-nones granules (k % 4096)));
+}
+
+pub calm_fresh : (granules s : ℕ) → calm_in (replicate granules None) s ≡ None
+unfolding calm_in
+calm_fresh granules s = get_or-nones granules s

@@ -1,0 +1,24 @@
+use Rattle.std.proofs.Common.{◌≡◌, ◌<◌, Option, Some, None, refl, sym, ap, ◌∙◌, arith}
+use Rattle.std.specs.Option.{IfSome}
+use Rattle.std.proofs.lemmas.List.{get_or_read, get_or_past}
+use Rattle.slab_index.specs.declared.candidates.CalmSlab.{CalmSlab}
+use Rattle.slab_index.specs.Candidates.{calm_in}
+use Rattle.slab_index.proofs.candidates.Candidates.calm_at.Goals as goal
+
+pub returns-then-at-len-clause-slab : goal.returns-then-at-len-clause-slab
+unfolding calm_in
+returns-then-at-len-clause-slab c =
+    get_or_read c.self.inside.calm.items c.args.start c.index.result.now (omega (arith, c.if-at-len.true, c.len.ensures)) c.index.ensures None ∙ ap (λ set. calm_in set c.args.start) c.self.view_is
+
+pub returns-then-at-len-clause-known : goal.returns-then-at-len-clause-known
+returns-then-at-len-clause-known c =
+    known c.index.result.now (λ slab is. c.self.invariant.known c.args.start slab (sym (get_or_read c.self.inside.calm.items c.args.start c.index.result.now (omega (arith, c.if-at-len.true, c.len.ensures)) c.index.ensures None) ∙ is))
+  where
+    known : (slab : Option CalmSlab) → ((s : CalmSlab) → slab ≡ Some s → s.class < 36) → IfSome slab (λ s. s.class < 36)
+    known None all = tt
+    known (Some s) all = all s refl
+
+pub returns-else-at-len-clause-slab : goal.returns-else-at-len-clause-slab
+unfolding calm_in
+returns-else-at-len-clause-slab c =
+    sym (ap (λ set. calm_in set c.args.start) (sym c.self.view_is) ∙ get_or_past c.self.inside.calm.items c.args.start None (omega (arith, c.if-at-len.false, c.len.ensures)))

@@ -1,0 +1,80 @@
+-- What candidates keep beside the list of calm slabs: sets of starts, 4096 numbers for each class, and as many for each number
+-- of live blocks that a slab may have which takes another class. And the steps of a search in them.
+use Rattle.std.specs.Prelude.{◌≡◌, ◌==◌, ◌⊎◌, ℕ, ◌+◌, ◌*◌, ◌/◌, ◌%◌, ◌<◌, ◌≤◌, Bool, true, false, ◌&&◌, nat_le, List, length, Option, Some, None, slice_index_or, if◌then◌else◌}
+use Rattle.size_classes.specs.Classes.{class_capacity}
+use Rattle.bit_words.specs.Numbers.{has}
+use Rattle.slab_index.specs.declared.candidates.CalmSlab.{CalmSlab}
+use Rattle.slab_index.specs.declared.candidates.Candidate.{Candidate}
+use Rattle.slab_index.specs.Candidates.{IsCandidate, IsBefore}
+use Rattle.slab_index.specs.Kept.{IsSummary}
+
+-- so few blocks live in the slab that it may take another class
+abbrev pub is_sparse : CalmSlab → Bool
+is_sparse slab = nat_le slab.live 64 && nat_le (5 * slab.live) (class_capacity slab.class)
+
+-- it is a slab with so many live blocks, and they are so few
+abbrev pub has_live : Option CalmSlab → ℕ → Bool
+has_live None live = false
+has_live (Some slab) live = live == slab.live && is_sparse slab
+
+-- it is a slab of the class
+abbrev pub has_class : Option CalmSlab → ℕ → Bool
+has_class None class = false
+has_class (Some slab) class = class == slab.class
+
+-- the sets are those of these calm slabs
+pub record AreKept (calm : List (Option CalmSlab)) (starts some classes : List ℕ) : Type 0 where
+  pub few : length calm ≤ 4096
+  pub starts_size : length starts ≡ 4160
+  pub some_size : length some ≡ 65
+  pub classes_size : length classes ≡ 2304
+  pub known : (start : ℕ) (slab : CalmSlab) → slice_index_or calm start None ≡ Some slab → slab.class < 36
+  pub starts_are : (k : ℕ) → has starts k ≡ has_live (slice_index_or calm (k % 4096) None) (k / 4096)
+  pub summary : IsSummary starts some
+  pub classes_are : (k : ℕ) → has classes k ≡ has_class (slice_index_or calm (k % 4096) None) (k / 4096)
+
+-- the set has a slab's start, or has it not, where so few blocks live in it
+pub record IsMarked (old : List ℕ) (start : ℕ) (slab : CalmSlab) (on : Bool) (new : List ℕ) : Type 0 where
+  pub size : length new ≡ length old
+  pub each : (k : ℕ) → has new k ≡ (if k == 4096 * slab.live + start && is_sparse slab then on else has old k)
+
+-- a slab with so many live blocks begins at the start, and has another class than this one
+pub record IsOther (starts classes : List ℕ) (class live start : ℕ) : Type 0 where
+  pub is : has starts (4096 * live + start) ≡ true
+  pub other : has classes (4096 * class + start) ≡ false
+
+-- among the 64 granules of a word none does from a start on
+pub record HasNoneInWord (starts classes : List ℕ) (class live at from : ℕ) : Type 0 where
+  pub none : (s : ℕ) → s / 64 ≡ at → from ≤ s → ¬ (IsOther starts classes class live s)
+
+-- the first of them
+pub record IsFirstInWord (starts classes : List ℕ) (class live at from start : ℕ) : Type 0 where
+  pub place : start / 64 ≡ at
+  pub behind : from ≤ start
+  pub is : IsOther starts classes class live start
+  pub first : (s : ℕ) → s / 64 ≡ at → from ≤ s → s < start → ¬ (IsOther starts classes class live s)
+
+-- none does at any granule from a start on
+pub record HasNoneInRow (starts classes : List ℕ) (class live from : ℕ) : Type 0 where
+  pub none : (s : ℕ) → from ≤ s → s < 4096 → ¬ (IsOther starts classes class live s)
+
+-- the first that does
+pub record IsFirstInRow (starts classes : List ℕ) (class live from start : ℕ) : Type 0 where
+  pub inside : start < 4096
+  pub behind : from ≤ start
+  pub is : IsOther starts classes class live start
+  pub first : (s : ℕ) → from ≤ s → s < start → ¬ (IsOther starts classes class live s)
+
+-- a place in the order of candidates, or behind it
+abbrev pub IsFrom : (live start other_live other : ℕ) → Type 0
+IsFrom live start other_live other = (live < other_live) ⊎ ((live ≡ other_live) × (start ≤ other))
+
+-- there is no candidate from a place on
+pub record HasNoneFrom (set : List (Option CalmSlab)) (class live start : ℕ) : Type 0 where
+  pub none : (s n : ℕ) → IsFrom live start n s → ¬ (IsCandidate set class s n)
+
+-- the first one from a place on
+pub record IsLeastFrom (set : List (Option CalmSlab)) (class live start : ℕ) (found : Candidate) : Type 0 where
+  pub is : IsCandidate set class found.start found.live
+  pub behind : IsFrom live start found.live found.start
+  pub first : (s n : ℕ) → IsCandidate set class s n → IsFrom live start n s → ¬ (IsBefore n s found.live found.start)

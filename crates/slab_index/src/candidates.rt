@@ -1,0 +1,185 @@
+// The calm slabs of an arena, and which of them may take another class.
+ghost use Rattle.std.specs.Prelude.{◌≡◌, ℕ, ◌<◌, ◌≤◌, length, Some, None, MatchOption, IfSome, IfOk};
+ghost use Rattle.heap_model.specs.Machine.{with_key};
+ghost use Rattle.slab_index.specs.Candidates.{calm_in, HasNoCandidate, IsFirstCandidate, HasNoneBehind, IsNextCandidate};
+ghost use Rattle.slab_index.specs.Sparse.{HasNoneFrom, IsLeastFrom};
+
+use crate::sparse::{COUNTS, STARTS, in_row, mark_class, mark_sparse};
+use pmem_lines::OutOfMemory;
+use std::alloc::Global;
+use std::marker::Model;
+
+// How many words have the starts of the slabs of a class, or of those with so many live blocks.
+const START_WORDS: usize = 64;
+
+const CLASSES: usize = 36;
+
+/// A calm slab: no live block in it has another size than that of its class. Its class, and how many live blocks lie in it.
+#[derive(Clone, Copy, Debug, PartialEq, Eq)]
+pub struct CalmSlab {
+    pub class: u8,
+    pub live: u32,
+}
+
+/// A slab that may take another class, by the granule that it begins at, and how many live blocks lie in it.
+#[derive(Clone, Copy, Debug, PartialEq, Eq)]
+pub struct Candidate {
+    pub start: u32,
+    pub live: u32,
+}
+
+/// The calm slabs of an arena, and which of them have so few live blocks that they may take another class: at most 64, and
+/// at most a fifth of the blocks that they hold. In contracts it is the list of what begins at each granule.
+///
+/// A search looks at one word for each number of live blocks from 0 to 64, and of those numbers that some slab has at a word
+/// and one more for each 64 granules among which such a slab begins. It ends at the first slab of another class: where no
+/// calm slab of the class itself has so few live blocks it looks at some 70 words, however many slabs there are.
+#[derive(Drop)]
+pub struct Candidates {
+    calm: Vec<Option<CalmSlab>>,
+    // The calm slabs with so few live blocks: 4096 numbers for each number of live blocks.
+    starts: Vec<u64>,
+    // The words of `starts` that are not 0.
+    some: Vec<u64>,
+    // All calm slabs: 4096 numbers for each class.
+    classes: Vec<u64>,
+}
+
+impl Model for Candidates {
+    ghost use Rattle.std.specs.Prelude.{List, Option};
+    ghost use Rattle.slab_index.specs.declared.candidates.CalmSlab.{CalmSlab};
+
+    ghost Value = { List (Option CalmSlab) };
+
+    ghost use Rattle.slab_index.specs.Sparse.{AreKept};
+
+    ghost view = { λ a. a.calm.items };
+
+    ghost invariant = { λ a. AreKept a.calm.items a.starts.items a.some.items a.classes.items };
+}
+
+impl Candidates {
+    /// Candidates of an arena of at most 4096 granules, in which no calm slab begins. It takes 12 bytes for each granule and
+    /// 52,232 beside, and refuses where there is no memory for them; no later call takes any.
+    pub fn new(alloc: Global, granules: u32) -> Result<Candidates, OutOfMemory>
+        requires { granules ≤ 4096 }
+        ensures size { IfOk result (λ candidates. length candidates ≡ granules) }
+        ensures none { IfOk result (λ candidates. (s : ℕ) → calm_in candidates s ≡ None) }
+    {
+        let calm = vec![in alloc; None; granules as usize]?;
+        let starts = vec![in alloc; 0; START_WORDS * COUNTS as usize]?;
+        let some = vec![in alloc; 0; COUNTS as usize]?;
+        let classes = vec![in alloc; 0; START_WORDS * CLASSES]?;
+        Ok(Candidates {
+            calm,
+            starts,
+            some,
+            classes,
+        })
+    }
+
+    /// The calm slab that begins at a granule. `None` exactly where none does, and so past the arena's end.
+    pub fn calm_at(&self, start: u32) -> Option<CalmSlab>
+        ensures slab { result ≡ calm_in self.now start }
+        ensures inside { IfSome result (λ _. start < length self.now) }
+        ensures known { IfSome result (λ slab. slab.class < 36) }
+    {
+        let at = start as usize;
+        if at < self.calm.len() {
+            self.calm[at]
+        } else {
+            None
+        }
+    }
+
+    /// The slab at a granule is calm, has a class and so many live blocks; whether it was calm before makes no difference.
+    /// The other slabs stay as they are.
+    pub fn put(&mut self, start: u32, class: u8, live: u32)
+        requires inside { start < length self.old }
+        requires class { class < 36 }
+        ensures size { length self.new ≡ length self.old }
+        ensures calm { (s : ℕ) → calm_in self.new s ≡ with_key (calm_in self.old) start (Some (record { class = class; live = live })) s }
+    {
+        self.remove(start);
+        self.insert(start, CalmSlab { class, live });
+    }
+
+    /// The slab at a granule is not calm, or there is none; whether it was calm before makes no difference. The other slabs
+    /// stay as they are.
+    pub fn remove(&mut self, start: u32)
+        ensures size { length self.new ≡ length self.old }
+        ensures calm { (s : ℕ) → calm_in self.new s ≡ with_key (calm_in self.old) start None s }
+    {
+        if let Some(slab) = self.calm_at(start) {
+            self.calm[start as usize] = None;
+            mark_class(&mut self.classes, start, slab, false);
+            mark_sparse(&mut self.starts, &mut self.some, start, slab, false);
+        }
+    }
+
+    /// Of the calm slabs of another class that have so few live blocks, the one with the fewest, the lowest start among
+    /// equals. `None` exactly where there is none.
+    pub fn first(&self, class: u8) -> Option<Candidate>
+        requires { class < 36 }
+        ensures first { MatchOption result (HasNoCandidate self.now class) (IsFirstCandidate self.now class) }
+        ensures inside { IfSome result (λ found. found.start < length self.now) }
+    {
+        self.least_from(class, 0, 0)
+    }
+
+    /// The same of those behind one with so many live blocks and this start: they have more, or as many and a higher start.
+    pub fn next_behind(&self, class: u8, live: u32, start: u32) -> Option<Candidate>
+        requires { class < 36 }
+        ensures next { MatchOption result (HasNoneBehind self.now class live start) (IsNextCandidate self.now class live start) }
+        ensures inside { IfSome result (λ found. found.start < length self.now) }
+    {
+        self.least_from(class, live, start.saturating_add(1))
+    }
+
+    // The least that is not before one with so many live blocks and this start.
+    fn least_from(&self, class: u8, live: u32, start: u32) -> Option<Candidate>
+        requires { class < 36 }
+        ensures least { MatchOption result (HasNoneFrom self.now class live start) (IsLeastFrom self.now class live start) }
+        ensures inside { IfSome result (λ found. found.start < length self.now) }
+        ensures few { length self.now ≤ 4096 }
+    {
+        for count in live..COUNTS {
+            let low = low_of(count, live, start);
+            if let Some(found) = in_row(
+                &self.starts,
+                &self.some,
+                &self.classes,
+                class,
+                count,
+                low,
+            ) {
+                return Some(Candidate {
+                    start: found,
+                    live: count,
+                });
+            }
+        }
+        None
+    }
+
+    // A calm slab begins at a granule where none did.
+    fn insert(&mut self, start: u32, slab: CalmSlab)
+        requires inside { start < length self.old }
+        requires class { slab.class < 36 }
+        requires fresh { calm_in self.old start ≡ None }
+        ensures size { length self.new ≡ length self.old }
+        ensures calm { (s : ℕ) → calm_in self.new s ≡ with_key (calm_in self.old) start (Some slab) s }
+    {
+        self.calm[start as usize] = Some(slab);
+        mark_class(&mut self.classes, start, slab, true);
+        mark_sparse(&mut self.starts, &mut self.some, start, slab, true);
+    }
+}
+
+// The lowest start of so many live blocks that is not before `start` with `live` of them.
+fn low_of(count: u32, live: u32, start: u32) -> u32
+    ensures same { count ≡ live → result ≡ start }
+    ensures more { live < count → result ≡ 0 }
+{
+    if count == live { start } else { 0 }
+}

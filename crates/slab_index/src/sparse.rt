@@ -1,0 +1,118 @@
+// The sets of words that candidates keep: the starts of slabs, for each class and for each number of live blocks.
+ghost use Rattle.std.specs.Prelude.{◌≡◌, ◌+◌, ◌*◌, ◌/◌, ◌<◌, length, MatchOption};
+ghost use Rattle.bit_words.specs.Numbers.{IsPut};
+ghost use Rattle.slab_index.specs.Kept.{IsSummary};
+ghost use Rattle.slab_index.specs.Sparse.{is_sparse, IsMarked, HasNoneInWord, IsFirstInWord, HasNoneInRow, IsFirstInRow};
+
+use crate::CalmSlab;
+use bit_words::{has, ones, put};
+use size_classes::capacity;
+
+/// How many numbers there are for each class, and for each number of live blocks.
+pub(crate) const STARTS: u32 = 4096;
+
+/// How many numbers of live blocks there are that a slab may have which takes another class: from 0 to 64.
+pub(crate) const COUNTS: u32 = 65;
+
+/// Whether so few blocks live in a slab that it may take another class.
+pub(crate) fn is_sparse(slab: CalmSlab) -> bool
+    requires { slab.class < 36 }
+    ensures { result ≡ is_sparse slab }
+{
+    slab.live < COUNTS && 5 * slab.live <= capacity(slab.class)
+}
+
+/// Puts the start of a slab into the set of its class, or out of it.
+pub(crate) fn mark_class(classes: &mut [u64], start: u32, slab: CalmSlab, on: bool)
+    requires start { start < 4096 }
+    requires class { slab.class < 36 }
+    requires size { length classes.old ≡ 2304 }
+    ensures { IsPut classes.old (4096 * slab.class + start) on classes.new }
+{
+    put(classes, STARTS * u32::from(slab.class) + start, on);
+}
+
+/// Puts the start of a slab into the set of its number of live blocks, or out of it, where these are so few that the slab may
+/// take another class.
+pub(crate) fn mark_sparse(
+    starts: &mut [u64],
+    some: &mut [u64],
+    start: u32,
+    slab: CalmSlab,
+    on: bool,
+)
+    requires start { start < 4096 }
+    requires class { slab.class < 36 }
+    requires starts_size { length starts.old ≡ 4160 }
+    requires some_size { length some.old ≡ 65 }
+    requires summary { IsSummary starts.old some.old }
+    ensures starts { IsMarked starts.old start slab on starts.new }
+    ensures some_size { length some.new ≡ 65 }
+    ensures summary { IsSummary starts.new some.new }
+{
+    if !is_sparse(slab) {
+        return;
+    }
+    let number = STARTS * slab.live + start;
+    put(starts, number, on);
+    put(some, number / 64, starts[(number / 64) as usize] != 0);
+}
+
+// Of the slabs with so many live blocks that begin among 64 granules the lowest that has another class, from a start on.
+fn in_word(
+    starts: &[u64],
+    some: &[u64],
+    classes: &[u64],
+    class: u8,
+    live: u32,
+    at: u32,
+    from: u32,
+) -> Option<u32>
+    requires class { class < 36 }
+    requires live { live < 65 }
+    requires at { at < 64 }
+    requires starts_size { length starts.now ≡ 4160 }
+    requires some_size { length some.now ≡ 65 }
+    requires summary { IsSummary starts.now some.now }
+    requires classes_size { length classes.now ≡ 2304 }
+    ensures { MatchOption result (HasNoneInWord starts.now classes.now class live at from) (IsFirstInWord starts.now classes.now class live at from) }
+{
+    if !has(some, 64 * live + at) {
+        return None;
+    }
+    let here = starts[(64 * live + at) as usize];
+    let own = classes[(64 * u32::from(class) + at) as usize];
+    let word = here & !own & !ones(from.saturating_sub(64 * at));
+    if word == 0 {
+        return None;
+    }
+    Some(64 * at + word.trailing_zeros())
+}
+
+/// Of the slabs with so many live blocks, from 0 to 64, the lowest that has another class, from a start on.
+pub(crate) fn in_row(
+    starts: &[u64],
+    some: &[u64],
+    classes: &[u64],
+    class: u8,
+    live: u32,
+    from: u32,
+) -> Option<u32>
+    requires class { class < 36 }
+    requires live { live < 65 }
+    requires starts_size { length starts.now ≡ 4160 }
+    requires some_size { length some.now ≡ 65 }
+    requires classes_size { length classes.now ≡ 2304 }
+    requires summary { IsSummary starts.now some.now }
+    ensures { MatchOption result (HasNoneInRow starts.now classes.now class live from) (IsFirstInRow starts.now classes.now class live from) }
+{
+    if some[live as usize] == 0 {
+        return None;
+    }
+    for at in from / 64..64 {
+        if let Some(start) = in_word(starts, some, classes, class, live, at, from) {
+            return Some(start);
+        }
+    }
+    None
+}
