@@ -1,27 +1,10 @@
 // What the checker says of an image.
+use crate::images::{Put, image};
 use image_check::{CheckFault, check_arena};
 use image_defects::Summary;
 use pmem_lines::OutOfMemory;
 use pool_layout::Defect;
 use std::alloc::Global;
-
-/// A word of an image: its number, and what it is.
-pub type Put = (usize, u64);
-
-/// So many words, all 0.
-pub fn blank(alloc: Global, size: usize) -> Result<Vec<u64>, OutOfMemory> {
-    let words = vec![in alloc; 0; size]?;
-    Ok(words)
-}
-
-/// Puts words into an image.
-pub fn put(words: &mut [u64], puts: &[Put]) {
-    for (word, value) in puts {
-        if *word < words.len() {
-            words[*word] = *value;
-        }
-    }
-}
 
 /// What the checker says of these words.
 pub fn answer_of(alloc: Global, words: &[u64]) -> Result<Result<Summary, Defect>, OutOfMemory> {
@@ -38,10 +21,7 @@ pub fn answer(
     base: &[Put],
     changes: &[Put],
 ) -> Result<Result<Summary, Defect>, OutOfMemory> {
-    let mut words = blank(alloc, 32768)?;
-    put(&mut words, base);
-    put(&mut words, changes);
-    answer_of(alloc, &words)
+    answer_of(alloc, &image(alloc, base, changes)?)
 }
 
 /// A summary with these counts.

@@ -2,7 +2,8 @@
 // there may be, and what is wrong, if anything, at the end of a search.
 ghost use Rattle.std.specs.Prelude.{◌<◌};
 
-use crate::answers::{Put, answer_of, blank, counts, put};
+use crate::answers::{answer_of, counts};
+use crate::images::{Put, blank, put};
 use pmem_lines::OutOfMemory;
 use pool_layout::Defect;
 use std::alloc::Global;

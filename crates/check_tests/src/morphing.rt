@@ -1,22 +1,8 @@
-// An arena with a large block of 8 granules and a slab at granule 12 that took class 19 and was of class 3 before: one block
-// of each lives.
-use crate::answers::{Put, answer, counts};
+// An arena with a slab that took another class, or is taking it.
+use crate::answers::{answer, counts};
+use crate::images::{IN_TRANSITION, Put};
 use pool_layout::Defect;
 use std::test::Fail;
-
-const IMAGE: [Put; 11] = [
-    (0, 3550894020320384590),
-    (1, 281543696187393),
-    (2, 1),
-    (2048, 65536),
-    (2049, 198656),
-    (2050, 199680),
-    (6152, 134218753),
-    (6160, 3074),
-    (24576, 16978691),
-    (24592, 1),
-    (24648, 1),
-];
 
 #[test]
 fn slabs_in_transition(rt: HostRuntime) -> Result<(), Fail> {
@@ -83,7 +69,7 @@ fn slabs_in_transition(rt: HostRuntime) -> Result<(), Fail> {
         (&[(2051, 198656), (64, 12884967429)], counts(1, 1, 3, 1)),
     ];
     for (changes, wanted) in rows {
-        assert_eq!(rt; answer(rt.alloc(), &IMAGE, changes)?, wanted);
+        assert_eq!(rt; answer(rt.alloc(), &IN_TRANSITION, changes)?, wanted);
     }
     Ok(())
 }

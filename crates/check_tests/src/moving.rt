@@ -1,6 +1,6 @@
 // Open entries: of a block that comes or goes, and of one that moves.
-use crate::answers::{Put, answer, counts};
-use crate::small::IMAGE;
+use crate::answers::{answer, counts};
+use crate::images::{ONE_BLOCK, Put};
 use pool_layout::Defect;
 use std::test::Fail;
 
@@ -12,22 +12,22 @@ const MOVE: u64 = 38655033349;
 #[test]
 fn place_entries(rt: HostRuntime) -> Result<(), Fail> {
     assert_eq!(rt;
-        answer(rt.alloc(), &IMAGE, &[(64, PLACE)])?,
+        answer(rt.alloc(), &ONE_BLOCK, &[(64, PLACE)])?,
         counts(0, 1, 1, 1)
     );
     // The bit is not set.
     assert_eq!(rt;
-        answer(rt.alloc(), &IMAGE, &[(64, PLACE), (8200, 0)])?,
+        answer(rt.alloc(), &ONE_BLOCK, &[(64, PLACE), (8200, 0)])?,
         counts(0, 1, 1, 1)
     );
     // The root holds nothing: the block and the empty slab are loose too.
     assert_eq!(rt;
-        answer(rt.alloc(), &IMAGE, &[(64, PLACE), (2053, 0)])?,
+        answer(rt.alloc(), &ONE_BLOCK, &[(64, PLACE), (2053, 0)])?,
         counts(0, 1, 0, 3)
     );
     // Neither.
     assert_eq!(rt;
-        answer(rt.alloc(), &IMAGE, &[(64, PLACE), (2053, 0), (8200, 0)])?,
+        answer(rt.alloc(), &ONE_BLOCK, &[(64, PLACE), (2053, 0), (8200, 0)])?,
         counts(0, 1, 0, 2)
     );
     Ok(())
@@ -46,7 +46,7 @@ fn move_entries(rt: HostRuntime) -> Result<(), Fail> {
         (&[(64, MOVE), (2057, 67600)], bad),
     ];
     for (changes, wanted) in rows {
-        assert_eq!(rt; answer(rt.alloc(), &IMAGE, changes)?, wanted);
+        assert_eq!(rt; answer(rt.alloc(), &ONE_BLOCK, changes)?, wanted);
     }
     Ok(())
 }
@@ -55,7 +55,7 @@ fn move_entries(rt: HostRuntime) -> Result<(), Fail> {
 fn second_lines(rt: HostRuntime) -> Result<(), Fail> {
     // A second entry is bad, though each of the two may be open alone.
     assert_eq!(rt;
-        answer(rt.alloc(), &IMAGE, &[(64, PLACE), (80, MOVE)])?,
+        answer(rt.alloc(), &ONE_BLOCK, &[(64, PLACE), (80, MOVE)])?,
         Err(Defect::BadWal {
             line: 2,
             value: MOVE
@@ -66,7 +66,7 @@ fn second_lines(rt: HostRuntime) -> Result<(), Fail> {
     assert_eq!(rt;
         answer(
             rt.alloc(),
-            &IMAGE,
+            &ONE_BLOCK,
             &[(64, 290752106397697), (72, MOVE), (2057, 67584)]
         )?,
         Err(Defect::BadWal {

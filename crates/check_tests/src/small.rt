@@ -1,21 +1,12 @@
-// An arena with one slab of class 6, at granule 4, whose block 0 root 5 holds.
-use crate::answers::{Put, answer, answer_of, blank, counts, put};
+// Defects of an arena with one block, one by one.
+use crate::answers::{answer, answer_of, counts};
+use crate::images::{ONE_BLOCK, Put, blank, image, put};
 use pool_layout::Defect;
 use std::test::Fail;
 
-pub const IMAGE: [Put; 7] = [
-    (0, 3550894020320384590),
-    (1, 281543696187393),
-    (2, 1),
-    (2053, 67584),
-    (6152, 1026),
-    (8192, 1537),
-    (8200, 1),
-];
-
 #[test]
 fn sound(rt: HostRuntime) -> Result<(), Fail> {
-    assert_eq!(rt; answer(rt.alloc(), &IMAGE, &[])?, counts(0, 1, 1, 0));
+    assert_eq!(rt; answer(rt.alloc(), &ONE_BLOCK, &[])?, counts(0, 1, 1, 0));
     Ok(())
 }
 
@@ -27,7 +18,7 @@ fn lengths(rt: HostRuntime) -> Result<(), Fail> {
         Err(Defect::BadLength { have: 0, need: 64 })
     );
     let mut short = blank(rt.alloc(), 32767)?;
-    put(&mut short, &IMAGE);
+    put(&mut short, &ONE_BLOCK);
     assert_eq!(rt;
         answer_of(rt.alloc(), &short)?,
         Err(Defect::BadLength {
@@ -107,7 +98,7 @@ fn defects(rt: HostRuntime) -> Result<(), Fail> {
         ),
     ];
     for (changes, defect) in rows {
-        assert_eq!(rt; answer(rt.alloc(), &IMAGE, changes)?, Err(defect));
+        assert_eq!(rt; answer(rt.alloc(), &ONE_BLOCK, changes)?, Err(defect));
     }
     Ok(())
 }
@@ -122,9 +113,11 @@ fn kinds_of_loose_things(rt: HostRuntime) -> Result<(), Fail> {
         (&[(8192, 16975363), (16384, 16975363)], [2, 0, 2]),
     ];
     for (changes, [empty, morphing, done]) in rows {
-        let mut words = blank(rt.alloc(), 32768)?;
-        put(&mut words, &IMAGE);
-        put(&mut words, &[(2053, 0), (6160, 2050), (8200, 0)]);
+        let mut words = image(
+            rt.alloc(),
+            &ONE_BLOCK,
+            &[(2053, 0), (6160, 2050), (8200, 0)],
+        )?;
         put(&mut words, changes);
         assert_eq!(rt;
             answer_of(rt.alloc(), &words)?,

@@ -107,6 +107,28 @@ pub fn close<P: Pmem + Drop>(
     }
 }
 
+/// Puts arenas into a pool with so many passes, and ends it at once. It gives the numbers of the passes, and the arenas.
+pub fn start_and_close<P: Pmem + Drop>(
+    alloc: Global,
+    arenas: Vec<Arena<P>>,
+    seats: u32,
+) -> Result<(Vec<u32>, Vec<ClosedArena<P>>), OutOfMemory>
+    requires { (1 ≤ seats) × (seats ≤ 64) }
+{
+    let Started { pool, passes } = match SharedPool::start(alloc, arenas, seats) {
+        Ok(started) => started,
+        Err((error, _arenas)) => return Err(error),
+    };
+    let mut numbers = Vec::new(alloc);
+    for pass in &passes {
+        numbers.push(pass.number())?;
+    }
+    match pool.close(alloc, passes) {
+        Ok(closed) => Ok((numbers, closed)),
+        Err((error, _pool, _passes)) => Err(error),
+    }
+}
+
 impl Caller {
     /// How many entries of an arena's journal were seen.
     pub fn seen<P: Pmem>(&self, pool: &SharedPool<P>, arena: u32) -> u64

@@ -18,7 +18,7 @@ mod threads;
 mod turns;
 mod watched;
 
-pub use callers::{Caller, arena_lock_of_two, close, empty_arena, pool_of};
+pub use callers::{Caller, arena_lock_of_two, close, empty_arena, pool_of, start_and_close};
 pub use jobs::{Ask, Look, LookBeside, TryBeside};
 pub use pool_threads::{malloc_on_two_threads, try_beside_a_store};
 pub use tally::Tally;

@@ -1,7 +1,7 @@
 // Journals, receipts and lengths of a pool, on one thread and on two.
 ghost use Rattle.std.specs.Prelude.{◌<◌};
 
-use crate::callers::{arena_lock_of_two, close, empty_arena, pool_of};
+use crate::callers::{arena_lock_of_two, close, empty_arena, pool_of, start_and_close};
 use crate::jobs::LookBeside;
 use crate::pool_threads::{malloc_on_two_threads, try_beside_a_store};
 use crate::watched::{Flags, Watched};
@@ -22,7 +22,7 @@ fn want_of_memory(refusal: TryRefusal) -> Option<OutOfMemory> {
     }
 }
 
-// Two passes ask for one root: the second receipt is behind the first, and its entry has the refusal.
+// Two passes ask for one root: the second receipt is behind the first, and its entry has the refusal. Then it is freed.
 #[test]
 fn one_root_for_two_passes(rt: HostRuntime) -> Result<(), OutOfMemory> {
     let alloc = rt.alloc();
@@ -43,6 +43,15 @@ fn one_root_for_two_passes(rt: HostRuntime) -> Result<(), OutOfMemory> {
     assert_eq!(&rt; second.entry.reply, Reply::Occupied { at: FIRST });
     assert_eq!(&rt; zero.seen(&pool, 0), 1);
     assert_eq!(&rt; one.seen(&pool, 0), 2);
+    let third = zero.free(&rt, alloc, &pool, 0, 5)?;
+    assert_eq!(&rt; third.place, 2);
+    assert_eq!(&rt;
+        third.entry.reply,
+        Reply::Freed {
+            at: FIRST,
+            size: 112
+        }
+    );
     Ok(())
 }
 
@@ -197,5 +206,35 @@ fn two_arenas_have_two_locks(rt: HostRuntime) -> Result<(), OutOfMemory> {
         Err(refusal) => assert!(&rt; want_of_memory(refusal).is_some()),
     }
     assert!(&rt; flags.all_met());
+    Ok(())
+}
+
+// With ample memory a pool has as many arenas and passes as it may: the passes are numbered in order, and each arena comes
+// back with what it had, and with an empty journal. Arena n has a block at root n.
+#[test]
+fn sixteen_arenas_and_sixty_four_passes(rt: HostRuntime) -> Result<(), OutOfMemory> {
+    let alloc = rt.alloc();
+    let mut arenas = Vec::new(alloc);
+    for number in 0..16 {
+        let mut arena = empty_arena(alloc, number, 16)?;
+        assert!(&rt; arena.malloc_to(0, number, 100).is_ok());
+        arenas.push(arena)?;
+    }
+    let (numbers, closed) = start_and_close(alloc, arenas, 64)?;
+    assert_eq!(&rt; numbers.len(), 64);
+    for (i, number) in numbers.iter().enumerate() {
+        assert_eq!(&rt; *number as usize, i);
+    }
+    assert_eq!(&rt; closed.len(), 16);
+    for (i, one) in closed.iter().enumerate() {
+        assert_eq!(&rt; one.journal.len(), 0, "arena {i}");
+        for root in 0..16 {
+            assert_eq!(&rt;
+                one.arena.block(root).is_some(),
+                root as usize == i,
+                "arena {i}"
+            );
+        }
+    }
     Ok(())
 }

@@ -1,45 +1,13 @@
-// Images, and what becomes of them.
-ghost use Rattle.std.specs.Prelude.{◌≡◌, IfOk, length};
-
+// What becomes of images.
 use arena_core::{Freed, Placed};
+use check_tests::{Put, image, put};
 use heap_model::Block;
 use pmem_lines::{OutOfMemory, Pmem, SimPmem};
 use pool_layout::Defect;
 use recover::{RecoverFault, recover};
 use std::alloc::Global;
-
-/// A word of an image: its number, and what it is.
-pub type Put = (usize, u64);
-
-// Words of an arena of 16 granules.
-const ARENA_WORDS: usize = 32768;
-
-/// So many words, all 0.
-pub fn blank(alloc: Global, size: usize) -> Result<Vec<u64>, OutOfMemory>
-    ensures { IfOk result (λ words. length words.items ≡ size) }
-{
-    let words = vec![in alloc; 0; size]?;
-    Ok(words)
-}
-
-/// Puts words into an image.
-pub fn put(words: &mut [u64], puts: &[Put]) {
-    for (word, value) in puts {
-        if *word < words.len() {
-            words[*word] = *value;
-        }
-    }
-}
-
-// An arena with these words, the second row over the first, and 0 else.
-fn image(alloc: Global, base: &[Put], changes: &[Put]) -> Result<Vec<u64>, OutOfMemory>
-    ensures { IfOk result (λ words. length words.items ≡ 32768) }
-{
-    let mut words = blank(alloc, ARENA_WORDS)?;
-    put(&mut words, base);
-    put(&mut words, changes);
-    Ok(words)
-}
+use std::process::Abort;
+use std::test::Fail;
 
 /// What became of an image.
 #[derive(Clone, Copy, Debug, PartialEq, Eq)]
@@ -87,6 +55,20 @@ pub fn recovered(
             }
         }
     }
+}
+
+/// What is changed in an image, what is then changed by recovery, and by how many events.
+pub type Row<'a> = (&'a [Put], &'a [Put], u32);
+
+/// The image of each row becomes exact, with the words and by the events that the row has.
+pub fn all_become<R: Abort>(rt: &R, alloc: Global, base: &[Put], rows: &[Row]) -> Result<(), Fail> {
+    for (changes, after, events) in rows {
+        assert_eq!(rt;
+            recovered(alloc, base, changes, after)?,
+            Became::Wanted { events: *events }
+        );
+    }
+    Ok(())
 }
 
 /// What an arena that was recovered from the words of a row has at a root, and where it puts a block of another.

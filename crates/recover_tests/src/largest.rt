@@ -1,6 +1,6 @@
 // Arenas of 1024 granules, whose heap is one free run.
-use crate::images::{Put, blank, put};
 use arena_core::{Arena, ArenaRoom, Placed};
+use check_tests::{Put, blank, put};
 use pmem_lines::{Pmem, SimPmem};
 use recover::recover;
 use std::test::Fail;

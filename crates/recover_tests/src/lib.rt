@@ -2,8 +2,8 @@
 // events that took.
 //
 // An image is given by its words that are not 0. `small` has an arena with one slab and one block, `morphing` one with
-// a large block and a slab that took another class, and images in which several things are loose; `largest` has arenas
-// of as many granules as there may be. The crate has no code of its own beside what makes the images, and stands apart
+// a large block and a slab that took another class, and images in which several things are loose: `check_tests` has both.
+// `largest` has arenas of as many granules as there may be, and `images` what becomes of an image. The crate stands apart
 // from `recover`, since a crate with tests is proved twice.
 #![tactic(auto)]
 

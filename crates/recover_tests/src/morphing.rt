@@ -1,27 +1,13 @@
-// An arena with a large block of 8 granules and a slab at granule 12 that took class 19 and was of class 3 before: one block
-// of each lives.
-use crate::images::{Answered, Became, Put, frees_between, recovered};
+// An arena with a slab that took another class, and images in which several things are loose.
+use crate::images::{Answered, Became, Row, all_become, frees_between, recovered};
 use arena_core::{Freed, Placed};
+use check_tests::{IN_TRANSITION, Put};
 use pool_layout::Defect;
 use std::test::Fail;
 
-const IMAGE: [Put; 11] = [
-    (0, 3550894020320384590),
-    (1, 281543696187393),
-    (2, 1),
-    (2048, 65536),
-    (2049, 198656),
-    (2050, 199680),
-    (6152, 134218753),
-    (6160, 3074),
-    (24576, 16978691),
-    (24592, 1),
-    (24648, 1),
-];
-
 #[test]
 fn slabs_in_transition(rt: HostRuntime) -> Result<(), Fail> {
-    let rows: [(&[Put], &[Put], u32); 7] = [
+    let rows: [Row; 7] = [
         (&[], &[], 0),
         (
             &[(24576, 16978690), (2050, 0)],
@@ -50,18 +36,12 @@ fn slabs_in_transition(rt: HostRuntime) -> Result<(), Fail> {
             6,
         ),
     ];
-    for (changes, after, events) in rows {
-        assert_eq!(rt;
-            recovered(rt.alloc(), &IMAGE, changes, after)?,
-            Became::Wanted { events }
-        );
-    }
-    Ok(())
+    all_become(&rt, rt.alloc(), &IN_TRANSITION, &rows)
 }
 
 #[test]
 fn loose_extents(rt: HostRuntime) -> Result<(), Fail> {
-    let rows: [(&[Put], &[Put], u32); 3] = [
+    let rows: [Row; 3] = [
         (&[(2048, 0)], &[(6168, 1027)], 3),
         (
             &[(2049, 0), (2050, 0), (24592, 0), (24648, 0)],
@@ -74,39 +54,32 @@ fn loose_extents(rt: HostRuntime) -> Result<(), Fail> {
             6,
         ),
     ];
-    for (changes, after, events) in rows {
-        assert_eq!(rt;
-            recovered(rt.alloc(), &IMAGE, changes, after)?,
-            Became::Wanted { events }
-        );
-    }
-    Ok(())
+    all_become(&rt, rt.alloc(), &IN_TRANSITION, &rows)
 }
 
 // A second slab, at granule 4, is in Morphing and has no live block, while no old block lives in the one at 12: the image is
 // sound, and not steady.
 #[test]
 fn two_slabs_nearly_done(rt: HostRuntime) -> Result<(), Fail> {
-    let changes: [Put; 5] = [
-        (2048, 0),
-        (2049, 0),
-        (6152, 1026),
-        (8192, 16978690),
-        (24648, 0),
-    ];
-    let after: [Put; 3] = [(24576, 4865), (8192, 16978691), (6168, 1027)];
-    assert_eq!(rt;
-        recovered(rt.alloc(), &IMAGE, &changes, &after)?,
-        Became::Wanted { events: 82 }
-    );
-    Ok(())
+    let rows: [Row; 1] = [(
+        &[
+            (2048, 0),
+            (2049, 0),
+            (6152, 1026),
+            (8192, 16978690),
+            (24648, 0),
+        ],
+        &[(24576, 4865), (8192, 16978691), (6168, 1027)],
+        82,
+    )];
+    all_become(&rt, rt.alloc(), &IN_TRANSITION, &rows)
 }
 
 #[test]
 fn defects(rt: HostRuntime) -> Result<(), Fail> {
     let stray: [Put; 1] = [(24576, 16978690)];
     assert_eq!(rt;
-        recovered(rt.alloc(), &IMAGE, &stray, &[])?,
+        recovered(rt.alloc(), &IN_TRANSITION, &stray, &[])?,
         Became::Refused(Defect::StrayRoot {
             root: 2,
             at: 199680,
@@ -134,6 +107,9 @@ fn old_block_goes(rt: HostRuntime) -> Result<(), Fail> {
             size: 1024,
         }),
     };
-    assert_eq!(rt; frees_between(rt.alloc(), &IMAGE, 1, 1000)?, Some(wanted));
+    assert_eq!(rt;
+        frees_between(rt.alloc(), &IN_TRANSITION, 1, 1000)?,
+        Some(wanted)
+    );
     Ok(())
 }

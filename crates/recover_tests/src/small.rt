@@ -1,22 +1,13 @@
-// An arena with one slab of class 6, at granule 4, whose block 0 root 5 holds.
-use crate::images::{Became, Put, goes_on, recovered};
+// Open entries of an arena with one block.
+use crate::images::{Row, all_become, goes_on};
 use arena_core::Placed;
+use check_tests::{ONE_BLOCK, Put};
 use heap_model::Block;
 use std::test::Fail;
 
-const IMAGE: [Put; 7] = [
-    (0, 3550894020320384590),
-    (1, 281543696187393),
-    (2, 1),
-    (2053, 67584),
-    (6152, 1026),
-    (8192, 1537),
-    (8200, 1),
-];
-
 #[test]
 fn open_entries(rt: HostRuntime) -> Result<(), Fail> {
-    let rows: [(&[Put], &[Put], u32); 4] = [
+    let rows: [Row; 4] = [
         (&[], &[], 0),
         (
             &[(64, 290271070060545), (8200, 0)],
@@ -34,13 +25,7 @@ fn open_entries(rt: HostRuntime) -> Result<(), Fail> {
             6,
         ),
     ];
-    for (changes, after, events) in rows {
-        assert_eq!(rt;
-            recovered(rt.alloc(), &IMAGE, changes, after)?,
-            Became::Wanted { events }
-        );
-    }
-    Ok(())
+    all_become(&rt, rt.alloc(), &ONE_BLOCK, &rows)
 }
 
 // The arena has the block of root 5, or none, and gives root 6 the lowest free block of class 6.
@@ -59,7 +44,7 @@ fn arena_goes_on(rt: HostRuntime) -> Result<(), Fail> {
     for (changes, block, at) in rows {
         let wanted = Placed { at, size: 112 };
         assert_eq!(rt;
-            goes_on(rt.alloc(), &IMAGE, changes, 5, 6, 100)?,
+            goes_on(rt.alloc(), &ONE_BLOCK, changes, 5, 6, 100)?,
             (block, Some(wanted))
         );
     }

@@ -7,6 +7,7 @@ use Rattle.arena_lock.specs.Known.{Lock, Known}
 use Rattle.arena_lock.specs.Journal.{calls_by, AllBelow}
 use Rattle.shared_pool.specs.Closed.{behead, is_in, HasAll, AllFitLocks, AllAgree, AllClosed}
 use Rattle.shared_pool.specs.Passes.{PassState, PoolState, mine_at, fresh_pass, fresh_passes}
+use Rattle.shared_pool.proofs.AllPasses.{fresh_fits}
 use Rattle.trace_workers.specs.Answers.{asked, calls_in, AllAnswer}
 use Rattle.trace_workers.specs.Workers.{HasTurns, AllBy, AllReady, AllOf, AllDone}
 use Rattle.arena_core.specs.Arena.{ArenaState}
@@ -89,10 +90,6 @@ answers calls seats ps os cs all by d h = answers_from calls seats 0 ps os cs al
 
 -- the passes of a start
 
-fresh_fits : (n : ℕ) (locks : List Lock) → map (λ (l : Lock). l.id) locks ≡ map (λ (z : Known). z.lock) (fresh_pass locks n).parts
-fresh_fits n [] = refl
-fresh_fits n (l ∷ ls) = ap (λ ts. l.id ∷ ts) (fresh_fits n ls)
-
 fresh_mine : (n : ℕ) (locks : List Lock) (a : ℕ) → mine_at (fresh_pass locks n) a ≡ []
 fresh_mine n [] a = refl
 fresh_mine n (l ∷ ls) zero = refl
@@ -106,21 +103,6 @@ fresh_turns n (x ∷ xs) (suc a) l = fresh_turns n xs a (omega arith)
 pub ready_fresh : (pool : PoolState) (n count : ℕ) → AllReady pool (fresh_passes pool.locks n count)
 ready_fresh pool n zero = tt
 ready_fresh pool n (suc count) = ((fresh_fits n pool.locks, record { none = fresh_mine n pool.locks; turns = fresh_turns n pool.locks }), ready_fresh pool (suc n) count)
-
-or_right : (b c : Bool) → c ≡ true → b || c ≡ true
-or_right true c e = refl
-or_right false c e = e
-
-has_one : (n k : ℕ) (more : Bool) → (n < k) ⊎ (k ≤ n) → n ≤ k → (n < k → more ≡ true) → (n == k) || more ≡ true
-has_one n k more (inl l) low f = or_right (n == k) more (f l)
-has_one n k more (inr l) low f = ap (λ b. b || more) (eq-eqb n k (omega arith))
-
-has_from : (locks : List Lock) (n count k : ℕ) → n ≤ k → k < n + count → is_in k (map (λ p. p.number) (fresh_passes locks n count)) ≡ true
-has_from locks n zero k low high = absurd (omega arith)
-has_from locks n (suc count) k low high = has_one n k (is_in k (map (λ p. p.number) (fresh_passes locks (suc n) count))) (below_or n k) low (λ l. has_from locks (suc n) count k (omega arith) (omega arith))
-
-pub has_fresh : (locks : List Lock) (count : ℕ) → HasAll count (map (λ p. p.number) (fresh_passes locks 0 count))
-has_fresh locks count k l = has_from locks 0 count k (omega arith) (omega arith)
 
 pub length_fresh : (locks : List Lock) (n count : ℕ) → length (fresh_passes locks n count) ≡ count
 length_fresh locks n zero = refl

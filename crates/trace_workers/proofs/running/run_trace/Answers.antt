@@ -5,8 +5,9 @@ use Rattle.shared_pool.specs.Closed.{AllFitLocks, HasAll, AllClosed}
 use Rattle.arena_journal.specs.Journals.{opened}
 use Rattle.shared_pool.specs.Passes.{PassState, fresh_passes}
 use Rattle.shared_pool.specs.Rows.{each_of}
+use Rattle.shared_pool.proofs.AllPasses.{has_fresh}
 use Rattle.trace_workers.specs.Workers.{AllReady}
-use Rattle.trace_workers.proofs.ClosedJournals.{answers, ready_fresh, has_fresh, fits_of, take_front}
+use Rattle.trace_workers.proofs.ClosedJournals.{answers, ready_fresh, fits_of, take_front}
 use Rattle.trace_workers.proofs.running.run_trace.Goals as goal
 
 pub work_all-requires-clause-ready : goal.work_all-requires-clause-ready
