@@ -2,7 +2,7 @@
 use Rattle.std.proofs.Common.{◌≡◌, ◌≢◌, ◌⊎◌, inl, inr, ℕ, suc, ◌+◌, Bool, true, false, if◌then◌else◌, List, [], ◌∷◌, ◌++◌, refl, ap, sym, ◌∙◌, subst, arith, append_assoc, ⊎_elim}
 use Rattle.std.proofs.lemmas.Bool.{cases_Bool}
 use Rattle.pmem_lines.specs.Pmem.{PmemState, words_of, risen}
-use Rattle.pmem_lines.specs.Events.{CrashOnly}
+use Rattle.pmem_lines.specs.Events.{CrashOnly, reading}
 use Rattle.heap_model.specs.declared.call.Call.{Call}
 use Rattle.heap_model.specs.declared.call.Call.TheVariants.{Malloc, Free, Write, Read, Move}
 use Rattle.heap_model.specs.declared.call.Reply.{Reply}
@@ -20,7 +20,7 @@ use Rattle.arena_core.specs.Call.{IsReady}
 use Rattle.arena_core.specs.Events.{call_events, line_after}
 use Rattle.arena_lock.specs.declared.opening.Opening.{Opening}
 use Rattle.arena_lock.specs.Legality.{opening_words, machine_in, IsLegal}
-use Rattle.arena_journal.specs.Journals.{opened, begins_call, begun_by, line_behind, IsUntouched, IsBehindCall, IsBehind, HasBegun, HasDone, HasAnswered}
+use Rattle.arena_journal.specs.Journals.{opened, begins_call, begun_by, line_behind, words_along, IsUntouched, IsBehindCall, IsBehind, HasBegun, HasDone, HasAnswered}
 
 -- an entry more leads on
 leads_more : {State : Type 0} (Steps : State → Entry → State → Type 0) (m middle next : State) (journal : List Entry) (e : Entry) → Leads Steps m journal middle → Steps middle e next → Leads Steps m (journal ++ e ∷ []) next
@@ -30,6 +30,11 @@ leads_more Steps m middle next (x ∷ xs) e h s = (h.0, h.1, leads_more Steps h.
 line_more : (line : ℕ) (journal : List Entry) (e : Entry) → line_behind line (journal ++ e ∷ []) ≡ line_after (line_behind line journal) e.reply
 line_more line [] e = refl
 line_more line (x ∷ xs) e = line_more (line_after line x.reply) xs e
+
+words_more : (words : List ℕ) (line : ℕ) (journal : List Entry) (e : Entry) → words_along words line (journal ++ e ∷ []) ≡
+    reading (words_along words line journal) (call_events (words_along words line journal) (line_behind line journal) e.call e.reply)
+words_more words line [] e = refl
+words_more words line (x ∷ xs) e = words_more (reading words (call_events words line x.call x.reply)) (line_after line x.reply) xs e
 
 -- how many entries are no Read
 
@@ -69,6 +74,14 @@ read_done old new (Write root index word) reply none done = absurd (cc none)
 read_done old new (Read root index) reply none done = done.same
 read_done old new (Move from to) reply none done = absurd (cc none)
 
+-- whichever the call, its events lead from the words before it to those behind it
+pub words_answered : (seat : ℕ) (old new : ArenaState) (call : Call) (reply : Reply) → HasAnswered seat old new call reply → words_of new.device ≡ reading (words_of old.device) (call_events (words_of old.device) old.line call reply)
+words_answered seat old new (Malloc root size) reply answered = ap (λ (s : PmemState). words_of s) answered.done.device
+words_answered seat old new (Free root) reply answered = ap (λ (s : PmemState). words_of s) answered.done.device
+words_answered seat old new (Write root index word) reply answered = ap (λ (s : PmemState). words_of s) answered.done.device
+words_answered seat old new (Read root index) reply answered = ap (λ (a : ArenaState). words_of a.device) answered.done.same
+words_answered seat old new (Move from to) reply answered = ap (λ (s : PmemState). words_of s) answered.done.device
+
 -- nothing was asked yet
 pub behind_none : (a : ArenaState) → IsReady a.device → IsExactImage (words_of a.device) → IsBehind (opened a) [] a
 behind_none a ready exact =
@@ -81,6 +94,7 @@ behind_none a ready exact =
       exact = exact;
       bounds = refl;
       line = refl;
+      words = refl;
       begins = risen_none a.device.begins;
       last = inl (record { none = refl; same = refl });
     }
@@ -89,6 +103,13 @@ behind_none a ready exact =
 module _ (o : Opening) (journal : List Entry) (old new : ArenaState) (e : Entry) (held : IsBehind o journal old) (answered : HasAnswered e.seat old new e.call e.reply) where
   found : (next : Machine) × IsPlacedStep plain (bounds_of (opening_words o)) e.seat (bare held.machine) e.call e.reply (bare next) × HasState (words_of new.device) next
   found = let f = answered.step.each held.machine held.state in (f.0, subst (λ (b : Bounds). IsPlacedStep plain b e.seat (bare held.machine) e.call e.reply (bare f.0)) held.bounds f.1, f.2)
+
+  words : words_of new.device ≡ words_along (opening_words o) o.next_line (journal ++ e ∷ [])
+  words =
+      words_answered e.seat old new e.call e.reply answered
+      ∙ ap (λ line. reading (words_of old.device) (call_events (words_of old.device) line e.call e.reply)) held.line
+      ∙ ap (λ (ws : List ℕ). reading ws (call_events ws (line_behind o.next_line journal) e.call e.reply)) held.words
+      ∙ sym (words_more (opening_words o) o.next_line journal e)
 
   -- all but the last call on the memory
   behind_by : new.device.begins ≡ risen o.begins (begun_by (journal ++ e ∷ [])) → IsUntouched o (journal ++ e ∷ []) new ⊎ IsBehindCall o (journal ++ e ∷ []) new → IsBehind o (journal ++ e ∷ []) new
@@ -101,6 +122,7 @@ module _ (o : Opening) (journal : List Entry) (old new : ArenaState) (e : Entry)
     exact = answered.exact;
     bounds = answered.step.bounds ∙ held.bounds;
     line = answered.line ∙ (ap (λ line. line_after line e.reply) held.line ∙ sym (line_more o.next_line journal e));
+    words = words;
     begins = begins;
     last = last;
   }

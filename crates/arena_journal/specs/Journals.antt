@@ -1,7 +1,7 @@
 -- What a journal says of the arena that it is of: the opening, which is the arena as the journal began, the entries since,
 -- and the arena as it is now.
 use Rattle.std.specs.Prelude.{◌≡◌, ◌⊎◌, ℕ, suc, Bool, true, false, if◌then◌else◌, List, [], ◌∷◌, ◌++◌}
-use Rattle.pmem_lines.specs.Events.{CrashOnly}
+use Rattle.pmem_lines.specs.Events.{CrashOnly, reading}
 use Rattle.pmem_lines.specs.Pmem.{words_of, began, appended, risen}
 use Rattle.heap_model.specs.declared.call.Call.{Call}
 use Rattle.heap_model.specs.declared.call.Call.TheVariants.{Malloc, Free, Write, Read, Move}
@@ -55,6 +55,11 @@ abbrev pub line_behind : ℕ → List Entry → ℕ
 line_behind line [] = line
 line_behind line (e ∷ es) = line_behind (line_after line e.reply) es
 
+-- the words that entries lead to, of which each has the events of its call, from these words and this write-ahead line on
+abbrev pub words_along : List ℕ → ℕ → List Entry → List ℕ
+words_along words line [] = words
+words_along words line (e ∷ es) = words_along (reading words (call_events words line e.call e.reply)) (line_after line e.reply) es
+
 -- the arena and its journal
 
 -- every entry is a Read, and the arena is as it was handed over
@@ -80,7 +85,7 @@ pub record IsBehindCall (o : Opening) (journal : List Entry) (now : ArenaState) 
   pub crash : CrashOnly now.device.base now.device.events (IsLeftBy entry.call now.device.base (words_of now.device))
 
 -- The journal leads from the opening to the arena as it is: to its blocks, slabs and words, with all stacks empty, to its
--- write-ahead line, and to its count of begun calls. No two blocks overlap, and the memory is quiet and exact. Base and
+-- write-ahead line, to its words, word for word, and to its count of begun calls. No two blocks overlap, and the memory is quiet and exact. Base and
 -- events are those of the last call that is no Read, or those of the opening.
 pub record IsBehind (o : Opening) (journal : List Entry) (now : ArenaState) : Type 0 where
   pub machine : Machine
@@ -91,6 +96,7 @@ pub record IsBehind (o : Opening) (journal : List Entry) (now : ArenaState) : Ty
   pub exact : IsExactImage (words_of now.device)
   pub bounds : bounds_of (words_of now.device) ≡ bounds_of (opening_words o)
   pub line : now.line ≡ line_behind o.next_line journal
+  pub words : words_of now.device ≡ words_along (opening_words o) o.next_line journal
   pub begins : now.device.begins ≡ risen o.begins (begun_by journal)
   pub last : IsUntouched o journal now ⊎ IsBehindCall o journal now
 

@@ -10,8 +10,8 @@ use Rattle.heap_model.specs.Journal.{Leads, IsPlacedEntry}
 use Rattle.arena_core.specs.Arena.{ArenaState}
 use Rattle.arena_core.specs.Events.{call_events}
 use Rattle.arena_lock.specs.Legality.{machine_in, LeadsTo}
-use Rattle.arena_journal.specs.Journals.{opened, begins_call, begun_by, line_behind, IsUntouched, IsBehindCall, IsBehind}
-use Rattle.trace_runs.specs.Arenas.{bounds_for, IsNewArena}
+use Rattle.arena_journal.specs.Journals.{opened, begins_call, begun_by, line_behind, words_along, IsUntouched, IsBehindCall, IsBehind}
+use Rattle.trace_runs.specs.Arenas.{bounds_for, formatted, IsNewArena}
 use Rattle.trace_runs.specs.Journals.{IsJournal, IsAsFormatted, IsBehindLast, HasRun}
 
 -- a new arena has the state of the empty heap
@@ -65,6 +65,7 @@ HasRun-behind header first now journal new few behind =
       quiet = behind.ready.quiet;
       exact = behind.exact;
       state = behind.state;
+      words = behind.words ∙ ap (λ (ws : List ℕ). words_along ws first.line journal) new.words ∙ ap (λ line. words_along (formatted header) line journal) new.line;
       begins = omega (arith, behind.begins, new.begins, count, few);
       last = last_of header first now journal new behind.last;
     }

@@ -12,7 +12,7 @@ use Rattle.heap_model.specs.Journal.{Leads, IsPlacedEntry}
 use Rattle.heap_check.specs.Image.{IsExactImage}
 use Rattle.heap_check.specs.State.{HasState}
 use Rattle.arena_core.specs.Events.{format_events, call_events}
-use Rattle.arena_journal.specs.Journals.{begins_call, begun_by, line_behind}
+use Rattle.arena_journal.specs.Journals.{begins_call, begun_by, line_behind, words_along}
 use Rattle.trace_text.specs.declared.call.TraceCall.{TraceCall}
 use Rattle.trace_runs.specs.Arenas.{bounds_for, formatted}
 use Rattle.trace_runs.specs.Runs.{Stage, words_behind, IsRunOf}
@@ -44,8 +44,9 @@ pub record IsBehindLast (header : PoolHeader) (device : PmemState) (journal : Li
   pub state : HasState device.base machine
   pub events : device.events ≡ call_events device.base (line_behind 0 before) entry.call entry.reply
 
--- The device of the arena with this header went through a legal journal to this state, in which no two blocks overlap. It is
--- quiet and exact, with that state. It began one call for the formatting, and one for each entry that is no Read; its base
+-- The device of an arena that was formatted with this header went through a legal journal to this state, in which no two
+-- blocks overlap. It is quiet and exact, with that state. Its words are, word for word, those that the events of the entries'
+-- calls make of the formatted ones. It began one call for the formatting, and one for each entry that is no Read; its base
 -- and events are those of the last of these.
 pub record HasRun (header : PoolHeader) (device : PmemState) (journal : List Entry) (machine : Machine) : Type 0 where
   pub legal : IsJournal header.granules journal machine
@@ -53,6 +54,7 @@ pub record HasRun (header : PoolHeader) (device : PmemState) (journal : List Ent
   pub quiet : IsQuiet device.events
   pub exact : IsExactImage (words_of device)
   pub state : HasState (words_of device) machine
+  pub words : words_of device ≡ words_along (formatted header) 0 journal
   pub begins : device.begins ≡ 1 + begun_by journal
   pub last : IsAsFormatted header device journal ⊎ IsBehindLast header device journal
 
