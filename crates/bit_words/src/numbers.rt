@@ -40,7 +40,7 @@ pub fn ones(n: u32) -> u64
 
 /// Of the 4096 numbers from 4096 times `place` on, puts the first `n` into the set and the others out of it.
 pub fn fill(words: &mut [u64], place: u32, n: u32)
-    requires few { place < 1024 }
+    requires few { place < 4096 }
     requires within { 64 * place + 64 ≤ length words.old }
     ensures { IsFilled words.old place n words.new }
 {
@@ -52,7 +52,7 @@ pub fn fill(words: &mut [u64], place: u32, n: u32)
 /// The lowest number that a word has, which is not 0.
 pub fn least_of(words: &[u64], at: usize) -> Option<u32>
     requires within { at < length words.now }
-    requires few { length words.now ≤ 65536 }
+    requires few { length words.now ≤ 262144 }
     ensures { MatchOption result (slice_index words.now at ≡ 0) (IsLeastIn words.now (64 * at) 64) }
 {
     let word = words[at];
@@ -65,7 +65,7 @@ pub fn least_of(words: &[u64], at: usize) -> Option<u32>
 /// The lowest number that `n` words from `at` on have.
 pub fn least_in(words: &[u64], at: usize, n: usize) -> Option<u32>
     requires within { at + n ≤ length words.now }
-    requires few { length words.now ≤ 65536 }
+    requires few { length words.now ≤ 262144 }
     ensures { MatchOption result (HasNoneIn words.now (64 * at) (64 * n)) (IsLeastIn words.now (64 * at) (64 * n)) }
 {
     for i in at..at + n {

@@ -229,8 +229,8 @@ fn a_slab_takes_another_class(rt: HostRuntime) -> Result<(), Fail> {
             index.take(4, number);
         }
     }
-    index.remove(4);
-    if index.class_at(4).is_none() {
+    if index.class_at(4) == Some(0) {
+        index.remove(4);
         index.add(4, 3);
     }
     let mut covered = [0; 64];

@@ -15,8 +15,8 @@ get_or-nones n i = ⊎_elim
     (cases_lt i n)
 
 -- no slab has a block, and no word lacks one
-pub IsIndex-fresh : (granules : ℕ) → 16 ≤ granules → granules ≤ 1024 →
-    IsIndex granules (replicate granules None) (replicate (64 * granules) 0) (replicate granules 0) (replicate 576 0)
+pub IsIndex-fresh : (granules : ℕ) → 16 ≤ granules → granules ≤ 4096 →
+    IsIndex granules (replicate granules None) (replicate (64 * granules) 0) (replicate granules 0) (replicate 2304 0) (replicate 36 0)
 IsIndex-fresh granules least most =
     let none = get_or-nones granules in
     let empty : (s : ℕ) → capacity_at (replicate granules None) s ≡ 0 = λ s. ap capacity_or_none (none s) in
@@ -26,13 +26,15 @@ IsIndex-fresh granules least most =
       classes_size = length-replicate {A = Option ℕ} granules None;
       blocks_size = length-replicate {A = ℕ} (64 * granules) 0;
       some_size = length-replicate {A = ℕ} granules 0;
-      starts_size = length-replicate {A = ℕ} 576 0;
+      starts_size = length-replicate {A = ℕ} 2304 0;
+      some_starts_size = length-replicate {A = ℕ} 36 0;
+      summary = record { is = λ i. has-zeros 36 i ∙ sym (ap (ltb 0) (get_or-zeros 2304 i)) };
       known = λ s c is. absurd (let h = none s in cc);
       fits = λ i. omega (arith, get_or-zeros (64 * granules) i);
       few = λ s. omega (arith, empty s);
       below = λ k is. absurd (false≢true (sym (has-zeros (64 * granules) k) ∙ is));
       some_is = λ i. has-zeros granules i ∙ sym (ap (ltb 0) (get_or-zeros (64 * granules) i));
-      starts_is = λ k. has-zeros 576 k ∙ sym (ap (λ slab. is_class slab (k / 1024) && ltb 0 (get_or {A = ℕ} (replicate granules 0) (k % 1024) 0)) (none (k % 1024)));
+      starts_is = λ k. has-zeros 2304 k ∙ sym (ap (λ slab. is_class slab (k / 4096) && ltb 0 (get_or {A = ℕ} (replicate granules 0) (k % 4096) 0)) (none (k % 4096)));
     }
 
 -- where no slab begins, none is found, and no block is available

@@ -4,8 +4,9 @@ use Rattle.std.specs.Int.{bit_at}
 use Rattle.std.proofs.lemmas.Bool.{cases_lt, cases_eq, eq-eqb, eqb-true, le-ltb, ltb-false, both_ways}
 use Rattle.std.proofs.lemmas.Nat.Bits.{bit_at-lt, bit_at_and, bit_at_not, bit_at-zero}
 use Rattle.bit_words.specs.Numbers.{has, ones}
-use Rattle.bit_words.proofs.Bits.{has_in_word, has-zero, bit_of_ones, ones_fit}
+use Rattle.bit_words.proofs.Bits.{has_in_word, bit_of_ones, ones_fit}
 use Rattle.slab_index.specs.Kept.{IsSummary}
+use Rattle.slab_index.proofs.Lowest.{none_of_word, none_at}
 use Rattle.slab_index.specs.Sparse.{IsOther, HasNoneInWord, IsFirstInWord, HasNoneInRow, IsFirstInRow}
 
 -- a number of 4096 by its word and bit
@@ -111,24 +112,18 @@ module _ (starts classes : List ℕ) (class live at from : ℕ) (own_fits : get_
       }
 
 -- a word that is 0 has none
-pub none_of_word : {starts some : List ℕ} (classes : List ℕ) (class live at from : ℕ) → IsSummary starts some → has some (64 * live + at) ≡ false → at < 64 → HasNoneInWord starts classes class live at from
-none_of_word {starts} {some} classes class live at from summary none small = record {
+pub none_in_clear_word : {starts some : List ℕ} (classes : List ℕ) (class live at from : ℕ) → IsSummary starts some → has some (64 * live + at) ≡ false → at < 64 → HasNoneInWord starts classes class live at from
+none_in_clear_word {starts} {some} classes class live at from summary none small = record {
   none = λ s place past other.
       let k = 4096 * live + s in
       let word : k / 64 ≡ 64 * live + at = omega (arith, place) in
-      let zero : get_or starts (k / 64) 0 ≡ 0 = omega (arith, ltb-false 0 (get_or starts (k / 64) 0) (sym (summary.is (k / 64)) ∙ ap (has some) word ∙ none)) in
-      both_ways (has starts k) (has-zero starts k zero) other.is;
+      both_ways (has starts k) (none_of_word summary k (ap (has some) word ∙ none)) other.is;
 }
 
 -- nor have the words of a number of live blocks that no slab has
-pub none_of_row : {starts some : List ℕ} (classes : List ℕ) (class live from : ℕ) → IsSummary starts some → get_or some live 0 ≡ 0 → HasNoneInRow starts classes class live from
-none_of_row {starts} {some} classes class live from summary none = record {
-  none = λ s past small other.
-      let k = 4096 * live + s in
-      let row : k / 64 / 64 ≡ live = omega arith in
-      let clear : has some (k / 64) ≡ false = has-zero some (k / 64) (ap (λ n. get_or some n 0) row ∙ none) in
-      let zero : get_or starts (k / 64) 0 ≡ 0 = omega (arith, ltb-false 0 (get_or starts (k / 64) 0) (sym (summary.is (k / 64)) ∙ clear)) in
-      both_ways (has starts k) (has-zero starts k zero) other.is;
+pub none_in_clear_row : {starts some : List ℕ} (classes : List ℕ) (class live from : ℕ) → IsSummary starts some → get_or some live 0 ≡ 0 → HasNoneInRow starts classes class live from
+none_in_clear_row {starts} {some} classes class live from summary none = record {
+  none = λ s past small other. both_ways (has starts (4096 * live + s)) (none_at summary live s none small) other.is;
 }
 
 -- one word more

@@ -3,7 +3,7 @@ use Rattle.std.proofs.Common.{◌≡◌, ◌≢◌, ℕ, ◌+◌, ◌*◌, ◌/�
 use Rattle.std.proofs.lemmas.Bool.{cases_eq, eq-eqb, ne_eqb, lt-ltb, le-ltb, ltb-true, cond-true, cond-false, and_left}
 use Rattle.std.proofs.lemmas.List.{get_or_read, get_or-set_same, get_or-set_other, length-set}
 use Rattle.bit_words.specs.Numbers.{has, ones, IsPut, IsFilled}
-use Rattle.slab_index.specs.Kept.{capacity_or_none, capacity_at, is_class, has_block, IsIndex}
+use Rattle.slab_index.specs.Kept.{capacity_or_none, capacity_at, is_class, has_block, IsSummary, IsIndex}
 use Rattle.bit_words.proofs.Bits.{put_beside, told_after}
 use Rattle.bit_words.proofs.Fills.{fits_filled, has_filled, some_filled}
 
@@ -33,27 +33,27 @@ HasOnly-none slab class is = record { none = λ other apart. ap (λ s. is_class 
 -- what changes at one granule, and there for one class, changes one number of the sets of starts
 pub starts_beside : (classes later : List (Option ℕ)) (some more : List ℕ) (start class k : ℕ) →
     ((other : ℕ) → other ≢ start → get_or later other None ≡ get_or classes other None) → ((other : ℕ) → other ≢ start → get_or more other 0 ≡ get_or some other 0) →
-    HasOnly (get_or classes start None) class → HasOnly (get_or later start None) class → k ≢ 1024 * class + start → has_block classes some k ≡ has_block later more k
+    HasOnly (get_or classes start None) class → HasOnly (get_or later start None) class → k ≢ 4096 * class + start → has_block classes some k ≡ has_block later more k
 starts_beside classes later some more start class k same_classes same_some only only_later apart = ⊎_elim
-    (λ (here : k % 1024 ≡ start).
-    let differ : k / 1024 ≢ class = λ e. apart (omega (arith, e)) in
-    let test = ltb 0 (get_or some (k % 1024) 0) in
-    let test_more = ltb 0 (get_or more (k % 1024) 0) in
-    let before : is_class (get_or classes (k % 1024) None) (k / 1024) ≡ false = ap (λ s. is_class (get_or classes s None) (k / 1024)) here ∙ only.none (k / 1024) differ in
-    let after : is_class (get_or later (k % 1024) None) (k / 1024) ≡ false = ap (λ s. is_class (get_or later s None) (k / 1024)) here ∙ only_later.none (k / 1024) differ in
-    and_left (is_class (get_or classes (k % 1024) None) (k / 1024)) test before ∙ sym (and_left (is_class (get_or later (k % 1024) None) (k / 1024)) test_more after))
-    (λ (there : k % 1024 ≢ start).
-    ap (λ slab. is_class slab (k / 1024) && ltb 0 (get_or some (k % 1024) 0)) (sym (same_classes (k % 1024) there))
-    ∙ ap (λ word. is_class (get_or later (k % 1024) None) (k / 1024) && ltb 0 word) (sym (same_some (k % 1024) there)))
-    (cases_eq (k % 1024) start)
+    (λ (here : k % 4096 ≡ start).
+    let differ : k / 4096 ≢ class = λ e. apart (omega (arith, e)) in
+    let test = ltb 0 (get_or some (k % 4096) 0) in
+    let test_more = ltb 0 (get_or more (k % 4096) 0) in
+    let before : is_class (get_or classes (k % 4096) None) (k / 4096) ≡ false = ap (λ s. is_class (get_or classes s None) (k / 4096)) here ∙ only.none (k / 4096) differ in
+    let after : is_class (get_or later (k % 4096) None) (k / 4096) ≡ false = ap (λ s. is_class (get_or later s None) (k / 4096)) here ∙ only_later.none (k / 4096) differ in
+    and_left (is_class (get_or classes (k % 4096) None) (k / 4096)) test before ∙ sym (and_left (is_class (get_or later (k % 4096) None) (k / 4096)) test_more after))
+    (λ (there : k % 4096 ≢ start).
+    ap (λ slab. is_class slab (k / 4096) && ltb 0 (get_or some (k % 4096) 0)) (sym (same_classes (k % 4096) there))
+    ∙ ap (λ word. is_class (get_or later (k % 4096) None) (k / 4096) && ltb 0 word) (sym (same_some (k % 4096) there)))
+    (cases_eq (k % 4096) start)
 
 -- a start that joins or leaves its class's set
-pub start_here : (classes : List (Option ℕ)) (some : List ℕ) (start class : ℕ) (slab : Option ℕ) → start < 1024 → get_or classes start None ≡ slab →
-    has_block classes some (1024 * class + start) ≡ (is_class slab class && ltb 0 (get_or some start 0))
+pub start_here : (classes : List (Option ℕ)) (some : List ℕ) (start class : ℕ) (slab : Option ℕ) → start < 4096 → get_or classes start None ≡ slab →
+    has_block classes some (4096 * class + start) ≡ (is_class slab class && ltb 0 (get_or some start 0))
 start_here classes some start class slab small is =
-    let place : (1024 * class + start) % 1024 ≡ start = omega arith in
-    let of_class : (1024 * class + start) / 1024 ≡ class = omega arith in
-    ap (λ s. is_class (get_or classes s None) ((1024 * class + start) / 1024) && ltb 0 (get_or some s 0)) place
+    let place : (4096 * class + start) % 4096 ≡ start = omega arith in
+    let of_class : (4096 * class + start) / 4096 ≡ class = omega arith in
+    ap (λ s. is_class (get_or classes s None) ((4096 * class + start) / 4096) && ltb 0 (get_or some s 0)) place
     ∙ ap (λ c. is_class (get_or classes start None) c && ltb 0 (get_or some start 0)) of_class
     ∙ ap (λ s. is_class s class && ltb 0 (get_or some start 0)) is
 
@@ -69,18 +69,20 @@ some_by_word word kept is = ⊎_elim
     (cases_eq word 0)
 
 -- an index after one word of its blocks changed
-pub IsIndex-turned : {granules : ℕ} {classes : List (Option ℕ)} {blocks some starts : List ℕ} (turned some' starts' : List ℕ) (i class : ℕ) →
-    IsIndex granules classes blocks some starts → get_or classes (i / 64) None ≡ Some class → i / 64 < granules → length turned ≡ length blocks →
+pub IsIndex-turned : {granules : ℕ} {classes : List (Option ℕ)} {blocks some starts some_starts : List ℕ} (turned some' starts' some_starts' : List ℕ) (i class : ℕ) →
+    IsIndex granules classes blocks some starts some_starts → get_or classes (i / 64) None ≡ Some class → i / 64 < granules → length turned ≡ length blocks →
     ((j : ℕ) → j ≢ i → get_or turned j 0 ≡ get_or blocks j 0) → ((j : ℕ) → get_or turned j 0 < 2 ^ 64) → ((k : ℕ) → has turned k ≡ true → k % 4096 < capacity_at classes (k / 4096)) →
-    IsPut some i (ltb 0 (get_or turned i 0)) some' → IsPut starts (1024 * class + i / 64) (ltb 0 (get_or some' (i / 64) 0)) starts' →
-    IsIndex granules classes turned some' starts'
-IsIndex-turned {granules} {classes} {blocks} {some} {starts} turned some' starts' i class index slab inside size others fits below put_some put_start = record {
+    IsPut some i (ltb 0 (get_or turned i 0)) some' → IsPut starts (4096 * class + i / 64) (ltb 0 (get_or some' (i / 64) 0)) starts' → length some_starts' ≡ length some_starts → IsSummary starts' some_starts' →
+    IsIndex granules classes turned some' starts' some_starts'
+IsIndex-turned {granules} {classes} {blocks} {some} {starts} {some_starts} turned some' starts' some_starts' i class index slab inside size others fits below put_some put_start some_size summary = record {
   least = index.least;
   most = index.most;
   classes_size = index.classes_size;
   blocks_size = size ∙ index.blocks_size;
   some_size = put_some.size ∙ index.some_size;
   starts_size = put_start.size ∙ index.starts_size;
+  some_starts_size = some_size ∙ index.some_starts_size;
+  summary = summary;
   known = index.known;
   fits = fits;
   few = index.few;
@@ -107,12 +109,12 @@ below_put classes start number below small were put k is = ⊎_elim
     (cases_eq k (4096 * start + number))
 
 -- an index after a slab was added or taken out
-pub IsIndex-filled : {granules : ℕ} {classes : List (Option ℕ)} {blocks some starts : List ℕ} (later : List (Option ℕ)) (filled starts' : List ℕ) (start class n word : ℕ) (slab : Option ℕ) (on : Bool) →
-    IsIndex granules classes blocks some starts → start < granules → IsReplaced classes start slab later → IsFilled blocks start n filled → n ≡ capacity_or_none slab → n ≤ 4096 → word ≡ ones (n / 64 + min 1 (n % 64)) →
+pub IsIndex-filled : {granules : ℕ} {classes : List (Option ℕ)} {blocks some starts some_starts : List ℕ} (later : List (Option ℕ)) (filled starts' some_starts' : List ℕ) (start class n word : ℕ) (slab : Option ℕ) (on : Bool) →
+    IsIndex granules classes blocks some starts some_starts → start < granules → IsReplaced classes start slab later → IsFilled blocks start n filled → n ≡ capacity_or_none slab → n ≤ 4096 → word ≡ ones (n / 64 + min 1 (n % 64)) →
     HasOnly (get_or classes start None) class → HasOnly slab class → ((other : ℕ) → slab ≡ Some other → other < 36) →
-    IsPut starts (1024 * class + start) on starts' → on ≡ (is_class slab class && ltb 0 word) →
-    IsIndex granules later filled (set some start word) starts'
-IsIndex-filled {granules} {classes} {blocks} {some} {starts} later filled starts' start class n word slab on index inside replaced fills room small word_is only only_later known put on_is =
+    IsPut starts (4096 * class + start) on starts' → on ≡ (is_class slab class && ltb 0 word) → length some_starts' ≡ length some_starts → IsSummary starts' some_starts' →
+    IsIndex granules later filled (set some start word) starts' some_starts'
+IsIndex-filled {granules} {classes} {blocks} {some} {starts} {some_starts} later filled starts' some_starts' start class n word slab on index inside replaced fills room small word_is only only_later known put on_is some_size summary =
     let more = set some start word in
     let in_some : start < length some = omega (arith, index.some_size) in
     let here : capacity_at later start ≡ n = ap capacity_or_none replaced.here ∙ sym room in
@@ -124,6 +126,8 @@ IsIndex-filled {granules} {classes} {blocks} {some} {starts} later filled starts
       blocks_size = fills.size ∙ index.blocks_size;
       some_size = length-set some start word ∙ index.some_size;
       starts_size = put.size ∙ index.starts_size;
+      some_starts_size = some_size ∙ index.some_starts_size;
+      summary = summary;
       known = λ s c is. ⊎_elim
           (λ (same : s ≡ start). known c (sym replaced.here ∙ ap (λ t. get_or later t None) (sym same) ∙ is))
           (λ (apart : s ≢ start). index.known s c (sym (replaced.others s apart) ∙ is))

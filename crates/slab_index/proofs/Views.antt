@@ -38,7 +38,7 @@ pub block_by_capacity : {granules : ℕ} {classes : List (Option ℕ)} {blocks :
 block_by_capacity {granules} {classes} is s i below = block_of is s i (get_or classes s None) refl below
 
 -- an available block is a block of a slab
-pub block_if_available : {granules : ℕ} {classes : List (Option ℕ)} {blocks some starts : List ℕ} {set : SlabSet} → set_of granules classes blocks ≡ set → IsIndex granules classes blocks some starts →
+pub block_if_available : {granules : ℕ} {classes : List (Option ℕ)} {blocks some starts some_starts : List ℕ} {set : SlabSet} → set_of granules classes blocks ≡ set → IsIndex granules classes blocks some starts some_starts →
     (s i : ℕ) → is_available set s i ≡ true → IsBlock set s i
 block_if_available {granules} {classes} {blocks} is index s i available =
     let test : (ltb i 4096 && has blocks (4096 * s + i)) ≡ true = sym (available_in is s i) ∙ available in
@@ -54,7 +54,7 @@ pub capacity_of_block : {granules : ℕ} {classes : List (Option ℕ)} {blocks :
 capacity_of_block {granules} {classes} is s i block = omega (arith, block.below, ap capacity_or_none (sym (class_of_list is s) ∙ block.slab))
 
 -- a slab begins below the arena's end
-pub slab_inside : {granules : ℕ} {classes : List (Option ℕ)} {blocks some starts : List ℕ} → IsIndex granules classes blocks some starts → (s class : ℕ) → get_or classes s None ≡ Some class → s < granules
+pub slab_inside : {granules : ℕ} {classes : List (Option ℕ)} {blocks some starts some_starts : List ℕ} → IsIndex granules classes blocks some starts some_starts → (s class : ℕ) → get_or classes s None ≡ Some class → s < granules
 slab_inside {granules} {classes} index s class is = ⊎_elim
     (λ (inside : s < granules). inside)
     (λ (past : granules ≤ s). absurd (let none : get_or classes s None ≡ None = get_or_past classes s None (omega (arith, index.classes_size)) in cc))
@@ -117,7 +117,7 @@ block_after {granules} {classes} {blocks} {turned} {set} {on} left later start n
     (cases_Bool (eqb s start && eqb i number))
 
 -- no block is available past the arena's end or the last number
-pub none_outside : {granules : ℕ} {classes : List (Option ℕ)} {blocks some starts : List ℕ} {set : SlabSet} → set_of granules classes blocks ≡ set → IsIndex granules classes blocks some starts →
+pub none_outside : {granules : ℕ} {classes : List (Option ℕ)} {blocks some starts some_starts : List ℕ} {set : SlabSet} → set_of granules classes blocks ≡ set → IsIndex granules classes blocks some starts some_starts →
     (s i : ℕ) → (granules ≤ s) ⊎ (4096 ≤ i) → is_available set s i ≡ false
 none_outside is index s i outside = ⊎_elim
     (λ past. false_from_ne_true (is_available _ s i) (λ available.

@@ -25,19 +25,19 @@ abbrev pub is_class : Option ℕ → ℕ → Bool
 is_class None class = false
 is_class (Some other) class = other == class
 
--- the slab at number `k mod 1024` has class `k div 1024`, and an available block
+-- the slab at number `k mod 4096` has class `k div 4096`, and an available block
 abbrev pub has_block : List (Option ℕ) → List ℕ → ℕ → Bool
-has_block classes some k = is_class (slice_index_or classes (k % 1024) None) (k / 1024) && nat_lt 0 (slice_index some (k % 1024))
+has_block classes some k = is_class (slice_index_or classes (k % 4096) None) (k / 4096) && nat_lt 0 (slice_index some (k % 4096))
 
 -- of a set of words the numbers of those that are not 0
 pub record IsSummary (words some : List ℕ) : Type 0 where
   pub is : (i : ℕ) → has some i ≡ nat_lt 0 (slice_index words i)
 
--- of 64 words for each slab the least number of a slab, counted from its first
-pub record IsLeastBlock (blocks some : List ℕ) (start number : ℕ) : Type 0 where
+-- the least of the 4096 numbers at a place that a set has, counted from the first of them
+pub record IsLeastAt (words some : List ℕ) (place number : ℕ) : Type 0 where
   pub word : ℕ
-  pub least_word : IsLeastIn some (64 * start) 64 word
-  pub least : IsLeastIn blocks (64 * word) 64 (4096 * start + number)
+  pub least_word : IsLeastIn some (64 * place) 64 word
+  pub least : IsLeastIn words (64 * word) 64 (4096 * place + number)
 
 -- from one word of a set the numbers are taken that a word has
 pub record IsTakenFrom (old : List ℕ) (at word : ℕ) (new : List ℕ) : Type 0 where
@@ -46,19 +46,21 @@ pub record IsTakenFrom (old : List ℕ) (at word : ℕ) (new : List ℕ) : Type 
   pub others : (i : ℕ) → i ≢ at → slice_index new i ≡ slice_index old i
   pub fits : ((i : ℕ) → slice_index old i < 2 ^ 64) → (i : ℕ) → slice_index new i < 2 ^ 64
 
-pub record IsIndex (granules : ℕ) (classes : List (Option ℕ)) (blocks some starts : List ℕ) : Type 0 where
+pub record IsIndex (granules : ℕ) (classes : List (Option ℕ)) (blocks some starts some_starts : List ℕ) : Type 0 where
   pub least : 16 ≤ granules
-  pub most : granules ≤ 1024
+  pub most : granules ≤ 4096
   pub classes_size : length classes ≡ granules
   pub blocks_size : length blocks ≡ 64 * granules
   pub some_size : length some ≡ granules
-  pub starts_size : length starts ≡ 576
+  pub starts_size : length starts ≡ 2304
+  pub some_starts_size : length some_starts ≡ 36
   pub known : (start class : ℕ) → slice_index_or classes start None ≡ Some class → class < 36
   pub fits : (i : ℕ) → slice_index blocks i < 2 ^ 64
   pub few : (start : ℕ) → capacity_at classes start ≤ 4096
   pub below : (k : ℕ) → has blocks k ≡ true → k % 4096 < capacity_at classes (k / 4096)
   pub some_is : (i : ℕ) → has some i ≡ nat_lt 0 (slice_index blocks i)
   pub starts_is : (k : ℕ) → has starts k ≡ has_block classes some k
+  pub summary : IsSummary starts some_starts
 
 -- the lowest available block of a slab
 pub record IsFirstBlock (set : SlabSet) (start number : ℕ) : Type 0 where

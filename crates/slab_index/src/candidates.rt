@@ -4,7 +4,7 @@ ghost use Rattle.heap_model.specs.Machine.{with_key};
 ghost use Rattle.slab_index.specs.Candidates.{calm_in, HasNoCandidate, IsFirstCandidate, HasNoneBehind, IsNextCandidate};
 ghost use Rattle.slab_index.specs.Sparse.{HasNoneFrom, IsLeastFrom};
 
-use crate::sparse::{COUNTS, STARTS, in_row, mark_class, mark_sparse};
+use crate::sparse::{COUNTS, in_row, mark_class, mark_sparse};
 use pmem_lines::OutOfMemory;
 use std::alloc::Global;
 use std::marker::Model;

@@ -7,20 +7,17 @@ ghost use Rattle.bit_words.specs.Numbers.{has as has_number};
 ghost use Rattle.slab_index.specs.SlabSet.{class_in, is_available, IsSlab, IsBlock, HasNoBlock, IsLowest, HadNoBlock, TookLowest};
 ghost use Rattle.slab_index.specs.Kept.{IsUsedUp, IsFirstBlock, WasUsedUp, TookFirst, TookSome};
 
-use crate::words::{BLOCKS, STARTS, least_block, summarize, take_numbers};
+use crate::words::{NUMBERS, least_at, put_summed, summarize, take_numbers};
 use crate::{SlabBlock, SlabBlocks};
 use arrayvec::ArrayVec;
-use bit_words::{fill, has, least_in, ones, put};
+use bit_words::{fill, has, ones, put};
 use pmem_lines::OutOfMemory;
 use size_classes::capacity;
 use std::alloc::Global;
 use std::marker::Model;
 
-// How many words have the blocks of a granule.
-const BLOCK_WORDS: usize = 64;
-
-// How many words the starts of a class have.
-const START_WORDS: usize = 16;
+// How many words have the blocks of a granule, and the starts of a class.
+const WORDS: usize = 64;
 
 const CLASSES: usize = 36;
 
@@ -34,8 +31,10 @@ pub struct SlabIndex {
     blocks: Vec<u64>,
     // The words of `blocks` that are not 0.
     some: Vec<u64>,
-    // The slabs that have an available block, with 1024 numbers for each class.
+    // The slabs that have an available block, with 4096 numbers for each class.
     starts: Vec<u64>,
+    // The words of `starts` that are not 0.
+    some_starts: Vec<u64>,
 }
 
 impl Model for SlabIndex {
@@ -47,30 +46,32 @@ impl Model for SlabIndex {
 
     ghost view = { λ a. set_of a.granules a.classes.items a.blocks.items };
 
-    ghost invariant = { λ a. IsIndex a.granules a.classes.items a.blocks.items a.some.items a.starts.items };
+    ghost invariant = { λ a. IsIndex a.granules a.classes.items a.blocks.items a.some.items a.starts.items a.some_starts.items };
 }
 
 impl SlabIndex {
-    /// An index of an arena of 16 to 1024 granules, in which no slab begins. It takes 522 bytes for each granule and 4608
+    /// An index of an arena of 16 to 4096 granules, in which no slab begins. It takes 522 bytes for each granule and 18,720
     /// beside, and refuses where there is no memory for them; no later call takes any.
     pub fn new(alloc: Global, granules: u32) -> Result<SlabIndex, OutOfMemory>
         requires least { 16 ≤ granules }
-        requires most { granules ≤ 1024 }
+        requires most { granules ≤ 4096 }
         ensures granules { IfOk result (λ index. index.granules ≡ granules) }
         ensures classes { IfOk result (λ index. (s : ℕ) → class_in index s ≡ None) }
         ensures blocks { IfOk result (λ index. (s i : ℕ) → is_available index s i ≡ false) }
     {
         let count = granules as usize;
         let classes = vec![in alloc; None; count]?;
-        let blocks = vec![in alloc; 0; BLOCK_WORDS * count]?;
+        let blocks = vec![in alloc; 0; WORDS * count]?;
         let some = vec![in alloc; 0; count]?;
-        let starts = vec![in alloc; 0; START_WORDS * CLASSES]?;
+        let starts = vec![in alloc; 0; WORDS * CLASSES]?;
+        let some_starts = vec![in alloc; 0; CLASSES]?;
         Ok(SlabIndex {
             granules,
             classes,
             blocks,
             some,
             starts,
+            some_starts,
         })
     }
 
@@ -93,10 +94,10 @@ impl SlabIndex {
     pub fn is_available(&self, start: u32, number: u32) -> bool
         ensures { result ≡ is_available self.now start number }
     {
-        if start >= self.granules || number >= BLOCKS {
+        if start >= self.granules || number >= NUMBERS {
             return false;
         }
-        has(&self.blocks, BLOCKS * start + number)
+        has(&self.blocks, NUMBERS * start + number)
     }
 
     /// Adds a slab of the class at a granule where none begins. All of its blocks are available. The other slabs and their
@@ -114,7 +115,8 @@ impl SlabIndex {
         self.classes[at] = Some(class);
         fill(&mut self.blocks, start, blocks);
         self.some[at] = ones(blocks.div_ceil(64));
-        put(&mut self.starts, STARTS * u32::from(class) + start, true);
+        let number = NUMBERS * u32::from(class) + start;
+        put_summed(&mut self.starts, &mut self.some_starts, number, true);
     }
 
     /// Takes the slab that begins at a granule out of the set, with all of its blocks. The other slabs and their blocks
@@ -130,26 +132,25 @@ impl SlabIndex {
             self.classes[at] = None;
             fill(&mut self.blocks, start, 0);
             self.some[at] = 0;
-            put(&mut self.starts, STARTS * u32::from(class) + start, false);
+            let number = NUMBERS * u32::from(class) + start;
+            put_summed(&mut self.starts, &mut self.some_starts, number, false);
         }
     }
 
     /// The lowest available block of the lowest slab of the class that has one. `None` exactly where no slab of the class
-    /// has an available block.
+    /// has an available block. It looks at four words.
     pub fn lowest(&self, class: u8) -> Option<SlabBlock>
         requires { class < 36 }
         ensures { MatchOption result (HasNoBlock self.now class) (IsLowest self.now class) }
     {
-        let first = START_WORDS * class as usize;
-        let start = least_in(&self.starts, first, START_WORDS)? - STARTS * u32::from(class);
-        let number = least_block(&self.blocks, &self.some, start)?;
+        let start = least_at(&self.starts, &self.some_starts, u32::from(class))?;
+        let number = least_at(&self.blocks, &self.some, start)?;
         Some(SlabBlock { start, number })
     }
 
     /// Takes up to `most` blocks, from one to eight: the lowest available ones of the lowest slab of the class that has one,
     /// so that they are not available any more. Their numbers rise. `None` exactly where no slab of the class has an
-    /// available block. The slabs and the other blocks stay as they are. It looks at 18 words at most, and at five for each
-    /// block.
+    /// available block. The slabs and the other blocks stay as they are. It looks at four words, and at six for each block.
     pub fn take_lowest(&mut self, class: u8, most: u32) -> Option<SlabBlocks>
         requires class { class < 36 }
         requires some { 0 < most }
@@ -195,7 +196,7 @@ impl SlabIndex {
         ensures classes { (s : ℕ) → class_in self.new s ≡ class_in self.old s }
         ensures blocks { (s i : ℕ) → is_available self.new s i ≡ (if s == start && has_number numbers.now i then false else is_available self.old s i) }
     {
-        for at in 0..BLOCK_WORDS as u32 {
+        for at in 0..WORDS as u32 {
             self.take_word(start, at, numbers[at as usize]);
         }
     }
@@ -231,7 +232,7 @@ impl SlabIndex {
         requires { IsSlab self.now start }
         ensures { MatchOption result (IsUsedUp self.now start) (IsFirstBlock self.now start) }
     {
-        least_block(&self.blocks, &self.some, start)
+        least_at(&self.blocks, &self.some, start)
     }
 
     // Takes those blocks of a slab that a word of a set has, which is word `at` of it.
@@ -245,7 +246,14 @@ impl SlabIndex {
         if let Some(class) = self.class_at(start) {
             let place = 64 * start + at;
             take_numbers(&mut self.blocks, place, word);
-            summarize(&self.blocks, &mut self.some, &mut self.starts, class, place);
+            summarize(
+                &self.blocks,
+                &mut self.some,
+                &mut self.starts,
+                &mut self.some_starts,
+                class,
+                place,
+            );
         }
     }
 
@@ -257,11 +265,12 @@ impl SlabIndex {
         ensures blocks { (s i : ℕ) → is_available self.new s i ≡ (if s == start && i == number then on else is_available self.old s i) }
     {
         if let Some(class) = self.class_at(start) {
-            put(&mut self.blocks, BLOCKS * start + number, on);
+            put(&mut self.blocks, NUMBERS * start + number, on);
             summarize(
                 &self.blocks,
                 &mut self.some,
                 &mut self.starts,
+                &mut self.some_starts,
                 class,
                 64 * start + number / 64,
             );

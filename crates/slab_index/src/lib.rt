@@ -1,11 +1,15 @@
-// The slabs of an arena, the lowest available block of a class among them, and how many live blocks each has.
+// The slabs of an arena: the lowest available blocks of a class among them, how many live blocks each has, and which of them
+// may take another class.
 //
 // `SlabIndex` means a set of slabs. `class_in` of `specs/SlabSet.antt` says which class of slab begins at a granule, and
-// `is_available` which of its blocks may be given out; the lowest block of a class is `IsLowest`. The index keeps the set
-// while slabs come and go and blocks are taken and given back. It takes memory once, when it is made, and no call takes
-// longer for what is in it.
+// `is_available` which of its blocks may be given out. The lowest block of a class is `IsLowest`; up to eight of the lowest
+// are `AreLowestBlocks`, by the `AreLowest` of the placement. The index keeps the set while slabs come and go and blocks are
+// taken and given back. A slab that takes another class is removed and added again, and the blocks that overlap an old one
+// are taken. The index takes memory once, when it is made, and no call takes longer for what is in it.
 //
-// `LiveCounts` beside it has a number for each slab.
+// `LiveCounts` beside it has a number for each slab. `Candidates` means the calm slabs, in which no live block has another
+// size than that of their class. It finds the first of those that may take another class, by their order `IsBefore` of
+// `specs/Candidates.antt`, and the next one behind it. Whether a block of that class overlaps no live one it does not know.
 //
 // The layers above know these contracts, which speak of those definitions alone, and nothing of how the set is kept: as
 // bits of words, with one bit more for each word that is not 0.

@@ -5,11 +5,9 @@ ghost use Rattle.slab_index.specs.Kept.{IsSummary};
 ghost use Rattle.slab_index.specs.Sparse.{is_sparse, IsMarked, HasNoneInWord, IsFirstInWord, HasNoneInRow, IsFirstInRow};
 
 use crate::CalmSlab;
+use crate::words::{NUMBERS, put_summed};
 use bit_words::{has, ones, put};
 use size_classes::capacity;
-
-/// How many numbers there are for each class, and for each number of live blocks.
-pub(crate) const STARTS: u32 = 4096;
 
 /// How many numbers of live blocks there are that a slab may have which takes another class: from 0 to 64.
 pub(crate) const COUNTS: u32 = 65;
@@ -29,7 +27,7 @@ pub(crate) fn mark_class(classes: &mut [u64], start: u32, slab: CalmSlab, on: bo
     requires size { length classes.old ≡ 2304 }
     ensures { IsPut classes.old (4096 * slab.class + start) on classes.new }
 {
-    put(classes, STARTS * u32::from(slab.class) + start, on);
+    put(classes, NUMBERS * u32::from(slab.class) + start, on);
 }
 
 /// Puts the start of a slab into the set of its number of live blocks, or out of it, where these are so few that the slab may
@@ -53,9 +51,7 @@ pub(crate) fn mark_sparse(
     if !is_sparse(slab) {
         return;
     }
-    let number = STARTS * slab.live + start;
-    put(starts, number, on);
-    put(some, number / 64, starts[(number / 64) as usize] != 0);
+    put_summed(starts, some, NUMBERS * slab.live + start, on);
 }
 
 // Of the slabs with so many live blocks that begin among 64 granules the lowest that has another class, from a start on.

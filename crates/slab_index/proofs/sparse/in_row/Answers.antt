@@ -1,8 +1,8 @@
-use Rattle.slab_index.proofs.Others.{none_of_row, one_word_more, first_in_row}
+use Rattle.slab_index.proofs.Others.{none_in_clear_row, one_word_more, first_in_row}
 use Rattle.slab_index.proofs.sparse.in_row.Goals as goal
 
 pub returns-then-some-live-eq0 : goal.returns-then-some-live-eq0
-returns-then-some-live-eq0 c = none_of_row c.args.classes.now c.args.class c.args.live c.args.from c.requires.summary c.if-some-live-eq0.true
+returns-then-some-live-eq0 c = none_in_clear_row c.args.classes.now c.args.class c.args.live c.args.from c.requires.summary c.if-some-live-eq0.true
 
 pub returns-in-Some : goal.returns-in-Some
 returns-in-Some c = first_in_row c.args.starts.now c.args.classes.now c.args.class c.args.live c.args.from c.loop-at.at c.in-Some.start c.loop-at-test.true c.loop-at.invariant c.in-Some.ensures

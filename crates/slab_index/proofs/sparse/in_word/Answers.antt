@@ -3,11 +3,11 @@ use Rattle.std.specs.Int.{trailing_zeros}
 use Rattle.std.proofs.lemmas.Nat.{and_le_l}
 use Rattle.std.proofs.lemmas.Nat.Bits.{bit_at-trailing_zeros}
 use Rattle.bit_words.specs.Numbers.{ones}
-use Rattle.slab_index.proofs.Others.{left_of, none_of_word, none_in_word, first_in_word}
+use Rattle.slab_index.proofs.Others.{left_of, none_in_clear_word, none_in_word, first_in_word}
 use Rattle.slab_index.proofs.sparse.in_word.Goals as goal
 
 pub returns-then-not-has : goal.returns-then-not-has
-returns-then-not-has c = none_of_word c.args.classes.now c.args.class c.args.live c.args.at c.args.from c.requires.summary (sym c.if-not-has.ensures) c.requires.at
+returns-then-not-has c = none_in_clear_word c.args.classes.now c.args.class c.args.live c.args.at c.args.from c.requires.summary (sym c.if-not-has.ensures) c.requires.at
 
 pub returns-then-word-eq0 : goal.returns-then-word-eq0
 returns-then-word-eq0 c =

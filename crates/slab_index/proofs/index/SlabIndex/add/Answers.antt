@@ -17,9 +17,10 @@ invariant_of-self c =
     let n = c.capacity-blocks.result in
     let inside : start < s.granules = omega (arith, granules_of s.granules s.classes.items s.blocks.items c.self.view_is) in
     let blocks_are : (with_items s.blocks c.fill.new.words).items ≡ c.fill.new.words = with_items_is s.blocks c.fill.new.words (omega (arith, c.fill.ensures.size, s.blocks.ok.0)) in
-    let starts_are : (with_items s.starts c.put.new.words).items ≡ c.put.new.words = with_items_is s.starts c.put.new.words (omega (arith, c.put.ensures.size, s.starts.ok.0)) in
-    rw (blocks_are, starts_are)
-    (IsIndex-filled (set s.classes.items start (Some class)) c.fill.new.words c.put.new.words start class n c.ones.result (Some class) true c.self.invariant inside
+    let starts_are : (with_items s.starts c.put_summed.new.words).items ≡ c.put_summed.new.words = with_items_is s.starts c.put_summed.new.words (omega (arith, c.put_summed.ensures.words.size, s.starts.ok.0)) in
+    let some_are : (with_items s.some_starts c.put_summed.new.some).items ≡ c.put_summed.new.some = with_items_is s.some_starts c.put_summed.new.some (rw c.deref_mut-3.ensures.value at c.put_summed.ensures.some_size ∙ sym s.some_starts.ok.0) in
+    rw (blocks_are, starts_are, some_are)
+    (IsIndex-filled (set s.classes.items start (Some class)) c.fill.new.words c.put_summed.new.words c.put_summed.new.some start class n c.ones.result (Some class) true c.self.invariant inside
     (IsReplaced-set s.classes.items start (Some class) (omega (arith, c.self.invariant.classes_size)))
     (rw c.deref_mut.ensures.value at c.fill.ensures)
     c.capacity-blocks.ensures.count
@@ -28,8 +29,10 @@ invariant_of-self c =
     (HasOnly-none _ class (sym (class_of_list c.self.view_is start) ∙ c.requires.fresh))
     (HasOnly-some (Some class) class refl)
     (λ other e. omega (arith, same_Some class other e, c.requires.class))
-    (rw (c.deref_mut-2.ensures.value, c.from.ensures) at c.put.ensures)
-    (sym (and_from _ _ (eq-eqb class class refl) (rw (c.ones.ensures, c.div_ceil.ensures) (some_if_more n (omega (arith, c.capacity-blocks.ensures.least)))))))
+    (rw (c.deref_mut-2.ensures.value, c.from.ensures) at c.put_summed.ensures.words)
+    (sym (and_from _ _ (eq-eqb class class refl) (rw (c.ones.ensures, c.div_ceil.ensures) (some_if_more n (omega (arith, c.capacity-blocks.ensures.least))))))
+    (rw c.deref_mut-3.ensures.value at c.put_summed.ensures.some_size)
+    c.put_summed.ensures.summary)
 
 pub returns-clause-classes : goal.returns-clause-classes
 returns-clause-classes c =

@@ -9,7 +9,8 @@ invariant_of-result c =
     let blocks = c.in_ok-blocks.ensures.items_if_clones_equal (λ y h. h) in
     let some = c.in_ok-some.ensures.items_if_clones_equal (λ y h. h) in
     let starts = c.in_ok-starts.ensures.items_if_clones_equal (λ y h. h) in
-    rw (classes, blocks, some, starts) (IsIndex-fresh c.args.granules c.requires.least c.requires.most)
+    let some_starts = c.in_ok-some_starts.ensures.items_if_clones_equal (λ y h. h) in
+    rw (classes, blocks, some, starts, some_starts) (IsIndex-fresh c.args.granules c.requires.least c.requires.most)
 
 pub returns-clause-classes : goal.returns-clause-classes
 returns-clause-classes c =

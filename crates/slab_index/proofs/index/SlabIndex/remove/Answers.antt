@@ -16,9 +16,10 @@ invariant_of-self c =
     let class = c.in-Some.class in
     let inside : start < s.granules = omega (arith, c.in-Some.ensures.inside, granules_of s.granules s.classes.items s.blocks.items c.self.view_is) in
     let blocks_are : (with_items s.blocks c.fill.new.words).items ≡ c.fill.new.words = with_items_is s.blocks c.fill.new.words (omega (arith, c.fill.ensures.size, s.blocks.ok.0)) in
-    let starts_are : (with_items s.starts c.put.new.words).items ≡ c.put.new.words = with_items_is s.starts c.put.new.words (omega (arith, c.put.ensures.size, s.starts.ok.0)) in
-    rw (blocks_are, starts_are)
-    (IsIndex-filled (set s.classes.items start None) c.fill.new.words c.put.new.words start class 0 0 None false c.self.invariant inside
+    let starts_are : (with_items s.starts c.put_summed.new.words).items ≡ c.put_summed.new.words = with_items_is s.starts c.put_summed.new.words (omega (arith, c.put_summed.ensures.words.size, s.starts.ok.0)) in
+    let some_are : (with_items s.some_starts c.put_summed.new.some).items ≡ c.put_summed.new.some = with_items_is s.some_starts c.put_summed.new.some (rw c.deref_mut-in-Some-2.ensures.value at c.put_summed.ensures.some_size ∙ sym s.some_starts.ok.0) in
+    rw (blocks_are, starts_are, some_are)
+    (IsIndex-filled (set s.classes.items start None) c.fill.new.words c.put_summed.new.words c.put_summed.new.some start class 0 0 None false c.self.invariant inside
     (IsReplaced-set s.classes.items start None (omega (arith, c.self.invariant.classes_size)))
     (rw c.deref_mut.ensures.value at c.fill.ensures)
     refl
@@ -27,8 +28,10 @@ invariant_of-self c =
     (HasOnly-some _ class (sym (class_of_list c.self.view_is start) ∙ sym c.in-Some.ensures.class))
     (HasOnly-none None class refl)
     (λ other e. absurd (none-some other e))
-    (rw (c.deref_mut-in-Some.ensures.value, c.from.ensures) at c.put.ensures)
-    refl)
+    (rw (c.deref_mut-in-Some.ensures.value, c.from.ensures) at c.put_summed.ensures.words)
+    refl
+    (rw c.deref_mut-in-Some-2.ensures.value at c.put_summed.ensures.some_size)
+    c.put_summed.ensures.summary)
 
 pub returns-in-Some-clause-classes : goal.returns-in-Some-clause-classes
 returns-in-Some-clause-classes c =

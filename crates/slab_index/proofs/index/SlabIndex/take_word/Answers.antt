@@ -26,6 +26,11 @@ summarize-requires-clause-start c =
     let s = c.self.inside in
     omega (arith, c.in-Some.ensures.inside, c.in-Some.ensures.known, granules_of s.granules s.classes.items s.blocks.items c.self.view_is, c.self.invariant.most, c.self.invariant.starts_size)
 
+pub summarize-requires-clause-some_start : goal.summarize-requires-clause-some_start
+summarize-requires-clause-some_start c =
+    let s = c.self.inside in
+    omega (arith, c.in-Some.ensures.inside, c.in-Some.ensures.known, granules_of s.granules s.classes.items s.blocks.items c.self.view_is, c.self.invariant.most, c.self.invariant.some_starts_size)
+
 pub invariant_of-self : goal.invariant_of-self
 invariant_of-self c =
     let s = c.self.inside in
@@ -41,8 +46,9 @@ invariant_of-self c =
     let starts = rw c.deref_mut-in-Some-2.ensures.value at c.summarize.ensures.starts in
     let some_are : (with_items s.some c.summarize.new.some).items ≡ c.summarize.new.some = with_items_is s.some c.summarize.new.some (omega (arith, some.size, s.some.ok.0)) in
     let starts_are : (with_items s.starts c.summarize.new.starts).items ≡ c.summarize.new.starts = with_items_is s.starts c.summarize.new.starts (omega (arith, starts.size, s.starts.ok.0)) in
-    rw (blocks_are, some_are, starts_are)
-    (IsIndex-turned blocks c.summarize.new.some c.summarize.new.starts at class index
+    let some_starts_are : (with_items s.some_starts c.summarize.new.some_starts).items ≡ c.summarize.new.some_starts = with_items_is s.some_starts c.summarize.new.some_starts (rw c.deref_mut-in-Some-3.ensures.value at c.summarize.ensures.some_size ∙ sym s.some_starts.ok.0) in
+    rw (blocks_are, some_are, starts_are, some_starts_are)
+    (IsIndex-turned blocks c.summarize.new.some c.summarize.new.starts c.summarize.new.some_starts at class index
     (ap (λ k. get_or s.classes.items k None) (sym place) ∙ sym (class_of_list c.self.view_is start) ∙ sym c.in-Some.ensures.class)
     (omega (arith, place, c.in-Some.ensures.inside, granules_of s.granules s.classes.items s.blocks.items c.self.view_is))
     taken.size
@@ -50,7 +56,9 @@ invariant_of-self c =
     (taken.fits index.fits)
     (λ k is. index.below k (had_taken taken k is))
     some
-    starts)
+    starts
+    (rw c.deref_mut-in-Some-3.ensures.value at c.summarize.ensures.some_size)
+    c.summarize.ensures.summary)
 
 pub returns-in-Some-clause-classes : goal.returns-in-Some-clause-classes
 returns-in-Some-clause-classes c = λ s. class_of_list {granules = c.self.inside.granules} {classes = c.self.inside.classes.items} {blocks = (with_items c.self.inside.blocks c.take_numbers.new.set).items} refl s ∙ sym (class_of_list c.self.view_is s)

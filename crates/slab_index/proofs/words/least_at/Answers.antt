@@ -1,0 +1,21 @@
+use Rattle.std.proofs.Common.{◌≡◌, ◌+◌, ◌*◌, ◌-◌, ℕ, get_or, sym, ◌∙◌, subst, arith, ltb, true}
+use Rattle.std.proofs.lemmas.Bool.{ltb-true}
+use Rattle.bit_words.specs.Numbers.{IsLeastIn}
+use Rattle.slab_index.proofs.words.least_at.Goals as goal
+
+pub returns : goal.returns
+returns c =
+    let number = c.in_ok-number.number in
+    let word = c.in_ok-word.word in
+    let there : number ≡ 4096 * c.args.place + (number - 4096 * c.args.place) = omega (arith, c.in_ok-word.ensures.low, c.in_ok-number.ensures.low) in
+    record {
+      word = word;
+      least_word = c.in_ok-word.ensures;
+      least = subst (λ (k : ℕ). IsLeastIn c.args.words.now (64 * word) 64 k) there c.in_ok-number.ensures;
+    }
+
+pub returns-in_err-number : goal.returns-in_err-number
+returns-in_err-number c =
+    let word = c.in_ok-word.word in
+    let some : ltb 0 (get_or c.args.words.now word 0) ≡ true = sym (c.requires.summary.is word) ∙ c.in_ok-word.ensures.is in
+    absurd (omega (arith, ltb-true 0 (get_or c.args.words.now word 0) some, c.in_err-number.ensures))
