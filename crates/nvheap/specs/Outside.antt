@@ -67,6 +67,11 @@ pub record TakesFront (old new : Option (List ℕ)) (bytes : List ℕ) : Type 0 
   pub split : bytes ≡ front ++ rest
   pub takes : Takes old new front
 
+-- a shelf that tells its places has 16
+abbrev pub HasSixteen : Option (List (Option PmemState)) → Type 0
+HasSixteen (Some places) = length places ≡ 16
+HasSixteen None = Unit {0}
+
 -- a place of a shelf is set
 abbrev pub put_device : Option (List (Option PmemState)) → ℕ → PmemState → Option (List (Option PmemState))
 put_device (Some places) arena state = Some (slice_set places arena (Some state))

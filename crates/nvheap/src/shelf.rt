@@ -2,7 +2,7 @@
 ghost use Rattle.std.specs.Prelude.{◌≡◌, ℕ, ◌<◌, ◌≤◌, List, Option, Some, None, vec_len, IfOk, OnOk, OnErr, length, ◌%◌, option_copied, replicate, slice_index_or};
 ghost use Rattle.pmem_lines.specs.Pmem.{PmemState, IsZeroed, fresh, risen};
 ghost use Rattle.shared_pool.specs.Rows.{each_of};
-ghost use Rattle.nvheap.specs.Outside.{put_device, put_devices};
+ghost use Rattle.nvheap.specs.Outside.{put_device, put_devices, HasSixteen};
 
 use pmem_lines::{OutOfMemory, Pmem, SimPmem};
 use std::alloc::Global;
@@ -46,6 +46,7 @@ pub trait Shelf {
     fn put(&mut self, arena: u32, device: Self::Device)
         requires { arena < 16 }
         ensures places { places self.new ≡ put_device (places self.old) arena (Self.Device.state device) }
+        ensures sixteen { HasSixteen (places self.new) }
         ensures images { images self.new ≡ images self.old };
 }
 
