@@ -1,5 +1,5 @@
 -- The journals at the end answer the trace.
-use Rattle.std.proofs.Common.{◌≡◌, ◌≢◌, ◌⊎◌, inl, inr, ℕ, zero, suc, ◌+◌, ◌<◌, ◌≤◌, ◌==◌, ◌||◌, ◌&&◌, Bool, true, false, if◌then◌else◌, List, [], ◌∷◌, ◌++◌, map, length, refl, ap, sym, ◌∙◌, subst, arith, eq-eqb, eqb-true, ne_eqb, take}
+use Rattle.std.proofs.Common.{◌≡◌, ◌≢◌, ◌⊎◌, inl, inr, ℕ, zero, suc, ◌+◌, ◌<◌, ◌≤◌, ◌==◌, ◌||◌, ◌&&◌, Bool, true, false, if◌then◌else◌, List, [], ◌∷◌, ◌++◌, map, length, refl, ap, sym, ◌∙◌, subst, arith, eqb-true, ne_eqb, take}
 use Rattle.std.proofs.lemmas.Bool.{false≢true}
 use Rattle.heap_model.specs.declared.call.Entry.{Entry}
 use Rattle.arena_lock.specs.declared.opening.Opening.{Opening}
