@@ -1,5 +1,5 @@
 // Runs over traces of several arenas, and of several threads.
-use crate::runs::tells;
+use crate::runs::{all_tell, tells};
 use std::test::Fail;
 
 // The calls of two arenas stand in turns, those of each on a thread of its own.
@@ -50,12 +50,7 @@ fn two_arenas(rt: HostRuntime) -> Result<(), Fail> {
         ("crash 2 0 0", 2, "no arena 2 of 2\n"),
         ("crash 15 999 0", 2, "no arena 15 of 2\n"),
     ];
-    for (line, wanted, text) in rows {
-        let (code, told) = tells(&rt, rt.alloc(), line, TWO.as_bytes())?;
-        assert_eq!(rt; told.as_str(), text, "{line}");
-        assert_eq!(rt; code, wanted, "{line}");
-    }
-    Ok(())
+    all_tell(&rt, rt.alloc(), TWO.as_bytes(), &rows)
 }
 
 // Arena 1 has no call.
@@ -69,12 +64,7 @@ fn an_idle_arena(rt: HostRuntime) -> Result<(), Fail> {
         ("crash 1 0 0", 0, "call 0 same\nheap 0\n"),
         ("crash 1 1 0", 2, "no event 1 of 0\n"),
     ];
-    for (line, wanted, text) in rows {
-        let (code, told) = tells(&rt, rt.alloc(), line, trace.as_bytes())?;
-        assert_eq!(rt; told.as_str(), text, "{line}");
-        assert_eq!(rt; code, wanted, "{line}");
-    }
-    Ok(())
+    all_tell(&rt, rt.alloc(), trace.as_bytes(), &rows)
 }
 
 // Whichever of two threads comes first has the block, and the other one's answer says so.

@@ -7,20 +7,21 @@ use std::test::Fail;
 
 const TRACE: &str = "pool 1 16\n0 0 m 5 100\n";
 
-// Line feeds, so many that no memory is to hold them. It tells nothing of them.
+// One byte, so many times that no memory is to hold them. It tells nothing of them.
 #[derive(Drop)]
-struct LineFeeds {
+struct Repeated {
+    byte: u8,
     left: usize,
 }
 
-impl Source for LineFeeds {
+impl Source for Repeated {
     ghost left = { λ _. None };
 
     ghost faults = { λ _. 0 };
 
     fn read(&mut self, into: &mut [u8]) -> Result<usize, Failed> {
         let n = into.len().min(self.left);
-        into[..n].fill(b'\n');
+        into[..n].fill(self.byte);
         self.left -= n;
         Ok(n)
     }
@@ -46,19 +47,31 @@ fn tells_a_write_fault(rt: HostRuntime) -> Result<(), Fail> {
     Ok(())
 }
 
+// One byte more than a trace may have, and than an image may: it is read, and nothing is written.
 #[test]
 fn tells_that_the_input_is_too_long(rt: HostRuntime) -> Result<(), Fail> {
-    let mut source = LineFeeds { left: 67_108_865 };
-    let mut sink = MemSink::new(rt.alloc(), &[], usize::MAX);
-    let status = ends(&rt, rt.alloc(), "replay", &mut source, &mut sink)?;
-    assert_eq!(rt; status, Status::TooLong);
-    assert_eq!(rt; sink.bytes().len(), 0);
+    let rows = [
+        ("replay", b'\n', 67_108_865),
+        ("check", 0, 268_435_457),
+        ("recover", 0, 268_435_457),
+    ];
+    for (line, byte, left) in rows {
+        let mut source = Repeated { byte, left };
+        let mut sink = MemSink::new(rt.alloc(), &[], usize::MAX);
+        let status = ends(&rt, rt.alloc(), line, &mut source, &mut sink)?;
+        assert_eq!(rt; status, Status::TooLong, "{line}");
+        assert_eq!(rt; source.left, 0, "{line}");
+        assert_eq!(rt; sink.bytes().len(), 0, "{line}");
+    }
     Ok(())
 }
 
 #[test]
 fn reads_nothing_where_the_words_are_none(rt: HostRuntime) -> Result<(), Fail> {
-    let mut source = LineFeeds { left: 5 };
+    let mut source = Repeated {
+        byte: b'\n',
+        left: 5,
+    };
     let mut sink = MemSink::new(rt.alloc(), &[], usize::MAX);
     let status = ends(&rt, rt.alloc(), "replay image", &mut source, &mut sink)?;
     assert_eq!(rt; status, Status::Usage);

@@ -2,6 +2,7 @@
 use nvheap::{KeptShelf, MemSink, OpenGate, Sink, Source, Status, SureSource, run};
 use pmem_lines::Pmem;
 use std::alloc::{AllocError, Global};
+use std::process::Abort;
 use std::str;
 use std::sync::Wait;
 use std::test::Fail;
@@ -53,6 +54,21 @@ pub(crate) fn tells<R: Threads + Wait + Sync>(
     let (status, taken) = ends_and_writes(rt, alloc, line, input)?;
     let text = String::from_str(alloc, str::from_utf8(&taken)?)?;
     Ok((status.code(), text))
+}
+
+/// Runs over some bytes end with these codes and write these texts, each with the words of a line.
+pub(crate) fn all_tell<R: Abort + Threads + Wait + Sync>(
+    rt: &R,
+    alloc: Global,
+    input: &[u8],
+    rows: &[(&str, u8, &str)],
+) -> Result<(), Fail> {
+    for (line, wanted, text) in rows {
+        let (code, told) = tells(rt, alloc, line, input)?;
+        assert_eq!(rt; told.as_str(), *text, "{line}");
+        assert_eq!(rt; code, *wanted, "{line}");
+    }
+    Ok(())
 }
 
 /// The word at an address of the device that a replay of a trace leaves on a shelf. The address lies in the first 16

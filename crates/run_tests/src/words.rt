@@ -1,10 +1,28 @@
 // The words of the device that a replay leaves on a shelf, and a shelf that keeps none.
 use crate::runs::{ends_and_writes, word_after, words_of};
 use nvheap::{DropShelf, MemSink, OpenGate, Status, SureSource, run};
+use std::alloc::Global;
+use std::process::Abort;
+use std::sync::Wait;
 use std::test::Fail;
+use std::thread::Threads;
 
 // The text `NVALLOG1` of an arena's header, as a word.
 const TEXT: u64 = 0x3147_4f4c_4c41_564e;
+
+// These words are at these addresses of the device that a replay of a trace leaves.
+fn all_left<R: Abort + Threads + Wait + Sync>(
+    rt: &R,
+    alloc: Global,
+    trace: &str,
+    rows: &[(u32, u64)],
+) -> Result<(), Fail> {
+    for (at, word) in rows {
+        let left = word_after(rt, alloc, trace, *at)?;
+        assert_eq!(rt; left, Some(*word), "at {at}");
+    }
+    Ok(())
+}
 
 // A block of 100 bytes at root 5: the header line, the root, the log's first entry, the state word, block 0's bit. All
 // else is 0, the first write-ahead line too.
@@ -29,33 +47,26 @@ fn one_small_block(rt: HostRuntime) -> Result<(), Fail> {
         (65664, 0),
         (67584, 0),
     ];
-    for (at, word) in rows {
-        let left = word_after(&rt, rt.alloc(), "pool 1 16\n0 0 m 5 100\n", at)?;
-        assert_eq!(rt; left, Some(word), "at {at}");
-    }
-    Ok(())
+    all_left(&rt, rt.alloc(), "pool 1 16\n0 0 m 5 100\n", &rows)
 }
 
 // The bits of neighbours lie in different lines.
 #[test]
 fn two_small_blocks(rt: HostRuntime) -> Result<(), Fail> {
-    for (at, word) in [(65600, 1), (65664, 1), (65728, 0)] {
-        let trace = "pool 1 16\n0 0 m 1 16\n0 0 m 2 16\n";
-        let left = word_after(&rt, rt.alloc(), trace, at)?;
-        assert_eq!(rt; left, Some(word), "at {at}");
-    }
-    Ok(())
+    let rows = [(65600, 1), (65664, 1), (65728, 0)];
+    all_left(
+        &rt,
+        rt.alloc(),
+        "pool 1 16\n0 0 m 1 16\n0 0 m 2 16\n",
+        &rows,
+    )
 }
 
 // A slab whose last block goes leaves the log: its entry, and behind it a Tomb.
 #[test]
 fn a_slab_goes_back(rt: HostRuntime) -> Result<(), Fail> {
-    for (at, word) in [(16392, 0), (49216, 0x0402), (49280, 0x0403), (65600, 0)] {
-        let trace = "pool 1 16\n0 0 m 1 64\n0 0 f 1\n";
-        let left = word_after(&rt, rt.alloc(), trace, at)?;
-        assert_eq!(rt; left, Some(word), "at {at}");
-    }
-    Ok(())
+    let rows = [(16392, 0), (49216, 0x0402), (49280, 0x0403), (65600, 0)];
+    all_left(&rt, rt.alloc(), "pool 1 16\n0 0 m 1 64\n0 0 f 1\n", &rows)
 }
 
 // A shelf that drops what is put serves as well, for the device of a replay and for one that is recovered.
