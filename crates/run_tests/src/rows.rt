@@ -1,10 +1,8 @@
 // Runs over short traces.
-use crate::runs::ends_and_writes;
+use crate::runs::all_end_and_write;
 use std::test::Fail;
 
-// Traces, with runs over each. A run is a line with `$`, the code with which it ends and its words; and below it what
-// it writes. A trace that runs into its first `$` lacks its last line feed. Under `crash` the store of a root that no
-// fence made durable is kept with the seeds 0 and 7, and with seed 2 it is not.
+// Under `crash` the store of a root that no fence made durable is kept with the seeds 0 and 7, and with seed 2 it is not.
 const TRACES: &str = "pool 1 16
 0 0 m 5 100
 $0 replay
@@ -376,22 +374,7 @@ heap 1
 5 65536 16711680
 ";
 
-// The two sides of a mark's first place; with no such place all is before it.
-fn halves(text: &str, mark: char) -> (&str, &str) {
-    text.split_once(mark).unwrap_or((text, ""))
-}
-
 #[test]
 fn short_traces(rt: HostRuntime) -> Result<(), Fail> {
-    for case in TRACES.split("----\n") {
-        let (trace, runs) = halves(case, '$');
-        for asked in runs.split('$') {
-            let (line, text) = halves(asked, '\n');
-            let (code, words) = halves(line, ' ');
-            let (status, taken) = ends_and_writes(&rt, rt.alloc(), words, trace.as_bytes())?;
-            assert_eq!(rt; code.parse(), Ok(status.code()), "{line} over {trace}");
-            assert_eq!(rt; taken.as_slice(), text.as_bytes(), "{line} over {trace}");
-        }
-    }
-    Ok(())
+    all_end_and_write(&rt, rt.alloc(), TRACES)
 }

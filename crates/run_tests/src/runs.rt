@@ -71,6 +71,31 @@ pub(crate) fn all_tell<R: Abort + Threads + Wait + Sync>(
     Ok(())
 }
 
+// The two sides of a mark's first place; with no such place all is before it.
+fn halves(text: &str, mark: char) -> (&str, &str) {
+    text.split_once(mark).unwrap_or((text, ""))
+}
+
+/// Traces between lines `----`, with runs over each: all end and write as they say. A run is a line with `$`, the code with
+/// which it ends and its words; and below it what it writes. A trace that runs into its first `$` lacks its last line feed.
+pub(crate) fn all_end_and_write<R: Abort + Threads + Wait + Sync>(
+    rt: &R,
+    alloc: Global,
+    traces: &str,
+) -> Result<(), Fail> {
+    for case in traces.split("----\n") {
+        let (trace, runs) = halves(case, '$');
+        for asked in runs.split('$') {
+            let (line, text) = halves(asked, '\n');
+            let (code, words) = halves(line, ' ');
+            let (status, taken) = ends_and_writes(rt, alloc, words, trace.as_bytes())?;
+            assert_eq!(rt; code.parse(), Ok(status.code()), "{line} over {trace}");
+            assert_eq!(rt; taken.as_slice(), text.as_bytes(), "{line} over {trace}");
+        }
+    }
+    Ok(())
+}
+
 /// The word at an address of the device that a replay of a trace leaves on a shelf. The address lies in the first 16
 /// granules.
 pub(crate) fn word_after<R: Threads + Wait + Sync>(

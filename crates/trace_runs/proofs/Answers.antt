@@ -11,7 +11,7 @@ use Rattle.heap_model.specs.declared.call.Entry.{Entry}
 use Rattle.heap_check.specs.Image.{IsExactImage}
 use Rattle.arena_core.specs.Arena.{ArenaState}
 use Rattle.arena_core.specs.Call.{IsReady}
-use Rattle.arena_journal.specs.Journals.{opened, IsServed, begins_call, HasAnswered}
+use Rattle.arena_journal.specs.Journals.{opened, IsServed, HasAnswered}
 use Rattle.arena_journal.proofs.Journals.{behind_none, behind_answered}
 use Rattle.trace_text.specs.declared.call.TraceCall.{TraceCall}
 use Rattle.trace_text.specs.Grammar.{IsAsked, IsTraceCall}
@@ -24,17 +24,9 @@ use Rattle.trace_runs.proofs.Journals.{HasRun-behind}
 pub served : (call : Call) → IsAsked call → IsServed call
 served (Malloc root size) asked = tt
 served (Free root) asked = tt
-served (Write root index value) asked = absurd asked
-served (Read root index) asked = absurd asked
+served (Write root index value) asked = tt
+served (Read root index) asked = tt
 served (Move from to) asked = absurd asked
-
--- and one that begins a call on the memory
-pub begins_asked : (call : Call) → IsAsked call → begins_call call ≡ true
-begins_asked (Malloc root size) asked = refl
-begins_asked (Free root) asked = refl
-begins_asked (Write root index value) asked = absurd asked
-begins_asked (Read root index) asked = absurd asked
-begins_asked (Move from to) asked = absurd asked
 
 -- each call of a trace can be made
 pub All-made : (arenas : ℕ) (calls : List TraceCall) → All (IsTraceCall arenas) calls → All CanBeMade calls

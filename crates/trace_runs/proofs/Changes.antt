@@ -12,10 +12,14 @@ use Rattle.image_tables.proofs.Tables.{root_table}
 use Rattle.heap_model.specs.declared.call.Call.{Call}
 use Rattle.heap_model.specs.declared.call.Reply.{Reply}
 use Rattle.heap_model.specs.declared.call.Reply.TheVariants.{Placed, Freed, Wrote, Value, Moved, NoRoot, Occupied, Empty, ZeroSize, TooLarge, OutOfRange, NoSpace}
-use Rattle.heap_model.specs.Machine.{Range, Machine, with_key}
+use Rattle.heap_model.specs.Machine.{Bounds, Range, Machine, with_key}
 use Rattle.heap_model.specs.Policy.{plain}
-use Rattle.heap_model.specs.Step.{root_of}
-use Rattle.heap_model.proofs.Outcomes.{IsGift, IsLoss, gift, loss}
+use Rattle.heap_model.specs.Step.{root_of, IsStep}
+use Rattle.heap_model.proofs.Outcomes.{IsGift, IsLoss, gift, loss, outcome}
+use Rattle.heap_model.proofs.Outcomes.Outcome.{Stayed, Given, Taken, Written, Passed}
+use Rattle.heap_model.specs.declared.call.Call.TheVariants.{Malloc, Free, Write, Read, Move}
+use Rattle.trace_text.specs.declared.call.CrashSide.TheVariants.{Same}
+use Rattle.trace_text.specs.Grammar.{IsAsked}
 use Rattle.heap_model.proofs.Maps.{with_key-here}
 use Rattle.heap_check.specs.Heap.{heap, slabs, size_at}
 use Rattle.heap_check.specs.Image.{bounds_of, IsFormed, IsExactImage}
@@ -136,6 +140,49 @@ IsSide-told old new image root false false change either some none = (
   differ old new root false change,
   ⊎_elim
       (λ (same : HaveSameHeap old image). let e : None ≡ Some change.range = sym (none refl) ∙ same.each root ∙ change.before in absurd (cc))
+      (λ (same : HaveSameHeap new image). same)
+      either,
+)
+
+-- a call that wrote a word leaves the heap as it was
+pub record IsWriting (old new : List ℕ) (root : ℕ) : Type 0 where
+  pub below : root < (layout_of 1).roots
+  pub same : HaveSameHeap old new
+
+-- a step that wrote is on a root word
+wrote_below : (b : Bounds) (m next : Machine) (call : Call) → IsAsked call → IsStep plain b m call Wrote next → root_of call < b.roots
+wrote_below b m next (Malloc root size) asked step = ⊎_elim (λ none. absurd (let e = none.1.0 in cc)) (λ some. omega (arith, some.0)) step
+wrote_below b m next (Free root) asked step = ⊎_elim (λ none. absurd (let e = none.1.0 in cc)) (λ some. omega (arith, some.0)) step
+wrote_below b m next (Write root index word) asked step = ⊎_elim (λ none. absurd (let e = none.1.0 in cc)) (λ some. omega (arith, some.0)) step
+wrote_below b m next (Read root index) asked step = ⊎_elim (λ none. absurd (let e = none.1.0 in cc)) (λ some. omega (arith, some.0)) step
+wrote_below b m next (Move from to) asked step = absurd asked
+
+-- and leaves the blocks
+wrote_blocks : (b : Bounds) (m next : Machine) (call : Call) → IsStep plain b m call Wrote next → next.block ≡ m.block
+wrote_blocks b m next call step = elim (outcome plain b m next Wrote call step) [
+  | Stayed not same ↦ ap (λ (n : Machine). n.block) same
+  | Given root asked is given ↦ absurd (let reply = given.grant.is in cc)
+  | Taken root is taken ↦ absurd (let reply = taken.is in cc)
+  | Written root index word not same ↦ ap (λ (n : Machine). n.block) same
+  | Passed from to passed ↦ absurd (let reply = passed.is in cc)
+]
+
+pub IsWriting-step : (seat : ℕ) (old new : List ℕ) (call : Call) → IsExactImage old → IsAsked call → IsStepOf seat old new call Wrote → IsWriting old new (root_of call)
+unfolding machine_of
+IsWriting-step seat old new call exact asked steps =
+    let m = machine_of old in
+    let found = steps.each m (HasState-machine_of old) in
+    record {
+      below = subst (λ v. root_of call < (layout_of v).roots) (version-formed old exact.formed) (wrote_below (bounds_of old) m found.0 call asked found.1.step);
+      same = record { each = λ root. found.2.blocks root ∙ ap (λ (f : ℕ → Option Range). f root) (wrote_blocks (bounds_of old) m found.0 call found.1.step) };
+    }
+
+-- then each image of the heap before it or after it has both
+pub IsSide-same : (old new image : List ℕ) → HaveSameHeap old new → HaveSameHeap old image ⊎ HaveSameHeap new image → IsSide old new image Same
+IsSide-same old new image still either = (
+  still,
+  ⊎_elim
+      (λ (same : HaveSameHeap old image). let both : HaveSameHeap new image = record { each = λ root. same.each root ∙ sym (still.each root) } in both)
       (λ (same : HaveSameHeap new image). same)
       either,
 )

@@ -1,5 +1,5 @@
 -- What a crash within the call that a device went through last leaves.
-use Rattle.std.proofs.Common.{◌≡◌, ◌≢◌, ◌↔◌, ℕ, zero, suc, ◌/◌, ◌<◌, ◌≤◌, Bool, IsTrue, List, [], ◌∷◌, ◌++◌, length, take, sym, ap, ◌∙◌, refl, arith, subst}
+use Rattle.std.proofs.Common.{◌≡◌, ◌≢◌, ◌↔◌, ◌⊎◌, ⊎_elim, inl, inr, ℕ, zero, suc, ◌/◌, ◌<◌, ◌≤◌, Bool, IsTrue, List, [], ◌∷◌, ◌++◌, length, take, sym, ap, ◌∙◌, refl, arith, subst}
 use Rattle.std.proofs.lemmas.List.{take_all}
 use Rattle.pmem_lines.specs.Words.{word_at, words_at}
 use Rattle.pmem_lines.specs.Events.{IsImage}
@@ -11,61 +11,89 @@ use Rattle.heap_model.specs.declared.call.Call.{Call}
 use Rattle.heap_model.specs.declared.call.Call.TheVariants.{Malloc, Free, Write, Read, Move}
 use Rattle.heap_model.specs.declared.call.Entry.{Entry}
 use Rattle.heap_model.specs.declared.call.Reply.{Reply}
-use Rattle.heap_model.specs.declared.call.Reply.TheVariants.{Placed, Freed}
+use Rattle.heap_model.specs.declared.call.Reply.TheVariants.{Placed, Freed, Wrote, Value, Moved, NoRoot, Occupied, Empty, ZeroSize, TooLarge, OutOfRange, NoSpace}
 use Rattle.heap_model.specs.Step.{root_of}
 use Rattle.arena_core.specs.Arena.{ArenaState}
 use Rattle.arena_core.specs.Events.{call_events}
 use Rattle.arena_core.specs.ByCall.{IsSteadyLeft}
 use Rattle.arena_core.proofs.ByCall.{law_of_crashes}
+use Rattle.trace_text.specs.declared.call.CrashSide.{CrashSide}
 use Rattle.trace_text.specs.declared.call.CrashSide.TheVariants.{Same}
+use Rattle.pool_layout.specs.Layout.{layout_of}
+use Rattle.arena_core.specs.Call.{IsStepOf}
 use Rattle.trace_text.specs.declared.call.TraceCall.{TraceCall}
 use Rattle.trace_text.specs.Grammar.{IsAsked}
 use Rattle.trace_runs.specs.Arenas.{IsNewArena}
-use Rattle.trace_runs.specs.Crash.{calls_up_to, CrashLeft, IsCrashOf, IsLeftWithin, crash_image}
+use Rattle.trace_runs.specs.Crash.{calls_up_to, CrashLeft, IsCrashOf, IsLeftWithin, IsSide, crash_image}
 use Rattle.trace_runs.specs.Runs.{Stage, IsRunOf}
-use Rattle.trace_runs.specs.Blocks.{ChangesHeap, gives_block, side_of}
+use Rattle.trace_runs.specs.Blocks.{ChangesHeap, gives_block, side_of, side_by}
 use Rattle.trace_runs.specs.Seek.{last_stage, IsBehindEntry, IsBehindSought, IsBehindAll}
-use Rattle.trace_runs.proofs.Changes.{IsChange, IsChange-step, IsSide-told, heap-some, heap-zero, zero_or}
+use Rattle.trace_runs.proofs.Changes.{IsChange, IsChange-step, IsWriting, IsWriting-step, IsSide-told, IsSide-same, heap-some, heap-zero, zero_or}
 
--- of the calls that a trace may ask for, those that have events change the heap
-changes_by : (words : List ℕ) (line : ℕ) (call : Call) (reply : Reply) (events : List Event) → IsAsked call → 0 < length events → events ≡ call_events words line call reply → ChangesHeap reply
-changes_by words line (Malloc root size) (Placed at given) events asked some is = tt
-changes_by words line (Malloc root size) (Freed at given) events asked some is = tt
+-- of the calls that a trace may ask for, those that have events give a block, take one, or write a word
+changes_by : (words : List ℕ) (line : ℕ) (call : Call) (reply : Reply) (events : List Event) → IsAsked call → 0 < length events → events ≡ call_events words line call reply → ChangesHeap reply ⊎ (reply ≡ Wrote)
+changes_by words line (Malloc root size) (Placed at given) events asked some is = inl tt
+changes_by words line (Malloc root size) (Freed at given) events asked some is = inl tt
 changes_by words line (Malloc root size) reply events asked some is = absurd (omega (arith, some, ap length is))
-changes_by words line (Free root) (Placed at given) events asked some is = tt
-changes_by words line (Free root) (Freed at given) events asked some is = tt
+changes_by words line (Free root) (Placed at given) events asked some is = inl tt
+changes_by words line (Free root) (Freed at given) events asked some is = inl tt
 changes_by words line (Free root) reply events asked some is = absurd (omega (arith, some, ap length is))
-changes_by words line (Write root index word) reply events asked some is = absurd asked
-changes_by words line (Read root index) reply events asked some is = absurd asked
+changes_by words line (Write root index word) Wrote events asked some is = inr refl
+changes_by words line (Write root index word) reply events asked some is = absurd (omega (arith, some, ap length is))
+changes_by words line (Read root index) reply events asked some is = absurd (omega (arith, some, ap length is))
 changes_by words line (Move from to) reply events asked some is = absurd asked
 
-pub changes_behind : (device : PmemState) (entry : Entry) → IsBehindEntry device entry → ChangesHeap entry.reply
-changes_behind device entry behind = changes_by device.base behind.line entry.call entry.reply device.events behind.asked behind.some behind.events
+-- the call changed the heap at its root, or wrote a word and left the heap
+abbrev ChangedOrWrote : PmemState → Entry → Type 0
+ChangedOrWrote device entry =
+    (ChangesHeap entry.reply × IsChange device.base (words_of device) (root_of entry.call) (gives_block entry.reply)) ⊎ ((entry.reply ≡ Wrote) × IsWriting device.base (words_of device) (root_of entry.call))
 
--- the call changed the heap at its root, and an image that a crash leaves has the heap before it or after it
-pub record IsChanged (device : PmemState) (entry : Entry) (image : List ℕ) : Type 0 where
-  pub change : IsChange device.base (words_of device) (root_of entry.call) (gives_block entry.reply)
-  pub either : IsSteadyLeft device.base (words_of device) image
+changed_or_wrote : (device : PmemState) (entry : Entry) → IsBehindEntry device entry → ChangedOrWrote device entry
+changed_or_wrote device entry behind = ⊎_elim
+    (λ (changes : ChangesHeap entry.reply). inl (changes, IsChange-step entry.seat device.base (words_of device) entry.call entry.reply behind.exact behind.step changes))
+    (λ (wrote : entry.reply ≡ Wrote). inr (wrote, IsWriting-step entry.seat device.base (words_of device) entry.call behind.exact behind.asked (subst (λ (r : Reply). IsStepOf entry.seat device.base (words_of device) entry.call r) wrote behind.step)))
+    (changes_by device.base behind.line entry.call entry.reply device.events behind.asked behind.some behind.events)
 
-pub IsChanged-behind : (device : PmemState) (entry : Entry) (done : ℕ) (image : List ℕ) → IsBehindEntry device entry → IsImage device.base (take done device.events) image → IsChanged device entry image
-IsChanged-behind device entry done image behind one = record {
-  change = IsChange-step entry.seat device.base (words_of device) entry.call entry.reply behind.exact behind.step (changes_behind device entry behind);
-  either = law_of_crashes entry.call device.base (words_of device) image (behind.crash.each done image one);
-}
+-- its root is one of the arena's
+pub below_behind : (device : PmemState) (entry : Entry) → IsBehindEntry device entry → root_of entry.call < (layout_of 1).roots
+below_behind device entry behind = ⊎_elim (λ changed. changed.1.below) (λ wrote. wrote.1.below) (changed_or_wrote device entry behind)
 
--- what is left, by whether the call's root has a block in the image
-pub IsLeftWithin-told : (device : PmemState) (entry : Entry) (number done seed : ℕ) (image : List ℕ) (has : Bool) → IsChanged device entry image → image ≡ crash_image (last_stage device) done seed →
-    (IsTrue has ↔ (word_at image (root_word (root_of entry.call)) ≢ 0)) → IsLeftWithin (last_stage device) number done seed (record { call = number; side = side_of has (gives_block entry.reply); image = image })
-IsLeftWithin-told device entry number done seed image has changed is reads =
+-- an image that a crash within it leaves has the heap before it or after it
+pub left_behind : (device : PmemState) (entry : Entry) (done : ℕ) (image : List ℕ) → IsBehindEntry device entry → IsImage device.base (take done device.events) image → IsSteadyLeft device.base (words_of device) image
+left_behind device entry done image behind one = law_of_crashes entry.call device.base (words_of device) image (behind.crash.each done image one)
+
+-- the side of a call that changed the heap
+side_changed : (reply : Reply) (has : Bool) → ChangesHeap reply → side_of has (gives_block reply) ≡ side_by reply has
+side_changed (Placed at size) has changes = refl
+side_changed (Freed at size) has changes = refl
+side_changed Wrote has changes = absurd changes
+side_changed (Value word) has changes = absurd changes
+side_changed (Moved at size) has changes = absurd changes
+side_changed NoRoot has changes = absurd changes
+side_changed (Occupied at) has changes = absurd changes
+side_changed Empty has changes = absurd changes
+side_changed ZeroSize has changes = absurd changes
+side_changed TooLarge has changes = absurd changes
+side_changed OutOfRange has changes = absurd changes
+side_changed NoSpace has changes = absurd changes
+
+-- what is left, by the reply, and by whether the call's root has a block in the image
+pub IsLeftWithin-told : (device : PmemState) (entry : Entry) (number done seed : ℕ) (image : List ℕ) (has : Bool) → IsBehindEntry device entry → IsSteadyLeft device.base (words_of device) image → image ≡ crash_image (last_stage device) done seed →
+    (IsTrue has ↔ (word_at image (root_word (root_of entry.call)) ≢ 0)) → IsLeftWithin (last_stage device) number done seed (record { call = number; side = side_by entry.reply has; image = image })
+IsLeftWithin-told device entry number done seed image has behind left is reads =
     let root = root_of entry.call in
-    let formed = changed.either.steady.formed in
+    let formed = left.steady.formed in
     record {
       call = refl;
       image = is;
-      steady = changed.either.steady;
-      side = IsSide-told device.base (words_of device) image root (gives_block entry.reply) has changed.change changed.either.heap
-          (λ some. heap-some image root formed changed.either.still changed.change.below (reads.0 some))
-          (λ none. heap-zero image root formed changed.either.still changed.change.below (zero_or has (word_at image (root_word root)) none reads.1));
+      steady = left.steady;
+      side = ⊎_elim
+          (λ changed. subst (λ (side : CrashSide). IsSide device.base (words_of device) image side) (side_changed entry.reply has changed.0)
+          (IsSide-told device.base (words_of device) image root (gives_block entry.reply) has changed.1 left.heap
+          (λ some. heap-some image root formed left.still changed.1.below (reads.0 some))
+          (λ none. heap-zero image root formed left.still changed.1.below (zero_or has (word_at image (root_word root)) none reads.1))))
+          (λ wrote. subst (λ (reply : Reply). IsSide device.base (words_of device) image (side_by reply has)) (sym wrote.0) (IsSide-same device.base (words_of device) image wrote.1.same left.heap))
+          (changed_or_wrote device entry behind);
     }
 
 -- the calls up to and with one that has a number

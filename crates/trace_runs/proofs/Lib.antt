@@ -5,6 +5,7 @@ mod Gone
 pub mod Journals
 pub mod Listing
 mod Crashes
+mod OneWay
 mod Runs
 mod Seeking
 mod Settled

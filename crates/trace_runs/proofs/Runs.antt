@@ -1,5 +1,5 @@
 -- Runs of calls, one call further.
-use Rattle.std.proofs.Common.{◌≡◌, ℕ, true, List, [], ◌∷◌, ◌++◌, sym, ap, ◌∙◌, refl, subst, append_assoc}
+use Rattle.std.proofs.Common.{◌≡◌, ℕ, ◌<◌, true, if◌then◌else◌, List, [], ◌∷◌, ◌++◌, length, sym, ap, ◌∙◌, refl, subst, arith, append_assoc}
 use Rattle.std.proofs.lemmas.List.{append-nil}
 use Rattle.pmem_lines.specs.Pmem.{PmemState, words_of}
 use Rattle.heap_model.specs.declared.call.Reply.{Reply}
@@ -11,8 +11,10 @@ use Rattle.heap_check.specs.State.{HasState}
 use Rattle.arena_core.specs.Arena.{ArenaState}
 use Rattle.trace_text.specs.declared.call.TraceCall.{TraceCall}
 use Rattle.trace_runs.specs.Runs.{IsRun, IsRunTo, IsStage, Stage, words_after, words_behind}
-use Rattle.arena_journal.specs.Journals.{begins_call, HasBegun, HasAnswered}
-use Rattle.arena_journal.proofs.Journals.{begun_done}
+use Rattle.arena_journal.specs.Journals.{begins_call, HasBegun, HasDone, HasAnswered}
+use Rattle.arena_core.specs.Events.{call_events}
+use Rattle.heap_model.specs.declared.call.Call.{Call}
+use Rattle.heap_model.specs.declared.call.Call.TheVariants.{Malloc, Free, Write, Read, Move}
 use Rattle.trace_runs.specs.Seek.{last_stage}
 
 words_behind-last : (start : List ℕ) (stages : List Stage) (last : Stage) → words_behind start (stages ++ last ∷ []) ≡ words_after last
@@ -35,36 +37,67 @@ IsRun-to b start first calls arena machine stages to =
     subst (λ (cs : List TraceCall). IsRun b start 0 first cs stages) (append-nil calls)
     (subst (λ (ss : List Stage). IsRun b start 0 first (calls ++ []) ss) (append-nil stages) (to.run [] [] refl))
 
--- a call that was answered, and is no Read, is a stage
-pub IsStage-answered : (b : Bounds) (old new : ArenaState) (machine next : Machine) (call : TraceCall) (reply : Reply) → begins_call call.call ≡ true → HasAnswered call.thread old new call.call reply →
-    IsPlacedStep plain b call.thread (bare machine) call.call reply (bare next) → HasState (words_of new.device) next → IsStage b (words_of old.device) old.line machine call (last_stage new.device) new.line next
-IsStage-answered b old new machine next call reply begins answered step state =
-    let did : HasBegun old new call.call reply = begun_done old new call.call reply begins answered.done in
-    record {
-      reply = reply;
-      begins = ap (λ (s : PmemState). s.base) did.device;
-      events = ap (λ (s : PmemState). s.events) did.device;
-      later_is = answered.line;
-      step = step;
-      state = state;
-    }
+-- the stage of a call that an arena answered
+abbrev pub stage_of : ArenaState → Call → Reply → Stage
+stage_of old call reply = record { words = words_of old.device; events = call_events (words_of old.device) old.line call reply }
+
+-- the words behind it
+words_done : (old new : ArenaState) (call : Call) (reply : Reply) → HasDone old new call reply → words_of new.device ≡ words_after (stage_of old call reply)
+words_done old new (Malloc root size) reply done = ap (λ (s : PmemState). words_of s) done.device
+words_done old new (Free root) reply done = ap (λ (s : PmemState). words_of s) done.device
+words_done old new (Write root index word) reply done = ap (λ (s : PmemState). words_of s) done.device
+words_done old new (Read root index) reply done = ap (λ (a : ArenaState). words_of a.device) done.same
+words_done old new (Move from to) reply done = ap (λ (s : PmemState). words_of s) done.device
+
+-- the device went through it last, where it began a call
+pub stage_begun : (old new : ArenaState) (call : Call) (reply : Reply) → HasBegun old new call reply → last_stage new.device ≡ stage_of old call reply
+stage_begun old new call reply did = ap last_stage did.device
+
+-- its events are those of the device where the call begins one, and none where it is a Read
+pub events_done : (old new : ArenaState) (call : Call) (reply : Reply) → HasDone old new call reply → length (stage_of old call reply).events ≡ (if begins_call call then length new.device.events else 0)
+events_done old new (Malloc root size) reply done = sym (ap (λ (s : PmemState). length s.events) done.device)
+events_done old new (Free root) reply done = sym (ap (λ (s : PmemState). length s.events) done.device)
+events_done old new (Write root index word) reply done = sym (ap (λ (s : PmemState). length s.events) done.device)
+events_done old new (Read root index) reply done = refl
+events_done old new (Move from to) reply done = sym (ap (λ (s : PmemState). length s.events) done.device)
+
+-- a call that has events begins one
+pub begins_some : (words : List ℕ) (line : ℕ) (call : Call) (reply : Reply) → 0 < length (call_events words line call reply) → begins_call call ≡ true
+begins_some words line (Malloc root size) reply some = refl
+begins_some words line (Free root) reply some = refl
+begins_some words line (Write root index word) reply some = refl
+begins_some words line (Read root index) reply some = absurd (omega (arith, some))
+begins_some words line (Move from to) reply some = refl
+
+-- a call that was answered is a stage
+IsStage-answered : (b : Bounds) (old new : ArenaState) (machine next : Machine) (call : TraceCall) (reply : Reply) → HasAnswered call.thread old new call.call reply →
+    IsPlacedStep plain b call.thread (bare machine) call.call reply (bare next) → HasState (words_of new.device) next → IsStage b (words_of old.device) old.line machine call (stage_of old call.call reply) new.line next
+IsStage-answered b old new machine next call reply answered step state = record {
+  reply = reply;
+  begins = refl;
+  events = refl;
+  later_is = answered.line;
+  step = step;
+  state = subst (λ (words : List ℕ). HasState words next) (words_done old new call.call reply answered.done) state;
+}
 
 -- one call further
 pub IsRunTo-call : (b : Bounds) (start : List ℕ) (first : Machine) (calls : List TraceCall) (old new : ArenaState) (machine : Machine) (call : TraceCall) (reply : Reply) (stages : List Stage) →
-    IsRunTo b start first calls old machine stages → begins_call call.call ≡ true → HasAnswered call.thread old new call.call reply →
-    (next : Machine) × IsRunTo b start first (calls ++ call ∷ []) new next (stages ++ last_stage new.device ∷ [])
-IsRunTo-call b start first calls old new machine call reply stages to begins answered =
+    IsRunTo b start first calls old machine stages → HasAnswered call.thread old new call.call reply → (next : Machine) × IsRunTo b start first (calls ++ call ∷ []) new next (stages ++ stage_of old call.call reply ∷ [])
+IsRunTo-call b start first calls old new machine call reply stages to answered =
     let found = answered.step.each machine to.state in
+    let last : Stage = stage_of old call.call reply in
+    let behind : words_of new.device ≡ words_after last = words_done old new call.call reply answered.done in
     let step : IsPlacedStep plain b call.thread (bare machine) call.call reply (bare found.0) = subst (λ (c : Bounds). IsPlacedStep plain c call.thread (bare machine) call.call reply (bare found.0)) to.bounds found.1 in
-    let stage : IsStage b (words_of old.device) old.line machine call (last_stage new.device) new.line found.0 = IsStage-answered b old new machine found.0 call reply begins answered step found.2 in (
+    let stage : IsStage b (words_of old.device) old.line machine call last new.line found.0 = IsStage-answered b old new machine found.0 call reply answered step found.2 in (
       found.0,
       record {
         state = found.2;
         bounds = answered.step.bounds ∙ to.bounds;
-        words = sym (words_behind-last start stages (last_stage new.device));
+        words = behind ∙ sym (words_behind-last start stages last);
         run = λ rest more run.
-            subst (λ (cs : List TraceCall). IsRun b start 0 first cs (stages ++ last_stage new.device ∷ [] ++ more)) (sym (append_assoc calls (call ∷ []) rest))
-            (subst (λ (ss : List Stage). IsRun b start 0 first (calls ++ (call ∷ rest)) ss) (sym (append_assoc stages (last_stage new.device ∷ []) more))
-            (to.run (call ∷ rest) (last_stage new.device ∷ more) (new.line, found.0, stage, run)));
+            subst (λ (cs : List TraceCall). IsRun b start 0 first cs (stages ++ last ∷ [] ++ more)) (sym (append_assoc calls (call ∷ []) rest))
+            (subst (λ (ss : List Stage). IsRun b start 0 first (calls ++ (call ∷ rest)) ss) (sym (append_assoc stages (last ∷ []) more))
+            (to.run (call ∷ rest) (last ∷ more) (new.line, found.0, stage, subst (λ (words : List ℕ). IsRun b words new.line found.0 rest more) behind run)));
       },
     )

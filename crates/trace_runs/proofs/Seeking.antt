@@ -22,11 +22,11 @@ use Rattle.trace_runs.specs.Arenas.{bounds_for, formatted, IsNewArena}
 use Rattle.trace_runs.specs.Calls.{calls_of}
 use Rattle.trace_runs.specs.Crash.{CrashLeft, IsLeft, IsLeftWithin, IsLeftIdle, is_under_way}
 use Rattle.trace_runs.specs.Runs.{Stage, IsRun, total_events, IsRunTo}
-use Rattle.arena_journal.specs.Journals.{HasBegun, HasAnswered}
+use Rattle.arena_journal.specs.Journals.{HasBegun, HasDone, HasAnswered}
 use Rattle.arena_journal.proofs.Journals.{begun_done}
 use Rattle.trace_runs.specs.Seek.{last_stage, IsBehindEntry, IsBehindSought, IsBehindAll}
-use Rattle.trace_runs.proofs.Answers.{begins_asked, calls_of-append, calls_of-here, calls_of-other}
-use Rattle.trace_runs.proofs.Runs.{IsRunTo-none, IsRunTo-call, IsRun-to}
+use Rattle.trace_runs.proofs.Answers.{calls_of-append, calls_of-here, calls_of-other}
+use Rattle.trace_runs.proofs.Runs.{stage_of, stage_begun, begins_some, IsRunTo-none, IsRunTo-call, IsRun-to}
 
 -- the arena's calls among the first i calls of a trace are so many, they have these many events, and the event lies so many
 -- behind them
@@ -79,35 +79,37 @@ Seeking-other header number calls event arena i many left events d seeking here 
 
 -- one call of the arena more was answered
 module _ (header : PoolHeader) (number : ℕ) (calls : List TraceCall) (event : ℕ) (old new : ArenaState) (i many left events : ℕ) (d : TraceCall) (reply : Reply)
-    (seeking : Seeking header number calls event old i many left events) (here : i < length calls) (mine : (get_or calls i d).arena ≡ number) (asked : IsAsked (get_or calls i d).call)
+    (seeking : Seeking header number calls event old i many left events) (here : i < length calls) (mine : (get_or calls i d).arena ≡ number)
     (answered : HasAnswered (get_or calls i d).thread old new (get_or calls i d).call reply) where
+  abbrev stage : Stage
+  stage = stage_of old (get_or calls i d).call reply
+
   more : calls_of number (take i calls) ++ get_or calls i d ∷ [] ≡ calls_of number (take (i + 1) calls)
   more = sym (calls_of-here number calls i d here mine)
 
-  next : (machine : Machine) × IsRunTo (bounds_for header.granules) (formatted header) no_heap (calls_of number (take (i + 1) calls)) new machine (seeking.stages ++ last_stage new.device ∷ [])
+  next : (machine : Machine) × IsRunTo (bounds_for header.granules) (formatted header) no_heap (calls_of number (take (i + 1) calls)) new machine (seeking.stages ++ stage ∷ [])
   next =
-      subst (λ (cs : List TraceCall). (machine : Machine) × IsRunTo (bounds_for header.granules) (formatted header) no_heap cs new machine (seeking.stages ++ last_stage new.device ∷ [])) more
-      (IsRunTo-call (bounds_for header.granules) (formatted header) no_heap (calls_of number (take i calls)) old new seeking.machine (get_or calls i d) reply seeking.stages seeking.to (begins_asked (get_or calls i d).call asked) answered)
+      subst (λ (cs : List TraceCall). (machine : Machine) × IsRunTo (bounds_for header.granules) (formatted header) no_heap cs new machine (seeking.stages ++ stage ∷ [])) more
+      (IsRunTo-call (bounds_for header.granules) (formatted header) no_heap (calls_of number (take i calls)) old new seeking.machine (get_or calls i d) reply seeking.stages seeking.to answered)
 
   count : many + 1 ≡ length (calls_of number (take (i + 1) calls))
   count = ap (λ n. n + 1) seeking.count ∙ sym (length-append (calls_of number (take i calls)) (get_or calls i d ∷ [])) ∙ ap length more
 
   -- where it is not under way
-  pub Seeking-here : (0 < length new.device.events → length new.device.events < left) →
-      Seeking header number calls event new (i + 1) (many + 1) (left - length new.device.events) (events + length new.device.events)
+  pub Seeking-here : (0 < length stage.events → length stage.events < left) → Seeking header number calls event new (i + 1) (many + 1) (left - length stage.events) (events + length stage.events)
   Seeking-here few =
-      let apart : is_under_way new.device.events left ≡ false = not_under_way (length new.device.events) left few in
+      let apart : is_under_way stage.events left ≡ false = not_under_way (length stage.events) left few in
       record {
-        stages = seeking.stages ++ last_stage new.device ∷ [];
+        stages = seeking.stages ++ stage ∷ [];
         machine = next.0;
         count = count;
         to = next.1;
         leaves = λ further seed found is.
-            let Within : Type 0 = IsLeftWithin (last_stage new.device) (many + 1) left seed found in
-            let Later : Type 0 = IsLeft (formatted header) (many + 1) further (left - length new.device.events) seed found in
-            subst (λ (ss : List Stage). IsLeft (formatted header) 0 ss event seed found) (sym (append_assoc seeking.stages (last_stage new.device ∷ []) further))
-            (seeking.leaves (last_stage new.device ∷ further) seed found (subst (λ b. MatchBool b Within Later) (sym apart) is));
-        total = total_events-append seeking.stages (last_stage new.device ∷ []) ∙ omega (arith, seeking.total);
+            let Within : Type 0 = IsLeftWithin stage (many + 1) left seed found in
+            let Later : Type 0 = IsLeft (formatted header) (many + 1) further (left - length stage.events) seed found in
+            subst (λ (ss : List Stage). IsLeft (formatted header) 0 ss event seed found) (sym (append_assoc seeking.stages (stage ∷ []) further))
+            (seeking.leaves (stage ∷ further) seed found (subst (λ b. MatchBool b Within Later) (sym apart) is));
+        total = total_events-append seeking.stages (stage ∷ []) ∙ omega (arith, seeking.total);
       }
 
   -- the arena's calls up to and with this one
@@ -118,29 +120,37 @@ module _ (header : PoolHeader) (number : ℕ) (calls : List TraceCall) (event : 
       ∙ ap (λ (cs : List TraceCall). take (length (calls_of number (take (i + 1) calls))) cs) (ap (calls_of number) whole ∙ calls_of-append number (take (i + 1) calls) (drop (i + 1) calls))
       ∙ take-append_seam (calls_of number (take (i + 1) calls)) (calls_of number (drop (i + 1) calls))
 
+  -- where it has events, the device went through it last
+  last : 0 < length stage.events → stage ≡ last_stage new.device
+  last some = sym (stage_begun old new (get_or calls i d).call reply (begun_done old new (get_or calls i d).call reply (begins_some (words_of old.device) old.line (get_or calls i d).call reply some) answered.done))
+
   -- where it is the one under way
-  pub IsBehindSought-here : 0 < length new.device.events → left ≤ length new.device.events → events + left ≡ event → IsBehindSought header (calls_of number calls) event new.device (many + 1) left
+  pub IsBehindSought-here : 0 < length stage.events → left ≤ length stage.events → events + left ≡ event → IsBehindSought header (calls_of number calls) event new.device (many + 1) left
   IsBehindSought-here some within sum =
       let b = bounds_for header.granules in
-      let test : is_under_way new.device.events left ≡ true =
-      and_from (ltb 0 (length new.device.events)) (leb left (length new.device.events)) (lt-ltb 0 (length new.device.events) some) (le-leb left (length new.device.events) within) in
+      let test : is_under_way stage.events left ≡ true = and_from (ltb 0 (length stage.events)) (leb left (length stage.events)) (lt-ltb 0 (length stage.events) some) (le-leb left (length stage.events) within) in
+      let run : IsRun b (formatted header) 0 no_heap (take (many + 1) (calls_of number calls)) (seeking.stages ++ stage ∷ []) =
+      subst (λ (cs : List TraceCall). IsRun b (formatted header) 0 no_heap cs (seeking.stages ++ stage ∷ [])) (sym front)
+      (IsRun-to b (formatted header) no_heap (calls_of number (take (i + 1) calls)) new next.0 (seeking.stages ++ stage ∷ []) next.1) in
+      let leaves : (seed : ℕ) (found : CrashLeft) → IsLeftWithin stage (many + 1) left seed found → IsLeft (formatted header) 0 (seeking.stages ++ stage ∷ []) event seed found =
+      λ seed found is.
+      let Within : Type 0 = IsLeftWithin stage (many + 1) left seed found in
+      let Later : Type 0 = IsLeft (formatted header) (many + 1) [] (left - length stage.events) seed found in
+      seeking.leaves (stage ∷ []) seed found (subst (λ b. MatchBool b Within Later) (sym test) is) in
+      let total : event ≤ total_events (seeking.stages ++ stage ∷ []) = omega (arith, total_events-append seeking.stages (stage ∷ []), seeking.total, sum, within) in
       record {
         some = omega arith;
         before = seeking.stages;
-        run = subst (λ (cs : List TraceCall). IsRun b (formatted header) 0 no_heap cs (seeking.stages ++ last_stage new.device ∷ [])) (sym front)
-            (IsRun-to b (formatted header) no_heap (calls_of number (take (i + 1) calls)) new next.0 (seeking.stages ++ last_stage new.device ∷ []) next.1);
-        leaves = λ seed found is.
-            let Within : Type 0 = IsLeftWithin (last_stage new.device) (many + 1) left seed found in
-            let Later : Type 0 = IsLeft (formatted header) (many + 1) [] (left - length new.device.events) seed found in
-            seeking.leaves (last_stage new.device ∷ []) seed found (subst (λ b. MatchBool b Within Later) (sym test) is);
-        within = omega (arith, total_events-append seeking.stages (last_stage new.device ∷ []), seeking.total);
+        run = subst (λ (s : Stage). IsRun b (formatted header) 0 no_heap (take (many + 1) (calls_of number calls)) (seeking.stages ++ s ∷ [])) (last some) run;
+        leaves = subst (λ (s : Stage). (seed : ℕ) (found : CrashLeft) → IsLeftWithin s (many + 1) left seed found → IsLeft (formatted header) 0 (seeking.stages ++ s ∷ []) event seed found) (last some) leaves;
+        within = subst (λ (s : Stage). event ≤ total_events (seeking.stages ++ s ∷ [])) (last some) total;
       }
 
--- what the arena was asked last
-pub IsBehindEntry-answered : (old new : ArenaState) (thread : ℕ) (call : Call) (entry : Entry) → IsAsked call → entry.seat ≡ thread → entry.call ≡ call → HasAnswered thread old new call entry.reply → 0 < length new.device.events →
+-- what the arena was asked last, where that has events
+pub IsBehindEntry-answered : (old new : ArenaState) (thread : ℕ) (call : Call) (entry : Entry) → IsAsked call → entry.seat ≡ thread → entry.call ≡ call → HasAnswered thread old new call entry.reply → 0 < length (stage_of old call entry.reply).events →
     IsBehindEntry new.device entry
 IsBehindEntry-answered old new thread call entry asked is_seat is_call answered some =
-    let did : HasBegun old new call entry.reply = begun_done old new call entry.reply (begins_asked call asked) answered.done in
+    let did : HasBegun old new call entry.reply = begun_done old new call entry.reply (begins_some (words_of old.device) old.line call entry.reply some) answered.done in
     let base : words_of old.device ≡ new.device.base = sym (ap (λ (s : PmemState). s.base) did.device) in
     let events : new.device.events ≡ call_events (words_of old.device) old.line call entry.reply = ap (λ (s : PmemState). s.events) did.device in
     record {
@@ -149,9 +159,15 @@ IsBehindEntry-answered old new thread call entry asked is_seat is_call answered 
       step = subst (λ (c : Call). IsStepOf entry.seat new.device.base (words_of new.device) c entry.reply) (sym is_call) (subst (λ (t : ℕ). IsStepOf t new.device.base (words_of new.device) call entry.reply) (sym is_seat) (subst (λ (words : List ℕ). IsStepOf thread words (words_of new.device) call entry.reply) base answered.step));
       line = old.line;
       events = subst (λ (c : Call). new.device.events ≡ call_events new.device.base old.line c entry.reply) (sym is_call) (subst (λ (words : List ℕ). new.device.events ≡ call_events words old.line call entry.reply) base events);
-      some = some;
+      some = subst (λ (n : ℕ). 0 < n) (sym (ap length events)) some;
       crash = subst (λ (c : Call). CrashOnly new.device.base new.device.events (IsLeftBy c new.device.base (words_of new.device))) (sym is_call) (subst (λ (words : List ℕ). CrashOnly new.device.base new.device.events (IsLeftBy call words (words_of new.device))) base did.crash);
     }
+
+-- so many of a device's events are done, where that is so of the call
+pub within_done : (old new : ArenaState) (call : Call) (reply : Reply) (done : ℕ) → HasDone old new call reply → 0 < length (stage_of old call reply).events → done ≤ length (stage_of old call reply).events → done ≤ length new.device.events
+within_done old new call reply done did some within =
+    let stage : last_stage new.device ≡ stage_of old call reply = stage_begun old new call reply (begun_done old new call reply (begins_some (words_of old.device) old.line call reply some) did) in
+    subst (λ (n : ℕ). done ≤ n) (sym (ap (λ (s : Stage). length s.events) stage)) within
 
 -- no call is under way
 pub IsBehindAll-none : (header : PoolHeader) (number : ℕ) (calls : List TraceCall) (event : ℕ) (arena : ArenaState) (i many left events : ℕ) → Seeking header number calls event arena i many left events → length calls ≤ i →

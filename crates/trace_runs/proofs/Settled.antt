@@ -1,34 +1,22 @@
 -- What the calls of an arena settle.
-use Rattle.std.proofs.Common.{◌≡◌, ℕ, List, [], ◌∷◌, sym, ap, ◌∙◌, refl, subst}
+use Rattle.std.proofs.Common.{◌≡◌, ℕ, List, [], ◌∷◌, sym, ap, ◌∙◌, subst}
 use Rattle.std.specs.List.{All}
 use Rattle.std.proofs.lemmas.List.Elements.{All-head, All-tail}
-use Rattle.heap_model.specs.declared.call.Call.{Call}
-use Rattle.heap_model.specs.declared.call.Call.TheVariants.{Malloc, Free, Write, Read, Move}
-use Rattle.heap_model.specs.declared.call.Reply.{Reply}
 use Rattle.heap_model.specs.declared.call.Entry.{Entry}
 use Rattle.heap_model.specs.Machine.{Bounds, Machine, no_heap}
 use Rattle.heap_model.specs.Policy.{plain}
 use Rattle.heap_model.specs.Placement.{PlacedState, bare}
 use Rattle.heap_model.specs.Journal.{IsOfBlock, AskTheSame}
 use Rattle.heap_model.proofs.Placements.{law_of_one_journal as one_journal}
-use Rattle.arena_core.specs.Events.{call_events, line_after}
 use Rattle.trace_text.specs.declared.call.TraceCall.{TraceCall}
-use Rattle.trace_text.specs.Grammar.{IsAsked}
 use Rattle.trace_runs.specs.Arenas.{bounds_for, formatted}
-use Rattle.trace_runs.specs.Calls.{CanBeMade, AreAnswers}
+use Rattle.trace_runs.specs.Calls.{CanBeMade, IsOfBlocks, AreAnswers}
 use Rattle.trace_runs.specs.Runs.{Stage, IsStage, IsRun, words_after}
+use Rattle.trace_runs.proofs.OneWay.{IsOneWay-step}
 use Rattle.trace_runs.specs.Laws.{LawOfOneJournal, LawOfOneRun}
 
--- a trace asks for mallocs and frees alone
-is_of_block : (call : Call) → IsAsked call → IsOfBlock call
-is_of_block (Malloc root size) asked = tt
-is_of_block (Free root) asked = tt
-is_of_block (Write root index word) asked = absurd asked
-is_of_block (Read root index) asked = absurd asked
-is_of_block (Move from to) asked = absurd asked
-
 -- two journals of the calls ask the same
-ask_the_same : (calls : List TraceCall) (journal other : List Entry) → All CanBeMade calls → AreAnswers calls journal → AreAnswers calls other → AskTheSame journal other
+ask_the_same : (calls : List TraceCall) (journal other : List Entry) → All IsOfBlocks calls → AreAnswers calls journal → AreAnswers calls other → AskTheSame journal other
 ask_the_same [] [] [] valid one two = tt
 ask_the_same [] [] (entry ∷ other) valid one two = absurd two
 ask_the_same [] (entry ∷ journal) other valid one two = absurd one
@@ -37,8 +25,8 @@ ask_the_same (call ∷ calls) (entry ∷ journal) [] valid one two = absurd two
 ask_the_same (call ∷ calls) (entry ∷ journal) (another ∷ other) valid one two = (
   one.0 ∙ sym two.0,
   one.1 ∙ sym two.1,
-  subst IsOfBlock (sym one.1) (is_of_block call.call (All-head CanBeMade call calls valid).1),
-  ask_the_same calls journal other (All-tail CanBeMade call calls valid) one.2 two.2,
+  subst IsOfBlock (sym one.1) (All-head IsOfBlocks call calls valid),
+  ask_the_same calls journal other (All-tail IsOfBlocks call calls valid) one.2 two.2,
 )
 
 pub law_of_one_journal : LawOfOneJournal
@@ -46,24 +34,14 @@ law_of_one_journal granules calls journal other machine another valid first seco
     let same = one_journal plain (bounds_for granules) (bare no_heap) (bare machine) (bare another) journal other (ask_the_same calls journal other valid first second) one two in
     (same.0, ap (λ (s : PlacedState). s.machine) same.1)
 
--- the entry of a stage
-entry_of : TraceCall → Reply → Entry
-entry_of call reply = record { seat = call.thread; call = call.call; reply = reply }
-
 -- one call, from the same words, line and state, makes one stage
 stage_once : (b : Bounds) (words : List ℕ) (line : ℕ) (m next last : Machine) (later after : ℕ) (call : TraceCall) (stage other : Stage) → CanBeMade call → IsStage b words line m call stage later next → IsStage b words line m call other after last →
     (stage ≡ other) × (later ≡ after) × (next ≡ last)
-unfolding entry_of
 stage_once b words line m next last later after call stage other valid one two =
-    let same = one_journal plain b (bare m) (bare next) (bare last) (entry_of call one.reply ∷ []) (entry_of call two.reply ∷ []) (refl, refl, is_of_block call.call valid.1, tt) (bare next, one.step, refl) (bare last, two.step, refl) in
-    let replies : one.reply ≡ two.reply = ap (λ (entries : List Entry). reply_of one.reply entries) same.0 in
-    let events : stage.events ≡ other.events = one.events ∙ ap (λ reply. call_events words line call.call reply) replies ∙ sym two.events in
+    let same = IsOneWay-step b words line call.thread m next last call.call one.reply two.reply valid.1 one.step two.step in
+    let events : stage.events ≡ other.events = one.events ∙ same.events ∙ sym two.events in
     let begins : stage.words ≡ other.words = one.begins ∙ sym two.begins in
-    (λ i. record { words = begins i; events = events i }, one.later_is ∙ ap (line_after line) replies ∙ sym two.later_is, ap (λ (s : PlacedState). s.machine) same.1)
-  where
-    reply_of : Reply → List Entry → Reply
-    reply_of none [] = none
-    reply_of none (entry ∷ entries) = entry.reply
+    (λ i. record { words = begins i; events = events i }, one.later_is ∙ same.later ∙ sym two.later_is, same.state)
 
 run_once : (b : Bounds) (words : List ℕ) (line : ℕ) (m : Machine) (calls : List TraceCall) (stages others : List Stage) → All CanBeMade calls → IsRun b words line m calls stages → IsRun b words line m calls others → stages ≡ others
 run_once b words line m [] stages others valid one two = one ∙ sym two

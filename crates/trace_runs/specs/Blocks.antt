@@ -6,7 +6,7 @@ use Rattle.heap_model.specs.declared.call.Reply.{Reply}
 use Rattle.heap_model.specs.declared.call.Reply.TheVariants.{Placed, Freed, Wrote, Value, Moved, NoRoot, Occupied, Empty, ZeroSize, TooLarge, OutOfRange, NoSpace}
 use Rattle.heap_model.specs.Machine.{Range}
 use Rattle.trace_text.specs.declared.call.CrashSide.{CrashSide}
-use Rattle.trace_text.specs.declared.call.CrashSide.TheVariants.{Before, After}
+use Rattle.trace_text.specs.declared.call.CrashSide.TheVariants.{Same, Before, After}
 
 -- a root's block as it is listed, where it has one
 abbrev pub listed : ℕ → Option Range → List Block
@@ -58,3 +58,19 @@ side_of true true = After
 side_of true false = Before
 side_of false true = Before
 side_of false false = After
+
+-- the side of a call with this reply, by whether its root has the block: a call of a trace that gives none and
+-- takes none changes no heap
+abbrev pub side_by : Reply → Bool → CrashSide
+side_by (Placed at size) has = side_of has true
+side_by (Freed at size) has = side_of has false
+side_by Wrote has = Same
+side_by (Value word) has = Same
+side_by (Moved at size) has = Same
+side_by NoRoot has = Same
+side_by (Occupied at) has = Same
+side_by Empty has = Same
+side_by ZeroSize has = Same
+side_by TooLarge has = Same
+side_by OutOfRange has = Same
+side_by NoSpace has = Same

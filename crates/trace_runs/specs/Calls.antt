@@ -1,6 +1,7 @@
 -- The calls of a trace that are one arena's, and what an arena made of them.
 use Rattle.std.specs.Prelude.{◌≡◌, ◌==◌, ℕ, ◌<◌, List, [], ◌∷◌, if◌then◌else◌}
 use Rattle.heap_model.specs.declared.call.Entry.{Entry}
+use Rattle.heap_model.specs.Journal.{IsOfBlock}
 use Rattle.arena_core.specs.Arena.{ArenaState}
 use Rattle.arena_journal.specs.Journals.{opened, IsBehind}
 use Rattle.trace_text.specs.declared.call.TraceCall.{TraceCall}
@@ -14,6 +15,10 @@ calls_of arena (call ∷ calls) = if call.arena == arena then call ∷ calls_of 
 -- a call that an arena may be asked: by one of 64 threads, with numbers that fit
 abbrev pub CanBeMade : TraceCall → Type 0
 CanBeMade call = (call.thread < 64) × IsAsked call.call
+
+-- a call that reads and writes no word
+abbrev pub IsOfBlocks : TraceCall → Type 0
+IsOfBlocks call = IsOfBlock call.call
 
 -- the entries answer the calls, in order, each once, and nothing else
 abbrev pub AreAnswers : List TraceCall → List Entry → Type 0

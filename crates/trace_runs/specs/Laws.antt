@@ -5,15 +5,17 @@ use Rattle.heap_model.specs.declared.call.Entry.{Entry}
 use Rattle.heap_model.specs.Machine.{Machine}
 use Rattle.trace_text.specs.declared.call.TraceCall.{TraceCall}
 use Rattle.pool_layout.specs.declared.header.PoolHeader.{PoolHeader}
-use Rattle.trace_runs.specs.Calls.{CanBeMade, AreAnswers}
+use Rattle.trace_runs.specs.Calls.{CanBeMade, IsOfBlocks, AreAnswers}
 use Rattle.trace_runs.specs.Journals.{IsJournal}
 use Rattle.trace_runs.specs.Runs.{Stage, IsRunOf}
 
--- calls have one journal that answers them in order, and it leads to one state
+-- Calls that read and write no word have one journal that answers them in order, and it leads to one state. Of other calls
+-- this can't be said: a Read of a word that was never written may answer any word.
 abbrev pub LawOfOneJournal : Type 0
-LawOfOneJournal = (granules : ℕ) (calls : List TraceCall) (journal other : List Entry) (machine another : Machine) → All CanBeMade calls → AreAnswers calls journal → AreAnswers calls other →
+LawOfOneJournal = (granules : ℕ) (calls : List TraceCall) (journal other : List Entry) (machine another : Machine) → All IsOfBlocks calls → AreAnswers calls journal → AreAnswers calls other →
     IsJournal granules journal machine → IsJournal granules other another → (journal ≡ other) × (machine ≡ another)
 
--- calls have one run, and so one number of events
+-- Calls have one run, and so one number of events, whatever they read and write: a Read has no event and changes nothing,
+-- whichever word it answers.
 abbrev pub LawOfOneRun : Type 0
 LawOfOneRun = (header : PoolHeader) (calls : List TraceCall) (stages others : List Stage) → All CanBeMade calls → IsRunOf header calls stages → IsRunOf header calls others → stages ≡ others

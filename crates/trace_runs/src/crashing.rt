@@ -1,5 +1,5 @@
 // What a crash leaves after a chosen event of the calls of a trace.
-ghost use Rattle.std.specs.Prelude.{◌≡◌, ◌≢◌, ◌↔◌, ◌<◌, ◌≤◌, ◌^◌, IsTrue, IfOk, IfErr, length, take};
+ghost use Rattle.std.specs.Prelude.{◌≡◌, ◌≢◌, ◌↔◌, ◌<◌, ◌≤◌, ◌^◌, if◌then◌else◌, IsTrue, IfOk, IfErr, length, take};
 ghost use Rattle.std.specs.List.{All};
 ghost use Rattle.pmem_lines.specs.Words.{word_at};
 ghost use Rattle.pmem_lines.specs.Events.{IsImage};
@@ -7,13 +7,14 @@ ghost use Rattle.pmem_lines.specs.Pmem.{words_of};
 ghost use Rattle.pool_layout.specs.Places.{root_word};
 ghost use Rattle.heap_model.specs.Step.{root_of};
 ghost use Rattle.heap_check.specs.Image.{IsSoundImage};
+ghost use Rattle.arena_journal.specs.Journals.{begins_call};
 ghost use Rattle.trace_text.specs.declared.call.CrashSide.{CrashSide};
 ghost use Rattle.trace_text.specs.declared.call.PoolSize.{PoolSize};
 ghost use Rattle.trace_text.specs.Grammar.{pool_of, IsPool, IsTraceCall};
 ghost use Rattle.pool_layout.specs.declared.header.PoolHeader.{PoolHeader};
 ghost use Rattle.trace_runs.specs.declared.crashing.CrashFault.TheVariants as faults;
 ghost use Rattle.trace_runs.specs.Arenas.{header_for, IsNewArena};
-ghost use Rattle.trace_runs.specs.Blocks.{ChangesHeap, gives_block, side_of};
+ghost use Rattle.trace_runs.specs.Blocks.{side_of, side_by};
 ghost use Rattle.trace_runs.specs.Calls.{calls_of, CanBeMade};
 ghost use Rattle.trace_runs.specs.Crash.{crash_image, left_of, IsLeftWithin, IsCrashOf, IfNoEvent};
 ghost use Rattle.trace_runs.specs.Seek.{last_stage, IsBehindEntry, IsSought, IsReportable};
@@ -122,13 +123,6 @@ enum Sought {
     },
 }
 
-// A call gave its root a block, or took it.
-#[derive(Clone, Copy)]
-struct Change {
-    root: u32,
-    given: bool,
-}
-
 // Makes the calls of the arena of this number in order, up to and with the one that is under way at an event, counted over
 // all of them.
 fn seek(made: &mut Arena<SimPmem>, arena: u32, calls: &[TraceCall], event: u64) -> Sought
@@ -145,7 +139,7 @@ fn seek(made: &mut Arena<SimPmem>, arena: u32, calls: &[TraceCall], event: u64) 
         }
         let entry = answer(made, call.thread, call.call);
         number += 1;
-        let count = u64::from(made.pmem().event_count());
+        let count = u64::from(events_of(made, &call.call));
         if count > 0 && left <= count {
             return Sought::UnderWay {
                 number,
@@ -157,6 +151,21 @@ fn seek(made: &mut Arena<SimPmem>, arena: u32, calls: &[TraceCall], event: u64) 
         events += count;
     }
     Sought::Past { events }
+}
+
+// How many events the call has that an arena answered last: those of the device where the call begins one there.
+fn events_of(made: &Arena<SimPmem>, call: &Call) -> u32
+    ensures { result ≡ (if begins_call call.now then length made.now.device.events else 0) }
+{
+    let count = made.pmem().event_count();
+    if begins_call(call) { count } else { 0 }
+}
+
+// Whether a call begins one on the device: all but a Read do.
+fn begins_call(call: &Call) -> bool
+    ensures { result ≡ begins_call call.now }
+{
+    !matches!(call, Call::Read { .. })
 }
 
 // What a crash leaves after the first events of the call that an arena answered last, as a generator from the seed picks;
@@ -175,11 +184,10 @@ fn left_within(
     ensures { IfOk result (λ crashed. IsLeftWithin (last_stage made.now.device) number done seed (left_of crashed)) }
 {
     let image = image_of(alloc, made.pmem(), done, seed)?;
-    let change = change_of(entry);
-    let has = has_block(&image, change.root);
+    let has = has_block(&image, root_of(&entry.call));
     Ok(Crashed {
         call: number,
-        side: side_of(has, change.given),
+        side: side_by(&entry.reply, has),
         image,
     })
 }
@@ -218,15 +226,15 @@ fn side_of(has: bool, given: bool) -> CrashSide
     }
 }
 
-// Which root a call gave a block or took it from.
-fn change_of(entry: &Entry) -> Change
-    requires { ChangesHeap entry.now.reply }
-    ensures root { result.root ≡ root_of entry.now.call }
-    ensures given { result.given ≡ gives_block entry.now.reply }
+// The side of a call with this reply, by whether its root has a block. A call that gives none and takes none, as a Write,
+// changes no heap.
+fn side_by(reply: &Reply, has: bool) -> CrashSide
+    ensures { result ≡ side_by reply.now has }
 {
-    Change {
-        root: root_of(&entry.call),
-        given: matches!(entry.reply, Reply::Placed { .. }),
+    match *reply {
+        Reply::Placed { .. } => side_of(has, true),
+        Reply::Freed { .. } => side_of(has, false),
+        _ => CrashSide::Same,
     }
 }
 

@@ -1,5 +1,5 @@
 -- The words of a pool's line and of a call line, one by one.
-use Rattle.std.proofs.Common.{◌≡◌, ℕ, ◌<◌, ◌≤◌, ◌^◌, List, ◌∷◌, ◌++◌, ◌∙◌, sym, arith}
+use Rattle.std.proofs.Common.{◌≡◌, ℕ, ◌<◌, ◌≤◌, ◌^◌, List, ◌∷◌, ◌++◌, ◌∙◌, refl, sym, arith}
 use Rattle.std.specs.Prelude.{decimal, codes}
 use Rattle.std.proofs.lemmas.List.{append_assoc}
 use Rattle.trace_text.specs.declared.call.PoolSize.{PoolSize}
@@ -34,3 +34,15 @@ pub behind_pool : (line rest words : List ℕ) (arenas : ℕ) (pool : PoolSize) 
 behind_pool line rest words arenas pool front few is says =
     let same : rest ≡ decimal pool.arenas ++ 32 ∷ decimal pool.granules = (let e = sym front ∙ says.text in cc) in
     same_field rest arenas pool.arenas words (decimal pool.granules) (omega (arith, few)) (omega (arith, says.valid.few)) is same
+
+-- three numbers, and the space between them
+pub behind_first : (line : List ℕ) (a b c : ℕ) → line ≡ decimal a ++ 32 ∷ decimal b ++ 32 ∷ decimal c → line ≡ decimal a ++ 32 ∷ (decimal b ++ 32 ∷ decimal c)
+behind_first line a b c is = is ∙ append_assoc (decimal a) (32 ∷ decimal b) (32 ∷ decimal c)
+
+-- they are said in one way
+pub same_three : (line : List ℕ) (a b c x y z : ℕ) → (a < 2 ^ 32) × (b < 2 ^ 32) × (c < 2 ^ 64) → (x < 2 ^ 32) × (y < 2 ^ 32) × (z < 2 ^ 64) →
+    line ≡ decimal a ++ 32 ∷ decimal b ++ 32 ∷ decimal c → line ≡ decimal x ++ 32 ∷ decimal y ++ 32 ∷ decimal z → (a ≡ x) × (b ≡ y) × (decimal c ≡ decimal z)
+same_three line a b c x y z fits others is other =
+    let h = same_field line a x (decimal b ++ 32 ∷ decimal c) (decimal y ++ 32 ∷ decimal z) (omega (arith, fits.0)) (omega (arith, others.0)) (behind_first line a b c is) (behind_first line x y z other) in
+    let rest = same_field (decimal b ++ 32 ∷ decimal c) b y (decimal c) (decimal z) (omega (arith, fits.1)) (omega (arith, others.1)) refl h.1 in
+    (h.0, rest.0, rest.1)

@@ -11,7 +11,7 @@ use Rattle.trace_text.specs.declared.call.TraceCall.{TraceCall}
 use Rattle.trace_text.specs.Words.{call_text}
 use Rattle.trace_text.specs.Grammar.{lines_of, IsPassedOver, IsAsked, IsPoolLine, IsCallLine, AreCalls, AreTrace, IsNoCallAt, IsNoTraceAt}
 use Rattle.trace_text.specs.Laws.{LawOfOneTrace, LawOfNoRefusal, LawOfOneRefusal}
-use Rattle.trace_text.proofs.CallLines.{same_field, call_words, behind_arena}
+use Rattle.trace_text.proofs.CallLines.{same_field, same_three, call_words, behind_arena}
 
 -- a line that is passed over says no pool
 no_pool_passed : (line : List ℕ) (pool : PoolSize) → IsPassedOver line → ¬ (IsPoolLine line pool)
@@ -57,14 +57,33 @@ one_asked (Free r) (Free t) p q e =
     let words : decimal r ≡ decimal t = cc in
     let root : r ≡ t = decimal_injective r t (omega (arith, p)) (omega (arith, q)) words in
     cc
-one_asked (Malloc r s) (Write t i v) p q e = absurd q
-one_asked (Malloc r s) (Read t i) p q e = absurd q
+one_asked (Malloc r s) (Write t i v) p q e = absurd (omega (arith, same_letter 109 119 _ _ e))
+one_asked (Malloc r s) (Read t i) p q e = absurd (omega (arith, same_letter 109 114 _ _ e))
 one_asked (Malloc r s) (Move t i) p q e = absurd q
-one_asked (Free r) (Write t i v) p q e = absurd q
-one_asked (Free r) (Read t i) p q e = absurd q
+one_asked (Free r) (Write t i v) p q e = absurd (omega (arith, same_letter 102 119 _ _ e))
+one_asked (Free r) (Read t i) p q e = absurd (omega (arith, same_letter 102 114 _ _ e))
 one_asked (Free r) (Move t i) p q e = absurd q
-one_asked (Write r i v) b p q e = absurd p
-one_asked (Read r i) b p q e = absurd p
+one_asked (Write r i v) (Malloc t u) p q e = absurd (omega (arith, same_letter 119 109 _ _ e))
+one_asked (Write r i v) (Free t) p q e = absurd (omega (arith, same_letter 119 102 _ _ e))
+one_asked (Write r i v) (Write t j w) p q e =
+    let words : decimal r ++ 32 ∷ decimal i ++ 32 ∷ decimal v ≡ decimal t ++ 32 ∷ decimal j ++ 32 ∷ decimal w = cc in
+    let h = same_three (decimal t ++ 32 ∷ decimal j ++ 32 ∷ decimal w) r i v t j w p q (sym words) refl in
+    let root : r ≡ t = h.0 in
+    let index : i ≡ j = h.1 in
+    let value : v ≡ w = decimal_injective v w (omega (arith, p.2)) (omega (arith, q.2)) h.2 in
+    cc
+one_asked (Write r i v) (Read t j) p q e = absurd (omega (arith, same_letter 119 114 _ _ e))
+one_asked (Write r i v) (Move t j) p q e = absurd q
+one_asked (Read r i) (Malloc t u) p q e = absurd (omega (arith, same_letter 114 109 _ _ e))
+one_asked (Read r i) (Free t) p q e = absurd (omega (arith, same_letter 114 102 _ _ e))
+one_asked (Read r i) (Write t j v) p q e = absurd (omega (arith, same_letter 114 119 _ _ e))
+one_asked (Read r i) (Read t j) p q e =
+    let words : decimal r ++ 32 ∷ decimal i ≡ decimal t ++ 32 ∷ decimal j = cc in
+    let h = same_field (decimal t ++ 32 ∷ decimal j) r t (decimal i) (decimal j) (omega (arith, p.0)) (omega (arith, q.0)) (sym words) refl in
+    let root : r ≡ t = h.0 in
+    let index : i ≡ j = decimal_injective i j (omega (arith, p.1)) (omega (arith, q.1)) h.1 in
+    cc
+one_asked (Read r i) (Move t j) p q e = absurd q
 one_asked (Move r i) b p q e = absurd p
 
 -- calls that agree in all parts are one

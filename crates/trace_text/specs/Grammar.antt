@@ -46,8 +46,8 @@ pub record IsPoolLine (line : List ℕ) (pool : PoolSize) : Type 0 where
 abbrev pub IsAsked : Call → Type 0
 IsAsked (Malloc root size) = (root < 2 ^ 32) × (size < 2 ^ 64)
 IsAsked (Free root) = root < 2 ^ 32
-IsAsked (Write root index value) = ⊥
-IsAsked (Read root index) = ⊥
+IsAsked (Write root index value) = (root < 2 ^ 32) × (index < 2 ^ 32) × (value < 2 ^ 64)
+IsAsked (Read root index) = (root < 2 ^ 32) × (index < 2 ^ 32)
 IsAsked (Move from to) = ⊥
 
 -- a call that a trace of so many arenas may have

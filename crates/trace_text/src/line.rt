@@ -16,6 +16,9 @@ const LAST_THREAD: u64 = 63;
 /// The greatest root number.
 const LAST_ROOT: u64 = 0xFFFF_FFFF;
 
+/// The greatest number of a word in a block.
+const LAST_INDEX: u64 = 0xFFFF_FFFF;
+
 /// The most arenas of a pool.
 const MOST_ARENAS: u64 = 16;
 
@@ -46,13 +49,22 @@ pub(crate) fn read_pool_line(line: &[u8]) -> Option<PoolSize>
     })
 }
 
-/// A root and a size with a space between; none where the words are something else.
-fn read_root_and_size(words: &[u8]) -> Option<(u32, u64)>
-    ensures { MatchOption result ((root size : ℕ) → root < 2 ^ 32 → size < 2 ^ 64 → words.now ≢ decimal root ++ 32 ∷ decimal size) (λ found. words.now ≡ decimal found.0 ++ 32 ∷ decimal found.1) }
+/// Two numbers with a space between, of 32 bits and of at most `most`; none where the words are something else.
+fn read_two(words: &[u8], most: u64) -> Option<(u32, u64)>
+    ensures { MatchOption result ((first second : ℕ) → first < 2 ^ 32 → second ≤ most → words.now ≢ decimal first ++ 32 ∷ decimal second) (λ found. (found.1 ≤ most) × (words.now ≡ decimal found.0 ++ 32 ∷ decimal found.1)) }
+{
+    let (first, rest) = read_field(words, LAST_ROOT)?;
+    let second = whole_number(rest, most)?;
+    Some((first as u32, second))
+}
+
+/// A root, an index and a word, with a space between; none where the words are something else.
+fn read_written(words: &[u8]) -> Option<(u32, u32, u64)>
+    ensures { MatchOption result ((root index value : ℕ) → root < 2 ^ 32 → index < 2 ^ 32 → value < 2 ^ 64 → words.now ≢ decimal root ++ 32 ∷ decimal index ++ 32 ∷ decimal value) (λ found. words.now ≡ decimal found.0 ++ 32 ∷ decimal found.1 ++ 32 ∷ decimal found.2) }
 {
     let (root, rest) = read_field(words, LAST_ROOT)?;
-    let size = whole_number(rest, u64::MAX)?;
-    Some((root as u32, size))
+    let (index, value) = read_two(rest, u64::MAX)?;
+    Some((root as u32, index, value))
 }
 
 /// A root; none where the words are something else.
@@ -67,16 +79,23 @@ fn read_root(words: &[u8]) -> Option<u32>
 fn read_asked(words: &[u8]) -> Option<Call>
     ensures { MatchOption result ((call : Call) → IsAsked call → words.now ≢ call_text call) (λ call. IsAsked call × (words.now ≡ call_text call)) }
 {
-    match after(words, b"m ") {
-        Some(rest) => {
-            let (root, size) = read_root_and_size(rest)?;
-            Some(Call::Malloc { root, size })
-        }
-        None => {
-            let root = read_root(after(words, b"f ")?)?;
-            Some(Call::Free { root })
-        }
+    if let Some(rest) = after(words, b"m ") {
+        let (root, size) = read_two(rest, u64::MAX)?;
+        return Some(Call::Malloc { root, size });
     }
+    if let Some(rest) = after(words, b"f ") {
+        let root = read_root(rest)?;
+        return Some(Call::Free { root });
+    }
+    if let Some(rest) = after(words, b"w ") {
+        let (root, index, value) = read_written(rest)?;
+        return Some(Call::Write { root, index, value });
+    }
+    let (root, index) = read_two(after(words, b"r ")?, LAST_INDEX)?;
+    Some(Call::Read {
+        root,
+        index: index as u32,
+    })
 }
 
 /// The call that a line makes in a pool of so many arenas, at least one; none where it makes no call.

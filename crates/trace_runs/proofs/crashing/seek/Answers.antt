@@ -1,9 +1,10 @@
-use Rattle.std.proofs.Common.{◌≡◌, ◌+◌, ◌-◌, ◌<◌, length, ap, subst, arith}
-use Rattle.pmem_lines.specs.Pmem.{PmemState}
+use Rattle.std.proofs.Common.{◌≡◌, ◌+◌, ◌-◌, ◌<◌, ◌∙◌, length, get_or, sym, subst, arith}
 use Rattle.heap_model.specs.declared.call.Call.TheVariants.{Malloc}
 use Rattle.arena_core.specs.Arena.{ArenaState}
 use Rattle.trace_text.specs.declared.call.TraceCall.{TraceCall}
-use Rattle.trace_runs.proofs.Seeking.{Seeking, Seeking-none, Seeking-other, Seeking-here, IsBehindSought-here, IsBehindEntry-answered, IsBehindAll-none}
+use Rattle.trace_runs.proofs.Seeking.{Seeking, Seeking-none, Seeking-other, Seeking-here, IsBehindSought-here, IsBehindEntry-answered, within_done, IsBehindAll-none}
+use Rattle.trace_runs.specs.Runs.{Stage}
+use Rattle.trace_runs.proofs.Runs.{stage_of, events_done}
 use Rattle.trace_runs.proofs.crashing.seek.Goals as goal
 use Rattle.trace_runs.proofs.crashing.seek.Goals.{else-count-gt0-via-then-count-gt0+else-left-count, else-count-gt0-via-else-count-gt0}
 
@@ -25,8 +26,9 @@ loop-call-preserved c =
     let d : TraceCall = record { thread = 0; arena = 0; call = Malloc 0 0 } in
     let old : ArenaState = c.loop-call.made in
     let new : ArenaState = c.answer-entry.new.arena in
-    let count : length new.device.events ≡ c.from-count.result = omega (arith, c.from-count.ensures, c.event_count.ensures, ap (λ (s : PmemState). length s.events) c.pmem.ensures.device) in
-    let few : 0 < length new.device.events → length new.device.events < c.loop-call.left = λ some. elim c.else-count-gt0.branch [
+    let stage : Stage = stage_of c.loop-call.made (get_or c.args.calls.now c.loop-call.call-index d).call c.answer-entry.result.reply in
+    let count : length stage.events ≡ c.from-count.result = events_done c.loop-call.made new _ _ c.answer-entry.ensures.answered.done ∙ sym (c.from-count.ensures ∙ c.events_of.ensures) in
+    let few : 0 < length stage.events → length stage.events < c.loop-call.left = λ some. elim c.else-count-gt0.branch [
       | else-count-gt0-via-then-count-gt0+else-left-count w ↦ omega (arith, count, w.if-left-count.false)
       | else-count-gt0-via-else-count-gt0 w ↦ omega (arith, count, some, w.if-count-gt0.false)
     ] in
@@ -34,7 +36,7 @@ loop-call-preserved c =
       seeking = λ header fresh.
           subst (λ n. Seeking header c.args.arena c.args.calls.now c.args.event new (c.loop-call.call-index + 1) (c.loop-call.number + 1) (c.loop-call.left - n) (c.loop-call.events + n)) count
           (Seeking-here header c.args.arena c.args.calls.now c.args.event old new c.loop-call.call-index c.loop-call.number c.loop-call.left c.loop-call.events d c.answer-entry.result.reply
-          (c.loop-call.invariant.seeking header fresh) c.loop-call-test.true c.if-call-arena.false (c.requires.each c.loop-call.call-index d c.loop-call-test.true).1 c.answer-entry.ensures.answered few);
+          (c.loop-call.invariant.seeking header fresh) c.loop-call-test.true c.if-call-arena.false c.answer-entry.ensures.answered few);
       sum = omega (arith, count, few, c.loop-call.invariant.sum);
       few = let few = c.loop-call.invariant.few in omega (arith, few);
     }
@@ -43,9 +45,10 @@ pub returns-then-left-count-clause-sought : goal.returns-then-left-count-clause-
 returns-then-left-count-clause-sought c header fresh =
     let d : TraceCall = record { thread = 0; arena = 0; call = Malloc 0 0 } in
     let new : ArenaState = c.answer-entry.new.arena in
-    let count : length new.device.events ≡ c.from-count.result = omega (arith, c.from-count.ensures, c.event_count.ensures, ap (λ (s : PmemState). length s.events) c.pmem.ensures.device) in
+    let stage : Stage = stage_of c.loop-call.made (get_or c.args.calls.now c.loop-call.call-index d).call c.answer-entry.result.reply in
+    let count : length stage.events ≡ c.from-count.result = events_done c.loop-call.made new _ _ c.answer-entry.ensures.answered.done ∙ sym (c.from-count.ensures ∙ c.events_of.ensures) in
     IsBehindSought-here header c.args.arena c.args.calls.now c.args.event c.loop-call.made new c.loop-call.call-index c.loop-call.number c.loop-call.left c.loop-call.events d c.answer-entry.result.reply
-    (c.loop-call.invariant.seeking header fresh) c.loop-call-test.true c.if-call-arena.false (c.requires.each c.loop-call.call-index d c.loop-call-test.true).1 c.answer-entry.ensures.answered
+    (c.loop-call.invariant.seeking header fresh) c.loop-call-test.true c.if-call-arena.false c.answer-entry.ensures.answered
     (omega (arith, count, c.if-count-gt0.true)) (omega (arith, count, c.if-left-count.true)) c.loop-call.invariant.sum
 
 pub returns-then-left-count-clause-next : goal.returns-then-left-count-clause-next
@@ -53,9 +56,10 @@ returns-then-left-count-clause-next c =
     let d : TraceCall = record { thread = 0; arena = 0; call = Malloc 0 0 } in
     let new : ArenaState = c.answer-entry.new.arena in
     let valid = c.requires.each c.loop-call.call-index d c.loop-call-test.true in
-    let count : length new.device.events ≡ c.from-count.result = omega (arith, c.from-count.ensures, c.event_count.ensures, ap (λ (s : PmemState). length s.events) c.pmem.ensures.device) in (
+    let stage : Stage = stage_of c.loop-call.made (get_or c.args.calls.now c.loop-call.call-index d).call c.answer-entry.result.reply in
+    let count : length stage.events ≡ c.from-count.result = events_done c.loop-call.made new _ _ c.answer-entry.ensures.answered.done ∙ sym (c.from-count.ensures ∙ c.events_of.ensures) in (
       IsBehindEntry-answered c.loop-call.made new _ _ c.answer-entry.result valid.1 c.answer-entry.ensures.seat c.answer-entry.ensures.call c.answer-entry.ensures.answered (omega (arith, count, c.if-count-gt0.true)),
-      omega (arith, count, c.if-left-count.true),
+      within_done c.loop-call.made new _ c.answer-entry.result.reply _ c.answer-entry.ensures.answered.done (omega (arith, count, c.if-count-gt0.true)) (omega (arith, count, c.if-left-count.true)),
     )
 
 pub returns-clause-sought : goal.returns-clause-sought

@@ -1,10 +1,10 @@
-use Rattle.std.proofs.Common.{List, get_or, subst}
+use Rattle.std.proofs.Common.{List, subst}
 use Rattle.std.proofs.lemmas.List.{take_all}
 use Rattle.heap_model.specs.declared.call.Call.TheVariants.{Malloc}
 use Rattle.trace_text.specs.declared.call.TraceCall.{TraceCall}
 use Rattle.trace_runs.specs.Calls.{calls_of, HasMadeAll}
 use Rattle.trace_runs.specs.Runs.{GoesOn}
-use Rattle.trace_runs.proofs.Answers.{begins_asked, HasMadeAll-none, HasMadeAll-here, HasMadeAll-other}
+use Rattle.trace_runs.proofs.Answers.{HasMadeAll-none, HasMadeAll-here, HasMadeAll-other}
 use Rattle.trace_runs.proofs.Gone.{GoesOn-none, GoesOn-here, GoesOn-other}
 use Rattle.trace_runs.proofs.imaging.make_calls.Goals as goal
 
@@ -25,8 +25,7 @@ loop-call-preserved g c =
     record {
       made = HasMadeAll-here c.args.arena c.args.calls.now c.loop-call.call-index d c.args.made.now c.loop-call.made c.answer.new.arena c.answer.result c.requires.each c.loop-call-test.true
           c.if-call-arena.false c.loop-call.invariant.made c.answer.ensures.seat c.answer.ensures.call c.answer.ensures.answered;
-      gone = GoesOn-here c.args.arena c.args.calls.now c.loop-call.call-index d c.args.made.now c.loop-call.made c.answer.new.arena c.answer.result.reply c.loop-call-test.true c.if-call-arena.false c.loop-call.invariant.gone
-          (begins_asked (get_or c.args.calls.now c.loop-call.call-index d).call (c.requires.each c.loop-call.call-index d c.loop-call-test.true).1) c.answer.ensures.answered;
+      gone = GoesOn-here c.args.arena c.args.calls.now c.loop-call.call-index d c.args.made.now c.loop-call.made c.answer.new.arena c.answer.result.reply c.loop-call-test.true c.if-call-arena.false c.loop-call.invariant.gone c.answer.ensures.answered;
     }
 
 pub returns-clause-made : goal.returns-clause-made
