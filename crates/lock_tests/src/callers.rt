@@ -27,6 +27,14 @@ impl Model for Caller {
     ghost view = { λ c. record { pass = c.pass; left = c.left } };
 }
 
+/// A word for the block of a root, at an index.
+#[derive(Clone, Copy)]
+pub struct Word {
+    pub root: u32,
+    pub index: u32,
+    pub value: u64,
+}
+
 /// An arena of 16 granules over new memory, as number `number` of so many.
 pub fn empty_arena(alloc: Global, number: u32, arenas: u32) -> Result<Arena<SimPmem>, OutOfMemory>
     requires { (number < arenas) × (arenas ≤ 16) }
@@ -200,6 +208,50 @@ impl Caller {
         }
         self.left -= 1;
         pool.free_from(rt, alloc, &mut self.pass, arena, root)
+    }
+
+    /// `write` by this pass.
+    pub fn write<R: Wait, P: Pmem>(
+        &mut self,
+        rt: &R,
+        alloc: Global,
+        pool: &SharedPool<P>,
+        arena: u32,
+        word: Word,
+    ) -> Result<Receipt, OutOfMemory>
+        requires can { CanCall pool.now self.old }
+        requires arena { arena < length pool.now.locks }
+        ensures can { CanCall pool.now self.new }
+        ensures number { self.new.pass.number ≡ self.old.pass.number }
+    {
+        if self.left == 0 {
+            return Err(OutOfMemory);
+        }
+        self.left -= 1;
+        let Word { root, index, value } = word;
+        pool.write(rt, alloc, &mut self.pass, arena, root, index, value)
+    }
+
+    /// `read` by this pass.
+    pub fn read<R: Wait, P: Pmem>(
+        &mut self,
+        rt: &R,
+        alloc: Global,
+        pool: &SharedPool<P>,
+        arena: u32,
+        root: u32,
+        index: u32,
+    ) -> Result<Receipt, OutOfMemory>
+        requires can { CanCall pool.now self.old }
+        requires arena { arena < length pool.now.locks }
+        ensures can { CanCall pool.now self.new }
+        ensures number { self.new.pass.number ≡ self.old.pass.number }
+    {
+        if self.left == 0 {
+            return Err(OutOfMemory);
+        }
+        self.left -= 1;
+        pool.read(rt, alloc, &mut self.pass, arena, root, index)
     }
 
     /// `try_free_from` by this pass.

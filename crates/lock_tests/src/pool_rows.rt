@@ -1,7 +1,7 @@
 // Journals, receipts and lengths of a pool, on one thread and on two.
 ghost use Rattle.std.specs.Prelude.{◌<◌};
 
-use crate::callers::{arena_lock_of_two, close, empty_arena, pool_of, start_and_close};
+use crate::callers::{Word, arena_lock_of_two, close, empty_arena, pool_of, start_and_close};
 use crate::jobs::LookBeside;
 use crate::pool_threads::{malloc_on_two_threads, try_beside_a_store};
 use crate::watched::{Flags, Watched};
@@ -131,6 +131,37 @@ fn tries_on_one_thread(rt: HostRuntime) -> Result<(), OutOfMemory> {
             [placed.entry, freed.entry].as_slice()
         );
         assert_eq!(&rt; arena.arena.block(5), None);
+    }
+    Ok(())
+}
+
+// One pass writes a word and another reads it: the journal has both, and the read leaves the memory behind the write.
+#[test]
+fn a_word_for_two_passes(rt: HostRuntime) -> Result<(), OutOfMemory> {
+    let alloc = rt.alloc();
+    let arenas = vec![in alloc; empty_arena(alloc, 0, 1)?]?;
+    let (pool, mut zero, mut one) = pool_of(alloc, arenas)?;
+    zero.malloc(&rt, alloc, &pool, 0, 5, 100)?;
+    let word = Word {
+        root: 5,
+        index: 13,
+        value: 77,
+    };
+    let none = one.write(&rt, alloc, &pool, 0, Word { root: 6, ..word })?;
+    let wrote = zero.write(&rt, alloc, &pool, 0, word)?;
+    let read = one.read(&rt, alloc, &pool, 0, 5, 13)?;
+    let past = one.read(&rt, alloc, &pool, 0, 5, 14)?;
+    assert_eq!(&rt; (none.place, none.entry.reply), (1, Reply::Empty));
+    assert_eq!(&rt; (wrote.place, wrote.entry.reply), (2, Reply::Wrote));
+    assert_eq!(&rt;
+        (read.place, read.entry.reply),
+        (3, Reply::Value { word: 77 })
+    );
+    assert_eq!(&rt; (past.place, past.entry.reply), (4, Reply::OutOfRange));
+    let closed = close(alloc, pool, zero, one)?;
+    for arena in &closed {
+        assert_eq!(&rt; arena.journal.len(), 5);
+        assert_eq!(&rt; arena.arena.pmem().event_count(), 3);
     }
     Ok(())
 }
