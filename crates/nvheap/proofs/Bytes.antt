@@ -1,6 +1,6 @@
 -- Bytes that a source gives and a sink takes, piece by piece.
-use Rattle.std.proofs.Common.{◌≡◌, ℕ, zero, suc, ◌+◌, ◌-◌, List, [], ◌∷◌, ◌++◌, length, take, drop, flat_map, Option, Some, None, sym, ap, ◌∙◌, refl, arith, subst, append_assoc, ◌*◌, ◌/◌}
-use Rattle.std.proofs.lemmas.List.{append-nil, take_all, take_rest, drop_all}
+use Rattle.std.proofs.Common.{◌≡◌, ℕ, zero, suc, ◌+◌, ◌-◌, List, [], ◌∷◌, ◌++◌, length, take, drop, flat_map, Option, Some, None, sym, ap, ◌∙◌, refl, arith, subst, append_assoc}
+use Rattle.std.proofs.lemmas.List.{append-nil, take_all, take_rest}
 use Rattle.std.specs.Int.{to_le_bytes, w64}
 use Rattle.std.proofs.lemmas.Grind.{common_steps, flat_map-append}
 use Rattle.pmem_lines.specs.Words.{words_at}

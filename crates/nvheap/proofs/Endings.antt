@@ -1,6 +1,7 @@
 -- How a command ends, from what was read and what was written.
-use Rattle.std.proofs.Common.{ℕ, List, inl, inr}
+use Rattle.std.proofs.Common.{◌≡◌, ℕ, List, inl, inr}
 use Rattle.nvheap.specs.declared.command.Command.{Command}
+use Rattle.nvheap.specs.declared.command.Command.TheVariants.{Replay}
 use Rattle.nvheap.specs.declared.answers.Answer.{Answer}
 use Rattle.nvheap.specs.declared.answers.Answer.TheVariants.{Output, FaultLine}
 use Rattle.nvheap.specs.declared.status.Status.{Status}
@@ -26,3 +27,8 @@ ends_written command old new input (FaultLine text) ReadFault read is counts wri
 ends_written command old new input (FaultLine text) WriteFault read is counts written = record { input = input; read = read; text = text.items; whole = inr is; takes = written }
 ends_written command old new input (FaultLine text) Memory read is counts written = absurd written
 ends_written command old new input (FaultLine text) TooLong read is counts written = absurd written
+
+-- `replay` makes no device of an image
+pub counts_kept : (input : List ℕ) (old new : ℕ) (answer : Answer) → new ≡ old → CountsImages Replay input old new answer
+counts_kept input old new (Output text) same = same
+counts_kept input old new (FaultLine text) same = tt

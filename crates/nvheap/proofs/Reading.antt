@@ -1,7 +1,11 @@
 -- An input, as the bytes of a source come into it.
-use Rattle.std.proofs.Common.{◌≡◌, ℕ, ◌+◌, ◌%◌, ◌<◌, ◌≤◌, List, [], ◌++◌, length, Option, refl, ap, ◌∙◌, arith, length-append}
+use Rattle.std.proofs.Common.{◌≡◌, ℕ, ◌+◌, ◌%◌, ◌≤◌, List, [], ◌++◌, length, take, drop, Option, refl, sym, ap, ◌∙◌, arith, length-append, inl, inr}
+use Rattle.std.proofs.lemmas.List.{take-take, take-append-le, length-take-le, length-drop}
+use Rattle.std.proofs.lemmas.Slice.{take-put_mid}
+use Rattle.std.proofs.Math.Seq.{take-append-add}
+use borrow.Rule.Slice.PartMut.{put_mid}
 use Rattle.nvheap.specs.declared.input.Input.{Input}
-use Rattle.nvheap.specs.Outside.{Gives, IsAtEnd, GivesAll, GivesFew, GivesMore}
+use Rattle.nvheap.specs.Outside.{Rose, Gives, IsAtEnd, GivesFew, GivesMore}
 use Rattle.nvheap.specs.Inputs.{HasBytes, HasCome, HasAllCome, GivesLess}
 use Rattle.nvheap.proofs.Bytes.{Gives-none, Gives-then}
 
@@ -35,3 +39,34 @@ come_few a b c input size most limit come less few = record {
   few = omega (arith, length-append come.bytes less.bytes, come.count, less.less, few);
   gives = Gives-then a b c come.bytes less.bytes come.gives less.gives;
 }
+
+-- a count that rose behind a later moment rose behind an earlier one
+pub Rose-before : (first later now : ℕ) → first ≤ later → Rose later now → Rose first now
+Rose-before first later now before (inl more) = inl (omega (arith, before, more))
+Rose-before first later now before (inr most) = inr most
+
+-- a buffer is as long as it was
+pub length-put_mid : (done rest : ℕ) (piece into : List ℕ) → done + rest ≤ length piece → length into ≡ rest → length (put_mid done rest piece into) ≡ length piece
+length-put_mid done rest piece into inside size =
+    let front = length-take-le done piece (omega (arith, inside)) in
+    let back = length-drop done piece in
+    let behind = length-drop rest (drop done piece) in
+    let joined = length-append into (drop rest (drop done piece)) in
+    let all = length-append (take done piece) (into ++ drop rest (drop done piece)) in
+    omega (arith, inside, size, front, back, behind, joined, all)
+
+-- what two reads put at the front of a buffer, one behind the other
+pub two_reads : (piece into : List ℕ) (done rest n : ℕ) → done + rest ≤ length piece → length into ≡ rest → n ≤ rest → take (done + n) (put_mid done rest piece into) ≡ take done piece ++ take n into
+two_reads piece into done rest n inside size few =
+    let within : done ≤ length piece = omega (arith, inside) in
+    let long : length (take done piece) ≡ done = length-take-le done piece within in
+    let whole : take (done + length into) (put_mid done rest piece into) ≡ take done piece ++ into = take-put_mid done rest piece into (done + length into) refl within in
+    let shorter : done + n ≤ done + length into = omega (arith, size, few) in
+    sym (take-take (done + n) (done + length into) (put_mid done rest piece into) shorter)
+    ∙ ap (take (done + n)) whole
+    ∙ ap (λ m. take (m + n) (take done piece ++ into)) (sym long)
+    ∙ take-append-add (take done piece) into n
+
+-- the front of a buffer that lies in a longer one
+pub front_of : (piece items : List ℕ) (size n : ℕ) → n ≤ size → n ≤ length piece → take n (take size (piece ++ drop (length piece) items)) ≡ take n piece
+front_of piece items size n below inside = take-take n size (piece ++ drop (length piece) items) below ∙ take-append-le n piece (drop (length piece) items) inside

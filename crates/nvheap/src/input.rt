@@ -132,7 +132,7 @@ fn read_all<S: Source>(
     let mut size = 0;
     while size <= limit {
         let most = PIECE.min(limit + 1 - size);
-        let n = fill(source, &mut piece[..most])?;
+        let n = fill(source, &mut piece, most)?;
         input.add(&piece[..n])?;
         size += n;
         if n < most {
@@ -142,19 +142,20 @@ fn read_all<S: Source>(
     Err(Unread::TooLong)
 }
 
-// Reads until a buffer is full, or to the source's end, and says how many bytes came.
-fn fill<S: Source>(source: &mut S, piece: &mut [u8]) -> Result<usize, Failed>
+// Reads until so many bytes stand in a buffer, or to the source's end, and says how many came.
+fn fill<S: Source>(source: &mut S, piece: &mut [u8], most: usize) -> Result<usize, Failed>
+    requires { most ≤ length piece.old }
     ensures size { length piece.new ≡ length piece.old }
-    ensures count { IfOk result (λ n. n ≤ length piece.old) }
+    ensures count { IfOk result (λ n. n ≤ most) }
     ensures gives { IfOk result (λ n. Gives (S.left source.old) (S.left source.new) (take n piece.new)) }
-    ensures end { IfOk result (λ n. n < length piece.old → IsAtEnd (S.left source.new)) }
-    ensures less { OnErr result (GivesLess (S.left source.old) (S.left source.new) (length piece.old)) }
+    ensures end { IfOk result (λ n. n < most → IsAtEnd (S.left source.new)) }
+    ensures less { OnErr result (GivesLess (S.left source.old) (S.left source.new) most) }
     ensures failed { OnErr result (Rose (S.faults source.old) (S.faults source.new)) }
     ensures later { S.faults source.old ≤ S.faults source.new }
 {
     let mut done = 0;
-    while done < piece.len() {
-        let n = source.read(&mut piece[done..])?;
+    while done < most {
+        let n = source.read(&mut piece[done..most])?;
         if n == 0 {
             return Ok(done);
         }

@@ -54,7 +54,13 @@ fn recover_pool<H: Shelf>(
     ensures kept { OnErr result (H.places shelf.new ≡ H.places shelf.old) }
     ensures defect { IfErr result (λ fault. (image : List ℕ) → AreWordsOf words.now bytes image → IfDefect fault (IsPoolDefect image)) }
 {
-    let header = pool_header(words, bytes)?;
+    let header = match pool_header(words, bytes) {
+        Ok(header) => header,
+        Err(found) => return Err(ImageFault::Defect {
+            arena: found.arena,
+            defect: found.defect,
+        }),
+    };
     let mut text = Vec::new(alloc);
     match recover_from(alloc, words, &header, 0, &mut text, shelf) {
         Ok(()) => Ok(text),

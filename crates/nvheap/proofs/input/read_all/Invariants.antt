@@ -1,10 +1,10 @@
-use Rattle.std.proofs.Common.{◌≡◌, ◌+◌, ◌-◌, ◌%◌, ◌<◌, ◌≤◌, vec_len}
+use Rattle.std.proofs.Common.{◌≡◌, ◌+◌, ◌-◌, ◌%◌, ◌≤◌, vec_len}
 use Rattle.nvheap.specs.declared.command.Command.{Command}
 use Rattle.nvheap.specs.Inputs.{HasCome, Fits}
 use Rattle.nvheap.proofs.input.read_all.Given as goal
 
-abbrev pub invariant-loop-source : goal.invariant-loop-source
-invariant-loop-source g l = record {
+abbrev pub invariant-loop-size : goal.invariant-loop-size
+invariant-loop-size g l = record {
   come : HasCome (g.S.Source.left l.fn.source) (g.S.Source.left l.source) l.input l.size;
   within : l.size ≤ l.limit + 1;
   whole : l.size ≤ l.limit → l.size % 8 ≡ 0;
@@ -13,5 +13,5 @@ invariant-loop-source g l = record {
   later : g.S.Source.faults l.fn.source ≤ g.S.Source.faults l.source;
 }
 
-abbrev pub decreases-loop-source : goal.decreases-loop-source
-decreases-loop-source g l = l.limit + 1 - l.size
+abbrev pub decreases-loop-size : goal.decreases-loop-size
+decreases-loop-size g l = l.limit + 1 - l.size

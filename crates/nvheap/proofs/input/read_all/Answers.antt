@@ -1,0 +1,86 @@
+use Rattle.std.proofs.Common.{◌≡◌, ◌+◌, ◌≤◌, ◌∙◌, ℕ, List, length, take, refl, sym, ap, arith, subst}
+use Rattle.std.proofs.lemmas.List.{length-take-le}
+use Rattle.nvheap.specs.Outside.{Gives}
+use Rattle.nvheap.specs.Inputs.{HasCome}
+use Rattle.nvheap.proofs.Reading.{come_none, come_more, come_all, come_too_much, come_few, Rose-before, front_of}
+use Rattle.nvheap.proofs.input.read_all.Goals as goal
+
+pub loop-size-init : goal.loop-size-init
+loop-size-init g c = record {
+  come = come_none (g.S.Source.left c.args.source.now) c.args.input.now c.requires.none;
+  within = omega arith;
+  whole = λ few. refl;
+  buffer = c.in_ok-piece.ensures.len;
+  fits = λ command fits. fits;
+  later = omega arith;
+}
+
+pub returns-in_err-n-clause-few : goal.returns-in_err-n-clause-few
+returns-in_err-n-clause-few g c failed =
+    let left = g.S.Source.left in
+    let most = c.min-most.ensures in
+    come_few (left c.args.source.now) (left c.loop-size.source) (left c.fill.new.source) c.loop-size.input c.loop-size.size c.min-most.result c.args.limit c.loop-size.invariant.come c.in_err-n.ensures.less
+    (omega (arith, most, c.loop-size-test.true))
+
+pub returns-in_err-n-clause-failed : goal.returns-in_err-n-clause-failed
+returns-in_err-n-clause-failed g c failed =
+    let faults = g.S.Source.faults in
+    Rose-before (faults c.args.source.now) (faults c.loop-size.source) (faults c.fill.new.source) c.loop-size.invariant.later c.in_err-n.ensures.failed
+
+pub returns-in_err-add-clause-fits : goal.returns-in_err-add-clause-fits
+returns-in_err-add-clause-fits g c command fits = c.in_err-add.ensures.fits command (c.loop-size.invariant.fits command fits)
+
+pub returns-then-n-most-clause-all : goal.returns-then-n-most-clause-all
+returns-then-n-most-clause-all g c =
+    let left = g.S.Source.left in
+    let n = c.in_ok-n.n in
+    let size = c.loop-size.size in
+    let piece = c.fill.new.piece in
+    let buffer = c.loop-size.invariant.buffer in
+    let count = c.in_ok-n.ensures.count in
+    let most = c.min-most.ensures in
+    let lent = c.in_ok-n.ensures.size in
+    let long = c.deref_mut.ensures.len in
+    let inside : n ≤ length piece = omega (arith, buffer, count, most, lent, long) in
+    let front : take n c.deref.result.now ≡ take n piece = ap (take n) c.deref.ensures.value ∙ front_of piece c.loop-size.piece.items c.loop-size.piece.len n (omega (arith, buffer, count, most)) inside in
+    let gives : Gives (left c.loop-size.source) (left c.fill.new.source) (take n c.deref.result.now) = subst (λ (bytes : List ℕ). Gives (left c.loop-size.source) (left c.fill.new.source) bytes) (sym front) c.in_ok-n.ensures.gives in
+    let come : HasCome (left c.args.source.now) (left c.fill.new.source) c.add.new.self (size + n) =
+    come_more (left c.args.source.now) (left c.loop-size.source) (left c.fill.new.source) c.loop-size.input c.add.new.self size n (take n c.deref.result.now) c.loop-size.invariant.come (c.loop-size.invariant.whole c.loop-size-test.true)
+    gives (ap length front ∙ length-take-le n piece inside) c.in_ok-add.ensures.bytes in
+    come_all (left c.args.source.now) (left c.fill.new.source) c.add.new.self (size + n) c.args.limit come (omega (arith, most, c.if-n-most.true, c.loop-size-test.true)) (c.in_ok-n.ensures.end c.if-n-most.true)
+
+pub returns-then-n-most-clause-fits : goal.returns-then-n-most-clause-fits
+returns-then-n-most-clause-fits g c command fits = c.in_ok-add.ensures.fits command (c.loop-size.invariant.fits command fits)
+
+pub loop-size-preserved : goal.loop-size-preserved
+loop-size-preserved g c =
+    let left = g.S.Source.left in
+    let n = c.in_ok-n.n in
+    let size = c.loop-size.size in
+    let piece = c.fill.new.piece in
+    let buffer = c.loop-size.invariant.buffer in
+    let count = c.in_ok-n.ensures.count in
+    let most = c.min-most.ensures in
+    let lent = c.in_ok-n.ensures.size in
+    let long = c.deref_mut.ensures.len in
+    let inside : n ≤ length piece = omega (arith, buffer, count, most, lent, long) in
+    let front : take n c.deref.result.now ≡ take n piece = ap (take n) c.deref.ensures.value ∙ front_of piece c.loop-size.piece.items c.loop-size.piece.len n (omega (arith, buffer, count, most)) inside in
+    let gives : Gives (left c.loop-size.source) (left c.fill.new.source) (take n c.deref.result.now) = subst (λ (bytes : List ℕ). Gives (left c.loop-size.source) (left c.fill.new.source) bytes) (sym front) c.in_ok-n.ensures.gives in
+    let come : HasCome (left c.args.source.now) (left c.fill.new.source) c.add.new.self (size + n) =
+    come_more (left c.args.source.now) (left c.loop-size.source) (left c.fill.new.source) c.loop-size.input c.add.new.self size n (take n c.deref.result.now) c.loop-size.invariant.come (c.loop-size.invariant.whole c.loop-size-test.true)
+    gives (ap length front ∙ length-take-le n piece inside) c.in_ok-add.ensures.bytes in
+    let whole = c.loop-size.invariant.whole c.loop-size-test.true in
+    let later = c.loop-size.invariant.later in
+    record {
+      come = come;
+      within = omega (arith, most, count, c.loop-size-test.true);
+      whole = λ few. omega (arith, whole, most, count, c.if-n-most.false, few);
+      buffer = buffer;
+      fits = λ command fits. c.in_ok-add.ensures.fits command (c.loop-size.invariant.fits command fits);
+      later = omega (arith, later, c.in_ok-n.ensures.later);
+    }
+
+pub returns-clause-too_long : goal.returns-clause-too_long
+returns-clause-too_long g c long =
+    let within = c.loop-size.invariant.within in
+    come_too_much (g.S.Source.left c.args.source.now) (g.S.Source.left c.loop-size.source) c.loop-size.input c.loop-size.size c.args.limit c.loop-size.invariant.come (omega (arith, within, c.loop-size-test.false))
