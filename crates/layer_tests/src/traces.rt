@@ -38,7 +38,7 @@ fn first_line_outside_the_grammar(rt: HostRuntime) {
         ("pool 1 16\n0 0 f 4294967296\n", 2),
         ("pool 1 16\n0 0 f 18446744073709551616\n", 2),
         ("pool 1 16\n0 0 f\n", 2),
-        ("pool 1 16\n\n# b\n0 0 f 1\n0 0 w 1 0 5\n", 5),
+        ("pool 1 16\n\n# b\n0 0 f 1\n0 0 w 1 0\n", 5),
         ("pool 1 16\n0 0 f 4294967295\n", 0),
         ("# a\n\npool 1 1024\n\n# b\n63 0 m 0 0\n\n0 0 f 10", 0),
         ("pool 1 16", 0),
