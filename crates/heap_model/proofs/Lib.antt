@@ -1,6 +1,7 @@
 pub mod Maps
 pub mod Fits
 pub mod Views
+pub mod Refills
 pub mod Placing
 pub mod Freeing
 pub mod Slabbing
@@ -9,9 +10,12 @@ pub mod Sites
 pub mod Settled
 pub mod Placements
 pub mod Outcomes
-pub mod Plain
 pub mod Counts
 pub mod Morphs
 pub mod MorphRows
-pub mod WorkedRows
+pub mod WorkedHeaps
+pub mod MoveRows
+pub mod TransitionRows
+pub mod StackRows
+pub mod BestSlabRows
 pub mod FreeRows

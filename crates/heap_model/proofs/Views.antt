@@ -1,9 +1,8 @@
--- Two views that say the same have the same sites, the same lowest ones, and none for the same requests.
+-- Two views that say the same have the same sites, and none for the same requests.
 use Rattle.std.proofs.Common.{◌≡◌, ◌↔◌, ℕ, true, true≢false, Some, sym, ◌∙◌, arith, ⊎_elim, inl, inr}
 use Rattle.size_classes.specs.Classes.{granules_of}
-use Rattle.heap_model.specs.Policy.{Policy, plain}
-use Rattle.heap_model.specs.Plain.{IsPlainSite}
-use Rattle.heap_model.specs.Choice.{View, IsUnusedBlock, HasUnusedBlock, IsFit, IsBestSlab, HasNoFitSlab, Site, IsSite, HasNoSite, IsLowestSite, Agree}
+use Rattle.heap_model.specs.Policy.{Policy, without_morphs}
+use Rattle.heap_model.specs.Choice.{View, IsUnusedBlock, HasUnusedBlock, IsFit, IsBestSlab, HasNoFitSlab, Site, IsSite, HasNoSite, Agree}
 use Rattle.heap_model.specs.Choice.Site.{Granules, InSlab, InMorph, InNewSlab}
 use Rattle.heap_model.proofs.Fits.{IsBestFit-same, HasNoFit-same}
 
@@ -22,7 +21,7 @@ Agree-back p v w agree = record {
 }
 
 module _ (p : Policy) (v w : View) (agree : Agree p v w) where
-  unused_block : (s c number : ℕ) → v.slab s ≡ Some c → IsUnusedBlock v s c number → IsUnusedBlock w s c number
+  pub unused_block : (s c number : ℕ) → v.slab s ≡ Some c → IsUnusedBlock v s c number → IsUnusedBlock w s c number
   unused_block s c number slab block = record { within = block.within; unused = (agree.unused s c number slab block.within).0 block.unused }
 
   has_unused : (c : ℕ) → HasUnusedBlock v c → HasUnusedBlock w c
@@ -74,27 +73,12 @@ module _ (p : Policy) (v w : View) (agree : Agree p v w) where
   IsSite-same size (InNewSlab start class number) is =
       record { least = is.least; full = full class is.full; no_fit = no_fit_slab class is.no_fit; fit = IsBestFit-same v.free w.free 4 start agree.free is.fit; within = is.within }
 
-  pub IsLowestSite-same : (site : Site) → IsLowestSite v site → IsLowestSite w site
-  IsLowestSite-same (Granules start count) is = tt
-  IsLowestSite-same (InSlab start class number) is = record {
-    slab = sym (agree.slab start) ∙ is.slab;
-    block = unused_block p v w agree start class number is.slab is.block;
-    first = λ lower less unused. is.first lower less ((agree.unused start class lower is.slab (omega (arith, less, is.block.within))).1 unused);
-    lowest = λ other i less slab block. is.lowest other i less (agree.slab other ∙ slab) (unused_block p w v back other class i slab block);
-  }
-  IsLowestSite-same (InMorph start class number) is = absurd is
-  IsLowestSite-same (InNewSlab start class number) is = is
-
   pub HasNoSite-same : (size : ℕ) → HasNoSite p v size → HasNoSite p w size
   HasNoSite-same size none = ⊎_elim
       (λ small. inl (record { class = small.class; least = small.least; full = full small.class small.full; no_fit = no_fit_slab small.class small.no_fit; no_run = HasNoFit-same v.free w.free 4 agree.free small.no_run }))
       (λ large. inr (record { large = large.large; no_run = HasNoFit-same v.free w.free (granules_of size) agree.free large.no_run }))
       none
 
--- so by the plain policy they have the same plain sites
-pub IsPlainSite-same : (v w : View) (size : ℕ) (site : Site) → Agree plain v w → IsPlainSite v size site → IsPlainSite w size site
-IsPlainSite-same v w size site agree is = record { chosen = IsSite-same plain v w agree size site is.chosen; lowest = IsLowestSite-same plain v w agree site is.lowest }
-
--- and no slab is fit
-pub HasNoFitSlab-plain : (v : View) (c : ℕ) → HasNoFitSlab plain v c
-HasNoFitSlab-plain v c = record { none = λ s fit. true≢false (sym fit.allowed) }
+-- where no slab takes another class, none is fit
+pub HasNoFitSlab-without : (v : View) (c : ℕ) → HasNoFitSlab without_morphs v c
+HasNoFitSlab-without v c = record { none = λ s fit. true≢false (sym fit.allowed) }

@@ -132,22 +132,6 @@ pub record HasNoLargeSite (v : View) (size : ℕ) : Type 0 where
 abbrev pub HasNoSite : Policy → View → ℕ → Type 0
 HasNoSite p v size = HasNoSmallSite p v size ⊎ HasNoLargeSite v size
 
--- the lowest
-
--- the lowest unused block of the class: in the lowest slab that has one, the one of the lowest number
-pub record IsLowestBlock (v : View) (start class number : ℕ) : Type 0 where
-  pub slab : v.slab start ≡ Some class
-  pub block : IsUnusedBlock v start class number
-  pub first : (lower : ℕ) → lower < number → ¬ (v.unused start class lower)
-  pub lowest : (other i : ℕ) → other < start → v.slab other ≡ Some class → ¬ (IsUnusedBlock v other class i)
-
--- a site is the lowest of those for a request: the lowest unused block, or block 0 of a new slab
-abbrev pub IsLowestSite : View → Site → Type 0
-IsLowestSite v (Granules start count) = Unit {0}
-IsLowestSite v (InSlab start class number) = IsLowestBlock v start class number
-IsLowestSite v (InMorph start class number) = ⊥
-IsLowestSite v (InNewSlab start class number) = number ≡ 0
-
 -- views that agree
 
 -- two views say the same of what a slab is fit for

@@ -13,6 +13,6 @@ pub record Policy : Type 0 where
 abbrev pub whole : Policy
 whole = record { morphs = true; refill = 8; holds = 8 }
 
--- what the arenas serve so far: no slab takes another class, and no stack is filled
-abbrev pub plain : Policy
-plain = record { morphs = false; refill = 1; holds = 0 }
+-- what the arenas serve so far: no slab takes another class
+abbrev pub without_morphs : Policy
+without_morphs = record { morphs = false; refill = 8; holds = 8 }
