@@ -1,0 +1,10 @@
+pub mod Addresses
+pub mod Found
+pub mod Lists
+pub mod Opens
+pub mod Pops
+pub mod Refills
+pub mod Returns
+pub mod Slabs
+pub mod Takes
+pub mod Views

@@ -1,0 +1,67 @@
+-- A block is taken for a seat, by the way that it comes.
+use Rattle.std.proofs.Common.{◌≡◌, ℕ, true≢false, List, [], ◌∷◌, Option, Some, None, MatchOption, refl, sym, ap, ◌∙◌, subst, inl, inr, ⊎_elim}
+use Rattle.heap_model.specs.Policy.{without_morphs}
+use Rattle.heap_model.specs.Placement.{Stacks, HasTop, HasAvailable, HasStacked}
+use Rattle.slab_index.specs.declared.block.SlabBlock.{SlabBlock}
+use Rattle.slab_index.specs.SlabSet.{HasNoBlock}
+use Rattle.thread_cache.specs.Stacks.{stacks_of}
+use Rattle.block_supply.specs.Supply.{Supply, supply_view, TookBlock, HadNoOpen}
+use Rattle.block_supply.specs.Kept.{TookTop, HadNoTop, TookLowest, HadNoAvailable, TookFirst, HadNoStack}
+use Rattle.block_supply.proofs.Opens.{available_is}
+
+-- an empty stack has no top
+pub no_top : (stacks : Stacks) (seat class : ℕ) → stacks seat class ≡ [] → ¬ (HasTop stacks seat class)
+no_top stacks seat class empty top = let is : [] ≡ top.top ∷ top.rest = sym empty ∙ top.is in absurd (cc)
+
+-- by the view no block is available where the index has none
+none_available : (supply : Supply) (class : ℕ) → HasNoBlock supply.slabs class → ¬ (HasAvailable (supply_view supply) (stacks_of supply.stacks) class)
+none_available supply class used has = true≢false (sym (available_is has.start class has.number has.slab has.available) ∙ used.none has.start has.number has.slab)
+
+-- the seat's own stack gave it
+pub took_top : (old new : Supply) (seat class : ℕ) (block : SlabBlock) → TookTop old seat class block new → TookBlock old seat class block new
+took_top old new seat class block took = record {
+  slab = took.taken.slab;
+  within = took.taken.within;
+  was_open = took.taken.was_open;
+  without = took.taken.without;
+  served = inl (took.gave.top, took.gave.pop);
+}
+
+-- a refill gave it
+pub took_lowest : (old mid new : Supply) (seat class : ℕ) (block : SlabBlock) → HadNoTop old seat class mid → TookLowest mid seat class block new → TookBlock old seat class block new
+took_lowest old mid new seat class block none took = subst (λ (s : Supply). TookBlock s seat class block new) none.same (record {
+  slab = took.taken.slab;
+  within = took.taken.within;
+  was_open = took.taken.was_open;
+  without = took.taken.without;
+  served = inr (
+    no_top (stacks_of mid.stacks) seat class (ap (λ (s : Supply). stacks_of s.stacks seat class) none.same ∙ none.empty),
+    inl (
+      record {
+        start = took.refill.start;
+        slab = took.refill.slab;
+        number = took.refill.number;
+        available = took.refill.taken.1.passes;
+      },
+      took.refill,
+    ),
+  );
+})
+
+-- another stack gave it, or none
+pub took_last : (old mid last new : Supply) (seat class : ℕ) (result : Option SlabBlock) → HadNoTop old seat class mid → HadNoAvailable mid class last → MatchOption result (HadNoStack last class new) (λ block. TookFirst last class block new) →
+    MatchOption result (HadNoOpen old class new) (λ block. TookBlock old seat class block new)
+took_last old mid last new seat class None top used had = subst (λ (s : Supply). HadNoOpen s class new) (used.same ∙ top.same) (record {
+  none = record { used = subst (λ (s : Supply). HasNoBlock s.slabs class) (sym used.same) used.used; empty = had.empty };
+  same = had.same;
+})
+took_last old mid last new seat class (Some block) top used took = subst (λ (s : Supply). TookBlock s seat class block new) (used.same ∙ top.same) (record {
+  slab = took.taken.slab;
+  within = took.taken.within;
+  was_open = took.taken.was_open;
+  without = took.taken.without;
+  served = inr (
+    no_top (stacks_of last.stacks) seat class (ap (λ (s : Supply). stacks_of s.stacks seat class) (used.same ∙ top.same) ∙ top.empty),
+    inr (none_available last class (subst (λ (s : Supply). HasNoBlock s.slabs class) (sym used.same) used.used), (took.gave.stacked, took.gave.pop)),
+  );
+})
