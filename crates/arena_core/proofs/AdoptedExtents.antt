@@ -17,15 +17,17 @@ use Rattle.book_log.proofs.LiveExtents.{live_extents}
 use Rattle.heap_model.specs.Machine.{Bounds}
 use Rattle.heap_model.specs.Runs.{IsFreeRow}
 use Rattle.extent_index.specs.FreeSet.{FreeSet, IsFree}
-use Rattle.slab_index.specs.SlabSet.{SlabSet, class_in, is_available}
+use Rattle.slab_index.specs.SlabSet.{class_in}
+use Rattle.block_supply.specs.Supply.{Supply, IsOpen, IsClearOf}
 use Rattle.heap_check.specs.Heap.{slabs, IsUnusedIn}
 use Rattle.heap_check.specs.Sound.{granules_at, Covers}
 use Rattle.heap_check.specs.Image.{bounds_of, IsExactImage}
-use Rattle.heap_check.proofs.Geometry.{granules_at-slab, granules_at-large}
+use Rattle.heap_check.proofs.Geometry.{granules_at-slab, granules_at-large, Covers-slab}
 use Rattle.heap_check.proofs.Sizes.{sizes_of}
 use Rattle.arena_core.specs.Arena.{IsIndexOf, IsSlabsOf}
 use Rattle.arena_core.specs.Adopting.{IsVacantBelow, slabs_below, IsReadBelow, IsWithSlabOf, IsNextRead}
-use Rattle.arena_core.proofs.UnusedBlocks.{iff_same}
+use Rattle.arena_core.proofs.Plans.{slab_parts}
+use Rattle.arena_core.proofs.UnusedBlocks.{iff_then}
 
 -- what the tables say of a granule by its extent
 
@@ -62,7 +64,7 @@ pub not_below : (t : Tables) (from start : ℕ) → from ≤ start → slabs_bel
 not_below t from start past = cond-false (ltb start from) (slabs t start) None (le-ltb start from past)
 
 -- nothing starts from one granule on and below another, so that what is read below the one is read below the other
-pub IsReadBelow-none : (words : List ℕ) (set : FreeSet) (parts : SlabSet) (from to : ℕ) → from ≤ to → ((start : ℕ) → from ≤ start → start < to → extent_at words start ≡ None) →
+pub IsReadBelow-none : (words : List ℕ) (set : FreeSet) (parts : Supply) (from to : ℕ) → from ≤ to → ((start : ℕ) → from ≤ start → start < to → extent_at words start ≡ None) →
     IsReadBelow words set parts from → IsReadBelow words set parts to
 IsReadBelow-none words set parts from to up none read = record {
   granules = read.granules;
@@ -139,7 +141,7 @@ read_free b t set new start free taken k = (
 )
 
 -- the next extent is a large one
-pub IsReadBelow-large : (words : List ℕ) (set new : FreeSet) (parts : SlabSet) (start count : ℕ) → extent_at words start ≡ Some (extent.Large count) → new.granules ≡ set.granules →
+pub IsReadBelow-large : (words : List ℕ) (set new : FreeSet) (parts : Supply) (start count : ℕ) → extent_at words start ≡ Some (extent.Large count) → new.granules ≡ set.granules →
     ((k : ℕ) → IsFree new k ↔ (IsFree set k × ((k < start) ⊎ (start + count ≤ k)))) → IsReadBelow words set parts start → IsReadBelow words new parts (start + 1)
 IsReadBelow-large words set new parts start count is granules taken read =
     let t = tables_of words in
@@ -163,7 +165,7 @@ IsReadBelow-large words set new parts start count is granules taken read =
     }
 
 -- the next extent is a slab
-pub IsReadBelow-slab : (words : List ℕ) (set new : FreeSet) (parts more : SlabSet) (start : ℕ) → extent_at words start ≡ Some extent.Slab → new.granules ≡ set.granules →
+pub IsReadBelow-slab : (words : List ℕ) (set new : FreeSet) (parts more : Supply) (start : ℕ) → extent_at words start ≡ Some extent.Slab → new.granules ≡ set.granules →
     ((k : ℕ) → IsFree new k ↔ (IsFree set k × ((k < start) ⊎ (start + 4 ≤ k)))) → IsWithSlabOf words parts more start → IsReadBelow words set parts start → IsReadBelow words new more (start + 1)
 IsReadBelow-slab words set new parts more start is granules taken with_slab read =
     let t = tables_of words in
@@ -175,7 +177,7 @@ IsReadBelow-slab words set new parts more start is granules taken with_slab read
       slab_granules = with_slab.granules ∙ read.slab_granules;
       classes = λ other. ⊎_elim
           (λ (here : other ≡ start).
-          ap (λ s. class_in more s) here ∙ with_slab.here ∙ sym (ap (λ b. cond b (Some (t.class start)) None) slab) ∙ ap (λ s. slabs t s) (sym here) ∙ sym (below t (start + 1) other (omega (arith, here))))
+          ap (λ s. class_in more.slabs s) here ∙ with_slab.here ∙ sym (ap (λ b. cond b (Some (t.class start)) None) slab) ∙ ap (λ s. slabs t s) (sym here) ∙ sym (below t (start + 1) other (omega (arith, here))))
           (λ (apart : other ≢ start). with_slab.classes other apart ∙ read.classes other ∙ ⊎_elim
           (λ (lower : other < start). below t start other lower ∙ sym (below t (start + 1) other (omega (arith, lower))))
           (λ (past : start ≤ other). not_below t start other past ∙ sym (not_below t (start + 1) other (omega (arith, past, apart))))
@@ -183,14 +185,30 @@ IsReadBelow-slab words set new parts more start is granules taken with_slab read
           (cases_eq other start);
       blocks = λ other i less is_slab few. ⊎_elim
           (λ (here : other ≡ start).
-          subst (λ s. i < class_capacity (t.class s) → (is_available more s i ≡ true) ↔ IsUnusedIn t s (t.class s) i) (sym here) (with_slab.blocks i) few)
-          (λ (apart : other ≢ start). iff_same (with_slab.others other i apart) (read.blocks other i (omega (arith, less, apart)) is_slab few))
+          subst (λ s. i < class_capacity (t.class s) → IsOpen more s i ↔ IsUnusedIn t s (t.class s) i) (sym here) (with_slab.blocks i) few)
+          (λ (apart : other ≢ start). iff_then (with_slab.others other i apart) (read.blocks other i (omega (arith, less, apart)) is_slab few))
           (cases_eq other start);
     }
 
+-- the granules of the next slab are in no slab that was read
+pub clear_read : (words : List ℕ) (set : FreeSet) (parts : Supply) (start : ℕ) → IsExactImage words → (tables_of words).slab start ≡ true → IsReadBelow words set parts start → IsClearOf parts start
+clear_read words set parts start image slab read = record {
+  apart = λ other class is. ⊎_elim
+      (λ (lower : other < start).
+      let lives = (slab_parts (tables_of words) other class (sym (below (tables_of words) start other lower) ∙ sym (read.classes other) ∙ is)).0 in
+      ⊎_elim
+      (λ (near : start < other + 4).
+      let same = image.exact.sound.disjoint start other start (Covers-slab (tables_of words) start start slab (omega arith) (omega arith)) (Covers-slab (tables_of words) other start lives (omega (arith, lower)) near) in
+      absurd (omega (arith, same, lower)))
+      (λ (far : other + 4 ≤ start). inr far)
+      (cases_lt start (other + 4)))
+      (λ (past : start ≤ other). absurd (let none = sym (read.classes other ∙ not_below (tables_of words) start other past) ∙ is in cc))
+      (cases_lt other start);
+}
+
 -- before anything is read
-pub IsReadBelow-first : (words : List ℕ) (set : FreeSet) (parts : SlabSet) → (bounds_of words).first ≡ 4 → set.granules ≡ (bounds_of words).granules → ((k : ℕ) → IsFree set k ↔ ((4 ≤ k) × (k < set.granules))) →
-    parts.granules ≡ (bounds_of words).granules → ((start : ℕ) → class_in parts start ≡ None) → IsReadBelow words set parts 0
+pub IsReadBelow-first : (words : List ℕ) (set : FreeSet) (parts : Supply) → (bounds_of words).first ≡ 4 → set.granules ≡ (bounds_of words).granules → ((k : ℕ) → IsFree set k ↔ ((4 ≤ k) × (k < set.granules))) →
+    parts.slabs.granules ≡ (bounds_of words).granules → ((start : ℕ) → class_in parts.slabs start ≡ None) → IsReadBelow words set parts 0
 IsReadBelow-first words set parts first granules free slab_granules none = record {
   granules = granules;
   free = λ k. (
@@ -203,7 +221,7 @@ IsReadBelow-first words set parts first granules free slab_granules none = recor
 }
 
 -- behind all extents: the indexes are those of the image
-pub index_read : (words : List ℕ) (set : FreeSet) (parts : SlabSet) (from : ℕ) → ((start : ℕ) → from ≤ start → extent_at words start ≡ None) → IsReadBelow words set parts from → IsIndexOf set words
+pub index_read : (words : List ℕ) (set : FreeSet) (parts : Supply) (from : ℕ) → ((start : ℕ) → from ≤ start → extent_at words start ≡ None) → IsReadBelow words set parts from → IsIndexOf set words
 index_read words set parts from none read = record {
   granules = read.granules;
   each = λ k. (
@@ -218,7 +236,7 @@ index_read words set parts from none read = record {
   );
 }
 
-pub slabs_read : (words : List ℕ) (set : FreeSet) (parts : SlabSet) (from : ℕ) → ((start : ℕ) → from ≤ start → extent_at words start ≡ None) → IsReadBelow words set parts from → IsSlabsOf parts words
+pub slabs_read : (words : List ℕ) (set : FreeSet) (parts : Supply) (from : ℕ) → ((start : ℕ) → from ≤ start → extent_at words start ≡ None) → IsReadBelow words set parts from → IsSlabsOf parts words
 slabs_read words set parts from none read = record {
   granules = read.slab_granules;
   classes = λ start. read.classes start ∙ ⊎_elim
@@ -232,14 +250,14 @@ slabs_read words set parts from none read = record {
 }
 
 -- the next live extent is what starts at its granule, and all that starts below it is read
-next_read : (words : List ℕ) (set : FreeSet) (parts : SlabSet) (next : LogEntry) → IsNextRead words set parts next → (extent_at words (start_of next) ≡ extent_of next) × IsReadBelow words set parts (start_of next)
+next_read : (words : List ℕ) (set : FreeSet) (parts : Supply) (next : LogEntry) → IsNextRead words set parts next → (extent_at words (start_of next) ≡ extent_of next) × IsReadBelow words set parts (start_of next)
 next_read words set parts next is = (is.live.live ∙ sym is.live.says, IsReadBelow-none words set parts is.from (start_of next) is.live.at_least is.live.least is.read)
 
-pub next_large : (words : List ℕ) (set : FreeSet) (parts : SlabSet) (next : LogEntry) (start count : ℕ) → next ≡ Large start count → IsNextRead words set parts next →
+pub next_large : (words : List ℕ) (set : FreeSet) (parts : Supply) (next : LogEntry) (start count : ℕ) → next ≡ Large start count → IsNextRead words set parts next →
     (extent_at words start ≡ Some (extent.Large count)) × IsReadBelow words set parts start
 next_large words set parts next start count same is = subst (λ e. (extent_at words (start_of e) ≡ extent_of e) × IsReadBelow words set parts (start_of e)) same (next_read words set parts next is)
 
-pub next_slab : (words : List ℕ) (set : FreeSet) (parts : SlabSet) (next : LogEntry) (start : ℕ) → next ≡ Slab start → IsNextRead words set parts next →
+pub next_slab : (words : List ℕ) (set : FreeSet) (parts : Supply) (next : LogEntry) (start : ℕ) → next ≡ Slab start → IsNextRead words set parts next →
     (extent_at words start ≡ Some extent.Slab) × IsReadBelow words set parts start
 next_slab words set parts next start same is = subst (λ e. (extent_at words (start_of e) ≡ extent_of e) × IsReadBelow words set parts (start_of e)) same (next_read words set parts next is)
 

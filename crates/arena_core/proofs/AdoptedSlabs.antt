@@ -1,20 +1,20 @@
 -- The indexes take over a slab of an exact image, and how many live blocks each slab has.
-use Rattle.std.proofs.Common.{◌≡◌, ◌≢◌, ◌↔◌, ◌==◌, ◌+◌, ◌*◌, ◌/◌, ◌<◌, ◌≤◌, ◌&&◌, ℕ, Bool, true, false, true≢false, cond, ltb, eqb, List, length, slice_index, Option, Some, None, refl, sym, ap, subst, ◌∙◌, ⊎_elim, arith, if◌then◌else◌}
-use Rattle.std.proofs.lemmas.Bool.{cond-true, cond-false, cases_eq, cases_Bool, lt-ltb, eq-eqb, ne_eqb, false_from_ne_true}
+use Rattle.std.proofs.Common.{◌≡◌, ◌≢◌, ◌↔◌, ◌==◌, ◌+◌, ◌*◌, ◌/◌, ◌<◌, ◌≤◌, ℕ, Bool, true, false, true≢false, cond, eqb, List, length, slice_index, Option, Some, None, refl, sym, ap, subst, ◌∙◌, ⊎_elim, arith, if◌then◌else◌}
+use Rattle.std.proofs.lemmas.Bool.{cond-true, cond-false, cases_eq, cases_Bool, eq-eqb, ne_eqb, false_from_ne_true}
 use Rattle.size_classes.specs.Classes.{class_capacity}
 use Rattle.image_tables.specs.Tables.{Tables, is_slab, tables_of}
 use Rattle.image_tables.proofs.Tables.{slab_table}
 use Rattle.pool_layout.specs.Header.{granules_in}
-use Rattle.heap_model.specs.Machine.{Range, with_key}
+use Rattle.heap_model.specs.Machine.{Range}
 use Rattle.heap_model.specs.Slabs.{live_below, begins_in}
 use Rattle.heap_model.proofs.Freeing.{begins_in-true}
-use Rattle.slab_index.specs.SlabSet.{SlabSet, class_in, is_available}
+use Rattle.slab_index.specs.SlabSet.{class_in}
 use Rattle.heap_check.specs.Heap.{size_at, heap, slabs, IsUnusedIn}
 use Rattle.heap_check.proofs.Heaps.{heap-none}
 use Rattle.arena_core.specs.Adopting.{IsWithSlabOf, HasCounted}
-use Rattle.arena_core.specs.Plan.{IsInNoSlabOf}
+use Rattle.block_supply.specs.Supply.{Supply, IsInNoSlabOf, HasSlabMore}
 use Rattle.arena_core.proofs.LiveCounts.{one_if, live_next, live_below-most, begins_only}
-use Rattle.arena_core.proofs.UnusedBlocks.{iff_same, iff_then}
+use Rattle.arena_core.proofs.UnusedBlocks.{iff_then}
 use Rattle.heap_check.specs.Sound.{IsInSlab, IsSound}
 use Rattle.heap_check.specs.Image.{bounds_of}
 
@@ -25,29 +25,18 @@ if_same k j yes_x no_x same = cond-true (eqb k j) yes_x no_x (eq-eqb k j same)
 if_other : {X : Type 0} (k j : ℕ) (yes_x no_x : X) → k ≢ j → cond (eqb k j) yes_x no_x ≡ no_x
 if_other k j yes_x no_x apart = cond-false (eqb k j) yes_x no_x (ne_eqb k j apart)
 
--- a slab was added with all of its blocks, and those were taken that are not unused
-pub with_slab : (words : List ℕ) (old added new : SlabSet) (start slab class : ℕ) {used : ℕ → Bool} → slab / 16384 ≡ start → class ≡ (tables_of words).class start → added.granules ≡ old.granules → ((s : ℕ) → class_in added s ≡ with_key (class_in old) start (Some class) s) →
-    ((s i : ℕ) → is_available added s i ≡ cond (eqb s start) (ltb i (class_capacity class)) (is_available old s i)) → new.granules ≡ added.granules → ((s : ℕ) → class_in new s ≡ class_in added s) →
-    ((s i : ℕ) → is_available new s i ≡ cond (eqb s start && used i) false (is_available added s i)) →
+-- a slab was added, in which the blocks are open that are not used
+pub with_slab : (words : List ℕ) (old new : Supply) (start slab class : ℕ) {used : ℕ → Bool} → slab / 16384 ≡ start → class ≡ (tables_of words).class start → HasSlabMore old new start class (λ i. (i < class_capacity class) × (used i ≡ false)) →
     ((i : ℕ) → i < class_capacity ((tables_of words).class (slab / 16384)) → (used i ≡ false) ↔ IsUnusedIn (tables_of words) (slab / 16384) ((tables_of words).class (slab / 16384)) i) → IsWithSlabOf words old new start
-with_slab words old added new start slab class {used} at is granules classes blocks kept same taken unused = record {
-  granules = kept ∙ granules;
-  here = same start ∙ classes start ∙ if_same start start (Some class) (class_in old start) refl ∙ ap (λ c. Some c) is;
+with_slab words old new start slab class {used} at is more unused = record {
+  granules = more.granules;
+  here = more.classes start ∙ if_same start start (Some class) (class_in old.slabs start) refl ∙ ap (λ c. Some c) is;
   blocks = λ i few.
-      let all : is_available added start i ≡ true = blocks start i ∙ if_same start start (ltb i (class_capacity class)) (is_available old start i) refl ∙ lt-ltb i (class_capacity class) (subst (λ c. i < class_capacity c) (sym is) few) in
-      let left : is_available new start i ≡ cond (used i) false true = taken start i ∙ ap (λ b. cond (b && used i) false (is_available added start i)) (eq-eqb start start refl) ∙ ap (cond (used i) false) all in
-      iff_then (iff_same left (not_used (used i))) (subst (λ s. i < class_capacity ((tables_of words).class s) → (used i ≡ false) ↔ IsUnusedIn (tables_of words) s ((tables_of words).class s) i) at (unused i) few);
-  classes = λ other apart. same other ∙ classes other ∙ if_other other start (Some class) (class_in old other) apart;
-  others = λ other i apart.
-      taken other i
-      ∙ ap (λ b. cond (b && used i) false (is_available added other i)) (ne_eqb other start apart)
-      ∙ blocks other i
-      ∙ if_other other start (ltb i (class_capacity class)) (is_available old other i) apart;
+      let says = subst (λ s. i < class_capacity ((tables_of words).class s) → (used i ≡ false) ↔ IsUnusedIn (tables_of words) s ((tables_of words).class s) i) at (unused i) few in
+      iff_then (more.here i) (λ both. says.0 both.1, λ free. (subst (λ c. i < class_capacity c) (sym is) few, says.1 free));
+  classes = λ other apart. more.classes other ∙ if_other other start (Some class) (class_in old.slabs other) apart;
+  others = λ other i apart. more.others other i apart;
 }
-  where
-    not_used : (b : Bool) → (cond b false true ≡ true) ↔ (b ≡ false)
-    not_used true = (λ is. absurd (true≢false (sym is)), λ is. absurd (true≢false is))
-    not_used false = (λ is. refl, λ is. refl)
 
 -- the class that was read is the slab's
 pub class_read : (words : List ℕ) (at start class : ℕ) → at ≡ 16384 * start → (tables_of words).slab start ≡ true → (is_slab words (at / 16384) ≡ true → class ≡ (tables_of words).class (at / 16384)) → class ≡ (tables_of words).class start

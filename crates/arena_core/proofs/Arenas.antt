@@ -17,7 +17,7 @@ use Rattle.heap_check.proofs.Blank.{law_of_steady}
 use Rattle.heap_check.proofs.Large.{with_large}
 use Rattle.log_steps.specs.Log.{IsBookOf}
 use Rattle.size_classes.specs.Classes.{class_capacity}
-use Rattle.slab_index.specs.SlabSet.{SlabSet}
+use Rattle.block_supply.specs.Supply.{Supply}
 use Rattle.arena_core.specs.Arena.{IsIndexOf, IsSlabsOf}
 use Rattle.arena_core.specs.Effect.{KeepsSlabs}
 use Rattle.arena_core.proofs.LargeStages.{IsStageOf}
@@ -48,7 +48,7 @@ slabs_stage {words} {root} {start} {here} {word} {image} stage = record {
 }
 
 -- so the index of them holds still
-pub slabs_kept : {words image : List ℕ} (parts : SlabSet) → KeepsSlabs words image → granules_in image ≡ granules_in words → IsSlabsOf parts words → IsSlabsOf parts image
+pub slabs_kept : {words image : List ℕ} (parts : Supply) → KeepsSlabs words image → granules_in image ≡ granules_in words → IsSlabsOf parts words → IsSlabsOf parts image
 slabs_kept {words} {image} parts keeps granules index = record {
   granules = index.granules ∙ sym granules;
   classes = λ s.

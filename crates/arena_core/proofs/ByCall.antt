@@ -113,7 +113,7 @@ events_by old new line root index word reply step =
 
 pub law_of_one_word : LawOfOneWord
 law_of_one_word old new line root index word reply step = (
-  λ seat. record {
+  λ seat stacks. record {
     bounds = step.bounds;
     each = λ m state.
         let made = step.each m state in
@@ -136,7 +136,7 @@ ReadsAs words line root index reply = IsStepOfAny words words (calls.Read root i
 
 -- the step, where the machine reads
 read_step : (words : List ℕ) (root index : ℕ) (reply : Reply) → ((m : Machine) → HasState words m → IsRead (bounds_of words) m root index reply m) → IsStepOfAny words words (calls.Read root index) reply
-read_step words root index reply reads seat = record { bounds = refl; each = λ m state. (m, record { step = reads m state; stacked = refl }, state) }
+read_step words root index reply reads seat stacks = record { bounds = refl; each = λ m state. (m, record { step = reads m state; stacked = refl }, state) }
 
 -- a root that has a block is one
 rooted : (words : List ℕ) (root : ℕ) (range : Range) → heap (tables_of words) root ≡ Some range → ¬ ((bounds_of words).roots ≤ root)

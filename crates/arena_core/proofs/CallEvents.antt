@@ -10,7 +10,8 @@ use Rattle.pmem_lines.specs.Pmem.{PmemState, words_of, began, appended}
 use Rattle.pmem_lines.specs.Steps.{IsQuietStep}
 use Rattle.pmem_lines.proofs.Steps.{step_by, step_none}
 use Rattle.image_tables.specs.Tables.{Tables, tables_of}
-use Rattle.slab_index.specs.SlabSet.{SlabSet}
+use Rattle.thread_cache.specs.Stacks.{stacks_of}
+use Rattle.block_supply.specs.Supply.{Supply}
 use Rattle.heap_model.specs.declared.call.Call.{Call}
 use Rattle.heap_model.specs.declared.call.Reply.{Reply}
 use Rattle.heap_model.specs.declared.call.Reply.TheVariants as replies
@@ -29,7 +30,7 @@ use Rattle.heap_check.specs.Image.{bounds_of, IsExactImage}
 use Rattle.heap_check.specs.State.{KeepsBlocks, IsEitherHeap}
 use Rattle.arena_core.specs.Arena.{ArenaState, IsSlabsOf, live_in, AreCountsOf, IsCurrent, IsArena, old_range}
 use Rattle.arena_core.specs.declared.volatile.Volatile.{Volatile}
-use Rattle.arena_core.specs.Call.{IsStepOfAny}
+use Rattle.arena_core.specs.Call.{IsStepOf, IsStepOfAny}
 use Rattle.arena_core.specs.Carried.{IsDone, IsCalled}
 use Rattle.arena_core.specs.Effect.{GivesRoot, KeepsSlabs}
 use Rattle.arena_core.specs.declared.plan.Held.{Held}
@@ -47,21 +48,21 @@ use Rattle.heap_check.proofs.Small.{one_number, is_old-held}
 use Rattle.arena_core.proofs.BlockChanges.{change_bit, book_small, keeps_small}
 
 -- equal ends
-pub IsCalled-same : {old new device : PmemState} {was next left : Volatile} {call : Call} {reply answer : Reply} → device ≡ new → left ≡ next → answer ≡ reply → IsCalled old new was next call reply → IsCalled old device was left call answer
-IsCalled-same {old} {new} {device} {was} {next} {left} {call} {reply} {answer} d v r called =
-    subst (λ (x : PmemState). IsCalled old x was left call answer) (sym d)
-    (subst (λ (x : Volatile). IsCalled old new was x call answer) (sym v)
-    (subst (λ (x : Reply). IsCalled old new was next call x) (sym r) called))
+pub IsCalled-same : {old new device : PmemState} {was next left : Volatile} {seat : ℕ} {call : Call} {reply answer : Reply} → device ≡ new → left ≡ next → answer ≡ reply → IsCalled old new was next seat call reply → IsCalled old device was left seat call answer
+IsCalled-same {old} {new} {device} {was} {next} {left} {seat} {call} {reply} {answer} d v r called =
+    subst (λ (x : PmemState). IsCalled old x was left seat call answer) (sym d)
+    (subst (λ (x : Volatile). IsCalled old new was x seat call answer) (sym v)
+    (subst (λ (x : Reply). IsCalled old new was next seat call x) (sym r) called))
 
 -- a call that placed or freed a block, by its events
-pub IsCalled-done : {old new : PmemState} {was done_left left : Volatile} {root : ℕ} {block : Option Range} {slab : ℕ → Option ℕ} {events : List Event} (call : Call) (reply : Reply) →
+pub IsCalled-done : {old new : PmemState} {was done_left left : Volatile} {seat root : ℕ} {block : Option Range} {slab : ℕ → Option ℕ} {events : List Event} (call : Call) (reply : Reply) →
     IsDone old new done_left root block slab events → events ≡ call_events (words_of old) was.line call reply → left ≡ record done_left { line = left.line } → left.line ≡ line_after was.line reply → left.line < 8 →
-    IsStepOfAny (words_of old) (words_of new) call reply → IsCalled old new was left call reply
-IsCalled-done {old} {new} {was} {done_left} {left} {root} {block} {slab} {events} call reply done same left_is line_is few step = record {
+    IsStepOf seat (words_of old) (stacks_of was.supply.stacks) (words_of new) (stacks_of done_left.supply.stacks) call reply → IsCalled old new was left seat call reply
+IsCalled-done {old} {new} {was} {done_left} {left} {seat} {root} {block} {slab} {events} call reply done same left_is line_is few step = record {
   carried = step_by events (call_events (words_of old) was.line call reply) same done.step;
   arena = subst (IsArena new) (sym left_is) (record { current = record { ready = done.current.ready; exact = done.current.exact; log = done.current.log; index = done.current.index }; slabs = done.slabs; lives = done.lives; few = few });
   line_is = line_is;
-  step = step;
+  step = subst (λ (v : Volatile). IsStepOf seat (words_of old) (stacks_of was.supply.stacks) (words_of new) (stacks_of v.supply.stacks) call reply) (sym left_is) step;
   keeps = done.gives.keeps;
 }
 
@@ -225,6 +226,12 @@ module _ (words : List ℕ) (image : IsExactImage words) (root : ℕ) (block : O
   pub old_inside : IsInSlab (tables_of words) block.start block.at
   old_inside = IsInSlab-held image.exact.sound block.start at_old old_held
 
+  -- its class is another than that of the slab now
+  pub old_differs : class ≢ (tables_of words).class block.start
+  old_differs same =
+      let valid = image.exact.sound.slabs block.start named.slab in
+      valid.state.differ (λ normal. omega (arith, named.place.below, (valid.state.none normal).1)) (named.old_is ∙ same)
+
   pub old_heap : heap (tables_of words) root ≡ Some at_old
   old_heap = heap_held image.exact.sound image.exact.closed root block.start at_old old_held named.named
 
@@ -273,13 +280,13 @@ held_heap words image root (holding.Small block class) named = named_heap words 
 held_heap words image root (holding.Old block class) named = old_heap words image root block class named
 
 -- a large block was given or taken
-pub IsDone-large : {old new : PmemState} {was left : Volatile} {root : ℕ} {block : Option Range} {events : List Event} → IsArena old was → left.slabs ≡ was.slabs → left.lives ≡ was.lives → ((s : ℕ) → live_in (words_of new) s ≡ live_in (words_of old) s) →
+pub IsDone-large : {old new : PmemState} {was left : Volatile} {root : ℕ} {block : Option Range} {events : List Event} → IsArena old was → left.supply ≡ was.supply → left.lives ≡ was.lives → ((s : ℕ) → live_in (words_of new) s ≡ live_in (words_of old) s) →
     IsQuietStep old new events (IsEitherHeap (words_of old) (words_of new)) → IsCurrent new left → GivesRoot (words_of old) root block (slabs (tables_of (words_of old))) (words_of new) → KeepsSlabs (words_of old) (words_of new) →
     IsDone old new left root block (slabs (tables_of (words_of old))) events
 IsDone-large {old} {new} {was} {left} {root} {block} {events} arena same same_lives lives step kept gives keeps = record {
   step = step;
   current = kept;
-  slabs = subst (λ (set : SlabSet). IsSlabsOf set (words_of new)) (sym same) (slabs_kept was.slabs keeps (ap (λ (b : Bounds). b.granules) gives.bounds) arena.slabs);
+  slabs = subst (λ (set : Supply). IsSlabsOf set (words_of new)) (sym same) (slabs_kept was.supply keeps (ap (λ (b : Bounds). b.granules) gives.bounds) arena.slabs);
   lives = subst (λ (counts : List ℕ). AreCountsOf counts (words_of new)) (sym same_lives) (counts_kept (words_of old) (words_of new) was.lives (ap (λ (b : Bounds). b.granules) gives.bounds) lives arena.lives);
   gives = gives;
 }
@@ -303,9 +310,9 @@ small_attachable words root size block class image asked placing =
     }
 
 -- it came
-pub IsDone-small : {old new : PmemState} {was left : Volatile} {root class : ℕ} (block : SmallBlock) → IsArena old was → left ≡ record was { slabs = left.slabs; lives = left.lives } → IsAttachable (words_of old) root block →
+pub IsDone-small : {old new : PmemState} {was left : Volatile} {root class : ℕ} (block : SmallBlock) → IsArena old was → left ≡ record was { supply = left.supply; lives = left.lives } → IsAttachable (words_of old) root block →
     (tables_of (words_of old)).class block.start ≡ class → IsQuietStep old new (attach_events (words_of old) was.line root block) (IsEitherHeap (words_of old) (words_of new)) → IsAttached (words_of old) was.line root block (words_of new) →
-    IsSlabsOf left.slabs (words_of new) → AreCountsOf left.lives (words_of new) →
+    IsSlabsOf left.supply (words_of new) → AreCountsOf left.lives (words_of new) →
     IsDone old new left root (Some (slab_block block.start class block.number)) (slabs (tables_of (words_of old))) (attach_events (words_of old) was.line root block)
 IsDone-small {old} {new} {was} {left} {root} {class} block arena left_is may class_is step attached slabs lives =
     let words = words_of old in
@@ -333,20 +340,20 @@ IsDone-small {old} {new} {was} {left} {root} {class} block arena left_is may cla
     }
 
 -- a call that is refused
-pub IsCalled-refused : {old : PmemState} {was : Volatile} (call : Call) (reply : Reply) → IsArena old was →
-    call_events (words_of old) was.line call reply ≡ [] → line_after was.line reply ≡ was.line → IsStepOfAny (words_of old) (words_of old) call reply → IsCalled old old was was call reply
-IsCalled-refused {old} {was} call reply arena none stays step =
+pub IsCalled-refused : {old : PmemState} {was : Volatile} {seat : ℕ} (call : Call) (reply : Reply) → IsArena old was →
+    call_events (words_of old) was.line call reply ≡ [] → line_after was.line reply ≡ was.line → IsStepOfAny (words_of old) (words_of old) call reply → IsCalled old old was was seat call reply
+IsCalled-refused {old} {was} {seat} call reply arena none stays step =
     record {
       carried = step_by [] (call_events (words_of old) was.line call reply) (sym none) (step_none arena.current.ready.quiet (same_heap (words_of old) (words_of old) arena.current.exact));
       arena = arena;
       line_is = sym stays;
-      step = step;
+      step = step seat (stacks_of was.supply.stacks);
       keeps = record { each = λ r other range k here is word. refl };
     }
 
--- an arena answered a call
-pub record IsAnswered (old new : ArenaState) (left : Volatile) (call : Call) (reply : Reply) : Type 0 where
-  pub step : IsStepOfAny (words_of old.device) (words_of new.device) call reply
+-- an arena answered a call of a seat
+pub record IsAnswered (old new : ArenaState) (left : Volatile) (seat : ℕ) (call : Call) (reply : Reply) : Type 0 where
+  pub step : IsStepOf seat (words_of old.device) (stacks_of old.stacks) (words_of new.device) (stacks_of new.stacks) call reply
   pub device : new.device ≡ appended (began old.device) (call_events (words_of old.device) old.line call reply)
   pub line_is : new.line ≡ line_after old.line reply
   pub keeps : KeepsBlocks (words_of old.device) (words_of new.device)
@@ -355,16 +362,16 @@ pub record IsAnswered (old new : ArenaState) (left : Volatile) (call : Call) (re
 
 -- what an arena means
 abbrev pub meant : PmemState → Volatile → ArenaState
-meant device volatile = record { device = device; line = volatile.line }
+meant device volatile = record { device = device; line = volatile.line; stacks = volatile.supply.stacks }
 
 -- by what was done behind its begin
-answered : (device begun new : PmemState) (was left : Volatile) (call : Call) (reply : Reply) → begun ≡ began device → IsCalled begun new was left call reply → IsAnswered (meant device was) (meant new left) left call reply
-answered device begun new was left call reply is called =
+answered : (device begun new : PmemState) (was left : Volatile) (seat : ℕ) (call : Call) (reply : Reply) → begun ≡ began device → IsCalled begun new was left seat call reply → IsAnswered (meant device was) (meant new left) left seat call reply
+answered device begun new was left seat call reply is called =
     let same : words_of begun ≡ words_of device = ap (λ (s : PmemState). words_of s) is in
     let state : new ≡ appended (began device) (call_events (words_of device) was.line call reply) =
     called.carried.appends.state ∙ (λ i. appended (is i) (call_events (same i) was.line call reply)) in
     record {
-      step = subst (λ (ws : List ℕ). IsStepOfAny ws (words_of new) call reply) same called.step;
+      step = subst (λ (ws : List ℕ). IsStepOf seat ws (stacks_of was.supply.stacks) (words_of new) (stacks_of left.supply.stacks) call reply) same called.step;
       device = state;
       line_is = called.line_is;
       keeps = subst (λ (ws : List ℕ). KeepsBlocks ws (words_of new)) same called.keeps;
@@ -375,7 +382,7 @@ answered device begun new was left call reply is called =
     }
 
 -- of an arena by what it means
-pub answered_by : (device begun new : PmemState) (was left : Volatile) (now : ArenaState) (call : Call) (reply : Reply) → meant device was ≡ now → begun ≡ began device →
-    IsCalled begun new was left call reply → IsAnswered now (meant new left) left call reply
-answered_by device begun new was left now call reply view is called =
-    subst (λ (s : ArenaState). IsAnswered s (meant new left) left call reply) view (answered device begun new was left call reply is called)
+pub answered_by : (device begun new : PmemState) (was left : Volatile) (now : ArenaState) (seat : ℕ) (call : Call) (reply : Reply) → meant device was ≡ now → begun ≡ began device →
+    IsCalled begun new was left seat call reply → IsAnswered now (meant new left) left seat call reply
+answered_by device begun new was left now seat call reply view is called =
+    subst (λ (s : ArenaState). IsAnswered s (meant new left) left seat call reply) view (answered device begun new was left seat call reply is called)

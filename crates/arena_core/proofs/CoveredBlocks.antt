@@ -1,12 +1,14 @@
 -- The blocks that an old block covered are given out again, where nothing else covers them.
-use Rattle.std.proofs.Common.{◌≡◌, ◌≢◌, ◌⊎◌, ◌↔◌, ◌==◌, ◌&&◌, ℕ, ◌+◌, ◌<◌, ◌≤◌, true, false, true≢false, List, None, refl, sym, ap, subst, ◌∙◌, arith, inl, inr, ⊎_elim, if◌then◌else◌}
-use Rattle.std.proofs.lemmas.Bool.{cases_eq, cases_lt, cond-true, cond-false, eq-eqb, ne_eqb, and_from, and_left, and_right, false_from_ne_true}
+use Rattle.std.proofs.Common.{◌≡◌, ◌≢◌, ◌⊎◌, ◌↔◌, ℕ, ◌+◌, ◌<◌, ◌≤◌, true, false, List, None, refl, sym, ap, subst, ◌∙◌, arith, inl, inr, ⊎_elim}
+use Rattle.std.proofs.lemmas.Bool.{cases_eq, cases_lt}
 use Rattle.pool_layout.specs.Header.{granules_in}
 use Rattle.size_classes.specs.Classes.{class_capacity}
 use Rattle.image_tables.specs.Tables.{Tables, tables_of}
 use Rattle.image_tables.specs.Updates.{put_at, with_old}
 use Rattle.image_tables.proofs.Updates.{put_at-other}
-use Rattle.slab_index.specs.SlabSet.{SlabSet, class_in, is_available}
+use Rattle.slab_index.specs.SlabSet.{class_in}
+use Rattle.block_supply.specs.Supply.{Supply, IsOpen, IsWith}
+use Rattle.arena_core.proofs.SmallCalls.{here_or_else}
 use Rattle.heap_model.specs.Machine.{Bounds, AreApart, slab_block}
 use Rattle.heap_check.specs.Heap.{slabs, IsUnusedIn}
 use Rattle.heap_check.specs.Slabs.{IsSameSlab}
@@ -17,45 +19,45 @@ use Rattle.attach_steps.specs.declared.block.OldBlock.{OldBlock}
 use Rattle.attach_steps.specs.Steps.{IsOldDetachable, IsOldDetached}
 use Rattle.arena_core.specs.Arena.{old_range, IsSlabsOf, AreSlabsBut}
 use Rattle.arena_core.proofs.HeldBlocks.{old_holds}
-use Rattle.arena_core.proofs.UnusedBlocks.{iff_then, iff_same, unused_apart}
+use Rattle.arena_core.proofs.UnusedBlocks.{iff_then, unused_apart}
 
 -- the old block went: the set has no block that overlaps it, and of the others those that are unused
-pub slabs_old : (words : List ℕ) (line root : ℕ) (block : OldBlock) → IsOldDetachable words root block → (new : List ℕ) → IsOldDetached words line root block new → (set : SlabSet) → IsSlabsOf set words → AreSlabsBut set new block
+pub slabs_old : (words : List ℕ) (line root : ℕ) (block : OldBlock) → IsOldDetachable words root block → (new : List ℕ) → IsOldDetached words line root block new → (set : Supply) → IsSlabsOf set words → AreSlabsBut set new block
 slabs_old words line root block may new detached set was = record {
   granules = was.granules ∙ ap (λ (b : Bounds). b.granules) (sym detached.bounds);
   classes = λ s. was.classes s ∙ sym (ap (λ (x : Tables). slabs x s) detached.tables);
-  blocks = subst (λ (x : Tables). (s i : ℕ) → x.slab s ≡ true → i < class_capacity (x.class s) → (s ≢ block.start) ⊎ AreApart (old_range x block) (slab_block s (x.class s) i) → (is_available set s i ≡ true) ↔ IsUnusedIn x s (x.class s) i)
+  blocks = subst (λ (x : Tables). (s i : ℕ) → x.slab s ≡ true → i < class_capacity (x.class s) → (s ≢ block.start) ⊎ AreApart (old_range x block) (slab_block s (x.class s) i) → IsOpen set s i ↔ IsUnusedIn x s (x.class s) i)
       (sym detached.tables) each;
-  none = subst (λ (x : Tables). (i : ℕ) → i < class_capacity (x.class block.start) → ¬ (AreApart (old_range x block) (slab_block block.start (x.class block.start) i)) → is_available set block.start i ≡ false) (sym detached.tables) none;
+  none = subst (λ (x : Tables). (i : ℕ) → i < class_capacity (x.class block.start) → ¬ (AreApart (old_range x block) (slab_block block.start (x.class block.start) i)) → ¬ (IsOpen set block.start i)) (sym detached.tables) none;
 }
   where
     same_slab : (s : ℕ) → s ≢ block.start → IsSameSlab (tables_of words) (with_old (tables_of words) block.start block.place false root 0 None) s
     same_slab s differ = record { slab = refl; kind = refl; class = refl; old = refl; index_count = refl; bit = refl; live = put_at-other (tables_of words).live block.start s _ differ; number = refl }
 
-    in_slab : (i : ℕ) → (tables_of words).slab block.start ≡ true → i < class_capacity ((tables_of words).class block.start) → AreApart (old_range (tables_of words) block) (slab_block block.start ((tables_of words).class block.start) i) → (is_available set block.start i ≡ true) ↔ IsUnusedIn (with_old (tables_of words) block.start block.place false root 0 None) block.start ((tables_of words).class block.start) i
+    in_slab : (i : ℕ) → (tables_of words).slab block.start ≡ true → i < class_capacity ((tables_of words).class block.start) → AreApart (old_range (tables_of words) block) (slab_block block.start ((tables_of words).class block.start) i) → IsOpen set block.start i ↔ IsUnusedIn (with_old (tables_of words) block.start block.place false root 0 None) block.start ((tables_of words).class block.start) i
     in_slab i slab below apart = iff_then (was.blocks block.start i slab below)
         (unused_apart (Holds-relived_back (tables_of words) block.start block.place false (put_at (tables_of words).word root 0) (put_at (tables_of words).root root 0) None block.start) (Holds-relived (tables_of words) block.start block.place false (put_at (tables_of words).word root 0) (put_at (tables_of words).root root 0) None block.start) ((tables_of words).class block.start) i apart)
 
-    each : (s i : ℕ) → (tables_of words).slab s ≡ true → i < class_capacity ((tables_of words).class s) → (s ≢ block.start) ⊎ AreApart (old_range (tables_of words) block) (slab_block s ((tables_of words).class s) i) → (is_available set s i ≡ true) ↔ IsUnusedIn (with_old (tables_of words) block.start block.place false root 0 None) s ((tables_of words).class s) i
+    each : (s i : ℕ) → (tables_of words).slab s ≡ true → i < class_capacity ((tables_of words).class s) → (s ≢ block.start) ⊎ AreApart (old_range (tables_of words) block) (slab_block s ((tables_of words).class s) i) → IsOpen set s i ↔ IsUnusedIn (with_old (tables_of words) block.start block.place false root 0 None) s ((tables_of words).class s) i
     each s i slab below either = ⊎_elim
         (λ (same : s ≡ block.start).
-        subst (λ k. (tables_of words).slab k ≡ true → i < class_capacity ((tables_of words).class k) → AreApart (old_range (tables_of words) block) (slab_block k ((tables_of words).class k) i) → (is_available set k i ≡ true) ↔ IsUnusedIn (with_old (tables_of words) block.start block.place false root 0 None) k ((tables_of words).class k) i) (sym same) (in_slab i) slab below
+        subst (λ k. (tables_of words).slab k ≡ true → i < class_capacity ((tables_of words).class k) → AreApart (old_range (tables_of words) block) (slab_block k ((tables_of words).class k) i) → IsOpen set k i ↔ IsUnusedIn (with_old (tables_of words) block.start block.place false root 0 None) k ((tables_of words).class k) i) (sym same) (in_slab i) slab below
         (⊎_elim (λ differ. absurd (differ same)) (λ apart. apart) either))
         (λ (differ : s ≢ block.start). iff_then (was.blocks s i slab below) (IsUnusedIn-same (same_slab s differ) ((tables_of words).class s) i))
         (cases_eq s block.start)
 
-    none : (i : ℕ) → i < class_capacity ((tables_of words).class block.start) → ¬ (AreApart (old_range (tables_of words) block) (slab_block block.start ((tables_of words).class block.start) i)) → is_available set block.start i ≡ false
-    none i below overlap = false_from_ne_true (is_available set block.start i) (λ is. overlap (((was.blocks block.start i may.slab below).0 is).each (old_range (tables_of words) block) (old_holds may)))
+    none : (i : ℕ) → i < class_capacity ((tables_of words).class block.start) → ¬ (AreApart (old_range (tables_of words) block) (slab_block block.start ((tables_of words).class block.start) i)) → ¬ (IsOpen set block.start i)
+    none i below overlap is = overlap (((was.blocks block.start i may.slab below).0 is).each (old_range (tables_of words) block) (old_holds may))
 
 -- Of the blocks that it covered those below a number are given back, where they are unused.
-pub record AreGiven (set : SlabSet) (words : List ℕ) (start number end : ℕ) : Type 0 where
-  pub granules : set.granules ≡ granules_in words
-  pub classes : (s : ℕ) → class_in set s ≡ slabs (tables_of words) s
-  pub done : (s i : ℕ) → (tables_of words).slab s ≡ true → i < class_capacity ((tables_of words).class s) → ¬ ((s ≡ start) × (number ≤ i) × (i < end)) → (is_available set s i ≡ true) ↔ IsUnusedIn (tables_of words) s ((tables_of words).class s) i
-  pub rest : (i : ℕ) → number ≤ i → i < end → is_available set start i ≡ false
+pub record AreGiven (set : Supply) (words : List ℕ) (start number end : ℕ) : Type 0 where
+  pub granules : set.slabs.granules ≡ granules_in words
+  pub classes : (s : ℕ) → class_in set.slabs s ≡ slabs (tables_of words) s
+  pub done : (s i : ℕ) → (tables_of words).slab s ≡ true → i < class_capacity ((tables_of words).class s) → ¬ ((s ≡ start) × (number ≤ i) × (i < end)) → IsOpen set s i ↔ IsUnusedIn (tables_of words) s ((tables_of words).class s) i
+  pub rest : (i : ℕ) → number ≤ i → i < end → ¬ (IsOpen set start i)
 
 -- before the first
-pub given_first : (words : List ℕ) (block : OldBlock) (from end : ℕ) (set : SlabSet) → let t = tables_of words in IsOverlapRange (t.old block.start) (t.number block.start block.place) (t.class block.start) from end →
+pub given_first : (words : List ℕ) (block : OldBlock) (from end : ℕ) (set : Supply) → let t = tables_of words in IsOverlapRange (t.old block.start) (t.number block.start block.place) (t.class block.start) from end →
     AreSlabsBut set words block → AreGiven set words block.start from end
 given_first words block from end set range was =
     let t = tables_of words in
@@ -72,42 +74,33 @@ given_first words block from end set range was =
       rest = λ i low high. was.none i (omega (arith, high, range.high)) (range.inside block.start i low high);
     }
 
--- the next one is unused, and given back
-pub given_next : (words : List ℕ) (start number end : ℕ) (set next : SlabSet) → number < end → IsUnusedIn (tables_of words) start ((tables_of words).class start) number → next.granules ≡ set.granules → ((s : ℕ) → class_in next s ≡ class_in set s) →
-    ((s i : ℕ) → is_available next s i ≡ (if (s == start) && (i == number) then true else is_available set s i)) → AreGiven set words start number end → AreGiven next words start (number + 1) end
-given_next words start number end set next below unused granules classes blocks were = record {
-  granules = granules ∙ were.granules;
-  classes = λ s. classes s ∙ were.classes s;
+-- the next one is unused, and open again
+pub given_next : (words : List ℕ) (start number end : ℕ) (set next : Supply) → number < end → IsUnusedIn (tables_of words) start ((tables_of words).class start) number → IsWith set next start number → AreGiven set words start number end → AreGiven next words start (number + 1) end
+given_next words start number end set next below unused came were = record {
+  granules = came.granules ∙ were.granules;
+  classes = λ s. came.classes s ∙ were.classes s;
   done = λ s i slab among outside. ⊎_elim
       (λ (here : (s ≡ start) × (i ≡ number)). (
         λ is. subst (λ k. IsUnusedIn (tables_of words) k ((tables_of words).class k) i) (sym here.0) (subst (λ j. IsUnusedIn (tables_of words) start ((tables_of words).class start) j) (sym here.1) unused),
-        λ is. blocks s i ∙ cond-true ((s == start) && (i == number)) true (is_available set s i) (and_from (s == start) (i == number) (eq-eqb s start here.0) (eq-eqb i number here.1)),
+        λ is. subst (λ k. IsOpen next k i) (sym here.0) (subst (IsOpen next start) (sym here.1) came.here),
       ))
-      (λ (apart : (s ≢ start) ⊎ (i ≢ number)). iff_same (elsewhere s i apart) (were.done s i slab among (λ within. outside (within.0, at_next s i within.0 within.1 apart, within.2))))
-      (cases_pair s i);
-  rest = λ i low high. elsewhere start i (inr (λ same. omega (arith, same, low))) ∙ were.rest i (omega (arith, low)) high;
+      (λ (apart : (s ≢ start) ⊎ (i ≢ number)). iff_then (came.others s i apart) (were.done s i slab among (λ within. outside (within.0, at_next s i within.0 within.1 apart, within.2))))
+      (here_or_else s i start number);
+  rest = λ i low high is. were.rest i (omega (arith, low)) high ((came.others start i (inr (λ same. omega (arith, same, low)))).0 is);
 }
   where
-    cases_pair : (s i : ℕ) → ((s ≡ start) × (i ≡ number)) ⊎ ((s ≢ start) ⊎ (i ≢ number))
-    cases_pair s i = ⊎_elim (λ same. ⊎_elim (λ is. inl (same, is)) (λ differ. inr (inr differ)) (cases_eq i number)) (λ differ. inr (inl differ)) (cases_eq s start)
-
     at_next : (s i : ℕ) → s ≡ start → number ≤ i → (s ≢ start) ⊎ (i ≢ number) → number + 1 ≤ i
     at_next s i same low apart = ⊎_elim (λ differ. absurd (differ same)) (λ differ. omega (arith, low, differ)) apart
 
-    elsewhere : (s i : ℕ) → (s ≢ start) ⊎ (i ≢ number) → is_available next s i ≡ is_available set s i
-    elsewhere s i either = blocks s i
-        ∙ cond-false ((s == start) && (i == number)) true (is_available set s i)
-        (⊎_elim (λ apart. and_left (s == start) (i == number) (ne_eqb s start apart)) (λ apart. and_right (s == start) (i == number) (ne_eqb i number apart)) either)
-
 -- it is not
-pub given_none : (words : List ℕ) (start number end : ℕ) (set : SlabSet) → number < end → ¬ (IsUnusedIn (tables_of words) start ((tables_of words).class start) number) → AreGiven set words start number end → AreGiven set words start (number + 1) end
+pub given_none : (words : List ℕ) (start number end : ℕ) (set : Supply) → number < end → ¬ (IsUnusedIn (tables_of words) start ((tables_of words).class start) number) → AreGiven set words start number end → AreGiven set words start (number + 1) end
 given_none words start number end set below used were = record {
   granules = were.granules;
   classes = were.classes;
   done = λ s i slab among outside. ⊎_elim
       (λ (same : s ≡ start). ⊎_elim
       (λ (here : i ≡ number). (
-        λ is. absurd (true≢false (sym is ∙ ap (λ k. is_available set k i) same ∙ were.rest i (omega (arith, here)) (omega (arith, here, below)))),
+        λ is. absurd (were.rest i (omega (arith, here)) (omega (arith, here, below)) (subst (λ k. IsOpen set k i) same is)),
         λ unused. absurd (used (subst (λ j. IsUnusedIn (tables_of words) start ((tables_of words).class start) j) here (subst (λ k. IsUnusedIn (tables_of words) k ((tables_of words).class k) i) same unused))),
       ))
       (λ (differ : i ≢ number). were.done s i slab among (λ within. outside (within.0, omega (arith, within.1, differ), within.2)))
@@ -118,7 +111,7 @@ given_none words start number end set below used were = record {
 }
 
 -- all are seen
-pub given_all : (words : List ℕ) (start number end : ℕ) (set : SlabSet) → end ≤ number → AreGiven set words start number end → IsSlabsOf set words
+pub given_all : (words : List ℕ) (start number end : ℕ) (set : Supply) → end ≤ number → AreGiven set words start number end → IsSlabsOf set words
 given_all words start number end set all were = record {
   granules = were.granules;
   classes = were.classes;

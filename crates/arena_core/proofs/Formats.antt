@@ -171,7 +171,7 @@ module _ {old begun new : PmemState} {number arenas granules : ℕ} (made : IsWr
 
 -- what an arena keeps, of one that was formatted
 pub formatted_arena : (device : PmemState) (header : PoolHeader) (volatile : Volatile) → IsReady device → IsFormatted (words_of device) header → Reads volatile.log (words_of device) → volatile.log.granules ≡ header.granules →
-    volatile.free.granules ≡ header.granules → ((k : ℕ) → IsFree volatile.free k ↔ ((4 ≤ k) × (k < header.granules))) → volatile.slabs.granules ≡ header.granules → ((s : ℕ) → class_in volatile.slabs s ≡ None) →
+    volatile.free.granules ≡ header.granules → ((k : ℕ) → IsFree volatile.free k ↔ ((4 ≤ k) × (k < header.granules))) → volatile.supply.slabs.granules ≡ header.granules → ((s : ℕ) → class_in volatile.supply.slabs s ≡ None) →
     length volatile.lives ≡ header.granules → ((s : ℕ) → slice_index volatile.lives s ≡ 0) → volatile.line ≡ 0 → IsArena device volatile
 formatted_arena device header volatile ready formatted reads size index each parts_size no_class count_size no_count first_line =
     let words = words_of device in

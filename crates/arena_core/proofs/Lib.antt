@@ -8,6 +8,7 @@ pub mod LargeCalls
 pub mod Arenas
 pub mod Formats
 pub mod States
+pub mod StackSteps
 pub mod MachineSteps
 pub mod CallEvents
 pub mod HeapSteps
@@ -25,4 +26,5 @@ pub mod PayloadImages
 pub mod PayloadRows
 pub mod PayloadStates
 pub mod PayloadCalls
+pub mod PlannedCalls
 pub mod ByCall

@@ -5,12 +5,25 @@ use Rattle.heap_model.specs.declared.call.Call.{Call}
 use Rattle.heap_model.specs.declared.call.Call.TheVariants as calls
 use Rattle.heap_model.specs.declared.call.Reply.{Reply}
 use Rattle.heap_model.specs.declared.call.Reply.TheVariants as replies
-use Rattle.heap_model.specs.Policy.{plain}
+use Rattle.heap_model.specs.Policy.{without_morphs}
 use Rattle.heap_model.specs.Machine.{Bounds, Range, Machine, with_key}
 use Rattle.heap_model.specs.Slabs.{view_of}
 use Rattle.heap_model.specs.Step.{HasBlock, with_block, without_block, slabs_without, forgotten, IsStep}
-use Rattle.heap_model.proofs.Views.{IsPlainSite-same, HasNoSite-same}
-use Rattle.heap_model.proofs.Plain.{IsClear, IsPlacedStep-malloc, IsPlacedStep-other}
+use Rattle.size_classes.specs.Classes.{class_size, class_capacity}
+use Rattle.heap_model.specs.Machine.{slab_block, IsFreeGranule}
+use Rattle.heap_model.specs.Placement.{Stacks, without_left, IsStacked, IsReturned}
+use Rattle.heap_model.proofs.Fits.{IsBestFit-same}
+use Rattle.heap_model.proofs.Sites.{class_small, IsStep-granted}
+use Rattle.heap_model.proofs.Views.{IsSite-same, HasNoSite-same}
+use Rattle.thread_cache.specs.Stacks.{stacks_of}
+use Rattle.block_supply.specs.Supply.{Supply, supply_view, TookBlock, HasNoOpen}
+use Rattle.block_supply.proofs.Views.{AgreeOnBlocks}
+use Rattle.heap_check.specs.Sound.{IsVacant}
+use Rattle.heap_check.proofs.ExactStates.{law_of_exact_state}
+use Rattle.arena_core.specs.Arena.{IsSlabsOf}
+use Rattle.arena_core.proofs.Plans.{slab_of_set, block_is}
+use Rattle.arena_core.proofs.StackSteps.{way_there, way_fresh, returned_large, returned_small, returned_old}
+use Rattle.arena_core.proofs.UnusedBlocks.{iff_then}
 use Rattle.heap_check.specs.Heap.{is_large, heap, slabs}
 use Rattle.heap_check.specs.Sound.{IsInSlab}
 use Rattle.heap_check.specs.Image.{bounds_of, IsExactImage}
@@ -23,10 +36,10 @@ use Rattle.arena_core.specs.declared.answer.MallocRefusal.TheVariants.{NoRoot, O
 use Rattle.arena_core.specs.declared.answer.FreeRefusal.{FreeRefusal}
 use Rattle.arena_core.specs.declared.answer.FreeRefusal.TheVariants as refusals
 use Rattle.arena_core.specs.Answer.{malloc_reply, free_reply}
-use Rattle.arena_core.specs.Call.{IsStepOfAny}
-use Rattle.arena_core.specs.Effect.{slabs_but, slabs_behind, IsLastOf, GivesRoot}
-use Rattle.arena_core.specs.Plan.{IsAskedOf, tables_view, site_of, IsPlacing, range_at, IsMallocPlan, IsTakable, IsFreePlan}
-use Rattle.arena_core.proofs.States.{naming, nameless, after_call, named_at, vacant_clear, tables_agree, slabs_without-large, slabs_without-other, slabs_without-none}
+use Rattle.arena_core.specs.Call.{IsStepOf, IsStepOfAny}
+use Rattle.arena_core.specs.Effect.{slabs_but, stacks_but, IsPutBack, IsSuppliedFresh, slabs_behind, IsLastOf, GivesRoot}
+use Rattle.arena_core.specs.Plan.{IsAskedOf, tables_view, site_of, number_of, IsPlacing, range_at, IsMallocPlan, IsTakable, IsFreePlan}
+use Rattle.arena_core.proofs.States.{naming, naming_slab, nameless, after_call, named_at, vacant_clear, tables_agree, slabs_without-large, slabs_without-other, slabs_without-none}
 
 -- the new words have the state in which the root has this block, and these are the slabs
 pub HasState-gives : (old new : List ℕ) (root : ℕ) (block : Option Range) (slab : ℕ → Option ℕ) (m : Machine) (next : ℕ → Option ℕ) → HasState old m → GivesRoot old root block slab new → ((start : ℕ) → slab start ≡ next start) →
@@ -40,23 +53,48 @@ HasState-gives old new root block slab m next state gives same =
 abbrev pub placed_reply : Range → Reply
 placed_reply range = replies.Placed range.at range.size
 
+-- what became of the supply where a block is placed
+abbrev pub IsServedAt : Supply → Supply → ℕ → Place → Type 0
+IsServedAt was next seat (Large start count) = next.stacks ≡ was.stacks
+IsServedAt was next seat (Small block class) = TookBlock was seat class (number_of block) next
+IsServedAt was next seat (Fresh start class) = HasNoOpen was class × IsSuppliedFresh was next seat start class
+
 -- a block is placed
-pub placed_step : (old new : List ℕ) (root size : ℕ) (place : Place) → IsExactImage old → IsAskedOf (bounds_of old) (tables_of old) root size → IsPlacing (bounds_of old) (tables_of old) root size place →
-    GivesRoot old root (Some (range_at place)) (slabs_behind (tables_of old) place) new → IsStepOfAny old new (calls.Malloc root size) (placed_reply (range_at place))
-placed_step old new root size place image asked placing gives seat = record {
+pub placed_step : (old new : List ℕ) (was next : Supply) (seat root size : ℕ) (place : Place) → IsExactImage old → IsSlabsOf was old → IsAskedOf (bounds_of old) (tables_of old) root size → IsPlacing (bounds_of old) (tables_of old) root size place →
+    IsServedAt was next seat place → GivesRoot old root (Some (range_at place)) (slabs_behind (tables_of old) place) new → IsStepOf seat old (stacks_of was.stacks) new (stacks_of next.stacks) (calls.Malloc root size) (placed_reply (range_at place))
+placed_step old new was next seat root size place image supply asked placing served gives = record {
   bounds = gives.bounds;
   each = λ m state. (
     with_block m root (site_of place),
-    IsPlacedStep-malloc (bounds_of old) seat m root size (site_of place) asked.below (nameless state root asked.none) asked.some asked.most
-        (IsPlainSite-same (tables_view (bounds_of old) (tables_of old)) (view_of (bounds_of old) m) size (site_of place) (tables_agree image state) placing.site) (clear m state place placing),
+    record {
+      step = IsStep-granted without_morphs (bounds_of old) m root size asked.below (nameless state root asked.none) asked.some asked.most (site_of place)
+          (IsSite-same without_morphs (tables_view (bounds_of old) (tables_of old)) (view_of (bounds_of old) m) (tables_agree image state) size (site_of place) placing.site);
+      stacked = stacked m state place placing served;
+    },
     state_behind m state place gives,
   );
 }
   where
-    clear : (m : Machine) → HasState old m → (place : Place) → IsPlacing (bounds_of old) (tables_of old) root size place → IsClear m (site_of place)
-    clear m state (Large start count) placing = tt
-    clear m state (Small block class) placing = tt
-    clear m state (Fresh start class) placing = vacant_clear image state start class placing.site.chosen.within placing.place_for
+    agree : (m : Machine) → HasState old m → AgreeOnBlocks (supply_view was) (view_of (bounds_of old) m)
+    agree m state = record {
+      slab = λ s. supply.classes s ∙ state.slabs s;
+      unused = λ s c n slab within.
+          let is = slab_of_set supply s c slab in
+          iff_then (block_is supply s c n is.0 is.1 within) ((tables_agree image state).unused s c n (sym (supply.classes s) ∙ slab) within);
+    }
+
+    stacked : (m : Machine) (state : HasState old m) (place : Place) → IsPlacing (bounds_of old) (tables_of old) root size place → IsServedAt was next seat place →
+        IsStacked without_morphs (bounds_of old) seat (record { machine = m; stacks = stacks_of was.stacks }) (calls.Malloc root size) (placed_reply (range_at place)) (record { machine = with_block m root (site_of place); stacks = stacks_of next.stacks })
+    stacked m state (Large start count) placing served = inr (λ gave. class_small size gave.class gave.least placing.site.large, ap stacks_of served)
+    stacked m state (Small block class) placing served = inl (
+      record { class = class; least = placing.site.least; at = (slab_block block.start class block.number).at; given = class_size class; is = refl },
+      way_there (bounds_of old) m was next seat class (agree m state) (number_of block) served,
+    )
+    stacked m state (Fresh start class) placing served = inl (
+      record { class = class; least = placing.site.least; at = (slab_block start class 0).at; given = class_size class; is = refl },
+      way_fresh (bounds_of old) m was next seat class (agree m state) start served.0 served.1 (λ n below. vacant_clear image state start class n below placing.place_for)
+          (IsBestFit-same (IsVacant (bounds_of old) (tables_of old)) (IsFreeGranule (bounds_of old) m) 4 start (tables_agree image state).free placing.site.fit),
+    )
 
     state_behind : (m : Machine) → HasState old m → (place : Place) → GivesRoot old root (Some (range_at place)) (slabs_behind (tables_of old) place) new → HasState new (with_block m root (site_of place))
     state_behind m state (Large start count) gives = HasState-gives old new root _ _ m m.slab state gives state.slabs
@@ -64,8 +102,8 @@ placed_step old new root size place image asked placing gives seat = record {
     state_behind m state (Fresh start class) gives = HasState-gives old new root _ _ m (with_key m.slab start (Some class)) state gives (λ s. ap (λ (row : ℕ → Option ℕ). with_key row start (Some class) s) (λ i k. state.slabs k i))
 
 -- a refusal is a step that changes nothing
-refused_step : (words : List ℕ) (call : Call) (reply : Reply) → ((at given : ℕ) → reply ≢ replies.Placed at given) → ((m : Machine) → HasState words m → IsStep plain (bounds_of words) m call reply m) → IsStepOfAny words words call reply
-refused_step words call reply none step seat = record { bounds = refl; each = λ m state. (m, IsPlacedStep-other (bounds_of words) seat m call reply m none (step m state), state) }
+refused_step : (words : List ℕ) (call : Call) (reply : Reply) → ((seat : ℕ) (m : Machine) (stacks : Stacks) → HasState words m → IsStacked without_morphs (bounds_of words) seat (record { machine = m; stacks = stacks }) call reply (record { machine = m; stacks = stacks })) → ((m : Machine) → HasState words m → IsStep without_morphs (bounds_of words) m call reply m) → IsStepOfAny words words call reply
+refused_step words call reply none step seat stacks = record { bounds = refl; each = λ m state. (m, record { step = step m state; stacked = none seat m stacks state }, state) }
 
 -- a root's number is below that of the roots
 rooted : (b : Bounds) (root : ℕ) → root < b.roots → ¬ (b.roots ≤ root)
@@ -78,7 +116,7 @@ bare_root root none held = let named = held.named in absurd (cc)
 -- a malloc is refused
 pub refused_malloc : (words : List ℕ) (root size : ℕ) (refusal : MallocRefusal) → IsExactImage words → IsMallocPlan (bounds_of words) (tables_of words) root size (Err refusal) →
     IsStepOfAny words words (calls.Malloc root size) (malloc_reply (Err refusal))
-refused_malloc words root size refusal image plan = refused_step words (calls.Malloc root size) (malloc_reply (Err refusal)) (none refusal) (λ m state. step m state refusal plan)
+refused_malloc words root size refusal image plan = refused_step words (calls.Malloc root size) (malloc_reply (Err refusal)) (λ seat m stacks state. inr (λ gave. none refusal gave.at gave.given gave.is, refl)) (λ m state. step m state refusal plan)
   where
     none : (refusal : MallocRefusal) (at given : ℕ) → malloc_reply (Err refusal) ≢ replies.Placed at given
     none NoRoot at given reply = absurd (cc)
@@ -88,7 +126,7 @@ refused_malloc words root size refusal image plan = refused_step words (calls.Ma
     none NoSpace at given reply = absurd (cc)
 
     step : (m : Machine) → HasState words m → (refusal : MallocRefusal) → IsMallocPlan (bounds_of words) (tables_of words) root size (Err refusal) →
-        IsStep plain (bounds_of words) m (calls.Malloc root size) (malloc_reply (Err refusal)) m
+        IsStep without_morphs (bounds_of words) m (calls.Malloc root size) (malloc_reply (Err refusal)) m
     step m state NoRoot past = inl (past, (refl, refl))
     step m state (Occupied at) held = inr (rooted (bounds_of words) root held.0, inl (record { range = _; named = named_at image state root at held.1 held.2 }, (refl, refl)))
     step m state ZeroSize zero_size = inr (rooted (bounds_of words) root zero_size.0, inr (bare_root root (nameless state root zero_size.1), inl (zero_size.2, (refl, refl))))
@@ -101,7 +139,7 @@ refused_malloc words root size refusal image plan = refused_step words (calls.Ma
           full.0.some,
           inr (
             λ large. omega (arith, large, full.0.most),
-            inr (HasNoSite-same plain (tables_view (bounds_of words) (tables_of words)) (view_of (bounds_of words) m) (tables_agree image state) size full.1, (refl, refl)),
+            inr (HasNoSite-same without_morphs (tables_view (bounds_of words) (tables_of words)) (view_of (bounds_of words) m) (tables_agree image state) size full.1, (refl, refl)),
           ),
         ),
       ),
@@ -109,17 +147,17 @@ refused_malloc words root size refusal image plan = refused_step words (calls.Ma
 
 -- free
 
--- a block is freed, whose slabs stay or go as the machine's do
-pub freed_step : (old new : List ℕ) (root : ℕ) (range : Range) (slab : ℕ → Option ℕ) → root < (bounds_of old).roots → heap (tables_of old) root ≡ Some range →
+-- a block is freed, whose slabs stay or go as the machine's do, and the stacks as the placement's
+pub freed_step : (old new : List ℕ) (was after : Stacks) (seat root : ℕ) (range : Range) (slab : ℕ → Option ℕ) → root < (bounds_of old).roots → heap (tables_of old) root ≡ Some range →
     ((m : Machine) → HasState old m → m.block root ≡ Some range → (s : ℕ) → slab s ≡ slabs_without (bounds_of old) m root range s) →
-    GivesRoot old root None slab new → IsStepOfAny old new (calls.Free root) (replies.Freed range.at range.size)
-freed_step old new root range slab below named same gives seat = record {
+    ((m : Machine) → HasState old m → m.block root ≡ Some range → IsReturned without_morphs (without_block (bounds_of old) m root range) (without_left (bounds_of old) m (without_block (bounds_of old) m root range) was) seat range after) →
+    GivesRoot old root None slab new → IsStepOf seat old was new after (calls.Free root) (replies.Freed range.at range.size)
+freed_step old new was after seat root range slab below named same returned gives = record {
   bounds = gives.bounds;
   each = λ m state.
       let block = naming state root range named in (
         without_block (bounds_of old) m root range,
-        IsPlacedStep-other (bounds_of old) seat m (calls.Free root) (replies.Freed range.at range.size) (without_block (bounds_of old) m root range) (λ at given is. absurd (cc))
-            (inr (rooted (bounds_of old) root below, inl (record { range = range; named = block }, (refl, refl)))),
+        record { step = inr (rooted (bounds_of old) root below, inl (record { range = range; named = block }, (refl, refl))); stacked = inl (record { range = range; is = refl }, returned m state block) },
         HasState-gives old new root None slab m (slabs_without (bounds_of old) m root range) state gives (same m state block),
       );
 }
@@ -146,9 +184,44 @@ small_stays words root start range gone image inside last m state named s = ⊎_
     ∙ sym (slabs_without-other image state root start range inside more.1 s))
     last.is
 
+-- so a large block goes on no stack
+pub large_returned : (words : List ℕ) (stacks : Stacks) (seat root start count : ℕ) → IsExactImage words → IsTakable (bounds_of words) (tables_of words) root start count → (m : Machine) → HasState words m →
+    m.block root ≡ Some (record { at = 16384 * start; size = 16384 * count }) → let range : Range = record { at = 16384 * start; size = 16384 * count } in
+    IsReturned without_morphs (without_block (bounds_of words) m root range) (without_left (bounds_of words) m (without_block (bounds_of words) m root range) stacks) seat range stacks
+large_returned words stacks seat root start count image taken m state named =
+    let range : Range = record { at = 16384 * start; size = 16384 * count } in
+    returned_large (bounds_of words) m (without_block (bounds_of words) m root range) stacks seat range (omega (arith, taken.many)) (λ s. sym (large_stays words root start count image taken m state named s) ∙ state.slabs s)
+
+-- behind a block of a slab the slabs are the state's, or all but one
+slabs_but_state : (words : List ℕ) (m : Machine) → HasState words m → (start : ℕ) (gone : Bool) (s : ℕ) → slabs_but (slabs (tables_of words)) start gone s ≡ slabs_but m.slab start gone s
+slabs_but_state words m state start gone s = λ i. slabs_but (λ k. state.slabs k i) start gone s
+
+-- what came back is a block of this class
+pub put_back_as : {stacks after : Stacks} {seat c at : ℕ} {gone : Bool} (start number class : ℕ) → c ≡ class → at ≡ (slab_block start class number).at → IsPutBack stacks seat c at start gone after → IsPutBack stacks seat class (slab_block start class number).at start gone after
+put_back_as {stacks} {after} {seat} {c} {at} {gone} start number class same is back =
+    subst (λ (k : ℕ). IsPutBack stacks seat k (slab_block start class number).at start gone after) same (subst (λ (a : ℕ). IsPutBack stacks seat c a start gone after) is back)
+
+-- a block of its slab's class goes on the seat's stack, where that has room and the slab stays
+pub small_returned : (words : List ℕ) (stacks after : Stacks) (seat root start class number : ℕ) (gone : Bool) → IsExactImage words → let t = tables_of words in let range = slab_block start class number in
+    t.class start ≡ class → number < class_capacity class → IsInSlab t start range.at → IsLastOf t root start gone → IsPutBack stacks seat class range.at start gone after → (m : Machine) → HasState words m → m.block root ≡ Some range →
+    IsReturned without_morphs (without_block (bounds_of words) m root range) (without_left (bounds_of words) m (without_block (bounds_of words) m root range) stacks) seat range after
+small_returned words stacks after seat root start class number gone image class_is within inside last back m state named =
+    let range = slab_block start class number in
+    returned_small (bounds_of words) m (law_of_exact_state words m image state) start class range (naming_slab state start inside.slab ∙ ap (λ c. Some c) class_is) inside.low inside.high
+    (without_block (bounds_of words) m root range) stacks after seat gone (λ s. sym (small_stays words root start range gone image inside last m state named s) ∙ slabs_but_state words m state start gone s)
+    (record { number = number; within = within; is = refl }) back
+
+-- an old one goes on none
+pub old_returned : (words : List ℕ) (stacks after : Stacks) (seat root start old : ℕ) (range : Range) (gone : Bool) → IsExactImage words → old < 36 → old ≢ (tables_of words).class start → range.size ≡ class_size old → IsInSlab (tables_of words) start range.at →
+    IsLastOf (tables_of words) root start gone → after ≡ stacks_but stacks start gone → (m : Machine) → HasState words m → m.block root ≡ Some range →
+    IsReturned without_morphs (without_block (bounds_of words) m root range) (without_left (bounds_of words) m (without_block (bounds_of words) m root range) stacks) seat range after
+old_returned words stacks after seat root start old range gone image is_class differ wide inside last is m state named =
+    returned_old (bounds_of words) m (law_of_exact_state words m image state) start ((tables_of words).class start) range (naming_slab state start inside.slab) inside.low inside.high
+    (without_block (bounds_of words) m root range) stacks after seat old gone (λ s. sym (small_stays words root start range gone image inside last m state named s) ∙ slabs_but_state words m state start gone s) is_class differ wide is
+
 -- a free is refused
 pub refused_free : (words : List ℕ) (root : ℕ) (refusal : FreeRefusal) → IsFreePlan (bounds_of words) (tables_of words) root (Err refusal) →
     IsStepOfAny words words (calls.Free root) (free_reply (Err refusal))
-refused_free words root refusals.NoRoot past = refused_step words (calls.Free root) replies.NoRoot (λ at given is. absurd (cc)) (λ m state. inl (past, (refl, refl)))
+refused_free words root refusals.NoRoot past = refused_step words (calls.Free root) replies.NoRoot (λ seat m stacks state. inr (λ took. absurd (let is = took.is in cc), refl)) (λ m state. inl (past, (refl, refl)))
 refused_free words root refusals.Empty none =
-    refused_step words (calls.Free root) replies.Empty (λ at given is. absurd (cc)) (λ m state. inr (rooted (bounds_of words) root none.0, inr (bare_root root (nameless state root none.1), (refl, refl))))
+    refused_step words (calls.Free root) replies.Empty (λ seat m stacks state. inr (λ took. absurd (let is = took.is in cc), refl)) (λ m state. inr (rooted (bounds_of words) root none.0, inr (bare_root root (nameless state root none.1), (refl, refl))))

@@ -166,7 +166,7 @@ pub record IsWriteAnswered (old new : ArenaState) (left : Volatile) (root from :
   pub crash : CrashOnly new.device.base new.device.events (IsEitherWords (words_of old.device) (words_of new.device))
 
 -- an arena that begins a call
-IsArena-began : {device : PmemState} {was : Volatile} → IsArena device was → IsArena (began device) was
+pub IsArena-began : {device : PmemState} {was : Volatile} → IsArena device was → IsArena (began device) was
 IsArena-began {device} {was} arena = record {
   current = record {
     ready = record { quiet = tt; room = arena.current.ready.room };

@@ -18,7 +18,7 @@ use Rattle.image_tables.proofs.Stores.{root_word-low, wal_word-low, log_word-hig
 use Rattle.book_log.specs.Book.{Book}
 use Rattle.book_log.proofs.Books.{HasLog-same, Reads-same}
 use Rattle.extent_index.specs.FreeSet.{FreeSet, IsFree}
-use Rattle.slab_index.specs.SlabSet.{SlabSet, is_available}
+use Rattle.block_supply.specs.Supply.{Supply, IsOpen}
 use Rattle.heap_model.specs.Machine.{Bounds, Range}
 use Rattle.heap_model.specs.Slabs.{live_below}
 use Rattle.heap_check.specs.Heap.{heap, slabs, IsUnusedIn}
@@ -138,11 +138,11 @@ module _ {words new : List ℕ} {range : Range} (image : IsExactImage words) (ro
         (subst (λ (t : Tables). IsFree set k ↔ IsVacant (bounds_of words) t k) (sym tables_kept) (was.each k));
   }
 
-  pub classes_kept : (set : SlabSet) → IsSlabsOf set words → IsSlabsOf set new
+  pub classes_kept : (set : Supply) → IsSlabsOf set words → IsSlabsOf set new
   classes_kept set was = record {
     granules = was.granules ∙ sym granules;
     classes = λ start. was.classes start ∙ sym (slabs_kept start);
-    blocks = subst (λ (t : Tables). (start i : ℕ) → t.slab start ≡ true → i < class_capacity (t.class start) → (is_available set start i ≡ true) ↔ IsUnusedIn t start (t.class start) i) (sym tables_kept) was.blocks;
+    blocks = subst (λ (t : Tables). (start i : ℕ) → t.slab start ≡ true → i < class_capacity (t.class start) → IsOpen set start i ↔ IsUnusedIn t start (t.class start) i) (sym tables_kept) was.blocks;
   }
 
   lives : (start : ℕ) → live_in new start ≡ live_in words start
@@ -162,7 +162,7 @@ IsArena-block {old} {new} {was} {range} root arena named same ready =
         log = book_kept image root named same was.log arena.current.log;
         index = index_kept image root named same was.free arena.current.index;
       };
-      slabs = classes_kept image root named same was.slabs arena.slabs;
+      slabs = classes_kept image root named same was.supply arena.slabs;
       lives = lives_kept image root named same was.lives arena.lives;
       few = arena.few;
     }

@@ -8,14 +8,14 @@ use Rattle.size_classes.specs.Classes.{class_size, class_capacity, IsClassOf, gr
 use Rattle.size_classes.proofs.Spacing.{class_size-least, class_size-most}
 use Rattle.image_tables.specs.Tables.{Tables, tables_of}
 use Rattle.heap_model.specs.Machine.{Bounds, Range, slab_block}
-use Rattle.heap_model.specs.Policy.{plain}
-use Rattle.heap_model.specs.Choice.{View, IsUnusedBlock, HasUnusedBlock, HasNoSite, Agree}
+use Rattle.heap_model.specs.Policy.{without_morphs}
+use Rattle.heap_model.specs.Choice.{View, HasUnusedBlock, HasNoSite, Agree}
 use Rattle.heap_model.specs.Choice.Site.{InSlab, InNewSlab}
 use Rattle.heap_model.proofs.Fits.{IsBestFit-same, HasNoFit-same, fit_free}
-use Rattle.heap_model.proofs.Views.{IsPlainSite-same, HasNoFitSlab-plain, HasNoSite-same}
+use Rattle.heap_model.proofs.Views.{IsSite-same, HasNoFitSlab-without, HasNoSite-same}
 use Rattle.heap_model.specs.Runs.{IsBestFit, HasNoFit}
 use Rattle.slab_index.specs.declared.block.SlabBlock.{SlabBlock}
-use Rattle.slab_index.specs.SlabSet.{SlabSet, class_in, is_available, HasNoBlock, IsLowest}
+use Rattle.slab_index.specs.SlabSet.{class_in}
 use Rattle.extent_index.specs.FreeSet.{FreeSet, IsFree}
 use Rattle.heap_check.specs.Heap.{is_large, entry_at, slabs, HoldsBit, IsUnusedIn, is_old}
 use Rattle.heap_check.specs.Sound.{granules_at, IsVacant, IsInSlab, IsHeld, IsExact}
@@ -27,7 +27,9 @@ use Rattle.heap_check.proofs.Within.{IsInSlab-held, IsWithin-claim}
 use Rattle.heap_check.proofs.SmallPlaces.{Holds-claim}
 use Rattle.arena_core.specs.declared.plan.Place.TheVariants.{Large, Small, Fresh}
 use Rattle.arena_core.specs.Arena.{IsIndexOf, IsSlabsOf}
-use Rattle.arena_core.specs.Plan.{IsInSlabOf, IsInNoSlabOf, IsAskedOf, IsVacantRow, tables_view, IsPlacing, IsTakable, IsNamedSmall, IsSlabAt, IsRootIn}
+use Rattle.block_supply.specs.Supply.{Supply, IsOpen, IsInSlabOf, IsInNoSlabOf, HasNoOpen}
+use Rattle.block_supply.proofs.Takes.{none_open}
+use Rattle.arena_core.specs.Plan.{IsAskedOf, IsVacantRow, tables_view, IsPlacing, IsTakable, IsNamedSmall, IsSlabAt, IsRootIn}
 use Rattle.heap_check.proofs.LargeLogs.{large_many}
 use Rattle.heap_check.proofs.Small.{is_old-held}
 
@@ -41,29 +43,29 @@ slab_parts t start class is = ⊎_elim
     (cases_Bool (t.slab start))
 
 -- a slab has a block
-class_capacity-some : (class : ℕ) → class < 36 → 0 < class_capacity class
+pub class_capacity-some : (class : ℕ) → class < 36 → 0 < class_capacity class
 class_capacity-some class is_class = some (class_size class) (class_size-least class is_class) (class_size-most class is_class)
   where
     some : (size : ℕ) → 16 ≤ size → size ≤ 16384 → 0 < 63488 / size
     some size least most = le-div 1 63488 size (omega (arith, least)) (omega (arith, most))
 
-module _ {set : SlabSet} {words : List ℕ} (parts : IsSlabsOf set words) where
-  -- a slab of the set is one of the tables
-  pub slab_of_set : (start class : ℕ) → class_in set start ≡ Some class → ((tables_of words).slab start ≡ true) × ((tables_of words).class start ≡ class)
+module _ {set : Supply} {words : List ℕ} (parts : IsSlabsOf set words) where
+  -- a slab of the supply is one of the tables
+  pub slab_of_set : (start class : ℕ) → class_in set.slabs start ≡ Some class → ((tables_of words).slab start ≡ true) × ((tables_of words).class start ≡ class)
   slab_of_set start class is = slab_parts (tables_of words) start class (sym (parts.classes start) ∙ is)
 
-  -- and a slab of the tables is one of the set
-  pub slab_in_set : (start class : ℕ) → (tables_of words).slab start ≡ true → (tables_of words).class start ≡ class → class_in set start ≡ Some class
+  -- and a slab of the tables is one of the supply
+  pub slab_in_set : (start class : ℕ) → (tables_of words).slab start ≡ true → (tables_of words).class start ≡ class → class_in set.slabs start ≡ Some class
   slab_in_set start class slab is =
       parts.classes start ∙ cond-true ((tables_of words).slab start) (Some ((tables_of words).class start)) None slab ∙ ap (λ c. Some c) is
 
-  -- a block of the set is available where it is unused
-  block_is : (start class i : ℕ) → (tables_of words).slab start ≡ true → (tables_of words).class start ≡ class → i < class_capacity class → (is_available set start i ≡ true) ↔ IsUnusedIn (tables_of words) start class i
-  block_is start class i slab is below = subst (λ c. (is_available set start i ≡ true) ↔ IsUnusedIn (tables_of words) start c i) is (parts.blocks start i slab (subst (λ c. i < class_capacity c) (sym is) below))
+  -- a block of the supply is open where it is unused
+  pub block_is : (start class i : ℕ) → (tables_of words).slab start ≡ true → (tables_of words).class start ≡ class → i < class_capacity class → IsOpen set start i ↔ IsUnusedIn (tables_of words) start class i
+  block_is start class i slab is below = subst (λ c. IsOpen set start i ↔ IsUnusedIn (tables_of words) start c i) is (parts.blocks start i slab (subst (λ c. i < class_capacity c) (sym is) below))
 
--- the view of the sets that an arena keeps, where no slab takes another class
-abbrev sets_view : FreeSet → SlabSet → View
-sets_view set parts = record { free = IsFree set; slab = class_in parts; unused = λ s c number. is_available parts s number ≡ true; live = λ s. 0; in_transition = λ s. ⊥ }
+-- the view of what an arena keeps, where no slab takes another class
+abbrev pub sets_view : FreeSet → Supply → View
+sets_view set parts = record { free = IsFree set; slab = class_in parts.slabs; unused = λ s c number. IsOpen parts s number; live = λ s. 0; in_transition = λ s. ⊥ }
 
 -- the granules of a best fit are vacant
 IsVacantRow-fit : (b : Bounds) (t : Tables) (n start : ℕ) → 0 < n → IsBestFit (IsVacant b t) n start → IsVacantRow b t start n
@@ -80,16 +82,16 @@ module _ {set : FreeSet} {words : List ℕ} (index : IsIndexOf set words) (root 
   IsPlacing-large start count many fit asked large is =
       let vacant = IsBestFit-same (IsFree set) (IsVacant (bounds_of words) (tables_of words)) count start index.each fit in
       record {
-        site = record { chosen = record { large = large; count_is = is; fit = vacant }; lowest = tt };
+        site = record { large = large; count_is = is; fit = vacant };
         place_for = record { below = asked.below; none = asked.none; many = many; row = IsVacantRow-fit (bounds_of words) (tables_of words) count start (omega (arith, many)) vacant };
       }
 
-  pub HasNoSite-large : 16384 < size → HasNoFit (IsFree set) (granules_of size) → HasNoSite plain (tables_view (bounds_of words) (tables_of words)) size
+  pub HasNoSite-large : 16384 < size → HasNoFit (IsFree set) (granules_of size) → HasNoSite without_morphs (tables_view (bounds_of words) (tables_of words)) size
   HasNoSite-large large none = inr (record { large = large; no_run = HasNoFit-same (IsFree set) (IsVacant (bounds_of words) (tables_of words)) (granules_of size) index.each none })
 
-  module _ {parts : SlabSet} (slabs : IsSlabsOf parts words) where
+  module _ {parts : Supply} (slabs : IsSlabsOf parts words) where
     -- the sets say what the tables say
-    agree : Agree plain (sets_view set parts) (tables_view (bounds_of words) (tables_of words))
+    agree : Agree without_morphs (sets_view set parts) (tables_view (bounds_of words) (tables_of words))
     agree = record {
       free = index.each;
       slab = slabs.classes;
@@ -99,41 +101,31 @@ module _ {set : FreeSet} {words : List ℕ} (index : IsIndexOf set words) (root 
       fit = λ morphs. absurd (true≢false (sym morphs));
     }
 
-    full : (class : ℕ) → HasNoBlock parts class → ¬ (HasUnusedBlock (sets_view set parts) class)
-    full class none has = true≢false (sym has.block.unused ∙ none.none has.start has.number has.slab)
+    full : (class : ℕ) → HasNoOpen parts class → ¬ (HasUnusedBlock (sets_view set parts) class)
+    full class none has = none_open parts class none has.start has.number has.slab has.block.unused
 
-    -- the lowest block of a class
-    pub IsPlacing-small : (class at : ℕ) (block : SlabBlock) → IsClassOf size class → IsLowest parts class block → at ≡ (slab_block block.start class block.number).at →
+    -- a block of a class that is open
+    pub IsPlacing-small : (class at : ℕ) (block : SlabBlock) → IsClassOf size class → class_in parts.slabs block.start ≡ Some class → block.number < class_capacity class → IsOpen parts block.start block.number → at ≡ (slab_block block.start class block.number).at →
         IsPlacing (bounds_of words) (tables_of words) root size (Small (record { start = block.start; number = block.number; at = at }) class)
-    IsPlacing-small class at block least lowest at_is =
-        let is = slab_of_set slabs block.start class lowest.slab in
-        let unused : IsUnusedBlock (sets_view set parts) block.start class block.number = record { within = lowest.below; unused = lowest.available } in
+    IsPlacing-small class at block least slab within is_open at_is =
+        let is = slab_of_set slabs block.start class slab in
         record {
-          site = IsPlainSite-same (sets_view set parts) (tables_view (bounds_of words) (tables_of words)) size (InSlab block.start class block.number) agree (record {
-            chosen = record { least = least; slab = lowest.slab; block = unused };
-            lowest = record {
-              slab = lowest.slab;
-              block = unused;
-              first = λ lower less available. true≢false (sym available ∙ lowest.first lower less);
-              lowest = λ other i less slab found. true≢false (sym found.unused ∙ lowest.lower other i less slab);
-            };
-          });
-          place_for = record { slab = is.0; class_is = is.1; below = lowest.below; unused = (block_is slabs block.start class block.number is.0 is.1 lowest.below).0 lowest.available; at = at_is };
+          site = IsSite-same without_morphs (sets_view set parts) (tables_view (bounds_of words) (tables_of words)) agree size (InSlab block.start class block.number)
+              (record { least = least; slab = slab; block = record { within = within; unused = is_open } });
+          place_for = record { slab = is.0; class_is = is.1; below = within; unused = (block_is slabs block.start class block.number is.0 is.1 within).0 is_open; at = at_is };
         }
 
     -- a new slab for it
-    pub IsPlacing-fresh : (class start : ℕ) → IsClassOf size class → HasNoBlock parts class → IsBestFit (IsFree set) 4 start → IsPlacing (bounds_of words) (tables_of words) root size (Fresh start class)
+    pub IsPlacing-fresh : (class start : ℕ) → IsClassOf size class → HasNoOpen parts class → IsBestFit (IsFree set) 4 start → IsPlacing (bounds_of words) (tables_of words) root size (Fresh start class)
     IsPlacing-fresh class start least none fit = record {
-      site = IsPlainSite-same (sets_view set parts) (tables_view (bounds_of words) (tables_of words)) size (InNewSlab start class 0) agree (record {
-        chosen = record { least = least; full = full class none; no_fit = HasNoFitSlab-plain _ class; fit = fit; within = class_capacity-some class least.is_class };
-        lowest = refl;
-      });
+      site = IsSite-same without_morphs (sets_view set parts) (tables_view (bounds_of words) (tables_of words)) agree size (InNewSlab start class 0)
+          (record { least = least; full = full class none; no_fit = HasNoFitSlab-without _ class; fit = fit; within = class_capacity-some class least.is_class });
       place_for = IsVacantRow-fit (bounds_of words) (tables_of words) 4 start (omega arith) (IsBestFit-same (IsFree set) (IsVacant (bounds_of words) (tables_of words)) 4 start index.each fit);
     }
 
-    pub HasNoSite-small : (class : ℕ) → IsClassOf size class → HasNoBlock parts class → HasNoFit (IsFree set) 4 → HasNoSite plain (tables_view (bounds_of words) (tables_of words)) size
-    HasNoSite-small class least none no_run = HasNoSite-same plain (sets_view set parts) (tables_view (bounds_of words) (tables_of words)) agree size
-        (inl (record { class = class; least = least; full = full class none; no_fit = HasNoFitSlab-plain _ class; no_run = no_run }))
+    pub HasNoSite-small : (class : ℕ) → IsClassOf size class → HasNoOpen parts class → HasNoFit (IsFree set) 4 → HasNoSite without_morphs (tables_view (bounds_of words) (tables_of words)) size
+    HasNoSite-small class least none no_run = HasNoSite-same without_morphs (sets_view set parts) (tables_view (bounds_of words) (tables_of words)) agree size
+        (inl (record { class = class; least = least; full = full class none; no_fit = HasNoFitSlab-without _ class; no_run = no_run }))
 
 -- what a root names
 
@@ -195,7 +187,7 @@ module _ {words : List ℕ} (image : IsExactImage words) where
       }
 
   -- a root's word in a slab of the set
-  pub root_in : {set : SlabSet} → IsSlabsOf set words → (root at start class : ℕ) → root < (bounds_of words).roots → at ≡ (tables_of words).root root → IsInSlabOf (class_in set) (at / 16384) start class →
+  pub root_in : {set : Supply} → IsSlabsOf set words → (root at start class : ℕ) → root < (bounds_of words).roots → at ≡ (tables_of words).root root → IsInSlabOf (class_in set.slabs) (at / 16384) start class →
       IsSlabAt (tables_of words) start class × IsRootIn (bounds_of words) (tables_of words) root start at
   root_in {set} parts root at start class rooted is inside =
       let slab = slab_of_set parts start class inside.slab in (
@@ -204,7 +196,7 @@ module _ {words : List ℕ} (image : IsExactImage words) where
       )
 
   -- a slab begins below the largest arena's end
-  pub slab_few : {set : SlabSet} → IsSlabsOf set words → (start class : ℕ) → class_in set start ≡ Some class → start < 1024
+  pub slab_few : {set : Supply} → IsSlabsOf set words → (start class : ℕ) → class_in set.slabs start ≡ Some class → start < 1024
   slab_few parts start class is =
       let four = granules_at-slab t start (slab_of_set parts start class is).0 in
       let lies = image.exact.sound.starts start (omega (arith, four)) in
@@ -229,7 +221,7 @@ module _ {words : List ℕ} (image : IsExactImage words) where
       })
 
   -- a root's word that lies in no slab is the start of a large extent
-  pub takable_outside : {set : SlabSet} → IsSlabsOf set words → (root : ℕ) → root < (bounds_of words).roots → (tables_of words).root root ≢ 0 → IsInNoSlabOf (class_in set) ((tables_of words).root root / 16384) →
+  pub takable_outside : {set : Supply} → IsSlabsOf set words → (root : ℕ) → root < (bounds_of words).roots → (tables_of words).root root ≢ 0 → IsInNoSlabOf (class_in set.slabs) ((tables_of words).root root / 16384) →
       IsTakable (bounds_of words) (tables_of words) root ((tables_of words).root root / 16384) ((tables_of words).large ((tables_of words).root root / 16384))
   takable_outside {set} parts root rooted some outside =
       let at = t.root root in
@@ -239,8 +231,8 @@ module _ {words : List ℕ} (image : IsExactImage words) where
       (λ rest. absurd (⊎_elim
       (λ (held : IsHeld t at).
       let inside : IsInSlab t held.start at = subst (IsInSlab t held.start) held.here (IsInSlab-held image.exact.sound held.start held.range held.holds) in
-      let none : class_in set held.start ≡ None = outside.none held.start (omega (arith, inside.low)) (omega (arith, inside.high)) in
-      let lives : class_in set held.start ≡ Some (t.class held.start) = slab_in_set parts held.start (t.class held.start) inside.slab refl in
+      let none : class_in set.slabs held.start ≡ None = outside.none held.start (omega (arith, inside.low)) (omega (arith, inside.high)) in
+      let lives : class_in set.slabs held.start ≡ Some (t.class held.start) = slab_in_set parts held.start (t.class held.start) inside.slab refl in
       cc)
       (λ by_entry. some (sym by_entry ∙ unnamed root))
       rest))

@@ -1,12 +1,13 @@
 -- A slab comes or goes: what an arena keeps holds again.
-use Rattle.std.proofs.Common.{◌≡◌, ◌≢◌, ◌⊎◌, ◌↔◌, ◌==◌, nat_lt, ℕ, ◌+◌, ◌*◌, ◌<◌, ◌≤◌, true, false, true≢false, List, refl, sym, ap, subst, ◌∙◌, arith, inl, inr, ⊎_elim, Some, None, if◌then◌else◌, slice_index}
-use Rattle.std.proofs.lemmas.Bool.{cases_eq, eq-eqb, ne_eqb, lt-ltb, cond-true, cond-false}
+use Rattle.std.proofs.Common.{◌≡◌, ◌≢◌, ◌⊎◌, ◌↔◌, ◌==◌, ℕ, ◌+◌, ◌*◌, ◌<◌, ◌≤◌, true, true≢false, List, sym, ap, subst, ◌∙◌, arith, inl, inr, ⊎_elim, Some, None, if◌then◌else◌, slice_index}
+use Rattle.std.proofs.lemmas.Bool.{cases_eq, cases_lt, eq-eqb, ne_eqb, cond-true, cond-false}
 use Rattle.std.proofs.lemmas.Nat.{le-div}
 use Rattle.size_classes.specs.Classes.{class_size, class_capacity}
 use Rattle.size_classes.proofs.Spacing.{class_size-least, class_size-most}
 use Rattle.image_tables.specs.Tables.{Tables, tables_of}
 use Rattle.extent_index.specs.FreeSet.{FreeSet, IsFree, IsHeldRow}
-use Rattle.slab_index.specs.SlabSet.{SlabSet, class_in, is_available}
+use Rattle.slab_index.specs.SlabSet.{class_in}
+use Rattle.block_supply.specs.Supply.{Supply, IsOpen, IsClearOf, HasSlabMore, HasSlabLess}
 use Rattle.heap_model.specs.Machine.{Bounds, with_key}
 use Rattle.heap_check.specs.Heap.{slabs, IsUnusedIn, heap}
 use Rattle.heap_check.specs.Sound.{IsVacant, IsInSlab, IsEmptySlab, IsExactBut, IsDoneSlab}
@@ -24,22 +25,11 @@ use Rattle.extent_steps.proofs.Images.{keeps_blocks}
 use Rattle.attach_steps.specs.Steps.{IsAttachable}
 use Rattle.arena_core.specs.Arena.{IsIndexOf, IsSlabsOf, AreCountsOf, live_in}
 use Rattle.arena_core.specs.Plan.{IsVacantRow}
-use Rattle.arena_core.proofs.UnusedBlocks.{iff_same, iff_then, iff_back}
+use Rattle.arena_core.proofs.Plans.{slab_parts}
+use Rattle.arena_core.proofs.UnusedBlocks.{iff_then, iff_back}
 use Rattle.heap_check.proofs.SameSlabs.{IsUnusedIn-same}
 use Rattle.arena_core.proofs.LiveCounts.{counts_kept, live_none}
 use Rattle.heap_model.specs.Slabs.{live_below}
-
--- the set has one slab more, with all of its blocks
-pub record IsAdded (set new : SlabSet) (start class : ℕ) : Type 0 where
-  pub granules : new.granules ≡ set.granules
-  pub classes : (s : ℕ) → class_in new s ≡ with_key (class_in set) start (Some class) s
-  pub blocks : (s i : ℕ) → is_available new s i ≡ (if s == start then nat_lt i (class_capacity class) else is_available set s i)
-
--- or one less
-pub record IsRemoved (set new : SlabSet) (start : ℕ) : Type 0 where
-  pub granules : new.granules ≡ set.granules
-  pub classes : (s : ℕ) → class_in new s ≡ with_key (class_in set) start None s
-  pub blocks : (s i : ℕ) → is_available new s i ≡ (if s == start then false else is_available set s i)
 
 -- a slab is opened
 module _ (words : List ℕ) (start class : ℕ) (exact : IsExactImage words) (row : IsVacantRow (bounds_of words) (tables_of words) start 4) (class_below : class < 36) (new : List ℕ) (opened : IsOpened words start class new) where
@@ -71,30 +61,48 @@ module _ (words : List ℕ) (start class : ℕ) (exact : IsExactImage words) (ro
         );
   }
 
-  pub slabs_opened : (set more : SlabSet) → IsAdded set more start class → IsSlabsOf set words → IsSlabsOf more new
+  -- no slab has one of the granules
+  pub clear_opened : (set : Supply) → IsSlabsOf set words → IsClearOf set start
+  clear_opened set was = record {
+    apart = λ other c slab. ⊎_elim
+        (λ (before : other < start + 4). ⊎_elim
+        (λ (behind : start < other + 4).
+        let lives = (slab_parts t other c (sym (was.classes other) ∙ slab)).0 in
+        absurd (⊎_elim
+        (λ (low : start ≤ other). (row.vacant other low before).none other (Covers-slab t other other lives (omega arith) (omega arith)))
+        (λ (less : other < start). (row.vacant start (omega arith) (omega arith)).none other (Covers-slab t other start lives (omega (arith, less)) behind))
+        (⊎_elim (λ (less : other < start). inr less) (λ (low : start ≤ other). inl low) (cases_lt other start))))
+        (λ (past : other + 4 ≤ start). inr past)
+        (cases_lt start (other + 4)))
+        (λ (far : start + 4 ≤ other). inl far)
+        (cases_lt other (start + 4));
+  }
+
+  pub fresh_opened : (set : Supply) → IsSlabsOf set words → class_in set.slabs start ≡ None
+  fresh_opened set was = was.classes start ∙ cond-false (t.slab start) (Some (t.class start)) None with_it.more.none
+
+  pub slabs_opened : (set more : Supply) → HasSlabMore set more start class (λ i. i < class_capacity class) → IsSlabsOf set words → IsSlabsOf more new
   slabs_opened set more added was = record {
     granules = added.granules ∙ was.granules ∙ ap (λ (b : Bounds). b.granules) (sym opened.bounds);
     classes = λ s. ⊎_elim
-        (λ (same : s ≡ start). added.classes s ∙ cond-true (s == start) (Some class) (class_in set s) (eq-eqb s start same) ∙ sym (slabs-slab open_place class with_it.fresh) ∙ ap (slabs after) (sym same))
-        (λ (differ : s ≢ start). added.classes s ∙ cond-false (s == start) (Some class) (class_in set s) (ne_eqb s start differ) ∙ was.classes s ∙ sym (slabs-other open_place s differ))
+        (λ (same : s ≡ start). added.classes s ∙ cond-true (s == start) (Some class) (class_in set.slabs s) (eq-eqb s start same) ∙ sym (slabs-slab open_place class with_it.fresh) ∙ ap (slabs after) (sym same))
+        (λ (differ : s ≢ start). added.classes s ∙ cond-false (s == start) (Some class) (class_in set.slabs s) (ne_eqb s start differ) ∙ was.classes s ∙ sym (slabs-other open_place s differ))
         (cases_eq s start);
     blocks = λ s i slab below. ⊎_elim
-        (λ (same : s ≡ start). subst (λ k. after.slab k ≡ true → i < class_capacity (after.class k) → (is_available more k i ≡ true) ↔ IsUnusedIn after k (after.class k) i) (sym same) (fresh_block more added i) slab below)
+        (λ (same : s ≡ start). subst (λ k. after.slab k ≡ true → i < class_capacity (after.class k) → IsOpen more k i ↔ IsUnusedIn after k (after.class k) i) (sym same) (fresh_block more added i) slab below)
         (λ (differ : s ≢ start).
         let it = with_it.more.others s differ in
-        iff_same (added.blocks s i ∙ cond-false (s == start) (nat_lt i (class_capacity class)) (is_available set s i) (ne_eqb s start differ))
+        iff_then (added.others s i differ)
         (iff_then (was.blocks s i (sym it.slab ∙ slab) (subst (λ c. i < class_capacity c) it.class below))
         (subst (λ c. IsUnusedIn t s (t.class s) i ↔ IsUnusedIn after s c i) (sym it.class) (IsUnusedIn-same it (t.class s) i))))
         (cases_eq s start);
   }
     where
-      -- each of its blocks is available, and unused
-      fresh_block : (more : SlabSet) → IsAdded set more start class → (i : ℕ) → after.slab start ≡ true → i < class_capacity (after.class start) → (is_available more start i ≡ true) ↔ IsUnusedIn after start (after.class start) i
+      -- each of its blocks is open, and unused
+      fresh_block : (more : Supply) → HasSlabMore set more start class (λ i. i < class_capacity class) → (i : ℕ) → after.slab start ≡ true → i < class_capacity (after.class start) → IsOpen more start i ↔ IsUnusedIn after start (after.class start) i
       fresh_block more added i slab below = (
         λ is. record { each = λ range holds. absurd (holds_none-fresh with_it.fresh range holds) },
-        λ unused. added.blocks start i
-            ∙ cond-true (start == start) (nat_lt i (class_capacity class)) (is_available set start i) (eq-eqb start start refl)
-            ∙ lt-ltb i (class_capacity class) (subst (λ c. i < class_capacity c) with_it.fresh.class_is below),
+        λ unused. (added.here i).1 (subst (λ c. i < class_capacity c) with_it.fresh.class_is below),
       )
 
   -- no block lives in it
@@ -168,14 +176,14 @@ module _ (words : List ℕ) (start : ℕ) (image : IsExactButImage words start) 
         );
   }
 
-  pub slabs_dropped : (set fewer : SlabSet) → IsRemoved set fewer start → IsSlabsOf set words → IsSlabsOf fewer new
+  pub slabs_dropped : (set fewer : Supply) → HasSlabLess set fewer start → IsSlabsOf set words → IsSlabsOf fewer new
   slabs_dropped set fewer removed was = record {
     granules = removed.granules ∙ was.granules ∙ ap (λ (b : Bounds). b.granules) (sym dropped.bounds);
     classes = λ s. removed.classes s ∙ ap (λ x. if s == start then None else x) (was.classes s) ∙ sym (classes_dropped s);
     blocks = λ s i slab below.
         let differ = other_slab s slab in
         let same = it.others s differ in
-        iff_same (removed.blocks s i ∙ cond-false (s == start) false (is_available set s i) (ne_eqb s start differ))
+        iff_then (removed.others s i differ)
         (iff_then (was.blocks s i (same.slab ∙ slab) (subst (λ c. i < class_capacity c) (sym same.class) below))
         (subst (λ c. IsUnusedIn full s c i ↔ IsUnusedIn less s (less.class s) i) (sym same.class) (iff_back (IsUnusedIn-same same (less.class s) i))));
   }

@@ -1,12 +1,12 @@
 -- A small block and its root come or go: what an arena keeps holds again.
-use Rattle.std.proofs.Common.{refl, true, false, true≢false, ◌≡◌, ◌≢◌, ◌⊎◌, ◌↔◌, ◌==◌, ◌&&◌, ℕ, ◌<◌, Bool, not, List, sym, ap, subst, ◌∙◌, arith, inl, inr, ⊎_elim, None, if◌then◌else◌, true}
-use Rattle.std.proofs.lemmas.Bool.{cases_eq, eq-eqb, ne_eqb, cond-true, cond-false, and_from, and_left, and_right}
+use Rattle.std.proofs.Common.{refl, true, true≢false, ◌≡◌, ◌≢◌, ◌⊎◌, ◌↔◌, ℕ, ◌<◌, Bool, List, sym, ap, subst, ◌∙◌, arith, inl, inr, ⊎_elim, None, true}
+use Rattle.std.proofs.lemmas.Bool.{cases_eq}
 use Rattle.size_classes.specs.Classes.{class_capacity}
 use Rattle.image_tables.specs.Tables.{Tables, tables_of}
 use Rattle.image_tables.specs.Updates.{with_small, put_in}
 use Rattle.image_tables.proofs.Updates.{put_in-same, put_at-other}
 use Rattle.extent_index.specs.FreeSet.{FreeSet, IsFree}
-use Rattle.slab_index.specs.SlabSet.{SlabSet, class_in, is_available}
+use Rattle.block_supply.specs.Supply.{Supply, IsOpen, IsWithout, IsWith}
 use Rattle.heap_model.specs.Machine.{Bounds, slab_block, Range}
 use Rattle.heap_check.specs.Heap.{slabs, IsUnusedIn, Holds}
 use Rattle.heap_check.specs.Sound.{IsVacant}
@@ -15,19 +15,13 @@ use Rattle.heap_check.proofs.Sizes.{sizes_of}
 use Rattle.heap_check.proofs.Small.{Holds-back, Holds-forth, blocks_apart}
 use Rattle.attach_steps.specs.declared.block.SmallBlock.{SmallBlock}
 use Rattle.attach_steps.specs.Steps.{IsBlockIn, IsDetachable, IsDetached}
-use Rattle.arena_core.specs.Arena.{IsIndexOf, IsSlabsOf}
+use Rattle.arena_core.specs.Arena.{IsIndexOf, IsSlabsOf, AreSlabsLess}
 use Rattle.heap_check.specs.Slabs.{IsSameSlab}
 use Rattle.heap_check.proofs.OneBlock.{stage_of, IsVacant-one}
 use Rattle.size_classes.proofs.Spacing.{class_size-least}
-use Rattle.arena_core.proofs.UnusedBlocks.{iff_same, iff_then, unused_apart, unused_freed}
-use Rattle.heap_check.proofs.SmallPlaces.{IsSmallPlace-named, calm_but}
+use Rattle.arena_core.proofs.UnusedBlocks.{iff_then, unused_apart, unused_freed}
+use Rattle.heap_check.proofs.SmallPlaces.{IsSmallPlace-named, clear_unused, calm_but}
 use Rattle.heap_check.proofs.SameSlabs.{IsUnusedIn-same}
-
--- the set is another with one block taken or given
-pub record IsTurned (set new : SlabSet) (start number : ℕ) (on : Bool) : Type 0 where
-  pub granules : new.granules ≡ set.granules
-  pub classes : (s : ℕ) → class_in new s ≡ class_in set s
-  pub blocks : (s i : ℕ) → is_available new s i ≡ (if (s == start) && (i == number) then not on else is_available set s i)
 
 -- the tables are others in which a block is held or not, with its root's word
 module _ (words : List ℕ) (bits lives : Bool → ℕ → ℕ → Bool) (root : ℕ) (on : Bool) (word : ℕ) (new : List ℕ) (bounds : bounds_of new ≡ bounds_of words) (tables : tables_of new ≡ stage_of (tables_of words) bits lives root on word None) where
@@ -69,37 +63,84 @@ module _ (words : List ℕ) (root start number : ℕ) (on : Bool) (word : ℕ) (
   same_slab : (s : ℕ) → s ≢ start → IsSameSlab t after s
   same_slab s differ = record { slab = refl; kind = refl; class = refl; old = refl; index_count = refl; bit = put_at-other t.bit start s _ differ; live = refl; number = refl }
 
-  -- a block that is turned is unused where it is available
-  pub slabs_small : (set other : SlabSet) → IsTurned set other start number on → (not on ≡ true) ↔ IsUnusedIn (with_small (tables_of words) start number on root word None) start ((tables_of words).class start) number →
-      IsSlabsOf set words → IsSlabsOf other new
-  slabs_small set other turned here was = record {
-    granules = turned.granules ∙ was.granules ∙ ap (λ (b : Bounds). b.granules) (sym bounds);
-    classes = λ s. turned.classes s ∙ was.classes s ∙ sym (ap (λ (x : Tables). slabs x s) tables);
-    blocks = subst (λ (x : Tables). (s i : ℕ) → x.slab s ≡ true → i < class_capacity (x.class s) → (is_available other s i ≡ true) ↔ IsUnusedIn x s (x.class s) i) (sym tables) each;
+  -- of all other blocks the same are unused
+  same_else : (s i : ℕ) → t.slab s ≡ true → (s ≢ start) ⊎ (i ≢ number) → IsUnusedIn t s (t.class s) i ↔ IsUnusedIn after s (t.class s) i
+  same_else s i slab either = ⊎_elim
+      (λ (same : s ≡ start). ⊎_elim
+      (λ differ. absurd (differ same))
+      (λ (differ : i ≢ number).
+      subst (λ k. IsUnusedIn t k (t.class k) i ↔ IsUnusedIn after k (t.class k) i) (sym same)
+      (unused_apart (Holds-back t start number on root word None start) (Holds-forth t start number on root word None start) (t.class start) i (blocks_apart start (t.class start) number i (λ is. differ (sym is)))))
+      either)
+      (λ (differ : s ≢ start). IsUnusedIn-same (same_slab s differ) (t.class s) i)
+      (cases_eq s start)
+
+  -- so a supply that has not this block open, and of the others those that are unused, has them still
+  pub slabs_less : (set : Supply) → AreSlabsLess set words start number → AreSlabsLess set new start number
+  slabs_less set was = record {
+    granules = was.granules ∙ ap (λ (b : Bounds). b.granules) (sym bounds);
+    classes = λ s. was.classes s ∙ sym (ap (λ (x : Tables). slabs x s) tables);
+    blocks = subst (λ (x : Tables). (s i : ℕ) → x.slab s ≡ true → i < class_capacity (x.class s) → (s ≢ start) ⊎ (i ≢ number) → IsOpen set s i ↔ IsUnusedIn x s (x.class s) i) (sym tables)
+        (λ s i slab below either. iff_then (was.blocks s i slab below either) (same_else s i slab either));
+    none = was.none;
   }
-    where
-      elsewhere : (s i : ℕ) → (s ≢ start) ⊎ (i ≢ number) → is_available other s i ≡ is_available set s i
-      elsewhere s i either = turned.blocks s i
-          ∙ cond-false ((s == start) && (i == number)) (not on) (is_available set s i)
-          (⊎_elim (λ apart. and_left (s == start) (i == number) (ne_eqb s start apart)) (λ apart. and_right (s == start) (i == number) (ne_eqb i number apart)) either)
 
-      in_slab : (i : ℕ) → t.slab start ≡ true → i < class_capacity (t.class start) → (is_available other start i ≡ true) ↔ IsUnusedIn after start (t.class start) i
-      in_slab i slab below = ⊎_elim
-          (λ (same : i ≡ number). subst (λ k. (is_available other start k ≡ true) ↔ IsUnusedIn after start (t.class start) k) (sym same)
-          (iff_same (turned.blocks start number ∙ cond-true ((start == start) && (number == number)) (not on) (is_available set start number) (and_from (start == start) (number == number) (eq-eqb start start refl) (eq-eqb number number refl))) here))
-          (λ (differ : i ≢ number). iff_same (elsewhere start i (inr differ)) (iff_then (was.blocks start i slab below)
-          (unused_apart (Holds-back t start number on root word None start) (Holds-forth t start number on root word None start) (t.class start) i (blocks_apart start (t.class start) number i (λ is. differ (sym is))))))
-          (cases_eq i number)
+-- a block is one of a slab, or another
+pub here_or_else : (s i start number : ℕ) → ((s ≡ start) × (i ≡ number)) ⊎ ((s ≢ start) ⊎ (i ≢ number))
+here_or_else s i start number = ⊎_elim (λ same. ⊎_elim (λ also. inl (same, also)) (λ differ. inr (inr differ)) (cases_eq i number)) (λ differ. inr (inl differ)) (cases_eq s start)
 
-      each : (s i : ℕ) → t.slab s ≡ true → i < class_capacity (t.class s) → (is_available other s i ≡ true) ↔ IsUnusedIn after s (t.class s) i
-      each s i slab below = ⊎_elim
-          (λ (same : s ≡ start). subst (λ k. t.slab k ≡ true → i < class_capacity (t.class k) → (is_available other k i ≡ true) ↔ IsUnusedIn after k (t.class k) i) (sym same) (in_slab i) slab below)
-          (λ (differ : s ≢ start). iff_same (elsewhere s i (inl differ)) (iff_then (was.blocks s i slab below) (IsUnusedIn-same (same_slab s differ) (t.class s) i)))
-          (cases_eq s start)
+-- a block that is not open may be missing
+pub slabs_missing : {set : Supply} {words : List ℕ} (start number : ℕ) → IsSlabsOf set words → ¬ (IsOpen set start number) → AreSlabsLess set words start number
+slabs_missing start number was none = record { granules = was.granules; classes = was.classes; blocks = λ s i slab below either. was.blocks s i slab below; none = none }
+
+-- one that was taken is missing
+pub slabs_without : {set other : Supply} {words : List ℕ} (start number : ℕ) → IsSlabsOf set words → IsWithout set other start number → AreSlabsLess other words start number
+slabs_without start number was without = record {
+  granules = without.granules ∙ was.granules;
+  classes = λ s. without.classes s ∙ was.classes s;
+  blocks = λ s i slab below either. iff_then (without.others s i either) (was.blocks s i slab below);
+  none = without.gone;
+}
+
+-- one that is used may be missing
+pub slabs_used : {set : Supply} {words : List ℕ} (start number : ℕ) → AreSlabsLess set words start number → ¬ (IsUnusedIn (tables_of words) start ((tables_of words).class start) number) → IsSlabsOf set words
+slabs_used {set} {words} start number less used = record {
+  granules = less.granules;
+  classes = less.classes;
+  blocks = λ s i slab below. ⊎_elim
+      (λ both. (
+        λ is. absurd (less.none (subst (λ k. IsOpen set start k) both.1 (subst (λ k. IsOpen set k i) both.0 is))),
+        λ unused. absurd (used (subst (λ k. IsUnusedIn (tables_of words) start ((tables_of words).class start) k) both.1 (subst (λ k. IsUnusedIn (tables_of words) k ((tables_of words).class k) i) both.0 unused))),
+      ))
+      (λ either. less.blocks s i slab below either)
+      (here_or_else s i start number);
+}
+
+-- one that came back is not missing any more
+pub slabs_with : {set other : Supply} {words : List ℕ} (start number : ℕ) → AreSlabsLess set words start number → IsWith set other start number → IsUnusedIn (tables_of words) start ((tables_of words).class start) number → IsSlabsOf other words
+slabs_with {set} {other} {words} start number less came unused = record {
+  granules = came.granules ∙ less.granules;
+  classes = λ s. came.classes s ∙ less.classes s;
+  blocks = λ s i slab below. ⊎_elim
+      (λ both. (
+        λ is. subst (λ k. IsUnusedIn (tables_of words) k ((tables_of words).class k) i) (sym both.0) (subst (λ k. IsUnusedIn (tables_of words) start ((tables_of words).class start) k) (sym both.1) unused),
+        λ is. subst (λ k. IsOpen other k i) (sym both.0) (subst (λ k. IsOpen other start k) (sym both.1) came.here),
+      ))
+      (λ either. iff_then (came.others s i either) (less.blocks s i slab below either))
+      (here_or_else s i start number);
+}
+
+-- a block that a root names is not open
+pub named_used : {set : Supply} {words : List ℕ} {root : ℕ} {block : SmallBlock} → IsSlabsOf set words → IsDetachable words root block → ¬ (IsOpen set block.start block.number)
+named_used {set} {words} {root} {block} slabs may is =
+    let block_in = may.block_in in
+    let but = block_in.image.but in
+    let unused = (slabs.blocks block.start block.number block_in.slab block_in.below).0 is in
+    true≢false (sym may.set ∙ clear_unused but.sound but.closed block.start block.number block_in.slab block_in.below (calm_but but block.start block_in.slab) unused)
 
 -- a block that came to a root is used
 pub used_given : (words : List ℕ) (root : ℕ) (block : SmallBlock) (word : ℕ) → IsBlockIn words root block → let t = tables_of words in
-    (not true ≡ true) ↔ IsUnusedIn (with_small t block.start block.number true root word None) block.start (t.class block.start) block.number
+    ¬ (IsUnusedIn (with_small t block.start block.number true root word None) block.start (t.class block.start) block.number)
 used_given words root block word block_in =
     let t = tables_of words in
     let but = block_in.image.but in
@@ -109,20 +150,15 @@ used_given words root block word block_in =
     let held : Holds after block.start range = record {
       slab = block_in.slab;
       block = inl (record { number = block.number; below = block_in.below; read = calm_but but block.start block_in.slab; set = put_in-same t.bit block.start block.number true; is = refl });
-    } in (
-      λ is. absurd (true≢false (sym is)),
-      λ unused. absurd (⊎_elim (λ x. omega (arith, x, size)) (λ x. omega (arith, x, size)) (unused.each range held)),
-    )
+    } in
+    λ unused. absurd (⊎_elim (λ x. omega (arith, x, size)) (λ x. omega (arith, x, size)) (unused.each range held))
 
 -- and one that went from its root is unused
-pub unused_taken : (words : List ℕ) (line root : ℕ) (block : SmallBlock) → IsDetachable words root block → (new : List ℕ) → IsDetached words line root block new → let t = tables_of words in
-    (not false ≡ true) ↔ IsUnusedIn (with_small t block.start block.number false root 0 None) block.start (t.class block.start) block.number
+pub unused_taken : (words : List ℕ) (line root : ℕ) (block : SmallBlock) → IsDetachable words root block → (new : List ℕ) → IsDetached words line root block new → IsUnusedIn (tables_of new) block.start ((tables_of new).class block.start) block.number
 unused_taken words line root block may new detached =
     let t = tables_of words in
     let but = may.block_in.image.but in
     let place = IsSmallPlace-named root block.start block.number but (omega (arith, (sizes_of words may.block_in.image.formed).first)) may.block_in.rooted may.block_in.slab may.block_in.below may.set (may.named ∙ may.block_in.at) in
     let left = detached.image.but in
-    let apart = unused_freed left.sound left.closed but.closed root (slab_block block.start (t.class block.start) block.number) detached.gives.here detached.gives.others place.apart block.start in (
-      λ is. subst (λ (x : Tables). IsUnusedIn x block.start (t.class block.start) block.number) detached.tables (record { each = apart }),
-      λ unused. refl,
-    )
+    let apart = unused_freed left.sound left.closed but.closed root (slab_block block.start (t.class block.start) block.number) detached.gives.here detached.gives.others place.apart block.start in
+    subst (λ c. IsUnusedIn (tables_of new) block.start c block.number) (sym (ap (λ (x : Tables). x.class block.start) detached.tables)) (record { each = apart })

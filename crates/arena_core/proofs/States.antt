@@ -5,7 +5,7 @@ use Rattle.std.proofs.lemmas.Bool.{cases_eq, cases_lt, cases_Bool, cond-true, co
 use Rattle.size_classes.specs.Classes.{class_capacity}
 use Rattle.image_tables.specs.Tables.{Tables, tables_of}
 use Rattle.image_tables.proofs.Tables.{root_table-past}
-use Rattle.heap_model.specs.Policy.{plain}
+use Rattle.heap_model.specs.Policy.{without_morphs}
 use Rattle.heap_model.specs.Machine.{Bounds, Range, Machine, with_key, slab_block, AreApart, IsUnused, IsFreeGranule}
 use Rattle.heap_model.specs.Choice.{Agree}
 use Rattle.heap_model.specs.Slabs.{view_of}
@@ -154,16 +154,16 @@ module _ {words : List ℕ} (image : IsExactImage words) {m : Machine} (state : 
         (cases_run start 4 k);
   }
 
-  -- four vacant granules have room for a slab's first block
-  pub vacant_clear : (start class : ℕ) → 0 < class_capacity class → IsVacantRow (bounds_of words) (tables_of words) start 4 → IsUnused m (slab_block start class 0)
-  vacant_clear start class some row = record {
+  -- four vacant granules have room for a slab's blocks
+  pub vacant_clear : (start class number : ℕ) → number < class_capacity class → IsVacantRow (bounds_of words) (tables_of words) start 4 → IsUnused m (slab_block start class number)
+  vacant_clear start class number within_class row = record {
     each = λ root other named.
         let within = IsWithin-claim sound root other (unnamed root) (claim root other named) in
-        let lies = LiesIn-block start class (slab_block start class 0) (record { number = 0; within = some; is = refl }) in
+        let lies = LiesIn-block start class (slab_block start class number) (record { number = number; within = within_class; is = refl }) in
         let first : Covers t within.0 (other.at / 16384) = Covers-within t within.0 other within.1 in
         ⊎_elim
         (λ before. inl (omega (arith, before, lies.high, within.1.low)))
-        (λ behind. inr (omega (arith, behind, within.1.high)))
+        (λ behind. inr (omega (arith, behind, within.1.high, lies.low)))
         (rows_apart start 4 within.0 (granules_at t within.0) (omega arith) (omega (arith, first.low, first.high)) (λ k from to low high. (row.vacant k from to).none within.0 (record { low = low; high = high })));
   }
 
@@ -229,7 +229,7 @@ module _ {words : List ℕ} (image : IsExactImage words) {m : Machine} (state : 
   )
 
   -- the tables say what the state says
-  pub tables_agree : Agree plain (tables_view (bounds_of words) (tables_of words)) (view_of (bounds_of words) m)
+  pub tables_agree : Agree without_morphs (tables_view (bounds_of words) (tables_of words)) (view_of (bounds_of words) m)
   tables_agree = record {
     free = λ k. (vacant_is_free k, free_is_vacant k);
     slab = state.slabs;

@@ -6,7 +6,7 @@ use Rattle.pmem_lines.specs.Pmem.{PmemState, words_of}
 use Rattle.pmem_lines.specs.Steps.{IsQuietStep}
 use Rattle.image_tables.specs.Tables.{Tables, tables_of}
 use Rattle.image_tables.proofs.Updates.{put_at-same, put_at-other}
-use Rattle.slab_index.specs.SlabSet.{SlabSet}
+use Rattle.block_supply.specs.Supply.{Supply}
 use Rattle.heap_model.specs.Machine.{Bounds, Range, slab_block}
 use Rattle.heap_check.specs.Heap.{heap, slabs}
 use Rattle.heap_check.specs.Sound.{IsInSlab, IsSound}
@@ -87,10 +87,10 @@ old_more words line root block may new detached =
     (heap_held but.sound but.closed root block.start range holds (may.named ∙ may.at)) detached.gives
 
 -- a block went
-pub taken_by : {old new : PmemState} (was : Volatile) (fewer : SlabSet) (counts : List ℕ) {root start k : ℕ} (bits lives : Bool → ℕ → ℕ → Bool) {events : List Event} → IsBlockChange (words_of old) was.line root start k →
+pub taken_by : {old new : PmemState} (was : Volatile) (fewer : Supply) (counts : List ℕ) {root start k : ℕ} (bits lives : Bool → ℕ → ℕ → Bool) {events : List Event} → IsBlockChange (words_of old) was.line root start k →
     IsQuietStep old new events (IsEitherHeap (words_of old) (words_of new)) → IsExactButImage (words_of new) start → bounds_of (words_of new) ≡ bounds_of (words_of old) →
     tables_of (words_of new) ≡ stage_of (tables_of (words_of old)) bits lives root false 0 None → GivesOne (words_of old) root None (words_of new) → KeepsOthers (words_of old) was.line root k (words_of new) →
-    IsCurrent old was → IsSlabsOf fewer (words_of new) → AreCountsOf counts (words_of new) → IsTaken old new was (record was { slabs = fewer; lives = counts }) root start events
+    IsCurrent old was → IsSlabsOf fewer (words_of new) → AreCountsOf counts (words_of new) → IsTaken old new was (record was { supply = fewer; lives = counts }) root start events
 taken_by {old} {new} was fewer counts {root} {start} {k} bits lives {events} change step image bounds tables gives rest current slabs_are counts_are =
     let words = words_of old in
     let left = words_of new in

@@ -181,7 +181,7 @@ module _ (s : PmemState) (volatile : Volatile) (start : ℕ) (untidy : IsUntidy 
     classes_ended : (o : ℕ) → slabs after o ≡ slabs t o
     classes_ended o = λ i. if row (λ x. x.slab o) i then Some (class_same o i) else None
 
-    slabs_after : IsSlabsOf volatile.slabs new
+    slabs_after : IsSlabsOf volatile.supply new
     slabs_after = record {
       granules = untidy.slabs.granules ∙ ap (λ (b : Bounds). b.granules) (sym ended.bounds);
       classes = λ o. untidy.slabs.classes o ∙ sym (classes_ended o);

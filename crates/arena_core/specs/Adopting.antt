@@ -9,7 +9,8 @@ use Rattle.book_log.specs.Table.{IsNextLive}
 use Rattle.heap_model.specs.Machine.{Bounds}
 use Rattle.heap_model.specs.Slabs.{live_below}
 use Rattle.extent_index.specs.FreeSet.{FreeSet, IsFree}
-use Rattle.slab_index.specs.SlabSet.{SlabSet, class_in, is_available}
+use Rattle.slab_index.specs.SlabSet.{class_in}
+use Rattle.block_supply.specs.Supply.{Supply, IsOpen}
 use Rattle.heap_check.specs.Heap.{heap, slabs, IsUnusedIn}
 use Rattle.heap_check.specs.Sound.{Covers}
 use Rattle.heap_check.specs.Image.{bounds_of}
@@ -25,21 +26,21 @@ abbrev pub slabs_below : Tables → ℕ → ℕ → Option ℕ
 slabs_below t from start = if nat_lt start from then slabs t start else None
 
 -- the indexes have the live extents of these words that start below a granule
-pub record IsReadBelow (words : List ℕ) (set : FreeSet) (parts : SlabSet) (from : ℕ) : Type 0 where
+pub record IsReadBelow (words : List ℕ) (set : FreeSet) (parts : Supply) (from : ℕ) : Type 0 where
   pub granules : set.granules ≡ granules_in words
   pub free : (k : ℕ) → IsFree set k ↔ IsVacantBelow (bounds_of words) (tables_of words) from k
-  pub slab_granules : parts.granules ≡ granules_in words
-  pub classes : (start : ℕ) → class_in parts start ≡ slabs_below (tables_of words) from start
+  pub slab_granules : parts.slabs.granules ≡ granules_in words
+  pub classes : (start : ℕ) → class_in parts.slabs start ≡ slabs_below (tables_of words) from start
   pub blocks : (start i : ℕ) → start < from → (tables_of words).slab start ≡ true → i < class_capacity ((tables_of words).class start) →
-      (is_available parts start i ≡ true) ↔ IsUnusedIn (tables_of words) start ((tables_of words).class start) i
+      IsOpen parts start i ↔ IsUnusedIn (tables_of words) start ((tables_of words).class start) i
 
--- the second set is the first with one slab more, in which the blocks are available that are unused
-pub record IsWithSlabOf (words : List ℕ) (old new : SlabSet) (start : ℕ) : Type 0 where
-  pub granules : new.granules ≡ old.granules
-  pub here : class_in new start ≡ Some ((tables_of words).class start)
-  pub blocks : (i : ℕ) → i < class_capacity ((tables_of words).class start) → (is_available new start i ≡ true) ↔ IsUnusedIn (tables_of words) start ((tables_of words).class start) i
-  pub classes : (other : ℕ) → ¬ (other ≡ start) → class_in new other ≡ class_in old other
-  pub others : (other i : ℕ) → ¬ (other ≡ start) → is_available new other i ≡ is_available old other i
+-- the second supply is the first with one slab more, in which the blocks are open that are unused
+pub record IsWithSlabOf (words : List ℕ) (old new : Supply) (start : ℕ) : Type 0 where
+  pub granules : new.slabs.granules ≡ old.slabs.granules
+  pub here : class_in new.slabs start ≡ Some ((tables_of words).class start)
+  pub blocks : (i : ℕ) → i < class_capacity ((tables_of words).class start) → IsOpen new start i ↔ IsUnusedIn (tables_of words) start ((tables_of words).class start) i
+  pub classes : (other : ℕ) → ¬ (other ≡ start) → class_in new.slabs other ≡ class_in old.slabs other
+  pub others : (other i : ℕ) → ¬ (other ≡ start) → IsOpen new other i ↔ IsOpen old other i
 
 -- the counts are those of the blocks of the roots below one
 pub record HasCounted (words : List ℕ) (counts : List ℕ) (root : ℕ) : Type 0 where
@@ -47,7 +48,7 @@ pub record HasCounted (words : List ℕ) (counts : List ℕ) (root : ℕ) : Type
   pub each : (start : ℕ) → slice_index counts start ≡ (if (tables_of words).slab start then live_below (heap (tables_of words)) start root else 0)
 
 -- the entry says the next live extent, and those that start below it are read
-pub record IsNextRead (words : List ℕ) (set : FreeSet) (parts : SlabSet) (next : LogEntry) : Type 0 where
+pub record IsNextRead (words : List ℕ) (set : FreeSet) (parts : Supply) (next : LogEntry) : Type 0 where
   pub from : ℕ
   pub live : IsNextLive (extent_at words) from next
   pub read : IsReadBelow words set parts from

@@ -1,5 +1,5 @@
 -- What an arena keeps between its calls, and the memory that it is made of.
-use Rattle.std.specs.Prelude.{◌≡◌, ◌↔◌, ℕ, ◌<◌, ◌≤◌, ◌≢◌, ◌⊎◌, true, false, List, length, slice_index, if◌then◌else◌, Option, Some, None}
+use Rattle.std.specs.Prelude.{◌≡◌, ◌↔◌, ℕ, ◌<◌, ◌≤◌, ◌≢◌, ◌⊎◌, true, List, length, slice_index, if◌then◌else◌, Option, Some, None}
 use Rattle.pmem_lines.specs.Pmem.{PmemState, words_of}
 use Rattle.pool_layout.specs.Header.{granules_in}
 use Rattle.size_classes.specs.Classes.{class_capacity}
@@ -9,7 +9,10 @@ use Rattle.heap_model.specs.declared.block.Block.{Block}
 use Rattle.heap_model.specs.Machine.{Range, AreApart, slab_block}
 use Rattle.heap_model.specs.Slabs.{live_below}
 use Rattle.extent_index.specs.FreeSet.{FreeSet, IsFree}
-use Rattle.slab_index.specs.SlabSet.{SlabSet, class_in, is_available}
+use Rattle.heap_model.specs.Placement.{no_stacks}
+use Rattle.slab_index.specs.SlabSet.{class_in}
+use Rattle.thread_cache.specs.Stacks.{StackTable, stacks_of}
+use Rattle.block_supply.specs.Supply.{Supply, IsOpen}
 use Rattle.heap_check.specs.Heap.{heap, slabs, IsUnusedIn}
 use Rattle.heap_check.specs.Sound.{IsVacant}
 use Rattle.heap_check.specs.Image.{bounds_of, IsExactImage}
@@ -18,10 +21,12 @@ use Rattle.attach_steps.specs.declared.block.OldBlock.{OldBlock}
 use Rattle.arena_core.specs.declared.volatile.Volatile.{Volatile}
 use Rattle.arena_core.specs.Call.{IsReady}
 
--- what an arena means: the state of its memory, and the write-ahead line that its next entry goes to
+-- what an arena means: the state of its memory, the write-ahead line that its next entry goes to, and the stacks of reserved
+-- blocks
 pub record ArenaState : Type 0 where
   pub device : PmemState
   pub line : ℕ
+  pub stacks : StackTable
 
 -- the set has the vacant granules of these words
 pub record IsIndexOf (set : FreeSet) (words : List ℕ) : Type 0 where
@@ -32,20 +37,26 @@ pub record IsIndexOf (set : FreeSet) (words : List ℕ) : Type 0 where
 abbrev pub old_range : Tables → OldBlock → Range
 old_range t block = slab_block block.start (t.old block.start) (t.number block.start block.place)
 
--- the set has the slabs of these words, and of each the blocks of its class that are unused
-pub record IsSlabsOf (set : SlabSet) (words : List ℕ) : Type 0 where
-  pub granules : set.granules ≡ granules_in words
-  pub classes : (start : ℕ) → class_in set start ≡ slabs (tables_of words) start
-  pub blocks : (start i : ℕ) → (tables_of words).slab start ≡ true → i < class_capacity ((tables_of words).class start) → (is_available set start i ≡ true) ↔ IsUnusedIn (tables_of words) start ((tables_of words).class start) i
+-- the supply has the slabs of these words, and of each the blocks of its class are open that are unused
+pub record IsSlabsOf (set : Supply) (words : List ℕ) : Type 0 where
+  pub granules : set.slabs.granules ≡ granules_in words
+  pub classes : (start : ℕ) → class_in set.slabs start ≡ slabs (tables_of words) start
+  pub blocks : (start i : ℕ) → (tables_of words).slab start ≡ true → i < class_capacity ((tables_of words).class start) → IsOpen set start i ↔ IsUnusedIn (tables_of words) start ((tables_of words).class start) i
 
--- The set has the slabs of these words, and of each the blocks of its class that are unused, but for those that overlap an old
--- block: of them it has none.
-pub record AreSlabsBut (set : SlabSet) (words : List ℕ) (block : OldBlock) : Type 0 where
-  pub granules : set.granules ≡ granules_in words
-  pub classes : (start : ℕ) → class_in set start ≡ slabs (tables_of words) start
+-- the same, but that one block is not open
+pub record AreSlabsLess (set : Supply) (words : List ℕ) (start number : ℕ) : Type 0 where
+  pub granules : set.slabs.granules ≡ granules_in words
+  pub classes : (s : ℕ) → class_in set.slabs s ≡ slabs (tables_of words) s
+  pub blocks : (s i : ℕ) → (tables_of words).slab s ≡ true → i < class_capacity ((tables_of words).class s) → (s ≢ start) ⊎ (i ≢ number) → IsOpen set s i ↔ IsUnusedIn (tables_of words) s ((tables_of words).class s) i
+  pub none : ¬ (IsOpen set start number)
+
+-- The same, but for the blocks that overlap an old block: none of them is open.
+pub record AreSlabsBut (set : Supply) (words : List ℕ) (block : OldBlock) : Type 0 where
+  pub granules : set.slabs.granules ≡ granules_in words
+  pub classes : (start : ℕ) → class_in set.slabs start ≡ slabs (tables_of words) start
   pub blocks : (start i : ℕ) → (tables_of words).slab start ≡ true → i < class_capacity ((tables_of words).class start) → (start ≢ block.start) ⊎ AreApart (old_range (tables_of words) block) (slab_block start ((tables_of words).class start) i) →
-      (is_available set start i ≡ true) ↔ IsUnusedIn (tables_of words) start ((tables_of words).class start) i
-  pub none : (i : ℕ) → i < class_capacity ((tables_of words).class block.start) → ¬ (AreApart (old_range (tables_of words) block) (slab_block block.start ((tables_of words).class block.start) i)) → is_available set block.start i ≡ false
+      IsOpen set start i ↔ IsUnusedIn (tables_of words) start ((tables_of words).class start) i
+  pub none : (i : ℕ) → i < class_capacity ((tables_of words).class block.start) → ¬ (AreApart (old_range (tables_of words) block) (slab_block block.start ((tables_of words).class block.start) i)) → ¬ (IsOpen set block.start i)
 
 -- how many live blocks lie in the slab at a start, where one begins there
 abbrev pub live_in : List ℕ → ℕ → ℕ
@@ -67,20 +78,21 @@ pub record IsCurrent (device : PmemState) (volatile : Volatile) : Type 0 where
 -- what an arena keeps: what stands beside its words is what they say
 pub record IsArena (device : PmemState) (volatile : Volatile) : Type 0 where
   pub current : IsCurrent device volatile
-  pub slabs : IsSlabsOf volatile.slabs (words_of device)
+  pub slabs : IsSlabsOf volatile.supply (words_of device)
   pub lives : AreCountsOf volatile.lives (words_of device)
   pub few : volatile.line < 8
 
--- memory for an arena of so many granules: an empty log, an index in which all of the heap is free, one without slabs, and
--- counts of 0
+-- memory for an arena of so many granules: an empty log, an index in which all of the heap is free, a supply without slabs and
+-- with empty stacks, and counts of 0
 pub record IsRoom (granules : ℕ) (volatile : Volatile) : Type 0 where
   pub least : 16 ≤ granules
   pub most : granules ≤ 1024
   pub log : IsBlank granules volatile.log
   pub index : volatile.free.granules ≡ granules
   pub each : (k : ℕ) → IsFree volatile.free k ↔ ((4 ≤ k) × (k < granules))
-  pub slabs : volatile.slabs.granules ≡ granules
-  pub no_slab : (start : ℕ) → class_in volatile.slabs start ≡ None
+  pub slabs : volatile.supply.slabs.granules ≡ granules
+  pub no_slab : (start : ℕ) → class_in volatile.supply.slabs start ≡ None
+  pub no_stacks : stacks_of volatile.supply.stacks ≡ no_stacks
   pub lives : length volatile.lives ≡ granules
   pub none_lives : (start : ℕ) → slice_index volatile.lives start ≡ 0
   pub first : volatile.line ≡ 0

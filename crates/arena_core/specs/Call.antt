@@ -7,8 +7,8 @@ use Rattle.pool_layout.specs.declared.defect.Defect.TheVariants.{BadHeader}
 use Rattle.heap_model.specs.declared.call.Call.{Call}
 use Rattle.heap_model.specs.declared.call.Reply.{Reply}
 use Rattle.heap_model.specs.Machine.{Machine, no_heap}
-use Rattle.heap_model.specs.Policy.{plain}
-use Rattle.heap_model.specs.Placement.{bare, IsPlacedStep}
+use Rattle.heap_model.specs.Policy.{without_morphs}
+use Rattle.heap_model.specs.Placement.{Stacks, IsPlacedStep}
 use Rattle.heap_check.specs.Image.{bounds_of, IsExactImage}
 use Rattle.heap_check.specs.State.{HasState}
 
@@ -17,15 +17,15 @@ pub record IsReady (device : PmemState) : Type 0 where
   pub quiet : IsQuiet device.events
   pub room : 2048 ≤ device.room
 
--- each state that the old words have leads, by a step of the placement for a seat, to one that the new words have: the
--- policy is the plain one, and all stacks are empty before and after it
-pub record IsStepOf (seat : ℕ) (old new : List ℕ) (call : Call) (reply : Reply) : Type 0 where
+-- each state that the old words have leads, with the stacks before it, to one that the new words have, with the stacks behind
+-- it, by a step of the placement for a seat: by the policy without morphs
+pub record IsStepOf (seat : ℕ) (old : List ℕ) (was : Stacks) (new : List ℕ) (after : Stacks) (call : Call) (reply : Reply) : Type 0 where
   pub bounds : bounds_of new ≡ bounds_of old
-  pub each : (m : Machine) → HasState old m → (next : Machine) × IsPlacedStep plain (bounds_of old) seat (bare m) call reply (bare next) × HasState new next
+  pub each : (m : Machine) → HasState old m → (next : Machine) × IsPlacedStep without_morphs (bounds_of old) seat (record { machine = m; stacks = was }) call reply (record { machine = next; stacks = after }) × HasState new next
 
--- whichever seat calls
+-- whichever seat calls, and whatever the stacks are, which stay
 abbrev pub IsStepOfAny : List ℕ → List ℕ → Call → Reply → Type 0
-IsStepOfAny old new call reply = (seat : ℕ) → IsStepOf seat old new call reply
+IsStepOfAny old new call reply = (seat : ℕ) (stacks : Stacks) → IsStepOf seat old stacks new stacks call reply
 
 -- a crash while an arena is formatted leaves an image that is refused for its first word, or an exact one with no block
 abbrev pub IsFormattedOrNot : List ℕ → Type 0

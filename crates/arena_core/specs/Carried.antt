@@ -13,7 +13,8 @@ use Rattle.heap_check.specs.State.{HaveSameHeap, KeepsBlocks, IsEitherHeap}
 use Rattle.log_steps.specs.Log.{IsBookOf}
 use Rattle.arena_core.specs.declared.volatile.Volatile.{Volatile}
 use Rattle.arena_core.specs.Arena.{IsIndexOf, IsSlabsOf, AreCountsOf, IsCurrent, IsArena}
-use Rattle.arena_core.specs.Call.{IsReady, IsStepOfAny}
+use Rattle.thread_cache.specs.Stacks.{stacks_of}
+use Rattle.arena_core.specs.Call.{IsReady, IsStepOf}
 use Rattle.arena_core.specs.Effect.{slabs_but, GivesRoot, IsLastOf}
 use Rattle.arena_core.specs.Events.{holds_none, tidy_events, call_events, line_after}
 
@@ -21,7 +22,7 @@ use Rattle.arena_core.specs.Events.{holds_none, tidy_events, call_events, line_a
 pub record IsDone (old new : PmemState) (left : Volatile) (root : ℕ) (block : Option Range) (slab : ℕ → Option ℕ) (events : List Event) : Type 0 where
   pub step : IsQuietStep old new events (IsEitherHeap (words_of old) (words_of new))
   pub current : IsCurrent new left
-  pub slabs : IsSlabsOf left.slabs (words_of new)
+  pub slabs : IsSlabsOf left.supply (words_of new)
   pub lives : AreCountsOf left.lives (words_of new)
   pub gives : GivesRoot (words_of old) root block slab (words_of new)
 
@@ -32,7 +33,7 @@ pub record IsUntidy (device : PmemState) (volatile : Volatile) (start : ℕ) : T
   pub slab : (tables_of (words_of device)).slab start ≡ true
   pub log : IsBookOf volatile.log (words_of device)
   pub index : IsIndexOf volatile.free (words_of device)
-  pub slabs : IsSlabsOf volatile.slabs (words_of device)
+  pub slabs : IsSlabsOf volatile.supply (words_of device)
   pub lives : AreCountsOf volatile.lives (words_of device)
 
 -- a block went from its root, and its slab may be without a block, or done
@@ -48,17 +49,17 @@ pub record IsTaken (old new : PmemState) (was left : Volatile) (root start : ℕ
 pub record IsTidied (old new : PmemState) (left : Volatile) (start : ℕ) : Type 0 where
   pub step : IsQuietStep old new (tidy_events (words_of old) start) (IsEitherHeap (words_of old) (words_of new))
   pub current : IsCurrent new left
-  pub slabs : IsSlabsOf left.slabs (words_of new)
+  pub slabs : IsSlabsOf left.supply (words_of new)
   pub lives : AreCountsOf left.lives (words_of new)
   pub bounds : bounds_of (words_of new) ≡ bounds_of (words_of old)
   pub heap : HaveSameHeap (words_of old) (words_of new)
   pub slab : (other : ℕ) → Heap.slabs (tables_of (words_of new)) other ≡ slabs_but (Heap.slabs (tables_of (words_of old))) start (holds_none (tables_of (words_of old)) start) other
   pub keeps : KeepsBlocks (words_of old) (words_of new)
 
--- a call was answered
-pub record IsCalled (old new : PmemState) (was left : Volatile) (call : Call) (reply : Reply) : Type 0 where
+-- a call of a seat was answered
+pub record IsCalled (old new : PmemState) (was left : Volatile) (seat : ℕ) (call : Call) (reply : Reply) : Type 0 where
   pub carried : IsQuietStep old new (call_events (words_of old) was.line call reply) (IsEitherHeap (words_of old) (words_of new))
   pub arena : IsArena new left
   pub line_is : left.line ≡ line_after was.line reply
-  pub step : IsStepOfAny (words_of old) (words_of new) call reply
+  pub step : IsStepOf seat (words_of old) (stacks_of was.supply.stacks) (words_of new) (stacks_of left.supply.stacks) call reply
   pub keeps : KeepsBlocks (words_of old) (words_of new)

@@ -1,7 +1,10 @@
 -- What a call changes of the words of an arena: one root's block, and the slabs.
-use Rattle.std.specs.Prelude.{◌≡◌, ◌≢◌, ◌⊎◌, ℕ, Bool, true, false, List, Option, Some, None, if◌then◌else◌}
+use Rattle.std.specs.Prelude.{◌≡◌, ◌≢◌, ◌⊎◌, ℕ, ◌<◌, Bool, true, false, List, Option, Some, None, if◌then◌else◌}
 use Rattle.image_tables.specs.Tables.{Tables, tables_of}
+use Rattle.size_classes.specs.Classes.{class_capacity}
 use Rattle.heap_model.specs.Machine.{Range, with_key}
+use Rattle.heap_model.specs.Placement.{Stacks, without_slab}
+use Rattle.block_supply.specs.Supply.{Supply, HasSlabMore, TookBlock, IsPutOn}
 use Rattle.heap_check.specs.Heap.{heap, slabs}
 use Rattle.heap_check.specs.Slabs.{IsSameSlab}
 use Rattle.heap_check.specs.Sound.{IsInSlab, HasOther}
@@ -25,6 +28,22 @@ pub record KeepsSlabs (old new : List ℕ) : Type 0 where
 -- the slabs behind a call that leaves the one at a start without a block, or not
 abbrev pub slabs_but : (ℕ → Option ℕ) → ℕ → Bool → ℕ → Option ℕ
 slabs_but slab start gone = if gone then with_key slab start None else slab
+
+-- the stacks behind it: a slab that went loses its blocks
+abbrev pub stacks_but : Stacks → ℕ → Bool → Stacks
+stacks_but stacks start gone = if gone then without_slab stacks start else stacks
+
+-- a block of a slab came back from a seat, and its slab went, or not
+pub record IsPutBack (was : Stacks) (seat class at start : ℕ) (gone : Bool) (after : Stacks) : Type 0 where
+  pub mid : Stacks
+  pub put : IsPutOn was seat class at mid
+  pub left : after ≡ stacks_but mid start gone
+
+-- a slab came into the supply, and its first block was taken for a seat
+pub record IsSuppliedFresh (old new : Supply) (seat start class : ℕ) : Type 0 where
+  pub mid : Supply
+  pub more : HasSlabMore old mid start class (λ i. i < class_capacity class)
+  pub took : TookBlock mid seat class (record { start = start; number = 0 }) new
 
 -- the slabs behind a call that places a block
 abbrev pub slabs_behind : Tables → Place → ℕ → Option ℕ

@@ -1,19 +1,24 @@
 -- What a call decides before its first store, over the tables of the image at its begin.
-use Rattle.std.specs.Prelude.{◌≡◌, ◌≢◌, ℕ, ◌+◌, ◌-◌, ◌*◌, ◌<◌, ◌≤◌, true, Option, Some, None, MatchOption, Result, Ok, Err}
+use Rattle.std.specs.Prelude.{◌≡◌, ◌≢◌, ℕ, ◌+◌, ◌-◌, ◌*◌, ◌<◌, ◌≤◌, true, Option, MatchOption, Result, Ok, Err}
 use Rattle.size_classes.specs.Classes.{class_size, class_capacity}
 use Rattle.image_tables.specs.Forms.{normal_kind}
-use Rattle.image_tables.specs.Tables.{Tables}
+use Rattle.pmem_lines.specs.Pmem.{PmemState, words_of}
+use Rattle.image_tables.specs.Tables.{Tables, tables_of}
 use Rattle.heap_model.specs.Machine.{Bounds, Range, slab_block}
-use Rattle.heap_model.specs.Policy.{plain}
-use Rattle.heap_model.specs.Choice.{View, Site, range_of, HasNoSite}
+use Rattle.heap_model.specs.Policy.{without_morphs}
+use Rattle.heap_model.specs.Choice.{View, Site, range_of, IsSite, HasNoSite}
 use Rattle.heap_model.specs.Choice.Site.{Granules, InSlab, InNewSlab}
 use Rattle.heap_model.specs.Slabs.{live_below}
-use Rattle.heap_model.specs.Plain.{IsPlainSite}
 use Rattle.heap_check.specs.Heap.{heap, slabs, IsUnusedIn}
 use Rattle.heap_check.specs.Sound.{IsVacant, IsInSlab}
+use Rattle.heap_check.specs.Image.{bounds_of}
 use Rattle.attach_steps.specs.declared.block.SmallBlock.{SmallBlock}
 use Rattle.attach_steps.specs.declared.block.OldBlock.{OldBlock}
 use Rattle.slab_morph.specs.SlabHeaders.{IsOldAt}
+use Rattle.slab_index.specs.declared.block.SlabBlock.{SlabBlock}
+use Rattle.block_supply.specs.Supply.{Supply, TookBlock, HadNoOpen}
+use Rattle.arena_core.specs.declared.volatile.Volatile.{Volatile}
+use Rattle.arena_core.specs.Arena.{IsArena}
 use Rattle.arena_core.specs.declared.plan.Place.{Place}
 use Rattle.arena_core.specs.declared.plan.Place.TheVariants.{Large, Small, Fresh}
 use Rattle.arena_core.specs.declared.plan.Held.{Held}
@@ -22,18 +27,6 @@ use Rattle.arena_core.specs.declared.answer.MallocRefusal.{MallocRefusal}
 use Rattle.arena_core.specs.declared.answer.MallocRefusal.TheVariants.{NoRoot, Occupied, ZeroSize, TooLarge, NoSpace}
 use Rattle.arena_core.specs.declared.answer.FreeRefusal.{FreeRefusal}
 use Rattle.arena_core.specs.declared.answer.FreeRefusal.TheVariants as refusals
-
--- slabs
-
--- a granule lies in the slab of a class at a start, of slabs by their starts
-pub record IsInSlabOf (classes : ℕ → Option ℕ) (k start class : ℕ) : Type 0 where
-  pub slab : classes start ≡ Some class
-  pub low : start ≤ k
-  pub high : k < start + 4
-
--- it lies in none
-pub record IsInNoSlabOf (classes : ℕ → Option ℕ) (k : ℕ) : Type 0 where
-  pub none : (start : ℕ) → start ≤ k → k < start + 4 → classes start ≡ None
 
 -- malloc
 
@@ -87,14 +80,14 @@ IsPlaceFor b t root (Large start count) = IsGivable b t root start count
 IsPlaceFor b t root (Small block class) = IsGivableBlock t block class
 IsPlaceFor b t root (Fresh start class) = IsVacantRow b t start 4
 
--- a place for a request: the lowest site, by the plain policy
+-- a place for a request: a site for it
 pub record IsPlacing (b : Bounds) (t : Tables) (root size : ℕ) (place : Place) : Type 0 where
-  pub site : IsPlainSite (tables_view b t) size (site_of place)
+  pub site : IsSite without_morphs (tables_view b t) size (site_of place)
   pub place_for : IsPlaceFor b t root place
 
 -- what is found for a request: no place where it has no site
 abbrev pub IsFound : Bounds → Tables → ℕ → ℕ → Option Place → Type 0
-IsFound b t root size found = MatchOption found (HasNoSite plain (tables_view b t) size) (IsPlacing b t root size)
+IsFound b t root size found = MatchOption found (HasNoSite without_morphs (tables_view b t) size) (IsPlacing b t root size)
 
 abbrev pub IsMallocPlan : Bounds → Tables → ℕ → ℕ → Result Place MallocRefusal → Type 0
 IsMallocPlan b t root size (Ok place) = IsAskedOf b t root size × IsPlacing b t root size place
@@ -102,7 +95,32 @@ IsMallocPlan b t root size (Err NoRoot) = b.roots ≤ root
 IsMallocPlan b t root size (Err (Occupied at)) = (root < b.roots) × (t.root root ≡ at) × (at ≢ 0)
 IsMallocPlan b t root size (Err ZeroSize) = (root < b.roots) × (t.root root ≡ 0) × (size ≡ 0)
 IsMallocPlan b t root size (Err TooLarge) = (root < b.roots) × (t.root root ≡ 0) × ((b.granules - b.first) * 16384 < size)
-IsMallocPlan b t root size (Err NoSpace) = IsAskedOf b t root size × HasNoSite plain (tables_view b t) size
+IsMallocPlan b t root size (Err NoSpace) = IsAskedOf b t root size × HasNoSite without_morphs (tables_view b t) size
+
+-- a block of a slab, by its number
+abbrev pub number_of : SmallBlock → SlabBlock
+number_of block = record { start = block.start; number = block.number }
+
+-- what a place takes of the supply: a block of a slab is taken for the seat, and for a new slab none of the class is open
+abbrev pub IsSuppliedAt : Supply → Supply → ℕ → Place → Type 0
+IsSuppliedAt old new seat (Large start count) = new ≡ old
+IsSuppliedAt old new seat (Small block class) = TookBlock old seat class (number_of block) new
+IsSuppliedAt old new seat (Fresh start class) = HadNoOpen old class new
+
+-- the same of what is found, or of a plan: nothing where there is no place
+abbrev pub IsSuppliedFor : Supply → Supply → ℕ → Option Place → Type 0
+IsSuppliedFor old new seat found = MatchOption found (new ≡ old) (IsSuppliedAt old new seat)
+
+abbrev pub IsSupplied : Supply → Supply → ℕ → Result Place MallocRefusal → Type 0
+IsSupplied old new seat (Ok place) = IsSuppliedAt old new seat place
+IsSupplied old new seat (Err refusal) = new ≡ old
+
+-- the plan of a malloc was made from what an arena kept: since then the supply alone has changed
+pub record IsPlanned (device : PmemState) (was now : Volatile) (seat root size : ℕ) (plan : Result Place MallocRefusal) : Type 0 where
+  pub arena : IsArena device was
+  pub supplied : IsSupplied was.supply now.supply seat plan
+  pub rest : now ≡ record was { supply = now.supply }
+  pub is : IsMallocPlan (bounds_of (words_of device)) (tables_of (words_of device)) root size plan
 
 -- the block of a place
 abbrev pub range_at : Place → Range

@@ -6,18 +6,20 @@ ghost use Rattle.image_tables.specs.Tables.{tables_of};
 ghost use Rattle.book_log.specs.Entry.{start_of};
 ghost use Rattle.extent_index.specs.FreeSet.{IsFree};
 ghost use Rattle.slab_index.specs.SlabSet.{class_in};
+ghost use Rattle.block_supply.specs.Supply.{IsClearOf};
 ghost use Rattle.heap_check.specs.Image.{bounds_of, IsExactImage};
 ghost use Rattle.log_steps.specs.Log.{IsBookOf};
 ghost use Rattle.arena_core.specs.Arena.{IsIndexOf, IsSlabsOf, AreCountsOf};
 ghost use Rattle.arena_core.specs.Adopting.{IsReadBelow, IsNextRead, IsWithSlabOf, HasCounted};
 
-use crate::plan::{layout_in, root_word, slab_with};
+use crate::plan::{layout_in, root_word};
+use block_supply::BlockSupply;
 use book_log::{BookLog, LogEntry};
 use extent_index::ExtentIndex;
 use pmem_lines::Pmem;
 use pool_layout::{GRANULE_BYTES, SLAB_GRANULES, granule_at};
 use slab_header::class_at;
-use slab_index::{LiveCounts, SlabIndex};
+use slab_index::LiveCounts;
 use slab_morph::used_blocks;
 
 /// Makes the indexes those of an exact image: all of the heap was free before, and no slab was there. `log` is the
@@ -26,70 +28,78 @@ pub(crate) fn read_image<P: Pmem>(
     device: &P,
     log: &BookLog,
     free: &mut ExtentIndex,
-    slabs: &mut SlabIndex,
+    supply: &mut BlockSupply,
 )
     requires exact { IsExactImage (words_of (P.state device.now)) }
     requires log { IsBookOf log.now (words_of (P.state device.now)) }
     requires granules { free.old.granules ≡ granules_in (words_of (P.state device.now)) }
     requires all_free { (k : ℕ) → IsFree free.old k ↔ ((4 ≤ k) × (k < free.old.granules)) }
-    requires slab_granules { slabs.old.granules ≡ granules_in (words_of (P.state device.now)) }
-    requires no_slab { (start : ℕ) → class_in slabs.old start ≡ None }
+    requires slab_granules { supply.old.slabs.granules ≡ granules_in (words_of (P.state device.now)) }
+    requires no_slab { (start : ℕ) → class_in supply.old.slabs start ≡ None }
     ensures free { IsIndexOf free.new (words_of (P.state device.now)) }
-    ensures slabs { IsSlabsOf slabs.new (words_of (P.state device.now)) }
+    ensures slabs { IsSlabsOf supply.new (words_of (P.state device.now)) }
+    ensures stacks { supply.new.stacks ≡ supply.old.stacks }
 {
     let mut from = 0;
     while let Some(extent) = log.next_live(from) {
-        read_extent(device, free, slabs, extent);
+        read_extent(device, free, supply, extent);
         from = extent.start() + 1;
     }
 }
 
 // Takes over the live extent that an entry says; those that start below it are taken over.
-fn read_extent<P: Pmem>(device: &P, free: &mut ExtentIndex, slabs: &mut SlabIndex, extent: LogEntry)
+fn read_extent<P: Pmem>(
+    device: &P,
+    free: &mut ExtentIndex,
+    supply: &mut BlockSupply,
+    extent: LogEntry,
+)
     requires exact { IsExactImage (words_of (P.state device.now)) }
-    requires next { IsNextRead (words_of (P.state device.now)) free.old slabs.old extent }
-    ensures { IsReadBelow (words_of (P.state device.now)) free.new slabs.new (start_of extent + 1) }
+    requires next { IsNextRead (words_of (P.state device.now)) free.old supply.old extent }
+    ensures read { IsReadBelow (words_of (P.state device.now)) free.new supply.new (start_of extent + 1) }
+    ensures stacks { supply.new.stacks ≡ supply.old.stacks }
 {
     match extent {
         LogEntry::Large { start, granules } => free.take(start, granules),
         LogEntry::Slab { start } => {
             free.take(start, SLAB_GRANULES);
-            read_slab(device, slabs, start);
+            read_slab(device, supply, start);
         }
         LogEntry::Tomb { .. } => {}
     }
 }
 
-// Takes over a slab: its class, and which of its blocks are free.
-fn read_slab<P: Pmem>(device: &P, slabs: &mut SlabIndex, start: u32)
+// Takes over a slab: its class, and which of its blocks are unused.
+fn read_slab<P: Pmem>(device: &P, supply: &mut BlockSupply, start: u32)
     requires exact { IsExactImage (words_of (P.state device.now)) }
     requires slab { (tables_of (words_of (P.state device.now))).slab start ≡ true }
-    requires granules { slabs.old.granules ≡ granules_in (words_of (P.state device.now)) }
-    requires fresh { class_in slabs.old start ≡ None }
-    ensures { IsWithSlabOf (words_of (P.state device.now)) slabs.old slabs.new start }
+    requires granules { supply.old.slabs.granules ≡ granules_in (words_of (P.state device.now)) }
+    requires fresh { class_in supply.old.slabs start ≡ None }
+    requires clear { IsClearOf supply.old start }
+    ensures slab { IsWithSlabOf (words_of (P.state device.now)) supply.old supply.new start }
+    ensures stacks { supply.new.stacks ≡ supply.old.stacks }
 {
     let at = granule_at(start);
-    slabs.add(start, class_at(device, at));
-    slabs.take_all(start, &used_blocks(device, at));
+    supply.add_used(start, class_at(device, at), &used_blocks(device, at));
 }
 
 /// Counts the live blocks of each slab of an exact image, by the words of its roots; all counts were 0 before.
-pub(crate) fn count_lives<P: Pmem>(device: &P, slabs: &SlabIndex, lives: &mut LiveCounts)
+pub(crate) fn count_lives<P: Pmem>(device: &P, supply: &BlockSupply, lives: &mut LiveCounts)
     requires exact { IsExactImage (words_of (P.state device.now)) }
-    requires slabs { IsSlabsOf slabs.now (words_of (P.state device.now)) }
+    requires slabs { IsSlabsOf supply.now (words_of (P.state device.now)) }
     requires size { length lives.old ≡ granules_in (words_of (P.state device.now)) }
     requires none { (start : ℕ) → slice_index lives.old start ≡ 0 }
     ensures { AreCountsOf lives.new (words_of (P.state device.now)) }
 {
     for root in 0..layout_in(device).roots {
-        count_root(device, slabs, lives, root);
+        count_root(device, supply, lives, root);
     }
 }
 
 // Counts the block of a root, where it lies in a slab; those of the roots below it are counted.
-fn count_root<P: Pmem>(device: &P, slabs: &SlabIndex, lives: &mut LiveCounts, root: u32)
+fn count_root<P: Pmem>(device: &P, supply: &BlockSupply, lives: &mut LiveCounts, root: u32)
     requires exact { IsExactImage (words_of (P.state device.now)) }
-    requires slabs { IsSlabsOf slabs.now (words_of (P.state device.now)) }
+    requires slabs { IsSlabsOf supply.now (words_of (P.state device.now)) }
     requires root { root < (bounds_of (words_of (P.state device.now))).roots }
     requires counted { HasCounted (words_of (P.state device.now)) lives.old root }
     ensures { HasCounted (words_of (P.state device.now)) lives.new (root + 1) }
@@ -98,7 +108,7 @@ fn count_root<P: Pmem>(device: &P, slabs: &SlabIndex, lives: &mut LiveCounts, ro
     if at == 0 {
         return;
     }
-    if let Some(slab) = slab_with(slabs, at / GRANULE_BYTES) {
+    if let Some(slab) = supply.slab_with(at / GRANULE_BYTES) {
         lives.raise(slab.start);
     }
 }

@@ -6,6 +6,8 @@ ghost use Rattle.pmem_lines.specs.Pmem.{words_of, began, appended};
 ghost use Rattle.pool_layout.specs.Header.{granules_in};
 ghost use Rattle.heap_model.specs.declared.call.Call.TheVariants as calls;
 ghost use Rattle.heap_model.specs.Machine.{no_heap};
+ghost use Rattle.heap_model.specs.Placement.{no_stacks};
+ghost use Rattle.thread_cache.specs.Stacks.{stacks_of};
 ghost use Rattle.heap_check.specs.Image.{IsExactImage};
 ghost use Rattle.heap_check.specs.State.{HasState, KeepsBlocks, IsEitherHeap};
 ghost use Rattle.arena_core.specs.Answer.{malloc_reply, free_reply, write_reply};
@@ -17,7 +19,7 @@ ghost use Rattle.arena_core.specs.Payload.{payload_events, IsWriteStep, IsWritte
 use crate::adopting::{count_lives, read_image};
 use crate::formatting::write_header;
 use crate::payload::{block_of, carry_out_write, plan_write};
-use crate::plan::{freed_of, granules_in, held_by, layout_in, plan_free, plan_malloc};
+use crate::plan::{freed_of, granules_in, held_by, layout_in, plan_free};
 use crate::volatile::Volatile;
 use crate::{ArenaRoom, BlockRefusal, FreeRefusal, Freed, MallocRefusal, Placed};
 use heap_model::Block;
@@ -30,7 +32,7 @@ const VERSION: u32 = 1;
 
 /// An arena over a memory of 16 to 1024 granules of 16384 bytes: 4096 roots, of which each names a block or none. A small
 /// block, of at most 16384 bytes, is one of a slab of its size class; a large one is whole granules. In contracts it is
-/// what its memory means, and the write-ahead line that the next entry goes to.
+/// what its memory means, the write-ahead line that the next entry goes to, and the stacks of reserved blocks.
 #[derive(Drop)]
 pub struct Arena<P: Pmem> {
     device: P,
@@ -42,7 +44,7 @@ impl<P: Pmem> Model for Arena<P> {
 
     ghost Value = { ArenaState };
 
-    ghost view = { λ a. record { device = P.state a.device; line = a.volatile.line } };
+    ghost view = { λ a. record { device = P.state a.device; line = a.volatile.line; stacks = a.volatile.supply.stacks } };
 
     ghost invariant = { λ a. IsArena (P.state a.device) a.volatile };
 }
@@ -60,6 +62,7 @@ impl<P: Pmem> Arena<P> {
         requires few { arenas ≤ 16 }
         ensures device { result.device ≡ appended (began (P.state device)) (format_events (record { version = 1; number = number; arenas = arenas; granules = room })) }
         ensures line { result.line ≡ 0 }
+        ensures stacks { stacks_of result.stacks ≡ no_stacks }
         ensures ready { IsReady result.device }
         ensures exact { IsExactImage (words_of result.device) }
         ensures empty { HasState (words_of result.device) no_heap }
@@ -87,6 +90,7 @@ impl<P: Pmem> Arena<P> {
         requires size { granules_in (words_of (P.state device)) ≡ room }
         ensures device { result.device ≡ P.state device }
         ensures line { result.line ≡ 0 }
+        ensures stacks { stacks_of result.stacks ≡ no_stacks }
         ensures ready { IsReady result.device }
     {
         let ArenaRoom { mut volatile } = room;
@@ -95,22 +99,24 @@ impl<P: Pmem> Arena<P> {
             &device,
             &volatile.log,
             &mut volatile.free,
-            &mut volatile.slabs,
+            &mut volatile.supply,
         );
-        count_lives(&device, &volatile.slabs, &mut volatile.lives);
+        count_lives(&device, &volatile.supply, &mut volatile.lives);
         Arena { device, volatile }
     }
 
-    /// Gives a root a block of at least `size` bytes. A size of at most 16384 takes the lowest free block of its class: of
-    /// the lowest slab of the class that has one, or the first of a slab that is opened at the best fit of four granules.
-    /// Any other takes whole granules at their best fit. The answer is the machine's: `NoRoot` where there is no such root
+    /// Gives a root a block of at least `size` bytes. A size of at most 16384 takes a block of its class: the top of the
+    /// seat's own stack; where that is empty, the lowest available block of the lowest slab of the class that has one, and
+    /// the next ones of that slab, up to seven, go on the seat's stack; where there is none, the top of the stack of the
+    /// lowest-numbered seat that has one; and else the first of a slab that is opened at the best fit of four granules, and
+    /// the next ones go on the seat's stack. Any other size takes whole granules at their best fit. The answer is the machine's: `NoRoot` where there is no such root
     /// word, `Occupied` where the root names a block, `ZeroSize`, `TooLarge` above the bytes of the whole heap, `NoSpace`.
-    /// It begins one call, ahead of its events, also where it refuses; a refusal has no event and changes no word. Every
-    /// other block keeps its words. After a crash within it the heap is the one before the call or the one after it. It
-    /// takes no memory. `seat` is the caller's, below 64.
+    /// It begins one call, ahead of its events, also where it refuses; a refusal has no event and changes no word
+    /// and no stack. Every other block keeps its words. After a crash within it the heap is the one before the call or the
+    /// one after it. It takes no memory. `seat` is the caller's, below 64.
     pub fn malloc_to(&mut self, seat: u32, root: u32, size: u64) -> Result<Placed, MallocRefusal>
         requires { seat < 64 }
-        ensures step { IsStepOf seat (words_of self.old.device) (words_of self.new.device) (calls.Malloc root size) (malloc_reply result) }
+        ensures step { IsStepOf seat (words_of self.old.device) (stacks_of self.old.stacks) (words_of self.new.device) (stacks_of self.new.stacks) (calls.Malloc root size) (malloc_reply result) }
         ensures device { self.new.device ≡ appended (began self.old.device) (call_events (words_of self.old.device) self.old.line (calls.Malloc root size) (malloc_reply result)) }
         ensures line { self.new.line ≡ line_after self.old.line (malloc_reply result) }
         ensures keeps { KeepsBlocks (words_of self.old.device) (words_of self.new.device) }
@@ -119,26 +125,22 @@ impl<P: Pmem> Arena<P> {
         ensures ready { IsReady self.new.device }
         ensures crash { CrashOnly self.new.device.base self.new.device.events (IsEitherHeap (words_of self.old.device) (words_of self.new.device)) }
     {
-        let plan = plan_malloc(
-            &self.device,
-            &self.volatile.free,
-            &self.volatile.slabs,
-            root,
-            size,
-        );
+        let plan = self.volatile.plan_malloc(&self.device, seat, root, size);
         self.device.begin();
-        self.volatile.carry_out_malloc(&mut self.device, root, plan)
+        self.volatile
+            .carry_out_malloc(&mut self.device, seat, root, plan)
     }
 
-    /// Takes a root its block, and the block's slab out of the heap where no other block is left in it; where it was the
-    /// last old block of a slab that took another class, the slab is normal again. The answer is the
+    /// Takes a root its block, and the block's slab out of the heap, and its blocks out of all stacks, where no other block
+    /// is left in it; where it was the last old block of a slab that took another class, the slab is normal again. A block
+    /// of its slab's class goes on the seat's stack where that has less than eight. The answer is the
     /// machine's: `NoRoot` where there is no such root word, then `Empty` where the root names no block. It begins one call,
     /// ahead of its events, also where it refuses; a refusal has no event and changes no word. Every other block keeps its
     /// words. After a crash within it the heap is the one before the call or the one after it. It takes no memory. `seat`
     /// is the caller's, below 64.
     pub fn free_from(&mut self, seat: u32, root: u32) -> Result<Freed, FreeRefusal>
         requires { seat < 64 }
-        ensures step { IsStepOf seat (words_of self.old.device) (words_of self.new.device) (calls.Free root) (free_reply result) }
+        ensures step { IsStepOf seat (words_of self.old.device) (stacks_of self.old.stacks) (words_of self.new.device) (stacks_of self.new.stacks) (calls.Free root) (free_reply result) }
         ensures device { self.new.device ≡ appended (began self.old.device) (call_events (words_of self.old.device) self.old.line (calls.Free root) (free_reply result)) }
         ensures line { self.new.line ≡ line_after self.old.line (free_reply result) }
         ensures keeps { KeepsBlocks (words_of self.old.device) (words_of self.new.device) }
@@ -147,9 +149,15 @@ impl<P: Pmem> Arena<P> {
         ensures ready { IsReady self.new.device }
         ensures crash { CrashOnly self.new.device.base self.new.device.events (IsEitherHeap (words_of self.old.device) (words_of self.new.device)) }
     {
-        let plan = plan_free(&self.device, &self.volatile.log, &self.volatile.slabs, root);
+        let plan = plan_free(
+            &self.device,
+            &self.volatile.log,
+            &self.volatile.supply,
+            root,
+        );
         self.device.begin();
-        self.volatile.carry_out_free(&mut self.device, root, plan)
+        self.volatile
+            .carry_out_free(&mut self.device, seat, root, plan)
     }
 
     /// Makes the words of a root's block from word `from` on those that are given, durably. The answer is the machine's:
@@ -163,6 +171,7 @@ impl<P: Pmem> Arena<P> {
         ensures step { IsWriteStep (words_of self.old.device) (words_of self.new.device) root from words.now (write_reply result) }
         ensures device { self.new.device ≡ appended (began self.old.device) (payload_events (words_of self.old.device) root from words.now (write_reply result)) }
         ensures line { self.new.line ≡ self.old.line }
+        ensures stacks { self.new.stacks ≡ self.old.stacks }
         ensures written { IsWrittenBy (words_of self.old.device) root from words.now (words_of self.new.device) result }
         ensures was_exact { IsExactImage (words_of self.old.device) }
         ensures exact { IsExactImage (words_of self.new.device) }
@@ -172,7 +181,7 @@ impl<P: Pmem> Arena<P> {
         let plan = plan_write(
             &self.device,
             &self.volatile.log,
-            &self.volatile.slabs,
+            &self.volatile.supply,
             root,
             from,
             words.len() as u64,
@@ -188,7 +197,12 @@ impl<P: Pmem> Arena<P> {
         ensures exact { IsExactImage (words_of self.now.device) }
         ensures ready { IsReady self.now.device }
     {
-        match block_of(&self.device, &self.volatile.log, &self.volatile.slabs, root) {
+        match block_of(
+            &self.device,
+            &self.volatile.log,
+            &self.volatile.supply,
+            root,
+        ) {
             Ok(block) => Ok(self.device.words(block.at, block.size / 8)),
             Err(refusal) => Err(refusal),
         }
@@ -201,7 +215,12 @@ impl<P: Pmem> Arena<P> {
         if root >= layout_in(&self.device).roots {
             return None;
         }
-        match held_by(&self.device, &self.volatile.log, &self.volatile.slabs, root) {
+        match held_by(
+            &self.device,
+            &self.volatile.log,
+            &self.volatile.supply,
+            root,
+        ) {
             Some(held) => {
                 let block = freed_of(held);
                 Some(Block {

@@ -10,27 +10,30 @@ ghost use Rattle.heap_model.specs.Machine.{with_key, slab_block};
 ghost use Rattle.heap_check.specs.Heap.{slabs as classes_of};
 ghost use Rattle.heap_check.specs.Image.{bounds_of, IsExactButImage};
 ghost use Rattle.heap_check.specs.State.{IsEitherHeap};
+ghost use Rattle.size_classes.specs.Classes.{class_capacity};
+ghost use Rattle.thread_cache.specs.Stacks.{stacks_of};
+ghost use Rattle.block_supply.specs.Supply.{HasNoOpen, HasSlabMore, IsPutOn};
 ghost use Rattle.log_steps.specs.Log.{IsBookOf};
 ghost use Rattle.extent_steps.specs.Slabs.{open_events, IsOpened};
 ghost use Rattle.attach_steps.specs.Steps.{attach_events, detach_events, detach_old_events, IsAttachable, IsDetachable, IsOldDetachable, IsAttached};
 ghost use Rattle.arena_core.specs.Answer.{malloc_reply, free_reply};
-ghost use Rattle.arena_core.specs.Arena.{IsIndexOf, IsSlabsOf, AreSlabsBut, AreCountsOf, IsCurrent, IsArena};
+ghost use Rattle.arena_core.specs.Arena.{IsIndexOf, IsSlabsOf, AreSlabsLess, AreSlabsBut, AreCountsOf, IsCurrent, IsArena};
 ghost use Rattle.arena_core.specs.Call.{IsReady};
 ghost use Rattle.arena_core.specs.Carried.{IsDone, IsUntidy, IsTaken, IsTidied, IsCalled};
-ghost use Rattle.arena_core.specs.Effect.{IsLastOf, slabs_but};
+ghost use Rattle.arena_core.specs.Effect.{IsLastOf, slabs_but, stacks_but, IsPutBack, IsSuppliedFresh};
 ghost use Rattle.arena_core.specs.Events.{place_events, take_events, fresh_events, unsmall_events, tidy_events, holds_none};
-ghost use Rattle.arena_core.specs.Plan.{IsAskedOf, IsVacantRow, IsGivable, IsTakable, IsNamedSmall, IsNamedOld, IsHeldBy, IsMallocPlan, IsFreePlan};
+ghost use Rattle.arena_core.specs.Plan.{IsAskedOf, IsVacantRow, IsGivable, IsTakable, IsNamedSmall, IsNamedOld, IsHeldBy, IsPlanned, IsFreePlan};
 
 use crate::plan::{Held, Place, freed_of, placed_at};
 use crate::volatile::Volatile;
 use crate::{FreeRefusal, Freed, MallocRefusal, Placed};
 use attach_steps::{OldBlock, SmallBlock, attach, detach, detach_old, put_root};
+use block_supply::{BlockSupply, SlabAt, SlabBlock};
 use book_log::LogEntry;
 use extent_steps::{drop_extent, drop_slab, open_slab};
 use log_steps::log_entry;
 use pmem_lines::Pmem;
 use pool_layout::{SLAB_GRANULES, blocks_at, granule_at};
-use slab_index::SlabIndex;
 use slab_morph::{covered_by, is_done, is_unused};
 use transition_steps::end_transition;
 
@@ -39,26 +42,33 @@ impl Volatile {
     pub(crate) fn carry_out_malloc<P: Pmem>(
         &mut self,
         device: &mut P,
+        seat: u32,
         root: u32,
         plan: Result<Place, MallocRefusal>,
     ) -> Result<Placed, MallocRefusal>
-        requires arena { IsArena (P.state device.old) self.old }
         requires fresh { (P.state device.old).events ≡ [] }
-        requires plan { (size : ℕ) × IsMallocPlan (bounds_of (words_of (P.state device.old))) (tables_of (words_of (P.state device.old))) root size plan }
-        ensures { (size : ℕ) → IsMallocPlan (bounds_of (words_of (P.state device.old))) (tables_of (words_of (P.state device.old))) root size plan → IsCalled (P.state device.old) (P.state device.new) self.old self.new (calls.Malloc root size) (malloc_reply result) }
+        requires seat { seat < 64 }
+        requires planned { (was : Volatile) × (size : ℕ) × IsPlanned (P.state device.old) was self.old seat root size plan }
+        ensures { (was : Volatile) (size : ℕ) → IsPlanned (P.state device.old) was self.old seat root size plan → IsCalled (P.state device.old) (P.state device.new) was self.new seat (calls.Malloc root size) (malloc_reply result) }
     {
         match plan {
-            Ok(place) => Ok(self.carry_out_place(device, root, place)),
+            Ok(place) => Ok(self.carry_out_place(device, seat, root, place)),
             Err(refusal) => Err(refusal),
         }
     }
 
-    // Gives a root the block at a place.
-    fn carry_out_place<P: Pmem>(&mut self, device: &mut P, root: u32, place: Place) -> Placed
-        requires arena { IsArena (P.state device.old) self.old }
+    // Gives a root of a seat the block at a place.
+    fn carry_out_place<P: Pmem>(
+        &mut self,
+        device: &mut P,
+        seat: u32,
+        root: u32,
+        place: Place,
+    ) -> Placed
         requires fresh { (P.state device.old).events ≡ [] }
-        requires plan { (size : ℕ) × IsMallocPlan (bounds_of (words_of (P.state device.old))) (tables_of (words_of (P.state device.old))) root size (Ok place) }
-        ensures { (size : ℕ) → IsMallocPlan (bounds_of (words_of (P.state device.old))) (tables_of (words_of (P.state device.old))) root size (Ok place) → IsCalled (P.state device.old) (P.state device.new) self.old self.new (calls.Malloc root size) (replies.Placed result.at result.size) }
+        requires seat { seat < 64 }
+        requires planned { (was : Volatile) × (size : ℕ) × IsPlanned (P.state device.old) was self.old seat root size (Ok place) }
+        ensures { (was : Volatile) (size : ℕ) → IsPlanned (P.state device.old) was self.old seat root size (Ok place) → IsCalled (P.state device.old) (P.state device.new) was self.new seat (calls.Malloc root size) (replies.Placed result.at result.size) }
     {
         match place {
             Place::Large { start, granules } => self.give_large(device, root, start, granules),
@@ -67,7 +77,7 @@ impl Volatile {
                 self.line = (self.line + 1) % 8;
             }
             Place::Fresh { start, class } => {
-                self.give_fresh(device, root, start, class);
+                self.give_fresh(device, seat, root, SlabAt { start, class });
                 self.line = (self.line + 1) % 8;
             }
         }
@@ -78,31 +88,34 @@ impl Volatile {
     pub(crate) fn carry_out_free<P: Pmem>(
         &mut self,
         device: &mut P,
+        seat: u32,
         root: u32,
         plan: Result<Held, FreeRefusal>,
     ) -> Result<Freed, FreeRefusal>
         requires arena { IsArena (P.state device.old) self.old }
         requires fresh { (P.state device.old).events ≡ [] }
+        requires seat { seat < 64 }
         requires plan { IsFreePlan (bounds_of (words_of (P.state device.old))) (tables_of (words_of (P.state device.old))) root plan }
-        ensures { IsCalled (P.state device.old) (P.state device.new) self.old self.new (calls.Free root) (free_reply result) }
+        ensures { IsCalled (P.state device.old) (P.state device.new) self.old self.new seat (calls.Free root) (free_reply result) }
     {
         match plan {
-            Ok(held) => Ok(self.carry_out_held(device, root, held)),
+            Ok(held) => Ok(self.carry_out_held(device, seat, root, held)),
             Err(refusal) => Err(refusal),
         }
     }
 
-    // Takes what it holds from a root.
-    fn carry_out_held<P: Pmem>(&mut self, device: &mut P, root: u32, held: Held) -> Freed
+    // Takes what it holds from a root of a seat.
+    fn carry_out_held<P: Pmem>(&mut self, device: &mut P, seat: u32, root: u32, held: Held) -> Freed
         requires arena { IsArena (P.state device.old) self.old }
         requires fresh { (P.state device.old).events ≡ [] }
+        requires seat { seat < 64 }
         requires plan { IsHeldBy (bounds_of (words_of (P.state device.old))) (tables_of (words_of (P.state device.old))) root held }
-        ensures { IsCalled (P.state device.old) (P.state device.new) self.old self.new (calls.Free root) (replies.Freed result.at result.size) }
+        ensures { IsCalled (P.state device.old) (P.state device.new) self.old self.new seat (calls.Free root) (replies.Freed result.at result.size) }
     {
         match held {
             Held::Large { start, granules } => self.take_large(device, root, start, granules),
-            Held::Small { block, class } => {
-                self.take_small(device, root, block, class);
+            Held::Small { block, class: _ } => {
+                self.take_small(device, seat, root, block);
                 self.line = (self.line + 1) % 8;
             }
             Held::Old { block, class } => {
@@ -120,6 +133,7 @@ impl Volatile {
         requires givable { IsGivable (bounds_of (words_of (P.state device.old))) (tables_of (words_of (P.state device.old))) root start granules }
         ensures done { IsDone (P.state device.old) (P.state device.new) self.new root (Some (record { at = 16384 * start; size = 16384 * granules })) (classes_of (tables_of (words_of (P.state device.old)))) (place_events (words_of (P.state device.old)) root start granules) }
         ensures line { self.new.line ≡ self.old.line }
+        ensures supply { self.new.supply ≡ self.old.supply }
     {
         log_entry(&mut self.log, device, LogEntry::Large { start, granules });
         put_root(device, root, granule_at(start));
@@ -133,28 +147,28 @@ impl Volatile {
         requires takable { IsTakable (bounds_of (words_of (P.state device.old))) (tables_of (words_of (P.state device.old))) root start granules }
         ensures done { IsDone (P.state device.old) (P.state device.new) self.new root None (classes_of (tables_of (words_of (P.state device.old)))) (take_events (words_of (P.state device.old)) root start) }
         ensures line { self.new.line ≡ self.old.line }
+        ensures supply { self.new.supply ≡ self.old.supply }
     {
         put_root(device, root, 0);
         drop_extent(device, &mut self.log, start);
         self.free.give(start, granules);
     }
 
-    // Gives a free block of a slab to a root.
+    // Gives a block of a slab to a root, which was taken out of the supply.
     fn give_small<P: Pmem>(&mut self, device: &mut P, root: u32, block: SmallBlock)
         requires ready { IsReady (P.state device.old) }
         requires few { length (P.state device.old).events ≤ 757 }
         requires line { self.old.line < 8 }
         requires attachable { IsAttachable (words_of (P.state device.old)) root block }
-        requires slabs { IsSlabsOf self.old.slabs (words_of (P.state device.old)) }
+        requires slabs { AreSlabsLess self.old.supply (words_of (P.state device.old)) block.start block.number }
         requires lives { AreCountsOf self.old.lives (words_of (P.state device.old)) }
         ensures step { IsQuietStep (P.state device.old) (P.state device.new) (attach_events (words_of (P.state device.old)) self.old.line root block) (IsEitherHeap (words_of (P.state device.old)) (words_of (P.state device.new))) }
         ensures attached { IsAttached (words_of (P.state device.old)) self.old.line root block (words_of (P.state device.new)) }
-        ensures slabs { IsSlabsOf self.new.slabs (words_of (P.state device.new)) }
+        ensures slabs { IsSlabsOf self.new.supply (words_of (P.state device.new)) }
         ensures lives { AreCountsOf self.new.lives (words_of (P.state device.new)) }
-        ensures rest { self.new ≡ record self.old { slabs = self.new.slabs; lives = self.new.lives } }
+        ensures rest { self.new ≡ record self.old { lives = self.new.lives } }
     {
         attach(device, self.line, root, block);
-        self.slabs.take(block.start, block.number);
         self.lives.raise(block.start);
     }
 
@@ -164,51 +178,59 @@ impl Volatile {
         requires fresh { (P.state device.old).events ≡ [] }
         requires row { IsVacantRow (bounds_of (words_of (P.state device.old))) (tables_of (words_of (P.state device.old))) start 4 }
         requires class { class < 36 }
-        requires slabs { IsSlabsOf self.old.slabs (words_of (P.state device.old)) }
+        requires slabs { IsSlabsOf self.old.supply (words_of (P.state device.old)) }
         requires lives { AreCountsOf self.old.lives (words_of (P.state device.old)) }
         ensures step { IsQuietStep (P.state device.old) (P.state device.new) (open_events (words_of (P.state device.old)) start class) (IsEitherHeap (words_of (P.state device.old)) (words_of (P.state device.new))) }
         ensures few { length (P.state device.new).events ≤ 757 }
         ensures opened { IsOpened (words_of (P.state device.old)) start class (words_of (P.state device.new)) }
         ensures book { IsBookOf self.new.log (words_of (P.state device.new)) }
         ensures index { IsIndexOf self.new.free (words_of (P.state device.new)) }
-        ensures slabs { IsSlabsOf self.new.slabs (words_of (P.state device.new)) }
+        ensures slabs { IsSlabsOf self.new.supply (words_of (P.state device.new)) }
+        ensures more { HasSlabMore self.old.supply self.new.supply start class (λ i. i < class_capacity class) }
         ensures lives { AreCountsOf self.new.lives (words_of (P.state device.new)) }
         ensures line { self.new.line ≡ self.old.line }
     {
         open_slab(device, &mut self.log, start, class);
         self.free.take(start, SLAB_GRANULES);
-        self.slabs.add(start, class);
+        self.supply.add(start, class);
     }
 
-    // Opens a slab, and gives its first block to a root.
-    fn give_fresh<P: Pmem>(&mut self, device: &mut P, root: u32, start: u32, class: u8)
+    // Opens a slab, where no block of its class is open, and gives its first block to a root of a seat.
+    fn give_fresh<P: Pmem>(&mut self, device: &mut P, seat: u32, root: u32, slab: SlabAt)
         requires arena { IsArena (P.state device.old) self.old }
         requires fresh { (P.state device.old).events ≡ [] }
+        requires seat { seat < 64 }
         requires asked { (size : ℕ) × IsAskedOf (bounds_of (words_of (P.state device.old))) (tables_of (words_of (P.state device.old))) root size }
-        requires row { IsVacantRow (bounds_of (words_of (P.state device.old))) (tables_of (words_of (P.state device.old))) start 4 }
-        requires class { class < 36 }
-        ensures done { IsDone (P.state device.old) (P.state device.new) self.new root (Some (slab_block start class 0)) (with_key (classes_of (tables_of (words_of (P.state device.old)))) start (Some class)) (fresh_events (words_of (P.state device.old)) self.old.line root start class) }
+        requires row { IsVacantRow (bounds_of (words_of (P.state device.old))) (tables_of (words_of (P.state device.old))) slab.start 4 }
+        requires class { slab.class < 36 }
+        requires none { HasNoOpen self.old.supply slab.class }
+        ensures done { IsDone (P.state device.old) (P.state device.new) self.new root (Some (slab_block slab.start slab.class 0)) (with_key (classes_of (tables_of (words_of (P.state device.old)))) slab.start (Some slab.class)) (fresh_events (words_of (P.state device.old)) self.old.line root slab.start slab.class) }
+        ensures supplied { IsSuppliedFresh self.old.supply self.new.supply seat slab.start slab.class }
         ensures line { self.new.line ≡ self.old.line }
     {
-        self.add_slab(device, start, class);
+        self.add_slab(device, slab.start, slab.class);
+        // The seat is given the first of the new blocks: no other one of the class is open.
+        self.supply.take(seat, slab.class);
         let first = SmallBlock {
-            start,
+            start: slab.start,
             number: 0,
-            at: blocks_at(granule_at(start)),
+            at: blocks_at(granule_at(slab.start)),
         };
         self.give_small(device, root, first);
     }
 
-    // Takes a block of its slab's class from a root, and tidies the slab.
-    fn take_small<P: Pmem>(&mut self, device: &mut P, root: u32, block: SmallBlock, class: u8)
+    // Takes a block of its slab's class from a root of a seat, and tidies the slab.
+    fn take_small<P: Pmem>(&mut self, device: &mut P, seat: u32, root: u32, block: SmallBlock)
         requires arena { IsArena (P.state device.old) self.old }
         requires fresh { (P.state device.old).events ≡ [] }
-        requires named { IsNamedSmall (bounds_of (words_of (P.state device.old))) (tables_of (words_of (P.state device.old))) root block class }
+        requires seat { seat < 64 }
+        requires named { IsNamedSmall (bounds_of (words_of (P.state device.old))) (tables_of (words_of (P.state device.old))) root block ((tables_of (words_of (P.state device.old))).class block.start) }
         ensures last { let left = reading (words_of (P.state device.old)) (detach_events (words_of (P.state device.old)) self.old.line root block) in IsLastOf (tables_of (words_of (P.state device.old))) root block.start (holds_none (tables_of left) block.start) }
         ensures done { let left = reading (words_of (P.state device.old)) (detach_events (words_of (P.state device.old)) self.old.line root block) in IsDone (P.state device.old) (P.state device.new) self.new root None (slabs_but (classes_of (tables_of (words_of (P.state device.old)))) block.start (holds_none (tables_of left) block.start)) (unsmall_events (words_of (P.state device.old)) self.old.line root block) }
         ensures line { self.new.line ≡ self.old.line }
+        ensures stacks { let left = reading (words_of (P.state device.old)) (detach_events (words_of (P.state device.old)) self.old.line root block) in IsPutBack (stacks_of self.old.supply.stacks) seat ((tables_of (words_of (P.state device.old))).class block.start) block.at block.start (holds_none (tables_of left) block.start) (stacks_of self.new.supply.stacks) }
     {
-        self.take_block(device, root, block);
+        self.take_block(device, seat, root, block);
         self.tidy(device, block.start);
     }
 
@@ -220,20 +242,30 @@ impl Volatile {
         ensures last { let left = reading (words_of (P.state device.old)) (detach_old_events (tables_of (words_of (P.state device.old))) self.old.line root block.at block.start block.place) in IsLastOf (tables_of (words_of (P.state device.old))) root block.start (holds_none (tables_of left) block.start) }
         ensures done { let left = reading (words_of (P.state device.old)) (detach_old_events (tables_of (words_of (P.state device.old))) self.old.line root block.at block.start block.place) in IsDone (P.state device.old) (P.state device.new) self.new root None (slabs_but (classes_of (tables_of (words_of (P.state device.old)))) block.start (holds_none (tables_of left) block.start)) (detach_old_events (tables_of (words_of (P.state device.old))) self.old.line root block.at block.start block.place ++ tidy_events left block.start) }
         ensures line { self.new.line ≡ self.old.line }
+        ensures stacks { let left = reading (words_of (P.state device.old)) (detach_old_events (tables_of (words_of (P.state device.old))) self.old.line root block.at block.start block.place) in stacks_of self.new.supply.stacks ≡ stacks_but (stacks_of self.old.supply.stacks) block.start (holds_none (tables_of left) block.start) }
     {
         self.take_old_block(device, root, block);
         self.tidy(device, block.start);
     }
 
-    // Takes a block of its slab's class from a root: it may be given out again.
-    fn take_block<P: Pmem>(&mut self, device: &mut P, root: u32, block: SmallBlock)
+    // Takes a block of its slab's class from a root of a seat: it may be given out again.
+    fn take_block<P: Pmem>(&mut self, device: &mut P, seat: u32, root: u32, block: SmallBlock)
         requires arena { IsArena (P.state device.old) self.old }
         requires fresh { (P.state device.old).events ≡ [] }
+        requires seat { seat < 64 }
         requires detachable { IsDetachable (words_of (P.state device.old)) root block }
         ensures taken { IsTaken (P.state device.old) (P.state device.new) self.old self.new root block.start (detach_events (words_of (P.state device.old)) self.old.line root block) }
+        ensures stacks { IsPutOn (stacks_of self.old.supply.stacks) seat ((tables_of (words_of (P.state device.old))).class block.start) block.at (stacks_of self.new.supply.stacks) }
     {
         detach(device, self.line, root, block);
-        self.slabs.give(block.start, block.number);
+        let number = block.number;
+        self.supply.put_back(
+            seat,
+            SlabBlock {
+                start: block.start,
+                number,
+            },
+        );
         self.lives.lower(block.start);
     }
 
@@ -243,9 +275,10 @@ impl Volatile {
         requires fresh { (P.state device.old).events ≡ [] }
         requires detachable { IsOldDetachable (words_of (P.state device.old)) root block }
         ensures taken { IsTaken (P.state device.old) (P.state device.new) self.old self.new root block.start (detach_old_events (tables_of (words_of (P.state device.old))) self.old.line root block.at block.start block.place) }
+        ensures stacks { self.new.supply.stacks ≡ self.old.supply.stacks }
     {
         detach_old(device, self.line, root, block);
-        give_covered(device, &mut self.slabs, block);
+        open_covered(device, &mut self.supply, block);
         self.lives.lower(block.start);
     }
 
@@ -256,31 +289,32 @@ impl Volatile {
         requires few { length (P.state device.old).events ≤ 11 }
         ensures tidied { IsTidied (P.state device.old) (P.state device.new) self.new start }
         ensures line { self.new.line ≡ self.old.line }
+        ensures stacks { stacks_of self.new.supply.stacks ≡ stacks_but (stacks_of self.old.supply.stacks) start (holds_none (tables_of (words_of (P.state device.old))) start) }
     {
         if self.lives.at(start) == 0 {
             drop_slab(device, &mut self.log, start);
             self.free.give(start, SLAB_GRANULES);
-            self.slabs.remove(start);
+            self.supply.remove(start);
         } else if is_done(device, granule_at(start)) {
             end_transition(device, start);
         }
     }
 }
 
-// An old block went: the blocks of its slab's class that overlap it and no other block that the slab holds are to be given
-// out again.
-fn give_covered<P: Pmem>(device: &P, slabs: &mut SlabIndex, block: OldBlock)
+// An old block went: the blocks of its slab's class that overlap it and no other block that the slab holds are open again.
+fn open_covered<P: Pmem>(device: &P, supply: &mut BlockSupply, block: OldBlock)
     requires image { IsExactButImage (words_of (P.state device.now)) block.start }
     requires slab { (tables_of (words_of (P.state device.now))).slab block.start ≡ true }
     requires place { block.place < (tables_of (words_of (P.state device.now))).index_count block.start }
-    requires slabs { AreSlabsBut slabs.old (words_of (P.state device.now)) block }
-    ensures { IsSlabsOf slabs.new (words_of (P.state device.now)) }
+    requires slabs { AreSlabsBut supply.old (words_of (P.state device.now)) block }
+    ensures slabs { IsSlabsOf supply.new (words_of (P.state device.now)) }
+    ensures stacks { supply.new.stacks ≡ supply.old.stacks }
 {
     let slab = granule_at(block.start);
     let (from, end) = covered_by(device, slab, block.place);
     for number in from..end {
         if is_unused(device, slab, number) {
-            slabs.give(block.start, number);
+            supply.make_available(block.start, number);
         }
     }
 }

@@ -13,28 +13,28 @@ ghost use Rattle.arena_core.specs.Payload.{IsBlockPlan, IsWritePlan, IsWriteCarr
 
 use crate::BlockRefusal;
 use crate::plan::{freed_of, held_by, layout_in};
+use block_supply::BlockSupply;
 use book_log::BookLog;
 use durable_steps::write_row;
 use heap_model::Block;
 use pmem_lines::Pmem;
-use slab_index::SlabIndex;
 
 /// The block of a root, or why there is none.
 pub(crate) fn block_of<P: Pmem>(
     device: &P,
     log: &BookLog,
-    slabs: &SlabIndex,
+    supply: &BlockSupply,
     root: u32,
 ) -> Result<Block, BlockRefusal>
     requires exact { IsExactImage (words_of (P.state device.now)) }
     requires log { IsBookOf log.now (words_of (P.state device.now)) }
-    requires slabs { IsSlabsOf slabs.now (words_of (P.state device.now)) }
+    requires slabs { IsSlabsOf supply.now (words_of (P.state device.now)) }
     ensures { IsBlockPlan (words_of (P.state device.now)) root result }
 {
     if root >= layout_in(device).roots {
         return Err(BlockRefusal::NoRoot);
     }
-    match held_by(device, log, slabs, root) {
+    match held_by(device, log, supply, root) {
         Some(held) => {
             let block = freed_of(held);
             Ok(Block {
@@ -51,18 +51,18 @@ pub(crate) fn block_of<P: Pmem>(
 pub(crate) fn plan_write<P: Pmem>(
     device: &P,
     log: &BookLog,
-    slabs: &SlabIndex,
+    supply: &BlockSupply,
     root: u32,
     from: u32,
     count: u64,
 ) -> Result<u32, BlockRefusal>
     requires exact { IsExactImage (words_of (P.state device.now)) }
     requires log { IsBookOf log.now (words_of (P.state device.now)) }
-    requires slabs { IsSlabsOf slabs.now (words_of (P.state device.now)) }
+    requires slabs { IsSlabsOf supply.now (words_of (P.state device.now)) }
     requires few { count ≤ 512 }
     ensures { IsWritePlan (words_of (P.state device.now)) root from count result }
 {
-    match block_of(device, log, slabs, root) {
+    match block_of(device, log, supply, root) {
         Ok(block) => {
             if u64::from(from) + count > u64::from(block.size / 8) {
                 return Err(BlockRefusal::OutOfRange);

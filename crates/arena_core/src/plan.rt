@@ -1,4 +1,4 @@
-// What a call decides before its first store. It reads and stores nothing.
+// What a call decides before its first store. It stores nothing; a malloc takes its block out of the supply.
 ghost use Rattle.std.specs.Prelude.{◌≡◌, ◌<◌, ◌≤◌, ◌+◌, ◌^◌, ℕ, List, MatchOption, None, Some};
 ghost use Rattle.pmem_lines.specs.Pmem.{words_of};
 ghost use Rattle.pool_layout.specs.Layout.{layout_of};
@@ -11,11 +11,13 @@ ghost use Rattle.heap_check.specs.Sound.{IsVacant};
 ghost use Rattle.heap_check.specs.Image.{bounds_of, IsFormed, IsExactImage};
 ghost use Rattle.slab_index.specs.SlabSet.{class_in};
 ghost use Rattle.log_steps.specs.Log.{IsBookOf};
-ghost use Rattle.arena_core.specs.Arena.{IsIndexOf, IsSlabsOf};
-ghost use Rattle.arena_core.specs.Plan.{IsMallocPlan, IsFreePlan, IsHeldBy, IsSlabAt, IsRootIn, IsAskedOf, IsFound, IsInSlabOf, IsInNoSlabOf, range_at, range_held};
+ghost use Rattle.arena_core.specs.Arena.{IsIndexOf, IsSlabsOf, IsArena};
+ghost use Rattle.arena_core.specs.Plan.{IsPlanned, IsFreePlan, IsHeldBy, IsSlabAt, IsRootIn, IsAskedOf, IsFound, IsSuppliedFor, range_at, range_held};
 
+use crate::volatile::Volatile;
 use crate::{FreeRefusal, Freed, MallocRefusal, Placed};
 use attach_steps::{OldBlock, SmallBlock};
+use block_supply::{BlockSupply, SlabAt};
 use book_log::{BookLog, LogEntry};
 use extent_index::ExtentIndex;
 use pmem_lines::Pmem;
@@ -23,7 +25,6 @@ use pool_layout::{
     GRANULE_BYTES, Layout, SLAB_GRANULES, blocks_at, fields_at, granule_at, layout_of, root_at,
 };
 use size_classes::{class_of, granules, size_of_class};
-use slab_index::SlabIndex;
 use slab_morph::{old_class, old_place};
 
 /// Where a malloc places its block.
@@ -48,58 +49,55 @@ pub(crate) enum Held {
     Old { block: OldBlock, class: u8 },
 }
 
-/// A slab: its first granule and its class.
-#[derive(Clone, Copy)]
-pub(crate) struct SlabAt {
-    pub(crate) start: u32,
-    pub(crate) class: u8,
-}
-
-/// The place for a malloc, or why there is none.
-pub(crate) fn plan_malloc<P: Pmem>(
-    device: &P,
-    free: &ExtentIndex,
-    slabs: &SlabIndex,
-    root: u32,
-    size: u64,
-) -> Result<Place, MallocRefusal>
-    requires exact { IsExactImage (words_of (P.state device.now)) }
-    requires index { IsIndexOf free.now (words_of (P.state device.now)) }
-    requires slabs { IsSlabsOf slabs.now (words_of (P.state device.now)) }
-    ensures { IsMallocPlan (bounds_of (words_of (P.state device.now))) (tables_of (words_of (P.state device.now))) root size result }
-{
-    let layout = layout_in(device);
-    if root >= layout.roots {
-        return Err(MallocRefusal::NoRoot);
-    }
-    let held = root_word(device, root);
-    if held != 0 {
-        return Err(MallocRefusal::Occupied { at: held });
-    }
-    if size == 0 {
-        return Err(MallocRefusal::ZeroSize);
-    }
-    let heap = granules_in(device) - layout.first_granule;
-    if size > u64::from(heap * GRANULE_BYTES) {
-        return Err(MallocRefusal::TooLarge);
-    }
-    let place = match class_of(size) {
-        Some(class) => small_place(free, slabs, class),
-        None => large_place(free, granules(size) as u32),
-    };
-    match place {
-        Some(place) => Ok(place),
-        None => Err(MallocRefusal::NoSpace),
+impl Volatile {
+    /// The place for a malloc of a seat, below 64, or why there is none. The block of a small place is taken out of the
+    /// supply, and nothing else changes.
+    pub(crate) fn plan_malloc<P: Pmem>(
+        &mut self,
+        device: &P,
+        seat: u32,
+        root: u32,
+        size: u64,
+    ) -> Result<Place, MallocRefusal>
+        requires arena { IsArena (P.state device.now) self.old }
+        requires seat { seat < 64 }
+        ensures { IsPlanned (P.state device.now) self.old self.new seat root size result }
+    {
+        let layout = layout_in(device);
+        if root >= layout.roots {
+            return Err(MallocRefusal::NoRoot);
+        }
+        let held = root_word(device, root);
+        if held != 0 {
+            return Err(MallocRefusal::Occupied { at: held });
+        }
+        if size == 0 {
+            return Err(MallocRefusal::ZeroSize);
+        }
+        let heap = granules_in(device) - layout.first_granule;
+        if size > u64::from(heap * GRANULE_BYTES) {
+            return Err(MallocRefusal::TooLarge);
+        }
+        let place = match class_of(size) {
+            Some(class) => small_place(&self.free, &mut self.supply, seat, class),
+            None => large_place(&self.free, granules(size) as u32),
+        };
+        match place {
+            Some(place) => Ok(place),
+            None => Err(MallocRefusal::NoSpace),
+        }
     }
 }
 
-// A place for a block of a class: the lowest free block of the lowest slab that has one, or a new slab at the best fit.
-fn small_place(free: &ExtentIndex, slabs: &SlabIndex, class: u8) -> Option<Place>
+// A place for a block of a class: a block that the supply gives the seat, or a new slab at the best fit.
+fn small_place(free: &ExtentIndex, supply: &mut BlockSupply, seat: u32, class: u8) -> Option<Place>
+    requires seat { seat < 64 }
     requires class { class < 36 }
-    requires few { (start class : ℕ) → class_in slabs.now start ≡ Some class → start < 1024 }
-    ensures { (words : List ℕ) → IsExactImage words → IsIndexOf free.now words → IsSlabsOf slabs.now words → (root size : ℕ) → IsClassOf size class → IsFound (bounds_of words) (tables_of words) root size result }
+    requires few { (start class : ℕ) → class_in supply.old.slabs start ≡ Some class → start < 1024 }
+    ensures found { (words : List ℕ) → IsExactImage words → IsIndexOf free.now words → IsSlabsOf supply.old words → (root size : ℕ) → IsClassOf size class → IsFound (bounds_of words) (tables_of words) root size result }
+    ensures supplied { IsSuppliedFor supply.old supply.new seat result }
 {
-    match slabs.lowest(class) {
+    match supply.take(seat, class) {
         Some(block) => {
             let at = blocks_at(granule_at(block.start)) + block.number * size_of_class(class);
             let block = SmallBlock {
@@ -152,18 +150,18 @@ pub(crate) fn placed_at(place: Place) -> Placed
 pub(crate) fn plan_free<P: Pmem>(
     device: &P,
     log: &BookLog,
-    slabs: &SlabIndex,
+    supply: &BlockSupply,
     root: u32,
 ) -> Result<Held, FreeRefusal>
     requires exact { IsExactImage (words_of (P.state device.now)) }
     requires log { IsBookOf log.now (words_of (P.state device.now)) }
-    requires slabs { IsSlabsOf slabs.now (words_of (P.state device.now)) }
+    requires slabs { IsSlabsOf supply.now (words_of (P.state device.now)) }
     ensures { IsFreePlan (bounds_of (words_of (P.state device.now))) (tables_of (words_of (P.state device.now))) root result }
 {
     if root >= layout_in(device).roots {
         return Err(FreeRefusal::NoRoot);
     }
-    match held_by(device, log, slabs, root) {
+    match held_by(device, log, supply, root) {
         Some(held) => Ok(held),
         None => Err(FreeRefusal::Empty),
     }
@@ -173,12 +171,12 @@ pub(crate) fn plan_free<P: Pmem>(
 pub(crate) fn held_by<P: Pmem>(
     device: &P,
     log: &BookLog,
-    slabs: &SlabIndex,
+    supply: &BlockSupply,
     root: u32,
 ) -> Option<Held>
     requires exact { IsExactImage (words_of (P.state device.now)) }
     requires log { IsBookOf log.now (words_of (P.state device.now)) }
-    requires slabs { IsSlabsOf slabs.now (words_of (P.state device.now)) }
+    requires slabs { IsSlabsOf supply.now (words_of (P.state device.now)) }
     requires root { root < (layout_of (version_in (words_of (P.state device.now)))).roots }
     ensures { MatchOption result ((tables_of (words_of (P.state device.now))).root root ≡ 0) (IsHeldBy (bounds_of (words_of (P.state device.now))) (tables_of (words_of (P.state device.now))) root) }
 {
@@ -187,7 +185,7 @@ pub(crate) fn held_by<P: Pmem>(
         return None;
     }
     let granule = at / GRANULE_BYTES;
-    match slab_with(slabs, granule) {
+    match supply.slab_with(granule) {
         Some(slab) => Some(held_in(device, slab, at)),
         None => Some(Held::Large {
             start: granule,
@@ -219,23 +217,6 @@ fn held_in<P: Pmem>(device: &P, slab: SlabAt, at: u32) -> Held
             class: slab.class,
         },
     }
-}
-
-/// The slab that has a granule, where one has it.
-pub(crate) fn slab_with(slabs: &SlabIndex, granule: u32) -> Option<SlabAt>
-    ensures { MatchOption result (IsInNoSlabOf (class_in slabs.now) granule) (λ slab. IsInSlabOf (class_in slabs.now) granule slab.start slab.class) }
-{
-    for back in 0..SLAB_GRANULES {
-        if back <= granule {
-            if let Some(class) = slabs.class_at(granule - back) {
-                return Some(SlabAt {
-                    start: granule - back,
-                    class,
-                });
-            }
-        }
-    }
-    None
 }
 
 /// The block that is held.

@@ -2,10 +2,11 @@
 ghost use Rattle.std.specs.Prelude.{◌≡◌, ◌≤◌, IfOk};
 
 use crate::volatile::Volatile;
+use block_supply::BlockSupply;
 use book_log::BookLog;
 use extent_index::ExtentIndex;
 use pmem_lines::OutOfMemory;
-use slab_index::{LiveCounts, SlabIndex};
+use slab_index::LiveCounts;
 use std::alloc::Global;
 use std::marker::Model;
 
@@ -36,12 +37,12 @@ impl ArenaRoom {
     {
         let log = BookLog::new(alloc, granules)?;
         let free = ExtentIndex::new(alloc, granules)?;
-        let slabs = SlabIndex::new(alloc, granules)?;
+        let supply = BlockSupply::new(alloc, granules)?;
         let lives = LiveCounts::new(alloc, granules)?;
         let volatile = Volatile {
             log,
             free,
-            slabs,
+            supply,
             lives,
             line: 0,
         };

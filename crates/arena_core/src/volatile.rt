@@ -1,18 +1,19 @@
 // What an arena keeps beside its words.
 
+use block_supply::BlockSupply;
 use book_log::BookLog;
 use extent_index::ExtentIndex;
-use slab_index::{LiveCounts, SlabIndex};
+use slab_index::LiveCounts;
 
 /// What an arena keeps beside its words and makes anew from them: what its log says, the free granules, the slabs with the
-/// blocks that may be given out and with their numbers of live blocks, and the write-ahead line of the next entry, from 0 to
-/// 7. `IsArena` of `specs/Arena.antt` ties it to the words. What a call has decided is carried out by its methods
-/// (`carrying.rt`).
+/// blocks that may be given out, available or in a stack, and with their numbers of live blocks, and the write-ahead line of
+/// the next entry, from 0 to 7. `IsArena` of `specs/Arena.antt` ties it to the words. A call decides by its methods in
+/// `plan.rt`, and what it has decided is carried out by those in `carrying.rt`.
 #[derive(Drop)]
 pub(crate) struct Volatile {
     pub(crate) log: BookLog,
     pub(crate) free: ExtentIndex,
-    pub(crate) slabs: SlabIndex,
+    pub(crate) supply: BlockSupply,
     pub(crate) lives: LiveCounts,
     pub(crate) line: u32,
 }

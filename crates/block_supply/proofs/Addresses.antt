@@ -1,12 +1,12 @@
 -- Where blocks of slabs begin: no two of them at one address.
-use Rattle.std.proofs.Common.{◌≡◌, ◌≢◌, ◌⊎◌, ℕ, ◌+◌, ◌*◌, ◌<◌, ◌≤◌, Some, refl, sym, ◌∙◌, arith, ⊎_elim}
+use Rattle.std.proofs.Common.{◌≡◌, ◌≢◌, ◌⊎◌, ℕ, ◌+◌, ◌*◌, ◌<◌, ◌≤◌, Some, refl, sym, ◌∙◌, subst, arith, ⊎_elim}
 use Rattle.std.proofs.lemmas.Bool.{cases_eq, cases_lt}
 use native.Mathlib.Nat.{mul-le-mul_right}
 use Rattle.size_classes.specs.Classes.{class_size, class_capacity}
 use Rattle.size_classes.proofs.Spacing.{class_size-least}
 use Rattle.heap_model.specs.Machine.{slab_block, LiesIn}
 use Rattle.heap_model.proofs.Slabbing.{LiesIn-block}
-use Rattle.slab_index.specs.SlabSet.{SlabSet, class_in}
+use Rattle.slab_index.specs.SlabSet.{SlabSet, class_in, IsBlock}
 use Rattle.block_supply.specs.Kept.{IsBlockAt, AreSlabsApart}
 
 -- a block lies in its slab
@@ -17,8 +17,12 @@ block_lies s c n within = LiesIn-block s c (slab_block s c n) (record { number =
 pub one_class : (set : SlabSet) (s c d : ℕ) → class_in set s ≡ Some c → class_in set s ≡ Some d → c ≡ d
 one_class set s c d one two = let same = sym one ∙ two in cc
 
+-- a block's number is below the capacity of its slab's class
+pub same_within : (set : SlabSet) (s n c : ℕ) → class_in set s ≡ Some c → IsBlock set s n → n < class_capacity c
+same_within set s n c slab block = subst (λ k. n < class_capacity k) (one_class set s block.class c block.slab slab) block.below
+
 -- rows of one size begin at different places
-row_once : (size n m : ℕ) → 0 < size → n * size ≡ m * size → n ≡ m
+pub row_once : (size n m : ℕ) → 0 < size → n * size ≡ m * size → n ≡ m
 row_once size n m some same = ⊎_elim
     (λ (less : n < m). let rows : (n + 1) * size ≤ m * size = mul-le-mul_right size (omega (arith, less)) in let step : (n + 1) * size ≡ n * size + size = omega arith in absurd (omega (arith, rows, step, same, some)))
     (λ (from : m ≤ n). ⊎_elim

@@ -7,4 +7,5 @@ pub mod Refills
 pub mod Returns
 pub mod Slabs
 pub mod Takes
+pub mod Firsts
 pub mod Views

@@ -1,11 +1,11 @@
 -- A stack gives its top: the block is open no more.
-use Rattle.std.proofs.Common.{◌≡◌, ◌≢◌, ◌⊎◌, ◌↔◌, ℕ, ◌<◌, ◌≤◌, true, Some, List, [], ◌∷◌, refl, sym, ap, ◌∙◌, subst, arith, inl, inr, ⊎_elim}
+use Rattle.std.proofs.Common.{◌≡◌, ◌≢◌, ◌⊎◌, ◌↔◌, ℕ, ◌<◌, ◌≤◌, true, Some, List, ◌∷◌, refl, sym, ap, ◌∙◌, subst, inl, inr, ⊎_elim}
 use Rattle.size_classes.specs.Classes.{class_capacity}
 use Rattle.heap_model.specs.Machine.{slab_block}
-use Rattle.heap_model.specs.Placement.{Stacks, with_stack, Has, IsInNoStack, AllDiffer}
+use Rattle.heap_model.specs.Placement.{Stacks, Has, IsInNoStack, AllDiffer}
 use Rattle.slab_index.specs.declared.block.SlabBlock.{SlabBlock}
 use Rattle.slab_index.specs.SlabSet.{SlabSet, class_in, is_available}
-use Rattle.thread_cache.specs.Stacks.{StackTable, stacks_of, AreDistinct, GaveTop}
+use Rattle.thread_cache.specs.Stacks.{stacks_of, AreDistinct, GaveTop}
 use Rattle.thread_cache.proofs.Distinct.{IsOther, stack_here, stack_there, here_or_there}
 use Rattle.block_supply.specs.Supply.{Supply, IsStacked, IsOpen, IsWithout}
 use Rattle.block_supply.specs.Kept.{IsBlockAt, IsSomeBlock, AreSlabsApart, IsKept, HasTaken}

@@ -1,22 +1,22 @@
 -- A refill: the lowest available block is given out, and the next ones of its slab go on a stack.
 use Rattle.std.proofs.Common.{◌≡◌, ◌≢◌, ◌⊎◌, ◌↔◌, ℕ, ◌+◌, ◌<◌, ◌≤◌, true, false, true≢false, Some, List, [], ◌∷◌, refl, sym, ap, ◌∙◌, subst, arith, inl, inr, ⊎_elim}
 use Rattle.std.proofs.lemmas.Bool.{cases_eq}
-use Rattle.size_classes.specs.Classes.{class_size, class_capacity}
+use Rattle.size_classes.specs.Classes.{class_capacity}
 use Rattle.size_classes.proofs.Spacing.{class_size-least}
 use Rattle.heap_model.specs.Policy.{without_morphs}
 use Rattle.heap_model.specs.Machine.{slab_block}
-use Rattle.heap_model.specs.Placement.{Stacks, with_stack, Has, IsInNoStack, AreLowest, addresses, IsAvailable, IsRefill}
+use Rattle.heap_model.specs.Placement.{Stacks, with_stack, Has, IsInNoStack, addresses, IsAvailable, IsRefill}
 use Rattle.heap_model.proofs.Refills.{AreLowest-same}
 use Rattle.slab_index.specs.declared.block.SlabBlock.{SlabBlock}
 use Rattle.slab_index.specs.declared.block.SlabBlocks.{SlabBlocks}
-use Rattle.slab_index.specs.SlabSet.{SlabSet, class_in, is_available, AreLowestBlocks, AreTaken, TookLowest}
+use Rattle.slab_index.specs.SlabSet.{SlabSet, class_in, is_available, AreLowestBlocks, TookLowest}
 use Rattle.thread_cache.specs.Stacks.{StackTable, stacks_of, AreDistinct, AreRising, AreLoose}
 use Rattle.thread_cache.proofs.Distinct.{IsOther, stack_here, stack_there, here_or_there}
 use Rattle.block_supply.specs.Supply.{Supply, IsStacked, IsOpen, IsWithout, supply_view}
-use Rattle.block_supply.specs.Kept.{IsBlockAt, IsSomeBlock, IsKept, HasTaken}
+use Rattle.block_supply.specs.Kept.{IsKept, HasTaken}
 use Rattle.block_supply.proofs.Addresses.{one_class, slab_once, block_once}
 use Rattle.block_supply.proofs.Lists.{cases_Has, address_has, has_address, lowest_passes, addresses_rise}
-use Rattle.block_supply.proofs.Opens.{available_is, is_available-view, not_stacked}
+use Rattle.block_supply.proofs.Opens.{available_is, is_available-view}
 
 module _ (old : Supply) (kept : IsKept old.slabs old.stacks) (seat class : ℕ) (blocks : SlabBlocks) (slabs : SlabSet) (took : TookLowest old.slabs class 8 blocks slabs) where
   abbrev low : AreLowestBlocks old.slabs class 8 blocks

@@ -2,17 +2,17 @@
 use Rattle.std.proofs.Common.{◌≡◌, ◌≢◌, ◌⊎◌, ◌↔◌, ◌==◌, ◌&&◌, not, nat_lt, List, ℕ, ◌+◌, ◌*◌, ◌<◌, ◌≤◌, Bool, true, false, true≢false, Some, None, refl, sym, ap, ◌∙◌, subst, arith, inl, inr, ⊎_elim, if◌then◌else◌}
 use Rattle.std.proofs.lemmas.Bool.{cases_eq, cases_Bool, and_left, and_right, cond-true, cond-false, eq-eqb, ne_eqb, lt-ltb, le-leb, ltb-true, leb-true, and_from, false_from_ne_true}
 use Rattle.bit_words.specs.Numbers.{has as has_number}
-use Rattle.size_classes.specs.Classes.{class_size, class_capacity}
+use Rattle.size_classes.specs.Classes.{class_capacity}
 use Rattle.size_classes.proofs.Spacing.{class_size-least}
 use Rattle.heap_model.specs.Machine.{with_key, slab_block}
 use Rattle.heap_model.specs.Placement.{Stacks, without_slab, Has, IsInNoStack}
 use Rattle.heap_model.specs.Slabs.{is_within}
-use Rattle.heap_model.proofs.Maps.{with_key-here, with_key-other, with_key-cases}
+use Rattle.heap_model.proofs.Maps.{with_key-here, with_key-other}
 use Rattle.slab_index.specs.SlabSet.{SlabSet, class_in, is_available}
 use Rattle.thread_cache.specs.Stacks.{StackTable, stacks_of, AreDistinct}
-use Rattle.block_supply.specs.Supply.{Supply, IsStacked, IsOpen, IsClearOf, HasSlabMore, HasSlabLess}
-use Rattle.block_supply.specs.Kept.{IsBlockAt, IsSomeBlock, IsKept}
-use Rattle.block_supply.proofs.Addresses.{one_class, block_lies, slab_once}
+use Rattle.block_supply.specs.Supply.{Supply, IsStacked, IsClearOf, HasSlabMore, HasSlabLess}
+use Rattle.block_supply.specs.Kept.{IsKept}
+use Rattle.block_supply.proofs.Addresses.{one_class, block_lies}
 use Rattle.block_supply.proofs.Lists.{Has-passing, passing_Has}
 
 -- the index has one slab more, in which these blocks are available
@@ -126,6 +126,7 @@ module _ (old : Supply) (kept : IsKept old.slabs old.stacks) (start class : ℕ)
           is,
       λ opens. inl ((added.here i).1 opens),
     );
+    loose = unstacked;
     others = λ s i differ. (
       λ is. ⊎_elim
           (λ available. inl (sym (added.others s i differ) ∙ available))
@@ -153,7 +154,7 @@ within_other : (s t c n : ℕ) → c < 36 → n < class_capacity c → (s + 4 �
 within_other s t c n is_class below apart = ap not (false_from_ne_true (is_within t (slab_block s c n).at) (λ is.
     let lies = block_lies s c n below in
     let low = leb-true (16384 * t) (slab_block s c n).at (both_true _ _ is).0 in
-    let high = ltb-true (slab_block s c n).at (16384 * t + 65536) (both_true _ _ is).1 in
+    let high : (slab_block s c n).at < 16384 * t + 65536 = ltb-true (slab_block s c n).at (16384 * t + 65536) (both_true _ _ is).1 in
     ⊎_elim (λ before. omega (arith, before, lies.high, low, class_size-least c is_class)) (λ behind. omega (arith, behind, lies.low, high)) apart))
 
 module _ (old : Supply) (kept : IsKept old.slabs old.stacks) (start : ℕ) (slab : (c : ℕ) × (class_in old.slabs start ≡ Some c)) (slabs : SlabSet) (stacks : StackTable) (distinct : AreDistinct (stacks_of stacks)) (granules : slabs.granules ≡ old.slabs.granules) (classes : (s : ℕ) → class_in slabs s ≡ with_key (class_in old.slabs) start None s)

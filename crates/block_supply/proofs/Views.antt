@@ -1,9 +1,9 @@
 -- A seat is served the same by views that say the same of slabs and unused blocks.
-use Rattle.std.proofs.Common.{◌≡◌, ◌↔◌, ◌⊎◌, ℕ, ◌<◌, List, [], ◌∷◌, Some, sym, ◌∙◌, ⊎_elim, inl, inr}
+use Rattle.std.proofs.Common.{◌≡◌, ◌↔◌, ℕ, ◌<◌, ◌∷◌, Some, sym, ◌∙◌, ⊎_elim, inl, inr}
 use Rattle.size_classes.specs.Classes.{class_capacity}
 use Rattle.heap_model.specs.Policy.{Policy, without_morphs}
-use Rattle.heap_model.specs.Choice.{View, IsUnusedBlock}
-use Rattle.heap_model.specs.Placement.{Stacks, IsAvailable, HasAvailable, IsRefill, HasTop, HasStacked}
+use Rattle.heap_model.specs.Choice.{View}
+use Rattle.heap_model.specs.Placement.{Stacks, IsAvailable, HasAvailable, IsRefill}
 use Rattle.heap_model.proofs.Refills.{AreLowest-same}
 use Rattle.block_supply.specs.Supply.{IsServed}
 
@@ -12,8 +12,8 @@ pub record AgreeOnBlocks (v w : View) : Type 0 where
   pub slab : (s : ℕ) → v.slab s ≡ w.slab s
   pub unused : (s c number : ℕ) → v.slab s ≡ Some c → number < class_capacity c → v.unused s c number ↔ w.unused s c number
 
-back : (v w : View) → AgreeOnBlocks v w → AgreeOnBlocks w v
-back v w agree = record { slab = λ s. sym (agree.slab s); unused = λ s c number slab within. let same = agree.unused s c number (agree.slab s ∙ slab) within in (same.1, same.0) }
+pub AgreeOnBlocks-back : (v w : View) → AgreeOnBlocks v w → AgreeOnBlocks w v
+AgreeOnBlocks-back v w agree = record { slab = λ s. sym (agree.slab s); unused = λ s c number slab within. let same = agree.unused s c number (agree.slab s ∙ slab) within in (same.1, same.0) }
 
 available_by : (v w : View) → AgreeOnBlocks v w → (stacks : Stacks) (s c number : ℕ) → v.slab s ≡ Some c → IsAvailable v stacks s c number → IsAvailable w stacks s c number
 available_by v w agree stacks s c number slab is = record { block = record { within = is.block.within; unused = (agree.unused s c number slab is.block.within).0 is.block.unused }; loose = is.loose }
@@ -27,11 +27,11 @@ IsRefill-by p v w agree stacks seat class at after refill =
     record {
       start = refill.start;
       slab = slab;
-      lowest = λ other number less here is. refill.lowest other number less (agree.slab other ∙ here) (available_by w v (back v w agree) stacks other class number here is);
+      lowest = λ other number less here is. refill.lowest other number less (agree.slab other ∙ here) (available_by w v (AgreeOnBlocks-back v w agree) stacks other class number here is);
       number = refill.number;
       rest = refill.rest;
       taken = AreLowest-same (IsAvailable v stacks refill.start class) (IsAvailable w stacks refill.start class) 0 p.refill (refill.number ∷ refill.rest)
-          (λ n. (available_by v w agree stacks refill.start class n refill.slab, available_by w v (back v w agree) stacks refill.start class n slab)) refill.taken;
+          (λ n. (available_by v w agree stacks refill.start class n refill.slab, available_by w v (AgreeOnBlocks-back v w agree) stacks refill.start class n slab)) refill.taken;
       is = refill.is;
       after_is = refill.after_is;
     }
@@ -43,7 +43,7 @@ IsServed-by v w agree stacks seat class at after served = ⊎_elim
       rest.0,
       ⊎_elim
           (λ some. inl (HasAvailable-by v w agree stacks class some.0, IsRefill-by without_morphs v w agree stacks seat class at after some.1))
-          (λ none. inr (λ has. none.0 (HasAvailable-by w v (back v w agree) stacks class has), none.1))
+          (λ none. inr (λ has. none.0 (HasAvailable-by w v (AgreeOnBlocks-back v w agree) stacks class has), none.1))
           rest.1,
     ))
     served

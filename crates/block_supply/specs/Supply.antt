@@ -6,7 +6,7 @@ use Rattle.heap_model.specs.Policy.{without_morphs}
 use Rattle.heap_model.specs.Machine.{with_key, slab_block}
 use Rattle.heap_model.specs.Choice.{View}
 use Rattle.heap_model.specs.Step.{First}
-use Rattle.heap_model.specs.Placement.{Stacks, with_stack, without_slab, Has, HasAvailable, IsRefill, HasTop, HasStacked, IsPop}
+use Rattle.heap_model.specs.Placement.{Stacks, with_stack, without_slab, Has, IsInNoStack, HasAvailable, IsRefill, HasTop, HasStacked, IsPop}
 use Rattle.slab_index.specs.declared.block.SlabBlock.{SlabBlock}
 use Rattle.slab_index.specs.SlabSet.{SlabSet, class_in, is_available, HasNoBlock}
 use Rattle.thread_cache.specs.Stacks.{StackTable, stacks_of}
@@ -47,11 +47,13 @@ pub record IsInNoSlabOf (classes : ℕ → Option ℕ) (k : ℕ) : Type 0 where
 pub record IsClearOf (supply : Supply) (start : ℕ) : Type 0 where
   pub apart : (other class : ℕ) → class_in supply.slabs other ≡ Some class → (start + 4 ≤ other) ⊎ (other + 4 ≤ start)
 
--- a slab came, in which some blocks are open: the other slabs, their open blocks and all stacks are as before
+-- a slab came, in which some blocks are open, and none is in a stack: the other slabs, their open blocks and all stacks are
+-- as before
 pub record HasSlabMore (old new : Supply) (start class : ℕ) (Opens : ℕ → Type 0) : Type 0 where
   pub granules : new.slabs.granules ≡ old.slabs.granules
   pub classes : (s : ℕ) → class_in new.slabs s ≡ with_key (class_in old.slabs) start (Some class) s
   pub here : (i : ℕ) → IsOpen new start i ↔ Opens i
+  pub loose : (i : ℕ) → i < class_capacity class → IsInNoStack (stacks_of new.stacks) (slab_block start class i).at
   pub others : (s i : ℕ) → s ≢ start → IsOpen new s i ↔ IsOpen old s i
   pub stacks : new.stacks ≡ old.stacks
 

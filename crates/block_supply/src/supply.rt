@@ -3,7 +3,7 @@ ghost use Rattle.std.specs.Prelude.{◌≡◌, ℕ, ◌<◌, ◌≤◌, List, No
 ghost use Rattle.size_classes.specs.Classes.{class_capacity};
 ghost use Rattle.heap_model.specs.Placement.{no_stacks, Has, addresses};
 ghost use Rattle.bit_words.specs.Numbers.{has as has_number};
-ghost use Rattle.slab_index.specs.SlabSet.{class_in, IsSlab};
+ghost use Rattle.slab_index.specs.SlabSet.{class_in, IsSlab, IsBlock};
 ghost use Rattle.thread_cache.specs.Stacks.{stacks_of};
 ghost use Rattle.block_supply.specs.Supply.{IsOpen, IsInSlabOf, IsInNoSlabOf, IsClearOf, HasSlabMore, HasSlabLess, IsWith, TookBlock, HadNoOpen, CameBack};
 ghost use Rattle.block_supply.specs.Kept.{HadNoTop, TookTop, HadNoAvailable, TookLowest, HadNoStack, TookFirst};
@@ -91,26 +91,25 @@ impl BlockSupply {
         self.steal(class)
     }
 
-    /// Brings a block of a slab of the class back that is not open: it goes on top of the seat's stack where that has less
-    /// than eight, and else it is available. All else stays.
-    pub fn put_back(&mut self, seat: u32, class: u8, block: SlabBlock)
+    /// Brings a block of a slab back that is not open: it goes on top of the seat's stack of the slab's class where that has
+    /// less than eight, and else it is available. All else stays.
+    pub fn put_back(&mut self, seat: u32, block: SlabBlock)
         requires seat { seat < 64 }
-        requires slab { class_in self.old.slabs block.start ≡ Some class }
-        requires within { block.number < class_capacity class }
+        requires block { IsBlock self.old.slabs block.start block.number }
         requires used { ¬ (IsOpen self.old block.start block.number) }
-        ensures { CameBack self.old seat class block self.new }
+        ensures { (class : ℕ) → class_in self.old.slabs block.start ≡ Some class → CameBack self.old seat class block self.new }
     {
-        // That classes are below 36 is known of the fields alone.
-        let _ = &self.slabs;
-        let at = address_of(class, block);
-        if !self.caches.put_back(seat, class, at) {
-            self.slabs.give(block.start, block.number);
+        if let Some(class) = self.slabs.class_at(block.start) {
+            let at = address_of(class, block);
+            if !self.caches.put_back(seat, class, at) {
+                self.slabs.give(block.start, block.number);
+            }
         }
     }
 
     /// Makes a block of a slab available that is not open. All else stays.
     pub fn make_available(&mut self, start: u32, number: u32)
-        requires block { (class : ℕ) × (class_in self.old.slabs start ≡ Some class) × (number < class_capacity class) }
+        requires block { IsBlock self.old.slabs start number }
         requires used { ¬ (IsOpen self.old start number) }
         ensures block { IsWith self.old self.new start number }
         ensures stacks { self.new.stacks ≡ self.old.stacks }

@@ -4,7 +4,7 @@ use Rattle.image_tables.specs.Tables.{tables_of}
 use Rattle.slab_index.specs.SlabSet.{class_in}
 use Rattle.heap_check.proofs.Geometry.{granules_at-slab}
 use Rattle.heap_check.proofs.Sizes.{sizes_of}
-use Rattle.arena_core.specs.Plan.{IsInNoSlabOf}
+use Rattle.block_supply.specs.Supply.{IsInNoSlabOf}
 use Rattle.arena_core.proofs.AdoptedSlabs.{counted_same, counted_word, counted_few, begins_none, begins_outside}
 use Rattle.arena_core.proofs.Plans.{root_in}
 use Rattle.arena_core.proofs.adopting.count_root.Goals as goal
@@ -43,5 +43,5 @@ returns-in_default g c =
     let words = words_of (g.P.Pmem.state c.args.device.now) in
     let t = tables_of words in
     counted_same words c.args.lives.now c.args.root
-    (begins_outside t c.args.root (class_in c.args.slabs.now) c.requires.slabs.classes (λ none. c.if-at-eq0.false (c.root_word-at.ensures ∙ none))
-    (subst (λ a. IsInNoSlabOf (class_in c.args.slabs.now) (a / 16384)) c.root_word-at.ensures c.in_default.ensures)) c.requires.counted
+    (begins_outside t c.args.root (class_in c.args.supply.now.slabs) c.requires.slabs.classes (λ none. c.if-at-eq0.false (c.root_word-at.ensures ∙ none))
+    (subst (λ a. IsInNoSlabOf (class_in c.args.supply.now.slabs) (a / 16384)) c.root_word-at.ensures c.in_default.ensures)) c.requires.counted

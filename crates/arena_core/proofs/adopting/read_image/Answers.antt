@@ -1,4 +1,4 @@
-use Rattle.std.proofs.Common.{◌+◌, ◌<◌, subst, sym, arith}
+use Rattle.std.proofs.Common.{◌+◌, ◌<◌, subst, sym, refl, ◌∙◌, arith}
 use Rattle.pmem_lines.specs.Pmem.{words_of}
 use Rattle.arena_core.specs.Adopting.{IsReadBelow}
 use Rattle.heap_check.proofs.Sizes.{sizes_of}
@@ -11,7 +11,8 @@ pub loop-extent-init : goal.loop-extent-init
 loop-extent-init g c =
     let words = words_of (g.P.Pmem.state c.args.device.now) in
     record {
-      read = IsReadBelow-first words c.args.free.now c.args.slabs.now (sizes_of words c.requires.exact.formed).first c.requires.granules c.requires.all_free c.requires.slab_granules c.requires.no_slab;
+      read = IsReadBelow-first words c.args.free.now c.args.supply.now (sizes_of words c.requires.exact.formed).first c.requires.granules c.requires.all_free c.requires.slab_granules c.requires.no_slab;
+      stacks = refl;
       below = omega arith;
     }
 
@@ -37,8 +38,9 @@ pub loop-extent-preserved : goal.loop-extent-preserved
 loop-extent-preserved g c =
     let words = words_of (g.P.Pmem.state c.args.device.now) in
     record {
-      read = subst (λ s. IsReadBelow words c.read_extent.new.free c.read_extent.new.slabs (s + 1)) (sym c.start-from.ensures)
-          (record { granules = c.read_extent.ensures.granules; free = c.read_extent.ensures.free; slab_granules = c.read_extent.ensures.slab_granules; classes = c.read_extent.ensures.classes; blocks = c.read_extent.ensures.blocks });
+      read = subst (λ s. IsReadBelow words c.read_extent.new.free c.read_extent.new.supply (s + 1)) (sym c.start-from.ensures)
+          c.read_extent.ensures.read;
+      stacks = c.read_extent.ensures.stacks ∙ c.loop-extent.invariant.stacks;
       below = omega (arith, inside g c);
     }
 
@@ -50,9 +52,9 @@ read_extent-requires-clause-next g c =
 pub returns-clause-free : goal.returns-clause-free
 returns-clause-free g c =
     let words = words_of (g.P.Pmem.state c.args.device.now) in
-    index_read words c.loop-extent.free c.loop-extent.slabs c.loop-extent.from (c.in_default.ensures.reads words c.requires.log.reads).none c.loop-extent.invariant.read
+    index_read words c.loop-extent.free c.loop-extent.supply c.loop-extent.from (c.in_default.ensures.reads words c.requires.log.reads).none c.loop-extent.invariant.read
 
 pub returns-clause-slabs : goal.returns-clause-slabs
 returns-clause-slabs g c =
     let words = words_of (g.P.Pmem.state c.args.device.now) in
-    slabs_read words c.loop-extent.free c.loop-extent.slabs c.loop-extent.from (c.in_default.ensures.reads words c.requires.log.reads).none c.loop-extent.invariant.read
+    slabs_read words c.loop-extent.free c.loop-extent.supply c.loop-extent.from (c.in_default.ensures.reads words c.requires.log.reads).none c.loop-extent.invariant.read

@@ -1,11 +1,12 @@
-use Rattle.std.proofs.Common.{◌-◌, ◌≤◌}
+use Rattle.std.proofs.Common.{◌≡◌, ◌-◌, ◌≤◌}
 use Rattle.pmem_lines.specs.Pmem.{words_of}
 use Rattle.arena_core.specs.Adopting.{IsReadBelow}
 use Rattle.arena_core.proofs.adopting.read_image.Given as goal
 
 abbrev pub invariant-loop-extent : goal.invariant-loop-extent
 invariant-loop-extent g l = record {
-  read : IsReadBelow (words_of (g.P.Pmem.state l.device)) l.free l.slabs l.from;
+  read : IsReadBelow (words_of (g.P.Pmem.state l.device)) l.free l.supply l.from;
+  stacks : l.supply.stacks ≡ l.fn.supply.stacks;
   below : l.from ≤ l.log.granules;
 }
 

@@ -3,7 +3,8 @@ use Rattle.pmem_lines.specs.Pmem.{words_of}
 use Rattle.image_tables.specs.Tables.{tables_of}
 use Rattle.slab_index.specs.SlabSet.{class_in}
 use Rattle.heap_check.specs.Image.{bounds_of}
-use Rattle.arena_core.specs.Plan.{IsInNoSlabOf, IsTakable}
+use Rattle.block_supply.specs.Supply.{IsInNoSlabOf}
+use Rattle.arena_core.specs.Plan.{IsTakable}
 use Rattle.arena_core.proofs.Plans.{root_in, takable_outside}
 use Rattle.arena_core.proofs.plan.held_by.Goals as goal
 
@@ -22,8 +23,8 @@ returns-in-None g c =
     let t = tables_of words in
     let at = c.root_word-at.result in
     let is : at ≡ t.root c.args.root = c.root_word-at.ensures in
-    let outside : IsInNoSlabOf (class_in c.args.slabs.now) (at / 16384) = c.in-None.ensures in
-    let takable = takable_outside c.requires.exact c.requires.slabs c.args.root c.requires.root (λ none. c.if-at-eq0.false (is ∙ none)) (subst (λ k. IsInNoSlabOf (class_in c.args.slabs.now) (k / 16384)) is outside) in
+    let outside : IsInNoSlabOf (class_in c.args.supply.now.slabs) (at / 16384) = c.in-None.ensures in
+    let takable = takable_outside c.requires.exact c.requires.slabs c.args.root c.requires.root (λ none. c.if-at-eq0.false (is ∙ none)) (subst (λ k. IsInNoSlabOf (class_in c.args.supply.now.slabs) (k / 16384)) is outside) in
     let here : IsTakable (bounds_of words) t c.args.root (at / 16384) (t.large (at / 16384)) = subst (λ k. IsTakable (bounds_of words) t c.args.root (k / 16384) (t.large (k / 16384))) (sym is) takable in
     let count : c.granules_at.result ≡ t.large (at / 16384) = c.granules_at.ensures words c.requires.log (omega (arith, here.many)) in
     subst (IsTakable (bounds_of words) t c.args.root (at / 16384)) (sym count) here

@@ -14,17 +14,17 @@ carry_out_free-requires-clause-plan g c = subst (λ (s : PmemState). IsFreePlan 
 
 -- the arena answered the call
 answered : (g : given.Over) (c : goal.After-carry_out_free g) →
-    let state = g.P.Pmem.state in IsAnswered c.args.self.now (meant (state c.carry_out_free.new.device) c.carry_out_free.new.self) c.carry_out_free.new.self (calls.Free c.args.root) (free_reply c.carry_out_free.result)
+    let state = g.P.Pmem.state in IsAnswered c.args.self.now (meant (state c.carry_out_free.new.device) c.carry_out_free.new.self) c.carry_out_free.new.self c.args.seat (calls.Free c.args.root) (free_reply c.carry_out_free.result)
 answered g c =
     let state = g.P.Pmem.state in
-    answered_by (state c.self.inside.device) (state c.begin.new.self) (state c.carry_out_free.new.device) c.self.inside.volatile c.carry_out_free.new.self c.args.self.now (calls.Free c.args.root) (free_reply c.carry_out_free.result)
+    answered_by (state c.self.inside.device) (state c.begin.new.self) (state c.carry_out_free.new.device) c.self.inside.volatile c.carry_out_free.new.self c.args.self.now c.args.seat (calls.Free c.args.root) (free_reply c.carry_out_free.result)
     c.self.view_is c.begin.ensures.state c.carry_out_free.ensures
 
 pub invariant_of-self : goal.invariant_of-self
 invariant_of-self g c = (answered g c).arena
 
 pub returns-clause-step : goal.returns-clause-step
-returns-clause-step g c = (answered g c).step c.args.seat
+returns-clause-step g c = (answered g c).step
 
 pub returns-clause-device : goal.returns-clause-device
 returns-clause-device g c = (answered g c).device

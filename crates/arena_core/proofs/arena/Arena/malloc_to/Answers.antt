@@ -1,30 +1,26 @@
-use Rattle.std.proofs.Common.{sym, subst}
-use Rattle.pmem_lines.specs.Pmem.{PmemState, words_of}
-use Rattle.image_tables.specs.Tables.{tables_of}
 use Rattle.heap_model.specs.declared.call.Call.TheVariants as calls
-use Rattle.heap_check.specs.Image.{bounds_of}
 use Rattle.arena_core.specs.Answer.{malloc_reply}
-use Rattle.arena_core.specs.Plan.{IsMallocPlan}
+use Rattle.arena_core.proofs.PlannedCalls.{planned_begun}
 use Rattle.arena_core.proofs.CallEvents.{IsAnswered, meant, answered_by}
 use Rattle.arena_core.proofs.arena.Arena.malloc_to.Given as given
 use Rattle.arena_core.proofs.arena.Arena.malloc_to.Goals as goal
 
-pub carry_out_malloc-requires-clause-plan : goal.carry_out_malloc-requires-clause-plan
-carry_out_malloc-requires-clause-plan g c = (c.args.size, subst (λ (s : PmemState). IsMallocPlan (bounds_of (words_of s)) (tables_of (words_of s)) c.args.root c.args.size c.plan_malloc-plan.result) (sym c.begin.ensures.state) c.plan_malloc-plan.ensures)
+pub carry_out_malloc-requires-clause-planned : goal.carry_out_malloc-requires-clause-planned
+carry_out_malloc-requires-clause-planned g c = (c.self.inside.volatile, c.args.size, planned_begun (g.P.Pmem.state c.begin.new.self) c.begin.ensures.state c.plan_malloc-plan.ensures)
 
 -- the arena answered the call
 answered : (g : given.Over) (c : goal.After-carry_out_malloc g) →
-    let state = g.P.Pmem.state in IsAnswered c.args.self.now (meant (state c.carry_out_malloc.new.device) c.carry_out_malloc.new.self) c.carry_out_malloc.new.self (calls.Malloc c.args.root c.args.size) (malloc_reply c.carry_out_malloc.result)
+    let state = g.P.Pmem.state in IsAnswered c.args.self.now (meant (state c.carry_out_malloc.new.device) c.carry_out_malloc.new.self) c.carry_out_malloc.new.self c.args.seat (calls.Malloc c.args.root c.args.size) (malloc_reply c.carry_out_malloc.result)
 answered g c =
     let state = g.P.Pmem.state in
-    answered_by (state c.self.inside.device) (state c.begin.new.self) (state c.carry_out_malloc.new.device) c.self.inside.volatile c.carry_out_malloc.new.self c.args.self.now (calls.Malloc c.args.root c.args.size) (malloc_reply c.carry_out_malloc.result)
-    c.self.view_is c.begin.ensures.state (c.carry_out_malloc.ensures c.args.size (subst (λ (s : PmemState). IsMallocPlan (bounds_of (words_of s)) (tables_of (words_of s)) c.args.root c.args.size c.plan_malloc-plan.result) (sym c.begin.ensures.state) c.plan_malloc-plan.ensures))
+    answered_by (state c.self.inside.device) (state c.begin.new.self) (state c.carry_out_malloc.new.device) c.self.inside.volatile c.carry_out_malloc.new.self c.args.self.now c.args.seat (calls.Malloc c.args.root c.args.size) (malloc_reply c.carry_out_malloc.result)
+    c.self.view_is c.begin.ensures.state (c.carry_out_malloc.ensures c.self.inside.volatile c.args.size (planned_begun (g.P.Pmem.state c.begin.new.self) c.begin.ensures.state c.plan_malloc-plan.ensures))
 
 pub invariant_of-self : goal.invariant_of-self
 invariant_of-self g c = (answered g c).arena
 
 pub returns-clause-step : goal.returns-clause-step
-returns-clause-step g c = (answered g c).step c.args.seat
+returns-clause-step g c = (answered g c).step
 
 pub returns-clause-device : goal.returns-clause-device
 returns-clause-device g c = (answered g c).device

@@ -1,5 +1,5 @@
 use Rattle.pmem_lines.specs.Pmem.{words_of}
-use Rattle.arena_core.proofs.SlabChanges.{lives_opened, index_opened, slabs_opened}
+use Rattle.arena_core.proofs.SlabChanges.{clear_opened, lives_opened, index_opened, slabs_opened}
 use Rattle.arena_core.proofs.volatile.Volatile.add_slab.Goals as goal
 
 pub take-requires : goal.take-requires
@@ -20,4 +20,9 @@ pub returns-clause-slabs : goal.returns-clause-slabs
 returns-clause-slabs g c =
     let state = g.P.Pmem.state in
     slabs_opened (words_of (state c.args.device.now)) c.args.start c.args.class c.requires.current.exact c.requires.row c.requires.class (words_of (state c.open_slab.new.p)) c.open_slab.ensures.opened
-    c.args.self.now.slabs c.add.new.self (record { granules = c.add.ensures.granules; classes = c.add.ensures.classes; blocks = c.add.ensures.blocks }) c.requires.slabs
+    c.args.self.now.supply c.add.new.self c.add.ensures c.requires.slabs
+
+pub add-requires-clause-clear : goal.add-requires-clause-clear
+add-requires-clause-clear g c =
+    let state = g.P.Pmem.state in
+    clear_opened (words_of (state c.args.device.now)) c.args.start c.args.class c.requires.current.exact c.requires.row c.requires.class (words_of (state c.open_slab.new.p)) c.open_slab.ensures.opened c.args.self.now.supply c.requires.slabs

@@ -8,8 +8,12 @@ use Rattle.attach_steps.specs.declared.block.SmallBlock.{SmallBlock}
 use Rattle.attach_steps.specs.Steps.{attach_events}
 use Rattle.arena_core.specs.Arena.{IsCurrent}
 use Rattle.arena_core.specs.Events.{first_block, fresh_events}
-use Rattle.arena_core.proofs.SmallCalls.{classes_small, index_small, bits_with, lives_as}
+use Rattle.arena_core.proofs.SmallCalls.{slabs_without, classes_small, index_small, bits_with, lives_as}
 use Rattle.arena_core.proofs.HeapSteps.{keeps_both, steps_then}
+use Rattle.block_supply.specs.Supply.{Supply, TookBlock}
+use Rattle.block_supply.proofs.Firsts.{first_taken}
+use Rattle.arena_core.specs.declared.volatile.Volatile.{Volatile}
+use Rattle.arena_core.proofs.Plans.{class_capacity-some}
 use Rattle.arena_core.proofs.SlabChanges.{classes_opened, keeps_opened, first_attachable}
 use Rattle.arena_core.proofs.volatile.Volatile.give_fresh.Goals as goal
 use Rattle.image_tables.specs.Tables.{tables_of}
@@ -19,7 +23,7 @@ pub give_small-requires-clause-attachable : goal.give_small-requires-clause-atta
 give_small-requires-clause-attachable g c =
     let state = g.P.Pmem.state in
     let asked = c.requires.asked.1 in
-    first_attachable (words_of (state c.args.device.now)) c.args.start c.args.class c.requires.arena.current.exact c.requires.row c.requires.class (words_of (state c.add_slab.new.device)) c.add_slab.ensures.opened
+    first_attachable (words_of (state c.args.device.now)) c.args.slab.start c.args.slab.class c.requires.arena.current.exact c.requires.row c.requires.class (words_of (state c.add_slab.new.device)) c.add_slab.ensures.opened
     c.args.root c.blocks_at.result asked.below asked.none (omega (arith, c.blocks_at.ensures, c.granule_at.ensures))
 
 pub returns-clause-done : goal.returns-clause-done
@@ -29,8 +33,8 @@ returns-clause-done g c =
     let mid = words_of (state c.add_slab.new.device) in
     let new = words_of (state c.give_small.new.device) in
     let root = c.args.root in
-    let start = c.args.start in
-    let class = c.args.class in
+    let start = c.args.slab.start in
+    let class = c.args.slab.class in
     let arena = c.requires.arena in
     let exact = arena.current.exact in
     let asked = c.requires.asked.1 in
@@ -67,4 +71,21 @@ returns-clause-done g c =
         keeps = keeps_both words mid new (inl opened.heap) kept_words (keeps_small change new attached.rest);
         bounds = attached.bounds ∙ opened.bounds;
       };
+    }
+
+-- the seat took the first block of the new slab
+pub give_small-requires-clause-slabs : goal.give_small-requires-clause-slabs
+give_small-requires-clause-slabs g c =
+    let add = c.add_slab.ensures in
+    let took = first_taken c.args.self.now.supply c.add_slab.new.self.supply c.take.new.self c.args.seat c.args.slab.start c.args.slab.class c.requires.none add.more c.requires.class (class_capacity-some c.args.slab.class c.requires.class) c.take.result c.take.ensures in
+    slabs_without c.args.slab.start 0 add.slabs took.without
+
+pub returns-clause-supplied : goal.returns-clause-supplied
+returns-clause-supplied g c =
+    let add = c.add_slab.ensures in
+    let took = first_taken c.args.self.now.supply c.add_slab.new.self.supply c.take.new.self c.args.seat c.args.slab.start c.args.slab.class c.requires.none add.more c.requires.class (class_capacity-some c.args.slab.class c.requires.class) c.take.result c.take.ensures in
+    record {
+      mid = c.add_slab.new.self.supply;
+      more = add.more;
+      took = subst (λ (s : Supply). TookBlock c.add_slab.new.self.supply c.args.seat c.args.slab.class (record { start = c.args.slab.start; number = 0 }) s) (sym (ap (λ (v : Volatile). v.supply) c.give_small.ensures.rest)) took;
     }

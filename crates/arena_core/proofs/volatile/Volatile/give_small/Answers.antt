@@ -1,21 +1,17 @@
-use Rattle.std.proofs.Common.{true, ap, arith}
+use Rattle.std.proofs.Common.{true, sym, ap, subst, arith}
 use Rattle.pmem_lines.specs.Pmem.{words_of}
 use Rattle.image_tables.specs.Tables.{Tables, tables_of}
 use Rattle.heap_model.specs.Machine.{slab_block}
+use Rattle.heap_check.specs.Heap.{IsUnusedIn}
 use Rattle.heap_check.proofs.Heaps.{heap-none}
 use Rattle.heap_check.proofs.SmallPlaces.{IsWithin-block, in_slab}
 use Rattle.arena_core.proofs.LiveCounts.{counts_raised}
-use Rattle.arena_core.proofs.SmallCalls.{slabs_small, used_given}
+use Rattle.arena_core.proofs.SmallCalls.{slabs_less, slabs_used, used_given}
 use Rattle.arena_core.proofs.TakenBlocks.{counted, more_given}
 use Rattle.arena_core.proofs.volatile.Volatile.give_small.Goals as goal
 
 pub attach-requires-clause-room : goal.attach-requires-clause-room
 attach-requires-clause-room g c = omega (arith, c.requires.few, c.requires.ready.room)
-
-pub take-requires : goal.take-requires
-take-requires g c =
-    let attachable = c.requires.attachable in
-    (c.requires.slabs.blocks c.args.block.start c.args.block.number attachable.block_in.slab attachable.block_in.below).1 attachable.unused
 
 pub raise-requires-clause-inside : goal.raise-requires-clause-inside
 raise-requires-clause-inside g c =
@@ -33,9 +29,10 @@ returns-clause-slabs g c =
     let state = g.P.Pmem.state in
     let attached = c.attach.ensures.attached in
     let block = c.args.block in
-    slabs_small (words_of (state c.args.device.now)) c.args.root block.start block.number true block.at (words_of (state c.attach.new.p)) attached.bounds attached.tables
-    c.args.self.now.slabs c.take.new.self (record { granules = c.take.ensures.granules; classes = c.take.ensures.classes; blocks = c.take.ensures.blocks })
-    (used_given (words_of (state c.args.device.now)) c.args.root block block.at c.requires.attachable.block_in) c.requires.slabs
+    let new = words_of (state c.attach.new.p) in
+    let words = words_of (state c.args.device.now) in
+    slabs_used block.start block.number (slabs_less words c.args.root block.start block.number true block.at new attached.bounds attached.tables c.args.self.now.supply c.requires.slabs)
+    (subst (λ (t : Tables). ¬ (IsUnusedIn t block.start (t.class block.start) block.number)) (sym attached.tables) (used_given words c.args.root block block.at c.requires.attachable.block_in))
 
 pub returns-clause-lives : goal.returns-clause-lives
 returns-clause-lives g c =

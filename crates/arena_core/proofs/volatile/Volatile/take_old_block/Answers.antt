@@ -11,15 +11,15 @@ use Rattle.arena_core.proofs.volatile.Volatile.take_old_block.Goals as goal
 pub detach_old-requires-clause-room : goal.detach_old-requires-clause-room
 detach_old-requires-clause-room g c = omega (arith, ap length c.requires.fresh, c.requires.arena.current.ready.room)
 
-pub give_covered-requires-clause-slab : goal.give_covered-requires-clause-slab
-give_covered-requires-clause-slab g c = ap (λ (x : Tables). x.slab c.args.block.start) c.detach_old.ensures.detached.tables ∙ c.requires.detachable.slab
+pub open_covered-requires-clause-slab : goal.open_covered-requires-clause-slab
+open_covered-requires-clause-slab g c = ap (λ (x : Tables). x.slab c.args.block.start) c.detach_old.ensures.detached.tables ∙ c.requires.detachable.slab
 
-pub give_covered-requires-clause-place : goal.give_covered-requires-clause-place
-give_covered-requires-clause-place g c = omega (arith, ap (λ (x : Tables). x.index_count c.args.block.start) c.detach_old.ensures.detached.tables, c.requires.detachable.below)
+pub open_covered-requires-clause-place : goal.open_covered-requires-clause-place
+open_covered-requires-clause-place g c = omega (arith, ap (λ (x : Tables). x.index_count c.args.block.start) c.detach_old.ensures.detached.tables, c.requires.detachable.below)
 
-pub give_covered-requires-clause-slabs : goal.give_covered-requires-clause-slabs
-give_covered-requires-clause-slabs g c =
-    slabs_old (words_of (g.P.Pmem.state c.args.device.now)) c.args.self.now.line c.args.root c.args.block c.requires.detachable (words_of (g.P.Pmem.state c.detach_old.new.p)) c.detach_old.ensures.detached c.args.self.now.slabs c.requires.arena.slabs
+pub open_covered-requires-clause-slabs : goal.open_covered-requires-clause-slabs
+open_covered-requires-clause-slabs g c =
+    slabs_old (words_of (g.P.Pmem.state c.args.device.now)) c.args.self.now.line c.args.root c.args.block c.requires.detachable (words_of (g.P.Pmem.state c.detach_old.new.p)) c.detach_old.ensures.detached c.args.self.now.supply c.requires.arena.slabs
 
 pub lower-requires-clause-inside : goal.lower-requires-clause-inside
 lower-requires-clause-inside g c =
@@ -42,7 +42,8 @@ returns g c =
     let arena = c.requires.arena in
     let detached = c.detach_old.ensures.detached in
     record {
-      taken = taken_by c.args.self.now c.give_covered.new.slabs c.lower.new.self (bits_as t) (lives_with t block.start block.place) (change_index c.requires.detachable arena.few) c.detach_old.ensures.step detached.image detached.bounds detached.tables detached.gives detached.rest
-          arena.current c.give_covered.ensures
+      taken = taken_by c.args.self.now c.open_covered.new.supply c.lower.new.self (bits_as t) (lives_with t block.start block.place) (change_index c.requires.detachable arena.few) c.detach_old.ensures.step detached.image detached.bounds detached.tables detached.gives detached.rest
+          arena.current c.open_covered.ensures.slabs
           (counts_lowered new words c.args.root block.start _ c.args.self.now.lives c.lower.new.self (old_more (words_of (state c.args.device.now)) c.args.self.now.line c.args.root c.args.block c.requires.detachable (words_of (state c.detach_old.new.p)) c.detach_old.ensures.detached) c.lower.ensures.size c.lower.ensures.counts arena.lives);
+      stacks = c.open_covered.ensures.stacks;
     }

@@ -1,7 +1,8 @@
-use Rattle.std.proofs.Common.{List, ℕ, subst, ap, ◌∙◌, arith, length}
+use Rattle.std.proofs.Common.{◌≡◌, List, ℕ, subst, ap, ◌∙◌, arith, length}
 use Rattle.pmem_lines.specs.Pmem.{words_of}
 use Rattle.image_tables.specs.Tables.{tables_of}
-use Rattle.arena_core.specs.Effect.{IsLastOf}
+use Rattle.thread_cache.specs.Stacks.{stacks_of}
+use Rattle.arena_core.specs.Effect.{IsLastOf, stacks_but}
 use Rattle.arena_core.specs.Events.{holds_none}
 use Rattle.arena_core.proofs.HeldBlocks.{class_detachable}
 use Rattle.arena_core.proofs.TakenBlocks.{done_taken}
@@ -24,3 +25,12 @@ returns-clause-done g c = done_taken c.take_block.ensures.taken c.tidy.ensures.t
 
 pub returns-clause-line : goal.returns-clause-line
 returns-clause-line g c = c.tidy.ensures.line ∙ c.take_block.ensures.taken.line
+
+pub returns-clause-stacks : goal.returns-clause-stacks
+returns-clause-stacks g c =
+    let taken = c.take_block.ensures.taken in
+    record {
+      mid = stacks_of c.take_block.new.self.supply.stacks;
+      put = c.take_block.ensures.stacks;
+      left = subst (λ (ws : List ℕ). stacks_of c.tidy.new.self.supply.stacks ≡ stacks_but (stacks_of c.take_block.new.self.supply.stacks) c.args.block.start (holds_none (tables_of ws) c.args.block.start)) taken.step.appends.words c.tidy.ensures.stacks;
+    }

@@ -3,16 +3,17 @@ use Rattle.std.proofs.lemmas.Bool.{cond-true}
 use Rattle.pmem_lines.specs.Pmem.{words_of}
 use Rattle.pmem_lines.proofs.Steps.{step_by}
 use Rattle.image_tables.specs.Tables.{tables_of}
+use Rattle.thread_cache.specs.Stacks.{stacks_of}
 use Rattle.heap_check.specs.Heap.{slabs}
 use Rattle.heap_check.specs.Sound.{IsDoneSlab}
 use Rattle.heap_check.proofs.Blank.{IsSteady-but}
 use Rattle.extent_steps.specs.Slabs.{drop_events}
-use Rattle.arena_core.specs.Effect.{slabs_but}
+use Rattle.arena_core.specs.Effect.{slabs_but, stacks_but}
 use Rattle.arena_core.specs.Events.{holds_none, tidy_events}
 use Rattle.arena_core.proofs.HeldBlocks.{slab_here}
 use Rattle.arena_core.proofs.LastBlocks.{empty_by_tests}
 use Rattle.arena_core.proofs.SlabChanges.{held_row, classes_dropped, index_dropped, slabs_dropped, lives_dropped, keeps_dropped}
-use Rattle.arena_core.proofs.Tidying.{none_by_count, tidied_none, endable, tidied_ended}
+use Rattle.arena_core.proofs.Tidying.{none_by_count, some_by_count, tidied_none, endable, tidied_ended}
 use Rattle.arena_core.proofs.volatile.Volatile.tidy.Goals as goal
 
 pub drop_slab-requires-clause-droppable : goal.drop_slab-requires-clause-droppable
@@ -61,8 +62,7 @@ returns-then-at-eq0-clause-tidied g c =
         log = drop.book;
         index = index_dropped words start image empty new dropped c.args.self.now.free c.give.new.self c.give.ensures.granules c.give.ensures.free c.requires.untidy.index;
       };
-      slabs = slabs_dropped words start image empty new dropped c.args.self.now.slabs c.remove.new.self
-          (record { granules = c.remove.ensures.granules; classes = c.remove.ensures.classes; blocks = c.remove.ensures.blocks }) c.requires.untidy.slabs;
+      slabs = slabs_dropped words start image empty new dropped c.args.self.now.supply c.remove.new.self c.remove.ensures c.requires.untidy.slabs;
       lives = lives_dropped words start image empty new dropped c.args.self.now.lives zero c.requires.untidy.lives;
       bounds = dropped.bounds;
       heap = dropped.heap;
@@ -83,3 +83,18 @@ returns-else-is_done-clause-tidied g c =
     let start : c.granule_at.result / 16384 ≡ c.args.start = omega (arith, c.granule_at.ensures) in
     let says = subst (λ s. IsTrue c.is_done.result ↔ IsDoneSlab (tables_of (words_of old)) s) start c.is_done.ensures in
     tidied_none old c.args.self.now c.args.start c.requires.untidy (λ zero. c.if-at-eq0.false (c.at.ensures ∙ zero)) (λ done. true≢false (sym (says.1 done) ∙ c.if-is_done.false))
+
+pub returns-then-at-eq0-clause-stacks : goal.returns-then-at-eq0-clause-stacks
+returns-then-at-eq0-clause-stacks g c =
+    let none = none_by_count (g.P.Pmem.state c.args.device.now) c.args.self.now c.args.start c.requires.untidy (sym c.at.ensures ∙ c.if-at-eq0.true) in
+    c.remove.ensures.stacks ∙ sym (ap (stacks_but (stacks_of c.args.self.now.supply.stacks) c.args.start) none)
+
+pub returns-then-is_done-clause-stacks : goal.returns-then-is_done-clause-stacks
+returns-then-is_done-clause-stacks g c =
+    let some = some_by_count (g.P.Pmem.state c.args.device.now) c.args.self.now c.args.start c.requires.untidy (λ zero. c.if-at-eq0.false (c.at.ensures ∙ zero)) in
+    sym (ap (stacks_but (stacks_of c.args.self.now.supply.stacks) c.args.start) some)
+
+pub returns-else-is_done-clause-stacks : goal.returns-else-is_done-clause-stacks
+returns-else-is_done-clause-stacks g c =
+    let some = some_by_count (g.P.Pmem.state c.args.device.now) c.args.self.now c.args.start c.requires.untidy (λ zero. c.if-at-eq0.false (c.at.ensures ∙ zero)) in
+    sym (ap (stacks_but (stacks_of c.args.self.now.supply.stacks) c.args.start) some)

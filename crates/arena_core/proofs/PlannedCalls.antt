@@ -1,0 +1,70 @@
+-- What an arena keeps behind the plan of a malloc: all but the supply is as it was.
+use Rattle.std.proofs.Common.{◌≡◌, ℕ, ◌<◌, List, Option, Result, Ok, sym, ap, ◌∙◌, subst}
+use Rattle.pmem_lines.specs.Pmem.{PmemState, words_of, began}
+use Rattle.image_tables.specs.Tables.{Tables}
+use Rattle.heap_model.specs.Machine.{Bounds}
+use Rattle.heap_model.proofs.Sites.{class_small}
+use Rattle.block_supply.specs.Supply.{Supply, HasNoOpen}
+use Rattle.arena_core.specs.declared.volatile.Volatile.{Volatile}
+use Rattle.arena_core.specs.declared.plan.Place.{Place}
+use Rattle.arena_core.specs.declared.plan.Place.TheVariants.{Large, Small, Fresh}
+use Rattle.arena_core.specs.declared.answer.MallocRefusal.{MallocRefusal}
+use Rattle.attach_steps.specs.declared.block.SmallBlock.{SmallBlock}
+use Rattle.arena_core.specs.Arena.{IsArena, AreSlabsLess, AreCountsOf}
+use Rattle.arena_core.specs.Plan.{IsPlacing, IsSuppliedAt, IsSuppliedFor, IsPlanned}
+use Rattle.arena_core.proofs.PayloadCalls.{IsArena-began}
+use Rattle.arena_core.proofs.SmallCalls.{slabs_without}
+
+-- what is found takes of the supply what the plan says
+pub supplied_by : (old new now : Supply) (seat : ℕ) (found place : Option Place) → now ≡ new → found ≡ place → IsSuppliedFor old new seat found → IsSuppliedFor old now seat place
+supplied_by old new now seat found place same is supplied = subst (λ (p : Option Place). IsSuppliedFor old now seat p) is (subst (λ (s : Supply). IsSuppliedFor old s seat found) (sym same) supplied)
+
+-- whole granules take nothing of it
+pub supplied_large : (b : Bounds) (t : Tables) (root size : ℕ) (old now : Supply) (seat : ℕ) (place : Place) → 16384 < size → IsPlacing b t root size place → now ≡ old → IsSuppliedAt old now seat place
+supplied_large b t root size old now seat (Large start count) large placing same = same
+supplied_large b t root size old now seat (Small block class) large placing same = absurd (class_small size class placing.site.least large)
+supplied_large b t root size old now seat (Fresh start class) large placing same = absurd (class_small size class placing.site.least large)
+
+pub rest_by : (was now : Volatile) (supply : Supply) → now ≡ record was { supply = supply } → now ≡ record was { supply = now.supply }
+rest_by was now supply is = is ∙ ap (λ (s : Supply). record was { supply = s }) (sym (ap (λ (v : Volatile). v.supply) is))
+
+-- where the supply stays, all does
+pub all_same : (was now : Volatile) → now ≡ record was { supply = now.supply } → now.supply ≡ was.supply → now ≡ was
+all_same was now rest same = rest ∙ ap (λ (s : Supply). record was { supply = s }) same
+
+pub arena_same : {device : PmemState} (was now : Volatile) → IsArena device was → now ≡ record was { supply = now.supply } → now.supply ≡ was.supply → IsArena device now
+arena_same {device} was now arena rest same = subst (IsArena device) (sym (all_same was now rest same)) arena
+
+-- the line of the next entry stays, and the counts
+pub line_same : (was now : Volatile) → now ≡ record was { supply = now.supply } → now.line ≡ was.line
+line_same was now rest = ap (λ (v : Volatile). v.line) rest
+
+pub lives_same : (was now : Volatile) → now ≡ record was { supply = now.supply } → now.lives ≡ was.lives
+lives_same was now rest = ap (λ (v : Volatile). v.lives) rest
+
+-- then the counts change alone
+pub rest_then : (was now left : Volatile) → now ≡ record was { supply = now.supply } → left ≡ record now { lives = left.lives } → left ≡ record was { supply = left.supply; lives = left.lives }
+rest_then was now left rest after =
+    after
+    ∙ ap (λ (v : Volatile). record v { lives = left.lives }) rest
+    ∙ ap (λ (s : Supply). record was { supply = s; lives = left.lives }) (sym (ap (λ (v : Volatile). v.supply) after))
+
+-- a block that was taken for the plan is missing in the supply
+pub planned_less : {device : PmemState} {was now : Volatile} {seat root size class : ℕ} {block : SmallBlock} → IsPlanned device was now seat root size (Ok (Small block class)) → AreSlabsLess now.supply (words_of device) block.start block.number
+planned_less {device} {was} {now} {seat} {root} {size} {class} {block} planned = slabs_without block.start block.number planned.arena.slabs planned.supplied.without
+
+pub planned_lives : {device : PmemState} {was now : Volatile} {seat root size class : ℕ} {block : SmallBlock} → IsPlanned device was now seat root size (Ok (Small block class)) → AreCountsOf now.lives (words_of device)
+planned_lives {device} {was} {now} planned = subst (λ (counts : List ℕ). AreCountsOf counts (words_of device)) (sym (lives_same was now planned.rest)) planned.arena.lives
+
+-- for a new slab none of its class is open
+pub planned_none : {device : PmemState} {was now : Volatile} {seat root size start class : ℕ} → IsPlanned device was now seat root size (Ok (Fresh start class)) → HasNoOpen now.supply class
+planned_none {device} {was} {now} {seat} {root} {size} {start} {class} planned = subst (λ (s : Supply). HasNoOpen s class) (sym planned.supplied.same) planned.supplied.none
+
+-- the plan is one for the state at the call's begin too
+pub planned_begun : {device : PmemState} (begun : PmemState) {was now : Volatile} {seat root size : ℕ} {plan : Result Place MallocRefusal} → begun ≡ began device → IsPlanned device was now seat root size plan → IsPlanned begun was now seat root size plan
+planned_begun {device} begun {was} {now} {seat} {root} {size} {plan} is planned = subst (λ (s : PmemState). IsPlanned s was now seat root size plan) (sym is) (record {
+  arena = IsArena-began planned.arena;
+  supplied = planned.supplied;
+  rest = planned.rest;
+  is = planned.is;
+})

@@ -1,6 +1,0 @@
-use Rattle.pmem_lines.specs.Pmem.{words_of}
-use Rattle.arena_core.proofs.CoveredBlocks.{AreGiven}
-use Rattle.arena_core.proofs.carrying.give_covered.Given as goal
-
-abbrev pub invariant-loop-number : goal.invariant-loop-number
-invariant-loop-number g l = AreGiven l.slabs (words_of (g.P.Pmem.state l.device)) l.block.start l.number l.end
