@@ -25,4 +25,7 @@ pub mod PayloadImages
 pub mod PayloadRows
 pub mod PayloadStates
 pub mod PayloadCalls
+pub mod MovedArenas
+pub mod MoveSteps
+pub mod MoveCalls
 pub mod ByCall
