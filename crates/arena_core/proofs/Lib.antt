@@ -25,7 +25,7 @@ pub mod PayloadImages
 pub mod PayloadRows
 pub mod PayloadStates
 pub mod PayloadCalls
-pub mod MovedArenas
-pub mod MoveSteps
-pub mod MoveCalls
+pub mod MovesArenas
+pub mod MovesStates
+pub mod MovesCalls
 pub mod ByCall

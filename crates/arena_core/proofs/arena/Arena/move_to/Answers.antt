@@ -3,7 +3,7 @@ use Rattle.pmem_lines.specs.Pmem.{PmemState, words_of}
 use Rattle.arena_core.specs.Answer.{move_reply}
 use Rattle.arena_core.specs.Moving.{IsMovePlan}
 use Rattle.arena_core.proofs.CallEvents.{meant}
-use Rattle.arena_core.proofs.MoveCalls.{IsMoveAnswered, move_answered}
+use Rattle.arena_core.proofs.MovesCalls.{IsMoveAnswered, move_answered}
 use Rattle.arena_core.proofs.arena.Arena.move_to.Given as given
 use Rattle.arena_core.proofs.arena.Arena.move_to.Goals as goal
 

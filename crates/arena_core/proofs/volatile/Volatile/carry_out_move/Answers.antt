@@ -1,7 +1,7 @@
 use Rattle.std.proofs.Common.{subst}
 use Rattle.pmem_lines.specs.Pmem.{words_of}
 use Rattle.arena_core.specs.Moving.{IsMovePlan}
-use Rattle.arena_core.proofs.MoveCalls.{movable, carried_moved, carried_unmoved}
+use Rattle.arena_core.proofs.MovesCalls.{movable, carried_moved, carried_unmoved}
 use Rattle.arena_core.proofs.volatile.Volatile.carry_out_move.Goals as goal
 
 pub move_root-requires-clause-movable : goal.move_root-requires-clause-movable

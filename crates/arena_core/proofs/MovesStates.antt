@@ -18,7 +18,7 @@ use Rattle.arena_core.specs.declared.answer.MoveRefusal.TheVariants.{NoRoot, Emp
 use Rattle.arena_core.specs.Answer.{move_reply}
 use Rattle.arena_core.specs.Call.{IsStepOfAny}
 use Rattle.arena_core.specs.Moving.{IsMoveStep, AreRoots, IsMovePlan}
-use Rattle.arena_core.proofs.MovedArenas.{from_to}
+use Rattle.arena_core.proofs.MovesArenas.{from_to}
 use Rattle.arena_core.proofs.States.{named_at}
 
 -- whichever seat calls, and whatever stands on the stacks, it is a step of the machine

@@ -26,8 +26,8 @@ use Rattle.arena_core.specs.Events.{call_events, line_after}
 use Rattle.arena_core.specs.Moving.{IsToMove, IsMovePlan, IsMoveCarried}
 use Rattle.arena_core.proofs.Arenas.{slabs_kept}
 use Rattle.arena_core.proofs.CallEvents.{meant}
-use Rattle.arena_core.proofs.MovedArenas.{granules_moved, book_moved, index_moved, slabs_moved, counts_moved}
-use Rattle.arena_core.proofs.MoveSteps.{any_seat, step_moved, step_unmoved}
+use Rattle.arena_core.proofs.MovesArenas.{granules_moved, book_moved, index_moved, slabs_moved, counts_moved}
+use Rattle.arena_core.proofs.MovesStates.{any_seat, step_moved, step_unmoved}
 
 -- what is planned may move
 pub movable : {words : List ℕ} {from to : ℕ} {range : Range} → IsExactImage words → IsToMove words from to range → IsMovable words from to range.at
