@@ -1,6 +1,4 @@
 // What becomes of images.
-ghost use Rattle.std.specs.Prelude.{◌≡◌, ◌≤◌, ◌%◌, length};
-
 use arena_core::{Freed, Moved, Placed};
 use check_tests::{Put, image, put};
 use heap_model::Block;
@@ -178,11 +176,10 @@ fn both_of(
     words: &[u64],
     one: u32,
     other: u32,
-) -> Result<Option<(u32, u32)>, OutOfMemory>
-    requires some { 8 ≤ length words.now }
-    requires most { length words.now ≤ 8388608 }
-    requires lines { length words.now % 8 ≡ 0 }
-{
+) -> Result<Option<(u32, u32)>, OutOfMemory> {
+    if words.is_empty() || words.len() > 8_388_608 || words.len() % 8 != 0 {
+        return Ok(None);
+    }
     let device = SimPmem::from_image(alloc, words, 2048)?;
     match recover(alloc, device) {
         Ok(arena) => {
