@@ -4,6 +4,8 @@ use Rattle.std.proofs.lemmas.Bool.{cases_lt, lt-ltb, le-ltb, cond-true, cond-fal
 use Rattle.pmem_lines.specs.Words.{word_at}
 use Rattle.pmem_lines.proofs.Words.{get_or-words_at}
 use Rattle.image_tables.specs.Tables.{tables_of}
+use Rattle.image_tables.specs.Updates.{HasNoMove}
+use Rattle.image_tables.proofs.Stores.{roots_plain}
 use Rattle.image_tables.proofs.Tables.{root_table-past}
 use Rattle.heap_model.specs.declared.call.Call.{Call}
 use Rattle.heap_model.specs.declared.call.Call.TheVariants as calls
@@ -25,16 +27,20 @@ use Rattle.arena_core.specs.ByCall.{LawOfCrashes, KeepsUnwritten, HasWord, IsWor
 
 -- crashes
 
+-- where no move entry is open, each root holds its word
+holds_word : (image : List ℕ) (root : ℕ) → HasNoMove (tables_of image).open_entry → (tables_of image).root root ≡ (tables_of image).word root
+holds_word image root still = ap (λ (f : ℕ → ℕ). f root) (roots_plain image still)
+
 pub law_of_crashes : LawOfCrashes
-law_of_crashes (calls.Malloc root size) old new image left = record { steady = left.steady; heap = left.heap; still = left.still }
-law_of_crashes (calls.Free root) old new image left = record { steady = left.steady; heap = left.heap; still = left.still }
+law_of_crashes (calls.Malloc root size) old new image left = record { steady = left.steady; heap = left.heap; held = holds_word image root left.still }
+law_of_crashes (calls.Free root) old new image left = record { steady = left.steady; heap = left.heap; held = holds_word image root left.still }
 law_of_crashes (calls.Write root index word) old new image left = record {
   steady = record { formed = left.exact.formed; steady = law_of_steady (bounds_of image) (tables_of image) left.exact.exact };
   heap = inl left.heap;
-  still = left.still;
+  held = holds_word image root left.still;
 }
-law_of_crashes (calls.Read root index) old new image left = record { steady = left.steady; heap = left.heap; still = left.still }
-law_of_crashes (calls.Move from to) old new image left = record { steady = left.steady; heap = left.heap; still = left.still }
+law_of_crashes (calls.Read root index) old new image left = record { steady = left.steady; heap = left.heap; held = holds_word image root left.still }
+law_of_crashes (calls.Move from to) old new image left = record { steady = left.steady; heap = left.heap; held = left.held }
 
 -- words
 

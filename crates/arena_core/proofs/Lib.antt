@@ -27,4 +27,7 @@ pub mod PayloadRows
 pub mod PayloadStates
 pub mod PayloadCalls
 pub mod PlannedCalls
+pub mod MovesArenas
+pub mod MovesStates
+pub mod MovesCalls
 pub mod ByCall

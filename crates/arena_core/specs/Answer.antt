@@ -9,6 +9,9 @@ use Rattle.arena_core.specs.declared.answer.MallocRefusal.{MallocRefusal}
 use Rattle.arena_core.specs.declared.answer.MallocRefusal.TheVariants.{NoRoot, Occupied, ZeroSize, TooLarge, NoSpace}
 use Rattle.arena_core.specs.declared.answer.FreeRefusal.{FreeRefusal}
 use Rattle.arena_core.specs.declared.answer.FreeRefusal.TheVariants as refusals
+use Rattle.arena_core.specs.declared.answer.Moved.{Moved}
+use Rattle.arena_core.specs.declared.answer.MoveRefusal.{MoveRefusal}
+use Rattle.arena_core.specs.declared.answer.MoveRefusal.TheVariants as moves
 use Rattle.arena_core.specs.declared.answer.BlockRefusal.{BlockRefusal}
 use Rattle.arena_core.specs.declared.answer.BlockRefusal.TheVariants as blocks
 
@@ -24,6 +27,12 @@ abbrev pub free_reply : Result Freed FreeRefusal → Reply
 free_reply (Ok freed) = replies.Freed freed.at freed.size
 free_reply (Err refusals.NoRoot) = replies.NoRoot
 free_reply (Err refusals.Empty) = replies.Empty
+
+abbrev pub move_reply : Result Moved MoveRefusal → Reply
+move_reply (Ok moved) = replies.Moved moved.at moved.size
+move_reply (Err moves.NoRoot) = replies.NoRoot
+move_reply (Err moves.Empty) = replies.Empty
+move_reply (Err (moves.Occupied at)) = replies.Occupied at
 
 abbrev pub block_refusal : BlockRefusal → Reply
 block_refusal blocks.NoRoot = replies.NoRoot

@@ -4,15 +4,16 @@ use Rattle.std.specs.Prelude.{◌≡◌, ◌⊎◌, ℕ, ◌+◌, ◌/◌, ◌<�
 use Rattle.std.specs.Borrow.{Bor}
 use Rattle.pmem_lines.specs.Words.{word_at}
 use Rattle.image_tables.specs.Tables.{tables_of}
-use Rattle.image_tables.specs.Updates.{HasNoMove}
 use Rattle.heap_model.specs.declared.call.Call.{Call}
 use Rattle.heap_model.specs.declared.call.Call.TheVariants as calls
 use Rattle.heap_model.specs.declared.call.Reply.{Reply}
 use Rattle.heap_model.specs.declared.call.Reply.TheVariants as replies
 use Rattle.heap_model.specs.Machine.{Range}
+use Rattle.heap_model.specs.Step.{root_of}
 use Rattle.heap_check.specs.Heap.{heap}
 use Rattle.heap_check.specs.Image.{IsSteadyImage}
 use Rattle.heap_check.specs.State.{IsWordOf, HaveSameHeap, IsEitherHeap}
+use Rattle.move_steps.specs.Moves.{IsEitherMoved}
 use Rattle.arena_core.specs.declared.answer.BlockRefusal.{BlockRefusal}
 use Rattle.arena_core.specs.Answer.{read_reply}
 use Rattle.arena_core.specs.Call.{IsStepOfAny}
@@ -22,24 +23,24 @@ use Rattle.arena_core.specs.Payload.{payload_events, IsWriteStep, IsNamedWord, I
 -- crashes
 
 -- what a crash within a call leaves, from the old words to the new ones: of a write each word old or new, of every other call
--- the old heap or the new one
+-- the old heap or the new one, and of a move its entry may be open
 abbrev pub IsLeftBy : Call → List ℕ → List ℕ → List ℕ → Type 0
 IsLeftBy (calls.Malloc root size) old new image = IsEitherHeap old new image
 IsLeftBy (calls.Free root) old new image = IsEitherHeap old new image
 IsLeftBy (calls.Write root index word) old new image = IsEitherWords old new image
 IsLeftBy (calls.Read root index) old new image = IsEitherHeap old new image
-IsLeftBy (calls.Move from to) old new image = IsEitherHeap old new image
+IsLeftBy (calls.Move from to) old new image = IsEitherMoved old new to image
 
--- what every call has in common: the image is steady, it has the heap from before the call or from after it, and no move
--- entry is open in it
-pub record IsSteadyLeft (old new image : List ℕ) : Type 0 where
+-- what every call has in common: the image is steady, it has the heap from before the call or from after it, and the root
+-- that the call speaks of holds its word, so that the word says whether it has a block
+pub record IsSteadyLeft (root : ℕ) (old new image : List ℕ) : Type 0 where
   pub steady : IsSteadyImage image
   pub heap : HaveSameHeap old image ⊎ HaveSameHeap new image
-  pub still : HasNoMove (tables_of image).open_entry
+  pub held : (tables_of image).root root ≡ (tables_of image).word root
 
 -- whichever the call, a crash within it leaves that
 abbrev pub LawOfCrashes : Type 0
-LawOfCrashes = (call : Call) (old new image : List ℕ) → IsLeftBy call old new image → IsSteadyLeft old new image
+LawOfCrashes = (call : Call) (old new image : List ℕ) → IsLeftBy call old new image → IsSteadyLeft (root_of call) old new image
 
 -- words
 

@@ -7,4 +7,5 @@ pub mod Arena
 pub mod Carried
 pub mod Adopting
 pub mod Payload
+pub mod Moving
 pub mod ByCall

@@ -16,6 +16,13 @@ pub struct Freed {
     pub size: u32,
 }
 
+/// The block that moved: its first byte in the arena, and its size in bytes.
+#[derive(Clone, Copy, Debug, PartialEq, Eq)]
+pub struct Moved {
+    pub at: u32,
+    pub size: u32,
+}
+
 /// Why a root gets no block. The first that holds is answered.
 #[derive(Clone, Copy, Debug, PartialEq, Eq, Error)]
 pub enum MallocRefusal {
@@ -45,6 +52,20 @@ pub enum FreeRefusal {
     /// The root names no block.
     #[error("Empty")]
     Empty,
+}
+
+/// Why no block moves from a root to another. The first that holds is answered.
+#[derive(Clone, Copy, Debug, PartialEq, Eq, Error)]
+pub enum MoveRefusal {
+    /// One of the two is not below the number of root words.
+    #[error("NoRoot")]
+    NoRoot,
+    /// The root that it would leave names no block.
+    #[error("Empty")]
+    Empty,
+    /// The root that it would come to names the block at this address already.
+    #[error("Occupied")]
+    Occupied { at: u32 },
 }
 
 /// Why the words of a root's block are not written, or not lent. The first that holds is answered.

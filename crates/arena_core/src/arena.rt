@@ -10,18 +10,22 @@ ghost use Rattle.heap_model.specs.Placement.{no_stacks};
 ghost use Rattle.thread_cache.specs.Stacks.{stacks_of};
 ghost use Rattle.heap_check.specs.Image.{IsExactImage};
 ghost use Rattle.heap_check.specs.State.{HasState, KeepsBlocks, IsEitherHeap};
-ghost use Rattle.arena_core.specs.Answer.{malloc_reply, free_reply, write_reply};
+ghost use Rattle.move_steps.specs.Moves.{IsEitherMoved};
+ghost use Rattle.arena_core.specs.Answer.{malloc_reply, free_reply, move_reply, write_reply};
 ghost use Rattle.arena_core.specs.Arena.{IsBlockOfRoot};
-ghost use Rattle.arena_core.specs.Call.{IsReady, IsStepOf, IsFormattedOrNot};
+ghost use Rattle.arena_core.specs.Call.{IsReady, IsStepOf, IsStepOfAny, IsFormattedOrNot};
 ghost use Rattle.arena_core.specs.Events.{call_events, line_after, format_events};
 ghost use Rattle.arena_core.specs.Payload.{payload_events, IsWriteStep, IsWrittenBy, IsEitherWords, IsViewOf};
 
 use crate::adopting::{count_lives, read_image};
 use crate::formatting::write_header;
+use crate::moving::plan_move;
 use crate::payload::{block_of, carry_out_write, plan_write};
 use crate::plan::{freed_of, granules_in, held_by, layout_in, plan_free};
 use crate::volatile::Volatile;
-use crate::{ArenaRoom, BlockRefusal, FreeRefusal, Freed, MallocRefusal, Placed};
+use crate::{
+    ArenaRoom, BlockRefusal, FreeRefusal, Freed, MallocRefusal, MoveRefusal, Moved, Placed,
+};
 use heap_model::Block;
 use pmem_lines::Pmem;
 use pool_layout::PoolHeader;
@@ -158,6 +162,35 @@ impl<P: Pmem> Arena<P> {
         self.device.begin();
         self.volatile
             .carry_out_free(&mut self.device, seat, root, plan)
+    }
+
+    /// Moves the block of root `from` to root `to`. The answer is the machine's: `NoRoot` where one of the two is no such
+    /// root word, then `Empty` where `from` names no block, then `Occupied` where `to` names one; so a move to the same root
+    /// is refused. It begins one call, ahead of its events, also where it refuses; a refusal has no event and changes no
+    /// word. The block and every other one keep their words, and the block its place; a view of it is taken by `to` from
+    /// then on. After a crash within it the heap is the one before the call or the one after it: one of the two roots has
+    /// the block. It takes no memory.
+    pub fn move_to(&mut self, from: u32, to: u32) -> Result<Moved, MoveRefusal>
+        ensures step { IsStepOfAny (words_of self.old.device) (words_of self.new.device) (calls.Move from to) (move_reply result) }
+        ensures device { self.new.device ≡ appended (began self.old.device) (call_events (words_of self.old.device) self.old.line (calls.Move from to) (move_reply result)) }
+        ensures line { self.new.line ≡ line_after self.old.line (move_reply result) }
+        ensures stacks { self.new.stacks ≡ self.old.stacks }
+        ensures keeps { KeepsBlocks (words_of self.old.device) (words_of self.new.device) }
+        ensures was_exact { IsExactImage (words_of self.old.device) }
+        ensures exact { IsExactImage (words_of self.new.device) }
+        ensures ready { IsReady self.new.device }
+        ensures crash { CrashOnly self.new.device.base self.new.device.events (IsEitherMoved (words_of self.old.device) (words_of self.new.device) to) }
+    {
+        let plan = plan_move(
+            &self.device,
+            &self.volatile.log,
+            &self.volatile.supply,
+            from,
+            to,
+        );
+        self.device.begin();
+        self.volatile
+            .carry_out_move(&mut self.device, from, to, plan)
     }
 
     /// Makes the words of a root's block from word `from` on those that are given, durably. The answer is the machine's:

@@ -1,7 +1,8 @@
 // Laws of the calls on one word, and of what crashes leave.
 ghost use Rattle.arena_core.specs.ByCall.{LawOfCrashes, LawOfOneWord, LawOfOneRead};
 
-/// Whichever the call, a crash within it leaves a steady image, with the heap from before the call or from after it.
+/// Whichever the call, a crash within it leaves a steady image, with the heap from before the call or from after it; and
+/// the root that the call speaks of, of a move the one that the block comes to, holds its word.
 pub fn law_of_crashes()
     ensures { LawOfCrashes }
 {}

@@ -76,7 +76,7 @@ bury_events t root start place = pair_events (8 * root_word root) 0 (8 * index_w
 abbrev pub detach_old_events : Tables → ℕ → ℕ → ℕ → ℕ → ℕ → List Event
 detach_old_events t line root at start place = under_entry line (old_entry_for root at place) (bury_events t root start place)
 
--- moves: no call makes such an entry yet
+-- moves
 
 -- A block moves from a root to another: under an entry, the one has its address before the other has it no more.
 abbrev pub move_events : ℕ → ℕ → ℕ → ℕ → List Event

@@ -5,8 +5,9 @@
 // There is a module for each layer: `memory` for `pmem_lines`, `steps` for `durable_steps`, `classes` for `size_classes`,
 // `bits` for `interleaved_bitmap`, `headers` and `defects` for `pool_layout`, `slabs` for `slab_header`, `morphs` for
 // `slab_morph`, `entries` for `attach_wal`, `log` for `book_log`, `room` for `log_gc`, `extents` for `extent_index`,
-// `blocks` and `candidates` for `slab_index`, `small` for `attach_steps`, `payload` for the words of blocks in `arena_core`,
-// and `traces` and `reports` for `trace_text`. Whole runs are tested in `run_tests`.
+// `blocks` and `candidates` for `slab_index`, `small` for `attach_steps`, `payload` for the words of blocks in `arena_core`
+// and `moves` for blocks that move there, and `traces` and `reports` for `trace_text`. Whole runs are tested in
+// `run_tests`.
 #![tactic(auto)]
 
 #[cfg(test)]
@@ -31,6 +32,8 @@ mod log;
 mod memory;
 #[cfg(test)]
 mod morphs;
+#[cfg(test)]
+mod moves;
 #[cfg(test)]
 mod payload;
 #[cfg(test)]

@@ -1,9 +1,11 @@
 // What becomes of images.
-use arena_core::{Freed, Placed};
+use arena_core::{Freed, Moved, Placed};
 use check_tests::{Put, image, put};
 use heap_model::Block;
 use pmem_lines::{OutOfMemory, Pmem, SimPmem};
 use pool_layout::Defect;
+use rand_core::SeedableRng;
+use rand_xoshiro::SplitMix64;
 use recover::{RecoverFault, recover};
 use std::alloc::Global;
 use std::process::Abort;
@@ -124,6 +126,98 @@ pub fn frees_between(
                 events,
                 after,
             }))
+        }
+        Err((RecoverFault::Memory(error), _)) => Err(error),
+        Err((RecoverFault::Defect(_), _)) => Ok(None),
+    }
+}
+
+/// What an arena answers to a move, and to a free by the root that the block came to; and how many events each has.
+#[derive(Clone, Copy, Debug, PartialEq, Eq)]
+pub struct Passed {
+    pub moved: Option<Moved>,
+    pub moving: u32,
+    pub freed: Option<Freed>,
+    pub freeing: u32,
+}
+
+/// An arena that was recovered from the words of a row moves a root's block to another, from which it is freed. `None`
+/// where its image is not sound.
+pub fn moves_and_frees(
+    alloc: Global,
+    base: &[Put],
+    from: u32,
+    to: u32,
+) -> Result<Option<Passed>, OutOfMemory> {
+    let words = image(alloc, base, &[])?;
+    let device = SimPmem::from_image(alloc, &words, 2048)?;
+    match recover(alloc, device) {
+        Ok(mut arena) => {
+            let moved = arena.move_to(from, to).ok();
+            let moving = arena.pmem().event_count();
+            let freed = arena.free_from(0, to).ok();
+            let freeing = arena.pmem().event_count();
+            Ok(Some(Passed {
+                moved,
+                moving,
+                freed,
+                freeing,
+            }))
+        }
+        Err((RecoverFault::Memory(error), _)) => Err(error),
+        Err((RecoverFault::Defect(_), _)) => Ok(None),
+    }
+}
+
+/// The addresses of the blocks of two roots, 0 for none, in an arena that was recovered from an image. `None` where that is
+/// not sound.
+fn both_of(
+    alloc: Global,
+    words: &[u64],
+    one: u32,
+    other: u32,
+) -> Result<Option<(u32, u32)>, OutOfMemory> {
+    if words.is_empty() || words.len() > 8_388_608 || words.len() % 8 != 0 {
+        return Ok(None);
+    }
+    let device = SimPmem::from_image(alloc, words, 2048)?;
+    match recover(alloc, device) {
+        Ok(arena) => {
+            let first = match arena.block(one) {
+                Some(block) => block.at,
+                None => 0,
+            };
+            let second = match arena.block(other) {
+                Some(block) => block.at,
+                None => 0,
+            };
+            Ok(Some((first, second)))
+        }
+        Err((RecoverFault::Memory(error), _)) => Err(error),
+        Err((RecoverFault::Defect(_), _)) => Ok(None),
+    }
+}
+
+/// What recovery finds at two roots once a crash came after the first `k` events of the move from the one to the other, in
+/// an arena that was recovered from the words of a row.
+pub fn crash_in_a_move(
+    alloc: Global,
+    base: &[Put],
+    from: u32,
+    to: u32,
+    k: u32,
+    seed: u64,
+) -> Result<Option<(u32, u32)>, OutOfMemory> {
+    let words = image(alloc, base, &[])?;
+    let device = SimPmem::from_image(alloc, &words, 2048)?;
+    match recover(alloc, device) {
+        Ok(mut arena) => {
+            if arena.move_to(from, to).is_err() || k > arena.pmem().event_count() {
+                return Ok(None);
+            }
+            let mut picks = SplitMix64::from_seed(seed.to_le_bytes());
+            let left = arena.pmem().image(alloc, k, &mut picks)?;
+            both_of(alloc, &left, from, to)
         }
         Err((RecoverFault::Memory(error), _)) => Err(error),
         Err((RecoverFault::Defect(_), _)) => Ok(None),

@@ -3,7 +3,7 @@
 //
 // An image is given by its words that are not 0. `small` has an arena with one slab and one block, `morphing` one with
 // a large block and a slab that took another class, and images in which several things are loose: `check_tests` has both.
-// `largest` has arenas of as many granules as there may be, and `images` what becomes of an image. The crate stands apart
+// `moving` has blocks that move in them, and crashes within that. `largest` has arenas of as many granules as there may be, and `images` what becomes of an image. The crate stands apart
 // from `recover`, since a crate with tests is proved twice.
 #![tactic(auto)]
 
@@ -13,5 +13,7 @@ mod images;
 mod largest;
 #[cfg(test)]
 mod morphing;
+#[cfg(test)]
+mod moving;
 #[cfg(test)]
 mod small;

@@ -7,8 +7,7 @@ use Rattle.pool_layout.specs.Places.{root_word}
 use Rattle.pool_layout.specs.Header.{version_in, granules_in}
 use Rattle.pool_layout.proofs.Layouts.{layout_rules}
 use Rattle.image_tables.specs.Tables.{tables_of}
-use Rattle.image_tables.specs.Updates.{HasNoMove}
-use Rattle.image_tables.proofs.Tables.{root_table}
+use Rattle.image_tables.proofs.Tables.{word_table}
 use Rattle.heap_model.specs.declared.call.Call.{Call}
 use Rattle.heap_model.specs.declared.call.Reply.{Reply}
 use Rattle.heap_model.specs.declared.call.Reply.TheVariants.{Placed, Freed, Wrote, Value, Moved, NoRoot, Occupied, Empty, ZeroSize, TooLarge, OutOfRange, NoSpace}
@@ -88,22 +87,22 @@ IsChange-step seat old new call TooLarge exact steps changes = absurd changes
 IsChange-step seat old new call OutOfRange exact steps changes = absurd changes
 IsChange-step seat old new call NoSpace exact steps changes = absurd changes
 
--- a root's word is what the tables say of it, while no move entry is open
-root_is : (words : List ℕ) (root : ℕ) → IsFormed words → HasNoMove (tables_of words).open_entry → root < (layout_of 1).roots → (tables_of words).root root ≡ word_at words (root_word root)
-root_is words root formed still below = root_table words root still (subst (λ v. root < (layout_of v).roots) (sym (version-formed words formed)) below)
+-- what a root holds that holds its word is read off the words
+root_is : (words : List ℕ) (root : ℕ) → IsFormed words → (tables_of words).root root ≡ (tables_of words).word root → root < (layout_of 1).roots → (tables_of words).root root ≡ word_at words (root_word root)
+root_is words root formed held below = held ∙ word_table words root (subst (λ v. root < (layout_of v).roots) (sym (version-formed words formed)) below)
 
 -- a root whose word is 0 has no block
-pub heap-zero : (words : List ℕ) (root : ℕ) → IsFormed words → HasNoMove (tables_of words).open_entry → root < (layout_of 1).roots → word_at words (root_word root) ≡ 0 → heap (tables_of words) root ≡ None
-heap-zero words root formed still below zero' =
+pub heap-zero : (words : List ℕ) (root : ℕ) → IsFormed words → (tables_of words).root root ≡ (tables_of words).word root → root < (layout_of 1).roots → word_at words (root_word root) ≡ 0 → heap (tables_of words) root ≡ None
+heap-zero words root formed held below zero' =
     cond-true _ None (Some (record { at = (tables_of words).root root; size = size_at (tables_of words) root ((tables_of words).root root) }))
-    (eq-eqb ((tables_of words).root root) 0 (root_is words root formed still below ∙ zero'))
+    (eq-eqb ((tables_of words).root root) 0 (root_is words root formed held below ∙ zero'))
 
 -- a root whose word is not 0 has one
-pub heap-some : (words : List ℕ) (root : ℕ) → IsFormed words → HasNoMove (tables_of words).open_entry → root < (layout_of 1).roots → word_at words (root_word root) ≢ 0 → heap (tables_of words) root ≢ None
-heap-some words root formed still below some none =
+pub heap-some : (words : List ℕ) (root : ℕ) → IsFormed words → (tables_of words).root root ≡ (tables_of words).word root → root < (layout_of 1).roots → word_at words (root_word root) ≢ 0 → heap (tables_of words) root ≢ None
+heap-some words root formed held below some none =
     let range : Range = record { at = (tables_of words).root root; size = size_at (tables_of words) root ((tables_of words).root root) } in
     let is : heap (tables_of words) root ≡ Some range =
-    cond-false _ None (Some range) (ne_eqb ((tables_of words).root root) 0 (λ e. some (sym (root_is words root formed still below) ∙ e))) in
+    cond-false _ None (Some range) (ne_eqb ((tables_of words).root root) 0 (λ e. some (sym (root_is words root formed held below) ∙ e))) in
     absurd (cc)
 
 -- the heaps before and after a call that gives or takes a block differ

@@ -58,8 +58,8 @@ changed_or_wrote device entry behind = ⊎_elim
 pub below_behind : (device : PmemState) (entry : Entry) → IsBehindEntry device entry → root_of entry.call < (layout_of 1).roots
 below_behind device entry behind = ⊎_elim (λ changed. changed.1.below) (λ wrote. wrote.1.below) (changed_or_wrote device entry behind)
 
--- an image that a crash within it leaves has the heap before it or after it
-pub left_behind : (device : PmemState) (entry : Entry) (done : ℕ) (image : List ℕ) → IsBehindEntry device entry → IsImage device.base (take done device.events) image → IsSteadyLeft device.base (words_of device) image
+-- an image that a crash within it leaves has the heap before it or after it, and its root holds its word
+pub left_behind : (device : PmemState) (entry : Entry) (done : ℕ) (image : List ℕ) → IsBehindEntry device entry → IsImage device.base (take done device.events) image → IsSteadyLeft (root_of entry.call) device.base (words_of device) image
 left_behind device entry done image behind one = law_of_crashes entry.call device.base (words_of device) image (behind.crash.each done image one)
 
 -- the side of a call that changed the heap
@@ -78,7 +78,7 @@ side_changed OutOfRange has changes = absurd changes
 side_changed NoSpace has changes = absurd changes
 
 -- what is left, by the reply, and by whether the call's root has a block in the image
-pub IsLeftWithin-told : (device : PmemState) (entry : Entry) (number done seed : ℕ) (image : List ℕ) (has : Bool) → IsBehindEntry device entry → IsSteadyLeft device.base (words_of device) image → image ≡ crash_image (last_stage device) done seed →
+pub IsLeftWithin-told : (device : PmemState) (entry : Entry) (number done seed : ℕ) (image : List ℕ) (has : Bool) → IsBehindEntry device entry → IsSteadyLeft (root_of entry.call) device.base (words_of device) image → image ≡ crash_image (last_stage device) done seed →
     (IsTrue has ↔ (word_at image (root_word (root_of entry.call)) ≢ 0)) → IsLeftWithin (last_stage device) number done seed (record { call = number; side = side_by entry.reply has; image = image })
 IsLeftWithin-told device entry number done seed image has behind left is reads =
     let root = root_of entry.call in
@@ -90,8 +90,8 @@ IsLeftWithin-told device entry number done seed image has behind left is reads =
       side = ⊎_elim
           (λ changed. subst (λ (side : CrashSide). IsSide device.base (words_of device) image side) (side_changed entry.reply has changed.0)
           (IsSide-told device.base (words_of device) image root (gives_block entry.reply) has changed.1 left.heap
-          (λ some. heap-some image root formed left.still changed.1.below (reads.0 some))
-          (λ none. heap-zero image root formed left.still changed.1.below (zero_or has (word_at image (root_word root)) none reads.1))))
+          (λ some. heap-some image root formed left.held changed.1.below (reads.0 some))
+          (λ none. heap-zero image root formed left.held changed.1.below (zero_or has (word_at image (root_word root)) none reads.1))))
           (λ wrote. subst (λ (reply : Reply). IsSide device.base (words_of device) image (side_by reply has)) (sym wrote.0) (IsSide-same device.base (words_of device) image wrote.1.same left.heap))
           (changed_or_wrote device entry behind);
     }

@@ -1,0 +1,116 @@
+-- A block moved from a root to another: what stands beside the words is what they say still.
+use Rattle.std.proofs.Common.{◌≡◌, ◌≢◌, ◌↔◌, ℕ, ◌+◌, ◌<◌, List, Option, Some, None, sym, ap, subst, ◌∙◌, arith, ⊎_elim, if◌then◌else◌}
+use Rattle.std.proofs.lemmas.Bool.{cases_eq}
+use Rattle.std.proofs.lemmas.List.Elements.{All-weaker}
+use Rattle.pmem_lines.specs.Words.{word_at}
+use Rattle.pool_layout.specs.Places.{fields_word, directory_word, entry_word}
+use Rattle.pool_layout.specs.Header.{version_in, granules_in}
+use Rattle.image_tables.specs.Log.{active_chunks}
+use Rattle.image_tables.specs.Tables.{Tables, tables_of}
+use Rattle.image_tables.specs.Updates.{with_root}
+use Rattle.image_tables.proofs.Chunks.{few_chunks}
+use Rattle.image_tables.proofs.Places.{log_word-low, entry_word-low}
+use Rattle.image_tables.proofs.Logs.{SameChunk, SameLog}
+use Rattle.image_tables.proofs.Stores.{root_word-low}
+use Rattle.book_log.specs.Book.{Book}
+use Rattle.book_log.proofs.Books.{Reads-same}
+use Rattle.extent_index.specs.FreeSet.{FreeSet, IsFree}
+use Rattle.heap_model.specs.Machine.{Bounds, Range, with_key}
+use Rattle.heap_model.specs.Slabs.{live_below, begins_in}
+use Rattle.heap_model.proofs.Maps.{with_key-here, with_key-other}
+use Rattle.heap_check.specs.Heap.{heap}
+use Rattle.heap_check.specs.Sound.{IsVacant}
+use Rattle.heap_check.specs.Image.{bounds_of}
+use Rattle.heap_check.proofs.Heaps.{heap-none}
+use Rattle.log_steps.specs.Log.{IsBookOf}
+use Rattle.move_steps.specs.Moves.{IsMovable, IsMoved}
+use Rattle.arena_core.specs.Arena.{IsIndexOf, live_in, AreCountsOf}
+use Rattle.arena_core.specs.Effect.{KeepsSlabs}
+use Rattle.arena_core.proofs.LiveCounts.{one_if, live_given, counts_kept}
+
+-- other words of two roots make no difference to what is vacant
+vacant_roots : (b : Bounds) (t : Tables) (to at from k : ℕ) → IsVacant b (with_root (with_root t to at) from 0) k ↔ IsVacant b t k
+vacant_roots b t to at from k = (
+  λ vacant. record { low = vacant.low; high = vacant.high; none = λ start covers. vacant.none start (record { low = covers.low; high = covers.high }) },
+  λ vacant. record { low = vacant.low; high = vacant.high; none = λ start covers. vacant.none start (record { low = covers.low; high = covers.high }) },
+)
+
+-- As many blocks begin in a slab once a root's block is another's.
+pub live_moved : (old new : ℕ → Option Range) (s roots from to : ℕ) (range : Range) → from < roots → to < roots → from ≢ to → old from ≡ Some range → old to ≡ None → new to ≡ Some range → new from ≡ None →
+    ((other : ℕ) → other ≢ from → other ≢ to → new other ≡ old other) → live_below new s roots ≡ live_below old s roots
+live_moved old new s roots from to range from_below to_below differ named none here gone others =
+    let mid = with_key old from None in
+    let mid_to : mid to ≡ None = with_key-other old from to None (λ same. differ (sym same)) ∙ none in
+    let was : live_below old s roots ≡ one_if (begins_in s (Some range)) + live_below mid s roots =
+    live_given mid old s roots from range from_below (with_key-here old from None) named (λ other apart. sym (with_key-other old from other None apart)) in
+    let is : live_below new s roots ≡ one_if (begins_in s (Some range)) + live_below mid s roots =
+    live_given mid new s roots to range to_below mid_to here (λ other apart. rest other apart) in
+    is ∙ sym was
+  where
+    rest : (other : ℕ) → other ≢ to → new other ≡ with_key old from None other
+    rest other apart = ⊎_elim
+        (λ (same : other ≡ from). ap new same ∙ gone ∙ sym (with_key-here old from None) ∙ ap (with_key old from None) (sym same))
+        (λ (not_from : other ≢ from). others other not_from apart ∙ sym (with_key-other old from other None not_from))
+        (cases_eq other from)
+
+module _ {words new : List ℕ} {line from to at : ℕ} (may : IsMovable words from to at) (few : line < 8) (moved : IsMoved words line from to at new) where
+  abbrev t : Tables
+  t = tables_of words
+
+  pub from_to : from ≢ to
+  from_to same = may.some (sym may.named ∙ ap t.root same ∙ may.none)
+
+  -- the words of the log are the same
+
+  keeps_low : (k : ℕ) → k < 64 → word_at new k ≡ word_at words k
+  keeps_low k low = moved.rest.others k (λ e. omega (arith, e, low)) (λ e. omega (arith, e, low)) (λ e. omega (arith, e, low))
+
+  log_moved : SameLog words new
+  log_moved =
+      let version = version_in words in
+      record {
+        fields = keeps_low fields_word (omega arith);
+        directory = keeps_low directory_word (omega arith);
+        chunks = All-weaker (λ c. c < 16) (SameChunk version words new)
+            (λ c few_chunks. record {
+              each = λ e below.
+                  let low = entry_word-low version c e in
+                  moved.rest.others (entry_word version c e)
+                  (λ is. omega (arith, is, low, log_word-low version, few))
+                  (λ is. omega (arith, is, low, root_word-low version from may.from_rooted))
+                  (λ is. omega (arith, is, low, root_word-low version to may.to_rooted));
+            })
+            (active_chunks (word_at words directory_word)) (few_chunks (word_at words directory_word));
+      }
+
+  pub granules_moved : granules_in new ≡ granules_in words
+  granules_moved = ap (λ (b : Bounds). b.granules) moved.bounds
+
+  pub book_moved : (book : Book) → IsBookOf book words → IsBookOf book new
+  book_moved book log = record { reads = Reads-same book words new log_moved moved.rest.same_length log.reads; granules = log.granules ∙ sym granules_moved }
+
+  -- the same granules are vacant
+  pub index_moved : (set : FreeSet) → IsIndexOf set words → IsIndexOf set new
+  index_moved set index = record {
+    granules = index.granules ∙ sym granules_moved;
+    each = λ k.
+        let same = vacant_roots (bounds_of words) t to at from k in
+        subst (λ b. IsFree set k ↔ IsVacant b (tables_of new) k) (sym moved.bounds)
+        (subst (λ x. IsFree set k ↔ IsVacant (bounds_of words) x k) (sym moved.tables)
+        (λ free. same.1 ((index.each k).0 free), λ vacant. (index.each k).1 (same.0 vacant)));
+  }
+
+  -- the slabs are the same
+  pub slabs_moved : KeepsSlabs words new
+  slabs_moved = record { each = moved.slabs }
+
+  -- and so are the numbers of their live blocks
+  live_in_moved : (range : Range) → heap t from ≡ Some range → (s : ℕ) → live_in new s ≡ live_in words s
+  live_in_moved range named s =
+      let same : live_below (heap (tables_of new)) s (bounds_of words).roots ≡ live_below (heap t) s (bounds_of words).roots =
+      live_moved (heap t) (heap (tables_of new)) s (bounds_of words).roots from to range may.from_rooted may.to_rooted from_to named (heap-none t to may.none) (moved.moves.here ∙ named) moved.moves.gone moved.moves.others in
+      ap (λ (b : Bounds). if (tables_of new).slab s then live_below (heap (tables_of new)) s b.roots else 0) moved.bounds
+      ∙ (λ i. if (moved.slabs s).slab i then same i else 0)
+
+  pub counts_moved : (range : Range) → heap (tables_of words) from ≡ Some range → (counts : List ℕ) → AreCountsOf counts words → AreCountsOf counts new
+  counts_moved range named counts were = counts_kept words new counts granules_moved (live_in_moved range named) were

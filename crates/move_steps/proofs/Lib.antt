@@ -1,0 +1,4 @@
+pub mod Renamed
+pub mod HeldRoots
+pub mod Stages
+pub mod Crashes
