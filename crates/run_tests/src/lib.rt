@@ -6,7 +6,8 @@
 // `crashes` a crash at every event of some calls, `cycles` traces whose image is checked and recovered, `words` what is
 // left on the device. `images` makes images, and has how `check` and `recover` run over them: `entries` with open
 // entries, `transition` of a slab that takes another class, `defects` with a defect, `pools` of several arenas and of
-// wrong lengths. `faults` has sources and sinks that fail, `adapters` readers and writers of the standard library,
+// wrong lengths. `faults` has sources and sinks that fail, `hostile` each read and write failing in turn, a source without
+// end and an image that was cut, `adapters` readers and writers of the standard library,
 // `workers` a gate that holds threads, and `runs` how they all run.
 #![tactic(auto)]
 
@@ -24,6 +25,8 @@ mod defects;
 mod entries;
 #[cfg(test)]
 mod faults;
+#[cfg(test)]
+mod hostile;
 #[cfg(test)]
 mod images;
 #[cfg(test)]

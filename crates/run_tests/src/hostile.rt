@@ -1,0 +1,146 @@
+// Hostile use: an image that was cut or patched, ends that give and take one byte at a time and then fail, and a source
+// that never ends. `pools` and `defects` have more images that are refused, `faults` and `adapters` more ends that fail.
+ghost use Rattle.std.specs.Prelude.{None};
+
+use crate::images::{both_tell, put};
+use crate::runs::{ends, ends_and_writes};
+use nvheap::{Failed, MemSink, ReadSource, Source, Status, SureSource};
+use std::io;
+use std::io::Read;
+use std::test::Fail;
+
+const TRACE: &str = "pool 1 16\n0 0 m 5 100\n";
+
+const REPORT: &str = "arena 0 calls 1\n0 m 5 100 placed 67584 112\nheap 1\n5 67584 112\n";
+
+// The first so many bytes of the image that a call leaves. Below 64 there is no header to say how many there must be.
+#[test]
+fn a_cut_image(rt: HostRuntime) -> Result<(), Fail> {
+    let (_, image) = ends_and_writes(&rt, rt.alloc(), "image", TRACE.as_bytes())?;
+    assert_eq!(rt; image.len(), 262_144);
+    let rows = [
+        (0, "bad length 0 64\n"),
+        (1, "bad length 1 64\n"),
+        (63, "bad length 63 64\n"),
+        (64, "bad length 64 262144\n"),
+        (65, "bad length 65 262144\n"),
+        (65536, "bad length 65536 262144\n"),
+        (262143, "bad length 262143 262144\n"),
+    ];
+    for (size, line) in rows {
+        let front = image.get(..size).unwrap_or(&[]);
+        both_tell(&rt, rt.alloc(), "a front", front, 2, line, line)?;
+    }
+    Ok(())
+}
+
+// The image of two arenas without a block: its first half alone, arena 0 twice, and no chunk in arena 1's directory.
+#[test]
+fn a_patched_image(rt: HostRuntime) -> Result<(), Fail> {
+    let (_, image) = ends_and_writes(&rt, rt.alloc(), "image", b"pool 2 16\n")?;
+    assert_eq!(rt; image.len(), 524_288);
+    let first = image.get(..262_144).unwrap_or(&[]);
+    let line = "bad length 262144 524288\n";
+    both_tell(&rt, rt.alloc(), "one of two", first, 2, line, line)?;
+
+    let mut twice = image.to_vec(rt.alloc())?;
+    put(&mut twice, 262_144, first);
+    let line = "arena 1 bad header 1 563018672898049\n";
+    both_tell(&rt, rt.alloc(), "arena 0 twice", &twice, 2, line, line)?;
+
+    let mut none = image.to_vec(rt.alloc())?;
+    put(&mut none, 262_160, &[0]);
+    let line = "arena 1 bad directory 0\n";
+    both_tell(&rt, rt.alloc(), "no chunk", &none, 2, line, line)
+}
+
+// Gives its bytes one at a time. The read with this number, counted from 1, fails.
+#[derive(Drop)]
+struct Dripping<'a> {
+    bytes: &'a [u8],
+    fails: usize,
+    reads: usize,
+}
+
+impl Read for Dripping<'_> {
+    fn read(&mut self, into: &mut [u8]) -> io::Result<usize> {
+        self.reads = self.reads.saturating_add(1);
+        if self.reads == self.fails {
+            return Err(io::Error::from(io::ErrorKind::Other));
+        }
+        let most = into.len().min(1);
+        self.bytes.read(&mut into[..most])
+    }
+}
+
+// Each read of the trace fails in turn, the one that finds its end too; then none does.
+#[test]
+fn each_read_fails(rt: HostRuntime) -> Result<(), Fail> {
+    let reads = TRACE.len() + 1;
+    for fails in 1..reads + 2 {
+        let mut source = ReadSource::new(Dripping {
+            bytes: TRACE.as_bytes(),
+            fails,
+            reads: 0,
+        });
+        let mut sink = MemSink::new(rt.alloc(), &[], usize::MAX);
+        let status = ends(&rt, rt.alloc(), "replay", &mut source, &mut sink)?;
+        if fails <= reads {
+            assert_eq!(rt; status, Status::ReadFault, "read {fails}");
+            assert_eq!(rt; sink.bytes().len(), 0, "read {fails}");
+        } else {
+            assert_eq!(rt; status, Status::Done, "no read");
+            assert_eq!(rt; sink.bytes(), REPORT.as_bytes(), "no read");
+        }
+    }
+    Ok(())
+}
+
+// The sink takes a byte at each write. Each write of the report fails in turn, and the bytes before it are taken.
+#[test]
+fn each_write_fails(rt: HostRuntime) -> Result<(), Fail> {
+    for taken in 0..REPORT.len() {
+        let mut source = SureSource::new(TRACE.as_bytes());
+        let failing = [taken as u64];
+        let mut sink = MemSink::new(rt.alloc(), &failing, 1);
+        let status = ends(&rt, rt.alloc(), "replay", &mut source, &mut sink)?;
+        assert_eq!(rt; status, Status::WriteFault, "behind {taken}");
+        let front = REPORT.as_bytes().get(..taken).unwrap_or(&[]);
+        assert_eq!(rt; sink.bytes(), front, "behind {taken}");
+    }
+    Ok(())
+}
+
+// One byte without end, which tells nothing of what it has, and counts what it gave.
+#[derive(Drop)]
+struct Endless {
+    byte: u8,
+    given: usize,
+}
+
+impl Source for Endless {
+    ghost left = { λ _. None };
+
+    ghost faults = { λ _. 0 };
+
+    fn read(&mut self, into: &mut [u8]) -> Result<usize, Failed> {
+        into.fill(self.byte);
+        self.given = self.given.saturating_add(into.len());
+        Ok(into.len())
+    }
+}
+
+// It is read one byte past what an input may have, and no further.
+#[test]
+fn a_source_without_end(rt: HostRuntime) -> Result<(), Fail> {
+    let rows = [("replay", b'\n', 67_108_865), ("check", 0, 268_435_457)];
+    for (line, byte, read) in rows {
+        let mut source = Endless { byte, given: 0 };
+        let mut sink = MemSink::new(rt.alloc(), &[], usize::MAX);
+        let status = ends(&rt, rt.alloc(), line, &mut source, &mut sink)?;
+        assert_eq!(rt; status, Status::TooLong, "{line}");
+        assert_eq!(rt; source.given, read, "{line}");
+        assert_eq!(rt; sink.bytes().len(), 0, "{line}");
+    }
+    Ok(())
+}
