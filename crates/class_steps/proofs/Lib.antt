@@ -1,0 +1,3 @@
+pub mod DressedTables
+pub mod ClassTables
+pub mod ClassImages
