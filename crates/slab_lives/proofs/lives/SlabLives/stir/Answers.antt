@@ -1,0 +1,12 @@
+use Rattle.std.proofs.Common.{None, ap, ◌∙◌}
+use Rattle.heap_model.specs.Machine.{with_key}
+use Rattle.slab_lives.specs.Lives.{Lives, calm_at}
+use Rattle.slab_lives.proofs.Counted.{class_with, calm_at-is, classes_with}
+use Rattle.slab_lives.proofs.lives.SlabLives.stir.Goals as goal
+
+pub returns-clause-calm : goal.returns-clause-calm
+returns-clause-calm c s =
+    calm_at-is c.self.inside.counts c.remove.new.self s
+    ∙ class_with c.self.inside.calm c.remove.new.self c.args.start None c.remove.ensures.calm s
+    ∙ classes_with c.self.inside.counts c.self.inside.calm c.args.start None s
+    ∙ ap (λ (l : Lives). with_key (calm_at l) c.args.start None s) c.self.view_is
