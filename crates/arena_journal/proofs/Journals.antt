@@ -7,9 +7,10 @@ use Rattle.heap_model.specs.declared.call.Call.{Call}
 use Rattle.heap_model.specs.declared.call.Call.TheVariants.{Malloc, Free, Write, Read, Move}
 use Rattle.heap_model.specs.declared.call.Reply.{Reply}
 use Rattle.heap_model.specs.declared.call.Entry.{Entry}
-use Rattle.heap_model.specs.Policy.{plain}
+use Rattle.heap_model.specs.Policy.{without_morphs}
 use Rattle.heap_model.specs.Machine.{Bounds, Machine}
-use Rattle.heap_model.specs.Placement.{bare, IsPlacedStep}
+use Rattle.heap_model.specs.Placement.{PlacedState, IsPlacedStep}
+use Rattle.thread_cache.specs.Stacks.{stacks_of}
 use Rattle.heap_model.specs.Journal.{Leads, IsPlacedEntry}
 use Rattle.heap_check.specs.Image.{bounds_of, IsExactImage}
 use Rattle.heap_check.specs.State.{HasState}
@@ -101,8 +102,11 @@ behind_none a ready exact =
 
 -- a call more
 module _ (o : Opening) (journal : List Entry) (old new : ArenaState) (e : Entry) (held : IsBehind o journal old) (answered : HasAnswered e.seat old new e.call e.reply) where
-  found : (next : Machine) × IsPlacedStep plain (bounds_of (opening_words o)) e.seat (bare held.machine) e.call e.reply (bare next) × HasState (words_of new.device) next
-  found = let f = answered.step.each held.machine held.state in (f.0, subst (λ (b : Bounds). IsPlacedStep plain b e.seat (bare held.machine) e.call e.reply (bare f.0)) held.bounds f.1, f.2)
+  abbrev placed : ArenaState → Machine → PlacedState
+  placed a m = record { machine = m; stacks = stacks_of a.stacks }
+
+  found : (next : Machine) × IsPlacedStep without_morphs (bounds_of (opening_words o)) e.seat (placed old held.machine) e.call e.reply (placed new next) × HasState (words_of new.device) next
+  found = let f = answered.step.each held.machine held.state in (f.0, subst (λ (b : Bounds). IsPlacedStep without_morphs b e.seat (placed old held.machine) e.call e.reply (placed new f.0)) held.bounds f.1, f.2)
 
   words : words_of new.device ≡ words_along (opening_words o) o.next_line (journal ++ e ∷ [])
   words =
@@ -115,7 +119,7 @@ module _ (o : Opening) (journal : List Entry) (old new : ArenaState) (e : Entry)
   behind_by : new.device.begins ≡ risen o.begins (begun_by (journal ++ e ∷ [])) → IsUntouched o (journal ++ e ∷ []) new ⊎ IsBehindCall o (journal ++ e ∷ []) new → IsBehind o (journal ++ e ∷ []) new
   behind_by begins last = record {
     machine = found.0;
-    leads = leads_more (IsPlacedEntry plain (bounds_of (opening_words o))) _ (bare held.machine) (bare found.0) journal e held.leads found.1;
+    leads = leads_more (IsPlacedEntry without_morphs (bounds_of (opening_words o))) _ (placed old held.machine) (placed new found.0) journal e held.leads found.1;
     state = found.2;
     apart = law_of_exact_state (words_of new.device) found.0 answered.exact found.2;
     ready = answered.ready;
@@ -147,6 +151,7 @@ module _ (o : Opening) (journal : List Entry) (old new : ArenaState) (e : Entry)
       begins = begins;
       none = refl;
       machine = held.machine;
+      stacks = stacks_of old.stacks;
       leads = held.leads;
       exact = subst IsExactImage base answered.was_exact;
       state = subst (λ (words : List ℕ). HasState words held.machine) base held.state;
@@ -181,6 +186,7 @@ module _ (o : Opening) (journal : List Entry) (old new : ArenaState) (e : Entry)
       begins = c.begins;
       none = still_read c.reads ∙ c.none;
       machine = c.machine;
+      stacks = c.stacks;
       leads = c.leads;
       exact = c.exact;
       state = c.state;
@@ -209,7 +215,7 @@ pub behind_still : (o : Opening) (now : ArenaState) → IsBehind o [] now → op
 behind_still o now h = untouched o now h.last
 
 pub behind_legal : (o : Opening) (journal : List Entry) (now : ArenaState) → IsBehind o journal now → IsLegal o journal
-behind_legal o journal now h = (bare h.machine, h.leads)
+behind_legal o journal now h = (record { machine = h.machine; stacks = stacks_of now.stacks }, h.leads)
 
 -- the same of an entry that tells of its seat and its call
 pub behind_answered : (o : Opening) (journal : List Entry) (old new : ArenaState) (seat : ℕ) (call : Call) (e : Entry) → IsBehind o journal old → e.seat ≡ seat → e.call ≡ call →

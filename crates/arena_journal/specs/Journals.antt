@@ -8,7 +8,8 @@ use Rattle.heap_model.specs.declared.call.Call.TheVariants.{Malloc, Free, Write,
 use Rattle.heap_model.specs.declared.call.Reply.{Reply}
 use Rattle.heap_model.specs.declared.call.Entry.{Entry}
 use Rattle.heap_model.specs.Machine.{Machine, IsOverlapFree}
-use Rattle.heap_model.specs.Placement.{bare}
+use Rattle.heap_model.specs.Placement.{Stacks}
+use Rattle.thread_cache.specs.Stacks.{stacks_of}
 use Rattle.heap_check.specs.Image.{bounds_of, IsExactImage}
 use Rattle.heap_check.specs.State.{HasState}
 use Rattle.arena_core.specs.Arena.{ArenaState}
@@ -22,20 +23,12 @@ use Rattle.arena_lock.specs.Legality.{opening_words, LeadsTo}
 
 -- an arena as the state that a journal begins at, and back
 abbrev pub opened : ArenaState → Opening
-opened a = record { base = a.device.base; events = a.device.events; room = a.device.room; begins = a.device.begins; made = a.device.made; next_line = a.line }
+opened a = record { base = a.device.base; events = a.device.events; room = a.device.room; begins = a.device.begins; made = a.device.made; next_line = a.line; stacks = a.stacks.lists }
 
 abbrev pub arena_of : Opening → ArenaState
-arena_of o = record { device = record { base = o.base; events = o.events; room = o.room; begins = o.begins; made = o.made }; line = o.next_line }
+arena_of o = record { device = record { base = o.base; events = o.events; room = o.room; begins = o.begins; made = o.made }; line = o.next_line; stacks = record { lists = o.stacks } }
 
 -- calls
-
--- an arena serves these calls: all but a Move
-abbrev pub IsServed : Call → Type 0
-IsServed (Malloc root size) = Unit {0}
-IsServed (Free root) = Unit {0}
-IsServed (Write root index word) = Unit {0}
-IsServed (Read root index) = Unit {0}
-IsServed (Move from to) = ⊥
 
 -- the call begins one on the memory: all but a Read do
 abbrev pub begins_call : Call → Bool
@@ -69,7 +62,8 @@ pub record IsUntouched (o : Opening) (journal : List Entry) (now : ArenaState) :
 
 -- The memory went through the last call that is no Read: its base is exact, with the state that the entries before lead
 -- to, and its events are that call's, at the write-ahead line that those entries lead to. A crash within it leaves what one
--- within such a call leaves: the heap before it or after it, and of a Write each word old or new.
+-- within such a call leaves: the heap before it or after it, of a Write each word old or new, and of a Move its entry may be
+-- open.
 pub record IsBehindCall (o : Opening) (journal : List Entry) (now : ArenaState) : Type 0 where
   pub before : List Entry
   pub entry : Entry
@@ -78,18 +72,19 @@ pub record IsBehindCall (o : Opening) (journal : List Entry) (now : ArenaState) 
   pub begins : begins_call entry.call ≡ true
   pub none : begun_by reads ≡ 0
   pub machine : Machine
-  pub leads : LeadsTo o before (bare machine)
+  pub stacks : Stacks
+  pub leads : LeadsTo o before (record { machine = machine; stacks = stacks })
   pub exact : IsExactImage now.device.base
   pub state : HasState now.device.base machine
   pub events : now.device.events ≡ call_events now.device.base (line_behind o.next_line before) entry.call entry.reply
   pub crash : CrashOnly now.device.base now.device.events (IsLeftBy entry.call now.device.base (words_of now.device))
 
--- The journal leads from the opening to the arena as it is: to its blocks, slabs and words, with all stacks empty, to its
--- write-ahead line, to its words, word for word, and to its count of begun calls. No two blocks overlap, and the memory is quiet and exact. Base and
--- events are those of the last call that is no Read, or those of the opening.
+-- The journal leads from the opening to the arena as it is: to its blocks, slabs and words, with its stacks beside them, to
+-- its write-ahead line, to its words, word for word, and to its count of begun calls. No two blocks overlap, and the memory
+-- is quiet and exact. Base and events are those of the last call that is no Read, or those of the opening.
 pub record IsBehind (o : Opening) (journal : List Entry) (now : ArenaState) : Type 0 where
   pub machine : Machine
-  pub leads : LeadsTo o journal (bare machine)
+  pub leads : LeadsTo o journal (record { machine = machine; stacks = stacks_of now.stacks })
   pub state : HasState (words_of now.device) machine
   pub apart : IsOverlapFree (bounds_of (words_of now.device)) machine
   pub ready : IsReady now.device
@@ -121,11 +116,11 @@ HasDone old new (Write root index word) reply = HasBegun old new (Write root ind
 HasDone old new (Read root index) reply = HasRead old new root index reply
 HasDone old new (Move from to) reply = HasBegun old new (Move from to) reply
 
--- From an exact image the arena answered a call of a seat: a step of the machine, by which every other block keeps its
--- words, and of a written one every other word stays. A call that is no Read began one on the memory, and has exactly its
--- events; a Read leaves the whole arena as it was.
+-- From an exact image the arena answered a call of a seat: a step of the machine, with the stacks before it and behind it,
+-- by which every other block keeps its words, and of a written one every other word stays. A call that is no Read began one
+-- on the memory, and has exactly its events; a Read leaves the whole arena as it was.
 pub record HasAnswered (seat : ℕ) (old new : ArenaState) (call : Call) (reply : Reply) : Type 0 where
-  pub step : IsStepOf seat (words_of old.device) (words_of new.device) call reply
+  pub step : IsStepOf seat (words_of old.device) (stacks_of old.stacks) (words_of new.device) (stacks_of new.stacks) call reply
   pub done : HasDone old new call reply
   pub line : new.line ≡ line_after old.line reply
   pub keeps : KeepsUnwritten call (words_of old.device) (words_of new.device)

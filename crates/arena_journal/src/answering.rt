@@ -1,9 +1,11 @@
 // One call of an arena, as an entry of its journal.
 ghost use Rattle.std.specs.Prelude.{◌≡◌, ◌<◌};
-ghost use Rattle.arena_core.specs.Answer.{malloc_reply, free_reply, write_reply, read_reply, block_refusal};
-ghost use Rattle.arena_journal.specs.Journals.{IsServed, HasAnswered};
+ghost use Rattle.arena_core.specs.Answer.{malloc_reply, free_reply, move_reply, write_reply, read_reply, block_refusal};
+ghost use Rattle.arena_journal.specs.Journals.{HasAnswered};
 
-use arena_core::{Arena, BlockRefusal, FreeRefusal, Freed, MallocRefusal, Placed};
+use arena_core::{
+    Arena, BlockRefusal, FreeRefusal, Freed, MallocRefusal, MoveRefusal, Moved, Placed,
+};
 use heap_model::{Call, Entry, Reply};
 use pmem_lines::Pmem;
 
@@ -11,7 +13,6 @@ use pmem_lines::Pmem;
 /// block's view. It takes no memory.
 pub fn answer<P: Pmem>(arena: &mut Arena<P>, seat: u32, call: Call) -> Entry
     requires seat { seat < 64 }
-    requires served { IsServed call }
     ensures seat { result.seat ≡ seat }
     ensures call { result.call ≡ call }
     ensures answered { HasAnswered seat arena.old arena.new call result.reply }
@@ -21,7 +22,7 @@ pub fn answer<P: Pmem>(arena: &mut Arena<P>, seat: u32, call: Call) -> Entry
         Call::Free { root } => free_reply(arena.free_from(seat, root)),
         Call::Write { root, index, value } => write_reply(arena.write(root, index, &[value])),
         Call::Read { root, index } => read_reply(arena.view(root), index),
-        Call::Move { .. } => unreachable!(),
+        Call::Move { from, to } => move_reply(arena.move_to(from, to)),
     };
     Entry { seat, call, reply }
 }
@@ -54,6 +55,21 @@ fn free_reply(answered: Result<Freed, FreeRefusal>) -> Reply
         },
         Err(FreeRefusal::NoRoot) => Reply::NoRoot,
         Err(FreeRefusal::Empty) => Reply::Empty,
+    }
+}
+
+// The machine's word for the answer to a move.
+fn move_reply(answered: Result<Moved, MoveRefusal>) -> Reply
+    ensures { result ≡ move_reply answered }
+{
+    match answered {
+        Ok(moved) => Reply::Moved {
+            at: moved.at,
+            size: moved.size,
+        },
+        Err(MoveRefusal::NoRoot) => Reply::NoRoot,
+        Err(MoveRefusal::Empty) => Reply::Empty,
+        Err(MoveRefusal::Occupied { at }) => Reply::Occupied { at },
     }
 }
 

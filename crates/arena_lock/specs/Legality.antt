@@ -6,9 +6,10 @@ use Rattle.pmem_lines.specs.Events.{reading}
 use Rattle.image_tables.specs.Tables.{tables_of}
 use Rattle.heap_model.specs.declared.call.Entry.{Entry}
 use Rattle.heap_model.specs.Machine.{Machine}
-use Rattle.heap_model.specs.Policy.{plain}
-use Rattle.heap_model.specs.Placement.{PlacedState, bare}
+use Rattle.heap_model.specs.Policy.{without_morphs}
+use Rattle.heap_model.specs.Placement.{PlacedState}
 use Rattle.heap_model.specs.Journal.{Leads, IsPlacedEntry}
+use Rattle.thread_cache.specs.Stacks.{stacks_of}
 use Rattle.heap_check.specs.Heap.{heap, slabs}
 use Rattle.heap_check.specs.Image.{bounds_of}
 use Rattle.arena_lock.specs.declared.opening.Opening.{Opening}
@@ -21,9 +22,13 @@ opening_words o = reading o.base o.events
 abbrev pub machine_in : List ℕ → Machine
 machine_in words = record { block = heap (tables_of words); slab = slabs (tables_of words); value = λ root index. None }
 
--- the entries lead from the opening, with all stacks empty, to a state, and each block is given where the placement says
+-- the state that the arena had, with its stacks
+abbrev pub opening_state : Opening → PlacedState
+opening_state o = record { machine = machine_in (opening_words o); stacks = stacks_of (record { lists = o.stacks }) }
+
+-- the entries lead from the opening to a state, and each block is given where the placement says
 abbrev pub LeadsTo : Opening → List Entry → PlacedState → Type 0
-LeadsTo o entries last = Leads (IsPlacedEntry plain (bounds_of (opening_words o))) (bare (machine_in (opening_words o))) entries last
+LeadsTo o entries last = Leads (IsPlacedEntry without_morphs (bounds_of (opening_words o))) (opening_state o) entries last
 
 -- a legal journal: it leads somewhere
 abbrev pub IsLegal : Opening → List Entry → Type 0
@@ -31,4 +36,4 @@ IsLegal o entries = (last : PlacedState) × LeadsTo o entries last
 
 -- the opening of a memory without words
 abbrev pub no_opening : Opening
-no_opening = record { base = []; events = []; room = 0; begins = 0; made = 0; next_line = 0 }
+no_opening = record { base = []; events = []; room = 0; begins = 0; made = 0; next_line = 0; stacks = [] }

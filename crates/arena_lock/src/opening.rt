@@ -2,8 +2,8 @@
 use pmem_lines::Event;
 use std::collections::LinkedList;
 
-/// An arena when its journal was empty: what its memory was, and where its next write-ahead entry goes. No value of it is
-/// made: contracts alone speak of it.
+/// An arena when its journal was empty: what its memory was, where its next write-ahead entry goes, and the stacks of
+/// reserved blocks. No value of it is made: contracts alone speak of it.
 pub struct Opening {
     /// The words of the memory when a call last began on it.
     pub base: LinkedList<u64>,
@@ -17,4 +17,7 @@ pub struct Opening {
     pub made: u64,
     /// The write-ahead line of the next entry, 0 to 7.
     pub next_line: u32,
+    /// The stacks of reserved blocks, one after another: 64 of seats for each class, and of each the addresses, the top one
+    /// first.
+    pub stacks: LinkedList<LinkedList<u32>>,
 }

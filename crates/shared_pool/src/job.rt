@@ -2,7 +2,7 @@
 ghost use Rattle.std.specs.Prelude.{◌≡◌, ◌<◌, IfOk, OnErr};
 ghost use Rattle.arena_lock.specs.Journal.{Grows};
 ghost use Rattle.arena_lock.specs.Legality.{IsLegal};
-ghost use Rattle.arena_journal.specs.Journals.{IsServed, HasAnswered};
+ghost use Rattle.arena_journal.specs.Journals.{HasAnswered};
 ghost use Rattle.shared_pool.specs.Value.{Receives};
 
 use crate::value::PoolArena;
@@ -29,18 +29,16 @@ impl<P: Pmem> Job<PoolArena<P>> for PoolJob {
     type Out = Result<Receipt, OutOfMemory>;
 
     ghost use Rattle.std.specs.Prelude.{◌<◌};
-    ghost use Rattle.arena_journal.specs.Journals.{IsServed};
     ghost use Rattle.shared_pool.specs.Value.{Receives};
 
     ghost number = { λ j. j.seat };
 
-    ghost allowed = { λ j. (j.seat < 64) × IsServed j.call };
+    ghost allowed = { λ j. j.seat < 64 };
 
     ghost relation = { λ j before after out. Receives j.seat j.call before after out };
 
     fn run(self, value: &mut PoolArena<P>) -> Result<Receipt, OutOfMemory>
         requires seat { self.seat < 64 }
-        requires served { IsServed self.call }
         ensures opening { value.new.opening ≡ value.old.opening }
         ensures journal { Grows self.seat value.old.journal value.new.journal }
         ensures legal { IsLegal value.new.opening value.new.journal }
@@ -63,12 +61,11 @@ impl<P: Pmem> Job<PoolArena<P>> for Counted {
     type Out = (Result<Receipt, OutOfMemory>, u64);
 
     ghost use Rattle.std.specs.Prelude.{◌≡◌, ◌<◌, length};
-    ghost use Rattle.arena_journal.specs.Journals.{IsServed};
     ghost use Rattle.shared_pool.specs.Value.{Receives};
 
     ghost number = { λ j. j.job.seat };
 
-    ghost allowed = { λ j. (j.job.seat < 64) × IsServed j.job.call };
+    ghost allowed = { λ j. j.job.seat < 64 };
 
     ghost relation = { λ j before after out. Receives j.job.seat j.job.call before after out.0 × (out.1 ≡ length after) };
 

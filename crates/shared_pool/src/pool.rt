@@ -2,7 +2,7 @@
 ghost use Rattle.std.specs.Prelude.{◌≡◌, ◌≤◌, ◌<◌, map, length, IfOk, IfErr};
 ghost use Rattle.heap_model.specs.declared.call.Call.TheVariants as calls;
 ghost use Rattle.arena_lock.specs.Known.{Lock, after_read};
-ghost use Rattle.arena_journal.specs.Journals.{opened, IsServed};
+ghost use Rattle.arena_journal.specs.Journals.{opened};
 ghost use Rattle.shared_pool.specs.Passes.{PassState, IsPassOf, part_at, with_part, seen_at, fresh_passes, Called, Refused, Declined};
 ghost use Rattle.shared_pool.specs.Closed.{AllFitLocks, HasAll, AllClosed};
 ghost use Rattle.shared_pool.specs.Rows.{each_of, SameAnswer};
@@ -195,6 +195,28 @@ impl<P: Pmem> SharedPool<P> {
         self.call(rt, pass, arena, Call::Read { root, index })
     }
 
+    /// Moves the block of root `from` of an arena to root `to`, with its words; the block keeps its place. It takes its turn
+    /// as `malloc_to` does.
+    pub fn move_to<R: Wait>(
+        &self,
+        rt: &R,
+        _alloc: Global,
+        pass: &mut Pass,
+        arena: u32,
+        from: u32,
+        to: u32,
+    ) -> Result<Receipt, OutOfMemory>
+        requires pass { IsPassOf self.now pass.old }
+        requires arena { arena < length self.now.locks }
+        requires left { 0 < (part_at pass.old arena).turns }
+        ensures pass { IsPassOf self.now pass.new }
+        ensures number { pass.new.number ≡ pass.old.number }
+        ensures called { IfOk result (λ r. Called arena (calls.Move from to) pass.old pass.new r) }
+        ensures refused { IfErr result (λ _. Refused arena pass.old pass.new) }
+    {
+        self.call(rt, pass, arena, Call::Move { from, to })
+    }
+
     // One journal call, whichever it is.
     fn call<R: Wait>(
         &self,
@@ -206,7 +228,6 @@ impl<P: Pmem> SharedPool<P> {
         requires pass { IsPassOf self.now pass.old }
         requires arena { arena < length self.now.locks }
         requires left { 0 < (part_at pass.old arena).turns }
-        requires served { IsServed call }
         ensures pass { IsPassOf self.now pass.new }
         ensures number { pass.new.number ≡ pass.old.number }
         ensures called { IfOk result (λ r. Called arena call pass.old pass.new r) }
@@ -270,7 +291,6 @@ impl<P: Pmem> SharedPool<P> {
         requires pass { IsPassOf self.now pass.old }
         requires arena { arena < length self.now.locks }
         requires left { 0 < (part_at pass.old arena).turns }
-        requires served { IsServed call }
         ensures pass { IsPassOf self.now pass.new }
         ensures number { pass.new.number ≡ pass.old.number }
         ensures called { IfOk result (λ r. Called arena call pass.old pass.new r) }

@@ -1,7 +1,7 @@
 // The value behind an arena's lock.
 ghost use Rattle.std.specs.Prelude.{◌≡◌, [], ◌<◌, IfOk, OnErr};
 ghost use Rattle.arena_lock.specs.Legality.{IsLegal};
-ghost use Rattle.arena_journal.specs.Journals.{opened, IsBehind, IsServed, HasAnswered};
+ghost use Rattle.arena_journal.specs.Journals.{opened, IsBehind, HasAnswered};
 ghost use Rattle.shared_pool.specs.Value.{Held, Receives};
 
 use crate::job::Receipt;
@@ -75,7 +75,6 @@ impl<P: Pmem> PoolArena<P> {
     /// before the arena is touched; on want of memory all stays.
     pub(crate) fn receive(&mut self, seat: u32, call: Call) -> Result<Receipt, OutOfMemory>
         requires seat { seat < 64 }
-        requires served { IsServed call }
         ensures opening { self.new.opening ≡ self.old.opening }
         ensures receives { Receives seat call self.old.journal self.new.journal result }
         ensures answered { IfOk result (λ r. HasAnswered seat self.old.now self.new.now call r.entry.reply) }

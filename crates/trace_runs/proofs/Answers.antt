@@ -5,32 +5,22 @@ use Rattle.std.proofs.Math.Seq.{take-suc}
 use Rattle.std.specs.List.{All}
 use Rattle.pmem_lines.specs.Pmem.{words_of}
 use Rattle.pool_layout.specs.declared.header.PoolHeader.{PoolHeader}
-use Rattle.heap_model.specs.declared.call.Call.{Call}
-use Rattle.heap_model.specs.declared.call.Call.TheVariants.{Malloc, Free, Write, Read, Move}
 use Rattle.heap_model.specs.declared.call.Entry.{Entry}
 use Rattle.heap_check.specs.Image.{IsExactImage}
 use Rattle.arena_core.specs.Arena.{ArenaState}
 use Rattle.arena_core.specs.Call.{IsReady}
-use Rattle.arena_journal.specs.Journals.{opened, IsServed, HasAnswered}
+use Rattle.arena_journal.specs.Journals.{opened, HasAnswered}
 use Rattle.arena_journal.proofs.Journals.{behind_none, behind_answered}
 use Rattle.trace_text.specs.declared.call.TraceCall.{TraceCall}
-use Rattle.trace_text.specs.Grammar.{IsAsked, IsTraceCall}
+use Rattle.trace_text.specs.Grammar.{IsTraceCall}
 use Rattle.trace_runs.specs.Arenas.{IsNewArena}
 use Rattle.trace_runs.specs.Calls.{calls_of, CanBeMade, AreAnswers, HasMadeAll}
 use Rattle.trace_runs.specs.Journals.{HasRun}
 use Rattle.trace_runs.proofs.Journals.{HasRun-behind}
 
--- a call that a trace asks for is one that arenas serve
-pub served : (call : Call) → IsAsked call → IsServed call
-served (Malloc root size) asked = tt
-served (Free root) asked = tt
-served (Write root index value) asked = tt
-served (Read root index) asked = tt
-served (Move from to) asked = absurd asked
-
 -- each call of a trace can be made
 pub All-made : (arenas : ℕ) (calls : List TraceCall) → All (IsTraceCall arenas) calls → All CanBeMade calls
-All-made arenas calls valid k d here = let one = valid k d here in (one.thread, one.asked)
+All-made arenas calls valid k d here = let one = valid k d here in one.thread
 
 -- the calls of an arena, one call of a trace further
 

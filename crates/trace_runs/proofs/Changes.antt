@@ -1,6 +1,6 @@
 -- What a call changes of the heap, and how an image that a crash within it leaves is read.
-use Rattle.std.proofs.Common.{◌≡◌, ◌≢◌, ◌⊎◌, ℕ, ◌<◌, ◌≤◌, ◌^◌, Bool, true, false, IsTrue, List, length, Option, Some, None, if◌then◌else◌, sym, ap, ◌∙◌, refl, arith, subst, ⊎_elim}
-use Rattle.std.proofs.lemmas.Bool.{cond-true, cond-false, eq-eqb, ne_eqb, cases_eq}
+use Rattle.std.proofs.Common.{◌≡◌, ◌≢◌, ◌⊎◌, ℕ, ◌<◌, ◌≤◌, ◌^◌, Bool, true, false, IsTrue, List, length, Option, Some, None, if◌then◌else◌, sym, ap, ◌∙◌, refl, arith, subst, ⊎_elim, inr}
+use Rattle.std.proofs.lemmas.Bool.{cond-true, cond-false, eq-eqb, ne_eqb, cases_eq, cases_lt}
 use Rattle.pmem_lines.specs.Words.{word_at}
 use Rattle.pool_layout.specs.Layout.{layout_of, IsLayout}
 use Rattle.pool_layout.specs.Places.{root_word}
@@ -12,13 +12,13 @@ use Rattle.heap_model.specs.declared.call.Call.{Call}
 use Rattle.heap_model.specs.declared.call.Reply.{Reply}
 use Rattle.heap_model.specs.declared.call.Reply.TheVariants.{Placed, Freed, Wrote, Value, Moved, NoRoot, Occupied, Empty, ZeroSize, TooLarge, OutOfRange, NoSpace}
 use Rattle.heap_model.specs.Machine.{Bounds, Range, Machine, with_key}
-use Rattle.heap_model.specs.Policy.{plain}
-use Rattle.heap_model.specs.Step.{root_of, IsStep}
+use Rattle.heap_model.specs.Policy.{Policy, without_morphs}
+use Rattle.heap_model.specs.Placement.{Stacks}
+use Rattle.heap_model.specs.Step.{HasBlock, root_of, IsStep}
 use Rattle.heap_model.proofs.Outcomes.{IsGift, IsLoss, gift, loss, outcome}
 use Rattle.heap_model.proofs.Outcomes.Outcome.{Stayed, Given, Taken, Written, Passed}
 use Rattle.heap_model.specs.declared.call.Call.TheVariants.{Malloc, Free, Write, Read, Move}
 use Rattle.trace_text.specs.declared.call.CrashSide.TheVariants.{Same}
-use Rattle.trace_text.specs.Grammar.{IsAsked}
 use Rattle.heap_model.proofs.Maps.{with_key-here}
 use Rattle.heap_check.specs.Heap.{heap, slabs, size_at}
 use Rattle.heap_check.specs.Image.{bounds_of, IsFormed, IsExactImage}
@@ -51,41 +51,108 @@ heap_with : (new : List ℕ) (next : Machine) (map : ℕ → Option Range) (key 
     (root : ℕ) → heap (tables_of new) root ≡ with_key map key value root
 heap_with new next map key value state after root = state.blocks root ∙ ap (λ (f : ℕ → Option Range). f root) after
 
--- a call whose reply is a block that was given or taken changes the heap at its root
-pub IsChange-step : (seat : ℕ) (old new : List ℕ) (call : Call) (reply : Reply) → IsExactImage old → IsStepOf seat old new call reply → ChangesHeap reply → IsChange old new (root_of call) (gives_block reply)
+-- a root that has no block names none
+nameless : (m : Machine) (root : ℕ) → ¬ (HasBlock m root) → m.block root ≡ None
+nameless m root none = cases (m.block root) (λ range named. none (record { range = range; named = named }))
+  where
+    cases : (block : Option Range) → ((range : Range) → block ≡ Some range → ⊥) → block ≡ None
+    cases None past = refl
+    cases (Some range) past = absurd (past range refl)
+
+-- a block came to a root that had none
+pub record IsArrival (b : Bounds) (m : Machine) (root : ℕ) (range : Range) (next : Machine) : Type 0 where
+  pub below : root < b.roots
+  pub none : m.block root ≡ None
+  pub there : next.block root ≡ Some range
+
+-- a step that moved a block brought it to the call's root
+arrival : (p : Policy) (b : Bounds) (m next : Machine) (call : Call) (at size : ℕ) → IsStep p b m call (Moved at size) next → IsArrival b m (root_of call) (record { at = at; size = size }) next
+arrival p b m next (Malloc root asked) at size step = absurd (⊎_elim
+    (λ no_root. let e = no_root.1.0 in cc)
+    (λ rooted. ⊎_elim
+    (λ held. let e = held.1.0 in cc)
+    (λ bare'. ⊎_elim
+    (λ empty. let e = empty.1.0 in cc)
+    (λ some. ⊎_elim (λ large. let e = large.1.0 in cc) (λ fits. ⊎_elim (λ grant. let e = grant.is in cc) (λ lacking. let e = lacking.1.0 in cc) fits.1) some.1)
+    bare'.1)
+    rooted.1)
+    step)
+arrival p b m next (Free root) at size step =
+    absurd (⊎_elim (λ no_root. let e = no_root.1.0 in cc) (λ rooted. ⊎_elim (λ held. let e = held.1.0 in cc) (λ empty. let e = empty.1.0 in cc) rooted.1) step)
+arrival p b m next (Write root index word) at size step = absurd (⊎_elim
+    (λ no_root. let e = no_root.1.0 in cc)
+    (λ rooted. ⊎_elim (λ held. ⊎_elim (λ past. let e = past.1.0 in cc) (λ here. let e = here.1.0 in cc) held.1) (λ empty. let e = empty.1.0 in cc) rooted.1)
+    step)
+arrival p b m next (Read root index) at size step = absurd (⊎_elim
+    (λ no_root. let e = no_root.1.0 in cc)
+    (λ rooted. ⊎_elim (λ held. ⊎_elim (λ past. let e = past.1.0 in cc) (λ here. let e = here.1.1 in cc) held.1) (λ empty. let e = empty.1.0 in cc) rooted.1)
+    step)
+arrival p b m next (Move from to) at size step = ⊎_elim
+    (λ no_root. absurd (let e = no_root.1.0 in cc))
+    (λ rooted. ⊎_elim
+    (λ held. ⊎_elim
+    (λ occupied. absurd (let e = occupied.1.0 in cc))
+    (λ moved.
+    let range : Range = held.0.range in
+    let reply : Moved at size ≡ Moved range.at range.size = moved.1.0 in
+    let low : range.at ≡ at = cc in
+    let wide : range.size ≡ size = cc in
+    let given : next.block to ≡ Some range = ap (λ (n : Machine). n.block to) moved.1.1 ∙ with_key-here (with_key m.block from None) to (Some range) in
+    record {
+      below = ⊎_elim (λ less. less) (λ past. absurd (rooted.0 (inr past))) (cases_lt to b.roots);
+      none = nameless m to moved.0;
+      there = given ∙ (λ i. Some (record { at = low i; size = wide i }));
+    })
+    held.1)
+    (λ empty. absurd (let e = empty.1.0 in cc))
+    rooted.1)
+    step
+
+-- a call whose reply is a block that was given, taken or moved changes the heap at its root
+pub IsChange-step : (seat : ℕ) (old new : List ℕ) (was after : Stacks) (call : Call) (reply : Reply) → IsExactImage old → IsStepOf seat old was new after call reply → ChangesHeap reply → IsChange old new (root_of call) (gives_block reply)
 unfolding machine_of
-IsChange-step seat old new call (Placed at size) exact steps changes =
+IsChange-step seat old new was after call (Placed at size) exact steps changes =
     let m = machine_of old in
     let root = root_of call in
     let found = steps.each m (HasState-machine_of old) in
-    let gift : IsGift (bounds_of old) m root (record { at = at; size = size }) found.0 = gift plain (bounds_of old) m found.0 call at size found.1.step in
+    let gift : IsGift (bounds_of old) m root (record { at = at; size = size }) found.0 = gift without_morphs (bounds_of old) m found.0 call at size found.1.step in
     record {
       below = subst (λ v. root < (layout_of v).roots) (version-formed old exact.formed) gift.below;
       range = record { at = at; size = size };
       before = gift.none;
       after = heap_with new found.0 m.block root (Some (record { at = at; size = size })) found.2 gift.after root ∙ with_key-here m.block root (Some (record { at = at; size = size }));
     }
-IsChange-step seat old new call (Freed at size) exact steps changes =
+IsChange-step seat old new was after call (Freed at size) exact steps changes =
     let m = machine_of old in
     let root = root_of call in
     let found = steps.each m (HasState-machine_of old) in
-    let loss : IsLoss (bounds_of old) m root (record { at = at; size = size }) found.0 = loss plain (bounds_of old) m found.0 call at size found.1.step in
+    let loss : IsLoss (bounds_of old) m root (record { at = at; size = size }) found.0 = loss without_morphs (bounds_of old) m found.0 call at size found.1.step in
     record {
       below = subst (λ v. root < (layout_of v).roots) (version-formed old exact.formed) loss.below;
       range = record { at = at; size = size };
       before = loss.named;
       after = heap_with new found.0 m.block root None found.2 loss.after root ∙ with_key-here m.block root None;
     }
-IsChange-step seat old new call Wrote exact steps changes = absurd changes
-IsChange-step seat old new call (Value word) exact steps changes = absurd changes
-IsChange-step seat old new call (Moved at size) exact steps changes = absurd changes
-IsChange-step seat old new call NoRoot exact steps changes = absurd changes
-IsChange-step seat old new call (Occupied at) exact steps changes = absurd changes
-IsChange-step seat old new call Empty exact steps changes = absurd changes
-IsChange-step seat old new call ZeroSize exact steps changes = absurd changes
-IsChange-step seat old new call TooLarge exact steps changes = absurd changes
-IsChange-step seat old new call OutOfRange exact steps changes = absurd changes
-IsChange-step seat old new call NoSpace exact steps changes = absurd changes
+IsChange-step seat old new was after call Wrote exact steps changes = absurd changes
+IsChange-step seat old new was after call (Value word) exact steps changes = absurd changes
+IsChange-step seat old new was after call (Moved at size) exact steps changes =
+    let m = machine_of old in
+    let root = root_of call in
+    let found = steps.each m (HasState-machine_of old) in
+    let came : IsArrival (bounds_of old) m root (record { at = at; size = size }) found.0 = arrival without_morphs (bounds_of old) m found.0 call at size found.1.step in
+    record {
+      below = subst (λ v. root < (layout_of v).roots) (version-formed old exact.formed) came.below;
+      range = record { at = at; size = size };
+      before = came.none;
+      after = found.2.blocks root ∙ came.there;
+    }
+IsChange-step seat old new was after call NoRoot exact steps changes = absurd changes
+IsChange-step seat old new was after call (Occupied at) exact steps changes = absurd changes
+IsChange-step seat old new was after call Empty exact steps changes = absurd changes
+IsChange-step seat old new was after call ZeroSize exact steps changes = absurd changes
+IsChange-step seat old new was after call TooLarge exact steps changes = absurd changes
+IsChange-step seat old new was after call OutOfRange exact steps changes = absurd changes
+IsChange-step seat old new was after call NoSpace exact steps changes = absurd changes
 
 -- what a root holds that holds its word is read off the words
 root_is : (words : List ℕ) (root : ℕ) → IsFormed words → (tables_of words).root root ≡ (tables_of words).word root → root < (layout_of 1).roots → (tables_of words).root root ≡ word_at words (root_word root)
@@ -149,16 +216,16 @@ pub record IsWriting (old new : List ℕ) (root : ℕ) : Type 0 where
   pub same : HaveSameHeap old new
 
 -- a step that wrote is on a root word
-wrote_below : (b : Bounds) (m next : Machine) (call : Call) → IsAsked call → IsStep plain b m call Wrote next → root_of call < b.roots
-wrote_below b m next (Malloc root size) asked step = ⊎_elim (λ none. absurd (let e = none.1.0 in cc)) (λ some. omega (arith, some.0)) step
-wrote_below b m next (Free root) asked step = ⊎_elim (λ none. absurd (let e = none.1.0 in cc)) (λ some. omega (arith, some.0)) step
-wrote_below b m next (Write root index word) asked step = ⊎_elim (λ none. absurd (let e = none.1.0 in cc)) (λ some. omega (arith, some.0)) step
-wrote_below b m next (Read root index) asked step = ⊎_elim (λ none. absurd (let e = none.1.0 in cc)) (λ some. omega (arith, some.0)) step
-wrote_below b m next (Move from to) asked step = absurd asked
+wrote_below : (b : Bounds) (m next : Machine) (call : Call) → IsStep without_morphs b m call Wrote next → root_of call < b.roots
+wrote_below b m next (Malloc root size) step = ⊎_elim (λ none. absurd (let e = none.1.0 in cc)) (λ some. omega (arith, some.0)) step
+wrote_below b m next (Free root) step = ⊎_elim (λ none. absurd (let e = none.1.0 in cc)) (λ some. omega (arith, some.0)) step
+wrote_below b m next (Write root index word) step = ⊎_elim (λ none. absurd (let e = none.1.0 in cc)) (λ some. omega (arith, some.0)) step
+wrote_below b m next (Read root index) step = ⊎_elim (λ none. absurd (let e = none.1.0 in cc)) (λ some. omega (arith, some.0)) step
+wrote_below b m next (Move from to) step = ⊎_elim (λ none. absurd (let e = none.1.0 in cc)) (λ some. ⊎_elim (λ less. less) (λ past. absurd (some.0 (inr past))) (cases_lt to b.roots)) step
 
 -- and leaves the blocks
-wrote_blocks : (b : Bounds) (m next : Machine) (call : Call) → IsStep plain b m call Wrote next → next.block ≡ m.block
-wrote_blocks b m next call step = elim (outcome plain b m next Wrote call step) [
+wrote_blocks : (b : Bounds) (m next : Machine) (call : Call) → IsStep without_morphs b m call Wrote next → next.block ≡ m.block
+wrote_blocks b m next call step = elim (outcome without_morphs b m next Wrote call step) [
   | Stayed not same ↦ ap (λ (n : Machine). n.block) same
   | Given root asked is given ↦ absurd (let reply = given.grant.is in cc)
   | Taken root is taken ↦ absurd (let reply = taken.is in cc)
@@ -166,13 +233,13 @@ wrote_blocks b m next call step = elim (outcome plain b m next Wrote call step) 
   | Passed from to passed ↦ absurd (let reply = passed.is in cc)
 ]
 
-pub IsWriting-step : (seat : ℕ) (old new : List ℕ) (call : Call) → IsExactImage old → IsAsked call → IsStepOf seat old new call Wrote → IsWriting old new (root_of call)
+pub IsWriting-step : (seat : ℕ) (old new : List ℕ) (was after : Stacks) (call : Call) → IsExactImage old → IsStepOf seat old was new after call Wrote → IsWriting old new (root_of call)
 unfolding machine_of
-IsWriting-step seat old new call exact asked steps =
+IsWriting-step seat old new was after call exact steps =
     let m = machine_of old in
     let found = steps.each m (HasState-machine_of old) in
     record {
-      below = subst (λ v. root_of call < (layout_of v).roots) (version-formed old exact.formed) (wrote_below (bounds_of old) m found.0 call asked found.1.step);
+      below = subst (λ v. root_of call < (layout_of v).roots) (version-formed old exact.formed) (wrote_below (bounds_of old) m found.0 call found.1.step);
       same = record { each = λ root. found.2.blocks root ∙ ap (λ (f : ℕ → Option Range). f root) (wrote_blocks (bounds_of old) m found.0 call found.1.step) };
     }
 

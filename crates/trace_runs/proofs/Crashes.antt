@@ -22,7 +22,6 @@ use Rattle.trace_text.specs.declared.call.CrashSide.TheVariants.{Same}
 use Rattle.pool_layout.specs.Layout.{layout_of}
 use Rattle.arena_core.specs.Call.{IsStepOf}
 use Rattle.trace_text.specs.declared.call.TraceCall.{TraceCall}
-use Rattle.trace_text.specs.Grammar.{IsAsked}
 use Rattle.trace_runs.specs.Arenas.{IsNewArena}
 use Rattle.trace_runs.specs.Crash.{calls_up_to, CrashLeft, IsCrashOf, IsLeftWithin, IsSide, crash_image}
 use Rattle.trace_runs.specs.Runs.{Stage, IsRunOf}
@@ -30,18 +29,19 @@ use Rattle.trace_runs.specs.Blocks.{ChangesHeap, gives_block, side_of, side_by}
 use Rattle.trace_runs.specs.Seek.{last_stage, IsBehindEntry, IsBehindSought, IsBehindAll}
 use Rattle.trace_runs.proofs.Changes.{IsChange, IsChange-step, IsWriting, IsWriting-step, IsSide-told, IsSide-same, heap-some, heap-zero, zero_or}
 
--- of the calls that a trace may ask for, those that have events give a block, take one, or write a word
-changes_by : (words : List ℕ) (line : ℕ) (call : Call) (reply : Reply) (events : List Event) → IsAsked call → 0 < length events → events ≡ call_events words line call reply → ChangesHeap reply ⊎ (reply ≡ Wrote)
-changes_by words line (Malloc root size) (Placed at given) events asked some is = inl tt
-changes_by words line (Malloc root size) (Freed at given) events asked some is = inl tt
-changes_by words line (Malloc root size) reply events asked some is = absurd (omega (arith, some, ap length is))
-changes_by words line (Free root) (Placed at given) events asked some is = inl tt
-changes_by words line (Free root) (Freed at given) events asked some is = inl tt
-changes_by words line (Free root) reply events asked some is = absurd (omega (arith, some, ap length is))
-changes_by words line (Write root index word) Wrote events asked some is = inr refl
-changes_by words line (Write root index word) reply events asked some is = absurd (omega (arith, some, ap length is))
-changes_by words line (Read root index) reply events asked some is = absurd (omega (arith, some, ap length is))
-changes_by words line (Move from to) reply events asked some is = absurd asked
+-- calls that have events give a block, take one, move one, or write a word
+changes_by : (words : List ℕ) (line : ℕ) (call : Call) (reply : Reply) (events : List Event) → 0 < length events → events ≡ call_events words line call reply → ChangesHeap reply ⊎ (reply ≡ Wrote)
+changes_by words line (Malloc root size) (Placed at given) events some is = inl tt
+changes_by words line (Malloc root size) (Freed at given) events some is = inl tt
+changes_by words line (Malloc root size) reply events some is = absurd (omega (arith, some, ap length is))
+changes_by words line (Free root) (Placed at given) events some is = inl tt
+changes_by words line (Free root) (Freed at given) events some is = inl tt
+changes_by words line (Free root) reply events some is = absurd (omega (arith, some, ap length is))
+changes_by words line (Write root index word) Wrote events some is = inr refl
+changes_by words line (Write root index word) reply events some is = absurd (omega (arith, some, ap length is))
+changes_by words line (Read root index) reply events some is = absurd (omega (arith, some, ap length is))
+changes_by words line (Move from to) (Moved at given) events some is = inl tt
+changes_by words line (Move from to) reply events some is = absurd (omega (arith, some, ap length is))
 
 -- the call changed the heap at its root, or wrote a word and left the heap
 abbrev ChangedOrWrote : PmemState → Entry → Type 0
@@ -50,9 +50,9 @@ ChangedOrWrote device entry =
 
 changed_or_wrote : (device : PmemState) (entry : Entry) → IsBehindEntry device entry → ChangedOrWrote device entry
 changed_or_wrote device entry behind = ⊎_elim
-    (λ (changes : ChangesHeap entry.reply). inl (changes, IsChange-step entry.seat device.base (words_of device) entry.call entry.reply behind.exact behind.step changes))
-    (λ (wrote : entry.reply ≡ Wrote). inr (wrote, IsWriting-step entry.seat device.base (words_of device) entry.call behind.exact behind.asked (subst (λ (r : Reply). IsStepOf entry.seat device.base (words_of device) entry.call r) wrote behind.step)))
-    (changes_by device.base behind.line entry.call entry.reply device.events behind.asked behind.some behind.events)
+    (λ (changes : ChangesHeap entry.reply). inl (changes, IsChange-step entry.seat device.base (words_of device) behind.was behind.after entry.call entry.reply behind.exact behind.step changes))
+    (λ (wrote : entry.reply ≡ Wrote). inr (wrote, IsWriting-step entry.seat device.base (words_of device) behind.was behind.after entry.call behind.exact (subst (λ (r : Reply). IsStepOf entry.seat device.base behind.was (words_of device) behind.after entry.call r) wrote behind.step)))
+    (changes_by device.base behind.line entry.call entry.reply device.events behind.some behind.events)
 
 -- its root is one of the arena's
 pub below_behind : (device : PmemState) (entry : Entry) → IsBehindEntry device entry → root_of entry.call < (layout_of 1).roots
@@ -68,7 +68,7 @@ side_changed (Placed at size) has changes = refl
 side_changed (Freed at size) has changes = refl
 side_changed Wrote has changes = absurd changes
 side_changed (Value word) has changes = absurd changes
-side_changed (Moved at size) has changes = absurd changes
+side_changed (Moved at size) has changes = refl
 side_changed NoRoot has changes = absurd changes
 side_changed (Occupied at) has changes = absurd changes
 side_changed Empty has changes = absurd changes

@@ -7,6 +7,8 @@ use Rattle.pmem_lines.proofs.Reading.{length-reading}
 use Rattle.pool_layout.specs.Layout.{layout_of}
 use Rattle.pool_layout.specs.Header.{granules_in}
 use Rattle.heap_model.specs.Machine.{Bounds, no_heap}
+use Rattle.heap_model.specs.Placement.{no_stacks}
+use Rattle.thread_cache.specs.Stacks.{stacks_of}
 use Rattle.heap_check.specs.Image.{bounds_of, IsFormed, IsExactImage}
 use Rattle.heap_check.specs.State.{HasState}
 use Rattle.arena_core.specs.Arena.{ArenaState}
@@ -25,9 +27,9 @@ bounds-formed words granules formed size =
 
 -- over a memory of zeros
 made_new : (header : PoolHeader) (arena : ArenaState) → arena.device ≡ appended (began (fresh (zeros (2048 * header.granules)) 2048)) (format_events header) →
-    arena.line ≡ 0 → IsReady arena.device → IsExactImage (words_of arena.device) → HasState (words_of arena.device) no_heap → IsNewArena header arena
+    arena.line ≡ 0 → stacks_of arena.stacks ≡ no_stacks → IsReady arena.device → IsExactImage (words_of arena.device) → HasState (words_of arena.device) no_heap → IsNewArena header arena
 unfolding formatted
-made_new header arena made first ready exact empty =
+made_new header arena made first stacks ready exact empty =
     let words : words_of arena.device ≡ formatted header = ap (λ (s : PmemState). words_of s) made in
     let size : length (words_of arena.device) ≡ 2048 * header.granules =
     ap length words ∙ length-reading (zeros (2048 * header.granules)) (format_events header) ∙ length-zeros (2048 * header.granules) in
@@ -39,13 +41,14 @@ made_new header arena made first ready exact empty =
       events = ap (λ (s : PmemState). s.events) made;
       begins = ap (λ (s : PmemState). s.begins) made;
       line = first;
+      stacks = stacks;
       ready = ready;
       exact = exact;
     }
 
 pub IsNewArena-format : (header : PoolHeader) (device : PmemState) (arena : ArenaState) → IsZeroed device (256 * header.granules) 2048 → arena.device ≡ appended (began device) (format_events header) →
-    arena.line ≡ 0 → IsReady arena.device → IsExactImage (words_of arena.device) → HasState (words_of arena.device) no_heap → IsNewArena header arena
-IsNewArena-format header device arena zeroed made line ready exact empty =
+    arena.line ≡ 0 → stacks_of arena.stacks ≡ no_stacks → IsReady arena.device → IsExactImage (words_of arena.device) → HasState (words_of arena.device) no_heap → IsNewArena header arena
+IsNewArena-format header device arena zeroed made line stacks ready exact empty =
     let lines : 8 * (256 * header.granules) ≡ 2048 * header.granules = omega arith in
     let first : device ≡ fresh (zeros (2048 * header.granules)) 2048 = zeroed.state ∙ ap (λ n. fresh (zeros n) 2048) lines in
-    made_new header arena (made ∙ ap (λ (s : PmemState). appended (began s) (format_events header)) first) line ready exact empty
+    made_new header arena (made ∙ ap (λ (s : PmemState). appended (began s) (format_events header)) first) line stacks ready exact empty

@@ -3,13 +3,14 @@ use Rattle.std.proofs.Common.{◌≡◌, ◌⊎◌, ℕ, suc, ◌≤◌, ◌<◌
 use Rattle.pmem_lines.specs.Pmem.{words_of}
 use Rattle.pool_layout.specs.declared.header.PoolHeader.{PoolHeader}
 use Rattle.heap_model.specs.declared.call.Entry.{Entry}
-use Rattle.heap_model.specs.Machine.{Bounds, Machine, no_heap, IsOverlapFree}
-use Rattle.heap_model.specs.Policy.{plain}
-use Rattle.heap_model.specs.Placement.{bare}
+use Rattle.heap_model.specs.Machine.{Bounds, no_heap, IsOverlapFree}
+use Rattle.heap_model.specs.Policy.{without_morphs}
+use Rattle.heap_model.specs.Placement.{PlacedState, bare}
+use Rattle.thread_cache.specs.Stacks.{stacks_of}
 use Rattle.heap_model.specs.Journal.{Leads, IsPlacedEntry}
 use Rattle.arena_core.specs.Arena.{ArenaState}
 use Rattle.arena_core.specs.Events.{call_events}
-use Rattle.arena_lock.specs.Legality.{machine_in, LeadsTo}
+use Rattle.arena_lock.specs.Legality.{machine_in, opening_state, LeadsTo}
 use Rattle.arena_journal.specs.Journals.{opened, begins_call, begun_by, line_behind, words_along, IsUntouched, IsBehindCall, IsBehind}
 use Rattle.trace_runs.specs.Arenas.{bounds_for, formatted, IsNewArena}
 use Rattle.trace_runs.specs.Journals.{IsJournal, IsAsFormatted, IsBehindLast, HasRun}
@@ -18,11 +19,15 @@ use Rattle.trace_runs.specs.Journals.{IsJournal, IsAsFormatted, IsBehindLast, Ha
 no_heap_in : (header : PoolHeader) (first : ArenaState) → IsNewArena header first → machine_in (words_of first.device) ≡ no_heap
 no_heap_in header first new = λ i. record { block = λ root. new.empty.blocks root i; slab = λ start. new.empty.slabs start i; value = λ root index. None }
 
+-- and no stack has a block
+opened_bare : (header : PoolHeader) (first : ArenaState) → IsNewArena header first → opening_state (opened first) ≡ bare no_heap
+opened_bare header first new = λ i. record { machine = no_heap_in header first new i; stacks = new.stacks i }
+
 -- what leads on from a new arena is a journal from the empty heap
-pub IsJournal-opened : (header : PoolHeader) (first : ArenaState) (journal : List Entry) (machine : Machine) → IsNewArena header first → LeadsTo (opened first) journal (bare machine) → IsJournal header.granules journal machine
-IsJournal-opened header first journal machine new leads =
-    subst (λ (s : Machine). Leads (IsPlacedEntry plain (bounds_for header.granules)) (bare s) journal (bare machine)) (no_heap_in header first new)
-    (subst (λ (b : Bounds). Leads (IsPlacedEntry plain b) (bare (machine_in (words_of first.device))) journal (bare machine)) new.bounds leads)
+pub IsJournal-opened : (header : PoolHeader) (first : ArenaState) (journal : List Entry) (last : PlacedState) → IsNewArena header first → LeadsTo (opened first) journal last → IsJournal header.granules journal last
+IsJournal-opened header first journal last new leads =
+    subst (λ (s : PlacedState). Leads (IsPlacedEntry without_morphs (bounds_for header.granules)) s journal last) (opened_bare header first new)
+    (subst (λ (b : Bounds). Leads (IsPlacedEntry without_morphs b) (opening_state (opened first)) journal last) new.bounds leads)
 
 -- no more calls begin than there are entries
 one_or_none : (b : Bool) (m n : ℕ) → m ≤ n → (if b then suc m else m) ≤ suc n
@@ -48,7 +53,8 @@ last_of header first now journal new (inr call) = inr (record {
   begins = call.begins;
   none = call.none;
   machine = call.machine;
-  leads = IsJournal-opened header first call.before call.machine new call.leads;
+  stacks = call.stacks;
+  leads = IsJournal-opened header first call.before (record { machine = call.machine; stacks = call.stacks }) new call.leads;
   exact = call.exact;
   state = call.state;
   events = call.events ∙ ap (λ line. call_events now.device.base (line_behind line call.before) call.entry.call call.entry.reply) new.line;
@@ -60,7 +66,8 @@ pub HasRun-behind : (header : PoolHeader) (first now : ArenaState) (journal : Li
 HasRun-behind header first now journal new few behind =
     let count = begun_few journal in
     record {
-      legal = IsJournal-opened header first journal behind.machine new behind.leads;
+      stacks = stacks_of now.stacks;
+      legal = IsJournal-opened header first journal (record { machine = behind.machine; stacks = stacks_of now.stacks }) new behind.leads;
       apart = subst (λ (b : Bounds). IsOverlapFree b behind.machine) (behind.bounds ∙ new.bounds) behind.apart;
       quiet = behind.ready.quiet;
       exact = behind.exact;

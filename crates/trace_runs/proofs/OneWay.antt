@@ -6,16 +6,15 @@ use Rattle.heap_model.specs.declared.call.Reply.{Reply}
 use Rattle.heap_model.specs.declared.call.Reply.TheVariants.{NoRoot, Empty, OutOfRange}
 use Rattle.heap_model.specs.declared.call.Entry.{Entry}
 use Rattle.heap_model.specs.Machine.{Bounds, Range, Machine}
-use Rattle.heap_model.specs.Policy.{plain}
-use Rattle.heap_model.specs.Placement.{PlacedState, bare, IsPlacedStep}
+use Rattle.heap_model.specs.Policy.{without_morphs}
+use Rattle.heap_model.specs.Placement.{PlacedState, IsPlacedStep}
 use Rattle.heap_model.specs.Step.{First, HasBlock, IsRefused, IsOnWord}
 use Rattle.heap_model.specs.Journal.{IsOfBlock}
 use Rattle.heap_model.proofs.Placements.{law_of_one_journal as one_journal}
 use Rattle.arena_core.specs.Events.{call_events, line_after}
-use Rattle.trace_text.specs.Grammar.{IsAsked}
 
--- the events of a call with either reply, the next line and the state behind it are the same
-pub record IsOneWay (words : List ℕ) (line : ℕ) (call : Call) (reply other : Reply) (next last : Machine) : Type 0 where
+-- the events of a call with either reply, the next line, and the state behind it with its stacks are the same
+pub record IsOneWay (words : List ℕ) (line : ℕ) (call : Call) (reply other : Reply) (next last : PlacedState) : Type 0 where
   pub events : call_events words line call reply ≡ call_events words line call other
   pub later : line_after line reply ≡ line_after line other
   pub state : next ≡ last
@@ -73,26 +72,31 @@ reply_of none (entry ∷ entries) = entry.reply
 entry_of : ℕ → Call → Reply → Entry
 entry_of seat call reply = record { seat = seat; call = call; reply = reply }
 
-block_settled : (b : Bounds) (seat : ℕ) (m next last : Machine) (call : Call) (reply other : Reply) → IsOfBlock call → IsPlacedStep plain b seat (bare m) call reply (bare next) → IsPlacedStep plain b seat (bare m) call other (bare last) → (reply ≡ other) × (next ≡ last)
+block_settled : (b : Bounds) (seat : ℕ) (s next last : PlacedState) (call : Call) (reply other : Reply) → IsOfBlock call → IsPlacedStep without_morphs b seat s call reply next → IsPlacedStep without_morphs b seat s call other last → (reply ≡ other) × (next ≡ last)
 unfolding entry_of reply_of
-block_settled b seat m next last call reply other of one two =
-    let same = one_journal plain b (bare m) (bare next) (bare last) (entry_of seat call reply ∷ []) (entry_of seat call other ∷ []) (refl, refl, of, tt) (bare next, one, refl) (bare last, two, refl) in
-    (ap (reply_of reply) same.0, ap (λ (s : PlacedState). s.machine) same.1)
+block_settled b seat s next last call reply other of one two =
+    let same = one_journal without_morphs b s next last (entry_of seat call reply ∷ []) (entry_of seat call other ∷ []) (refl, refl, of, tt) (next, one, refl) (last, two, refl) in
+    (ap (reply_of reply) same.0, same.1)
+
+-- of a call that reads or writes a word the stacks stay
+same_placed : (s next last : PlacedState) → next.machine ≡ last.machine → next.stacks ≡ s.stacks → last.stacks ≡ s.stacks → next ≡ last
+same_placed s next last machine one two = let stacks : next.stacks ≡ last.stacks = one ∙ sym two in λ i. record { machine = machine i; stacks = stacks i }
 
 -- the same reply
-IsOneWay-same : (words : List ℕ) (line : ℕ) (call : Call) (reply other : Reply) (next last : Machine) → (reply ≡ other) × (next ≡ last) → IsOneWay words line call reply other next last
+IsOneWay-same : (words : List ℕ) (line : ℕ) (call : Call) (reply other : Reply) (next last : PlacedState) → (reply ≡ other) × (next ≡ last) → IsOneWay words line call reply other next last
 IsOneWay-same words line call reply other next last same = record { events = ap (λ r. call_events words line call r) same.0; later = ap (line_after line) same.0; state = same.1 }
 
-pub IsOneWay-step : (b : Bounds) (words : List ℕ) (line seat : ℕ) (m next last : Machine) (call : Call) (reply other : Reply) → IsAsked call → IsPlacedStep plain b seat (bare m) call reply (bare next) → IsPlacedStep plain b seat (bare m) call other (bare last) →
+pub IsOneWay-step : (b : Bounds) (words : List ℕ) (line seat : ℕ) (s next last : PlacedState) (call : Call) (reply other : Reply) → IsPlacedStep without_morphs b seat s call reply next → IsPlacedStep without_morphs b seat s call other last →
     IsOneWay words line call reply other next last
-IsOneWay-step b words line seat m next last (Malloc root size) reply other asked one two = IsOneWay-same words line (Malloc root size) reply other next last (block_settled b seat m next last (Malloc root size) reply other tt one two)
-IsOneWay-step b words line seat m next last (Free root) reply other asked one two = IsOneWay-same words line (Free root) reply other next last (block_settled b seat m next last (Free root) reply other tt one two)
-IsOneWay-step b words line seat m next last (Write root index word) reply other asked one two =
-    IsOneWay-same words line (Write root index word) reply other next last
-    (both_on_word b m root index (λ r n s l. (r ≡ s) × (n ≡ l)) (λ r. (refl, refl)) reply other next last _ _ (λ x y. (x.0 ∙ sym y.0, x.1 ∙ sym y.1)) one.step two.step)
-IsOneWay-step b words line seat m next last (Read root index) reply other asked one two =
-    let same : (line_after line reply ≡ line_after line other) × (next ≡ last) =
-    both_on_word b m root index (λ r n s l. (line_after line r ≡ line_after line s) × (n ≡ l)) (λ r. (refl, refl)) reply other next last _ _
+IsOneWay-step b words line seat s next last (Malloc root size) reply other one two = IsOneWay-same words line (Malloc root size) reply other next last (block_settled b seat s next last (Malloc root size) reply other tt one two)
+IsOneWay-step b words line seat s next last (Free root) reply other one two = IsOneWay-same words line (Free root) reply other next last (block_settled b seat s next last (Free root) reply other tt one two)
+IsOneWay-step b words line seat s next last (Write root index word) reply other one two =
+    let same : (reply ≡ other) × (next.machine ≡ last.machine) =
+    both_on_word b s.machine root index (λ r n k l. (r ≡ k) × (n ≡ l)) (λ r. (refl, refl)) reply other next.machine last.machine _ _ (λ x y. (x.0 ∙ sym y.0, x.1 ∙ sym y.1)) one.step two.step in
+    IsOneWay-same words line (Write root index word) reply other next last (same.0, same_placed s next last same.1 one.stacked two.stacked)
+IsOneWay-step b words line seat s next last (Read root index) reply other one two =
+    let same : (line_after line reply ≡ line_after line other) × (next.machine ≡ last.machine) =
+    both_on_word b s.machine root index (λ r n k l. (line_after line r ≡ line_after line k) × (n ≡ l)) (λ r. (refl, refl)) reply other next.machine last.machine _ _
     (λ x y. (ap (line_after line) x.1 ∙ sym (ap (line_after line) y.1), x.3 ∙ sym y.3)) one.step two.step in
-    record { events = refl; later = same.0; state = same.1 }
-IsOneWay-step b words line seat m next last (Move from to) reply other asked one two = absurd asked
+    record { events = refl; later = same.0; state = same_placed s next last same.1 one.stacked two.stacked }
+IsOneWay-step b words line seat s next last (Move from to) reply other one two = IsOneWay-same words line (Move from to) reply other next last (block_settled b seat s next last (Move from to) reply other tt one two)

@@ -4,13 +4,14 @@ use Rattle.std.proofs.lemmas.List.{append-nil}
 use Rattle.pmem_lines.specs.Pmem.{PmemState, words_of}
 use Rattle.heap_model.specs.declared.call.Reply.{Reply}
 use Rattle.heap_model.specs.Machine.{Bounds, Machine}
-use Rattle.heap_model.specs.Policy.{plain}
-use Rattle.heap_model.specs.Placement.{bare, IsPlacedStep}
+use Rattle.heap_model.specs.Policy.{without_morphs}
+use Rattle.heap_model.specs.Placement.{PlacedState, Stacks, bare, no_stacks, IsPlacedStep}
+use Rattle.thread_cache.specs.Stacks.{stacks_of}
 use Rattle.heap_check.specs.Image.{bounds_of}
 use Rattle.heap_check.specs.State.{HasState}
 use Rattle.arena_core.specs.Arena.{ArenaState}
 use Rattle.trace_text.specs.declared.call.TraceCall.{TraceCall}
-use Rattle.trace_runs.specs.Runs.{IsRun, IsRunTo, IsStage, Stage, words_after, words_behind}
+use Rattle.trace_runs.specs.Runs.{IsRun, IsRunTo, IsStage, Stage, beside, words_after, words_behind}
 use Rattle.arena_journal.specs.Journals.{begins_call, HasBegun, HasDone, HasAnswered}
 use Rattle.arena_core.specs.Events.{call_events}
 use Rattle.heap_model.specs.declared.call.Call.{Call}
@@ -22,17 +23,19 @@ words_behind-last start [] last = refl
 words_behind-last start (stage ∷ stages) last = words_behind-last (words_after stage) stages last
 
 -- no call was made yet
-pub IsRunTo-none : (b : Bounds) (arena : ArenaState) (first : Machine) → HasState (words_of arena.device) first → bounds_of (words_of arena.device) ≡ b → arena.line ≡ 0 →
-    IsRunTo b (words_of arena.device) first [] arena first []
-IsRunTo-none b arena first state bounds line = record {
+pub IsRunTo-none : (b : Bounds) (arena : ArenaState) (first : Machine) → HasState (words_of arena.device) first → bounds_of (words_of arena.device) ≡ b → arena.line ≡ 0 → stacks_of arena.stacks ≡ no_stacks →
+    IsRunTo b (words_of arena.device) (bare first) [] arena first []
+IsRunTo-none b arena first state bounds line stacks = record {
   state = state;
   bounds = bounds;
   words = refl;
-  run = λ rest more run. subst (λ n. IsRun b (words_of arena.device) n first rest more) line run;
+  run = λ rest more run.
+      subst (λ n. IsRun b (words_of arena.device) n (bare first) rest more) line
+      (subst (λ (s : Stacks). IsRun b (words_of arena.device) arena.line (record { machine = first; stacks = s }) rest more) stacks run);
 }
 
 -- their run
-pub IsRun-to : (b : Bounds) (start : List ℕ) (first : Machine) (calls : List TraceCall) (arena : ArenaState) (machine : Machine) (stages : List Stage) → IsRunTo b start first calls arena machine stages → IsRun b start 0 first calls stages
+pub IsRun-to : (b : Bounds) (start : List ℕ) (first : PlacedState) (calls : List TraceCall) (arena : ArenaState) (machine : Machine) (stages : List Stage) → IsRunTo b start first calls arena machine stages → IsRun b start 0 first calls stages
 IsRun-to b start first calls arena machine stages to =
     subst (λ (cs : List TraceCall). IsRun b start 0 first cs stages) (append-nil calls)
     (subst (λ (ss : List Stage). IsRun b start 0 first (calls ++ []) ss) (append-nil stages) (to.run [] [] refl))
@@ -71,7 +74,7 @@ begins_some words line (Move from to) reply some = refl
 
 -- a call that was answered is a stage
 IsStage-answered : (b : Bounds) (old new : ArenaState) (machine next : Machine) (call : TraceCall) (reply : Reply) → HasAnswered call.thread old new call.call reply →
-    IsPlacedStep plain b call.thread (bare machine) call.call reply (bare next) → HasState (words_of new.device) next → IsStage b (words_of old.device) old.line machine call (stage_of old call.call reply) new.line next
+    IsPlacedStep without_morphs b call.thread (beside old machine) call.call reply (beside new next) → HasState (words_of new.device) next → IsStage b (words_of old.device) old.line (beside old machine) call (stage_of old call.call reply) new.line (beside new next)
 IsStage-answered b old new machine next call reply answered step state = record {
   reply = reply;
   begins = refl;
@@ -82,14 +85,14 @@ IsStage-answered b old new machine next call reply answered step state = record 
 }
 
 -- one call further
-pub IsRunTo-call : (b : Bounds) (start : List ℕ) (first : Machine) (calls : List TraceCall) (old new : ArenaState) (machine : Machine) (call : TraceCall) (reply : Reply) (stages : List Stage) →
+pub IsRunTo-call : (b : Bounds) (start : List ℕ) (first : PlacedState) (calls : List TraceCall) (old new : ArenaState) (machine : Machine) (call : TraceCall) (reply : Reply) (stages : List Stage) →
     IsRunTo b start first calls old machine stages → HasAnswered call.thread old new call.call reply → (next : Machine) × IsRunTo b start first (calls ++ call ∷ []) new next (stages ++ stage_of old call.call reply ∷ [])
 IsRunTo-call b start first calls old new machine call reply stages to answered =
     let found = answered.step.each machine to.state in
     let last : Stage = stage_of old call.call reply in
     let behind : words_of new.device ≡ words_after last = words_done old new call.call reply answered.done in
-    let step : IsPlacedStep plain b call.thread (bare machine) call.call reply (bare found.0) = subst (λ (c : Bounds). IsPlacedStep plain c call.thread (bare machine) call.call reply (bare found.0)) to.bounds found.1 in
-    let stage : IsStage b (words_of old.device) old.line machine call last new.line found.0 = IsStage-answered b old new machine found.0 call reply answered step found.2 in (
+    let step : IsPlacedStep without_morphs b call.thread (beside old machine) call.call reply (beside new found.0) = subst (λ (c : Bounds). IsPlacedStep without_morphs c call.thread (beside old machine) call.call reply (beside new found.0)) to.bounds found.1 in
+    let stage : IsStage b (words_of old.device) old.line (beside old machine) call last new.line (beside new found.0) = IsStage-answered b old new machine found.0 call reply answered step found.2 in (
       found.0,
       record {
         state = found.2;
@@ -98,6 +101,6 @@ IsRunTo-call b start first calls old new machine call reply stages to answered =
         run = λ rest more run.
             subst (λ (cs : List TraceCall). IsRun b start 0 first cs (stages ++ last ∷ [] ++ more)) (sym (append_assoc calls (call ∷ []) rest))
             (subst (λ (ss : List Stage). IsRun b start 0 first (calls ++ (call ∷ rest)) ss) (sym (append_assoc stages (last ∷ []) more))
-            (to.run (call ∷ rest) (last ∷ more) (new.line, found.0, stage, subst (λ (words : List ℕ). IsRun b words new.line found.0 rest more) behind run)));
+            (to.run (call ∷ rest) (last ∷ more) (new.line, beside new found.0, stage, subst (λ (words : List ℕ). IsRun b words new.line (beside new found.0) rest more) behind run)));
       },
     )

@@ -8,9 +8,10 @@ use Rattle.pmem_lines.specs.Events.{CrashOnly}
 use Rattle.pmem_lines.specs.Pmem.{PmemState, words_of}
 use Rattle.heap_model.specs.declared.call.Call.{Call}
 use Rattle.heap_model.specs.declared.call.Reply.{Reply}
-use Rattle.trace_text.specs.Grammar.{IsAsked}
 use Rattle.heap_model.specs.declared.call.Entry.{Entry}
 use Rattle.heap_model.specs.Machine.{Machine, no_heap}
+use Rattle.heap_model.specs.Placement.{bare}
+use Rattle.thread_cache.specs.Stacks.{stacks_of}
 use Rattle.heap_check.specs.Image.{IsExactImage}
 use Rattle.arena_core.specs.Arena.{ArenaState}
 use Rattle.arena_core.specs.Events.{call_events}
@@ -34,7 +35,7 @@ pub record Seeking (header : PoolHeader) (number : ℕ) (calls : List TraceCall)
   pub stages : List Stage
   pub machine : Machine
   pub count : many ≡ length (calls_of number (take i calls))
-  pub to : IsRunTo (bounds_for header.granules) (formatted header) no_heap (calls_of number (take i calls)) arena machine stages
+  pub to : IsRunTo (bounds_for header.granules) (formatted header) (bare no_heap) (calls_of number (take i calls)) arena machine stages
   pub leaves : (more : List Stage) (seed : ℕ) (found : CrashLeft) → IsLeft (formatted header) many more left seed found → IsLeft (formatted header) 0 (stages ++ more) event seed found
   pub total : total_events stages ≡ events
 
@@ -46,12 +47,12 @@ total_events-append (stage ∷ stages) more = omega (arith, total_events-append 
 pub Seeking-none : (header : PoolHeader) (number : ℕ) (calls : List TraceCall) (event : ℕ) (arena : ArenaState) → IsNewArena header arena → Seeking header number calls event arena 0 0 event 0
 Seeking-none header number calls event arena new =
     let b = bounds_for header.granules in
-    let to : IsRunTo b (words_of arena.device) no_heap [] arena no_heap [] = IsRunTo-none b arena no_heap new.empty new.bounds new.line in
+    let to : IsRunTo b (words_of arena.device) (bare no_heap) [] arena no_heap [] = IsRunTo-none b arena no_heap new.empty new.bounds new.line new.stacks in
     record {
       stages = [];
       machine = no_heap;
       count = refl;
-      to = subst (λ (start : List ℕ). IsRunTo b start no_heap [] arena no_heap []) new.words to;
+      to = subst (λ (start : List ℕ). IsRunTo b start (bare no_heap) [] arena no_heap []) new.words to;
       leaves = λ more seed found is. is;
       total = refl;
     }
@@ -72,7 +73,7 @@ Seeking-other header number calls event arena i many left events d seeking here 
       stages = seeking.stages;
       machine = seeking.machine;
       count = seeking.count ∙ ap length same;
-      to = subst (λ (cs : List TraceCall). IsRunTo (bounds_for header.granules) (formatted header) no_heap cs arena seeking.machine seeking.stages) same seeking.to;
+      to = subst (λ (cs : List TraceCall). IsRunTo (bounds_for header.granules) (formatted header) (bare no_heap) cs arena seeking.machine seeking.stages) same seeking.to;
       leaves = seeking.leaves;
       total = seeking.total;
     }
@@ -87,10 +88,10 @@ module _ (header : PoolHeader) (number : ℕ) (calls : List TraceCall) (event : 
   more : calls_of number (take i calls) ++ get_or calls i d ∷ [] ≡ calls_of number (take (i + 1) calls)
   more = sym (calls_of-here number calls i d here mine)
 
-  next : (machine : Machine) × IsRunTo (bounds_for header.granules) (formatted header) no_heap (calls_of number (take (i + 1) calls)) new machine (seeking.stages ++ stage ∷ [])
+  next : (machine : Machine) × IsRunTo (bounds_for header.granules) (formatted header) (bare no_heap) (calls_of number (take (i + 1) calls)) new machine (seeking.stages ++ stage ∷ [])
   next =
-      subst (λ (cs : List TraceCall). (machine : Machine) × IsRunTo (bounds_for header.granules) (formatted header) no_heap cs new machine (seeking.stages ++ stage ∷ [])) more
-      (IsRunTo-call (bounds_for header.granules) (formatted header) no_heap (calls_of number (take i calls)) old new seeking.machine (get_or calls i d) reply seeking.stages seeking.to answered)
+      subst (λ (cs : List TraceCall). (machine : Machine) × IsRunTo (bounds_for header.granules) (formatted header) (bare no_heap) cs new machine (seeking.stages ++ stage ∷ [])) more
+      (IsRunTo-call (bounds_for header.granules) (formatted header) (bare no_heap) (calls_of number (take i calls)) old new seeking.machine (get_or calls i d) reply seeking.stages seeking.to answered)
 
   count : many + 1 ≡ length (calls_of number (take (i + 1) calls))
   count = ap (λ n. n + 1) seeking.count ∙ sym (length-append (calls_of number (take i calls)) (get_or calls i d ∷ [])) ∙ ap length more
@@ -129,9 +130,9 @@ module _ (header : PoolHeader) (number : ℕ) (calls : List TraceCall) (event : 
   IsBehindSought-here some within sum =
       let b = bounds_for header.granules in
       let test : is_under_way stage.events left ≡ true = and_from (ltb 0 (length stage.events)) (leb left (length stage.events)) (lt-ltb 0 (length stage.events) some) (le-leb left (length stage.events) within) in
-      let run : IsRun b (formatted header) 0 no_heap (take (many + 1) (calls_of number calls)) (seeking.stages ++ stage ∷ []) =
-      subst (λ (cs : List TraceCall). IsRun b (formatted header) 0 no_heap cs (seeking.stages ++ stage ∷ [])) (sym front)
-      (IsRun-to b (formatted header) no_heap (calls_of number (take (i + 1) calls)) new next.0 (seeking.stages ++ stage ∷ []) next.1) in
+      let run : IsRun b (formatted header) 0 (bare no_heap) (take (many + 1) (calls_of number calls)) (seeking.stages ++ stage ∷ []) =
+      subst (λ (cs : List TraceCall). IsRun b (formatted header) 0 (bare no_heap) cs (seeking.stages ++ stage ∷ [])) (sym front)
+      (IsRun-to b (formatted header) (bare no_heap) (calls_of number (take (i + 1) calls)) new next.0 (seeking.stages ++ stage ∷ []) next.1) in
       let leaves : (seed : ℕ) (found : CrashLeft) → IsLeftWithin stage (many + 1) left seed found → IsLeft (formatted header) 0 (seeking.stages ++ stage ∷ []) event seed found =
       λ seed found is.
       let Within : Type 0 = IsLeftWithin stage (many + 1) left seed found in
@@ -141,22 +142,25 @@ module _ (header : PoolHeader) (number : ℕ) (calls : List TraceCall) (event : 
       record {
         some = omega arith;
         before = seeking.stages;
-        run = subst (λ (s : Stage). IsRun b (formatted header) 0 no_heap (take (many + 1) (calls_of number calls)) (seeking.stages ++ s ∷ [])) (last some) run;
+        run = subst (λ (s : Stage). IsRun b (formatted header) 0 (bare no_heap) (take (many + 1) (calls_of number calls)) (seeking.stages ++ s ∷ [])) (last some) run;
         leaves = subst (λ (s : Stage). (seed : ℕ) (found : CrashLeft) → IsLeftWithin s (many + 1) left seed found → IsLeft (formatted header) 0 (seeking.stages ++ s ∷ []) event seed found) (last some) leaves;
         within = subst (λ (s : Stage). event ≤ total_events (seeking.stages ++ s ∷ [])) (last some) total;
       }
 
 -- what the arena was asked last, where that has events
-pub IsBehindEntry-answered : (old new : ArenaState) (thread : ℕ) (call : Call) (entry : Entry) → IsAsked call → entry.seat ≡ thread → entry.call ≡ call → HasAnswered thread old new call entry.reply → 0 < length (stage_of old call entry.reply).events →
+pub IsBehindEntry-answered : (old new : ArenaState) (thread : ℕ) (call : Call) (entry : Entry) → entry.seat ≡ thread → entry.call ≡ call → HasAnswered thread old new call entry.reply → 0 < length (stage_of old call entry.reply).events →
     IsBehindEntry new.device entry
-IsBehindEntry-answered old new thread call entry asked is_seat is_call answered some =
+IsBehindEntry-answered old new thread call entry is_seat is_call answered some =
     let did : HasBegun old new call entry.reply = begun_done old new call entry.reply (begins_some (words_of old.device) old.line call entry.reply some) answered.done in
     let base : words_of old.device ≡ new.device.base = sym (ap (λ (s : PmemState). s.base) did.device) in
     let events : new.device.events ≡ call_events (words_of old.device) old.line call entry.reply = ap (λ (s : PmemState). s.events) did.device in
     record {
-      asked = subst IsAsked (sym is_call) asked;
       exact = subst IsExactImage base answered.was_exact;
-      step = subst (λ (c : Call). IsStepOf entry.seat new.device.base (words_of new.device) c entry.reply) (sym is_call) (subst (λ (t : ℕ). IsStepOf t new.device.base (words_of new.device) call entry.reply) (sym is_seat) (subst (λ (words : List ℕ). IsStepOf thread words (words_of new.device) call entry.reply) base answered.step));
+      was = stacks_of old.stacks;
+      after = stacks_of new.stacks;
+      step =
+          let Step : ℕ → List ℕ → Call → Type 0 = λ seat words c. IsStepOf seat words (stacks_of old.stacks) (words_of new.device) (stacks_of new.stacks) c entry.reply in
+          subst (λ (c : Call). Step entry.seat new.device.base c) (sym is_call) (subst (λ (t : ℕ). Step t new.device.base call) (sym is_seat) (subst (λ (words : List ℕ). Step thread words call) base answered.step));
       line = old.line;
       events = subst (λ (c : Call). new.device.events ≡ call_events new.device.base old.line c entry.reply) (sym is_call) (subst (λ (words : List ℕ). new.device.events ≡ call_events words old.line call entry.reply) base events);
       some = subst (λ (n : ℕ). 0 < n) (sym (ap length events)) some;
@@ -174,8 +178,8 @@ pub IsBehindAll-none : (header : PoolHeader) (number : ℕ) (calls : List TraceC
     events + left ≡ event → IsBehindAll header (calls_of number calls) event events
 IsBehindAll-none header number calls event arena i many left events seeking all sum = record {
   stages = seeking.stages;
-  run = subst (λ (cs : List TraceCall). IsRun (bounds_for header.granules) (formatted header) 0 no_heap (calls_of number cs) seeking.stages) (take_all i calls all)
-      (IsRun-to (bounds_for header.granules) (formatted header) no_heap (calls_of number (take i calls)) arena seeking.machine seeking.stages seeking.to);
+  run = subst (λ (cs : List TraceCall). IsRun (bounds_for header.granules) (formatted header) 0 (bare no_heap) (calls_of number cs) seeking.stages) (take_all i calls all)
+      (IsRun-to (bounds_for header.granules) (formatted header) (bare no_heap) (calls_of number (take i calls)) arena seeking.machine seeking.stages seeking.to);
   total = sym seeking.total;
   leaves = λ few seed found idle.
       let none : 0 ≡ left = omega arith in

@@ -1,10 +1,10 @@
 -- What the calls of an arena settle.
-use Rattle.std.proofs.Common.{◌≡◌, ℕ, List, [], ◌∷◌, sym, ap, ◌∙◌, subst}
+use Rattle.std.proofs.Common.{◌≡◌, ℕ, List, [], ◌∷◌, sym, ◌∙◌, subst}
 use Rattle.std.specs.List.{All}
 use Rattle.std.proofs.lemmas.List.Elements.{All-head, All-tail}
 use Rattle.heap_model.specs.declared.call.Entry.{Entry}
-use Rattle.heap_model.specs.Machine.{Bounds, Machine, no_heap}
-use Rattle.heap_model.specs.Policy.{plain}
+use Rattle.heap_model.specs.Machine.{Bounds, no_heap}
+use Rattle.heap_model.specs.Policy.{without_morphs}
 use Rattle.heap_model.specs.Placement.{PlacedState, bare}
 use Rattle.heap_model.specs.Journal.{IsOfBlock, AskTheSame}
 use Rattle.heap_model.proofs.Placements.{law_of_one_journal as one_journal}
@@ -30,29 +30,28 @@ ask_the_same (call ∷ calls) (entry ∷ journal) (another ∷ other) valid one 
 )
 
 pub law_of_one_journal : LawOfOneJournal
-law_of_one_journal granules calls journal other machine another valid first second one two =
-    let same = one_journal plain (bounds_for granules) (bare no_heap) (bare machine) (bare another) journal other (ask_the_same calls journal other valid first second) one two in
-    (same.0, ap (λ (s : PlacedState). s.machine) same.1)
+law_of_one_journal granules calls journal other last another valid first second one two =
+    one_journal without_morphs (bounds_for granules) (bare no_heap) last another journal other (ask_the_same calls journal other valid first second) one two
 
 -- one call, from the same words, line and state, makes one stage
-stage_once : (b : Bounds) (words : List ℕ) (line : ℕ) (m next last : Machine) (later after : ℕ) (call : TraceCall) (stage other : Stage) → CanBeMade call → IsStage b words line m call stage later next → IsStage b words line m call other after last →
+stage_once : (b : Bounds) (words : List ℕ) (line : ℕ) (s next last : PlacedState) (later after : ℕ) (call : TraceCall) (stage other : Stage) → IsStage b words line s call stage later next → IsStage b words line s call other after last →
     (stage ≡ other) × (later ≡ after) × (next ≡ last)
-stage_once b words line m next last later after call stage other valid one two =
-    let same = IsOneWay-step b words line call.thread m next last call.call one.reply two.reply valid.1 one.step two.step in
+stage_once b words line s next last later after call stage other one two =
+    let same = IsOneWay-step b words line call.thread s next last call.call one.reply two.reply one.step two.step in
     let events : stage.events ≡ other.events = one.events ∙ same.events ∙ sym two.events in
     let begins : stage.words ≡ other.words = one.begins ∙ sym two.begins in
     (λ i. record { words = begins i; events = events i }, one.later_is ∙ same.later ∙ sym two.later_is, same.state)
 
-run_once : (b : Bounds) (words : List ℕ) (line : ℕ) (m : Machine) (calls : List TraceCall) (stages others : List Stage) → All CanBeMade calls → IsRun b words line m calls stages → IsRun b words line m calls others → stages ≡ others
-run_once b words line m [] stages others valid one two = one ∙ sym two
-run_once b words line m (call ∷ calls) [] others valid one two = absurd one
-run_once b words line m (call ∷ calls) (stage ∷ stages) [] valid one two = absurd two
-run_once b words line m (call ∷ calls) (stage ∷ stages) (other ∷ others) valid one two =
-    let same = stage_once b words line m one.1 two.1 one.0 two.0 call stage other (All-head CanBeMade call calls valid) one.2 two.2 in
+run_once : (b : Bounds) (words : List ℕ) (line : ℕ) (s : PlacedState) (calls : List TraceCall) (stages others : List Stage) → All CanBeMade calls → IsRun b words line s calls stages → IsRun b words line s calls others → stages ≡ others
+run_once b words line s [] stages others valid one two = one ∙ sym two
+run_once b words line s (call ∷ calls) [] others valid one two = absurd one
+run_once b words line s (call ∷ calls) (stage ∷ stages) [] valid one two = absurd two
+run_once b words line s (call ∷ calls) (stage ∷ stages) (other ∷ others) valid one two =
+    let same = stage_once b words line s one.1 two.1 one.0 two.0 call stage other one.2 two.2 in
     let rest : stages ≡ others = run_once b (words_after stage) one.0 one.1 calls stages others (All-tail CanBeMade call calls valid) one.3
-    (subst (λ (n : Machine). IsRun b (words_after stage) one.0 n calls others) (sym same.2)
-    (subst (λ line. IsRun b (words_after stage) line two.1 calls others) (sym same.1) (subst (λ (s : Stage). IsRun b (words_after s) two.0 two.1 calls others) (sym same.0) two.3))) in
+    (subst (λ (n : PlacedState). IsRun b (words_after stage) one.0 n calls others) (sym same.2)
+    (subst (λ line. IsRun b (words_after stage) line two.1 calls others) (sym same.1) (subst (λ (z : Stage). IsRun b (words_after z) two.0 two.1 calls others) (sym same.0) two.3))) in
     λ i. same.0 i ∷ rest i
 
 pub law_of_one_run : LawOfOneRun
-law_of_one_run header calls stages others valid one two = run_once (bounds_for header.granules) (formatted header) 0 no_heap calls stages others valid one two
+law_of_one_run header calls stages others valid one two = run_once (bounds_for header.granules) (formatted header) 0 (bare no_heap) calls stages others valid one two

@@ -6,6 +6,8 @@ use Rattle.pmem_lines.specs.Words.{zeros}
 use Rattle.pool_layout.specs.declared.header.PoolHeader.{PoolHeader}
 use Rattle.pool_layout.specs.Layout.{layout_of}
 use Rattle.heap_model.specs.Machine.{Bounds, no_heap}
+use Rattle.heap_model.specs.Placement.{no_stacks}
+use Rattle.thread_cache.specs.Stacks.{stacks_of}
 use Rattle.heap_check.specs.Image.{bounds_of, IsExactImage}
 use Rattle.heap_check.specs.State.{HasState}
 use Rattle.arena_core.specs.Arena.{ArenaState}
@@ -25,7 +27,7 @@ bounds_for granules = record { roots = (layout_of 1).roots; first = (layout_of 1
 unfoldable pub formatted : PoolHeader → List ℕ
 formatted header = reading (zeros (2048 * header.granules)) (format_events header)
 
--- the arena was formatted with this header, and nothing was asked of it since
+-- the arena was formatted with this header, and nothing was asked of it since: it has no block, and no stack has one
 pub record IsNewArena (header : PoolHeader) (arena : ArenaState) : Type 0 where
   pub words : words_of arena.device ≡ formatted header
   pub bounds : bounds_of (words_of arena.device) ≡ bounds_for header.granules
@@ -34,5 +36,6 @@ pub record IsNewArena (header : PoolHeader) (arena : ArenaState) : Type 0 where
   pub events : arena.device.events ≡ format_events header
   pub begins : arena.device.begins ≡ 1
   pub line : arena.line ≡ 0
+  pub stacks : stacks_of arena.stacks ≡ no_stacks
   pub ready : IsReady arena.device
   pub exact : IsExactImage (words_of arena.device)

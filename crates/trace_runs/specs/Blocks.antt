@@ -22,13 +22,13 @@ blocks_from heap root (suc n) = listed root (heap root) ++ blocks_from heap (roo
 abbrev pub blocks_of : (ℕ → Option Range) → List Block
 blocks_of heap = blocks_from heap 0 (layout_of 1).roots
 
--- a reply that changes the heap at one root; no call of a trace moves a block
+-- a reply by which the root of a call gets a block or loses it; a block that moves comes to the root
 abbrev pub ChangesHeap : Reply → Type 0
 ChangesHeap (Placed at size) = Unit {0}
 ChangesHeap (Freed at size) = Unit {0}
 ChangesHeap Wrote = ⊥
 ChangesHeap (Value word) = ⊥
-ChangesHeap (Moved at size) = ⊥
+ChangesHeap (Moved at size) = Unit {0}
 ChangesHeap NoRoot = ⊥
 ChangesHeap (Occupied at) = ⊥
 ChangesHeap Empty = ⊥
@@ -43,7 +43,7 @@ gives_block (Placed at size) = true
 gives_block (Freed at size) = false
 gives_block Wrote = false
 gives_block (Value word) = false
-gives_block (Moved at size) = false
+gives_block (Moved at size) = true
 gives_block NoRoot = false
 gives_block (Occupied at) = false
 gives_block Empty = false
@@ -59,14 +59,14 @@ side_of true false = Before
 side_of false true = Before
 side_of false false = After
 
--- the side of a call with this reply, by whether its root has the block: a call of a trace that gives none and
--- takes none changes no heap
+-- the side of a call with this reply, by whether its root has the block: a call that gives none, takes none and moves none
+-- changes no heap
 abbrev pub side_by : Reply → Bool → CrashSide
 side_by (Placed at size) has = side_of has true
 side_by (Freed at size) has = side_of has false
 side_by Wrote has = Same
 side_by (Value word) has = Same
-side_by (Moved at size) has = Same
+side_by (Moved at size) has = side_of has true
 side_by NoRoot has = Same
 side_by (Occupied at) has = Same
 side_by Empty has = Same

@@ -5,16 +5,15 @@ use Rattle.heap_model.specs.Journal.{IsOfBlock}
 use Rattle.arena_core.specs.Arena.{ArenaState}
 use Rattle.arena_journal.specs.Journals.{opened, IsBehind}
 use Rattle.trace_text.specs.declared.call.TraceCall.{TraceCall}
-use Rattle.trace_text.specs.Grammar.{IsAsked}
 
 -- the calls of one arena, in the order of the lines
 abbrev pub calls_of : ℕ → List TraceCall → List TraceCall
 calls_of arena [] = []
 calls_of arena (call ∷ calls) = if call.arena == arena then call ∷ calls_of arena calls else calls_of arena calls
 
--- a call that an arena may be asked: by one of 64 threads, with numbers that fit
+-- a call that an arena may be asked: by one of 64 threads
 abbrev pub CanBeMade : TraceCall → Type 0
-CanBeMade call = (call.thread < 64) × IsAsked call.call
+CanBeMade call = call.thread < 64
 
 -- a call that reads and writes no word
 abbrev pub IsOfBlocks : TraceCall → Type 0

@@ -6,8 +6,8 @@ use Rattle.pmem_lines.specs.Words.{zeros}
 use Rattle.pool_layout.specs.declared.header.PoolHeader.{PoolHeader}
 use Rattle.heap_model.specs.declared.call.Entry.{Entry}
 use Rattle.heap_model.specs.Machine.{Machine, no_heap, IsOverlapFree}
-use Rattle.heap_model.specs.Policy.{plain}
-use Rattle.heap_model.specs.Placement.{bare}
+use Rattle.heap_model.specs.Policy.{without_morphs}
+use Rattle.heap_model.specs.Placement.{Stacks, PlacedState, bare}
 use Rattle.heap_model.specs.Journal.{Leads, IsPlacedEntry}
 use Rattle.heap_check.specs.Image.{IsExactImage}
 use Rattle.heap_check.specs.State.{HasState}
@@ -18,10 +18,10 @@ use Rattle.trace_runs.specs.Arenas.{bounds_for, formatted}
 use Rattle.trace_runs.specs.Runs.{Stage, words_behind, IsRunOf}
 use Rattle.trace_runs.specs.Calls.{AreAnswers}
 
--- The entries are a legal journal of an arena of so many granules, from the empty heap to this state: each block is given
--- where the placement says, by the plain policy. No stack is filled, and no slab takes another class.
-abbrev pub IsJournal : ℕ → List Entry → Machine → Type 0
-IsJournal granules journal machine = Leads (IsPlacedEntry plain (bounds_for granules)) (bare no_heap) journal (bare machine)
+-- The entries are a legal journal of an arena of so many granules, from the empty heap and empty stacks to this state with its
+-- stacks: each block is given where the placement says, by the policy in which no slab takes another class.
+abbrev pub IsJournal : ℕ → List Entry → PlacedState → Type 0
+IsJournal granules journal last = Leads (IsPlacedEntry without_morphs (bounds_for granules)) (bare no_heap) journal last
 
 -- every entry is a Read, and the device is as formatting left it
 pub record IsAsFormatted (header : PoolHeader) (device : PmemState) (journal : List Entry) : Type 0 where
@@ -39,17 +39,19 @@ pub record IsBehindLast (header : PoolHeader) (device : PmemState) (journal : Li
   pub begins : begins_call entry.call ≡ true
   pub none : begun_by reads ≡ 0
   pub machine : Machine
-  pub leads : IsJournal header.granules before machine
+  pub stacks : Stacks
+  pub leads : IsJournal header.granules before (record { machine = machine; stacks = stacks })
   pub exact : IsExactImage device.base
   pub state : HasState device.base machine
   pub events : device.events ≡ call_events device.base (line_behind 0 before) entry.call entry.reply
 
--- The device of an arena that was formatted with this header went through a legal journal to this state, in which no two
--- blocks overlap. It is quiet and exact, with that state. Its words are, word for word, those that the events of the entries'
+-- The device of an arena that was formatted with this header went through a legal journal to this state and some stacks, in
+-- which no two blocks overlap. It is quiet and exact, with that state. Its words are, word for word, those that the events of the entries'
 -- calls make of the formatted ones. It began one call for the formatting, and one for each entry that is no Read; its base
 -- and events are those of the last of these.
 pub record HasRun (header : PoolHeader) (device : PmemState) (journal : List Entry) (machine : Machine) : Type 0 where
-  pub legal : IsJournal header.granules journal machine
+  pub stacks : Stacks
+  pub legal : IsJournal header.granules journal (record { machine = machine; stacks = stacks })
   pub apart : IsOverlapFree (bounds_for header.granules) machine
   pub quiet : IsQuiet device.events
   pub exact : IsExactImage (words_of device)

@@ -2,18 +2,18 @@
 use Rattle.std.specs.Prelude.{◌≡◌, ℕ, List}
 use Rattle.std.specs.List.{All}
 use Rattle.heap_model.specs.declared.call.Entry.{Entry}
-use Rattle.heap_model.specs.Machine.{Machine}
+use Rattle.heap_model.specs.Placement.{PlacedState}
 use Rattle.trace_text.specs.declared.call.TraceCall.{TraceCall}
 use Rattle.pool_layout.specs.declared.header.PoolHeader.{PoolHeader}
 use Rattle.trace_runs.specs.Calls.{CanBeMade, IsOfBlocks, AreAnswers}
 use Rattle.trace_runs.specs.Journals.{IsJournal}
 use Rattle.trace_runs.specs.Runs.{Stage, IsRunOf}
 
--- Calls that read and write no word have one journal that answers them in order, and it leads to one state. Of other calls
--- this can't be said: a Read of a word that was never written may answer any word.
+-- Calls that read and write no word have one journal that answers them in order, and it leads to one state with one
+-- choice of stacks. Of other calls this can't be said: a Read of a word that was never written may answer any word.
 abbrev pub LawOfOneJournal : Type 0
-LawOfOneJournal = (granules : ℕ) (calls : List TraceCall) (journal other : List Entry) (machine another : Machine) → All IsOfBlocks calls → AreAnswers calls journal → AreAnswers calls other →
-    IsJournal granules journal machine → IsJournal granules other another → (journal ≡ other) × (machine ≡ another)
+LawOfOneJournal = (granules : ℕ) (calls : List TraceCall) (journal other : List Entry) (last another : PlacedState) → All IsOfBlocks calls → AreAnswers calls journal → AreAnswers calls other →
+    IsJournal granules journal last → IsJournal granules other another → (journal ≡ other) × (last ≡ another)
 
 -- Calls have one run, and so one number of events, whatever they read and write: a Read has no event and changes nothing,
 -- whichever word it answers.

@@ -6,8 +6,9 @@ use Rattle.pmem_lines.specs.Pmem.{words_of}
 use Rattle.pool_layout.specs.declared.header.PoolHeader.{PoolHeader}
 use Rattle.heap_model.specs.declared.call.Reply.{Reply}
 use Rattle.heap_model.specs.Machine.{Bounds, Machine, no_heap}
-use Rattle.heap_model.specs.Policy.{plain}
-use Rattle.heap_model.specs.Placement.{bare, IsPlacedStep}
+use Rattle.heap_model.specs.Policy.{without_morphs}
+use Rattle.heap_model.specs.Placement.{PlacedState, bare, IsPlacedStep}
+use Rattle.thread_cache.specs.Stacks.{stacks_of}
 use Rattle.heap_check.specs.Image.{bounds_of}
 use Rattle.heap_check.specs.State.{HasState}
 use Rattle.arena_core.specs.Arena.{ArenaState}
@@ -24,23 +25,23 @@ pub record Stage : Type 0 where
 abbrev pub words_after : Stage → List ℕ
 words_after stage = reading stage.words stage.events
 
--- from these words, this write-ahead line and this state on, a call makes this stage: the reply is the placement's, by
--- the plain policy, in which no stack is filled and no slab takes another class; the events are those of the reply, and
--- behind it come the next line, and words with the state that the machine leads to
-pub record IsStage (b : Bounds) (words : List ℕ) (line : ℕ) (m : Machine) (call : TraceCall) (stage : Stage) (later : ℕ) (next : Machine) : Type 0 where
+-- from these words, this write-ahead line, and this state with its stacks on, a call makes this stage: the reply is the
+-- placement's, by the policy in which no slab takes another class; the events are those of the reply, and behind it come the
+-- next line, and words with the state that the machine leads to
+pub record IsStage (b : Bounds) (words : List ℕ) (line : ℕ) (s : PlacedState) (call : TraceCall) (stage : Stage) (later : ℕ) (next : PlacedState) : Type 0 where
   pub reply : Reply
   pub begins : stage.words ≡ words
   pub events : stage.events ≡ call_events words line call.call reply
   pub later_is : later ≡ line_after line reply
-  pub step : IsPlacedStep plain b call.thread (bare m) call.call reply (bare next)
-  pub state : HasState (words_after stage) next
+  pub step : IsPlacedStep without_morphs b call.thread s call.call reply next
+  pub state : HasState (words_after stage) next.machine
 
 -- from these words, this write-ahead line and this state on, calls make these stages, one after another
-abbrev pub IsRun : Bounds → List ℕ → ℕ → Machine → List TraceCall → List Stage → Type 0
-IsRun b words line m [] stages = stages ≡ []
-IsRun b words line m (call ∷ calls) [] = ⊥
-IsRun b words line m (call ∷ calls) (stage ∷ stages) =
-    (later : ℕ) × (next : Machine) × IsStage b words line m call stage later next × IsRun b (words_after stage) later next calls stages
+abbrev pub IsRun : Bounds → List ℕ → ℕ → PlacedState → List TraceCall → List Stage → Type 0
+IsRun b words line s [] stages = stages ≡ []
+IsRun b words line s (call ∷ calls) [] = ⊥
+IsRun b words line s (call ∷ calls) (stage ∷ stages) =
+    (later : ℕ) × (next : PlacedState) × IsStage b words line s call stage later next × IsRun b (words_after stage) later next calls stages
 
 -- how many events they have
 abbrev pub total_events : List Stage → ℕ
@@ -52,24 +53,28 @@ abbrev pub words_behind : List ℕ → List Stage → List ℕ
 words_behind words [] = words
 words_behind words (stage ∷ stages) = words_behind (words_after stage) stages
 
--- the calls make these stages, in an arena that was formatted with this header
+-- the calls make these stages, in an arena that was formatted with this header: it has no block, and no stack has one
 abbrev pub IsRunOf : PoolHeader → List TraceCall → List Stage → Type 0
-IsRunOf header calls stages = IsRun (bounds_for header.granules) (formatted header) 0 no_heap calls stages
+IsRunOf header calls stages = IsRun (bounds_for header.granules) (formatted header) 0 (bare no_heap) calls stages
 
 -- for the functions below
 
+-- an arena's stacks beside a state
+abbrev pub beside : ArenaState → Machine → PlacedState
+beside arena machine = record { machine = machine; stacks = stacks_of arena.stacks }
+
 -- these calls made these stages and led to this arena and this state, and whatever more calls make comes behind them
-pub record IsRunTo (b : Bounds) (start : List ℕ) (first : Machine) (calls : List TraceCall) (arena : ArenaState) (machine : Machine) (stages : List Stage) : Type 0 where
+pub record IsRunTo (b : Bounds) (start : List ℕ) (first : PlacedState) (calls : List TraceCall) (arena : ArenaState) (machine : Machine) (stages : List Stage) : Type 0 where
   pub state : HasState (words_of arena.device) machine
   pub bounds : bounds_of (words_of arena.device) ≡ b
   pub words : words_of arena.device ≡ words_behind start stages
-  pub run : (rest : List TraceCall) (more : List Stage) → IsRun b (words_of arena.device) arena.line machine rest more → IsRun b start 0 first (calls ++ rest) (stages ++ more)
+  pub run : (rest : List TraceCall) (more : List Stage) → IsRun b (words_of arena.device) arena.line (beside arena machine) rest more → IsRun b start 0 first (calls ++ rest) (stages ++ more)
 
 -- the calls led from an arena that was formatted with this header to this one
 pub record HasGone (header : PoolHeader) (calls : List TraceCall) (arena : ArenaState) : Type 0 where
   pub machine : Machine
   pub stages : List Stage
-  pub to : IsRunTo (bounds_for header.granules) (formatted header) no_heap calls arena machine stages
+  pub to : IsRunTo (bounds_for header.granules) (formatted header) (bare no_heap) calls arena machine stages
 
 -- the same, where the arena was formatted
 abbrev pub GoesOn : List TraceCall → ArenaState → ArenaState → Type 0

@@ -3,6 +3,7 @@ use Rattle.std.specs.Prelude.{◌≡◌, ℕ, ◌<◌, ◌≤◌, List, [], ◌�
 use Rattle.pmem_lines.specs.Events.{CrashOnly}
 use Rattle.pmem_lines.specs.Pmem.{PmemState, words_of}
 use Rattle.heap_model.specs.declared.call.Entry.{Entry}
+use Rattle.heap_model.specs.Placement.{Stacks}
 use Rattle.heap_check.specs.Image.{IsExactImage}
 use Rattle.arena_core.specs.ByCall.{IsLeftBy}
 use Rattle.arena_core.specs.Call.{IsStepOf}
@@ -12,7 +13,6 @@ use Rattle.trace_runs.specs.declared.crashing.Sought.{Sought}
 use Rattle.trace_runs.specs.declared.crashing.Sought.TheVariants.{UnderWay, Past}
 use Rattle.pool_layout.specs.declared.header.PoolHeader.{PoolHeader}
 use Rattle.trace_runs.specs.Arenas.{formatted}
-use Rattle.trace_text.specs.Grammar.{IsAsked}
 use Rattle.trace_runs.specs.Crash.{CrashLeft, IsLeft, IsLeftWithin, IsLeftIdle}
 use Rattle.trace_runs.specs.Runs.{Stage, IsRunOf, total_events}
 
@@ -20,11 +20,12 @@ use Rattle.trace_runs.specs.Runs.{Stage, IsRunOf, total_events}
 abbrev pub last_stage : PmemState → Stage
 last_stage device = record { words = device.base; events = device.events }
 
--- the device went through the call of this entry last, one that a trace may ask for, and that call has events
+-- the device went through the call of this entry last, and that call has events
 pub record IsBehindEntry (device : PmemState) (entry : Entry) : Type 0 where
-  pub asked : IsAsked entry.call
   pub exact : IsExactImage device.base
-  pub step : IsStepOf entry.seat device.base (words_of device) entry.call entry.reply
+  pub was : Stacks
+  pub after : Stacks
+  pub step : IsStepOf entry.seat device.base was (words_of device) after entry.call entry.reply
   pub line : ℕ
   pub events : device.events ≡ call_events device.base line entry.call entry.reply
   pub some : 0 < length device.events

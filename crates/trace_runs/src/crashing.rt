@@ -214,8 +214,8 @@ fn copy_of(alloc: Global, words: &[u64]) -> Result<Vec<u64>, OutOfMemory>
     Ok(words.to_vec(alloc)?)
 }
 
-// The side of a call by whether its root has a block, which it has after a call that gives one, and before one that takes
-// one.
+// The side of a call by whether its root has a block, which it has after a call that gives one or moves one there, and
+// before one that takes one.
 fn side_of(has: bool, given: bool) -> CrashSide
     ensures { result ≡ side_of has given }
 {
@@ -226,13 +226,13 @@ fn side_of(has: bool, given: bool) -> CrashSide
     }
 }
 
-// The side of a call with this reply, by whether its root has a block. A call that gives none and takes none, as a Write,
-// changes no heap.
+// The side of a call with this reply, by whether its root has a block. A call that gives none, takes none and moves none, as
+// a Write, changes no heap.
 fn side_by(reply: &Reply, has: bool) -> CrashSide
     ensures { result ≡ side_by reply.now has }
 {
     match *reply {
-        Reply::Placed { .. } => side_of(has, true),
+        Reply::Placed { .. } | Reply::Moved { .. } => side_of(has, true),
         Reply::Freed { .. } => side_of(has, false),
         _ => CrashSide::Same,
     }

@@ -59,10 +59,10 @@ one_asked (Free r) (Free t) p q e =
     cc
 one_asked (Malloc r s) (Write t i v) p q e = absurd (omega (arith, same_letter 109 119 _ _ e))
 one_asked (Malloc r s) (Read t i) p q e = absurd (omega (arith, same_letter 109 114 _ _ e))
-one_asked (Malloc r s) (Move t i) p q e = absurd q
+one_asked (Malloc r s) (Move t i) p q e = absurd (omega (arith, same_letter 109 118 _ _ e))
 one_asked (Free r) (Write t i v) p q e = absurd (omega (arith, same_letter 102 119 _ _ e))
 one_asked (Free r) (Read t i) p q e = absurd (omega (arith, same_letter 102 114 _ _ e))
-one_asked (Free r) (Move t i) p q e = absurd q
+one_asked (Free r) (Move t i) p q e = absurd (omega (arith, same_letter 102 118 _ _ e))
 one_asked (Write r i v) (Malloc t u) p q e = absurd (omega (arith, same_letter 119 109 _ _ e))
 one_asked (Write r i v) (Free t) p q e = absurd (omega (arith, same_letter 119 102 _ _ e))
 one_asked (Write r i v) (Write t j w) p q e =
@@ -73,7 +73,7 @@ one_asked (Write r i v) (Write t j w) p q e =
     let value : v ≡ w = decimal_injective v w (omega (arith, p.2)) (omega (arith, q.2)) h.2 in
     cc
 one_asked (Write r i v) (Read t j) p q e = absurd (omega (arith, same_letter 119 114 _ _ e))
-one_asked (Write r i v) (Move t j) p q e = absurd q
+one_asked (Write r i v) (Move t j) p q e = absurd (omega (arith, same_letter 119 118 _ _ e))
 one_asked (Read r i) (Malloc t u) p q e = absurd (omega (arith, same_letter 114 109 _ _ e))
 one_asked (Read r i) (Free t) p q e = absurd (omega (arith, same_letter 114 102 _ _ e))
 one_asked (Read r i) (Write t j v) p q e = absurd (omega (arith, same_letter 114 119 _ _ e))
@@ -83,8 +83,17 @@ one_asked (Read r i) (Read t j) p q e =
     let root : r ≡ t = h.0 in
     let index : i ≡ j = decimal_injective i j (omega (arith, p.1)) (omega (arith, q.1)) h.1 in
     cc
-one_asked (Read r i) (Move t j) p q e = absurd q
-one_asked (Move r i) b p q e = absurd p
+one_asked (Read r i) (Move t j) p q e = absurd (omega (arith, same_letter 114 118 _ _ e))
+one_asked (Move r i) (Malloc t u) p q e = absurd (omega (arith, same_letter 118 109 _ _ e))
+one_asked (Move r i) (Free t) p q e = absurd (omega (arith, same_letter 118 102 _ _ e))
+one_asked (Move r i) (Write t j v) p q e = absurd (omega (arith, same_letter 118 119 _ _ e))
+one_asked (Move r i) (Read t j) p q e = absurd (omega (arith, same_letter 118 114 _ _ e))
+one_asked (Move r i) (Move t j) p q e =
+    let words : decimal r ++ 32 ∷ decimal i ≡ decimal t ++ 32 ∷ decimal j = cc in
+    let h = same_field (decimal t ++ 32 ∷ decimal j) r t (decimal i) (decimal j) (omega (arith, p.0)) (omega (arith, q.0)) (sym words) refl in
+    let root : r ≡ t = h.0 in
+    let other : i ≡ j = decimal_injective i j (omega (arith, p.1)) (omega (arith, q.1)) h.1 in
+    cc
 
 -- calls that agree in all parts are one
 same_call : (a b : TraceCall) → a.thread ≡ b.thread → a.arena ≡ b.arena → a.call ≡ b.call → a ≡ b

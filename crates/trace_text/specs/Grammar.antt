@@ -48,7 +48,7 @@ IsAsked (Malloc root size) = (root < 2 ^ 32) × (size < 2 ^ 64)
 IsAsked (Free root) = root < 2 ^ 32
 IsAsked (Write root index value) = (root < 2 ^ 32) × (index < 2 ^ 32) × (value < 2 ^ 64)
 IsAsked (Read root index) = (root < 2 ^ 32) × (index < 2 ^ 32)
-IsAsked (Move from to) = ⊥
+IsAsked (Move from to) = (from < 2 ^ 32) × (to < 2 ^ 32)
 
 -- a call that a trace of so many arenas may have
 pub record IsTraceCall (arenas : ℕ) (call : TraceCall) : Type 0 where

@@ -91,10 +91,17 @@ fn read_asked(words: &[u8]) -> Option<Call>
         let (root, index, value) = read_written(rest)?;
         return Some(Call::Write { root, index, value });
     }
-    let (root, index) = read_two(after(words, b"r ")?, LAST_INDEX)?;
-    Some(Call::Read {
-        root,
-        index: index as u32,
+    if let Some(rest) = after(words, b"r ") {
+        let (root, index) = read_two(rest, LAST_INDEX)?;
+        return Some(Call::Read {
+            root,
+            index: index as u32,
+        });
+    }
+    let (from, to) = read_two(after(words, b"v ")?, LAST_ROOT)?;
+    Some(Call::Move {
+        from,
+        to: to as u32,
     })
 }
 

@@ -55,10 +55,9 @@ pub returns-then-left-count-clause-next : goal.returns-then-left-count-clause-ne
 returns-then-left-count-clause-next c =
     let d : TraceCall = record { thread = 0; arena = 0; call = Malloc 0 0 } in
     let new : ArenaState = c.answer-entry.new.arena in
-    let valid = c.requires.each c.loop-call.call-index d c.loop-call-test.true in
     let stage : Stage = stage_of c.loop-call.made (get_or c.args.calls.now c.loop-call.call-index d).call c.answer-entry.result.reply in
     let count : length stage.events ≡ c.from-count.result = events_done c.loop-call.made new _ _ c.answer-entry.ensures.answered.done ∙ sym (c.from-count.ensures ∙ c.events_of.ensures) in (
-      IsBehindEntry-answered c.loop-call.made new _ _ c.answer-entry.result valid.1 c.answer-entry.ensures.seat c.answer-entry.ensures.call c.answer-entry.ensures.answered (omega (arith, count, c.if-count-gt0.true)),
+      IsBehindEntry-answered c.loop-call.made new _ _ c.answer-entry.result c.answer-entry.ensures.seat c.answer-entry.ensures.call c.answer-entry.ensures.answered (omega (arith, count, c.if-count-gt0.true)),
       within_done c.loop-call.made new _ c.answer-entry.result.reply _ c.answer-entry.ensures.answered.done (omega (arith, count, c.if-count-gt0.true)) (omega (arith, count, c.if-left-count.true)),
     )
 

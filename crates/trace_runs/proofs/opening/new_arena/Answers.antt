@@ -10,4 +10,4 @@ returns g c =
     let device : PmemState = g.P.Pmem.state c.args.device in
     IsNewArena-format (header_for c.args.pool c.args.arena) device c.format.result c.requires.zeroed
     (subst (λ n. c.format.result.device ≡ appended (began device) (format_events (header_for (record { arenas = c.args.pool.arenas; granules = n }) c.args.arena))) c.in_ok-room.ensures c.format.ensures.device)
-    c.format.ensures.line c.format.ensures.ready c.format.ensures.exact c.format.ensures.empty
+    c.format.ensures.line c.format.ensures.stacks c.format.ensures.ready c.format.ensures.exact c.format.ensures.empty
