@@ -1,7 +1,7 @@
 #!/usr/bin/env bash
 # Times `replay` of the built program on a million mallocs and frees of small blocks over four arenas: all of them by one
-# thread, then each arena's by a thread of its own; and on a hundred thousand over one arena, by one thread and by 64. It is
-# no test. The traces are made in a temporary folder, which is removed at the end.
+# thread, then each arena's by a thread of its own; on a hundred thousand over one arena, by one thread and by 64; and `gen`
+# of a million calls. It is no test. The traces are made in a temporary folder, which is removed at the end.
 set -eu
 
 top=$(dirname -- "$(dirname -- "$(readlink -f -- "${BASH_SOURCE[0]}")")")
@@ -43,3 +43,6 @@ calls 100000 1 4 >"$room/trace"
 measure "one arena, four threads" 100000
 calls 100000 1 64 >"$room/trace"
 measure "one arena, 64 threads" 100000
+
+# A million generated calls, for which no input is read.
+python3 "$top/bench/measure.py" "$program" /dev/null "$room/out" "generated work" 1000000 call gen 1000000 7

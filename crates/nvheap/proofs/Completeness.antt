@@ -24,7 +24,7 @@ use Rattle.trace_runs.specs.Calls.{calls_of}
 use Rattle.trace_text.proofs.OneMeaning.{law_of_one_trace, law_of_no_refusal}
 use Rattle.trace_runs.specs.Crash.{HasFewer}
 use Rattle.nvheap.specs.declared.command.Command.{Command}
-use Rattle.nvheap.specs.declared.command.Command.TheVariants.{Replay, Image, Check, Recover, Crash}
+use Rattle.nvheap.specs.declared.command.Command.TheVariants.{Replay, Image, Check, Recover, Crash, Gen}
 use Rattle.nvheap.specs.declared.cause.Cause.{Cause}
 use Rattle.nvheap.specs.declared.cause.Cause.TheVariants as causes
 use Rattle.nvheap.specs.declared.status.Status.{Status}
@@ -72,6 +72,7 @@ letter_of Image = 103
 letter_of Check = 99
 letter_of Recover = 111
 letter_of (Crash arena event seed) = 115
+letter_of (Gen count seed) = 0
 
 said_letter : (words : List (List ℕ)) (command : Command) → IsCommand words command → letter words ≡ letter_of command
 said_letter words Replay said = ap letter said
@@ -79,6 +80,7 @@ said_letter words Image said = ap letter said
 said_letter words Check said = ap letter said
 said_letter words Recover said = ap letter said
 said_letter words (Crash arena event seed) said = ap letter said.0
+said_letter words (Gen count seed) said = ap letter said.0
 
 same_number : (a b : ℕ) → decimal a ≡ decimal b → a < 2 ^ 64 → b < 2 ^ 64 → a ≡ b
 same_number a b same fits other = decimal_injective a b (omega (arith, fits)) (omega (arith, other)) same
@@ -90,32 +92,49 @@ same_crash words a e s b f t p q =
     let seed : decimal s ≡ decimal t = cc (p.0, q.0) in
     cc (same_number a b arena (omega (arith, p.1)) (omega (arith, q.1)), same_number e f event p.2 q.2, same_number s t seed p.3 q.3)
 
+same_gen : (words : List (List ℕ)) (n s m t : ℕ) → IsCommand words (Gen n s) → IsCommand words (Gen m t) → Gen n s ≡ Gen m t
+same_gen words n s m t p q =
+    let count : decimal n ≡ decimal m = cc (p.0, q.0) in
+    let seed : decimal s ≡ decimal t = cc (p.0, q.0) in
+    cc (same_number n m count (omega (arith, p.2)) (omega (arith, q.2)), same_number s t seed p.3 q.3)
+
 one_of_letter : (words : List (List ℕ)) (a b : Command) → letter_of a ≡ letter_of b → IsCommand words a → IsCommand words b → a ≡ b
 one_of_letter words Replay Replay same p q = refl
 one_of_letter words Replay Image same p q = absurd (omega (arith, same))
 one_of_letter words Replay Check same p q = absurd (omega (arith, same))
 one_of_letter words Replay Recover same p q = absurd (omega (arith, same))
 one_of_letter words Replay (Crash b f t) same p q = absurd (omega (arith, same))
+one_of_letter words Replay (Gen m t) same p q = absurd (omega (arith, same))
 one_of_letter words Image Replay same p q = absurd (omega (arith, same))
 one_of_letter words Image Image same p q = refl
 one_of_letter words Image Check same p q = absurd (omega (arith, same))
 one_of_letter words Image Recover same p q = absurd (omega (arith, same))
 one_of_letter words Image (Crash b f t) same p q = absurd (omega (arith, same))
+one_of_letter words Image (Gen m t) same p q = absurd (omega (arith, same))
 one_of_letter words Check Replay same p q = absurd (omega (arith, same))
 one_of_letter words Check Image same p q = absurd (omega (arith, same))
 one_of_letter words Check Check same p q = refl
 one_of_letter words Check Recover same p q = absurd (omega (arith, same))
 one_of_letter words Check (Crash b f t) same p q = absurd (omega (arith, same))
+one_of_letter words Check (Gen m t) same p q = absurd (omega (arith, same))
 one_of_letter words Recover Replay same p q = absurd (omega (arith, same))
 one_of_letter words Recover Image same p q = absurd (omega (arith, same))
 one_of_letter words Recover Check same p q = absurd (omega (arith, same))
 one_of_letter words Recover Recover same p q = refl
 one_of_letter words Recover (Crash b f t) same p q = absurd (omega (arith, same))
+one_of_letter words Recover (Gen m t) same p q = absurd (omega (arith, same))
 one_of_letter words (Crash a e s) Replay same p q = absurd (omega (arith, same))
 one_of_letter words (Crash a e s) Image same p q = absurd (omega (arith, same))
 one_of_letter words (Crash a e s) Check same p q = absurd (omega (arith, same))
 one_of_letter words (Crash a e s) Recover same p q = absurd (omega (arith, same))
 one_of_letter words (Crash a e s) (Crash b f t) same p q = same_crash words a e s b f t p q
+one_of_letter words (Crash a e s) (Gen m t) same p q = absurd (omega (arith, same))
+one_of_letter words (Gen n s) Replay same p q = absurd (omega (arith, same))
+one_of_letter words (Gen n s) Image same p q = absurd (omega (arith, same))
+one_of_letter words (Gen n s) Check same p q = absurd (omega (arith, same))
+one_of_letter words (Gen n s) Recover same p q = absurd (omega (arith, same))
+one_of_letter words (Gen n s) (Crash b f t) same p q = absurd (omega (arith, same))
+one_of_letter words (Gen n s) (Gen m t) same p q = same_gen words n s m t p q
 
 pub one_command : (words : List (List ℕ)) (a b : Command) → IsCommand words a → IsCommand words b → a ≡ b
 one_command words a b p q = one_of_letter words a b (sym (said_letter words a p) ∙ said_letter words b q) p q
@@ -176,6 +195,7 @@ accepted_not_refused Recover input (causes.Trace refusal) has refused = refused
 accepted_not_refused Recover input (causes.Image arena defect) has refused = sound_not_refused input arena defect has refused
 accepted_not_refused (Crash arena event seed) input (causes.Trace refusal) has refused = crash_not_refused arena event input refusal has refused
 accepted_not_refused (Crash arena event seed) input (causes.Image found defect) has refused = refused
+accepted_not_refused (Gen count seed) input why has refused = refused
 
 -- how a command ends on what it accepts, where neither the source nor the sink failed
 ends_well : (command : Command) (old new : Outside) (status : Status) → Ends command old new status → HasAcceptable command old.left → ¬ (status ≡ ends.ReadFault) → ¬ (status ≡ ends.WriteFault) →

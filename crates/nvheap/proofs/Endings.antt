@@ -1,7 +1,7 @@
 -- How a command ends, from what was read and what was written.
 use Rattle.std.proofs.Common.{◌≡◌, ℕ, List, inl, inr}
 use Rattle.nvheap.specs.declared.command.Command.{Command}
-use Rattle.nvheap.specs.declared.command.Command.TheVariants.{Replay}
+use Rattle.nvheap.specs.declared.command.Command.TheVariants.{Replay, Gen}
 use Rattle.nvheap.specs.declared.answers.Answer.{Answer}
 use Rattle.nvheap.specs.declared.answers.Answer.TheVariants.{Output, FaultLine}
 use Rattle.nvheap.specs.declared.status.Status.{Status}
@@ -32,3 +32,8 @@ ends_written command old new input (FaultLine text) TooLong read is counts writt
 pub counts_kept : (input : List ℕ) (old new : ℕ) (answer : Answer) → new ≡ old → CountsImages Replay input old new answer
 counts_kept input old new (Output text) same = same
 counts_kept input old new (FaultLine text) same = tt
+
+-- and neither does `gen`
+pub counts_generated : (count seed : ℕ) (input : List ℕ) (old new : ℕ) (answer : Answer) → new ≡ old → CountsImages (Gen count seed) input old new answer
+counts_generated count seed input old new (Output text) same = same
+counts_generated count seed input old new (FaultLine text) same = tt

@@ -9,7 +9,7 @@ use Rattle.trace_runs.specs.Calls.{calls_of}
 use Rattle.trace_text.specs.Grammar.{IsTrace}
 use Rattle.trace_runs.specs.Runs.{Stage, IsRunOf, total_events}
 use Rattle.nvheap.specs.declared.command.Command.{Command}
-use Rattle.nvheap.specs.declared.command.Command.TheVariants.{Replay, Image, Check, Recover, Crash}
+use Rattle.nvheap.specs.declared.command.Command.TheVariants.{Replay, Image, Check, Recover, Crash, Gen}
 use Rattle.nvheap.specs.Outside.{Outside}
 use Rattle.nvheap.specs.Inputs.{limit_of, HasLeft}
 use Rattle.nvheap.specs.Ends.{IsSaid}
@@ -41,6 +41,7 @@ Accepts Image input = HasTrace input
 Accepts Check input = HasSoundArenas input
 Accepts Recover input = HasSoundArenas input
 Accepts (Crash arena event seed) input = HasEvents input arena event
+Accepts (Gen count seed) input = Unit {0}
 
 -- the source has an input that a command accepts, within its limit
 pub record HasAcceptable (command : Command) (left : Option (List ℕ)) : Type 0 where

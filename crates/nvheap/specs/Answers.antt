@@ -21,6 +21,8 @@ use Rattle.trace_runs.specs.Calls.{calls_of}
 use Rattle.trace_runs.specs.Journals.{IsRunThrough}
 use Rattle.trace_runs.specs.Crash.{CrashLeft, IsCrashOf, HasFewer}
 use Rattle.trace_workers.specs.Reports.{IsReplayed}
+use Rattle.trace_workers.specs.Summaries.{IsSummed}
+use Rattle.trace_gen.specs.Draws.{the_pool, generated}
 use Rattle.nvheap.specs.Outside.{put_device, put_devices}
 
 -- The output is the report of runs that answer the trace's calls, one for each arena, and the place of each arena's number
@@ -31,6 +33,13 @@ pub record AnswersReplay (input output : List ℕ) (old new : Option (List (Opti
   pub trace : IsTrace input pool calls
   pub devices : List PmemState
   pub replayed : IsReplayed pool calls output devices
+  pub put : new ≡ put_devices old 0 devices
+
+-- The output is the summary of runs that answer the calls of generated work, one for each arena of its pool, and the place of
+-- each arena's number has the device that went through its run; the other places stay.
+pub record AnswersGen (count seed : ℕ) (output : List ℕ) (old new : Option (List (Option PmemState))) : Type 0 where
+  pub devices : List PmemState
+  pub summed : IsSummed the_pool (generated count seed) output devices
   pub put : new ≡ put_devices old 0 devices
 
 -- each of these devices, from this arena on, went through a legal journal that answers the arena's calls, in order

@@ -19,7 +19,7 @@ use Rattle.nvheap.specs.declared.status.Status.TheVariants.{Done, Usage, Refused
 use Rattle.nvheap.specs.Outside.{Outside, Takes, TakesFront}
 use Rattle.nvheap.specs.Inputs.{limit_of, HasRead, HasReadFew, HasReadMore}
 use Rattle.nvheap.specs.Command.{IsCommand}
-use Rattle.nvheap.specs.Answers.{AnswersReplay, AnswersImage, AnswersRecover, AnswersCrash, LacksArena, LacksEvent}
+use Rattle.nvheap.specs.Answers.{AnswersReplay, AnswersImage, AnswersRecover, AnswersCrash, AnswersGen, LacksArena, LacksEvent}
 
 -- the exit code
 abbrev pub code_of : Status → ℕ
@@ -38,6 +38,7 @@ Answers commands.Image input output old new = AnswersImage input output old new
 Answers commands.Check input output old new = IsChecked input output × (new ≡ old)
 Answers commands.Recover input output old new = AnswersRecover input output old new
 Answers (commands.Crash arena event seed) input output old new = AnswersCrash input output arena event seed old new
+Answers (commands.Gen count seed) input output old new = AnswersGen count seed output old new
 
 -- how many devices a command makes of images where it has an output: one for each arena that it recovers
 abbrev pub MakesImages : Command → List ℕ → ℕ → ℕ → Type 0
@@ -46,6 +47,7 @@ MakesImages commands.Image input old new = new ≡ old
 MakesImages commands.Check input old new = new ≡ old
 MakesImages commands.Recover input old new = (words : List ℕ) × (image : IsImageOf input words) × (new ≡ risen old image.header.arenas)
 MakesImages (commands.Crash arena event seed) input old new = new ≡ risen old 1
+MakesImages (commands.Gen count seed) input old new = new ≡ old
 
 -- the line that says why an input is refused
 abbrev pub cause_text : Cause → List ℕ
@@ -76,6 +78,7 @@ Refuses commands.Recover input (causes.Trace refusal) = ⊥
 Refuses commands.Recover input (causes.Image arena defect) = IsPoolDefect input arena defect
 Refuses (commands.Crash asked event seed) input (causes.Trace refusal) = RefusesCrash asked event input refusal
 Refuses (commands.Crash asked event seed) input (causes.Image arena defect) = ⊥
+Refuses (commands.Gen count seed) input cause = ⊥
 
 -- the text is the line that says why a command refuses an input, and the shelf's places are as they were
 pub record SaysWhy (command : Command) (input text : List ℕ) (old new : Option (List (Option PmemState))) : Type 0 where

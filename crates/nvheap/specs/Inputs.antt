@@ -2,7 +2,7 @@
 use Rattle.std.specs.Prelude.{◌≡◌, ◌<◌, ◌≤◌, ◌^◌, ℕ, List, [], length, Option, Some, None}
 use Rattle.pool_layout.specs.Image.{AreWordsOf}
 use Rattle.nvheap.specs.declared.command.Command.{Command}
-use Rattle.nvheap.specs.declared.command.Command.TheVariants.{Replay, Image, Check, Recover, Crash}
+use Rattle.nvheap.specs.declared.command.Command.TheVariants.{Replay, Image, Check, Recover, Crash, Gen}
 use Rattle.nvheap.specs.declared.input.Input.{Input}
 use Rattle.nvheap.specs.declared.input.Input.TheVariants.{Text, Pool}
 use Rattle.nvheap.specs.Outside.{Gives, GivesAll, GivesFew, GivesMore}
@@ -31,6 +31,7 @@ limit_of Image = Some longest_trace
 limit_of Check = Some longest_image
 limit_of Recover = Some longest_image
 limit_of (Crash arena event seed) = Some longest_trace
+limit_of (Gen count seed) = None
 
 -- the input, within its limit, is what the source has left
 abbrev pub HasLeft : Option ℕ → Option (List ℕ) → List ℕ → Type 0
@@ -65,13 +66,14 @@ pub record IsInput (input : Input) : Type 0 where
   pub has : HasBytes input bytes
   pub short : length bytes < 2 ^ 32
 
--- a command reads an input of this kind
+-- a command reads an input of this kind; generated work reads none
 abbrev pub Fits : Command → Input → Type 0
 Fits Replay input = IsText input
 Fits Image input = IsText input
 Fits Check input = IsPool input
 Fits Recover input = IsPool input
 Fits (Crash arena event seed) input = IsText input
+Fits (Gen count seed) input = ⊥
 
 -- the input was read: its bytes were all that the source had, within the command's limit
 pub record IsRead (command : Command) (old new : Option (List ℕ)) (input : Input) : Type 0 where

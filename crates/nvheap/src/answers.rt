@@ -1,9 +1,9 @@
 // What each command has to say of its input.
-ghost use Rattle.std.specs.Prelude.{◌≡◌, ◌≢◌, ℕ, List, Option, IfOk, OnErr};
+ghost use Rattle.std.specs.Prelude.{◌≡◌, ℕ, List, Option, IfOk, OnErr};
 ghost use Rattle.pmem_lines.specs.Pmem.{PmemState};
 ghost use Rattle.nvheap.specs.declared.command.Command.TheVariants as commands;
 ghost use Rattle.pool_layout.specs.Image.{AreWordsOf, AreWords};
-ghost use Rattle.nvheap.specs.Command.{Recovers};
+ghost use Rattle.nvheap.specs.Command.{MayWait, Recovers};
 ghost use Rattle.nvheap.specs.Inputs.{HasBytes, IsInput, Fits};
 ghost use Rattle.nvheap.specs.Ends.{IsAnswer, CountsImages, IsFaultLine};
 
@@ -35,7 +35,7 @@ pub(crate) fn answer_to<H: Shelf>(
     input: &Input,
     shelf: &mut H,
 ) -> Result<Answer, OutOfMemory>
-    requires returns { command ≢ commands.Replay }
+    requires returns { ¬ (MayWait command) }
     requires fits { Fits command input.now }
     requires input { IsInput input.now }
     ensures answer { IfOk result (λ answer. (bytes : List ℕ) → HasBytes input.now bytes → IsAnswer command bytes (H.places shelf.old) (H.places shelf.new) answer) }

@@ -1,6 +1,6 @@
 // The words of the program.
 ghost use Rattle.std.specs.Prelude.{◌≡◌, ◌↔◌, IsTrue, map, string_bytes, MatchOption};
-ghost use Rattle.nvheap.specs.Command.{IsCommand, IsNoCommand, SaysCrash, IsNoCrash};
+ghost use Rattle.nvheap.specs.Command.{IsCommand, IsNoCommand, SaysCrash, IsNoCrash, SaysGen, IsNoGen};
 
 use trace_text::whole_number;
 
@@ -17,7 +17,11 @@ pub enum Command {
     Recover,
     /// Run a trace on one arena, from 0 to 15, up to an event, and print the heap that a crash leaves there.
     Crash { arena: u32, event: u64, seed: u64 },
+    /// Run so many generated calls, from 1 to 1,000,000, and print what they came to.
+    Gen { count: u32, seed: u64 },
 }
+
+const MOST_CALLS: u64 = 1_000_000;
 
 /// The command that the words say, if they say one.
 pub(crate) fn command_of(words: &[String]) -> Option<Command>
@@ -42,6 +46,9 @@ pub(crate) fn command_of(words: &[String]) -> Option<Command>
             words[3].as_bytes(),
         );
     }
+    if words.len() == 3 && is_word(&words[0], "gen") {
+        return gen_of(words[1].as_bytes(), words[2].as_bytes());
+    }
     None
 }
 
@@ -62,6 +69,21 @@ fn crash_of(arena: &[u8], event: &[u8], seed: &[u8]) -> Option<Command>
     Some(Command::Crash {
         arena: arena as u32,
         event,
+        seed,
+    })
+}
+
+// The generated work that these two numbers ask for, if they are numbers, and not of no calls.
+fn gen_of(count: &[u8], seed: &[u8]) -> Option<Command>
+    ensures { MatchOption result (IsNoGen count.now seed.now) (SaysGen count.now seed.now) }
+{
+    let count = whole_number(count, MOST_CALLS)?;
+    let seed = whole_number(seed, u64::MAX)?;
+    if count == 0 {
+        return None;
+    }
+    Some(Command::Gen {
+        count: count as u32,
         seed,
     })
 }

@@ -1,6 +1,7 @@
 // What a command reads.
 ghost use Rattle.std.specs.Prelude.{◌≡◌, ◌-◌, ◌<◌, ◌≤◌, ◌%◌, ◌^◌, ◌++◌, ℕ, List, [], length, take, IfOk, IfErr, OnOk, OnErr, Err};
 ghost use Rattle.nvheap.specs.Outside.{Rose, Gives, GivesFew, GivesMore, IsAtEnd};
+ghost use Rattle.nvheap.specs.Command.{ReadsNone};
 ghost use Rattle.nvheap.specs.Inputs.{limit_of, HasBytes, IsInput, Fits, IsRead, HasCome, HasAllCome, GivesLess};
 ghost use Rattle.nvheap.specs.Ends.{IsUnread};
 
@@ -64,12 +65,13 @@ impl From<Failed> for Unread {
     }
 }
 
-/// The input of a command, or how a run of it ends without one. An image is read into its words in place.
+/// The input of a command that reads one, or how a run of it ends without. An image is read into its words in place.
 pub(crate) fn read_input<S: Source>(
     alloc: Global,
     command: Command,
     source: &mut S,
 ) -> Result<Input, Status>
+    requires { ¬ (ReadsNone command) }
     ensures read { IfOk result (IsRead command (S.left source.old) (S.left source.new)) }
     ensures fits { IfOk result (Fits command) }
     ensures input { IfOk result IsInput }
@@ -88,18 +90,21 @@ pub(crate) fn read_input<S: Source>(
 // The most bytes that a command's input may have.
 #[tactic(auto, unfolding(crate::specs::Inputs::longest_trace, crate::specs::Inputs::longest_image))]
 fn longest_of(command: Command) -> usize
+    requires { ¬ (ReadsNone command) }
     ensures longest { limit_of command ≡ Some result }
     ensures few { result < 2 ^ 32 - 65536 }
 {
     match command {
         Command::Replay | Command::Image | Command::Crash { .. } => LONGEST_TRACE,
         Command::Check | Command::Recover => LONGEST_IMAGE,
+        Command::Gen { .. } => unreachable!(),
     }
 }
 
 // An input of a command, of which no byte has come.
 #[tactic(auto, unfolding(pool_layout::specs::Bytes::words_of_bytes))]
 fn empty_input(alloc: Global, command: Command) -> Input
+    requires { ¬ (ReadsNone command) }
     ensures none { HasBytes result [] }
     ensures fits { Fits command result }
 {
@@ -109,6 +114,7 @@ fn empty_input(alloc: Global, command: Command) -> Input
             words: Vec::new(alloc),
             bytes: 0,
         },
+        Command::Gen { .. } => unreachable!(),
     }
 }
 

@@ -49,8 +49,8 @@ pub(crate) fn replay_answer<R: Threads + Wait + Sync, G: Gate + Sync, H: Shelf>(
     Ok(Answer::Output(done.text))
 }
 
-// The arenas of a trace's pool, formatted over devices of the shelf.
-fn take_arenas<H: Shelf>(
+/// The arenas of a trace's pool, formatted over devices of the shelf.
+pub(crate) fn take_arenas<H: Shelf>(
     alloc: Global,
     trace: &Trace,
     shelf: &mut H,

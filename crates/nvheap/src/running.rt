@@ -1,13 +1,14 @@
 // The top call.
-ghost use Rattle.std.specs.Prelude.{◌≡◌, ◌≢◌, ◌↔◌, ◌⊎◌, map, string_bytes};
+ghost use Rattle.std.specs.Prelude.{◌≡◌, ◌↔◌, ◌⊎◌, ℕ, List, Option, map, string_bytes};
 ghost use Rattle.nvheap.specs.declared.command.Command.TheVariants as commands;
 ghost use Rattle.nvheap.specs.Outside.{told_by, Rose, KeepsPlaces, KeepsImages};
-ghost use Rattle.nvheap.specs.Command.{IsCommand, IsNoCommand, Recovers};
+ghost use Rattle.nvheap.specs.Command.{IsCommand, IsNoCommand, MayWait, ReadsNone, Recovers};
 ghost use Rattle.nvheap.specs.Ends.{Ends, IsSaid, IsDone, IsRefused, IsWithinLimit, IsCutShort, IsTooLong, IsSilent, IsAside};
 ghost use Rattle.nvheap.specs.Accepted.{IsAccepted};
 
 use crate::answers::answer_to;
 use crate::command::{Command, command_of};
+use crate::generating::gen_answer;
 use crate::input::{Input, read_input};
 use crate::output::write_answer;
 use crate::replaying::replay_answer;
@@ -20,8 +21,8 @@ use std::sync::Wait;
 use std::thread::Threads;
 use trace_workers::Gate;
 
-/// Does all that the program does: reads the words, then all of the source, runs the command, and then writes. `words`
-/// are the words after the program's name.
+/// Does all that the program does: reads the words, then all of the source where the command reads one, runs the command, and
+/// then writes. `words` are the words after the program's name.
 ///
 /// `Usage` comes exactly where the words say no command. The other answers come in the order `ReadFault`, `TooLong`,
 /// `Refused`, `WriteFault`, `Done`, each where no earlier one came; `Memory` may stand in the place of any of them.
@@ -57,18 +58,20 @@ pub fn run<R: Threads + Wait + Sync, S: Source, K: Sink, G: Gate + Sync, H: Shel
     ensures idle { IsCommand (map string_bytes words.now) commands.Check → shelf.new ≡ shelf.old }
     ensures images { let told = told_by S.left K.taken H.places H.images in
         ¬ (IsSaid (map string_bytes words.now) Recovers) → KeepsImages (told source.old sink.old shelf.old) (told source.new sink.new shelf.new) }
+    ensures unread { IsSaid (map string_bytes words.now) ReadsNone → source.new ≡ source.old }
 {
     let Some(command) = command_of(words) else {
         return Status::Usage;
     };
     match command {
-        Command::Replay => run_waiting(rt, alloc, source, sink, gate, shelf),
+        Command::Replay => run_replay(rt, alloc, source, sink, gate, shelf),
+        Command::Gen { count, seed } => run_gen(rt, alloc, count, seed, sink, gate, shelf),
         _ => run_returning(alloc, command, source, sink, shelf),
     }
 }
 
-// Runs `replay`, the command that may wait.
-fn run_waiting<R: Threads + Wait + Sync, S: Source, K: Sink, G: Gate + Sync, H: Shelf>(
+// Runs `replay`, which may wait.
+fn run_replay<R: Threads + Wait + Sync, S: Source, K: Sink, G: Gate + Sync, H: Shelf>(
     rt: &R,
     alloc: Global,
     source: &mut S,
@@ -95,6 +98,29 @@ fn run_waiting<R: Threads + Wait + Sync, S: Source, K: Sink, G: Gate + Sync, H: 
     }
 }
 
+// Runs `gen`, which may wait. It reads no input.
+fn run_gen<R: Threads + Wait + Sync, K: Sink, G: Gate + Sync, H: Shelf>(
+    rt: &R,
+    alloc: Global,
+    count: u32,
+    seed: u64,
+    sink: &mut K,
+    gate: &G,
+    shelf: &mut H,
+) -> Status
+    ensures ends { let told = told_by (λ (left : Option (List ℕ)). left) K.taken H.places H.images in
+        (left : Option (List ℕ)) → Ends (commands.Gen count seed) (told left sink.old shelf.old) (told left sink.new shelf.new) result }
+    ensures write_fault { result ≡ Status.WriteFault → Rose (K.faults sink.old) (K.faults sink.new) }
+    ensures silent { IsSilent result → sink.new ≡ sink.old }
+    ensures aside { IsAside result → H.places shelf.new ≡ H.places shelf.old }
+    ensures images { H.images shelf.new ≡ H.images shelf.old }
+{
+    match gen_answer(rt, alloc, count, seed, gate, shelf) {
+        Ok(answer) => write_answer(sink, &answer),
+        Err(_) => Status::Memory,
+    }
+}
+
 // Runs one of the other commands. They wait for nobody.
 fn run_returning<S: Source, K: Sink, H: Shelf>(
     alloc: Global,
@@ -103,7 +129,7 @@ fn run_returning<S: Source, K: Sink, H: Shelf>(
     sink: &mut K,
     shelf: &mut H,
 ) -> Status
-    requires { command ≢ commands.Replay }
+    requires { ¬ (MayWait command) }
     ensures ends { let told = told_by S.left K.taken H.places H.images in
         Ends command (told source.old sink.old shelf.old) (told source.new sink.new shelf.new) result }
     ensures read_fault { result ≡ Status.ReadFault → Rose (S.faults source.old) (S.faults source.new) }

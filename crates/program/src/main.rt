@@ -27,7 +27,9 @@ fn without_words(fault: io::Error) -> Status {
 fn complaint(status: Status) -> Option<&'static str> {
     match status {
         Status::Done | Status::Refused => None,
-        Status::Usage => Some("usage: nvheap replay, image, check, recover, crash A K SEED"),
+        Status::Usage => Some(
+            "usage: nvheap replay, image, check, recover, crash A K SEED, gen N SEED",
+        ),
         Status::ReadFault => Some("read fault"),
         Status::WriteFault => Some("write fault"),
         Status::Memory => Some("out of memory"),

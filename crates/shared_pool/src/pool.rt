@@ -1,9 +1,10 @@
 // The pool, and the calls of its passes.
 ghost use Rattle.std.specs.Prelude.{◌≡◌, ◌≤◌, ◌<◌, map, length, IfOk, IfErr};
 ghost use Rattle.heap_model.specs.declared.call.Call.TheVariants as calls;
+ghost use Rattle.arena_lock.specs.Journal.{calls_by};
 ghost use Rattle.arena_lock.specs.Known.{Lock, after_read};
 ghost use Rattle.arena_journal.specs.Journals.{opened};
-ghost use Rattle.shared_pool.specs.Passes.{PassState, IsPassOf, part_at, with_part, seen_at, fresh_passes, Called, Refused, Declined};
+ghost use Rattle.shared_pool.specs.Passes.{PassState, IsPassOf, part_at, with_part, seen_at, mine_at, fresh_passes, Called, Refused, Declined};
 ghost use Rattle.shared_pool.specs.Closed.{AllFitLocks, HasAll, AllClosed};
 ghost use Rattle.shared_pool.specs.Rows.{each_of, SameAnswer};
 
@@ -312,7 +313,8 @@ impl<P: Pmem> SharedPool<P> {
     }
 
     /// How many entries the journal of an arena had at some moment of this call. It waits for nobody and takes neither a
-    /// turn nor memory. The pass knows the length from then on: no later receipt of it there has a place below it.
+    /// turn nor memory. The pass knows the length from then on: no later receipt of it there has a place below it. Of what the
+    /// pass has seen the entries that bear its number are its own.
     pub fn published(&self, pass: &mut Pass, arena: u32) -> u64
         requires pass { IsPassOf self.now pass.old }
         requires arena { arena < length self.now.locks }
@@ -320,8 +322,10 @@ impl<P: Pmem> SharedPool<P> {
         ensures read { pass.new ≡ with_part pass.old arena (after_read (part_at pass.old arena) result) }
         ensures known { (part_at pass.old arena).known ≤ result }
         ensures seen { length (seen_at pass.old arena) ≤ result }
+        ensures own { mine_at pass.old arena ≡ calls_by pass.old.number (seen_at pass.old arena) }
     {
         let spot = &mut pass.spots[arena as usize];
+        spot.seat.agrees();
         self.locks[arena as usize].published(&mut spot.seat)
     }
 

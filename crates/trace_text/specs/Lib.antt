@@ -5,4 +5,5 @@ pub mod Lines
 pub mod Fronts
 pub mod Report
 pub mod ImageReport
+pub mod WorkReport
 pub mod Laws

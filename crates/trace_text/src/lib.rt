@@ -14,6 +14,7 @@ mod line;
 mod number;
 mod report;
 mod trace;
+mod work_report;
 mod writing;
 
 pub use call::{CrashSide, PoolSize, Refusal, TraceCall};
@@ -22,3 +23,4 @@ pub use laws::{law_of_no_refusal, law_of_one_refusal, law_of_one_trace};
 pub use number::whole_number;
 pub use report::{write_arena, write_crash, write_entry, write_heap, write_refusal};
 pub use trace::{Trace, TraceFault, read_trace};
+pub use work_report::{Work, write_work};

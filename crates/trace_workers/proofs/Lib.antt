@@ -2,3 +2,5 @@ mod Calls
 mod ClosedJournals
 mod Counting
 mod Replays
+mod PublishedLengths
+mod Summaries

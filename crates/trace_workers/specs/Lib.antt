@@ -1,3 +1,5 @@
 pub mod Answers
 pub mod Reports
 pub mod Workers
+pub mod Lengths
+pub mod Summaries

@@ -45,8 +45,8 @@ pub fn replay<R: Threads + Wait + Sync, P: Pmem + Drop + Send, G: Gate + Sync>(
     report(alloc, closed)
 }
 
-// How many seats the threads of these calls need: one more than the greatest thread number, and one for no calls.
-fn seats_of(calls: &[TraceCall]) -> u32
+/// How many seats the threads of these calls need: one more than the greatest thread number, and one for no calls.
+pub(crate) fn seats_of(calls: &[TraceCall]) -> u32
     requires { AllBy 64 calls.now }
     ensures some { 1 ≤ result }
     ensures few { result ≤ 64 }

@@ -16,10 +16,10 @@ use std::sync::Wait;
 use std::thread::{Threads, join_mut};
 use trace_text::TraceCall;
 
-// A worker for each pass, in a thread of its own where one can be made. One that meets want of memory ends, and the others
-// go on to their ends.
+/// A worker for each pass, in a thread of its own where one can be made. One that meets want of memory ends, and the others
+/// go on to their ends.
 #[tactic(auto, using(crate::proofs::Calls::of_append, crate::proofs::Calls::done_append, crate::proofs::Calls::numbers_append))]
-fn work_all<R: Threads + Wait + Sync, P: Pmem + Drop + Send, G: Gate + Sync>(
+pub(crate) fn work_all<R: Threads + Wait + Sync, P: Pmem + Drop + Send, G: Gate + Sync>(
     rt: &R,
     alloc: Global,
     pool: &SharedPool<P>,

@@ -1,7 +1,8 @@
 use Rattle.std.proofs.Common.{◌∙◌, ◌≡◌, ◌≤◌, ap, sym, subst, length, map, set}
+use Rattle.arena_lock.specs.Journal.{calls_by, calls_of}
 use Rattle.arena_lock.specs.Known.{Known, after_read}
 use Rattle.shared_pool.specs.declared.pass.Spot.{Spot}
-use Rattle.shared_pool.specs.Passes.{PassState, part_at, with_part}
+use Rattle.shared_pool.specs.Passes.{PassState, part_at, with_part, first_calls}
 use Rattle.shared_pool.specs.Rows.{part_of}
 use Rattle.shared_pool.proofs.PassParts.{tell_set}
 use Rattle.shared_pool.proofs.PassTurns.{here_of, still_of, part_is, with_is}
@@ -39,3 +40,11 @@ pub returns-clause-seen : goal.returns-clause-seen
 returns-clause-seen g c =
     let h = here_of _ c.self.inside.locks.items c.pass.inside.spots.items c.pass.inside.number c.args.arena _ c.index.result.now c.index_mut-spot.result.now _ _ c.self.view_is c.pass.view_is c.requires.pass c.requires.arena c.pass.invariant.1 c.index.ensures c.index_mut-spot.ensures.value in
     subst (λ (z : Known). length z.seen ≤ c.published.result) (sym (part_is c.pass.inside.number c.args.arena c.pass.inside.spots.items c.index_mut-spot.result.now c.index_mut-spot.result.now h.room c.index_mut-spot.ensures.value c.args.pass.now c.pass.view_is)) c.published.ensures.seen
+
+pub returns-clause-own : goal.returns-clause-own
+returns-clause-own g c =
+    let h = here_of _ c.self.inside.locks.items c.pass.inside.spots.items c.pass.inside.number c.args.arena _ c.index.result.now c.index_mut-spot.result.now _ _ c.self.view_is c.pass.view_is c.requires.pass c.requires.arena c.pass.invariant.1 c.index.ensures c.index_mut-spot.ensures.value in
+    let seat : Known = c.index_mut-spot.result.now.seat in
+    let is = part_is c.pass.inside.number c.args.arena c.pass.inside.spots.items c.index_mut-spot.result.now c.index_mut-spot.result.now h.room c.index_mut-spot.ensures.value c.args.pass.now c.pass.view_is in
+    let mine : first_calls seat.mine ≡ calls_by c.pass.inside.number seat.seen = ap first_calls (c.agrees.ensures.mine ∙ ap (calls_of seat.seen) h.tells.0) in
+    subst (λ (z : Known). first_calls z.mine ≡ calls_by c.args.pass.now.number z.seen) (sym is) (mine ∙ ap (λ (p : PassState). calls_by p.number seat.seen) c.pass.view_is)

@@ -5,7 +5,7 @@ use Rattle.nvheap.specs.Outside.{told_by}
 use Rattle.nvheap.specs.Inputs.{IsRead}
 use Rattle.nvheap.specs.Ends.{IsAnswer}
 use Rattle.nvheap.proofs.Endings.{ends_written, counts_kept}
-use Rattle.nvheap.proofs.running.run_waiting.Goals as goal
+use Rattle.nvheap.proofs.running.run_replay.Goals as goal
 
 pub returns-in-Ok-clause-ends : goal.returns-in-Ok-clause-ends
 returns-in-Ok-clause-ends g c =

@@ -1,0 +1,118 @@
+// Generated work: what it prints, and what it leaves.
+use crate::runs::{all_tell, ends, ends_and_writes, words_of};
+use nvheap::{KeptShelf, MemSink, MemSource, OpenGate, Status, SureSource, run};
+use pmem_lines::Pmem;
+use std::process::Abort;
+use std::test::Fail;
+
+// The one call of `gen 1 0` is `0 0 m 431 1892`. The numbers of the others were worked by a model of the calls alone: no arena
+// comes to its end, so that the places of blocks do not show.
+const WORKS: [(&str, u8, &str); 3] = [
+    (
+        "gen 1 0",
+        0,
+        "arena 0 calls 1 placed 1 freed 0 refused 0 live 1 bytes 2048
+arena 1 calls 0 placed 0 freed 0 refused 0 live 0 bytes 0
+arena 2 calls 0 placed 0 freed 0 refused 0 live 0 bytes 0
+arena 3 calls 0 placed 0 freed 0 refused 0 live 0 bytes 0
+",
+    ),
+    (
+        "gen 7 18446744073709551615",
+        0,
+        "arena 0 calls 2 placed 2 freed 0 refused 0 live 2 bytes 1664
+arena 1 calls 2 placed 1 freed 0 refused 1 live 1 bytes 896
+arena 2 calls 2 placed 1 freed 0 refused 1 live 1 bytes 1792
+arena 3 calls 1 placed 1 freed 0 refused 0 live 1 bytes 384
+",
+    ),
+    (
+        "gen 200 7",
+        0,
+        "arena 0 calls 50 placed 27 freed 1 refused 22 live 26 bytes 75760
+arena 1 calls 50 placed 27 freed 0 refused 23 live 27 bytes 131760
+arena 2 calls 50 placed 20 freed 0 refused 30 live 20 bytes 120160
+arena 3 calls 50 placed 24 freed 0 refused 26 live 24 bytes 78272
+",
+    ),
+];
+
+#[test]
+fn works(rt: HostRuntime) -> Result<(), Fail> {
+    all_tell(&rt, rt.alloc(), b"no trace", &WORKS)
+}
+
+// Words that say no generated work.
+const NO_WORKS: [(&str, u8, &str); 10] = [
+    ("gen", 1, ""),
+    ("gen 1", 1, ""),
+    ("gen 1 0 0", 1, ""),
+    ("gen 0 1", 1, ""),
+    ("gen 01 1", 1, ""),
+    ("gen 1 01", 1, ""),
+    ("gen 1000001 1", 1, ""),
+    ("gen 1 18446744073709551616", 1, ""),
+    ("gen -1 1", 1, ""),
+    ("Gen 1 1", 1, ""),
+];
+
+#[test]
+fn no_works(rt: HostRuntime) -> Result<(), Fail> {
+    all_tell(&rt, rt.alloc(), b"", &NO_WORKS)
+}
+
+#[test]
+fn the_same_twice(rt: HostRuntime) -> Result<(), Fail> {
+    let alloc = rt.alloc();
+    let (status, first) = ends_and_writes(&rt, alloc, "gen 2000 7", b"")?;
+    assert_eq!(rt; status, Status::Done);
+    let (_, second) = ends_and_writes(&rt, alloc, "gen 2000 7", b"")?;
+    assert_eq!(rt; first.as_slice(), second.as_slice());
+    Ok(())
+}
+
+#[test]
+fn nothing_is_read(rt: HostRuntime) -> Result<(), Fail> {
+    let alloc = rt.alloc();
+    let mut source = MemSource::new(b"", &[0]);
+    let mut sink = MemSink::new(alloc, &[], usize::MAX);
+    assert_eq!(rt;
+        ends(&rt, alloc, "gen 5 5", &mut source, &mut sink)?,
+        Status::Done
+    );
+    Ok(())
+}
+
+// The word of a root on the device in a place of a shelf, where it stands there.
+fn root_at(shelf: &KeptShelf, arena: u32, root: u32) -> Option<u64> {
+    match shelf.device(arena % 16) {
+        Some(device) if root < 4096 && device.size_words() >= 32_768 => {
+            Some(device.load(16384 + 8 * root))
+        }
+        _ => None,
+    }
+}
+
+#[test]
+fn devices_stay(rt: HostRuntime) -> Result<(), Fail> {
+    let alloc = rt.alloc();
+    let words = words_of(alloc, "gen 1 0")?;
+    let mut source = SureSource::new(b"");
+    let mut sink = MemSink::new(alloc, &[], usize::MAX);
+    let mut shelf = KeptShelf::new(alloc)?;
+    let status = run(
+        &rt,
+        alloc,
+        &words,
+        &mut source,
+        &mut sink,
+        &OpenGate,
+        &mut shelf,
+    );
+    assert_eq!(rt; status, Status::Done);
+    assert_eq!(rt; root_at(&shelf, 0, 431), Some(67584));
+    assert_eq!(rt; root_at(&shelf, 1, 431), Some(0));
+    assert_eq!(rt; root_at(&shelf, 3, 431), Some(0));
+    assert_eq!(rt; root_at(&shelf, 4, 431), None);
+    Ok(())
+}
