@@ -1,3 +1,5 @@
 pub mod DressedTables
 pub mod ClassTables
 pub mod ClassImages
+pub mod HeldCounts
+pub mod Fits
