@@ -6,7 +6,6 @@ use mathlib.Core.Logic.{dite}
 use native.Mathlib.Decide.{ℕ_discrete}
 use Rattle.heap_model.specs.declared.call.Entry.{Entry}
 use Rattle.shared_pool.specs.declared.job.Receipt.{Receipt}
-use Rattle.arena_journal.specs.Journals.{IsServed}
 use Rattle.shared_pool.specs.Passes.{PassState, PoolState, IsPassOf, nobody, part_at, Called, mine_at, first_calls}
 use Rattle.trace_workers.specs.Answers.{asked, calls_in}
 use Rattle.trace_workers.specs.Workers.{AllIn, HasMadeOwn, HasTurns, AllReady, AllOf, AllDone}
@@ -102,7 +101,7 @@ take_suc (x ∷ xs) (suc k) d l = ap (λ l. x ∷ l) (take_suc xs k d (omega ari
 pub take_next : {A : Type 0} (xs : List A) (k : ℕ) (d : A) → k < length xs → take k xs ++ get_or xs k d ∷ [] ≡ take (k + 1) xs
 take_next xs k d l = sym (take_suc xs k d l) ∙ ap (λ n. take n xs) (let up : suc k ≡ k + 1 = omega arith in up)
 
-pub in_at : (n : ℕ) (xs : List TraceCall) (k : ℕ) (d : TraceCall) → k < length xs → AllIn n xs → ((get_or xs k d).arena < n) × IsServed (get_or xs k d).call
+pub in_at : (n : ℕ) (xs : List TraceCall) (k : ℕ) (d : TraceCall) → k < length xs → AllIn n xs → (get_or xs k d).arena < n
 in_at n [] k d l h = absurd (omega arith)
 in_at n (x ∷ xs) zero d l h = h.0
 in_at n (x ∷ xs) (suc k) d l h = in_at n xs k d (omega arith) h.1

@@ -18,7 +18,6 @@ use Rattle.trace_text.specs.Grammar.{IsTraceCall}
 use Rattle.trace_text.specs.Report.{arena_text}
 use Rattle.trace_runs.specs.Arenas.{header_for}
 use Rattle.trace_runs.specs.Blocks.{blocks_of}
-use Rattle.trace_runs.proofs.Answers.{served}
 use Rattle.trace_runs.proofs.Journals.{HasRun-behind}
 use Rattle.trace_runs.proofs.Listing.{blocks_of-same}
 use Rattle.trace_workers.specs.Answers.{AllAnswer}
@@ -26,12 +25,11 @@ use Rattle.trace_workers.specs.Reports.{ArenaRun, AreRuns, report_from, devices_
 use Rattle.trace_workers.specs.Workers.{AllIn, AllBy}
 use Rattle.trace_workers.proofs.Calls.{take_next}
 
--- each call of a trace is of one of its arenas, and one that arenas serve
+-- each call of a trace is of one of its arenas
 pub AllIn-trace : (arenas : ℕ) (calls : List TraceCall) → All (IsTraceCall arenas) calls → AllIn arenas calls
 AllIn-trace arenas [] valid = tt
 AllIn-trace arenas (c ∷ cs) valid =
-    let here = All-head (IsTraceCall arenas) c cs valid in
-    ((here.arena, served c.call here.asked), AllIn-trace arenas cs (All-tail (IsTraceCall arenas) c cs valid))
+    ((All-head (IsTraceCall arenas) c cs valid).arena, AllIn-trace arenas cs (All-tail (IsTraceCall arenas) c cs valid))
 
 -- threads below a number
 

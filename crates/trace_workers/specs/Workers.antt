@@ -1,14 +1,13 @@
 -- What workers need and do.
 use Rattle.std.specs.Prelude.{◌≡◌, ℕ, ◌+◌, ◌^◌, ◌<◌, ◌≤◌, List, [], ◌∷◌, length}
-use Rattle.arena_journal.specs.Journals.{IsServed}
 use Rattle.shared_pool.specs.Passes.{PassState, PoolState, IsPassOf, part_at, mine_at}
 use Rattle.trace_text.specs.declared.call.TraceCall.{TraceCall}
 use Rattle.trace_workers.specs.Answers.{asked, calls_in}
 
--- each call is of one of so many arenas, and one that an arena serves
+-- each call is of one of so many arenas
 abbrev pub AllIn : ℕ → List TraceCall → Type 0
 AllIn arenas [] = Unit {0}
-AllIn arenas (c ∷ cs) = ((c.arena < arenas) × IsServed c.call) × AllIn arenas cs
+AllIn arenas (c ∷ cs) = (c.arena < arenas) × AllIn arenas cs
 
 -- each call's thread is below this number
 abbrev pub AllBy : ℕ → List TraceCall → Type 0

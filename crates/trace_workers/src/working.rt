@@ -1,6 +1,5 @@
 // One worker.
 ghost use Rattle.std.specs.Prelude.{◌≡◌, ◌<◌, ◌^◌, length, IfOk, IfErr};
-ghost use Rattle.arena_journal.specs.Journals.{IsServed};
 ghost use Rattle.shared_pool.specs.Passes.{IsPassOf, part_at, Called, Refused};
 ghost use Rattle.trace_workers.specs.Workers.{AllIn, IsFresh, HasMadeOwn};
 
@@ -24,7 +23,6 @@ fn make<R: Wait, P: Pmem>(
     requires pass { IsPassOf pool.now pass.old }
     requires arena { arena < length pool.now.locks }
     requires left { 0 < (part_at pass.old arena).turns }
-    requires served { IsServed call }
     ensures pass { IsPassOf pool.now pass.new }
     ensures number { pass.new.number ≡ pass.old.number }
     ensures called { IfOk result (λ r. Called arena call pass.old pass.new r) }
@@ -37,7 +35,7 @@ fn make<R: Wait, P: Pmem>(
             pool.write(rt, alloc, pass, arena, root, index, value)
         }
         Call::Read { root, index } => pool.read(rt, alloc, pass, arena, root, index),
-        Call::Move { .. } => unreachable!(),
+        Call::Move { from, to } => pool.move_to(rt, alloc, pass, arena, from, to),
     }
 }
 

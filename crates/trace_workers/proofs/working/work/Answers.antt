@@ -11,23 +11,18 @@ use Rattle.trace_workers.proofs.working.work.Goals.{then-call-number+in_ok-make,
 pub make-requires-clause-arena : goal.make-requires-clause-arena
 make-requires-clause-arena g c =
     let room : c.loop-k.k < length c.args.calls.now = search rules in
-    (in_at (length c.args.pool.now.locks) c.args.calls.now c.loop-k.k (record { thread = 0; arena = 0; call = Malloc 0 0 }) room c.requires.arenas).0
-
-pub make-requires-clause-served : goal.make-requires-clause-served
-make-requires-clause-served g c =
-    let room : c.loop-k.k < length c.args.calls.now = search rules in
-    (in_at (length c.args.pool.now.locks) c.args.calls.now c.loop-k.k (record { thread = 0; arena = 0; call = Malloc 0 0 }) room c.requires.arenas).1
+    in_at (length c.args.pool.now.locks) c.args.calls.now c.loop-k.k (record { thread = 0; arena = 0; call = Malloc 0 0 }) room c.requires.arenas
 
 pub make-requires-clause-left : goal.make-requires-clause-left
 make-requires-clause-left g c =
     let room : c.loop-k.k < length c.args.calls.now = search rules in
-    let arena = (in_at (length c.args.pool.now.locks) c.args.calls.now c.loop-k.k (record { thread = 0; arena = 0; call = Malloc 0 0 }) room c.requires.arenas).0 in
+    let arena = in_at (length c.args.pool.now.locks) c.args.calls.now c.loop-k.k (record { thread = 0; arena = 0; call = Malloc 0 0 }) room c.requires.arenas in
     turns_left c.loop-k.k (length c.args.calls.now) c.loop-k.pass _ (has_part c.args.pool.now c.loop-k.pass _ c.loop-k.invariant.0 arena) room c.requires.few c.loop-k.invariant.4
 
 pub after-requires : goal.after-requires
 after-requires g c =
     let room : c.loop-k.k < length c.args.calls.now = search rules in
-    let arena = (in_at (length c.args.pool.now.locks) c.args.calls.now c.loop-k.k (record { thread = 0; arena = 0; call = Malloc 0 0 }) room c.requires.arenas).0 in
+    let arena = in_at (length c.args.pool.now.locks) c.args.calls.now c.loop-k.k (record { thread = 0; arena = 0; call = Malloc 0 0 }) room c.requires.arenas in
     let part = has_part c.args.pool.now c.make.new.pass _ c.make.ensures.pass arena in
     omega (arith, part)
 
@@ -45,7 +40,7 @@ loop-k-preserved g c =
     let room : k < length calls = search rules in
     let number : p.number ≡ c.args.pass.now.number = inv.1 in
     let next : take k calls ++ call ∷ [] ≡ take (k + 1) calls = take_next calls k d room in
-    let part : call.arena < length p.parts = has_part c.args.pool.now p call.arena inv.0 (in_at (length c.args.pool.now.locks) calls k d room c.requires.arenas).0 in
+    let part : call.arena < length p.parts = has_part c.args.pool.now p call.arena inv.0 (in_at (length c.args.pool.now.locks) calls k d room c.requires.arenas) in
     elim c.if-call-number.branch [
       | then-call-number+in_ok-make w ↦
           let q = w.make.new.pass in
