@@ -46,9 +46,9 @@ pub record IsBehindLast (header : PoolHeader) (device : PmemState) (journal : Li
   pub events : device.events ≡ call_events device.base (line_behind 0 before) entry.call entry.reply
 
 -- The device of an arena that was formatted with this header went through a legal journal to this state and some stacks, in
--- which no two blocks overlap. It is quiet and exact, with that state. Its words are, word for word, those that the events of the entries'
--- calls make of the formatted ones. It began one call for the formatting, and one for each entry that is no Read; its base
--- and events are those of the last of these.
+-- which no two blocks overlap. It is quiet and exact, with that state. Its words are, word for word, those that the events of
+-- the entries' calls make of the formatted ones. It began one call for the formatting, and one for each entry that is no Read;
+-- its base and events are those of the last of these.
 pub record HasRun (header : PoolHeader) (device : PmemState) (journal : List Entry) (machine : Machine) : Type 0 where
   pub stacks : Stacks
   pub legal : IsJournal header.granules journal (record { machine = machine; stacks = stacks })
