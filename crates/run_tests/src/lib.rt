@@ -2,7 +2,7 @@
 // what it writes, worked by hand.
 //
 // The crate has no code. It stands apart from `nvheap`, since a crate with tests is proved twice. `rows` has short
-// traces, `payload` traces that write and read words, `arenas` traces of several arenas and threads, `logs` traces that fill an arena's log (`traces` has them),
+// traces, `stacks` and `seats` traces that show which block is given, `payload` traces that write and read words, `arenas` traces of several arenas and threads, `logs` traces that fill an arena's log (`traces` has them),
 // `crashes` a crash at every event of some calls, `cycles` traces whose image is checked and recovered, `words` what is
 // left on the device. `images` makes images, and has how `check` and `recover` run over them: `entries` with open
 // entries, `transition` of a slab that takes another class, `defects` with a defect, `pools` of several arenas and of
@@ -39,6 +39,10 @@ mod pools;
 mod rows;
 #[cfg(test)]
 mod runs;
+#[cfg(test)]
+mod seats;
+#[cfg(test)]
+mod stacks;
 #[cfg(test)]
 mod traces;
 #[cfg(test)]
