@@ -1,5 +1,5 @@
 // A supply of small blocks: rows that were worked by hand. `served` has many calls beside plain lists.
-ghost use Rattle.std.specs.Prelude.{◌≡◌, ◌<◌, ◌≤◌, true};
+ghost use Rattle.std.specs.Prelude.{◌≡◌, ◌<◌, ◌≤◌, true, IfOk};
 ghost use Rattle.block_supply.specs.Supply.{IsClearOf};
 
 use block_supply::{BlockSupply, SlabBlock};
@@ -81,6 +81,7 @@ pub(crate) fn add_used(supply: &mut BlockSupply, start: u32, class: u8, word: u6
 // A supply of one slab, at granule 4.
 fn with_slab(alloc: Global, class: u8) -> Result<BlockSupply, OutOfMemory>
     requires { class < 36 }
+    ensures { IfOk result (λ supply. supply.slabs.granules ≡ 24) }
 {
     let mut supply = BlockSupply::new(alloc, GRANULES)?;
     add_used(&mut supply, 4, class, 0);
