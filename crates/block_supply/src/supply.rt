@@ -1,5 +1,5 @@
 // The slabs with their available blocks, and the stacks of reserved ones.
-ghost use Rattle.std.specs.Prelude.{◌≡◌, ℕ, ◌<◌, ◌≤◌, List, None, Some, [], ◌∷◌, false, length, MatchOption, IfSome, IfOk};
+ghost use Rattle.std.specs.Prelude.{◌≡◌, ◌↔◌, ℕ, ◌<◌, ◌≤◌, List, None, Some, [], ◌∷◌, true, false, length, MatchOption, IfSome, IfOk};
 ghost use Rattle.size_classes.specs.Classes.{class_capacity};
 ghost use Rattle.heap_model.specs.Placement.{no_stacks, Has, addresses};
 ghost use Rattle.bit_words.specs.Numbers.{has as has_number};
@@ -71,6 +71,20 @@ impl BlockSupply {
         ensures { MatchOption result (IsInNoSlabOf (class_in self.now.slabs) granule) (λ slab. IsInSlabOf (class_in self.now.slabs) granule slab.start slab.class) }
     {
         slab_with(&self.slabs, granule)
+    }
+
+    /// Whether a block of a slab is open: available, or in a stack.
+    pub fn is_open(&self, start: u32, number: u32) -> bool
+        requires { IsBlock self.now.slabs start number }
+        ensures { (result ≡ true) ↔ IsOpen self.now start number }
+    {
+        match self.slabs.class_at(start) {
+            Some(class) => {
+                let at = address_of(class, SlabBlock { start, number });
+                self.slabs.is_available(start, number) || self.caches.holds(at)
+            }
+            None => false,
+        }
     }
 
     /// Takes an open block of the class for a seat, so that it is not open any more: the top of the seat's own stack; where

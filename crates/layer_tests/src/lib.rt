@@ -5,8 +5,8 @@
 // There is a module for each layer: `memory` for `pmem_lines`, `steps` for `durable_steps`, `classes` for `size_classes`,
 // `bits` for `interleaved_bitmap`, `headers` and `defects` for `pool_layout`, `slabs` for `slab_header`, `morphs` for
 // `slab_morph`, `entries` for `attach_wal`, `log` for `book_log`, `room` for `log_gc`, `extents` for `extent_index`,
-// `blocks` and `candidates` for `slab_index`, `small` for `attach_steps`, `payload` for the words of blocks in `arena_core`
-// and `moves` for blocks that move there, and `traces` and `reports` for `trace_text`. Whole runs are tested in
+// `blocks` and `candidates` for `slab_index`, `supply` and `served` for `block_supply`, `small` for `attach_steps`, `payload` for the words of blocks in `arena_core`,
+// `moves` for blocks that move and `seats` for the stacks of seats there, and `traces` and `reports` for `trace_text`. Whole runs are tested in
 // `run_tests`.
 #![tactic(auto)]
 
@@ -41,10 +41,16 @@ mod reports;
 #[cfg(test)]
 mod room;
 #[cfg(test)]
+mod seats;
+#[cfg(test)]
+mod served;
+#[cfg(test)]
 mod slabs;
 #[cfg(test)]
 mod small;
 #[cfg(test)]
 mod steps;
+#[cfg(test)]
+mod supply;
 #[cfg(test)]
 mod traces;

@@ -94,18 +94,19 @@ pub fn goes_on(
     }
 }
 
-/// What an arena answers to a malloc, a free behind it, and the same malloc for another root; and how many events the
-/// free has.
+/// What an arena answers to a malloc, a free behind it, and the same malloc for another root and for an eighth one; and how
+/// many events the free has.
 #[derive(Clone, Copy, Debug, PartialEq, Eq)]
 pub struct Answered {
     pub before: Option<Placed>,
     pub freed: Option<Freed>,
     pub events: u32,
-    pub after: Option<Placed>,
+    pub next: Option<Placed>,
+    pub eighth: Option<Placed>,
 }
 
-/// An arena that was recovered from the words of a row gives root 3 so many bytes, frees the block of a root, and gives
-/// root 4 as many. `None` where its image is not sound.
+/// An arena that was recovered from the words of a row gives root 3 so many bytes, frees the block of a root, and gives the
+/// roots 4 to 11 as many. `None` where its image is not sound.
 pub fn frees_between(
     alloc: Global,
     base: &[Put],
@@ -119,12 +120,17 @@ pub fn frees_between(
             let before = arena.malloc_to(0, 3, size).ok();
             let freed = arena.free_from(0, root).ok();
             let events = arena.pmem().event_count();
-            let after = arena.malloc_to(0, 4, size).ok();
+            let next = arena.malloc_to(0, 4, size).ok();
+            for root in 5..11 {
+                let _ = arena.malloc_to(0, root, size);
+            }
+            let eighth = arena.malloc_to(0, 11, size).ok();
             Ok(Some(Answered {
                 before,
                 freed,
                 events,
-                after,
+                next,
+                eighth,
             }))
         }
         Err((RecoverFault::Memory(error), _)) => Err(error),

@@ -88,8 +88,9 @@ fn defects(rt: HostRuntime) -> Result<(), Fail> {
     Ok(())
 }
 
-// Block 0 of the class overlaps the old block, so it is given out only once that is freed. With it goes the slab's
-// transition: behind the 11 events of the free the state word says Normal, by 3.
+// Block 0 of the class overlaps the old block, so it is given out only once that is freed. The malloc before has put the
+// blocks 3 to 9 on the seat's stack; they are given first, and then block 0. With the old block goes the slab's transition:
+// behind the 11 events of the free the state word says Normal, by 3.
 #[test]
 fn old_block_goes(rt: HostRuntime) -> Result<(), Fail> {
     let wanted = Answered {
@@ -102,7 +103,11 @@ fn old_block_goes(rt: HostRuntime) -> Result<(), Fail> {
             size: 64,
         }),
         events: 14,
-        after: Some(Placed {
+        next: Some(Placed {
+            at: 201728,
+            size: 1024,
+        }),
+        eighth: Some(Placed {
             at: 198656,
             size: 1024,
         }),
