@@ -15,8 +15,8 @@ returns-else-is_available c =
     let used : is_available c.self.inside.slabs c.args.start c.args.number ≡ false = sym c.is_available.ensures ∙ c.if-is_available.false in
     rw (sym c.self.view_is) (
       λ held.
-      let is = c.holds.ensures.held held in
-      inr (stacked_if c.self.invariant c.args.start c.in-Some.class c.args.number slab within is.seat is.class (subst (λ (a : ℕ). Has (stacks_of c.self.inside.caches is.seat is.class) a) c.address_of-at.ensures is.has)),
+          let is = c.holds.ensures.held held in
+          inr (stacked_if c.self.invariant c.args.start c.in-Some.class c.args.number slab within is.seat is.class (subst (λ (a : ℕ). Has (stacks_of c.self.inside.caches is.seat is.class) a) c.address_of-at.ensures is.has)),
       λ is. ⊎_elim
           (λ available. absurd (true≢false (sym available ∙ used)))
           (λ (stacked : IsStacked (record { slabs = c.self.inside.slabs; stacks = c.self.inside.caches }) c.args.start c.args.number). ⊎_elim
