@@ -76,6 +76,10 @@ fn heaps_come_back(rt: HostRuntime) -> Result<(), Fail> {
             "arena 0 large 0 slabs 1 blocks 2 loose 0\narena 1 large 1 slabs 1 blocks 2 loose 0\n",
         ),
         (SIXTEEN_ARENAS, SIXTEEN),
+        (
+            "pool 1 16\n0 0 m 5 20000\n0 0 m 6 100\n0 0 m 7 100\n0 0 w 6 13 9\n0 0 v 6 4095\n0 0 v 5 6\n0 0 f 7\n",
+            "arena 0 large 1 slabs 1 blocks 2 loose 0\n",
+        ),
     ];
     for (text, counts) in rows {
         let trace = expanded(rt.alloc(), text)?;

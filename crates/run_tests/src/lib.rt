@@ -2,14 +2,14 @@
 // what it writes, worked by hand.
 //
 // The crate has no code. It stands apart from `nvheap`, since a crate with tests is proved twice. `rows` has short
-// traces, `stacks` and `seats` traces that show which block is given, `payload` traces that write and read words, `arenas`
-// traces of several arenas and threads, `logs` traces that fill an arena's log (`traces` has them), `crashes` a crash at
-// every event of some calls, `cycles` traces whose image is checked and recovered, `words` what is left on the device, and
-// `generated` generated work. `images` makes images, and has how `check` and `recover` run over them: `entries` with open
-// entries, `transition` of a slab that takes another class, `defects` with a defect, `pools` of several arenas and of wrong
-// lengths. `faults` has sources and sinks that fail, `hostile` each read and write failing in turn, a source without end and
-// an image that was cut, `adapters` readers and writers of the standard library, `workers` a gate that holds threads, and
-// `runs` how they all run.
+// traces, `stacks` and `seats` traces that show which block is given, `payload` traces that write and read words, `moves`
+// traces that move blocks, `arenas` traces of several arenas and threads, `logs` traces that fill an arena's log (`traces` has
+// them), `crashes` a crash at every event of some calls, `cycles` traces whose image is checked and recovered, `words` what is
+// left on the device, and `generated` generated work. `images` makes images, and has how `check` and `recover` run over them:
+// `entries` with open entries, `transition` of a slab that takes another class, `defects` with a defect, `pools` of several
+// arenas and of wrong lengths. `faults` has sources and sinks that fail, `hostile` each read and write failing in turn, a
+// source without end and an image that was cut, `adapters` readers and writers of the standard library, `workers` a gate that
+// holds threads, and `runs` how they all run.
 #![tactic(auto)]
 
 #[cfg(test)]
@@ -34,6 +34,8 @@ mod hostile;
 mod images;
 #[cfg(test)]
 mod logs;
+#[cfg(test)]
+mod moves;
 #[cfg(test)]
 mod payload;
 #[cfg(test)]
