@@ -13,7 +13,8 @@ use Rattle.heap_check.proofs.SmallPlaces.{Holds-claim, calm_but}
 use Rattle.heap_check.proofs.Within.{IsInSlab-held}
 use Rattle.arena_core.specs.Effect.{IsLastOf}
 use Rattle.arena_core.specs.Events.{holds_none}
-use Rattle.arena_core.proofs.Tests.{any_below-each, any_below-some, not_true, not_false}
+use Rattle.heap_model.proofs.Below.{any_below-each, any_below-some}
+use Rattle.arena_core.proofs.Tests.{not_true, not_false}
 
 module _ (t : Tables) (start : ℕ) where
   abbrev bits : Bool

@@ -212,14 +212,13 @@ module _ {words : List ℕ} (image : IsExactImage words) {m : Machine} (state : 
       slab_elsewhere root range s (λ there. differ (one_slab sound s start range.at there inside)) ∙ sym (with_key-other m.slab start s None differ))
       (cases_eq s start)
 
-  -- a block of its class in a slab is unused where the state says so
-  unused_agrees : (start class number : ℕ) → t.slab start ≡ true → t.class start ≡ class → number < class_capacity class → IsUnusedIn t start class number ↔ IsUnused m (slab_block start class number)
-  unused_agrees start class number slab is below = (
+  -- a block of a class in a slab is unused where the state says so
+  unused_agrees : (start class number : ℕ) → t.slab start ≡ true → number < class_capacity class → IsUnusedIn t start class number ↔ IsUnused m (slab_block start class number)
+  unused_agrees start class number slab below = (
     λ unused. record {
       each = λ root other named.
-          let inside : number < class_capacity (t.class start) = subst (λ c. number < class_capacity c) (sym is) below in
-          let apart = apart_unused sound image.exact.closed start number slab inside (subst (λ c. IsUnusedIn t start c number) (sym is) unused) root other (claim root other named) in
-          ⊎_elim (λ before. inr before) (λ behind. inl behind) (subst (λ c. AreApart other (slab_block start c number)) is apart);
+          let apart = apart_unused sound image.exact.closed start class number slab below unused root other (claim root other named) in
+          ⊎_elim (λ before. inr before) (λ behind. inl behind) apart;
     },
     λ unused. record {
       each = λ range holds.
@@ -235,6 +234,6 @@ module _ {words : List ℕ} (image : IsExactImage words) {m : Machine} (state : 
     slab = state.slabs;
     unused = λ start class number slab below.
         let is = slab_parts t start class slab in
-        unused_agrees start class number is.0 is.1 below;
+        unused_agrees start class number is.0 below;
     fit = λ morphs. absurd (true≢false (sym morphs));
   }

@@ -27,7 +27,8 @@ use Rattle.arena_core.proofs.Arenas.{same_heap}
 use Rattle.arena_core.proofs.LastBlocks.{none_by_tests, some_by_tests, rooted_by_tests}
 use Rattle.arena_core.proofs.LiveCounts.{live_none, live_some, live_same, counts_kept}
 use Rattle.arena_core.proofs.SlabChanges.{exact_held}
-use Rattle.arena_core.proofs.Tests.{not_true, any_below-each, any_below-some}
+use Rattle.heap_model.proofs.Below.{any_below-each, any_below-some}
+use Rattle.arena_core.proofs.Tests.{not_true}
 use Rattle.arena_core.proofs.UnusedBlocks.{iff_then}
 use Rattle.heap_model.specs.Slabs.{live_below}
 use Rattle.heap_check.proofs.SmallPlaces.{calm_but}

@@ -6,7 +6,7 @@ use Rattle.size_classes.proofs.Spacing.{class_size-least}
 use Rattle.heap_model.specs.Policy.{without_morphs}
 use Rattle.heap_model.specs.Machine.{slab_block}
 use Rattle.heap_model.specs.Placement.{Stacks, with_stack, Has, IsInNoStack, addresses, IsAvailable, IsRefill}
-use Rattle.heap_model.proofs.Refills.{AreLowest-same}
+use Rattle.heap_model.proofs.Lowest.{AreLowest-same}
 use Rattle.slab_index.specs.declared.block.SlabBlock.{SlabBlock}
 use Rattle.slab_index.specs.declared.block.SlabBlocks.{SlabBlocks}
 use Rattle.slab_index.specs.SlabSet.{SlabSet, class_in, is_available, AreLowestBlocks, TookLowest}

@@ -4,7 +4,7 @@ use Rattle.size_classes.specs.Classes.{class_capacity}
 use Rattle.heap_model.specs.Policy.{Policy, without_morphs}
 use Rattle.heap_model.specs.Choice.{View}
 use Rattle.heap_model.specs.Placement.{Stacks, IsAvailable, HasAvailable, IsRefill}
-use Rattle.heap_model.proofs.Refills.{AreLowest-same}
+use Rattle.heap_model.proofs.Lowest.{AreLowest-same}
 use Rattle.block_supply.specs.Supply.{IsServed}
 
 -- two views say the same of slabs, and of which of their blocks are unused

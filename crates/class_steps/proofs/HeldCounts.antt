@@ -7,6 +7,7 @@ use Rattle.image_tables.specs.Forms.{normal_kind, morphing_kind}
 use Rattle.image_tables.specs.Tables.{Tables}
 use Rattle.slab_header.specs.Morph.{numbers_below, held_numbers}
 use Rattle.heap_model.specs.Below.{any_below}
+use Rattle.heap_model.proofs.Below.{any_below-true}
 use Rattle.heap_model.specs.Machine.{Bounds, Range, slab_block, LiesIn}
 use Rattle.heap_model.specs.Slabs.{begins_in, live_below}
 use Rattle.heap_model.proofs.Freeing.{begins_in-here}
@@ -52,18 +53,6 @@ count_one_more test other (suc n) once =
     (cases_Bool (other n)))
     (λ (no : test n ≡ false). omega (arith, rest, count_next test n false no, count_next other n (other n) refl))
     (cases_Bool (test n))
-
--- some number below n passes
-some_below : (test : ℕ → Bool) (n k : ℕ) → k < n → test k ≡ true → any_below test n ≡ true
-some_below test zero k below passes = absurd (omega arith)
-some_below test (suc n) k below passes = ⊎_elim
-    (λ (lower : k < n). ap (λ b. test n || b) (some_below test n k lower passes) ∙ or-true (test n))
-    (λ (last : n ≤ k). let same : k ≡ n = omega (arith, below, last) in ap (λ b. b || any_below test n) (ap test (sym same) ∙ passes))
-    (cases_lt k n)
-  where
-    or-true : (b : Bool) → (b || true) ≡ true
-    or-true true = refl
-    or-true false = refl
 
 -- Each number is named by roots. A root names one at most, and only where its block begins in a slab: so no more are named than
 -- live in the slab.
@@ -135,7 +124,7 @@ module _ {b : Bounds} {t : Tables} (exact : IsExact b t) (past : (root : ℕ) �
       let owner = exact.sound.claimed start (block number) holds in
       let its = IsNamed-claim t owner.0 (block number) (ap (λ e. entry_at e owner.0) exact.closed) owner.1 in
       let rooted : owner.0 < b.roots = ⊎_elim (λ less. less) (λ beyond. absurd (its.some (sym its.word ∙ past owner.0 beyond))) (cases_lt owner.0 b.roots) in
-      some_below (λ root. named root number) b.roots owner.0 rooted (eq-eqb (t.root owner.0) (block number).at its.word)
+      any_below-true (λ root. named root number) b.roots owner.0 rooted (eq-eqb (t.root owner.0) (block number).at its.word)
 
   -- a normal slab has no index entries
   by_bits : held_count t start ≤ length (held_numbers t start)

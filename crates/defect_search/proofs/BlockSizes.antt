@@ -4,7 +4,7 @@ use Rattle.std.proofs.lemmas.Bool.{cases_eq, false≢true, cond-true, cond-false
 use Rattle.size_classes.specs.Classes.{class_size}
 use Rattle.image_tables.specs.Tables.{Tables, is_slab, state_field, tables_of}
 use Rattle.image_tables.proofs.Tables.{slab_table, class_table, old_table, index_count_table}
-use Rattle.heap_model.specs.Below.{any_below}
+use Rattle.heap_model.proofs.Below.{any_below-true, any_below-some}
 use Rattle.heap_model.specs.Machine.{slab_block}
 use Rattle.heap_check.specs.Heap.{slab_of, is_old_of, is_old, is_large, entry_at, entry_old, size_by, size_at}
 use Rattle.image_reading.specs.Held.{HasOldAt, AreSlabsAt}
@@ -67,32 +67,13 @@ size_by-far words at of_old slabs far =
 
 -- old blocks
 
-some_below : (test : ℕ → Bool) (n k : ℕ) → k < n → test k ≡ true → any_below test n ≡ true
-some_below test zero k below passes = absurd (omega arith)
-some_below test (suc n) k below passes = ⊎_elim
-    (λ (same : k ≡ n). ap (λ b. b || any_below test n) (subst (λ m. test m ≡ true) same passes))
-    (λ (other : k ≢ n). or_right (test n) (some_below test n k (omega arith) passes))
-    (cases_eq k n)
-  where
-    or_right : (b : Bool) {c : Bool} → c ≡ true → (b || c) ≡ true
-    or_right true is = refl
-    or_right false is = is
-
-found_below : (test : ℕ → Bool) (n : ℕ) → any_below test n ≡ true → (k : ℕ) × (k < n) × (test k ≡ true)
-found_below test zero is = absurd (false≢true is)
-found_below test (suc n) is = by (test n) refl is (found_below test n)
-  where
-    by : (b : Bool) → test n ≡ b → (b || any_below test n) ≡ true → (any_below test n ≡ true → (k : ℕ) × (k < n) × (test k ≡ true)) → (k : ℕ) × (k < suc n) × (test k ≡ true)
-    by true here is rest = (n, omega arith, here)
-    by false here is rest = let found = rest is in (found.0, omega (arith, found.1), found.2)
-
 pub old_there : (t : Tables) (start at : ℕ) → HasOldAt t start at ↔ (is_old t start at ≡ true)
 unfolding is_old_of
 old_there t start at =
     let test : ℕ → Bool = λ place. t.live start place && ((slab_block start (t.old start) (t.number start place)).at == at) in (
-      λ has. some_below test (t.index_count start) has.place has.below (and_from _ _ has.live (eq-eqb _ _ (sym has.is))),
+      λ has. any_below-true test (t.index_count start) has.place has.below (and_from _ _ has.live (eq-eqb _ _ (sym has.is))),
       λ is.
-          let found = found_below test (t.index_count start) is in
+          let found = any_below-some test (t.index_count start) is in
           let parts = and_parts (t.live start found.0) ((slab_block start (t.old start) (t.number start found.0)).at == at) found.2 in
           record { place = found.0; below = found.1; live = parts.0; is = sym (eqb-true (slab_block start (t.old start) (t.number start found.0)).at at parts.1) },
     )

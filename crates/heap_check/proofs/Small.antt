@@ -9,7 +9,7 @@ use Rattle.image_tables.specs.declared.entry.WalEntry.TheVariants.{Place}
 use Rattle.image_tables.specs.Tables.{Tables}
 use Rattle.heap_model.specs.Machine.{Bounds, Range, AreApart, LiesIn, slab_block}
 use Rattle.heap_model.proofs.Slabbing.{LiesIn-block}
-use Rattle.heap_model.specs.Below.{any_below}
+use Rattle.heap_model.proofs.Below.{any_below-true}
 use Rattle.heap_check.specs.Heap.{slab_of, is_old_of, is_old, size_at, entry_at, IsClaim, Holds, HoldsBit, HoldsOld}
 use Rattle.heap_check.specs.Sound.{IsInSlab, IsOpen, IsSound, IsExactBut}
 use Rattle.image_tables.specs.Updates.{put_in, with_small}
@@ -68,17 +68,6 @@ one_number s c i j some same = ⊎_elim
     (λ is. is)
     (λ differ. absurd (⊎_elim (λ x. omega (arith, x, same, some)) (λ x. omega (arith, x, same, some)) (blocks_apart s c i j differ)))
     (cases_eq i j)
-
-any_below-true : (test : ℕ → Bool) (n k : ℕ) → k < n → test k ≡ true → any_below test n ≡ true
-any_below-true test zero k below passes = absurd (omega arith)
-any_below-true test (suc n) k below passes = ⊎_elim
-    (λ (lower : k < n). ap (λ b. test n || b) (any_below-true test n k lower passes) ∙ or-true (test n))
-    (λ (last : n ≤ k). let same : k ≡ n = omega (arith, below, last) in ap (λ b. b || any_below test n) (ap test (sym same) ∙ passes))
-    (cases_lt k n)
-  where
-    or-true : (b : Bool) → (b || true) ≡ true
-    or-true true = refl
-    or-true false = refl
 
 -- a live old block that a slab holds is seen at its address
 pub is_old-held : (t : Tables) (start at : ℕ) (range : Range) → HoldsOld t start range → range.at ≡ at → is_old t start at ≡ true

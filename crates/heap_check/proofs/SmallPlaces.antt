@@ -6,6 +6,7 @@ use Rattle.size_classes.proofs.Spacing.{class_size-least}
 use Rattle.image_tables.specs.Forms.{morphing_kind}
 use Rattle.image_tables.specs.Tables.{Tables}
 use Rattle.heap_model.specs.Machine.{Bounds, Range, AreApart, slab_block}
+use Rattle.heap_model.proofs.Sites.{class_known}
 use Rattle.heap_model.proofs.Slabbing.{LiesIn-block}
 use Rattle.heap_check.specs.Heap.{is_large, is_old, entry_at, IsClaim, Holds, IsUnusedIn}
 use Rattle.heap_check.specs.Sound.{IsInSlab, IsHeld, IsSound, IsExactBut}
@@ -39,6 +40,23 @@ Holds-claim {b} {t} sound root start range unnamed claim inside =
     (λ by_entry. absurd (named.some (sym named.word ∙ sym by_entry ∙ unnamed)))
     rest)
     (sound.rooted root (λ none. named.some (sym named.word ∙ none)))
+
+-- each root's block is apart from an unused block of a slab, whichever its class
+pub apart_unused : {b : Bounds} {t : Tables} → IsSound b t → t.open_entry ≡ None → (start class number : ℕ) → t.slab start ≡ true → number < class_capacity class → IsUnusedIn t start class number →
+    (other : ℕ) (range : Range) → IsClaim t other range → AreApart range (slab_block start class number)
+apart_unused {b} {t} sound closed start class number slab below unused other range claim =
+    let block = slab_block start class number in
+    let unnamed : entry_at t.open_entry other ≡ 0 = ap (λ e. entry_at e other) closed in
+    let four = granules_at-slab t start slab in
+    let lies = LiesIn-block start class block (record { number = number; within = below; is = refl }) in
+    let some = class_size-least class (class_known class number below) in
+    let there = IsWithin-claim sound other range unnamed claim in
+    ⊎_elim
+    (λ (same : there.0 ≡ start).
+    let here : IsWithin t start range = subst (λ s. IsWithin t s range) same there.1 in
+    unused.each range (Holds-claim sound other start range unnamed claim (record { slab = slab; low = here.low; high = omega (arith, here.high, here.some, four) })))
+    (λ (differ : there.0 ≢ start). AreApart-within sound there.0 start range block there.1 (record { low = lies.low; high = omega (arith, lies.high, four); some = omega (arith, some) }) differ)
+    (cases_eq there.0 start)
 
 -- a block of a slab, by the number that its class gives it, while no entry is open
 module _ {b : Bounds} {t : Tables} (sound : IsSound b t) (closed : t.open_entry ≡ None) (start number : ℕ) (slab : t.slab start ≡ true) (below : number < class_capacity (t.class start)) where
@@ -76,17 +94,6 @@ module _ {b : Bounds} {t : Tables} (sound : IsSound b t) (closed : t.open_entry 
       let some = class_size-least (t.old start) (sound.slabs start slab).state.is_old_class in
       ⊎_elim (λ x. omega (arith, x, seen.3, some)) (λ x. omega (arith, x, seen.3, size_some)) (unused.each old (record { slab = slab; block = inr (record { place = seen.0; below = seen.1; live = seen.2; is = refl }) })))
 
-  -- each root's block is apart from an unused one
-  pub apart_unused : IsUnusedIn t start (t.class start) number → (other : ℕ) (range : Range) → IsClaim t other range → AreApart range (block_in t start number)
-  apart_unused unused other range claim =
-      let there = IsWithin-claim sound other range (unnamed other) claim in
-      ⊎_elim
-      (λ (same : there.0 ≡ start).
-      let here : IsWithin t start range = subst (λ s. IsWithin t s range) same there.1 in
-      unused.each range (Holds-claim sound other start range (unnamed other) claim (in_slab range here)))
-      (λ (differ : there.0 ≢ start). AreApart-within sound there.0 start range block there.1 IsWithin-block differ)
-      (cases_eq there.0 start)
-
   -- a held one is some root's, and no live old block begins where it does: that would be of another size
   pub no_old-held : Holds t start (block_in t start number) → is_old t start (block_in t start number).at ≡ false
   no_old-held holds = false_from_ne_true (is_old t start block.at) (λ is.
@@ -118,7 +125,7 @@ module _ {b : Bounds} {t : Tables} (root start number : ℕ) (but : IsExactBut b
     below = below;
     no_old = no_old-unused but.sound but.closed start number slab below unused;
     was = inl (clear_unused but.sound but.closed start number slab below (calm_but but start slab) unused, none);
-    apart = λ other range differ claim. apart_unused but.sound but.closed start number slab below unused other range claim;
+    apart = λ other range differ claim. apart_unused but.sound but.closed start (t.class start) number slab below unused other range claim;
   }
 
   -- the block that a root names

@@ -1,5 +1,5 @@
 -- Worked rows of the best of two slabs that are fit.
-use Rattle.std.proofs.Common.{◌≡◌, ◌⊎◌, ◌<◌, ◌≤◌, ◌+◌, ◌-◌, ℕ, Some, None, if◌then◌else◌, refl, sym, ap, ◌∙◌, arith, inl, inr, ⊎_elim, lit<}
+use Rattle.std.proofs.Common.{◌≡◌, ◌⊎◌, ◌<◌, ◌≤◌, ◌+◌, ℕ, Some, None, if◌then◌else◌, refl, sym, ap, ◌∙◌, arith, inl, inr, ⊎_elim, lit<}
 use Rattle.size_classes.specs.Classes.{sizes, class_size}
 use Rattle.heap_model.specs.Policy.{whole}
 use Rattle.heap_model.specs.Machine.{Bounds, Range, Machine, no_heap, with_key, slab_block}

@@ -1,7 +1,8 @@
 pub mod Maps
 pub mod Fits
 pub mod Views
-pub mod Refills
+pub mod Below
+pub mod Lowest
 pub mod Placing
 pub mod Freeing
 pub mod Slabbing

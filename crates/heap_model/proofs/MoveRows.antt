@@ -1,5 +1,5 @@
 -- A worked row of moves: a block passes to another root once.
-use Rattle.std.proofs.Common.{◌⊎◌, ◌<◌, ◌≤◌, ◌-◌, ℕ, [], ◌∷◌, refl, arith, inl, inr, ⊎_elim, lit<, lit≤}
+use Rattle.std.proofs.Common.{◌⊎◌, ◌<◌, ◌≤◌, ℕ, [], ◌∷◌, refl, arith, inl, inr, ⊎_elim, lit<, lit≤}
 use Rattle.size_classes.specs.Classes.{sizes, class_size, class_capacity, IsClassOf}
 use Rattle.heap_model.specs.declared.call.Call.TheVariants.{Malloc, Move}
 use Rattle.heap_model.specs.declared.call.Reply.TheVariants.{Placed, Moved, Occupied, Empty, NoRoot}

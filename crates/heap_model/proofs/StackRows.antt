@@ -1,5 +1,5 @@
 -- Worked rows of the stacks behind a refill: of a slab that took the class, and of a new one; and of another seat's stack.
-use Rattle.std.proofs.Common.{◌≡◌, ◌⊎◌, ◌<◌, ◌≤◌, ◌-◌, ℕ, zero, suc, [], ◌∷◌, Some, refl, arith, subst, inl, inr, ⊎_elim, lit<, lit≤}
+use Rattle.std.proofs.Common.{◌≡◌, ◌<◌, ◌≤◌, ℕ, zero, suc, [], ◌∷◌, Some, refl, arith, subst, inl, inr, ⊎_elim, lit<, lit≤}
 use Rattle.size_classes.specs.Classes.{sizes, class_size, IsClassOf}
 use Rattle.heap_model.specs.declared.call.Call.TheVariants.{Malloc}
 use Rattle.heap_model.specs.declared.call.Reply.TheVariants.{Placed}

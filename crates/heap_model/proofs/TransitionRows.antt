@@ -1,5 +1,5 @@
 -- Worked rows of a morph, and of how the slab's transition ends.
-use Rattle.std.proofs.Common.{◌≡◌, ◌⊎◌, ◌<◌, ◌≤◌, ◌-◌, ℕ, [], ◌∷◌, Some, None, refl, sym, arith, subst, inl, inr, ⊎_elim, lit<, lit≤}
+use Rattle.std.proofs.Common.{◌≡◌, ◌≤◌, ℕ, [], ◌∷◌, Some, None, refl, sym, arith, subst, inl, inr, ⊎_elim, lit<, lit≤}
 use Rattle.size_classes.specs.Classes.{sizes, class_size}
 use Rattle.heap_model.specs.declared.call.Call.TheVariants.{Malloc, Free}
 use Rattle.heap_model.specs.declared.call.Reply.TheVariants.{Placed, Freed}

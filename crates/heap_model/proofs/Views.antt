@@ -17,7 +17,11 @@ Agree-back p v w agree = record {
   unused = λ s c number slab within. other_way (agree.unused s c number (agree.slab s ∙ slab) within);
   fit = λ allowed.
       let fit = agree.fit allowed in
-      record { live = λ s. sym (fit.live s); in_transition = λ s. other_way (fit.in_transition s); unused = λ s c number. other_way (fit.unused s c number) };
+      record {
+        live = λ s. sym (fit.live s);
+        in_transition = λ s class slab. other_way (fit.in_transition s class (agree.slab s ∙ slab));
+        unused = λ s class c number slab within. other_way (fit.unused s class c number (agree.slab s ∙ slab) within);
+      };
 }
 
 module _ (p : Policy) (v w : View) (agree : Agree p v w) where
@@ -27,8 +31,8 @@ module _ (p : Policy) (v w : View) (agree : Agree p v w) where
   has_unused : (c : ℕ) → HasUnusedBlock v c → HasUnusedBlock w c
   has_unused c has = record { start = has.start; slab = sym (agree.slab has.start) ∙ has.slab; number = has.number; block = unused_block has.start c has.number has.slab has.block }
 
-  fit_block : p.morphs ≡ true → (s c number : ℕ) → IsUnusedBlock v s c number → IsUnusedBlock w s c number
-  fit_block allowed s c number block = record { within = block.within; unused = ((agree.fit allowed).unused s c number).0 block.unused }
+  fit_block : p.morphs ≡ true → (s class c number : ℕ) → v.slab s ≡ Some class → IsUnusedBlock v s c number → IsUnusedBlock w s c number
+  fit_block allowed s class c number slab block = record { within = block.within; unused = ((agree.fit allowed).unused s class c number slab block.within).0 block.unused }
 
   fits : (c s : ℕ) → IsFit p v c s → IsFit p w c s
   fits c s fit =
@@ -38,12 +42,12 @@ module _ (p : Policy) (v w : View) (agree : Agree p v w) where
         allowed = fit.allowed;
         class = fit.class;
         slab = sym (agree.slab s) ∙ fit.slab;
-        calm = λ moving. fit.calm ((same.in_transition s).1 moving);
+        calm = λ moving. fit.calm ((same.in_transition s fit.class fit.slab).1 moving);
         differs = fit.differs;
         few = omega (arith, fit.few, live);
         sparse = omega (arith, fit.sparse, live);
         number = fit.number;
-        block = fit_block fit.allowed s c fit.number fit.block;
+        block = fit_block fit.allowed s fit.class c fit.number fit.slab fit.block;
       }
 
 module _ (p : Policy) (v w : View) (agree : Agree p v w) where
@@ -69,7 +73,7 @@ module _ (p : Policy) (v w : View) (agree : Agree p v w) where
   IsSite-same size (Granules start count) is = record { large = is.large; count_is = is.count_is; fit = IsBestFit-same v.free w.free count start agree.free is.fit }
   IsSite-same size (InSlab start class number) is = record { least = is.least; slab = sym (agree.slab start) ∙ is.slab; block = unused_block p v w agree start class number is.slab is.block }
   IsSite-same size (InMorph start class number) is =
-      record { least = is.least; full = full class is.full; best = best_slab class start is.best; block = fit_block p v w agree is.best.fit.allowed start class number is.block }
+      record { least = is.least; full = full class is.full; best = best_slab class start is.best; block = fit_block p v w agree is.best.fit.allowed start is.best.fit.class class number is.best.fit.slab is.block }
   IsSite-same size (InNewSlab start class number) is =
       record { least = is.least; full = full class is.full; no_fit = no_fit_slab class is.no_fit; fit = IsBestFit-same v.free w.free 4 start agree.free is.fit; within = is.within }
 

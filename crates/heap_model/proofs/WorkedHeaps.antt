@@ -1,6 +1,6 @@
 -- The heaps that worked rows begin from, in an arena of 16 granules: the empty one, and one that a large block fills but for
 -- four granules.
-use Rattle.std.proofs.Common.{◌≡◌, ◌⊎◌, ◌<◌, ◌≤◌, ◌+◌, ◌-◌, ℕ, Some, refl, ap, arith, ⊎_elim}
+use Rattle.std.proofs.Common.{◌≡◌, ◌<◌, ◌≤◌, ◌+◌, ◌-◌, ℕ, Some, refl, ap, arith, ⊎_elim}
 use Rattle.std.proofs.lemmas.Bool.{cases_lt}
 use Rattle.size_classes.specs.Classes.{class_capacity, IsClassOf}
 use Rattle.heap_model.specs.declared.call.Call.{Call}

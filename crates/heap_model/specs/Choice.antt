@@ -134,11 +134,11 @@ HasNoSite p v size = HasNoSmallSite p v size ⊎ HasNoLargeSite v size
 
 -- views that agree
 
--- two views say the same of what a slab is fit for
+-- two views say the same of what their slabs are fit for
 pub record AgreeOnFit (v w : View) : Type 0 where
   pub live : (s : ℕ) → v.live s ≡ w.live s
-  pub in_transition : (s : ℕ) → v.in_transition s ↔ w.in_transition s
-  pub unused : (s c number : ℕ) → v.unused s c number ↔ w.unused s c number
+  pub in_transition : (s class : ℕ) → v.slab s ≡ Some class → v.in_transition s ↔ w.in_transition s
+  pub unused : (s class c number : ℕ) → v.slab s ≡ Some class → number < class_capacity c → v.unused s c number ↔ w.unused s c number
 
 -- two views say the same of all that a choice by a policy looks at
 pub record Agree (p : Policy) (v w : View) : Type 0 where
