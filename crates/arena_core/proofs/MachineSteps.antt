@@ -5,7 +5,6 @@ use Rattle.heap_model.specs.declared.call.Call.{Call}
 use Rattle.heap_model.specs.declared.call.Call.TheVariants as calls
 use Rattle.heap_model.specs.declared.call.Reply.{Reply}
 use Rattle.heap_model.specs.declared.call.Reply.TheVariants as replies
-use Rattle.heap_model.specs.Policy.{without_morphs}
 use Rattle.heap_model.specs.Machine.{Bounds, Range, Machine, with_key}
 use Rattle.heap_model.specs.Slabs.{view_of}
 use Rattle.heap_model.specs.Step.{HasBlock, with_block, without_block, slabs_without, forgotten, IsStep}
@@ -67,8 +66,8 @@ placed_step old new was next seat root size place image supply asked placing ser
   each = λ m state. (
     with_block m root (site_of place),
     record {
-      step = IsStep-granted without_morphs (bounds_of old) m root size asked.below (nameless state root asked.none) asked.some asked.most (site_of place)
-          (IsSite-same without_morphs (tables_view (bounds_of old) (tables_of old)) (view_of (bounds_of old) m) (tables_agree image state) size (site_of place) placing.site);
+      step = IsStep-granted (bounds_of old) m root size asked.below (nameless state root asked.none) asked.some asked.most (site_of place)
+          (IsSite-same (tables_view (bounds_of old) (tables_of old)) (view_of (bounds_of old) m) (tables_agree image state) size (site_of place) placing.site);
       stacked = stacked m state place placing served;
     },
     state_behind m state place gives,
@@ -84,7 +83,7 @@ placed_step old new was next seat root size place image supply asked placing ser
     }
 
     stacked : (m : Machine) (state : HasState old m) (place : Place) → IsPlacing (bounds_of old) (tables_of old) root size place → IsServedAt was next seat place →
-        IsStacked without_morphs (bounds_of old) seat (record { machine = m; stacks = stacks_of was.stacks }) (calls.Malloc root size) (placed_reply (range_at place)) (record { machine = with_block m root (site_of place); stacks = stacks_of next.stacks })
+        IsStacked (bounds_of old) seat (record { machine = m; stacks = stacks_of was.stacks }) (calls.Malloc root size) (placed_reply (range_at place)) (record { machine = with_block m root (site_of place); stacks = stacks_of next.stacks })
     stacked m state (Large start count) placing served = inr (λ gave. class_small size gave.class gave.least placing.site.large, ap stacks_of served)
     stacked m state (Small block class) placing served = inl (
       record { class = class; least = placing.site.least; at = (slab_block block.start class block.number).at; given = class_size class; is = refl },
@@ -102,7 +101,7 @@ placed_step old new was next seat root size place image supply asked placing ser
     state_behind m state (Fresh start class) gives = HasState-gives old new root _ _ m (with_key m.slab start (Some class)) state gives (λ s. ap (λ (row : ℕ → Option ℕ). with_key row start (Some class) s) (λ i k. state.slabs k i))
 
 -- a refusal is a step that changes nothing
-refused_step : (words : List ℕ) (call : Call) (reply : Reply) → ((seat : ℕ) (m : Machine) (stacks : Stacks) → HasState words m → IsStacked without_morphs (bounds_of words) seat (record { machine = m; stacks = stacks }) call reply (record { machine = m; stacks = stacks })) → ((m : Machine) → HasState words m → IsStep without_morphs (bounds_of words) m call reply m) → IsStepOfAny words words call reply
+refused_step : (words : List ℕ) (call : Call) (reply : Reply) → ((seat : ℕ) (m : Machine) (stacks : Stacks) → HasState words m → IsStacked (bounds_of words) seat (record { machine = m; stacks = stacks }) call reply (record { machine = m; stacks = stacks })) → ((m : Machine) → HasState words m → IsStep (bounds_of words) m call reply m) → IsStepOfAny words words call reply
 refused_step words call reply none step seat stacks = record { bounds = refl; each = λ m state. (m, record { step = step m state; stacked = none seat m stacks state }, state) }
 
 -- a root's number is below that of the roots
@@ -126,7 +125,7 @@ refused_malloc words root size refusal image plan = refused_step words (calls.Ma
     none NoSpace at given reply = absurd (cc)
 
     step : (m : Machine) → HasState words m → (refusal : MallocRefusal) → IsMallocPlan (bounds_of words) (tables_of words) root size (Err refusal) →
-        IsStep without_morphs (bounds_of words) m (calls.Malloc root size) (malloc_reply (Err refusal)) m
+        IsStep (bounds_of words) m (calls.Malloc root size) (malloc_reply (Err refusal)) m
     step m state NoRoot past = inl (past, (refl, refl))
     step m state (Occupied at) held = inr (rooted (bounds_of words) root held.0, inl (record { range = _; named = named_at image state root at held.1 held.2 }, (refl, refl)))
     step m state ZeroSize zero_size = inr (rooted (bounds_of words) root zero_size.0, inr (bare_root root (nameless state root zero_size.1), inl (zero_size.2, (refl, refl))))
@@ -139,7 +138,7 @@ refused_malloc words root size refusal image plan = refused_step words (calls.Ma
           full.0.some,
           inr (
             λ large. omega (arith, large, full.0.most),
-            inr (HasNoSite-same without_morphs (tables_view (bounds_of words) (tables_of words)) (view_of (bounds_of words) m) (tables_agree image state) size full.1, (refl, refl)),
+            inr (HasNoSite-same (tables_view (bounds_of words) (tables_of words)) (view_of (bounds_of words) m) (tables_agree image state) size full.1, (refl, refl)),
           ),
         ),
       ),
@@ -150,7 +149,7 @@ refused_malloc words root size refusal image plan = refused_step words (calls.Ma
 -- a block is freed, whose slabs stay or go as the machine's do, and the stacks as the placement's
 pub freed_step : (old new : List ℕ) (was after : Stacks) (seat root : ℕ) (range : Range) (slab : ℕ → Option ℕ) → root < (bounds_of old).roots → heap (tables_of old) root ≡ Some range →
     ((m : Machine) → HasState old m → m.block root ≡ Some range → (s : ℕ) → slab s ≡ slabs_without (bounds_of old) m root range s) →
-    ((m : Machine) → HasState old m → m.block root ≡ Some range → IsReturned without_morphs (without_block (bounds_of old) m root range) (without_left (bounds_of old) m (without_block (bounds_of old) m root range) was) seat range after) →
+    ((m : Machine) → HasState old m → m.block root ≡ Some range → IsReturned (without_block (bounds_of old) m root range) (without_left (bounds_of old) m (without_block (bounds_of old) m root range) was) seat range after) →
     GivesRoot old root None slab new → IsStepOf seat old was new after (calls.Free root) (replies.Freed range.at range.size)
 freed_step old new was after seat root range slab below named same returned gives = record {
   bounds = gives.bounds;
@@ -187,7 +186,7 @@ small_stays words root start range gone image inside last m state named s = ⊎_
 -- so a large block goes on no stack
 pub large_returned : (words : List ℕ) (stacks : Stacks) (seat root start count : ℕ) → IsExactImage words → IsTakable (bounds_of words) (tables_of words) root start count → (m : Machine) → HasState words m →
     m.block root ≡ Some (record { at = 16384 * start; size = 16384 * count }) → let range : Range = record { at = 16384 * start; size = 16384 * count } in
-    IsReturned without_morphs (without_block (bounds_of words) m root range) (without_left (bounds_of words) m (without_block (bounds_of words) m root range) stacks) seat range stacks
+    IsReturned (without_block (bounds_of words) m root range) (without_left (bounds_of words) m (without_block (bounds_of words) m root range) stacks) seat range stacks
 large_returned words stacks seat root start count image taken m state named =
     let range : Range = record { at = 16384 * start; size = 16384 * count } in
     returned_large (bounds_of words) m (without_block (bounds_of words) m root range) stacks seat range (omega (arith, taken.many)) (λ s. sym (large_stays words root start count image taken m state named s) ∙ state.slabs s)
@@ -204,7 +203,7 @@ put_back_as {stacks} {after} {seat} {c} {at} {gone} start number class same is b
 -- a block of its slab's class goes on the seat's stack, where that has room and the slab stays
 pub small_returned : (words : List ℕ) (stacks after : Stacks) (seat root start class number : ℕ) (gone : Bool) → IsExactImage words → let t = tables_of words in let range = slab_block start class number in
     t.class start ≡ class → number < class_capacity class → IsInSlab t start range.at → IsLastOf t root start gone → IsPutBack stacks seat class range.at start gone after → (m : Machine) → HasState words m → m.block root ≡ Some range →
-    IsReturned without_morphs (without_block (bounds_of words) m root range) (without_left (bounds_of words) m (without_block (bounds_of words) m root range) stacks) seat range after
+    IsReturned (without_block (bounds_of words) m root range) (without_left (bounds_of words) m (without_block (bounds_of words) m root range) stacks) seat range after
 small_returned words stacks after seat root start class number gone image class_is within inside last back m state named =
     let range = slab_block start class number in
     returned_small (bounds_of words) m (law_of_exact_state words m image state) start class range (naming_slab state start inside.slab ∙ ap (λ c. Some c) class_is) inside.low inside.high
@@ -214,7 +213,7 @@ small_returned words stacks after seat root start class number gone image class_
 -- an old one goes on none
 pub old_returned : (words : List ℕ) (stacks after : Stacks) (seat root start old : ℕ) (range : Range) (gone : Bool) → IsExactImage words → old < 36 → old ≢ (tables_of words).class start → range.size ≡ class_size old → IsInSlab (tables_of words) start range.at →
     IsLastOf (tables_of words) root start gone → after ≡ stacks_but stacks start gone → (m : Machine) → HasState words m → m.block root ≡ Some range →
-    IsReturned without_morphs (without_block (bounds_of words) m root range) (without_left (bounds_of words) m (without_block (bounds_of words) m root range) stacks) seat range after
+    IsReturned (without_block (bounds_of words) m root range) (without_left (bounds_of words) m (without_block (bounds_of words) m root range) stacks) seat range after
 old_returned words stacks after seat root start old range gone image is_class differ wide inside last is m state named =
     returned_old (bounds_of words) m (law_of_exact_state words m image state) start ((tables_of words).class start) range (naming_slab state start inside.slab) inside.low inside.high
     (without_block (bounds_of words) m root range) stacks after seat old gone (λ s. sym (small_stays words root start range gone image inside last m state named s) ∙ slabs_but_state words m state start gone s) is_class differ wide is

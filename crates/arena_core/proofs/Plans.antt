@@ -8,7 +8,6 @@ use Rattle.size_classes.specs.Classes.{class_size, class_capacity, IsClassOf, gr
 use Rattle.size_classes.proofs.Spacing.{class_size-least, class_size-most}
 use Rattle.image_tables.specs.Tables.{Tables, tables_of}
 use Rattle.heap_model.specs.Machine.{Bounds, Range, slab_block}
-use Rattle.heap_model.specs.Policy.{without_morphs}
 use Rattle.heap_model.specs.Choice.{View, HasUnusedBlock, HasNoSite, Agree}
 use Rattle.heap_model.specs.Choice.Site.{InSlab, InNewSlab}
 use Rattle.heap_model.proofs.Fits.{IsBestFit-same, HasNoFit-same, fit_free}
@@ -86,12 +85,12 @@ module _ {set : FreeSet} {words : List ℕ} (index : IsIndexOf set words) (root 
         place_for = record { below = asked.below; none = asked.none; many = many; row = IsVacantRow-fit (bounds_of words) (tables_of words) count start (omega (arith, many)) vacant };
       }
 
-  pub HasNoSite-large : 16384 < size → HasNoFit (IsFree set) (granules_of size) → HasNoSite without_morphs (tables_view (bounds_of words) (tables_of words)) size
+  pub HasNoSite-large : 16384 < size → HasNoFit (IsFree set) (granules_of size) → HasNoSite (tables_view (bounds_of words) (tables_of words)) size
   HasNoSite-large large none = inr (record { large = large; no_run = HasNoFit-same (IsFree set) (IsVacant (bounds_of words) (tables_of words)) (granules_of size) index.each none })
 
   module _ {parts : Supply} (slabs : IsSlabsOf parts words) where
     -- the sets say what the tables say
-    agree : Agree without_morphs (sets_view set parts) (tables_view (bounds_of words) (tables_of words))
+    agree : Agree (sets_view set parts) (tables_view (bounds_of words) (tables_of words))
     agree = record {
       free = index.each;
       slab = slabs.classes;
@@ -110,7 +109,7 @@ module _ {set : FreeSet} {words : List ℕ} (index : IsIndexOf set words) (root 
     IsPlacing-small class at block least slab within is_open at_is =
         let is = slab_of_set slabs block.start class slab in
         record {
-          site = IsSite-same without_morphs (sets_view set parts) (tables_view (bounds_of words) (tables_of words)) agree size (InSlab block.start class block.number)
+          site = IsSite-same (sets_view set parts) (tables_view (bounds_of words) (tables_of words)) agree size (InSlab block.start class block.number)
               (record { least = least; slab = slab; block = record { within = within; unused = is_open } });
           place_for = record { slab = is.0; class_is = is.1; below = within; unused = (block_is slabs block.start class block.number is.0 is.1 within).0 is_open; at = at_is };
         }
@@ -118,13 +117,13 @@ module _ {set : FreeSet} {words : List ℕ} (index : IsIndexOf set words) (root 
     -- a new slab for it
     pub IsPlacing-fresh : (class start : ℕ) → IsClassOf size class → HasNoOpen parts class → IsBestFit (IsFree set) 4 start → IsPlacing (bounds_of words) (tables_of words) root size (Fresh start class)
     IsPlacing-fresh class start least none fit = record {
-      site = IsSite-same without_morphs (sets_view set parts) (tables_view (bounds_of words) (tables_of words)) agree size (InNewSlab start class 0)
+      site = IsSite-same (sets_view set parts) (tables_view (bounds_of words) (tables_of words)) agree size (InNewSlab start class 0)
           (record { least = least; full = full class none; no_fit = HasNoFitSlab-without _ class; fit = fit; within = class_capacity-some class least.is_class });
       place_for = IsVacantRow-fit (bounds_of words) (tables_of words) 4 start (omega arith) (IsBestFit-same (IsFree set) (IsVacant (bounds_of words) (tables_of words)) 4 start index.each fit);
     }
 
-    pub HasNoSite-small : (class : ℕ) → IsClassOf size class → HasNoOpen parts class → HasNoFit (IsFree set) 4 → HasNoSite without_morphs (tables_view (bounds_of words) (tables_of words)) size
-    HasNoSite-small class least none no_run = HasNoSite-same without_morphs (sets_view set parts) (tables_view (bounds_of words) (tables_of words)) agree size
+    pub HasNoSite-small : (class : ℕ) → IsClassOf size class → HasNoOpen parts class → HasNoFit (IsFree set) 4 → HasNoSite (tables_view (bounds_of words) (tables_of words)) size
+    HasNoSite-small class least none no_run = HasNoSite-same (sets_view set parts) (tables_view (bounds_of words) (tables_of words)) agree size
         (inl (record { class = class; least = least; full = full class none; no_fit = HasNoFitSlab-without _ class; no_run = no_run }))
 
 -- what a root names

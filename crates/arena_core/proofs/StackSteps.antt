@@ -5,7 +5,6 @@ use Rattle.std.specs.List.{filter}
 use Rattle.size_classes.specs.Classes.{class_size, class_capacity}
 use Rattle.size_classes.proofs.Spacing.{class_size-least, class_size-most, class_size-rises}
 use Rattle.heap_model.specs.Below.{any_below}
-use Rattle.heap_model.specs.Policy.{without_morphs}
 use Rattle.heap_model.specs.Machine.{Bounds, Range, Machine, with_key, slab_block, IsBlockOf, IsUnused, IsFreeGranule, IsOverlapFree}
 use Rattle.heap_model.specs.Runs.{IsBestFit}
 use Rattle.heap_model.specs.Slabs.{is_within, view_of}
@@ -27,7 +26,7 @@ use Rattle.arena_core.specs.Effect.{stacks_but, IsPutBack, IsSuppliedFresh}
 
 module _ (b : Bounds) (m : Machine) (was next : Supply) (seat class : ℕ) (agree : AgreeOnBlocks (supply_view was) (view_of b m)) where
   -- a block that is there
-  pub way_there : (block : SlabBlock) → TookBlock was seat class block next → IsWay without_morphs b (record { machine = m; stacks = stacks_of was.stacks }) seat class (slab_block block.start class block.number).at (stacks_of next.stacks)
+  pub way_there : (block : SlabBlock) → TookBlock was seat class block next → IsWay b (record { machine = m; stacks = stacks_of was.stacks }) seat class (slab_block block.start class block.number).at (stacks_of next.stacks)
   way_there block took = ⊎_elim
       (λ own. inl own)
       (λ rest. inr (rest.0, ⊎_elim (λ some. inl some) (λ none. inr (none.0, inl none.1)) rest.1))
@@ -59,7 +58,7 @@ module _ (b : Bounds) (m : Machine) (was next : Supply) (seat class : ℕ) (agre
     bare : (other : ℕ) → stacks_of mid.stacks other class ≡ []
     bare other = ap (λ t. stacks_of t other class) fresh.more.stacks ∙ none.empty other
 
-    pub way_fresh : IsBestFit (IsFreeGranule b m) 4 start → IsWay without_morphs b (record { machine = m; stacks = stacks_of was.stacks }) seat class (slab_block start class 0).at (stacks_of next.stacks)
+    pub way_fresh : IsBestFit (IsFreeGranule b m) 4 start → IsWay b (record { machine = m; stacks = stacks_of was.stacks }) seat class (slab_block start class 0).at (stacks_of next.stacks)
     way_fresh fit = inr (
       no_top (stacks_of was.stacks) seat class (none.empty seat),
       inr (
@@ -70,14 +69,14 @@ module _ (b : Bounds) (m : Machine) (was next : Supply) (seat class : ℕ) (agre
             no_fit = HasNoFitSlab-without (view_of b m) class;
             start = start;
             fit = fit;
-            refill = subst (λ t. IsRefill without_morphs (view_of b (with_class m start class)) (stacks_of t) seat class (slab_block start class 0).at (stacks_of next.stacks)) fresh.more.stacks
-                (IsRefill-by without_morphs (supply_view mid) (view_of b (with_class m start class)) agree_more (stacks_of mid.stacks) seat class (slab_block start class 0).at (stacks_of next.stacks) refill);
+            refill = subst (λ t. IsRefill (view_of b (with_class m start class)) (stacks_of t) seat class (slab_block start class 0).at (stacks_of next.stacks)) fresh.more.stacks
+                (IsRefill-by (supply_view mid) (view_of b (with_class m start class)) agree_more (stacks_of mid.stacks) seat class (slab_block start class 0).at (stacks_of next.stacks) refill);
           }),
         ),
       ),
     )
       where
-        refill : IsRefill without_morphs (supply_view mid) (stacks_of mid.stacks) seat class (slab_block start class 0).at (stacks_of next.stacks)
+        refill : IsRefill (supply_view mid) (stacks_of mid.stacks) seat class (slab_block start class 0).at (stacks_of next.stacks)
         refill = ⊎_elim
             (λ own. absurd (no_top (stacks_of mid.stacks) seat class (bare seat) own.0))
             (λ rest. ⊎_elim (λ some. some.1) (λ last. absurd (no_top (stacks_of mid.stacks) last.1.0.seat class (bare last.1.0.seat) last.1.0.first.top)) rest.1)
@@ -143,9 +142,9 @@ purged_put stacks seat class at start within = λ i other c. ⊎_elim
     (here_or_there seat class other c) i
 
 -- the block of a large extent goes on no stack
-pub returned_large : (b : Bounds) (m next : Machine) (stacks : Stacks) (seat : ℕ) (range : Range) → 16384 < range.size → ((s : ℕ) → next.slab s ≡ m.slab s) → IsReturned without_morphs next (without_left b m next stacks) seat range stacks
+pub returned_large : (b : Bounds) (m next : Machine) (stacks : Stacks) (seat : ℕ) (range : Range) → 16384 < range.size → ((s : ℕ) → next.slab s ≡ m.slab s) → IsReturned next (without_left b m next stacks) seat range stacks
 returned_large b m next stacks seat range large same = inr (
-  λ (keep : IsKeepable without_morphs next (without_left b m next stacks) seat range).
+  λ (keep : IsKeepable next (without_left b m next stacks) seat range).
       let size = ap (λ (r : Range). r.size) keep.block.is in
       omega (arith, size, large, class_size-most keep.class (class_known keep.class keep.block.number keep.block.within)),
   sym (none_left b m next stacks same),
@@ -167,7 +166,7 @@ module _ (b : Bounds) (m : Machine) (free : IsOverlapFree b m) (start class : �
       (cases_eq s start)
 
   -- where its slab went it may not be kept
-  not_kept : (next : Machine) (stacks : Stacks) (seat : ℕ) → ((s : ℕ) → next.slab s ≡ with_key m.slab start None s) → ¬ (IsKeepable without_morphs next stacks seat range)
+  not_kept : (next : Machine) (stacks : Stacks) (seat : ℕ) → ((s : ℕ) → next.slab s ≡ with_key m.slab start None s) → ¬ (IsKeepable next stacks seat range)
   not_kept next stacks seat left keep = ⊎_elim
       (λ here. absurd (let none = here.1 in cc))
       (λ there. there.0 (one_home keep.start keep.class there.1 keep.block))
@@ -178,7 +177,7 @@ module _ (b : Bounds) (m : Machine) (free : IsOverlapFree b m) (start class : �
 
   -- a block of its slab's class
   pub returned_small : (next : Machine) (stacks after : Stacks) (seat : ℕ) (gone : Bool) → ((s : ℕ) → next.slab s ≡ (if gone then with_key m.slab start None else m.slab) s) → IsBlockOf start class range → IsPutBack stacks seat class range.at start gone after →
-      IsReturned without_morphs next (without_left b m next stacks) seat range after
+      IsReturned next (without_left b m next stacks) seat range after
   returned_small next stacks after seat true left block back = inr (
     not_kept next (without_left b m next stacks) seat left,
     back.left ∙ ⊎_elim
@@ -188,10 +187,10 @@ module _ (b : Bounds) (m : Machine) (free : IsOverlapFree b m) (start class : �
   )
   returned_small next stacks after seat false left block back =
       let same = none_left b m next stacks left in
-      subst (λ (s : Stacks). IsReturned without_morphs next s seat range after) (sym same) (⊎_elim
+      subst (λ (s : Stacks). IsReturned next s seat range after) (sym same) (⊎_elim
       (λ put. inl (record { start = start; class = class; slab = left start ∙ slab; block = block; room = put.0 }, back.left ∙ put.1))
       (λ full. inr (
-        λ (keep : IsKeepable without_morphs next stacks seat range).
+        λ (keep : IsKeepable next stacks seat range).
             let home = one_home keep.start keep.class (sym (left keep.start) ∙ keep.slab) keep.block in
             let class_is : keep.class ≡ class = (let one = sym (left keep.start ∙ ap m.slab home ∙ slab) ∙ keep.slab in cc) in
             full.0 (subst (λ k. length (stacks seat k) < 8) class_is keep.room),
@@ -201,10 +200,10 @@ module _ (b : Bounds) (m : Machine) (free : IsOverlapFree b m) (start class : �
 
   -- an old one goes on no stack
   pub returned_old : (next : Machine) (stacks after : Stacks) (seat old : ℕ) (gone : Bool) → ((s : ℕ) → next.slab s ≡ (if gone then with_key m.slab start None else m.slab) s) → old < 36 → old ≢ class → range.size ≡ class_size old →
-      after ≡ stacks_but stacks start gone → IsReturned without_morphs next (without_left b m next stacks) seat range after
+      after ≡ stacks_but stacks start gone → IsReturned next (without_left b m next stacks) seat range after
   returned_old next stacks after seat old true left is_class differ wide is = inr (not_kept next (without_left b m next stacks) seat left, is ∙ sym (one_left b m next stacks start class below slab left))
   returned_old next stacks after seat old false left is_class differ wide is = inr (
-    λ (keep : IsKeepable without_morphs next (without_left b m next stacks) seat range).
+    λ (keep : IsKeepable next (without_left b m next stacks) seat range).
         let home = one_home keep.start keep.class (sym (left keep.start) ∙ keep.slab) keep.block in
         let class_is : keep.class ≡ class = (let one = sym (left keep.start ∙ ap m.slab home ∙ slab) ∙ keep.slab in cc) in
         let size : class_size old ≡ class_size class = sym wide ∙ ap (λ (r : Range). r.size) keep.block.is ∙ ap class_size class_is in

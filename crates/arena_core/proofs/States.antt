@@ -5,7 +5,6 @@ use Rattle.std.proofs.lemmas.Bool.{cases_eq, cases_lt, cases_Bool, cond-true, co
 use Rattle.size_classes.specs.Classes.{class_capacity}
 use Rattle.image_tables.specs.Tables.{Tables, tables_of}
 use Rattle.image_tables.proofs.Tables.{root_table-past}
-use Rattle.heap_model.specs.Policy.{without_morphs}
 use Rattle.heap_model.specs.Machine.{Bounds, Range, Machine, with_key, slab_block, AreApart, IsUnused, IsFreeGranule}
 use Rattle.heap_model.specs.Choice.{Agree}
 use Rattle.heap_model.specs.Slabs.{view_of}
@@ -228,7 +227,7 @@ module _ {words : List ℕ} (image : IsExactImage words) {m : Machine} (state : 
   )
 
   -- the tables say what the state says
-  pub tables_agree : Agree without_morphs (tables_view (bounds_of words) (tables_of words)) (view_of (bounds_of words) m)
+  pub tables_agree : Agree (tables_view (bounds_of words) (tables_of words)) (view_of (bounds_of words) m)
   tables_agree = record {
     free = λ k. (vacant_is_free k, free_is_vacant k);
     slab = state.slabs;

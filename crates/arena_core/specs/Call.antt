@@ -7,7 +7,6 @@ use Rattle.pool_layout.specs.declared.defect.Defect.TheVariants.{BadHeader}
 use Rattle.heap_model.specs.declared.call.Call.{Call}
 use Rattle.heap_model.specs.declared.call.Reply.{Reply}
 use Rattle.heap_model.specs.Machine.{Machine, no_heap}
-use Rattle.heap_model.specs.Policy.{without_morphs}
 use Rattle.heap_model.specs.Placement.{Stacks, IsPlacedStep}
 use Rattle.heap_check.specs.Image.{bounds_of, IsExactImage}
 use Rattle.heap_check.specs.State.{HasState}
@@ -18,10 +17,10 @@ pub record IsReady (device : PmemState) : Type 0 where
   pub room : 2048 ≤ device.room
 
 -- each state that the old words have leads, with the stacks before it, to one that the new words have, with the stacks behind
--- it, by a step of the placement for a seat: by the policy without morphs
+-- it, by a step of the placement for a seat
 pub record IsStepOf (seat : ℕ) (old : List ℕ) (was : Stacks) (new : List ℕ) (after : Stacks) (call : Call) (reply : Reply) : Type 0 where
   pub bounds : bounds_of new ≡ bounds_of old
-  pub each : (m : Machine) → HasState old m → (next : Machine) × IsPlacedStep without_morphs (bounds_of old) seat (record { machine = m; stacks = was }) call reply (record { machine = next; stacks = after }) × HasState new next
+  pub each : (m : Machine) → HasState old m → (next : Machine) × IsPlacedStep (bounds_of old) seat (record { machine = m; stacks = was }) call reply (record { machine = next; stacks = after }) × HasState new next
 
 -- whichever seat calls, and whatever the stacks are, which stay
 abbrev pub IsStepOfAny : List ℕ → List ℕ → Call → Reply → Type 0

@@ -5,7 +5,6 @@ use Rattle.image_tables.specs.Forms.{normal_kind}
 use Rattle.pmem_lines.specs.Pmem.{PmemState, words_of}
 use Rattle.image_tables.specs.Tables.{Tables, tables_of}
 use Rattle.heap_model.specs.Machine.{Bounds, Range, slab_block}
-use Rattle.heap_model.specs.Policy.{without_morphs}
 use Rattle.heap_model.specs.Choice.{View, Site, range_of, IsSite, HasNoSite}
 use Rattle.heap_model.specs.Choice.Site.{Granules, InSlab, InNewSlab}
 use Rattle.heap_model.specs.Slabs.{live_below}
@@ -82,12 +81,12 @@ IsPlaceFor b t root (Fresh start class) = IsVacantRow b t start 4
 
 -- a place for a request: a site for it
 pub record IsPlacing (b : Bounds) (t : Tables) (root size : ℕ) (place : Place) : Type 0 where
-  pub site : IsSite without_morphs (tables_view b t) size (site_of place)
+  pub site : IsSite (tables_view b t) size (site_of place)
   pub place_for : IsPlaceFor b t root place
 
 -- what is found for a request: no place where it has no site
 abbrev pub IsFound : Bounds → Tables → ℕ → ℕ → Option Place → Type 0
-IsFound b t root size found = MatchOption found (HasNoSite without_morphs (tables_view b t) size) (IsPlacing b t root size)
+IsFound b t root size found = MatchOption found (HasNoSite (tables_view b t) size) (IsPlacing b t root size)
 
 abbrev pub IsMallocPlan : Bounds → Tables → ℕ → ℕ → Result Place MallocRefusal → Type 0
 IsMallocPlan b t root size (Ok place) = IsAskedOf b t root size × IsPlacing b t root size place
@@ -95,7 +94,7 @@ IsMallocPlan b t root size (Err NoRoot) = b.roots ≤ root
 IsMallocPlan b t root size (Err (Occupied at)) = (root < b.roots) × (t.root root ≡ at) × (at ≢ 0)
 IsMallocPlan b t root size (Err ZeroSize) = (root < b.roots) × (t.root root ≡ 0) × (size ≡ 0)
 IsMallocPlan b t root size (Err TooLarge) = (root < b.roots) × (t.root root ≡ 0) × ((b.granules - b.first) * 16384 < size)
-IsMallocPlan b t root size (Err NoSpace) = IsAskedOf b t root size × HasNoSite without_morphs (tables_view b t) size
+IsMallocPlan b t root size (Err NoSpace) = IsAskedOf b t root size × HasNoSite (tables_view b t) size
 
 -- a block of a slab, by its number
 abbrev pub number_of : SmallBlock → SlabBlock

@@ -7,7 +7,6 @@ use Rattle.heap_model.specs.declared.call.Call.{Call}
 use Rattle.heap_model.specs.declared.call.Call.TheVariants.{Malloc, Free, Write, Read, Move}
 use Rattle.heap_model.specs.declared.call.Reply.{Reply}
 use Rattle.heap_model.specs.declared.call.Entry.{Entry}
-use Rattle.heap_model.specs.Policy.{without_morphs}
 use Rattle.heap_model.specs.Machine.{Bounds, Machine}
 use Rattle.heap_model.specs.Placement.{PlacedState, IsPlacedStep}
 use Rattle.thread_cache.specs.Stacks.{stacks_of}
@@ -105,8 +104,8 @@ module _ (o : Opening) (journal : List Entry) (old new : ArenaState) (e : Entry)
   abbrev placed : ArenaState → Machine → PlacedState
   placed a m = record { machine = m; stacks = stacks_of a.stacks }
 
-  found : (next : Machine) × IsPlacedStep without_morphs (bounds_of (opening_words o)) e.seat (placed old held.machine) e.call e.reply (placed new next) × HasState (words_of new.device) next
-  found = let f = answered.step.each held.machine held.state in (f.0, subst (λ (b : Bounds). IsPlacedStep without_morphs b e.seat (placed old held.machine) e.call e.reply (placed new f.0)) held.bounds f.1, f.2)
+  found : (next : Machine) × IsPlacedStep (bounds_of (opening_words o)) e.seat (placed old held.machine) e.call e.reply (placed new next) × HasState (words_of new.device) next
+  found = let f = answered.step.each held.machine held.state in (f.0, subst (λ (b : Bounds). IsPlacedStep b e.seat (placed old held.machine) e.call e.reply (placed new f.0)) held.bounds f.1, f.2)
 
   words : words_of new.device ≡ words_along (opening_words o) o.next_line (journal ++ e ∷ [])
   words =
@@ -119,7 +118,7 @@ module _ (o : Opening) (journal : List Entry) (old new : ArenaState) (e : Entry)
   behind_by : new.device.begins ≡ risen o.begins (begun_by (journal ++ e ∷ [])) → IsUntouched o (journal ++ e ∷ []) new ⊎ IsBehindCall o (journal ++ e ∷ []) new → IsBehind o (journal ++ e ∷ []) new
   behind_by begins last = record {
     machine = found.0;
-    leads = leads_more (IsPlacedEntry without_morphs (bounds_of (opening_words o))) _ (placed old held.machine) (placed new found.0) journal e held.leads found.1;
+    leads = leads_more (IsPlacedEntry (bounds_of (opening_words o))) _ (placed old held.machine) (placed new found.0) journal e held.leads found.1;
     state = found.2;
     apart = law_of_exact_state (words_of new.device) found.0 answered.exact found.2;
     ready = answered.ready;

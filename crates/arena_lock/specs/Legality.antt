@@ -1,12 +1,11 @@
 -- Which journals are legal behind a lock: the entries lead from the state that the arena had at the opening, each by a
--- step of the placement, by the policy that arenas serve. All that is said here of a journal's opening and its steps is
--- said in this file; the rest of the crate asks only that each beginning of a legal journal is legal.
+-- step of the placement. All that is said here of a journal's opening and its steps is said in this file; the rest of the
+-- crate asks only that each beginning of a legal journal is legal.
 use Rattle.std.specs.Prelude.{ℕ, None, List, []}
 use Rattle.pmem_lines.specs.Events.{reading}
 use Rattle.image_tables.specs.Tables.{tables_of}
 use Rattle.heap_model.specs.declared.call.Entry.{Entry}
 use Rattle.heap_model.specs.Machine.{Machine}
-use Rattle.heap_model.specs.Policy.{without_morphs}
 use Rattle.heap_model.specs.Placement.{PlacedState}
 use Rattle.heap_model.specs.Journal.{Leads, IsPlacedEntry}
 use Rattle.thread_cache.specs.Stacks.{stacks_of}
@@ -28,7 +27,7 @@ opening_state o = record { machine = machine_in (opening_words o); stacks = stac
 
 -- the entries lead from the opening to a state, and each block is given where the placement says
 abbrev pub LeadsTo : Opening → List Entry → PlacedState → Type 0
-LeadsTo o entries last = Leads (IsPlacedEntry without_morphs (bounds_of (opening_words o))) (opening_state o) entries last
+LeadsTo o entries last = Leads (IsPlacedEntry (bounds_of (opening_words o))) (opening_state o) entries last
 
 -- a legal journal: it leads somewhere
 abbrev pub IsLegal : Opening → List Entry → Type 0

@@ -3,7 +3,6 @@ use Rattle.std.proofs.Common.{◌≡◌, ◌≢◌, ◌⊎◌, ◌↔◌, ℕ, �
 use Rattle.std.proofs.lemmas.Bool.{cases_eq}
 use Rattle.size_classes.specs.Classes.{class_capacity}
 use Rattle.size_classes.proofs.Spacing.{class_size-least}
-use Rattle.heap_model.specs.Policy.{without_morphs}
 use Rattle.heap_model.specs.Machine.{slab_block}
 use Rattle.heap_model.specs.Placement.{Stacks, with_stack, Has, IsInNoStack, addresses, IsAvailable, IsRefill}
 use Rattle.heap_model.proofs.Lowest.{AreLowest-same}
@@ -51,7 +50,7 @@ module _ (old : Supply) (kept : IsKept old.slabs old.stacks) (seat class : ℕ) 
 
   -- by the view it is a refill
   pub refill_is : (after : Stacks) → after ≡ with_stack (stacks_of old.stacks) seat class (addresses blocks.start class low.rest) →
-      IsRefill without_morphs (supply_view old) (stacks_of old.stacks) seat class (slab_block blocks.start class low.first).at after
+      IsRefill (supply_view old) (stacks_of old.stacks) seat class (slab_block blocks.start class low.first).at after
   refill_is after after_is = record {
     start = start;
     slab = low.slab;

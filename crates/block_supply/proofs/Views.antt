@@ -1,7 +1,6 @@
 -- A seat is served the same by views that say the same of slabs and unused blocks.
 use Rattle.std.proofs.Common.{◌≡◌, ◌↔◌, ℕ, ◌<◌, ◌∷◌, Some, sym, ◌∙◌, ⊎_elim, inl, inr}
 use Rattle.size_classes.specs.Classes.{class_capacity}
-use Rattle.heap_model.specs.Policy.{Policy, without_morphs}
 use Rattle.heap_model.specs.Choice.{View}
 use Rattle.heap_model.specs.Placement.{Stacks, IsAvailable, HasAvailable, IsRefill}
 use Rattle.heap_model.proofs.Lowest.{AreLowest-same}
@@ -21,8 +20,8 @@ available_by v w agree stacks s c number slab is = record { block = record { wit
 pub HasAvailable-by : (v w : View) → AgreeOnBlocks v w → (stacks : Stacks) (c : ℕ) → HasAvailable v stacks c → HasAvailable w stacks c
 HasAvailable-by v w agree stacks c has = record { start = has.start; slab = sym (agree.slab has.start) ∙ has.slab; number = has.number; available = available_by v w agree stacks has.start c has.number has.slab has.available }
 
-pub IsRefill-by : (p : Policy) (v w : View) → AgreeOnBlocks v w → (stacks : Stacks) (seat class at : ℕ) (after : Stacks) → IsRefill p v stacks seat class at after → IsRefill p w stacks seat class at after
-IsRefill-by p v w agree stacks seat class at after refill =
+pub IsRefill-by : (v w : View) → AgreeOnBlocks v w → (stacks : Stacks) (seat class at : ℕ) (after : Stacks) → IsRefill v stacks seat class at after → IsRefill w stacks seat class at after
+IsRefill-by v w agree stacks seat class at after refill =
     let slab = sym (agree.slab refill.start) ∙ refill.slab in
     record {
       start = refill.start;
@@ -30,7 +29,7 @@ IsRefill-by p v w agree stacks seat class at after refill =
       lowest = λ other number less here is. refill.lowest other number less (agree.slab other ∙ here) (available_by w v (AgreeOnBlocks-back v w agree) stacks other class number here is);
       number = refill.number;
       rest = refill.rest;
-      taken = AreLowest-same (IsAvailable v stacks refill.start class) (IsAvailable w stacks refill.start class) 0 p.refill (refill.number ∷ refill.rest)
+      taken = AreLowest-same (IsAvailable v stacks refill.start class) (IsAvailable w stacks refill.start class) 0 8 (refill.number ∷ refill.rest)
           (λ n. (available_by v w agree stacks refill.start class n refill.slab, available_by w v (AgreeOnBlocks-back v w agree) stacks refill.start class n slab)) refill.taken;
       is = refill.is;
       after_is = refill.after_is;
@@ -42,7 +41,7 @@ IsServed-by v w agree stacks seat class at after served = ⊎_elim
     (λ rest. inr (
       rest.0,
       ⊎_elim
-          (λ some. inl (HasAvailable-by v w agree stacks class some.0, IsRefill-by without_morphs v w agree stacks seat class at after some.1))
+          (λ some. inl (HasAvailable-by v w agree stacks class some.0, IsRefill-by v w agree stacks seat class at after some.1))
           (λ none. inr (λ has. none.0 (HasAvailable-by w v (AgreeOnBlocks-back v w agree) stacks class has), none.1))
           rest.1,
     ))

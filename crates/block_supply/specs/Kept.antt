@@ -1,7 +1,6 @@
 -- What a supply keeps: stacks and available blocks agree, and slabs are apart.
 use Rattle.std.specs.Prelude.{◌≡◌, ◌≢◌, ◌⊎◌, ℕ, ◌+◌, ◌<◌, ◌≤◌, true, [], Some}
 use Rattle.size_classes.specs.Classes.{class_capacity}
-use Rattle.heap_model.specs.Policy.{without_morphs}
 use Rattle.heap_model.specs.Machine.{slab_block}
 use Rattle.heap_model.specs.Placement.{Has, IsInNoStack, IsRefill}
 use Rattle.slab_index.specs.declared.block.SlabBlock.{SlabBlock}
@@ -55,7 +54,7 @@ pub record HadNoTop (old : Supply) (seat class : ℕ) (new : Supply) : Type 0 wh
 -- it was the lowest available one, and others went on the seat's stack
 pub record TookLowest (old : Supply) (seat class : ℕ) (block : SlabBlock) (new : Supply) : Type 0 where
   pub taken : HasTaken old class block new
-  pub refill : IsRefill without_morphs (supply_view old) (stacks_of old.stacks) seat class (slab_block block.start class block.number).at (stacks_of new.stacks)
+  pub refill : IsRefill (supply_view old) (stacks_of old.stacks) seat class (slab_block block.start class block.number).at (stacks_of new.stacks)
 
 -- none was available
 pub record HadNoAvailable (old : Supply) (class : ℕ) (new : Supply) : Type 0 where

@@ -2,7 +2,6 @@
 -- available, or it is reserved, so that its address is in a stack of the slab's class.
 use Rattle.std.specs.Prelude.{◌≡◌, ◌≢◌, ◌⊎◌, ◌↔◌, ℕ, ◌+◌, ◌<◌, ◌≤◌, true, [], ◌∷◌, length, Option, Some, None}
 use Rattle.size_classes.specs.Classes.{class_capacity}
-use Rattle.heap_model.specs.Policy.{without_morphs}
 use Rattle.heap_model.specs.Machine.{with_key, slab_block}
 use Rattle.heap_model.specs.Choice.{View}
 use Rattle.heap_model.specs.Step.{First}
@@ -89,7 +88,7 @@ supply_view supply = record { free = λ k. ⊥; slab = class_in supply.slabs; un
 abbrev pub IsServed : View → Stacks → (seat class at : ℕ) → Stacks → Type 0
 IsServed v stacks seat class at after =
     First (HasTop stacks seat class) (λ top. IsPop top at after)
-    (First (HasAvailable v stacks class) (λ _. IsRefill without_morphs v stacks seat class at after)
+    (First (HasAvailable v stacks class) (λ _. IsRefill v stacks seat class at after)
     ((stacked : HasStacked stacks class) × IsPop stacked.first.top at after))
 
 -- a block of the class was taken for a seat

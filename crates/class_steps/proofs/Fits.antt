@@ -4,7 +4,6 @@ use Rattle.std.proofs.lemmas.Bool.{cond-true}
 use Rattle.image_tables.specs.Forms.{normal_kind}
 use Rattle.image_tables.specs.Tables.{Tables, tables_of}
 use Rattle.image_tables.proofs.Tables.{root_table-past}
-use Rattle.heap_model.specs.Policy.{whole}
 use Rattle.heap_model.specs.Machine.{Range}
 use Rattle.heap_model.specs.Choice.{IsFit}
 use Rattle.heap_model.specs.Slabs.{live_below}
@@ -21,9 +20,8 @@ module _ (words : List ℕ) (image : IsExactImage words) (start class : ℕ) (sl
   few : held_count t start ≤ live_below (heap t) start (bounds_of words).roots
   few = held_live image.exact (λ root past. root_table-past words root past) start slab normal
 
-  pub fit_held : IsFitIn words start class → IsFit whole (held_view t) class start
+  pub fit_held : IsFitIn words start class → IsFit (held_view t) class start
   fit_held fit = record {
-    allowed = refl;
     class = t.class start;
     slab = cond-true (t.slab start) (Some (t.class start)) None slab;
     calm = λ moving. ⊎_elim
@@ -37,5 +35,5 @@ module _ (words : List ℕ) (image : IsExactImage words) (start class : ℕ) (sl
     block = record { within = fit.below; unused = record { each = λ other holds. ⊎_elim inr inl (fit.unused.each other holds) } };
   }
 
-  pub ready : IsFit whole (held_view t) class start → IsReadyFor words start class
+  pub ready : IsFit (held_view t) class start → IsReadyFor words start class
   ready fit = record { image = image; slab = slab; normal = normal; fit = fit }

@@ -3,7 +3,6 @@ use Rattle.std.specs.Prelude.{◌≡◌, ◌≢◌, ℕ, ◌*◌, ◌<◌, ◌�
 use Rattle.size_classes.specs.Classes.{class_capacity}
 use Rattle.image_tables.specs.Forms.{normal_kind}
 use Rattle.image_tables.specs.Tables.{tables_of}
-use Rattle.heap_model.specs.Policy.{whole}
 use Rattle.heap_model.specs.Choice.{IsFit}
 use Rattle.heap_model.specs.Slabs.{live_below}
 use Rattle.heap_check.specs.Heap.{heap, IsUnusedIn}
@@ -18,7 +17,7 @@ pub record IsReadyFor (words : List ℕ) (start class : ℕ) : Type 0 where
   pub image : IsExactImage words
   pub slab : (tables_of words).slab start ≡ true
   pub normal : (tables_of words).kind start ≡ normal_kind
-  pub fit : IsFit whole (held_view (tables_of words)) class start
+  pub fit : IsFit (held_view (tables_of words)) class start
 
 -- A slab of an image is fit for a class, by the blocks that live in it: it has another class; at most 64 blocks live in it,
 -- and at most a fifth of those that it holds; and some block of the class in it is unused.

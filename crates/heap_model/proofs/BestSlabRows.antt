@@ -1,7 +1,6 @@
 -- Worked rows of the best of two slabs that are fit.
 use Rattle.std.proofs.Common.{◌≡◌, ◌⊎◌, ◌<◌, ◌≤◌, ◌+◌, ℕ, Some, None, if◌then◌else◌, refl, sym, ap, ◌∙◌, arith, inl, inr, ⊎_elim, lit<}
 use Rattle.size_classes.specs.Classes.{sizes, class_size}
-use Rattle.heap_model.specs.Policy.{whole}
 use Rattle.heap_model.specs.Machine.{Bounds, Range, Machine, no_heap, with_key, slab_block}
 use Rattle.heap_model.specs.Choice.{IsFit, IsBestSlab, range_of}
 use Rattle.heap_model.specs.Choice.Site.{Granules, InSlab, InNewSlab}
@@ -83,10 +82,9 @@ module _ (roots : ℕ) (many : 2001 ≤ roots) where
       (each.each root range named)
 
   -- both are fit for the class of 1000 bytes
-  fit_first : (m : Machine) → EachBlock m IsEither → m.slab 4 ≡ Some 3 → count m 4 ≤ 2 → IsFit whole (view_of b m) 19 4
+  fit_first : (m : Machine) → EachBlock m IsEither → m.slab 4 ≡ Some 3 → count m 4 ≤ 2 → IsFit (view_of b m) 19 4
   unfolding class_size sizes
   fit_first m each slab few = record {
-    allowed = refl;
     class = 3;
     slab = slab;
     calm = λ moving.
@@ -99,10 +97,9 @@ module _ (roots : ℕ) (many : 2001 ≤ roots) where
     block = record { within = lit< tt; unused = record { each = λ root range named. in_first m each root range named (λ at wide. inr (omega (arith, at, wide))) (λ far. inl (omega (arith, far))) } };
   }
 
-  fit_second : (m : Machine) → EachBlock m IsEither → m.slab 8 ≡ Some 6 → count m 8 ≡ 1 → IsFit whole (view_of b m) 19 8
+  fit_second : (m : Machine) → EachBlock m IsEither → m.slab 8 ≡ Some 6 → count m 8 ≡ 1 → IsFit (view_of b m) 19 8
   unfolding class_size sizes
   fit_second m each slab few = record {
-    allowed = refl;
     class = 6;
     slab = slab;
     calm = λ moving.
@@ -116,19 +113,19 @@ module _ (roots : ℕ) (many : 2001 ≤ roots) where
   }
 
   -- among equals the lowest is the best, and else the one with the fewest live blocks
-  lowest_of_equals : IsBestSlab whole (view_of b even) 19 4
+  lowest_of_equals : IsBestSlab (view_of b even) 19 4
   lowest_of_equals = record {
     fit = fit_first even each_even refl (omega (arith, counts.0));
     fewest = λ t fit. ⊎_elim (λ here. omega (arith, ap (count even) here)) (λ there. omega (arith, ap (count even) there, counts.0, counts.1)) (slab_either t fit.class fit.slab);
     lowest = λ t fit same. ⊎_elim (λ here. omega (arith, here)) (λ there. omega (arith, there)) (slab_either t fit.class fit.slab);
   }
 
-  fewest_first : IsBestSlab whole (view_of b uneven) 19 8
+  fewest_first : IsBestSlab (view_of b uneven) 19 8
   fewest_first = record {
     fit = fit_second uneven each_uneven refl counts.3;
     fewest = λ t fit. ⊎_elim (λ here. omega (arith, ap (count uneven) here, counts.2, counts.3)) (λ there. omega (arith, ap (count uneven) there)) (slab_either t fit.class fit.slab);
     lowest = λ t fit same. ⊎_elim (λ here. absurd (omega (arith, ap (count uneven) here, same, counts.2, counts.3))) (λ there. omega (arith, there)) (slab_either t fit.class fit.slab);
   }
 
-  first_still_fit : IsFit whole (view_of b uneven) 19 4
+  first_still_fit : IsFit (view_of b uneven) 19 4
   first_still_fit = fit_first uneven each_uneven refl (omega (arith, counts.2))

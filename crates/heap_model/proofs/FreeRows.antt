@@ -7,7 +7,6 @@ use Rattle.size_classes.specs.Classes.{sizes, class_size}
 use Rattle.heap_model.specs.declared.call.Call.TheVariants.{Free}
 use Rattle.heap_model.specs.declared.call.Reply.TheVariants.{Freed}
 use Rattle.heap_model.specs.Below.{any_below}
-use Rattle.heap_model.specs.Policy.{whole}
 use Rattle.heap_model.specs.Machine.{Bounds, Machine, slab_block}
 use Rattle.heap_model.specs.Slabs.{is_within}
 use Rattle.heap_model.specs.Step.{without_block}
@@ -52,13 +51,13 @@ module _ (roots : ℕ) (many : 2001 ≤ roots) where
       (cases_eq s 12)
 
   -- seat 1 frees a block of the slab's class, in which the old block lives on: it is reserved for seat 1
-  free_reserves : IsPlacedStep whole b 1 (record { machine = morphed; stacks = reserved }) (Free 2) (Freed 199680 1024) (record { machine = left; stacks = with_stack reserved 1 19 (199680 ∷ []) })
+  free_reserves : IsPlacedStep b 1 (record { machine = morphed; stacks = reserved }) (Free 2) (Freed 199680 1024) (record { machine = left; stacks = with_stack reserved 1 19 (199680 ∷ []) })
   unfolding class_size sizes
   free_reserves = record {
     step = inr (λ past. omega (arith, past, many), inl (record { range = slab_block 12 19 1; named = refl }, (refl, refl)));
     stacked = inl (
       record { range = slab_block 12 19 1; is = refl },
-      subst (λ (q : Stacks). IsReturned whole left q 1 (slab_block 12 19 1) (with_stack reserved 1 19 (199680 ∷ []))) (sym (without_left-same b morphed left reserved slabs_same))
+      subst (λ (q : Stacks). IsReturned left q 1 (slab_block 12 19 1) (with_stack reserved 1 19 (199680 ∷ []))) (sym (without_left-same b morphed left reserved slabs_same))
           (inl (record { start = 12; class = 19; slab = slabs_same 12; block = record { number = 1; within = lit< tt; is = refl }; room = lit< tt }, refl)),
     );
   }

@@ -6,7 +6,6 @@ use Rattle.size_classes.specs.Classes.{sizes, class_size, class_capacity, IsClas
 use Rattle.size_classes.proofs.Spacing.{class_size-rises}
 use Rattle.heap_model.specs.declared.call.Call.TheVariants.{Malloc}
 use Rattle.heap_model.specs.declared.call.Reply.TheVariants.{Placed, NoSpace}
-use Rattle.heap_model.specs.Policy.{whole}
 use Rattle.heap_model.specs.Machine.{Bounds}
 use Rattle.heap_model.proofs.Sites.{IsStep-granted, IsStep-no_space}
 use Rattle.heap_model.specs.Choice.{IsSite, HasNoSite}
@@ -35,31 +34,31 @@ module _ (roots : ℕ) (many : 2001 ≤ roots) where
   b = small roots
 
   -- 64 blocks of 64 bytes cover 4096, and a block of 1000 comes behind them; 65 are too many
-  sixty_four : (n : ℕ) → n + 1 ≡ 64 → IsStep whole b (filled 3 n) (Malloc 2000 1000) (Placed 202752 1024) (with_block (filled 3 n) 2000 (InMorph 12 19 4))
+  sixty_four : (n : ℕ) → n + 1 ≡ 64 → IsStep b (filled 3 n) (Malloc 2000 1000) (Placed 202752 1024) (with_block (filled 3 n) 2000 (InMorph 12 19 4))
   unfolding class_size sizes
-  sixty_four n is = IsStep-granted whole b (filled 3 n) 2000 1000 many (none_filled 3 n 2000 (omega (arith, is))) (λ none. omega (arith, none)) (lit≤ tt) (InMorph 12 19 4)
+  sixty_four n is = IsStep-granted b (filled 3 n) 2000 1000 many (none_filled 3 n 2000 (omega (arith, is))) (λ none. omega (arith, none)) (lit≤ tt) (InMorph 12 19 4)
       (takes_class roots 3 n (lit< tt) (omega (arith, is)) (omega (arith, is, many)) 19 4 1000 (omega (arith, is)) (omega (arith, is)) (λ same. omega (arith, same)) (class_above 1000 18 (lit< tt) (lit< tt) (lit≤ tt)) (lit< tt) (omega (arith, is)))
 
-  sixty_five : (n : ℕ) → n + 1 ≡ 65 → IsStep whole b (filled 3 n) (Malloc 2000 1000) NoSpace (filled 3 n)
+  sixty_five : (n : ℕ) → n + 1 ≡ 65 → IsStep b (filled 3 n) (Malloc 2000 1000) NoSpace (filled 3 n)
   unfolding class_size sizes
-  sixty_five n is = IsStep-no_space whole b (filled 3 n) 2000 1000 many (none_filled 3 n 2000 (omega (arith, is))) (λ none. omega (arith, none)) (lit≤ tt)
+  sixty_five n is = IsStep-no_space b (filled 3 n) 2000 1000 many (none_filled 3 n 2000 (omega (arith, is))) (λ none. omega (arith, none)) (lit≤ tt)
       (takes_none roots 3 n (lit< tt) (omega (arith, is)) (omega (arith, is, many)) 19 1000 (inl (omega (arith, is))) (λ same. omega (arith, same)) (class_above 1000 18 (lit< tt) (lit< tt) (lit≤ tt)))
 
   -- of the 62 blocks of 1024 bytes that a slab holds, 12 are at most a fifth; 13 are more
-  twelve : (n : ℕ) → n + 1 ≡ 12 → IsStep whole b (filled 19 n) (Malloc 2000 64) (Placed 210944 64) (with_block (filled 19 n) 2000 (InMorph 12 3 192))
+  twelve : (n : ℕ) → n + 1 ≡ 12 → IsStep b (filled 19 n) (Malloc 2000 64) (Placed 210944 64) (with_block (filled 19 n) 2000 (InMorph 12 3 192))
   unfolding class_size sizes
-  twelve n is = IsStep-granted whole b (filled 19 n) 2000 64 many (none_filled 19 n 2000 (omega (arith, is))) (λ none. omega (arith, none)) (lit≤ tt) (InMorph 12 3 192)
+  twelve n is = IsStep-granted b (filled 19 n) 2000 64 many (none_filled 19 n 2000 (omega (arith, is))) (λ none. omega (arith, none)) (lit≤ tt) (InMorph 12 3 192)
       (takes_class roots 19 n (lit< tt) (omega (arith, is)) (omega (arith, is, many)) 3 192 64 (omega (arith, is)) (omega (arith, is)) (λ same. omega (arith, same)) (class_above 64 2 (lit< tt) (lit< tt) (lit≤ tt)) (lit< tt) (omega (arith, is)))
 
-  thirteen : (n : ℕ) → n + 1 ≡ 13 → IsStep whole b (filled 19 n) (Malloc 2000 64) NoSpace (filled 19 n)
+  thirteen : (n : ℕ) → n + 1 ≡ 13 → IsStep b (filled 19 n) (Malloc 2000 64) NoSpace (filled 19 n)
   unfolding class_size sizes
-  thirteen n is = IsStep-no_space whole b (filled 19 n) 2000 64 many (none_filled 19 n 2000 (omega (arith, is))) (λ none. omega (arith, none)) (lit≤ tt)
+  thirteen n is = IsStep-no_space b (filled 19 n) 2000 64 many (none_filled 19 n 2000 (omega (arith, is))) (λ none. omega (arith, none)) (lit≤ tt)
       (takes_none roots 19 n (lit< tt) (omega (arith, is)) (omega (arith, is, many)) 3 64 (inr (omega (arith, is))) (λ same. omega (arith, same)) (class_above 64 2 (lit< tt) (lit< tt) (lit≤ tt)))
 
   -- a request of 16 bytes at the bound of a class: the slab takes class 0 with so many blocks, and not with one more
   pub record IsBound (d n j : ℕ) : Type 0 where
-    pub takes : IsSite whole (view_of (small roots) (filled d n)) 16 (InMorph 12 0 j)
-    pub takes_none : HasNoSite whole (view_of (small roots) (filled d (suc n))) 16
+    pub takes : IsSite (view_of (small roots) (filled d n)) 16 (InMorph 12 0 j)
+    pub takes_none : HasNoSite (view_of (small roots) (filled d (suc n))) 16
 
   bound : (d n j cap size : ℕ) → class_size d ≡ size → class_capacity d ≡ cap → class_size 0 ≡ 16 → class_capacity 0 ≡ 3968 → 0 < d → 0 < size → n + 1 ≤ 64 → 5 * (n + 1) ≤ cap → (64 < n + 2) ⊎ (cap < 5 * (n + 2)) → n + 2 ≤ cap →
       j < 3968 → (n + 1) * size ≡ j * 16 → IsBound d n j

@@ -4,7 +4,6 @@ use Rattle.std.proofs.Common.{◌≡◌, ◌≢◌, ◌⊎◌, ◌<◌, ◌≤�
 use Rattle.std.proofs.lemmas.Bool.{cases_lt}
 use native.Mathlib.Nat.{mul-le-mul_right}
 use Rattle.size_classes.specs.Classes.{class_size, class_capacity, IsClassOf}
-use Rattle.heap_model.specs.Policy.{whole}
 use Rattle.heap_model.specs.Machine.{Bounds, Range, Machine, no_heap, with_key, slab_block, LiesIn, AreApart, IsUnused, IsFreeGranule}
 use Rattle.heap_model.specs.Choice.{IsUnusedBlock, HasUnusedBlock, range_of, IsSite, HasNoSite}
 use Rattle.heap_model.specs.Choice.Site.{Granules, InSlab, InMorph, InNewSlab}
@@ -111,7 +110,7 @@ module _ (roots d n : ℕ) (some : 0 < class_size d) (within : n < class_capacit
 
   -- at most 64 blocks, and at most a fifth of the capacity: the slab takes the class
   pub takes_class : (c j size : ℕ) → n + 1 ≤ 64 → 5 * (n + 1) ≤ class_capacity d → c ≢ d → IsClassOf size c → j < class_capacity c → (n + 1) * class_size d ≤ j * class_size c →
-      IsSite whole (view_of (small roots) (filled d n)) size (InMorph 12 c j)
+      IsSite (view_of (small roots) (filled d n)) size (InMorph 12 c j)
   takes_class c j size most fifth differ least inside behind =
       let block : IsUnusedBlock (view_of (small roots) (filled d n)) 12 c j = record { within = inside; unused = unused_behind d n c j behind } in
       record {
@@ -119,7 +118,6 @@ module _ (roots d n : ℕ) (some : 0 < class_size d) (within : n < class_capacit
         full = not_full c differ;
         best = record {
           fit = record {
-            allowed = refl;
             class = d;
             slab = ap (λ (row : ℕ → Option ℕ). row 12) (slab_filled d n);
             calm = calm;
@@ -136,7 +134,7 @@ module _ (roots d n : ℕ) (some : 0 < class_size d) (within : n < class_capacit
       }
 
   -- one above either bound: it does not, and there is no space
-  pub takes_none : (c size : ℕ) → (64 < n + 1) ⊎ (class_capacity d < 5 * (n + 1)) → c ≢ d → IsClassOf size c → HasNoSite whole (view_of (small roots) (filled d n)) size
+  pub takes_none : (c size : ℕ) → (64 < n + 1) ⊎ (class_capacity d < 5 * (n + 1)) → c ≢ d → IsClassOf size c → HasNoSite (view_of (small roots) (filled d n)) size
   takes_none c size above differ least = inl (record {
     class = c;
     least = least;

@@ -3,7 +3,6 @@ use Rattle.std.proofs.Common.{◌⊎◌, ◌<◌, ◌≤◌, ℕ, [], ◌∷◌,
 use Rattle.size_classes.specs.Classes.{sizes, class_size, class_capacity, IsClassOf}
 use Rattle.heap_model.specs.declared.call.Call.TheVariants.{Malloc, Move}
 use Rattle.heap_model.specs.declared.call.Reply.TheVariants.{Placed, Moved, Occupied, Empty, NoRoot}
-use Rattle.heap_model.specs.Policy.{whole}
 use Rattle.heap_model.specs.Machine.{Bounds, Machine, no_heap, slab_block, IsFreeGranule}
 use Rattle.heap_model.specs.Choice.{IsSite}
 use Rattle.heap_model.specs.Choice.Site.{InNewSlab}
@@ -25,7 +24,7 @@ module _ (roots : ℕ) (many : 2001 ≤ roots) where
   abbrev moved : Machine
   moved = with_moved held 5 9 (slab_block 4 6 0)
 
-  first_slab : (size class : ℕ) → IsClassOf size class → 0 < class_capacity class → IsSite whole (view_of b no_heap) size (InNewSlab 4 class 0)
+  first_slab : (size class : ℕ) → IsClassOf size class → 0 < class_capacity class → IsSite (view_of b no_heap) size (InNewSlab 4 class 0)
   first_slab size class least some = record {
     least = least;
     full = λ has. absurd (let none = has.slab in cc);
@@ -36,13 +35,13 @@ module _ (roots : ℕ) (many : 2001 ≤ roots) where
   }
 
   -- a block passes to another root once; its old root names nothing then
-  move_row : Leads (IsEntry whole b) no_heap
+  move_row : Leads (IsEntry b) no_heap
       (by_seat 0 (Malloc 5 100) (Placed 67584 112) ∷ by_seat 0 (Move 5 9) (Moved 67584 112) ∷ by_seat 0 (Move 9 9) (Occupied 67584) ∷ by_seat 0 (Move 5 9) Empty ∷ by_seat 0 (Move 9 roots) NoRoot ∷ [])
       moved
   unfolding class_size sizes
   move_row = (
     held,
-    IsStep-granted whole b no_heap 5 100 (omega (arith, many)) refl (λ none. omega (arith, none)) (lit≤ tt) (InNewSlab 4 6 0) (first_slab 100 6 (class_above 100 5 (lit< tt) (lit< tt) (lit≤ tt)) (lit< tt)),
+    IsStep-granted b no_heap 5 100 (omega (arith, many)) refl (λ none. omega (arith, none)) (lit≤ tt) (InNewSlab 4 6 0) (first_slab 100 6 (class_above 100 5 (lit< tt) (lit< tt) (lit≤ tt)) (lit< tt)),
     (
       moved,
       inr (below 5 9 (omega arith) (omega arith), inl (record { range = slab_block 4 6 0; named = refl }, inr (λ other. absurd (let none = other.named in cc), (refl, refl)))),

@@ -5,7 +5,6 @@ use Rattle.heap_model.specs.declared.call.Call.{Call}
 use Rattle.heap_model.specs.declared.call.Call.TheVariants.{Malloc, Free, Write, Read, Move}
 use Rattle.heap_model.specs.declared.call.Reply.{Reply}
 use Rattle.heap_model.specs.declared.call.Reply.TheVariants.{Placed, Freed, Wrote, Value, Moved, NoRoot, Occupied, Empty, ZeroSize, TooLarge, OutOfRange, NoSpace}
-use Rattle.heap_model.specs.Policy.{Policy}
 use Rattle.heap_model.specs.Machine.{Bounds, Range, Machine, with_key}
 use Rattle.heap_model.specs.Choice.{range_of}
 use Rattle.heap_model.specs.Step.{HasBlock, IsRefused, IsGrant, IsOnWord, without_block, with_moved, with_value, IsStep, root_of}
@@ -26,11 +25,11 @@ IsOfHeap OutOfRange = ⊥
 IsOfHeap NoSpace = ⊥
 
 -- a block was given, or taken, or passed on
-pub record IsGiven (p : Policy) (b : Bounds) (m : Machine) (root size : ℕ) (reply : Reply) (next : Machine) : Type 0 where
+pub record IsGiven (b : Bounds) (m : Machine) (root size : ℕ) (reply : Reply) (next : Machine) : Type 0 where
   pub below : root < b.roots
   pub none : m.block root ≡ None
   pub some : size ≢ 0
-  pub grant : IsGrant p b m root size reply next
+  pub grant : IsGrant b m root size reply next
 
 pub record IsTaken (b : Bounds) (m : Machine) (root : ℕ) (reply : Reply) (next : Machine) : Type 0 where
   pub below : root < b.roots
@@ -46,12 +45,12 @@ pub record IsPassed (b : Bounds) (m : Machine) (from to : ℕ) (reply : Reply) (
   pub is : reply ≡ Moved range.at range.size
   pub after : next ≡ with_moved m from to range
 
-pub data Outcome (p : Policy) (b : Bounds) (m : Machine) (call : Call) (reply : Reply) (next : Machine) : Type 0 where
-  Stayed : ¬ (IsOfHeap reply) → next ≡ m → Outcome p b m call reply next
-  Given : (root size : ℕ) → call ≡ Malloc root size → IsGiven p b m root size reply next → Outcome p b m call reply next
-  Taken : (root : ℕ) → call ≡ Free root → IsTaken b m root reply next → Outcome p b m call reply next
-  Written : (root index word : ℕ) → ¬ (IsOfHeap reply) → next ≡ with_value m root index word → Outcome p b m call reply next
-  Passed : (from to : ℕ) → IsPassed b m from to reply next → Outcome p b m call reply next
+pub data Outcome (b : Bounds) (m : Machine) (call : Call) (reply : Reply) (next : Machine) : Type 0 where
+  Stayed : ¬ (IsOfHeap reply) → next ≡ m → Outcome b m call reply next
+  Given : (root size : ℕ) → call ≡ Malloc root size → IsGiven b m root size reply next → Outcome b m call reply next
+  Taken : (root : ℕ) → call ≡ Free root → IsTaken b m root reply next → Outcome b m call reply next
+  Written : (root index word : ℕ) → ¬ (IsOfHeap reply) → next ≡ with_value m root index word → Outcome b m call reply next
+  Passed : (from to : ℕ) → IsPassed b m from to reply next → Outcome b m call reply next
 
 -- a root that has no block names none
 nameless : (m : Machine) (root : ℕ) → ¬ (HasBlock m root) → m.block root ≡ None
@@ -62,14 +61,14 @@ nameless m root bare = cases (m.block root) (λ range named. bare (record { rang
     cases (Some range) none = absurd (none range refl)
 
 -- a reply that is one of no placing or freeing
-module _ (p : Policy) (b : Bounds) (m next : Machine) (reply : Reply) where
+module _ (b : Bounds) (m next : Machine) (reply : Reply) where
   not_heap : (other : Reply) → ¬ (IsOfHeap other) → reply ≡ other → ¬ (IsOfHeap reply)
   not_heap other not is of = not (subst IsOfHeap is of)
 
-  stayed : (call : Call) (refusal : Reply) → ¬ (IsOfHeap refusal) → IsRefused m refusal reply next → Outcome p b m call reply next
+  stayed : (call : Call) (refusal : Reply) → ¬ (IsOfHeap refusal) → IsRefused m refusal reply next → Outcome b m call reply next
   stayed call refusal not is = Stayed (not_heap refusal not is.0) is.1
 
-  on_word : (call : Call) (root index : ℕ) (Done : Type 0) → (Done → Outcome p b m call reply next) → IsOnWord b m root index reply next Done → Outcome p b m call reply next
+  on_word : (call : Call) (root index : ℕ) (Done : Type 0) → (Done → Outcome b m call reply next) → IsOnWord b m root index reply next Done → Outcome b m call reply next
   on_word call root index Done done is = ⊎_elim
       (λ no_root. stayed call NoRoot (λ of. of) no_root.1)
       (λ rooted. ⊎_elim
@@ -78,7 +77,7 @@ module _ (p : Policy) (b : Bounds) (m next : Machine) (reply : Reply) where
       rooted.1)
       is
 
-  pub outcome : (call : Call) → IsStep p b m call reply next → Outcome p b m call reply next
+  pub outcome : (call : Call) → IsStep b m call reply next → Outcome b m call reply next
   outcome (Malloc root size) is = ⊎_elim
       (λ no_root. stayed _ NoRoot (λ of. of) no_root.1)
       (λ rooted. ⊎_elim
@@ -130,9 +129,9 @@ pub record IsLoss (b : Bounds) (m : Machine) (root : ℕ) (range : Range) (next 
   pub named : m.block root ≡ Some range
   pub after : next.block ≡ with_key m.block root None
 
-module _ (p : Policy) (b : Bounds) (m next : Machine) (call : Call) (at size : ℕ) where
-  pub gift : IsStep p b m call (Placed at size) next → IsGift b m (root_of call) (record { at = at; size = size }) next
-  gift step = elim (outcome p b m next (Placed at size) call step) [
+module _ (b : Bounds) (m next : Machine) (call : Call) (at size : ℕ) where
+  pub gift : IsStep b m call (Placed at size) next → IsGift b m (root_of call) (record { at = at; size = size }) next
+  gift step = elim (outcome b m next (Placed at size) call step) [
     | Stayed not same ↦ absurd (not tt)
     | Given root asked is given ↦
         let range : Range = range_of given.grant.site in
@@ -146,8 +145,8 @@ module _ (p : Policy) (b : Bounds) (m next : Machine) (call : Call) (at size : �
     | Passed from to passed ↦ absurd (let reply = passed.is in cc)
   ]
 
-  pub loss : IsStep p b m call (Freed at size) next → IsLoss b m (root_of call) (record { at = at; size = size }) next
-  loss step = elim (outcome p b m next (Freed at size) call step) [
+  pub loss : IsStep b m call (Freed at size) next → IsLoss b m (root_of call) (record { at = at; size = size }) next
+  loss step = elim (outcome b m next (Freed at size) call step) [
     | Stayed not same ↦ absurd (not tt)
     | Given root asked is given ↦ absurd (let reply = given.grant.is in cc)
     | Taken root is taken ↦

@@ -7,7 +7,6 @@ use Rattle.heap_model.specs.declared.call.Call.TheVariants.{Malloc, Free, Write,
 use Rattle.heap_model.specs.declared.call.Reply.{Reply}
 use Rattle.heap_model.specs.declared.call.Reply.TheVariants.{Placed, Freed}
 use Rattle.heap_model.specs.declared.call.Entry.{Entry}
-use Rattle.heap_model.specs.Policy.{Policy}
 use Rattle.heap_model.specs.Machine.{Bounds, Range, Machine, slab_block, IsBlockOf, IsFreeGranule}
 use Rattle.heap_model.specs.Choice.{View}
 use Rattle.heap_model.specs.Slabs.{view_of}
@@ -43,12 +42,12 @@ head_of : List ℕ → ℕ
 head_of [] = 0
 head_of (top ∷ rest) = top
 
-refill_once : (p : Policy) (v : View) (stacks : Stacks) (seat class at other : ℕ) (after later : Stacks) → IsRefill p v stacks seat class at after → IsRefill p v stacks seat class other later → AreOne at other after later
+refill_once : (v : View) (stacks : Stacks) (seat class at other : ℕ) (after later : Stacks) → IsRefill v stacks seat class at after → IsRefill v stacks seat class other later → AreOne at other after later
 unfolding head_of tail_of
-refill_once p v stacks seat class at other after later one two =
+refill_once v stacks seat class at other after later one two =
     let start = neither_below one.start two.start (λ less. two.lowest one.start one.number less one.slab one.taken.1.passes) (λ less. one.lowest two.start two.number less two.slab two.taken.1.passes) in
-    let taken : AreLowest (IsAvailable v stacks one.start class) 0 p.refill (two.number ∷ two.rest) = subst (λ (s : ℕ). AreLowest (IsAvailable v stacks s class) 0 p.refill (two.number ∷ two.rest)) (sym start) two.taken in
-    let same = lowest_once (IsAvailable v stacks one.start class) 0 p.refill (one.number ∷ one.rest) (two.number ∷ two.rest) one.taken taken in (
+    let taken : AreLowest (IsAvailable v stacks one.start class) 0 8 (two.number ∷ two.rest) = subst (λ (s : ℕ). AreLowest (IsAvailable v stacks s class) 0 8 (two.number ∷ two.rest)) (sym start) two.taken in
+    let same = lowest_once (IsAvailable v stacks one.start class) 0 8 (one.number ∷ one.rest) (two.number ∷ two.rest) one.taken taken in (
       one.is ∙ (λ i. (slab_block (start i) class (head_of (same i))).at) ∙ sym two.is,
       one.after_is ∙ (λ i. with_stack stacks seat class (addresses (start i) class (tail_of (same i)))) ∙ sym two.after_is,
     )
@@ -72,31 +71,31 @@ stacked_once stacks class one two at other after later gives too =
     let here = subst Gives (sym (seat_once stacks class one.seat two.seat one.first two.first)) (two.first.top, too) in
     pop_once one.first.top here.0 at other after later gives here.1
 
-module _ (p : Policy) (b : Bounds) (was : PlacedState) (seat class : ℕ) where
+module _ (b : Bounds) (was : PlacedState) (seat class : ℕ) where
   -- a slab takes a class, or is made, in one way
-  taken_once : (at other : ℕ) (after later : Stacks) → IsMorphRefill p b was seat class at after ⊎ IsNewRefill p b was seat class at after →
-      IsMorphRefill p b was seat class other later ⊎ IsNewRefill p b was seat class other later → AreOne at other after later
+  taken_once : (at other : ℕ) (after later : Stacks) → IsMorphRefill b was seat class at after ⊎ IsNewRefill b was seat class at after →
+      IsMorphRefill b was seat class other later ⊎ IsNewRefill b was seat class other later → AreOne at other after later
   taken_once at other after later one two = ⊎_elim
-      (λ (morph : IsMorphRefill p b was seat class at after). ⊎_elim
-      (λ (also : IsMorphRefill p b was seat class other later).
-      let start = best_slab_once p (view_of b was.machine) class also.start morph.start also.best morph.best in
-      refill_once p (view_of b (with_class was.machine morph.start class)) (without_slab was.stacks morph.start) seat class at other after later morph.refill
-      (subst (λ (s : ℕ). IsRefill p (view_of b (with_class was.machine s class)) (without_slab was.stacks s) seat class other later) start also.refill))
-      (λ (new : IsNewRefill p b was seat class other later). absurd (new.no_fit.none morph.start morph.best.fit))
+      (λ (morph : IsMorphRefill b was seat class at after). ⊎_elim
+      (λ (also : IsMorphRefill b was seat class other later).
+      let start = best_slab_once (view_of b was.machine) class also.start morph.start also.best morph.best in
+      refill_once (view_of b (with_class was.machine morph.start class)) (without_slab was.stacks morph.start) seat class at other after later morph.refill
+      (subst (λ (s : ℕ). IsRefill (view_of b (with_class was.machine s class)) (without_slab was.stacks s) seat class other later) start also.refill))
+      (λ (new : IsNewRefill b was seat class other later). absurd (new.no_fit.none morph.start morph.best.fit))
       two)
-      (λ (new : IsNewRefill p b was seat class at after). ⊎_elim
-      (λ (morph : IsMorphRefill p b was seat class other later). absurd (new.no_fit.none morph.start morph.best.fit))
-      (λ (also : IsNewRefill p b was seat class other later).
+      (λ (new : IsNewRefill b was seat class at after). ⊎_elim
+      (λ (morph : IsMorphRefill b was seat class other later). absurd (new.no_fit.none morph.start morph.best.fit))
+      (λ (also : IsNewRefill b was seat class other later).
       let start = best_once (IsFreeGranule b was.machine) 4 also.start new.start also.fit new.fit in
-      refill_once p (view_of b (with_class was.machine new.start class)) was.stacks seat class at other after later new.refill
-      (subst (λ (s : ℕ). IsRefill p (view_of b (with_class was.machine s class)) was.stacks seat class other later) start also.refill))
+      refill_once (view_of b (with_class was.machine new.start class)) was.stacks seat class at other after later new.refill
+      (subst (λ (s : ℕ). IsRefill (view_of b (with_class was.machine s class)) was.stacks seat class other later) start also.refill))
       two)
       one
 
-  way_once : (at other : ℕ) (after later : Stacks) → IsWay p b was seat class at after → IsWay p b was seat class other later → AreOne at other after later
+  way_once : (at other : ℕ) (after later : Stacks) → IsWay b was seat class at after → IsWay b was seat class other later → AreOne at other after later
   way_once at other after later one two =
       first_once one two (λ top also x y. pop_once top also at other after later x y) (λ _ x y.
-      first_once x y (λ _ _. refill_once p (view_of b was.machine) was.stacks seat class at other after later) (λ _ x y.
+      first_once x y (λ _ _. refill_once (view_of b was.machine) was.stacks seat class at other after later) (λ _ x y.
       first_once x y (λ stacked also x y. stacked_once was.stacks class stacked also at other after later x y) (λ _. taken_once at other after later)))
 
 -- a block is of one class
@@ -106,23 +105,23 @@ block_class range s t c d one two =
     neither_below c d (λ less. omega (arith, size, class_size-rises c d less (class_known d two.number two.within))) (λ less. omega (arith, size, class_size-rises d c less (class_known c one.number one.within)))
 
 -- a freed block goes on one stack
-returned_once : (p : Policy) (m : Machine) (stacks : Stacks) (seat : ℕ) (range : Range) (after later : Stacks) → IsReturned p m stacks seat range after → IsReturned p m stacks seat range later → after ≡ later
-returned_once p m stacks seat range after later one two =
-    first_once one two (λ (keep also : IsKeepable p m stacks seat range) x y. x ∙ ap (λ c. with_stack stacks seat c (range.at ∷ stacks seat c)) (block_class range keep.start also.start keep.class also.class keep.block also.block) ∙ sym y) (λ _ x y. x ∙ sym y)
+returned_once : (m : Machine) (stacks : Stacks) (seat : ℕ) (range : Range) (after later : Stacks) → IsReturned m stacks seat range after → IsReturned m stacks seat range later → after ≡ later
+returned_once m stacks seat range after later one two =
+    first_once one two (λ (keep also : IsKeepable m stacks seat range) x y. x ∙ ap (λ c. with_stack stacks seat c (range.at ∷ stacks seat c)) (block_class range keep.start also.start keep.class also.class keep.block also.block) ∙ sym y) (λ _ x y. x ∙ sym y)
 
 -- two places of one state are one
 place_once : (one two : PlacedState) → one.machine ≡ two.machine → one.stacks ≡ two.stacks → one ≡ two
 place_once one two machine stacks = λ i. record { machine = machine i; stacks = stacks i }
 
-module _ (p : Policy) (b : Bounds) (seat : ℕ) (was next last : PlacedState) where
+module _ (b : Bounds) (seat : ℕ) (was next last : PlacedState) where
   -- two mallocs of one size that gave small blocks gave one, and left the same stacks
-  gave_once : (size : ℕ) (reply other : Reply) (gave : GaveSmall size reply) (also : GaveSmall size other) → IsWay p b was seat gave.class gave.at next.stacks → IsWay p b was seat also.class also.at last.stacks →
+  gave_once : (size : ℕ) (reply other : Reply) (gave : GaveSmall size reply) (also : GaveSmall size other) → IsWay b was seat gave.class gave.at next.stacks → IsWay b was seat also.class also.at last.stacks →
       AreOne gave.at also.at next.stacks last.stacks
   gave_once size reply other gave also one two =
-      way_once p b was seat gave.class gave.at also.at next.stacks last.stacks one
-      (subst (λ (c : ℕ). IsWay p b was seat c also.at last.stacks) (class_once size also.class gave.class also.least gave.least) two)
+      way_once b was seat gave.class gave.at also.at next.stacks last.stacks one
+      (subst (λ (c : ℕ). IsWay b was seat c also.at last.stacks) (class_once size also.class gave.class also.least gave.least) two)
 
-  malloc_place : (root size : ℕ) (reply other : Reply) → IsStacked p b seat was (Malloc root size) reply next → IsStacked p b seat was (Malloc root size) other last →
+  malloc_place : (root size : ℕ) (reply other : Reply) → IsStacked b seat was (Malloc root size) reply next → IsStacked b seat was (Malloc root size) other last →
       (class at given at' given' : ℕ) → IsClassOf size class → reply ≡ Placed at given → other ≡ Placed at' given' → at ≡ at'
   malloc_place root size reply other one two class at given at' given' least is too = ⊎_elim
       (λ gave. ⊎_elim
@@ -133,7 +132,7 @@ module _ (p : Policy) (b : Bounds) (seat : ℕ) (was next last : PlacedState) wh
       one
 
   -- calls with one reply that lead to one state leave the same stacks
-  stacks_once : (call : Call) (reply : Reply) → IsOfBlock call → IsStacked p b seat was call reply next → IsStacked p b seat was call reply last → next.machine ≡ last.machine → next.stacks ≡ last.stacks
+  stacks_once : (call : Call) (reply : Reply) → IsOfBlock call → IsStacked b seat was call reply next → IsStacked b seat was call reply last → next.machine ≡ last.machine → next.stacks ≡ last.stacks
   stacks_once (Malloc root size) reply of one two same = first_once one two (λ gave also x y. (gave_once size reply reply gave also x y).1) (λ _ x y. x ∙ sym y)
   stacks_once (Free root) reply of one two same =
       first_once one two
@@ -142,40 +141,40 @@ module _ (p : Policy) (b : Bounds) (seat : ℕ) (was next last : PlacedState) wh
       let at : also.range.at ≡ took.range.at = cc in
       let size : also.range.size ≡ took.range.size = cc in
       let range : also.range ≡ took.range = (λ i. record { at = at i; size = size i }) in
-      returned_once p next.machine (without_left b was.machine next.machine was.stacks) seat took.range next.stacks last.stacks x
-      (subst (λ (m : Machine). IsReturned p m (without_left b was.machine m was.stacks) seat took.range last.stacks) (sym same)
-      (subst (λ (r : Range). IsReturned p last.machine (without_left b was.machine last.machine was.stacks) seat r last.stacks) range y)))
+      returned_once next.machine (without_left b was.machine next.machine was.stacks) seat took.range next.stacks last.stacks x
+      (subst (λ (m : Machine). IsReturned m (without_left b was.machine m was.stacks) seat took.range last.stacks) (sym same)
+      (subst (λ (r : Range). IsReturned last.machine (without_left b was.machine last.machine was.stacks) seat r last.stacks) range y)))
       (λ _ x y. x ∙ sym y)
   stacks_once (Write root index word) reply of one two same = absurd of
   stacks_once (Read root index) reply of one two same = absurd of
   stacks_once (Move from to) reply of one two same = one ∙ sym two
 
-  placed_once : (call : Call) (reply other : Reply) → IsOfBlock call → IsPlacedStep p b seat was call reply next → IsPlacedStep p b seat was call other last → (reply ≡ other) × (next ≡ last)
+  placed_once : (call : Call) (reply other : Reply) → IsOfBlock call → IsPlacedStep b seat was call reply next → IsPlacedStep b seat was call other last → (reply ≡ other) × (next ≡ last)
   placed_once call reply other of one two =
-      let same = step_once p b was.machine next.machine last.machine reply other call of (λ root size is. place call one two root size is) one.step two.step in
-      let stacked : IsStacked p b seat was call reply last = subst (λ (r : Reply). IsStacked p b seat was call r last) (sym same.0) two.stacked in
+      let same = step_once b was.machine next.machine last.machine reply other call of (λ root size is. place call one two root size is) one.step two.step in
+      let stacked : IsStacked b seat was call reply last = subst (λ (r : Reply). IsStacked b seat was call r last) (sym same.0) two.stacked in
       (same.0, place_once next last same.1 (stacks_once call reply of one.stacked stacked same.1))
     where
-      place : (call : Call) → IsPlacedStep p b seat was call reply next → IsPlacedStep p b seat was call other last → (root size : ℕ) → call ≡ Malloc root size →
+      place : (call : Call) → IsPlacedStep b seat was call reply next → IsPlacedStep b seat was call other last → (root size : ℕ) → call ≡ Malloc root size →
           (class at given at' given' : ℕ) → IsClassOf size class → reply ≡ Placed at given → other ≡ Placed at' given' → at ≡ at'
-      place call one two root size is = malloc_place root size reply other (subst (λ (c : Call). IsStacked p b seat was c reply next) is one.stacked) (subst (λ (c : Call). IsStacked p b seat was c other last) is two.stacked)
+      place call one two root size is = malloc_place root size reply other (subst (λ (c : Call). IsStacked b seat was c reply next) is one.stacked) (subst (λ (c : Call). IsStacked b seat was c other last) is two.stacked)
 
 -- entries of the same seat, call and reply are one
 entry_once : (entry other : Entry) → entry.seat ≡ other.seat → entry.call ≡ other.call → entry.reply ≡ other.reply → entry ≡ other
 entry_once entry other seat call reply = λ i. record { seat = seat i; call = call i; reply = reply i }
 
 pub law_of_one_journal : LawOfOneJournal
-law_of_one_journal p b s last other [] [] same first second = (refl, first ∙ sym second)
-law_of_one_journal p b s last other [] (entry ∷ others) same first second = absurd same
-law_of_one_journal p b s last other (entry ∷ entries) [] same first second = absurd same
-law_of_one_journal p b s last other (entry ∷ entries) (another ∷ others) same first second =
-    let seat : IsPlacedStep p b entry.seat s another.call another.reply second.0 = subst (λ (t : ℕ). IsPlacedStep p b t s another.call another.reply second.0) (sym same.0) second.1 in
-    let again : IsPlacedStep p b entry.seat s entry.call another.reply second.0 = subst (λ (c : Call). IsPlacedStep p b entry.seat s c another.reply second.0) (sym same.1) seat in
-    let step = placed_once p b entry.seat s first.0 second.0 entry.call entry.reply another.reply same.2 first.1 again in
-    let rest = law_of_one_journal p b first.0 last other entries others same.3 first.2 (subst (λ (n : PlacedState). Leads (IsPlacedEntry p b) n others other) (sym step.1) second.2) in
+law_of_one_journal b s last other [] [] same first second = (refl, first ∙ sym second)
+law_of_one_journal b s last other [] (entry ∷ others) same first second = absurd same
+law_of_one_journal b s last other (entry ∷ entries) [] same first second = absurd same
+law_of_one_journal b s last other (entry ∷ entries) (another ∷ others) same first second =
+    let seat : IsPlacedStep b entry.seat s another.call another.reply second.0 = subst (λ (t : ℕ). IsPlacedStep b t s another.call another.reply second.0) (sym same.0) second.1 in
+    let again : IsPlacedStep b entry.seat s entry.call another.reply second.0 = subst (λ (c : Call). IsPlacedStep b entry.seat s c another.reply second.0) (sym same.1) seat in
+    let step = placed_once b entry.seat s first.0 second.0 entry.call entry.reply another.reply same.2 first.1 again in
+    let rest = law_of_one_journal b first.0 last other entries others same.3 first.2 (subst (λ (n : PlacedState). Leads (IsPlacedEntry b) n others other) (sym step.1) second.2) in
     (λ i. entry_once entry another same.0 same.1 step.0 i ∷ rest.0 i, rest.1)
 
 -- a journal of the placement is one of the machine
-pub Leads-machine : (p : Policy) (b : Bounds) (s last : PlacedState) (entries : List Entry) → Leads (IsPlacedEntry p b) s entries last → Leads (IsEntry p b) s.machine entries last.machine
-Leads-machine p b s last [] leads = ap (λ (t : PlacedState). t.machine) leads
-Leads-machine p b s last (entry ∷ entries) leads = (leads.0.machine, leads.1.step, Leads-machine p b leads.0 last entries leads.2)
+pub Leads-machine : (b : Bounds) (s last : PlacedState) (entries : List Entry) → Leads (IsPlacedEntry b) s entries last → Leads (IsEntry b) s.machine entries last.machine
+Leads-machine b s last [] leads = ap (λ (t : PlacedState). t.machine) leads
+Leads-machine b s last (entry ∷ entries) leads = (leads.0.machine, leads.1.step, Leads-machine b leads.0 last entries leads.2)

@@ -6,7 +6,6 @@ use Rattle.heap_model.specs.declared.call.Call.{Call}
 use Rattle.heap_model.specs.declared.call.Call.TheVariants.{Malloc, Free, Write, Read, Move}
 use Rattle.heap_model.specs.declared.call.Reply.{Reply}
 use Rattle.heap_model.specs.declared.call.Reply.TheVariants.{Placed, Freed, Moved, Occupied}
-use Rattle.heap_model.specs.Policy.{Policy}
 use Rattle.heap_model.specs.Machine.{Bounds, Range, Machine, with_key}
 use Rattle.heap_model.specs.Slabs.{view_of}
 use Rattle.heap_model.specs.Step.{First, IsRefused, HasBlock, IsGrant, forgotten, without_block, with_moved, IsStep}
@@ -20,7 +19,7 @@ first_once p q both neither = ⊎_elim
     (λ no. ⊎_elim (λ yes. absurd (no.0 yes.0)) (λ also. neither no.0 no.1 also.1) q)
     p
 
-module _ (p : Policy) (b : Bounds) (m next last : Machine) (reply other : Reply) where
+module _ (b : Bounds) (m next last : Machine) (reply other : Reply) where
   -- the two answers, and the two states, are one
   abbrev pub SameAnswer : Type 0
   SameAnswer = (reply ≡ other) × (next ≡ last)
@@ -38,21 +37,21 @@ module _ (p : Policy) (b : Bounds) (m next last : Machine) (reply other : Reply)
   abbrev pub HaveOnePlace : ℕ → Type 0
   HaveOnePlace size = (class at given at' given' : ℕ) → IsClassOf size class → reply ≡ Placed at given → other ≡ Placed at' given' → at ≡ at'
 
-  grant_once : (root size : ℕ) → HaveOnePlace size → IsGrant p b m root size reply next → IsGrant p b m root size other last → SameAnswer
+  grant_once : (root size : ℕ) → HaveOnePlace size → IsGrant b m root size reply next → IsGrant b m root size other last → SameAnswer
   grant_once root size place one two =
-      let are = site_once p (view_of b m) size one.site two.site one.chosen two.chosen (λ class least. place class _ _ _ _ least one.is two.is) in (
+      let are = site_once (view_of b m) size one.site two.site one.chosen two.chosen (λ class least. place class _ _ _ _ least one.is two.is) in (
         one.is ∙ ap (λ (r : Range). Placed r.at r.size) are.0 ∙ sym two.is,
         one.after ∙ (λ i. record { block = with_key m.block root (Some (are.0 i)); slab = are.1 i; value = forgotten m.value root }) ∙ sym two.after,
       )
 
-  pub step_once : (call : Call) → IsOfBlock call → ((root size : ℕ) → call ≡ Malloc root size → HaveOnePlace size) → IsStep p b m call reply next → IsStep p b m call other last → SameAnswer
+  pub step_once : (call : Call) → IsOfBlock call → ((root size : ℕ) → call ≡ Malloc root size → HaveOnePlace size) → IsStep b m call reply next → IsStep b m call other last → SameAnswer
   step_once (Malloc root size) of place one two =
       first_once one two (λ _ _. refused_once _) (λ _ x y.
       first_once x y (occupied_once root) (λ _ x y.
       first_once x y (λ _ _. refused_once _) (λ _ x y.
       first_once x y (λ _ _. refused_once _) (λ _ x y. ⊎_elim
-      (λ granted. ⊎_elim (λ also. grant_once root size (place root size refl) granted also) (λ lacking. absurd (site_apart p (view_of b m) size granted.site granted.chosen lacking.0)) y)
-      (λ lacking. ⊎_elim (λ granted. absurd (site_apart p (view_of b m) size granted.site granted.chosen lacking.0)) (λ also. refused_once _ lacking.1 also.1) y)
+      (λ granted. ⊎_elim (λ also. grant_once root size (place root size refl) granted also) (λ lacking. absurd (site_apart (view_of b m) size granted.site granted.chosen lacking.0)) y)
+      (λ lacking. ⊎_elim (λ granted. absurd (site_apart (view_of b m) size granted.site granted.chosen lacking.0)) (λ also. refused_once _ lacking.1 also.1) y)
       x))))
   step_once (Free root) of place one two =
       first_once one two (λ _ _. refused_once _) (λ _ x y.

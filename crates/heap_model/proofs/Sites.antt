@@ -8,7 +8,6 @@ use Rattle.size_classes.proofs.Spacing.{class_size-most}
 use Rattle.heap_model.specs.declared.call.Call.TheVariants.{Malloc}
 use Rattle.heap_model.specs.declared.call.Reply.{Reply}
 use Rattle.heap_model.specs.declared.call.Reply.TheVariants.{Placed, NoSpace}
-use Rattle.heap_model.specs.Policy.{Policy}
 use Rattle.heap_model.specs.Machine.{Bounds, Machine, slab_block, with_key}
 use Rattle.heap_model.specs.Slabs.{view_of}
 use Rattle.heap_model.specs.Step.{IsRefused, IsGrant, with_block, IsStep}
@@ -49,8 +48,8 @@ pub class_small : (size c : ℕ) → IsClassOf size c → 16384 < size → ⊥
 class_small size c least large = omega (arith, least.holds, class_size-most c least.is_class)
 
 -- the best slab is one
-pub best_slab_once : (p : Policy) (v : View) (c s t : ℕ) → IsBestSlab p v c s → IsBestSlab p v c t → s ≡ t
-best_slab_once p v c s t one two =
+pub best_slab_once : (v : View) (c s t : ℕ) → IsBestSlab v c s → IsBestSlab v c t → s ≡ t
+best_slab_once v c s t one two =
     let same : v.live t ≡ v.live s = omega (arith, one.fewest t two.fit, two.fewest s one.fit) in
     omega (arith, one.lowest t two.fit same, two.lowest s one.fit (sym same))
 
@@ -66,16 +65,16 @@ AreOne slab one other = (range_of one ≡ range_of other) × (slabs_with slab on
 slab_once : (slab : ℕ → Option ℕ) (s t c d : ℕ) → s ≡ t → c ≡ d → with_key slab s (Some c) ≡ with_key slab t (Some d)
 slab_once slab s t c d start class = λ k. with_key slab (start k) (Some (class k))
 
-module _ (p : Policy) (v : View) (size : ℕ) where
+module _ (v : View) (size : ℕ) where
   -- no class has an unused block and has none
   full_not : (c d : ℕ) → IsClassOf size c → IsClassOf size d → HasUnusedBlock v c → ¬ (HasUnusedBlock v d) → ⊥
   full_not c d one two has full = full (subst (λ (k : ℕ). HasUnusedBlock v k) (class_once size c d one two) has)
 
   -- nor a best slab where none is fit, and the best slabs of two least classes are one
-  best_same : (c d s t : ℕ) → IsClassOf size c → IsClassOf size d → IsBestSlab p v c s → IsBestSlab p v d t → s ≡ t
-  best_same c d s t one two best other = best_slab_once p v c s t best (subst (λ (k : ℕ). IsBestSlab p v k t) (sym (class_once size c d one two)) other)
+  best_same : (c d s t : ℕ) → IsClassOf size c → IsClassOf size d → IsBestSlab v c s → IsBestSlab v d t → s ≡ t
+  best_same c d s t one two best other = best_slab_once v c s t best (subst (λ (k : ℕ). IsBestSlab v k t) (sym (class_once size c d one two)) other)
 
-  pub site_once : (one other : Site) → IsSite p v size one → IsSite p v size other → ((class : ℕ) → IsClassOf size class → (range_of one).at ≡ (range_of other).at) → AreOne v.slab one other
+  pub site_once : (one other : Site) → IsSite v size one → IsSite v size other → ((class : ℕ) → IsClassOf size class → (range_of one).at ≡ (range_of other).at) → AreOne v.slab one other
   site_once (Granules s n) (Granules t k) a c at =
       let count : n ≡ k = a.count_is ∙ sym c.count_is in
       let start : s ≡ t = best_once v.free n s t a.fit (subst (λ (x : ℕ). IsBestFit v.free x t) (sym count) c.fit) in
@@ -94,14 +93,14 @@ module _ (p : Policy) (v : View) (size : ℕ) where
   site_once (InMorph s e i) (InMorph t d j) a c at =
       let class = class_once size e d a.least c.least in
       (block_once s t e d i j (at e a.least) class, slab_once v.slab s t e d (best_same e d s t a.least c.least a.best c.best) class)
-  site_once (InMorph s e i) (InNewSlab t d j) a c at = absurd (c.no_fit.none s (subst (λ (k : ℕ). IsBestSlab p v k s) (class_once size e d a.least c.least) a.best).fit)
-  site_once (InNewSlab s e i) (InMorph t d j) a c at = absurd (a.no_fit.none t (subst (λ (k : ℕ). IsBestSlab p v k t) (class_once size d e c.least a.least) c.best).fit)
+  site_once (InMorph s e i) (InNewSlab t d j) a c at = absurd (c.no_fit.none s (subst (λ (k : ℕ). IsBestSlab v k s) (class_once size e d a.least c.least) a.best).fit)
+  site_once (InNewSlab s e i) (InMorph t d j) a c at = absurd (a.no_fit.none t (subst (λ (k : ℕ). IsBestSlab v k t) (class_once size d e c.least a.least) c.best).fit)
   site_once (InNewSlab s e i) (InNewSlab t d j) a c at =
       let class = class_once size e d a.least c.least in
       (block_once s t e d i j (at e a.least) class, slab_once v.slab s t e d (best_once v.free 4 s t a.fit c.fit) class)
 
   -- no request has a site and has none
-  pub site_apart : (site : Site) → IsSite p v size site → HasNoSite p v size → ⊥
+  pub site_apart : (site : Site) → IsSite v size site → HasNoSite v size → ⊥
   site_apart (Granules s n) is none = ⊎_elim
       (λ small. class_small size small.class small.least is.large)
       (λ large. omega (arith, is.fit.enough, is.count_is, large.no_run.none s is.fit.length is.fit.run))
@@ -111,7 +110,7 @@ module _ (p : Policy) (v : View) (size : ℕ) where
       (λ large. class_small size c is.least large.large)
       none
   site_apart (InMorph s c i) is none = ⊎_elim
-      (λ small. small.no_fit.none s (subst (λ (k : ℕ). IsBestSlab p v k s) (class_once size c small.class is.least small.least) is.best).fit)
+      (λ small. small.no_fit.none s (subst (λ (k : ℕ). IsBestSlab v k s) (class_once size c small.class is.least small.least) is.best).fit)
       (λ large. class_small size c is.least large.large)
       none
   site_apart (InNewSlab s c i) is none = ⊎_elim
@@ -120,15 +119,15 @@ module _ (p : Policy) (v : View) (size : ℕ) where
       none
 
 -- a request that passes the tests is granted a site, or finds none
-module _ (p : Policy) (b : Bounds) (m : Machine) (root size : ℕ) (below : root < b.roots) (none : m.block root ≡ None) (some : size ≢ 0) (most : size ≤ (b.granules - b.first) * 16384) where
+module _ (b : Bounds) (m : Machine) (root size : ℕ) (below : root < b.roots) (none : m.block root ≡ None) (some : size ≢ 0) (most : size ≤ (b.granules - b.first) * 16384) where
   abbrev pub Rest : Reply → Machine → Type 0
-  Rest reply next = IsGrant p b m root size reply next ⊎ (HasNoSite p (view_of b m) size × IsRefused m NoSpace reply next)
+  Rest reply next = IsGrant b m root size reply next ⊎ (HasNoSite (view_of b m) size × IsRefused m NoSpace reply next)
 
-  asked : (reply : Reply) (next : Machine) → Rest reply next → IsStep p b m (Malloc root size) reply next
+  asked : (reply : Reply) (next : Machine) → Rest reply next → IsStep b m (Malloc root size) reply next
   asked reply next rest = inr (λ past. omega (arith, past, below), inr (λ held. absurd (let named = held.named in cc), inr (some, inr (λ large. omega (arith, large, most), rest))))
 
-  pub IsStep-granted : (site : Site) → IsSite p (view_of b m) size site → IsStep p b m (Malloc root size) (Placed (range_of site).at (range_of site).size) (with_block m root site)
+  pub IsStep-granted : (site : Site) → IsSite (view_of b m) size site → IsStep b m (Malloc root size) (Placed (range_of site).at (range_of site).size) (with_block m root site)
   IsStep-granted site is = asked _ _ (inl (record { site = site; chosen = is; is = refl; after = refl }))
 
-  pub IsStep-no_space : HasNoSite p (view_of b m) size → IsStep p b m (Malloc root size) NoSpace m
+  pub IsStep-no_space : HasNoSite (view_of b m) size → IsStep b m (Malloc root size) NoSpace m
   IsStep-no_space lacks = asked _ _ (inr (lacks, (refl, refl)))

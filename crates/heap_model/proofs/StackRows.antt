@@ -3,7 +3,6 @@ use Rattle.std.proofs.Common.{◌≡◌, ◌<◌, ◌≤◌, ℕ, zero, suc, [],
 use Rattle.size_classes.specs.Classes.{sizes, class_size, IsClassOf}
 use Rattle.heap_model.specs.declared.call.Call.TheVariants.{Malloc}
 use Rattle.heap_model.specs.declared.call.Reply.TheVariants.{Placed}
-use Rattle.heap_model.specs.Policy.{whole}
 use Rattle.heap_model.specs.Machine.{Bounds, Range, no_heap, slab_block, AreApart, IsUnused}
 use Rattle.heap_model.specs.Choice.{IsFromNewSlab, range_of}
 use Rattle.heap_model.specs.Choice.Site.{Granules, InSlab, InMorph, InNewSlab}
@@ -25,10 +24,10 @@ module _ (roots : ℕ) (many : 2001 ≤ roots) where
   abbrev b : Bounds
   b = small roots
 
-  morph_fills : IsPlacedStep whole b 0 (bare (filled 3 0)) (Malloc 2 1000) (Placed 199680 1024) (record { machine = morphed; stacks = reserved })
+  morph_fills : IsPlacedStep b 0 (bare (filled 3 0)) (Malloc 2 1000) (Placed 199680 1024) (record { machine = morphed; stacks = reserved })
   unfolding class_size sizes
   morph_fills = record {
-    step = IsStep-granted whole b (filled 3 0) 2 1000 (omega (arith, many)) refl (λ none. omega (arith, none)) (lit≤ tt) (InMorph 12 19 1) (morph_site roots many);
+    step = IsStep-granted b (filled 3 0) 2 1000 (omega (arith, many)) refl (λ none. omega (arith, none)) (lit≤ tt) (InMorph 12 19 1) (morph_site roots many);
     stacked = inl (
       record { class = 19; least = class_above 1000 18 (lit< tt) (lit< tt) (lit≤ tt); at = 199680; given = 1024; is = refl },
       inr (
@@ -87,11 +86,11 @@ module _ (roots : ℕ) (many : 2001 ≤ roots) where
       hidden unused = ⊎_elim (λ x. omega (arith, x)) (λ x. omega (arith, x)) (unused.each 1 (slab_block 12 3 0) refl)
 
   -- the next request of the seat is given the top of its stack
-  stack_gives : IsPlacedStep whole b 0 (record { machine = morphed; stacks = reserved }) (Malloc 3 1000) (Placed 200704 1024)
+  stack_gives : IsPlacedStep b 0 (record { machine = morphed; stacks = reserved }) (Malloc 3 1000) (Placed 200704 1024)
       (record { machine = with_block morphed 3 (InSlab 12 19 2); stacks = with_stack reserved 0 19 (201728 ∷ 202752 ∷ 203776 ∷ 204800 ∷ 205824 ∷ 206848 ∷ []) })
   unfolding class_size sizes
   stack_gives = record {
-    step = IsStep-granted whole b morphed 3 1000 (omega (arith, many)) refl (λ none. omega (arith, none)) (lit≤ tt) (InSlab 12 19 2) (record {
+    step = IsStep-granted b morphed 3 1000 (omega (arith, many)) refl (λ none. omega (arith, none)) (lit≤ tt) (InSlab 12 19 2) (record {
       least = class_above 1000 18 (lit< tt) (lit< tt) (lit≤ tt);
       slab = refl;
       block = record { within = lit< tt; unused = record { each = apart } };
@@ -116,14 +115,14 @@ module _ (roots : ℕ) (many : 2001 ≤ roots) where
   unfolding class_size sizes
   largest = class_above 16384 34 (lit< tt) (lit< tt) (lit≤ tt)
 
-  new_site : IsFromNewSlab whole (view_of b packed) 16384 12 35 0
+  new_site : IsFromNewSlab (view_of b packed) 16384 12 35 0
   unfolding class_size sizes
   new_site = new_slab roots many 16384 35 largest (lit< tt)
 
-  new_slab_fills : IsPlacedStep whole b 0 (bare packed) (Malloc 1 16384) (Placed 198656 16384) (record { machine = filled 35 0; stacks = kept })
+  new_slab_fills : IsPlacedStep b 0 (bare packed) (Malloc 1 16384) (Placed 198656 16384) (record { machine = filled 35 0; stacks = kept })
   unfolding class_size sizes
   new_slab_fills = record {
-    step = IsStep-granted whole b packed 1 16384 (omega (arith, many)) refl (λ none. omega (arith, none)) (lit≤ tt) (InNewSlab 12 35 0) new_site;
+    step = IsStep-granted b packed 1 16384 (omega (arith, many)) refl (λ none. omega (arith, none)) (lit≤ tt) (InNewSlab 12 35 0) new_site;
     stacked = inl (
       record { class = 35; least = largest; at = 198656; given = 16384; is = refl },
       inr (
@@ -167,10 +166,10 @@ module _ (roots : ℕ) (many : 2001 ≤ roots) where
       }
 
   -- another seat finds no block available, and is given the top of that stack
-  stack_of_another : IsPlacedStep whole b 1 (record { machine = filled 35 0; stacks = kept }) (Malloc 2 16384) (Placed 215040 16384) (record { machine = with_block (filled 35 0) 2 (InSlab 12 35 1); stacks = with_stack kept 0 35 (231424 ∷ []) })
+  stack_of_another : IsPlacedStep b 1 (record { machine = filled 35 0; stacks = kept }) (Malloc 2 16384) (Placed 215040 16384) (record { machine = with_block (filled 35 0) 2 (InSlab 12 35 1); stacks = with_stack kept 0 35 (231424 ∷ []) })
   unfolding class_size sizes
   stack_of_another = record {
-    step = IsStep-granted whole b (filled 35 0) 2 16384 (omega (arith, many)) refl (λ none. omega (arith, none)) (lit≤ tt) (InSlab 12 35 1)
+    step = IsStep-granted b (filled 35 0) 2 16384 (omega (arith, many)) refl (λ none. omega (arith, none)) (lit≤ tt) (InSlab 12 35 1)
         (record { least = largest; slab = refl; block = record { within = lit< tt; unused = unused_behind 35 0 35 1 (lit≤ tt) } });
     stacked = inl (
       record { class = 35; least = largest; at = 215040; given = 16384; is = refl },

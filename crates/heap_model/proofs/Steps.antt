@@ -4,7 +4,6 @@ use Rattle.size_classes.specs.Classes.{IsClassOf}
 use Rattle.size_classes.proofs.Spacing.{class_size-most}
 use Rattle.heap_model.specs.declared.call.Call.{Call}
 use Rattle.heap_model.specs.declared.call.Reply.{Reply}
-use Rattle.heap_model.specs.Policy.{Policy}
 use Rattle.heap_model.specs.Machine.{IsBlockOf, Bounds, Range, Machine, slab_block, IsLarge, IsFreeGranule, IsOverlapFree}
 use Rattle.heap_model.specs.Runs.{IsFreeRow, IsBestFit}
 use Rattle.heap_model.specs.Choice.{Site, IsSite}
@@ -54,14 +53,14 @@ block_proper b m s c size number some least slab block =
     }
 
 -- a block is given at a site
-give : (p : Policy) (b : Bounds) (m : Machine) (root size : ℕ) (site : Site) → IsOverlapFree b m → root < b.roots → size ≢ 0 → IsSite p (view_of b m) size site → IsOverlapFree b (with_block m root site)
-give p b m root size (Granules start count) was below some is = give_granules b m root start count was below (omega (arith, is.large, is.count_is)) is.fit
-give p b m root size (InSlab start class number) was below some is =
+give : (b : Bounds) (m : Machine) (root size : ℕ) (site : Site) → IsOverlapFree b m → root < b.roots → size ≢ 0 → IsSite (view_of b m) size site → IsOverlapFree b (with_block m root site)
+give b m root size (Granules start count) was below some is = give_granules b m root start count was below (omega (arith, is.large, is.count_is)) is.fit
+give b m root size (InSlab start class number) was below some is =
     IsOverlapFree-with b m root (slab_block start class number) was below is.block.unused (block_proper b m start class size number some is.least is.slab (record { number = number; within = is.block.within; is = refl }))
-give p b m root size (InMorph start class number) was below some is =
+give b m root size (InMorph start class number) was below some is =
     IsOverlapFree-with b (with_class m start class) root (slab_block start class number) (IsOverlapFree-morph b m start class is.best.fit.class was is.best.fit.slab) below (record { each = is.block.unused.each })
     (block_proper b (with_class m start class) start class size number some is.least (with_key-here m.slab start (Some class)) (record { number = number; within = is.block.within; is = refl }))
-give p b m root size (InNewSlab start class number) was below some is =
+give b m root size (InNewSlab start class number) was below some is =
     let row = row_of_fit (IsFreeGranule b m) 4 start is.fit in
     let block : IsBlockOf start class (slab_block start class number) = record { number = number; within = is.within; is = refl } in
     let lies = LiesIn-block start class (slab_block start class number) block in
@@ -70,10 +69,10 @@ give p b m root size (InNewSlab start class number) was below some is =
     (block_proper b (with_class m start class) start class size number some is.least (with_key-here m.slab start (Some class)) block)
 
 -- a step
-step : (p : Policy) (b : Bounds) (m next : Machine) (call : Call) (reply : Reply) → IsOverlapFree b m → IsStep p b m call reply next → IsOverlapFree b next
-step p b m next call reply was is = elim (outcome p b m next reply call is) [
+step : (b : Bounds) (m next : Machine) (call : Call) (reply : Reply) → IsOverlapFree b m → IsStep b m call reply next → IsOverlapFree b next
+step b m next call reply was is = elim (outcome b m next reply call is) [
   | Stayed not same ↦ behind m was same
-  | Given root size asked given ↦ behind (with_block m root given.grant.site) (give p b m root size given.grant.site was given.below given.some given.grant.chosen) given.grant.after
+  | Given root size asked given ↦ behind (with_block m root given.grant.site) (give b m root size given.grant.site was given.below given.some given.grant.chosen) given.grant.after
   | Taken root asked taken ↦ behind _ (IsOverlapFree-without b m root taken.range was) taken.after
   | Written root index word not after ↦ behind _ (IsOverlapFree-value b m root index word was) after
   | Passed from to passed ↦ behind _ (IsOverlapFree-moved b m from to passed.range was passed.below passed.named) passed.after
@@ -84,5 +83,5 @@ step p b m next call reply was is = elim (outcome p b m next reply call is) [
 
 -- every state that is reached from one free of overlaps is free of them
 pub law_of_overlap : LawOfOverlap
-law_of_overlap p b m last [] was leads = subst (λ (t : Machine). IsOverlapFree b t) (sym leads) was
-law_of_overlap p b m last (entry ∷ entries) was leads = law_of_overlap p b leads.0 last entries (step p b m leads.0 entry.call entry.reply was leads.1) leads.2
+law_of_overlap b m last [] was leads = subst (λ (t : Machine). IsOverlapFree b t) (sym leads) was
+law_of_overlap b m last (entry ∷ entries) was leads = law_of_overlap b leads.0 last entries (step b m leads.0 entry.call entry.reply was leads.1) leads.2

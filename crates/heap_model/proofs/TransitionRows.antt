@@ -3,7 +3,6 @@ use Rattle.std.proofs.Common.{◌≡◌, ◌≤◌, ℕ, [], ◌∷◌, Some, No
 use Rattle.size_classes.specs.Classes.{sizes, class_size}
 use Rattle.heap_model.specs.declared.call.Call.TheVariants.{Malloc, Free}
 use Rattle.heap_model.specs.declared.call.Reply.TheVariants.{Placed, Freed}
-use Rattle.heap_model.specs.Policy.{whole}
 use Rattle.heap_model.specs.Machine.{Bounds, Range, Machine, no_heap, slab_block, AreApart, IsUnused, IsFreeGranule}
 use Rattle.heap_model.specs.Choice.{IsFromMorph}
 use Rattle.heap_model.specs.Choice.Site.{Granules, InSlab, InMorph, InNewSlab}
@@ -21,21 +20,21 @@ module _ (roots : ℕ) (many : 2001 ≤ roots) where
   abbrev b : Bounds
   b = small roots
 
-  pub morph_site : IsFromMorph whole (view_of b (filled 3 0)) 1000 12 19 1
+  pub morph_site : IsFromMorph (view_of b (filled 3 0)) 1000 12 19 1
   unfolding class_size sizes
   morph_site = takes_class roots 3 0 (lit< tt) (lit< tt) (omega (arith, many)) 19 1 1000 (lit≤ tt) (lit≤ tt) (λ same. omega (arith, same)) (class_above 1000 18 (lit< tt) (lit< tt) (lit≤ tt)) (lit< tt) (lit≤ tt)
 
-  morph_row : Leads (IsEntry whole b) no_heap (by_seat 0 (Malloc 0 131072) (Placed 65536 131072) ∷ by_seat 0 (Malloc 1 64) (Placed 198656 64) ∷ by_seat 0 (Malloc 2 1000) (Placed 199680 1024) ∷ []) morphed
+  morph_row : Leads (IsEntry b) no_heap (by_seat 0 (Malloc 0 131072) (Placed 65536 131072) ∷ by_seat 0 (Malloc 1 64) (Placed 198656 64) ∷ by_seat 0 (Malloc 2 1000) (Placed 199680 1024) ∷ []) morphed
   unfolding class_size sizes
   morph_row = (
     packed,
-    IsStep-granted whole b no_heap 0 131072 (omega (arith, many)) refl (λ none. omega (arith, none)) (lit≤ tt) (Granules 4 8) (record { large = lit< tt; count_is = refl; fit = only_fit (IsFreeGranule b no_heap) 4 12 8 (omega arith) (omega arith) (λ k free. (free.low, free.high)) (bare_free roots many) }),
+    IsStep-granted b no_heap 0 131072 (omega (arith, many)) refl (λ none. omega (arith, none)) (lit≤ tt) (Granules 4 8) (record { large = lit< tt; count_is = refl; fit = only_fit (IsFreeGranule b no_heap) 4 12 8 (omega arith) (omega arith) (λ k free. (free.low, free.high)) (bare_free roots many) }),
     (
       filled 3 0,
-      IsStep-granted whole b packed 1 64 (omega (arith, many)) refl (λ none. omega (arith, none)) (lit≤ tt) (InNewSlab 12 3 0) (new_slab roots many 64 3 (class_above 64 2 (lit< tt) (lit< tt) (lit≤ tt)) (lit< tt)),
+      IsStep-granted b packed 1 64 (omega (arith, many)) refl (λ none. omega (arith, none)) (lit≤ tt) (InNewSlab 12 3 0) (new_slab roots many 64 3 (class_above 64 2 (lit< tt) (lit< tt) (lit≤ tt)) (lit< tt)),
       (
         morphed,
-        IsStep-granted whole b (filled 3 0) 2 1000 (omega (arith, many)) refl (λ none. omega (arith, none)) (lit≤ tt) (InMorph 12 19 1) morph_site,
+        IsStep-granted b (filled 3 0) 2 1000 (omega (arith, many)) refl (λ none. omega (arith, none)) (lit≤ tt) (InMorph 12 19 1) morph_site,
         refl,
       ),
     ),
@@ -53,14 +52,14 @@ module _ (roots : ℕ) (many : 2001 ≤ roots) where
   abbrev calmed : Machine
   calmed = without_block b morphed 1 (slab_block 12 3 0)
 
-  transition_ends : Leads (IsEntry whole b) morphed (by_seat 0 (Free 1) (Freed 198656 64) ∷ by_seat 0 (Malloc 3 1000) (Placed 198656 1024) ∷ []) (with_block calmed 3 (InSlab 12 19 0))
+  transition_ends : Leads (IsEntry b) morphed (by_seat 0 (Free 1) (Freed 198656 64) ∷ by_seat 0 (Malloc 3 1000) (Placed 198656 1024) ∷ []) (with_block calmed 3 (InSlab 12 19 0))
   unfolding class_size sizes
   transition_ends = (
     calmed,
     inr (λ past. omega (arith, past, many), inl (record { range = slab_block 12 3 0; named = refl }, (refl, refl))),
     (
       with_block calmed 3 (InSlab 12 19 0),
-      IsStep-granted whole b calmed 3 1000 (omega (arith, many)) refl (λ none. omega (arith, none)) (lit≤ tt) (InSlab 12 19 0) (record {
+      IsStep-granted b calmed 3 1000 (omega (arith, many)) refl (λ none. omega (arith, none)) (lit≤ tt) (InSlab 12 19 0) (record {
         least = class_above 1000 18 (lit< tt) (lit< tt) (lit≤ tt);
         slab = slabs_stay b morphed 1 2 (slab_block 12 3 0) 12 (omega (arith, many)) (λ same. omega (arith, same)) (record { range = slab_block 12 19 1; named = refl; low = lit≤ tt; high = lit< tt });
         block = record { within = lit< tt; unused = record { each = apart } };

@@ -6,7 +6,6 @@ use Rattle.size_classes.specs.Classes.{class_capacity, IsClassOf}
 use Rattle.heap_model.specs.declared.call.Call.{Call}
 use Rattle.heap_model.specs.declared.call.Reply.{Reply}
 use Rattle.heap_model.specs.declared.call.Entry.{Entry}
-use Rattle.heap_model.specs.Policy.{whole}
 use Rattle.heap_model.specs.Machine.{Bounds, Range, Machine, no_heap, IsFreeGranule}
 use Rattle.heap_model.specs.Runs.{IsFreeRun, IsBestFit}
 use Rattle.heap_model.specs.Choice.{range_of, IsSite}
@@ -62,7 +61,7 @@ module _ (roots : ℕ) (many : 2001 ≤ roots) where
   pub bare_free : (k : ℕ) → 4 ≤ k → k < 16 → IsFreeGranule b no_heap k
   bare_free k low high = record { low = low; high = high; no_block = λ root range named. absurd (cc); no_slab = λ s c slab. absurd (cc) }
 
-  pub new_slab : (size class : ℕ) → IsClassOf size class → 0 < class_capacity class → IsSite whole (view_of b packed) size (InNewSlab 12 class 0)
+  pub new_slab : (size class : ℕ) → IsClassOf size class → 0 < class_capacity class → IsSite (view_of b packed) size (InNewSlab 12 class 0)
   new_slab size class least some = record {
     least = least;
     full = λ has. absurd (let none = has.slab in cc);

@@ -1,8 +1,7 @@
 -- The choice of a malloc: where its block may lie. It is stated over a view, which says all that the choice looks at: the
 -- state of the machine has one (`State.antt`), and so has whatever else says as much of an arena, as its tables.
-use Rattle.std.specs.Prelude.{◌≡◌, ◌≢◌, ◌⊎◌, ◌↔◌, ℕ, ◌*◌, ◌<◌, ◌≤◌, true, Option, Some}
+use Rattle.std.specs.Prelude.{◌≡◌, ◌≢◌, ◌⊎◌, ◌↔◌, ℕ, ◌*◌, ◌<◌, ◌≤◌, Option, Some}
 use Rattle.size_classes.specs.Classes.{class_capacity, IsClassOf, granules_of}
-use Rattle.heap_model.specs.Policy.{Policy}
 use Rattle.heap_model.specs.Machine.{Range, slab_block, with_key}
 use Rattle.heap_model.specs.Runs.{IsBestFit, HasNoFit}
 
@@ -34,8 +33,7 @@ pub record HasUnusedBlock (v : View) (c : ℕ) : Type 0 where
 
 -- the slab at s is fit for class c: it is not in transition and has another class d; at most 64 blocks live in it, and at
 -- most a fifth of those that it holds; and some block of class c in it is unused
-pub record IsFit (p : Policy) (v : View) (c s : ℕ) : Type 0 where
-  pub allowed : p.morphs ≡ true
+pub record IsFit (v : View) (c s : ℕ) : Type 0 where
   pub class : ℕ
   pub slab : v.slab s ≡ Some class
   pub calm : ¬ (v.in_transition s)
@@ -46,14 +44,14 @@ pub record IsFit (p : Policy) (v : View) (c s : ℕ) : Type 0 where
   pub block : IsUnusedBlock v s c number
 
 -- the fit slab with the fewest live blocks, the lowest among equals
-pub record IsBestSlab (p : Policy) (v : View) (c s : ℕ) : Type 0 where
-  pub fit : IsFit p v c s
-  pub fewest : (t : ℕ) → IsFit p v c t → v.live s ≤ v.live t
-  pub lowest : (t : ℕ) → IsFit p v c t → v.live t ≡ v.live s → s ≤ t
+pub record IsBestSlab (v : View) (c s : ℕ) : Type 0 where
+  pub fit : IsFit v c s
+  pub fewest : (t : ℕ) → IsFit v c t → v.live s ≤ v.live t
+  pub lowest : (t : ℕ) → IsFit v c t → v.live t ≡ v.live s → s ≤ t
 
 -- no slab is fit for class c
-pub record HasNoFitSlab (p : Policy) (v : View) (c : ℕ) : Type 0 where
-  pub none : (s : ℕ) → ¬ (IsFit p v c s)
+pub record HasNoFitSlab (v : View) (c : ℕ) : Type 0 where
+  pub none : (s : ℕ) → ¬ (IsFit v c s)
 
 -- sites
 
@@ -95,33 +93,33 @@ pub record IsFromSlab (v : View) (size start class number : ℕ) : Type 0 where
   pub block : IsUnusedBlock v start class number
 
 -- where there is none, any unused one of the best slab that is fit for the class
-pub record IsFromMorph (p : Policy) (v : View) (size start class number : ℕ) : Type 0 where
+pub record IsFromMorph (v : View) (size start class number : ℕ) : Type 0 where
   pub least : IsClassOf size class
   pub full : ¬ (HasUnusedBlock v class)
-  pub best : IsBestSlab p v class start
+  pub best : IsBestSlab v class start
   pub block : IsUnusedBlock v start class number
 
 -- where there is none either, any one of a new slab at the best fit of four granules
-pub record IsFromNewSlab (p : Policy) (v : View) (size start class number : ℕ) : Type 0 where
+pub record IsFromNewSlab (v : View) (size start class number : ℕ) : Type 0 where
   pub least : IsClassOf size class
   pub full : ¬ (HasUnusedBlock v class)
-  pub no_fit : HasNoFitSlab p v class
+  pub no_fit : HasNoFitSlab v class
   pub fit : IsBestFit v.free 4 start
   pub within : number < class_capacity class
 
 -- a site for a request of so many bytes
-abbrev pub IsSite : Policy → View → ℕ → Site → Type 0
-IsSite p v size (Granules start count) = IsFromGranules v size start count
-IsSite p v size (InSlab start class number) = IsFromSlab v size start class number
-IsSite p v size (InMorph start class number) = IsFromMorph p v size start class number
-IsSite p v size (InNewSlab start class number) = IsFromNewSlab p v size start class number
+abbrev pub IsSite : View → ℕ → Site → Type 0
+IsSite v size (Granules start count) = IsFromGranules v size start count
+IsSite v size (InSlab start class number) = IsFromSlab v size start class number
+IsSite v size (InMorph start class number) = IsFromMorph v size start class number
+IsSite v size (InNewSlab start class number) = IsFromNewSlab v size start class number
 
 -- a small request has no site
-pub record HasNoSmallSite (p : Policy) (v : View) (size : ℕ) : Type 0 where
+pub record HasNoSmallSite (v : View) (size : ℕ) : Type 0 where
   pub class : ℕ
   pub least : IsClassOf size class
   pub full : ¬ (HasUnusedBlock v class)
-  pub no_fit : HasNoFitSlab p v class
+  pub no_fit : HasNoFitSlab v class
   pub no_run : HasNoFit v.free 4
 
 -- a large one has none
@@ -129,20 +127,15 @@ pub record HasNoLargeSite (v : View) (size : ℕ) : Type 0 where
   pub large : 16384 < size
   pub no_run : HasNoFit v.free (granules_of size)
 
-abbrev pub HasNoSite : Policy → View → ℕ → Type 0
-HasNoSite p v size = HasNoSmallSite p v size ⊎ HasNoLargeSite v size
+abbrev pub HasNoSite : View → ℕ → Type 0
+HasNoSite v size = HasNoSmallSite v size ⊎ HasNoLargeSite v size
 
 -- views that agree
 
--- two views say the same of what their slabs are fit for
-pub record AgreeOnFit (v w : View) : Type 0 where
-  pub live : (s : ℕ) → v.live s ≡ w.live s
-  pub in_transition : (s class : ℕ) → v.slab s ≡ Some class → v.in_transition s ↔ w.in_transition s
-  pub unused : (s class c number : ℕ) → v.slab s ≡ Some class → number < class_capacity c → v.unused s c number ↔ w.unused s c number
-
--- two views say the same of all that a choice by a policy looks at
-pub record Agree (p : Policy) (v w : View) : Type 0 where
+-- two views say the same of all that a choice looks at
+pub record Agree (v w : View) : Type 0 where
   pub free : (k : ℕ) → v.free k ↔ w.free k
   pub slab : (s : ℕ) → v.slab s ≡ w.slab s
-  pub unused : (s c number : ℕ) → v.slab s ≡ Some c → number < class_capacity c → v.unused s c number ↔ w.unused s c number
-  pub fit : p.morphs ≡ true → AgreeOnFit v w
+  pub unused : (s class c number : ℕ) → v.slab s ≡ Some class → number < class_capacity c → v.unused s c number ↔ w.unused s c number
+  pub live : (s : ℕ) → v.live s ≡ w.live s
+  pub in_transition : (s class : ℕ) → v.slab s ≡ Some class → v.in_transition s ↔ w.in_transition s

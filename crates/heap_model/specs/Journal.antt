@@ -3,7 +3,6 @@ use Rattle.std.specs.Prelude.{◌≡◌, List, [], ◌∷◌}
 use Rattle.heap_model.specs.declared.call.Call.{Call}
 use Rattle.heap_model.specs.declared.call.Call.TheVariants.{Malloc, Free, Write, Read, Move}
 use Rattle.heap_model.specs.declared.call.Entry.{Entry}
-use Rattle.heap_model.specs.Policy.{Policy}
 use Rattle.heap_model.specs.Machine.{Bounds, Machine, IsOverlapFree}
 use Rattle.heap_model.specs.Step.{IsStep}
 use Rattle.heap_model.specs.Placement.{PlacedState, IsPlacedStep}
@@ -14,20 +13,20 @@ Leads Steps s [] last = last ≡ s
 Leads {State} Steps s (entry ∷ entries) last = (next : State) × Steps s entry next × Leads Steps next entries last
 
 -- an entry is a step of the machine
-abbrev pub IsEntry : Policy → Bounds → Machine → Entry → Machine → Type 0
-IsEntry p b m entry next = IsStep p b m entry.call entry.reply next
+abbrev pub IsEntry : Bounds → Machine → Entry → Machine → Type 0
+IsEntry b m entry next = IsStep b m entry.call entry.reply next
 
 -- and one in which its seat is given blocks where the placement says
-abbrev pub IsPlacedEntry : Policy → Bounds → PlacedState → Entry → PlacedState → Type 0
-IsPlacedEntry p b s entry next = IsPlacedStep p b entry.seat s entry.call entry.reply next
+abbrev pub IsPlacedEntry : Bounds → PlacedState → Entry → PlacedState → Type 0
+IsPlacedEntry b s entry next = IsPlacedStep b entry.seat s entry.call entry.reply next
 
 -- a legal journal from a state: it leads somewhere
-abbrev pub IsLegal : Policy → Bounds → Machine → List Entry → Type 0
-IsLegal p b m entries = (last : Machine) × Leads (IsEntry p b) m entries last
+abbrev pub IsLegal : Bounds → Machine → List Entry → Type 0
+IsLegal b m entries = (last : Machine) × Leads (IsEntry b) m entries last
 
 -- every state that is reached from an overlap-free one is overlap-free
 abbrev pub LawOfOverlap : Type 0
-LawOfOverlap = (p : Policy) (b : Bounds) (m last : Machine) (entries : List Entry) → IsOverlapFree b m → Leads (IsEntry p b) m entries last → IsOverlapFree b last
+LawOfOverlap = (b : Bounds) (m last : Machine) (entries : List Entry) → IsOverlapFree b m → Leads (IsEntry b) m entries last → IsOverlapFree b last
 
 -- a call that gives, takes or moves a block
 abbrev pub IsOfBlock : Call → Type 0
@@ -46,5 +45,5 @@ AskTheSame (entry ∷ entries) (other ∷ others) = (entry.seat ≡ other.seat) 
 
 -- the placement leaves nothing open: what is asked settles the journal, and the state and stacks behind it
 abbrev pub LawOfOneJournal : Type 0
-LawOfOneJournal = (p : Policy) (b : Bounds) (s last other : PlacedState) (entries others : List Entry) → AskTheSame entries others →
-    Leads (IsPlacedEntry p b) s entries last → Leads (IsPlacedEntry p b) s others other → (entries ≡ others) × (last ≡ other)
+LawOfOneJournal = (b : Bounds) (s last other : PlacedState) (entries others : List Entry) → AskTheSame entries others →
+    Leads (IsPlacedEntry b) s entries last → Leads (IsPlacedEntry b) s others other → (entries ≡ others) × (last ≡ other)

@@ -9,7 +9,6 @@ use Rattle.heap_model.specs.declared.call.Call.TheVariants.{Malloc, Free, Write,
 use Rattle.heap_model.specs.declared.call.Reply.{Reply}
 use Rattle.heap_model.specs.declared.call.Reply.TheVariants.{Placed, Freed}
 use Rattle.heap_model.specs.Below.{any_below}
-use Rattle.heap_model.specs.Policy.{Policy}
 use Rattle.heap_model.specs.Machine.{Bounds, Range, Machine, with_key, slab_block, IsBlockOf, IsUnused, IsFreeGranule}
 use Rattle.heap_model.specs.Runs.{IsBestFit}
 use Rattle.heap_model.specs.Choice.{View, IsUnusedBlock, IsBestSlab, HasNoFitSlab}
@@ -84,15 +83,15 @@ AreLowest Passes low most (number ∷ numbers) = (0 < most) × IsNext Passes low
 abbrev pub addresses : ℕ → ℕ → List ℕ → List ℕ
 addresses s c numbers = map (λ number. (slab_block s c number).at) numbers
 
--- the lowest slab of the class that has an available block gives some of its lowest ones to the stack of the seat, the
+-- the lowest slab of the class that has an available block gives up to eight of its lowest ones to the stack of the seat, the
 -- lowest on top, and the stack gives its top
-pub record IsRefill (p : Policy) (v : View) (stacks : Stacks) (seat class at : ℕ) (after : Stacks) : Type 0 where
+pub record IsRefill (v : View) (stacks : Stacks) (seat class at : ℕ) (after : Stacks) : Type 0 where
   pub start : ℕ
   pub slab : v.slab start ≡ Some class
   pub lowest : (other number : ℕ) → other < start → v.slab other ≡ Some class → ¬ (IsAvailable v stacks other class number)
   pub number : ℕ
   pub rest : List ℕ
-  pub taken : AreLowest (IsAvailable v stacks start class) 0 p.refill (number ∷ rest)
+  pub taken : AreLowest (IsAvailable v stacks start class) 0 8 (number ∷ rest)
   pub is : at ≡ (slab_block start class number).at
   pub after_is : after ≡ with_stack stacks seat class (addresses start class rest)
 
@@ -121,26 +120,26 @@ abbrev pub with_class : Machine → ℕ → ℕ → Machine
 with_class m s c = record { block = m.block; slab = with_key m.slab s (Some c); value = m.value }
 
 -- the best slab that is fit for the class loses its addresses and takes the class, and then a refill follows
-pub record IsMorphRefill (p : Policy) (b : Bounds) (was : PlacedState) (seat class at : ℕ) (after : Stacks) : Type 0 where
+pub record IsMorphRefill (b : Bounds) (was : PlacedState) (seat class at : ℕ) (after : Stacks) : Type 0 where
   pub start : ℕ
-  pub best : IsBestSlab p (view_of b was.machine) class start
-  pub refill : IsRefill p (view_of b (with_class was.machine start class)) (without_slab was.stacks start) seat class at after
+  pub best : IsBestSlab (view_of b was.machine) class start
+  pub refill : IsRefill (view_of b (with_class was.machine start class)) (without_slab was.stacks start) seat class at after
 
 -- where none is fit, a new slab is made at the best fit of four granules, and then a refill follows
-pub record IsNewRefill (p : Policy) (b : Bounds) (was : PlacedState) (seat class at : ℕ) (after : Stacks) : Type 0 where
-  pub no_fit : HasNoFitSlab p (view_of b was.machine) class
+pub record IsNewRefill (b : Bounds) (was : PlacedState) (seat class at : ℕ) (after : Stacks) : Type 0 where
+  pub no_fit : HasNoFitSlab (view_of b was.machine) class
   pub start : ℕ
   pub fit : IsBestFit (IsFreeGranule b was.machine) 4 start
-  pub refill : IsRefill p (view_of b (with_class was.machine start class)) was.stacks seat class at after
+  pub refill : IsRefill (view_of b (with_class was.machine start class)) was.stacks seat class at after
 
 -- the address that a seat is given for a request of the class, and the stacks after it: the seat's own stack gives its top;
 -- else there is a refill; else the lowest-numbered seat's stack gives its top; else a slab takes the class, or is made
-abbrev pub IsWay : Policy → Bounds → PlacedState → ℕ → ℕ → ℕ → Stacks → Type 0
-IsWay p b was seat class at after =
+abbrev pub IsWay : Bounds → PlacedState → ℕ → ℕ → ℕ → Stacks → Type 0
+IsWay b was seat class at after =
     First (HasTop was.stacks seat class) (λ top. IsPop top at after)
-    (First (HasAvailable (view_of b was.machine) was.stacks class) (λ _. IsRefill p (view_of b was.machine) was.stacks seat class at after)
+    (First (HasAvailable (view_of b was.machine) was.stacks class) (λ _. IsRefill (view_of b was.machine) was.stacks seat class at after)
     (First (HasStacked was.stacks class) (λ stacked. IsPop stacked.first.top at after)
-    (IsMorphRefill p b was seat class at after ⊎ IsNewRefill p b was seat class at after)))
+    (IsMorphRefill b was seat class at after ⊎ IsNewRefill b was seat class at after)))
 
 -- a malloc gave a small block
 pub record GaveSmall (size : ℕ) (reply : Reply) : Type 0 where
@@ -163,17 +162,17 @@ abbrev pub without_left : Bounds → Machine → Machine → Stacks → Stacks
 without_left b m next stacks = keeping (λ at. not (any_below (λ s. has_left (m.slab s) (next.slab s) && is_within s at) b.granules)) stacks
 
 -- a freed block may be reserved for the seat: it is of the class of its slab, which has not left, and the stack has room
-pub record IsKeepable (p : Policy) (m : Machine) (stacks : Stacks) (seat : ℕ) (range : Range) : Type 0 where
+pub record IsKeepable (m : Machine) (stacks : Stacks) (seat : ℕ) (range : Range) : Type 0 where
   pub start : ℕ
   pub class : ℕ
   pub slab : m.slab start ≡ Some class
   pub block : IsBlockOf start class range
-  pub room : length (stacks seat class) < p.holds
+  pub room : length (stacks seat class) < 8
 
 -- then it goes on top of the seat's stack; else it goes on none
-abbrev pub IsReturned : Policy → Machine → Stacks → ℕ → Range → Stacks → Type 0
-IsReturned p m stacks seat range after =
-    First (IsKeepable p m stacks seat range) (λ keep. after ≡ with_stack stacks seat keep.class (range.at ∷ stacks seat keep.class))
+abbrev pub IsReturned : Machine → Stacks → ℕ → Range → Stacks → Type 0
+IsReturned m stacks seat range after =
+    First (IsKeepable m stacks seat range) (λ keep. after ≡ with_stack stacks seat keep.class (range.at ∷ stacks seat keep.class))
     (after ≡ stacks)
 
 -- a free took a block
@@ -184,19 +183,19 @@ pub record TookBlock (reply : Reply) : Type 0 where
 -- steps
 
 -- what a call of a seat makes of the stacks
-abbrev pub IsStacked : Policy → Bounds → ℕ → PlacedState → Call → Reply → PlacedState → Type 0
-IsStacked p b seat was (Malloc root size) reply next =
-    First (GaveSmall size reply) (λ gave. IsWay p b was seat gave.class gave.at next.stacks) (next.stacks ≡ was.stacks)
-IsStacked p b seat was (Free root) reply next =
-    First (TookBlock reply) (λ took. IsReturned p next.machine (without_left b was.machine next.machine was.stacks) seat took.range next.stacks) (next.stacks ≡ was.stacks)
-IsStacked p b seat was (Write root index word) reply next = next.stacks ≡ was.stacks
-IsStacked p b seat was (Read root index) reply next = next.stacks ≡ was.stacks
-IsStacked p b seat was (Move from to) reply next = next.stacks ≡ was.stacks
+abbrev pub IsStacked : Bounds → ℕ → PlacedState → Call → Reply → PlacedState → Type 0
+IsStacked b seat was (Malloc root size) reply next =
+    First (GaveSmall size reply) (λ gave. IsWay b was seat gave.class gave.at next.stacks) (next.stacks ≡ was.stacks)
+IsStacked b seat was (Free root) reply next =
+    First (TookBlock reply) (λ took. IsReturned next.machine (without_left b was.machine next.machine was.stacks) seat took.range next.stacks) (next.stacks ≡ was.stacks)
+IsStacked b seat was (Write root index word) reply next = next.stacks ≡ was.stacks
+IsStacked b seat was (Read root index) reply next = next.stacks ≡ was.stacks
+IsStacked b seat was (Move from to) reply next = next.stacks ≡ was.stacks
 
 -- a step of the machine for a seat, in which a block is given where the placement says
-pub record IsPlacedStep (p : Policy) (b : Bounds) (seat : ℕ) (was : PlacedState) (call : Call) (reply : Reply) (next : PlacedState) : Type 0 where
-  pub step : IsStep p b was.machine call reply next.machine
-  pub stacked : IsStacked p b seat was call reply next
+pub record IsPlacedStep (b : Bounds) (seat : ℕ) (was : PlacedState) (call : Call) (reply : Reply) (next : PlacedState) : Type 0 where
+  pub step : IsStep b was.machine call reply next.machine
+  pub stacked : IsStacked b seat was call reply next
 
 -- sound stacks
 
@@ -216,9 +215,9 @@ pub record IsReserved (m : Machine) (class at : ℕ) : Type 0 where
 
 -- The stacks are sound beside the state: only those of seats have blocks, and none has more than it holds; all addresses
 -- differ, and each is that of a reserved block.
-pub record AreSound (p : Policy) (s : PlacedState) : Type 0 where
+pub record AreSound (s : PlacedState) : Type 0 where
   pub seated : (seat class : ℕ) → 64 ≤ seat → s.stacks seat class ≡ []
-  pub short : (seat class : ℕ) → length (s.stacks seat class) ≤ p.holds
+  pub short : (seat class : ℕ) → length (s.stacks seat class) ≤ 8
   pub differ : (seat class : ℕ) → AllDiffer (s.stacks seat class)
   pub apart : (seat class other c at : ℕ) → Has (s.stacks seat class) at → Has (s.stacks other c) at → (seat ≡ other) × (class ≡ c)
   pub reserved : (seat class at : ℕ) → Has (s.stacks seat class) at → IsReserved s.machine class at

@@ -1,12 +1,10 @@
 -- The steps of the heap machine: which reply a call may have, and the state after it. The conditions of a call stand in
--- the order in which they are looked at. A policy says whether a slab may take another class; the machine is that of
--- `whole`.
+-- the order in which they are looked at.
 use Rattle.std.specs.Prelude.{◌≡◌, ◌⊎◌, ◌==◌, ◌&&◌, ℕ, ◌-◌, ◌*◌, ◌/◌, ◌<◌, ◌≤◌, Option, Some, None, if◌then◌else◌}
 use Rattle.heap_model.specs.declared.call.Call.{Call}
 use Rattle.heap_model.specs.declared.call.Call.TheVariants.{Malloc, Free, Write, Read, Move}
 use Rattle.heap_model.specs.declared.call.Reply.{Reply}
 use Rattle.heap_model.specs.declared.call.Reply.TheVariants.{Placed, Freed, Wrote, Value, Moved, NoRoot, Occupied, Empty, ZeroSize, TooLarge, OutOfRange, NoSpace}
-use Rattle.heap_model.specs.Policy.{Policy}
 use Rattle.heap_model.specs.Machine.{Bounds, Range, Machine, with_key}
 use Rattle.heap_model.specs.Choice.{Site, range_of, slabs_with, IsSite, HasNoSite}
 use Rattle.heap_model.specs.Slabs.{begins_in, live_below, view_of}
@@ -59,21 +57,21 @@ pub record HasBlock (m : Machine) (root : ℕ) : Type 0 where
   pub named : m.block root ≡ Some range
 
 -- the request is granted a block
-pub record IsGrant (p : Policy) (b : Bounds) (m : Machine) (root size : ℕ) (reply : Reply) (next : Machine) : Type 0 where
+pub record IsGrant (b : Bounds) (m : Machine) (root size : ℕ) (reply : Reply) (next : Machine) : Type 0 where
   pub site : Site
-  pub chosen : IsSite p (view_of b m) size site
+  pub chosen : IsSite (view_of b m) size site
   pub is : reply ≡ Placed (range_of site).at (range_of site).size
   pub after : next ≡ with_block m root site
 
 -- calls
 
-abbrev pub IsMalloc : Policy → Bounds → Machine → ℕ → ℕ → Reply → Machine → Type 0
-IsMalloc p b m root size reply next =
+abbrev pub IsMalloc : Bounds → Machine → ℕ → ℕ → Reply → Machine → Type 0
+IsMalloc b m root size reply next =
     First (b.roots ≤ root) (λ _. IsRefused m NoRoot reply next)
     (First (HasBlock m root) (λ held. IsRefused m (Occupied held.range.at) reply next)
     (First (size ≡ 0) (λ _. IsRefused m ZeroSize reply next)
     (First ((b.granules - b.first) * 16384 < size) (λ _. IsRefused m TooLarge reply next)
-    (IsGrant p b m root size reply next ⊎ (HasNoSite p (view_of b m) size × IsRefused m NoSpace reply next)))))
+    (IsGrant b m root size reply next ⊎ (HasNoSite (view_of b m) size × IsRefused m NoSpace reply next)))))
 
 abbrev pub IsFreeCall : Bounds → Machine → ℕ → Reply → Machine → Type 0
 IsFreeCall b m root reply next =
@@ -109,12 +107,12 @@ IsMove b m from to reply next =
     (IsRefused m Empty reply next))
 
 -- a call, its reply and the state after it
-abbrev pub IsStep : Policy → Bounds → Machine → Call → Reply → Machine → Type 0
-IsStep p b m (Malloc root size) reply next = IsMalloc p b m root size reply next
-IsStep p b m (Free root) reply next = IsFreeCall b m root reply next
-IsStep p b m (Write root index word) reply next = IsWrite b m root index word reply next
-IsStep p b m (Read root index) reply next = IsRead b m root index reply next
-IsStep p b m (Move from to) reply next = IsMove b m from to reply next
+abbrev pub IsStep : Bounds → Machine → Call → Reply → Machine → Type 0
+IsStep b m (Malloc root size) reply next = IsMalloc b m root size reply next
+IsStep b m (Free root) reply next = IsFreeCall b m root reply next
+IsStep b m (Write root index word) reply next = IsWrite b m root index word reply next
+IsStep b m (Read root index) reply next = IsRead b m root index reply next
+IsStep b m (Move from to) reply next = IsMove b m from to reply next
 
 -- the root that a call speaks of: of a move, the one that gets the block
 abbrev pub root_of : Call → ℕ

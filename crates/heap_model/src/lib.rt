@@ -3,8 +3,8 @@
 //
 // The crate has types, definitions and laws, and no call of the allocator: the layers above state their contracts in its
 // words. `specs/Machine.antt` has the state, `specs/Choice.antt` where a malloc's block may lie, `specs/Step.antt` the
-// steps, `specs/Placement.antt` the stacks of reserved blocks, `specs/Journal.antt` the legal journals, `specs/Policy.antt`
-// how much of it an arena serves, and `specs/Runs.antt` what the best fit is.
+// steps, `specs/Placement.antt` the stacks of reserved blocks, `specs/Journal.antt` the legal journals, and
+// `specs/Runs.antt` what the best fit is.
 #![tactic(auto)]
 
 mod block;

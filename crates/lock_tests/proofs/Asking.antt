@@ -2,7 +2,6 @@
 use Rattle.std.proofs.Common.{◌≡◌, ℕ, ◌≤◌, Bool, if◌then◌else◌, inl, inr, List, [], ◌∷◌, ◌++◌, refl, ap, sym, ◌∙◌, subst, arith, eq-eqb, Ok}
 use Rattle.heap_model.specs.declared.call.Entry.{Entry}
 use Rattle.heap_model.specs.Machine.{Bounds}
-use Rattle.heap_model.specs.Policy.{without_morphs}
 use Rattle.heap_model.specs.Placement.{PlacedState, IsPlacedStep}
 use Rattle.heap_model.specs.Journal.{Leads, IsPlacedEntry}
 use Rattle.heap_check.specs.Image.{bounds_of}
@@ -23,7 +22,7 @@ few_roots : (layout : Layout) → IsLayout layout → layout.roots ≤ 429496729
 few_roots layout rules = omega (arith, rules.roots, rules.heap, rules.some_granule, rules.range, rules.most)
 
 -- a root that is none is refused, and the state stays
-refused : (b : Bounds) (s : PlacedState) (seat size : ℕ) → b.roots ≤ 4294967295 → IsPlacedStep without_morphs b seat s (Malloc 4294967295 size) NoRoot s
+refused : (b : Bounds) (s : PlacedState) (seat size : ℕ) → b.roots ≤ 4294967295 → IsPlacedStep b seat s (Malloc 4294967295 size) NoRoot s
 refused b s seat size few = record { step = inl (few, (refl, refl)); stacked = inr (λ gave. let no_block = gave.is in cc, refl) }
 
 -- an empty journal is legal
@@ -31,8 +30,8 @@ pub nothing_asked : IsLegal no_opening []
 nothing_asked = (_, refl)
 
 -- one more entry that leaves the state
-leads_more : (b : Bounds) (s last : PlacedState) (entries : List Entry) (e : Entry) → Leads (IsPlacedEntry without_morphs b) s entries last → IsPlacedStep without_morphs b e.seat last e.call e.reply last → Leads (IsPlacedEntry without_morphs b) s (entries ++ e ∷ []) last
-leads_more b s last [] e h stays = let P : PlacedState → Type 0 = λ z. IsPlacedStep without_morphs b e.seat z e.call e.reply last in (last, subst P h stays, refl)
+leads_more : (b : Bounds) (s last : PlacedState) (entries : List Entry) (e : Entry) → Leads (IsPlacedEntry b) s entries last → IsPlacedStep b e.seat last e.call e.reply last → Leads (IsPlacedEntry b) s (entries ++ e ∷ []) last
+leads_more b s last [] e h stays = let P : PlacedState → Type 0 = λ z. IsPlacedStep b e.seat z e.call e.reply last in (last, subst P h stays, refl)
 leads_more b s last (x ∷ xs) e h stays = (h.0, h.1, leads_more b h.0 last xs e h.2 stays)
 
 -- a journal from a memory without words stays legal

@@ -72,7 +72,6 @@ module _ (h : SlabHeader) (start : ℕ) (none : (place : ℕ) → place < h.inde
   fit_by : (class number : ℕ) → h.class ≢ class → held_count (alone h) start ≤ 64 → 5 * held_count (alone h) start ≤ class_capacity h.class →
       number < class_capacity class → ((other : Range) → HoldsBit (alone h) start other → AreApart (slab_block start class number) other) → IsFitHeader h start class
   fit_by class number differs few sparse within clear = record {
-    allowed = refl;
     class = h.class;
     slab = refl;
     calm = calm;

@@ -3,7 +3,6 @@ use Rattle.std.proofs.Common.{◌≡◌, ◌↔◌, IsTrue, ℕ, Bool, true, Som
 use Rattle.std.proofs.lemmas.Bool.{cond-true}
 use Rattle.image_tables.specs.Tables.{Tables, is_slab, tables_of}
 use Rattle.image_tables.proofs.Tables.{slab_table}
-use Rattle.heap_model.specs.Policy.{whole}
 use Rattle.heap_model.specs.Choice.{IsFit}
 use Rattle.heap_check.specs.Heap.{slabs}
 use Rattle.slab_morph.specs.SlabHeaders.{SlabHeader, header_at, header_of}
@@ -12,11 +11,10 @@ use Rattle.slab_morph.proofs.HeaderTables.{header_of-slab}
 use Rattle.slab_morph.proofs.Holding.{Holds-slab}
 
 -- A slab of an arena is fit by what its header says.
-pub IsFit-slab : (t : Tables) (start class : ℕ) → t.slab start ≡ true → IsFit whole (held_view t) class start ↔ IsFitHeader (header_of t start) start class
+pub IsFit-slab : (t : Tables) (start class : ℕ) → t.slab start ≡ true → IsFit (held_view t) class start ↔ IsFitHeader (header_of t start) start class
 IsFit-slab t start class is =
     let slab : slabs t start ≡ Some (t.class start) = cond-true (t.slab start) (Some (t.class start)) None is in (
       λ fit. record {
-        allowed = fit.allowed;
         class = fit.class;
         slab = sym slab ∙ fit.slab;
         calm = λ moving. fit.calm (record { range = moving.range; holds = (Holds-slab t start is moving.range).1 moving.holds; other = moving.other });
@@ -27,7 +25,6 @@ IsFit-slab t start class is =
         block = record { within = fit.block.within; unused = record { each = λ other holds. fit.block.unused.each other ((Holds-slab t start is other).1 holds) } };
       },
       λ fit. record {
-        allowed = fit.allowed;
         class = fit.class;
         slab = slab ∙ fit.slab;
         calm = λ moving. fit.calm (record { range = moving.range; holds = (Holds-slab t start is moving.range).0 moving.holds; other = moving.other });
@@ -40,7 +37,7 @@ IsFit-slab t start class is =
     )
 
 -- and that is read off its words
-pub fit_of_slab : (words : List ℕ) (start class : ℕ) {answer : Bool} → is_slab words start ≡ true → IsTrue answer ↔ IsFitHeader (header_at words start) start class → IsTrue answer ↔ IsFit whole (held_view (tables_of words)) class start
+pub fit_of_slab : (words : List ℕ) (start class : ℕ) {answer : Bool} → is_slab words start ≡ true → IsTrue answer ↔ IsFitHeader (header_at words start) start class → IsTrue answer ↔ IsFit (held_view (tables_of words)) class start
 fit_of_slab words start class is answers =
     let same = IsFit-slab (tables_of words) start class (slab_table words start ∙ is) in
     let header = header_of-slab words start is in (

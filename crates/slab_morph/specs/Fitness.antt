@@ -4,7 +4,6 @@ use Rattle.size_classes.specs.Classes.{class_size, class_capacity}
 use Rattle.image_tables.specs.Forms.{morphing_kind}
 use Rattle.image_tables.specs.Tables.{Tables}
 use Rattle.slab_header.specs.Morph.{numbers_below, held_numbers}
-use Rattle.heap_model.specs.Policy.{whole}
 use Rattle.heap_model.specs.Machine.{Range, AreApart, slab_block}
 use Rattle.heap_model.specs.Choice.{View, IsFit}
 use Rattle.heap_check.specs.Heap.{slabs, Holds}
@@ -36,7 +35,7 @@ held_view t = record {
 
 -- the slab at a granule that has this header is fit for a class, as the machine has it
 abbrev pub IsFitHeader : SlabHeader → ℕ → ℕ → Type 0
-IsFitHeader h start class = IsFit whole (held_view (alone h)) class start
+IsFitHeader h start class = IsFit (held_view (alone h)) class start
 
 -- block j of a class, in a slab of the class `own`, overlaps no block whose bit is set
 pub record IsClearOfBits (h : SlabHeader) (start own class j : ℕ) : Type 0 where

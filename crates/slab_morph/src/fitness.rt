@@ -6,7 +6,6 @@ ghost use Rattle.pmem_lines.specs.Pmem.{words_of};
 ghost use Rattle.image_tables.specs.Forms.{IsStateWord};
 ghost use Rattle.image_tables.specs.Tables.{is_slab, state_word, tables_of};
 ghost use Rattle.heap_model.specs.Choice.{IsFit};
-ghost use Rattle.heap_model.specs.Policy.{whole};
 ghost use Rattle.slab_header.specs.Morph.{numbers_below};
 ghost use Rattle.slab_morph.specs.SlabHeaders.{header_at};
 ghost use Rattle.slab_morph.specs.Fitness.{held_view, IsFitHeader, IsClearOfBits};
@@ -30,7 +29,7 @@ pub fn fit<P: Pmem>(p: &P, slab: u32, class: u8) -> bool
     requires class { class < 36 }
     requires valid { IsStateWord (word_at (words_of (P.state p.now)) (state_word (slab / 16384))) }
     ensures fit { IsTrue result ↔ IsFitHeader (header_at (words_of (P.state p.now)) (slab / 16384)) (slab / 16384) class }
-    ensures table { is_slab (words_of (P.state p.now)) (slab / 16384) ≡ true → IsTrue result ↔ IsFit whole (held_view (tables_of (words_of (P.state p.now)))) class (slab / 16384) }
+    ensures table { is_slab (words_of (P.state p.now)) (slab / 16384) ≡ true → IsTrue result ↔ IsFit (held_view (tables_of (words_of (P.state p.now)))) class (slab / 16384) }
 {
     let state = fields_of(state_at(p, slab));
     if state.class == class || has_live(p, slab, state.entries) {

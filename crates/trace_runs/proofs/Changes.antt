@@ -12,7 +12,6 @@ use Rattle.heap_model.specs.declared.call.Call.{Call}
 use Rattle.heap_model.specs.declared.call.Reply.{Reply}
 use Rattle.heap_model.specs.declared.call.Reply.TheVariants.{Placed, Freed, Wrote, Value, Moved, NoRoot, Occupied, Empty, ZeroSize, TooLarge, OutOfRange, NoSpace}
 use Rattle.heap_model.specs.Machine.{Bounds, Range, Machine, with_key}
-use Rattle.heap_model.specs.Policy.{Policy, without_morphs}
 use Rattle.heap_model.specs.Placement.{Stacks}
 use Rattle.heap_model.specs.Step.{HasBlock, root_of, IsStep}
 use Rattle.heap_model.proofs.Outcomes.{IsGift, IsLoss, gift, loss, outcome}
@@ -66,8 +65,8 @@ pub record IsArrival (b : Bounds) (m : Machine) (root : ℕ) (range : Range) (ne
   pub there : next.block root ≡ Some range
 
 -- a step that moved a block brought it to the call's root
-arrival : (p : Policy) (b : Bounds) (m next : Machine) (call : Call) (at size : ℕ) → IsStep p b m call (Moved at size) next → IsArrival b m (root_of call) (record { at = at; size = size }) next
-arrival p b m next (Malloc root asked) at size step = absurd (⊎_elim
+arrival : (b : Bounds) (m next : Machine) (call : Call) (at size : ℕ) → IsStep b m call (Moved at size) next → IsArrival b m (root_of call) (record { at = at; size = size }) next
+arrival b m next (Malloc root asked) at size step = absurd (⊎_elim
     (λ no_root. let e = no_root.1.0 in cc)
     (λ rooted. ⊎_elim
     (λ held. let e = held.1.0 in cc)
@@ -77,17 +76,17 @@ arrival p b m next (Malloc root asked) at size step = absurd (⊎_elim
     bare'.1)
     rooted.1)
     step)
-arrival p b m next (Free root) at size step =
+arrival b m next (Free root) at size step =
     absurd (⊎_elim (λ no_root. let e = no_root.1.0 in cc) (λ rooted. ⊎_elim (λ held. let e = held.1.0 in cc) (λ empty. let e = empty.1.0 in cc) rooted.1) step)
-arrival p b m next (Write root index word) at size step = absurd (⊎_elim
+arrival b m next (Write root index word) at size step = absurd (⊎_elim
     (λ no_root. let e = no_root.1.0 in cc)
     (λ rooted. ⊎_elim (λ held. ⊎_elim (λ past. let e = past.1.0 in cc) (λ here. let e = here.1.0 in cc) held.1) (λ empty. let e = empty.1.0 in cc) rooted.1)
     step)
-arrival p b m next (Read root index) at size step = absurd (⊎_elim
+arrival b m next (Read root index) at size step = absurd (⊎_elim
     (λ no_root. let e = no_root.1.0 in cc)
     (λ rooted. ⊎_elim (λ held. ⊎_elim (λ past. let e = past.1.0 in cc) (λ here. let e = here.1.1 in cc) held.1) (λ empty. let e = empty.1.0 in cc) rooted.1)
     step)
-arrival p b m next (Move from to) at size step = ⊎_elim
+arrival b m next (Move from to) at size step = ⊎_elim
     (λ no_root. absurd (let e = no_root.1.0 in cc))
     (λ rooted. ⊎_elim
     (λ held. ⊎_elim
@@ -115,7 +114,7 @@ IsChange-step seat old new was after call (Placed at size) exact steps changes =
     let m = machine_of old in
     let root = root_of call in
     let found = steps.each m (HasState-machine_of old) in
-    let gift : IsGift (bounds_of old) m root (record { at = at; size = size }) found.0 = gift without_morphs (bounds_of old) m found.0 call at size found.1.step in
+    let gift : IsGift (bounds_of old) m root (record { at = at; size = size }) found.0 = gift (bounds_of old) m found.0 call at size found.1.step in
     record {
       below = subst (λ v. root < (layout_of v).roots) (version-formed old exact.formed) gift.below;
       range = record { at = at; size = size };
@@ -126,7 +125,7 @@ IsChange-step seat old new was after call (Freed at size) exact steps changes =
     let m = machine_of old in
     let root = root_of call in
     let found = steps.each m (HasState-machine_of old) in
-    let loss : IsLoss (bounds_of old) m root (record { at = at; size = size }) found.0 = loss without_morphs (bounds_of old) m found.0 call at size found.1.step in
+    let loss : IsLoss (bounds_of old) m root (record { at = at; size = size }) found.0 = loss (bounds_of old) m found.0 call at size found.1.step in
     record {
       below = subst (λ v. root < (layout_of v).roots) (version-formed old exact.formed) loss.below;
       range = record { at = at; size = size };
@@ -139,7 +138,7 @@ IsChange-step seat old new was after call (Moved at size) exact steps changes =
     let m = machine_of old in
     let root = root_of call in
     let found = steps.each m (HasState-machine_of old) in
-    let came : IsArrival (bounds_of old) m root (record { at = at; size = size }) found.0 = arrival without_morphs (bounds_of old) m found.0 call at size found.1.step in
+    let came : IsArrival (bounds_of old) m root (record { at = at; size = size }) found.0 = arrival (bounds_of old) m found.0 call at size found.1.step in
     record {
       below = subst (λ v. root < (layout_of v).roots) (version-formed old exact.formed) came.below;
       range = record { at = at; size = size };
@@ -216,7 +215,7 @@ pub record IsWriting (old new : List ℕ) (root : ℕ) : Type 0 where
   pub same : HaveSameHeap old new
 
 -- a step that wrote is on a root word
-wrote_below : (b : Bounds) (m next : Machine) (call : Call) → IsStep without_morphs b m call Wrote next → root_of call < b.roots
+wrote_below : (b : Bounds) (m next : Machine) (call : Call) → IsStep b m call Wrote next → root_of call < b.roots
 wrote_below b m next (Malloc root size) step = ⊎_elim (λ none. absurd (let e = none.1.0 in cc)) (λ some. omega (arith, some.0)) step
 wrote_below b m next (Free root) step = ⊎_elim (λ none. absurd (let e = none.1.0 in cc)) (λ some. omega (arith, some.0)) step
 wrote_below b m next (Write root index word) step = ⊎_elim (λ none. absurd (let e = none.1.0 in cc)) (λ some. omega (arith, some.0)) step
@@ -224,8 +223,8 @@ wrote_below b m next (Read root index) step = ⊎_elim (λ none. absurd (let e =
 wrote_below b m next (Move from to) step = ⊎_elim (λ none. absurd (let e = none.1.0 in cc)) (λ some. ⊎_elim (λ less. less) (λ past. absurd (some.0 (inr past))) (cases_lt to b.roots)) step
 
 -- and leaves the blocks
-wrote_blocks : (b : Bounds) (m next : Machine) (call : Call) → IsStep without_morphs b m call Wrote next → next.block ≡ m.block
-wrote_blocks b m next call step = elim (outcome without_morphs b m next Wrote call step) [
+wrote_blocks : (b : Bounds) (m next : Machine) (call : Call) → IsStep b m call Wrote next → next.block ≡ m.block
+wrote_blocks b m next call step = elim (outcome b m next Wrote call step) [
   | Stayed not same ↦ ap (λ (n : Machine). n.block) same
   | Given root asked is given ↦ absurd (let reply = given.grant.is in cc)
   | Taken root is taken ↦ absurd (let reply = taken.is in cc)

@@ -4,7 +4,6 @@ use Rattle.pmem_lines.specs.Pmem.{words_of}
 use Rattle.pool_layout.specs.declared.header.PoolHeader.{PoolHeader}
 use Rattle.heap_model.specs.declared.call.Entry.{Entry}
 use Rattle.heap_model.specs.Machine.{Bounds, no_heap, IsOverlapFree}
-use Rattle.heap_model.specs.Policy.{without_morphs}
 use Rattle.heap_model.specs.Placement.{PlacedState, bare}
 use Rattle.thread_cache.specs.Stacks.{stacks_of}
 use Rattle.heap_model.specs.Journal.{Leads, IsPlacedEntry}
@@ -26,8 +25,8 @@ opened_bare header first new = λ i. record { machine = no_heap_in header first 
 -- what leads on from a new arena is a journal from the empty heap
 pub IsJournal-opened : (header : PoolHeader) (first : ArenaState) (journal : List Entry) (last : PlacedState) → IsNewArena header first → LeadsTo (opened first) journal last → IsJournal header.granules journal last
 IsJournal-opened header first journal last new leads =
-    subst (λ (s : PlacedState). Leads (IsPlacedEntry without_morphs (bounds_for header.granules)) s journal last) (opened_bare header first new)
-    (subst (λ (b : Bounds). Leads (IsPlacedEntry without_morphs b) (opening_state (opened first)) journal last) new.bounds leads)
+    subst (λ (s : PlacedState). Leads (IsPlacedEntry (bounds_for header.granules)) s journal last) (opened_bare header first new)
+    (subst (λ (b : Bounds). Leads (IsPlacedEntry b) (opening_state (opened first)) journal last) new.bounds leads)
 
 -- no more calls begin than there are entries
 one_or_none : (b : Bool) (m n : ℕ) → m ≤ n → (if b then suc m else m) ≤ suc n

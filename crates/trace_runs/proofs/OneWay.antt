@@ -6,7 +6,6 @@ use Rattle.heap_model.specs.declared.call.Reply.{Reply}
 use Rattle.heap_model.specs.declared.call.Reply.TheVariants.{NoRoot, Empty, OutOfRange}
 use Rattle.heap_model.specs.declared.call.Entry.{Entry}
 use Rattle.heap_model.specs.Machine.{Bounds, Range, Machine}
-use Rattle.heap_model.specs.Policy.{without_morphs}
 use Rattle.heap_model.specs.Placement.{PlacedState, IsPlacedStep}
 use Rattle.heap_model.specs.Step.{First, HasBlock, IsRefused, IsOnWord}
 use Rattle.heap_model.specs.Journal.{IsOfBlock}
@@ -72,7 +71,7 @@ reply_of none (entry ∷ entries) = entry.reply
 entry_of : ℕ → Call → Reply → Entry
 entry_of seat call reply = record { seat = seat; call = call; reply = reply }
 
-block_settled : (b : Bounds) (seat : ℕ) (s next last : PlacedState) (call : Call) (reply other : Reply) → IsOfBlock call → IsPlacedStep without_morphs b seat s call reply next → IsPlacedStep without_morphs b seat s call other last → (reply ≡ other) × (next ≡ last)
+block_settled : (b : Bounds) (seat : ℕ) (s next last : PlacedState) (call : Call) (reply other : Reply) → IsOfBlock call → IsPlacedStep b seat s call reply next → IsPlacedStep b seat s call other last → (reply ≡ other) × (next ≡ last)
 unfolding entry_of reply_of
 block_settled b seat s next last call reply other of one two =
     let same = one_journal without_morphs b s next last (entry_of seat call reply ∷ []) (entry_of seat call other ∷ []) (refl, refl, of, tt) (next, one, refl) (last, two, refl) in
@@ -86,7 +85,7 @@ same_placed s next last machine one two = let stacks : next.stacks ≡ last.stac
 IsOneWay-same : (words : List ℕ) (line : ℕ) (call : Call) (reply other : Reply) (next last : PlacedState) → (reply ≡ other) × (next ≡ last) → IsOneWay words line call reply other next last
 IsOneWay-same words line call reply other next last same = record { events = ap (λ r. call_events words line call r) same.0; later = ap (line_after line) same.0; state = same.1 }
 
-pub IsOneWay-step : (b : Bounds) (words : List ℕ) (line seat : ℕ) (s next last : PlacedState) (call : Call) (reply other : Reply) → IsPlacedStep without_morphs b seat s call reply next → IsPlacedStep without_morphs b seat s call other last →
+pub IsOneWay-step : (b : Bounds) (words : List ℕ) (line seat : ℕ) (s next last : PlacedState) (call : Call) (reply other : Reply) → IsPlacedStep b seat s call reply next → IsPlacedStep b seat s call other last →
     IsOneWay words line call reply other next last
 IsOneWay-step b words line seat s next last (Malloc root size) reply other one two = IsOneWay-same words line (Malloc root size) reply other next last (block_settled b seat s next last (Malloc root size) reply other tt one two)
 IsOneWay-step b words line seat s next last (Free root) reply other one two = IsOneWay-same words line (Free root) reply other next last (block_settled b seat s next last (Free root) reply other tt one two)

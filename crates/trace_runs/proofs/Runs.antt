@@ -4,7 +4,6 @@ use Rattle.std.proofs.lemmas.List.{append-nil}
 use Rattle.pmem_lines.specs.Pmem.{PmemState, words_of}
 use Rattle.heap_model.specs.declared.call.Reply.{Reply}
 use Rattle.heap_model.specs.Machine.{Bounds, Machine}
-use Rattle.heap_model.specs.Policy.{without_morphs}
 use Rattle.heap_model.specs.Placement.{PlacedState, Stacks, bare, no_stacks, IsPlacedStep}
 use Rattle.thread_cache.specs.Stacks.{stacks_of}
 use Rattle.heap_check.specs.Image.{bounds_of}
@@ -74,7 +73,7 @@ begins_some words line (Move from to) reply some = refl
 
 -- a call that was answered is a stage
 IsStage-answered : (b : Bounds) (old new : ArenaState) (machine next : Machine) (call : TraceCall) (reply : Reply) → HasAnswered call.thread old new call.call reply →
-    IsPlacedStep without_morphs b call.thread (beside old machine) call.call reply (beside new next) → HasState (words_of new.device) next → IsStage b (words_of old.device) old.line (beside old machine) call (stage_of old call.call reply) new.line (beside new next)
+    IsPlacedStep b call.thread (beside old machine) call.call reply (beside new next) → HasState (words_of new.device) next → IsStage b (words_of old.device) old.line (beside old machine) call (stage_of old call.call reply) new.line (beside new next)
 IsStage-answered b old new machine next call reply answered step state = record {
   reply = reply;
   begins = refl;
@@ -91,7 +90,7 @@ IsRunTo-call b start first calls old new machine call reply stages to answered =
     let found = answered.step.each machine to.state in
     let last : Stage = stage_of old call.call reply in
     let behind : words_of new.device ≡ words_after last = words_done old new call.call reply answered.done in
-    let step : IsPlacedStep without_morphs b call.thread (beside old machine) call.call reply (beside new found.0) = subst (λ (c : Bounds). IsPlacedStep without_morphs c call.thread (beside old machine) call.call reply (beside new found.0)) to.bounds found.1 in
+    let step : IsPlacedStep b call.thread (beside old machine) call.call reply (beside new found.0) = subst (λ (c : Bounds). IsPlacedStep c call.thread (beside old machine) call.call reply (beside new found.0)) to.bounds found.1 in
     let stage : IsStage b (words_of old.device) old.line (beside old machine) call last new.line (beside new found.0) = IsStage-answered b old new machine found.0 call reply answered step found.2 in (
       found.0,
       record {

@@ -4,7 +4,6 @@ use Rattle.std.specs.List.{All}
 use Rattle.std.proofs.lemmas.List.Elements.{All-head, All-tail}
 use Rattle.heap_model.specs.declared.call.Entry.{Entry}
 use Rattle.heap_model.specs.Machine.{Bounds, no_heap}
-use Rattle.heap_model.specs.Policy.{without_morphs}
 use Rattle.heap_model.specs.Placement.{PlacedState, bare}
 use Rattle.heap_model.specs.Journal.{IsOfBlock, AskTheSame}
 use Rattle.heap_model.proofs.Placements.{law_of_one_journal as one_journal}

@@ -6,7 +6,6 @@ use Rattle.pmem_lines.specs.Words.{zeros}
 use Rattle.pool_layout.specs.declared.header.PoolHeader.{PoolHeader}
 use Rattle.heap_model.specs.declared.call.Entry.{Entry}
 use Rattle.heap_model.specs.Machine.{Machine, no_heap, IsOverlapFree}
-use Rattle.heap_model.specs.Policy.{without_morphs}
 use Rattle.heap_model.specs.Placement.{Stacks, PlacedState, bare}
 use Rattle.heap_model.specs.Journal.{Leads, IsPlacedEntry}
 use Rattle.heap_check.specs.Image.{IsExactImage}
@@ -19,9 +18,9 @@ use Rattle.trace_runs.specs.Runs.{Stage, words_behind, IsRunOf}
 use Rattle.trace_runs.specs.Calls.{AreAnswers}
 
 -- The entries are a legal journal of an arena of so many granules, from the empty heap and empty stacks to this state with its
--- stacks: each block is given where the placement says, by the policy in which no slab takes another class.
+-- stacks: each block is given where the placement says.
 abbrev pub IsJournal : ℕ → List Entry → PlacedState → Type 0
-IsJournal granules journal last = Leads (IsPlacedEntry without_morphs (bounds_for granules)) (bare no_heap) journal last
+IsJournal granules journal last = Leads (IsPlacedEntry (bounds_for granules)) (bare no_heap) journal last
 
 -- every entry is a Read, and the device is as formatting left it
 pub record IsAsFormatted (header : PoolHeader) (device : PmemState) (journal : List Entry) : Type 0 where

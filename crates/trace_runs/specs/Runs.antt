@@ -6,7 +6,6 @@ use Rattle.pmem_lines.specs.Pmem.{words_of}
 use Rattle.pool_layout.specs.declared.header.PoolHeader.{PoolHeader}
 use Rattle.heap_model.specs.declared.call.Reply.{Reply}
 use Rattle.heap_model.specs.Machine.{Bounds, Machine, no_heap}
-use Rattle.heap_model.specs.Policy.{without_morphs}
 use Rattle.heap_model.specs.Placement.{PlacedState, bare, IsPlacedStep}
 use Rattle.thread_cache.specs.Stacks.{stacks_of}
 use Rattle.heap_check.specs.Image.{bounds_of}
@@ -26,14 +25,14 @@ abbrev pub words_after : Stage → List ℕ
 words_after stage = reading stage.words stage.events
 
 -- from these words, this write-ahead line, and this state with its stacks on, a call makes this stage: the reply is the
--- placement's, by the policy in which no slab takes another class; the events are those of the reply, and behind it come the
--- next line, and words with the state that the machine leads to
+-- placement's; the events are those of the reply, and behind it come the next line, and words with the state that the machine
+-- leads to
 pub record IsStage (b : Bounds) (words : List ℕ) (line : ℕ) (s : PlacedState) (call : TraceCall) (stage : Stage) (later : ℕ) (next : PlacedState) : Type 0 where
   pub reply : Reply
   pub begins : stage.words ≡ words
   pub events : stage.events ≡ call_events words line call.call reply
   pub later_is : later ≡ line_after line reply
-  pub step : IsPlacedStep without_morphs b call.thread s call.call reply next
+  pub step : IsPlacedStep b call.thread s call.call reply next
   pub state : HasState (words_after stage) next.machine
 
 -- from these words, this write-ahead line and this state on, calls make these stages, one after another

@@ -5,9 +5,8 @@
 // an arena and gives the device that went through them; `crash` makes those up to the one under way at an event, and gives
 // the image that a seed picks. What they promise stands in `specs/Journals.antt` (`HasRun`, `IsRunThrough`) and
 // `specs/Crash.antt` (`IsCrashOf`, `HasFewer`), in the words of the heap machine and of images: each call is a step of the
-// placement for its thread (`IsPlacedStep`), by the policy in which no slab takes another class. The calls settle the run that
-// a crash is said over (`law_of_one_run`), and, where they read and write no word, the journal (`law_of_one_journal`). The rest
-// of `specs/` is for the functions below them.
+// placement for its thread (`IsPlacedStep`). The calls settle the run that a crash is said over (`law_of_one_run`), and, where
+// they read and write no word, the journal (`law_of_one_journal`). The rest of `specs/` is for the functions below them.
 //
 // The layer above has a parsed trace and knows where devices come from and where bytes go.
 #![tactic(auto)]
