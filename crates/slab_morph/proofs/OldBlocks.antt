@@ -2,7 +2,7 @@
 use Rattle.std.proofs.Common.{◌≡◌, ◌↔◌, IsTrue, ◌<◌, ◌/◌, ℕ, Bool, true, false, true≢false, not, List, sym, ap, subst, ◌∙◌, ⊎_elim, arith}
 use Rattle.std.proofs.lemmas.Bool.{cases_Bool, false_from_ne_true}
 use Rattle.size_classes.specs.Classes.{class_capacity}
-use Rattle.image_tables.specs.Forms.{morphed_kind}
+use Rattle.image_tables.specs.Forms.{normal_kind, morphed_kind}
 use Rattle.image_tables.specs.Tables.{Tables, tables_of}
 use Rattle.image_tables.proofs.Tables.{slab_table}
 use Rattle.slab_header.specs.declared.state.SlabState.{SlabState}
@@ -20,7 +20,12 @@ not_true : (b : Bool) → not b ≡ true → b ≡ false
 not_true true is = absurd (true≢false (sym is))
 not_true false is = λ i. false
 
--- only one kind of state has its code
+-- only one kind of state has a code
+pub normal_of : (state : SlabState) → kind_of state ≡ normal_kind → (class : ℕ) × (state ≡ Normal class)
+normal_of (Normal class) is = (class, λ i. Normal class)
+normal_of (Morphing class old entries) is = absurd (omega (arith, is))
+normal_of (Morphed class old entries) is = absurd (omega (arith, is))
+
 pub morphed_of : (state : SlabState) → kind_of state ≡ morphed_kind → (class : ℕ) × (old : ℕ) × (entries : ℕ) × (state ≡ Morphed class old entries)
 morphed_of (Normal class) is = absurd (omega (arith, is))
 morphed_of (Morphing class old entries) is = absurd (omega (arith, is))

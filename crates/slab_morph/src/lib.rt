@@ -22,7 +22,7 @@ mod taking;
 mod unused;
 
 pub use fitness::fit;
-pub use old_blocks::{covered_by, is_done, old_class, old_place};
+pub use old_blocks::{covered_by, is_done, is_normal, old_class, old_place};
 pub use overlap::overlaps;
 pub use taking::{finish_morph, finish_old, morph};
 pub use unused::{is_unused, used_blocks};

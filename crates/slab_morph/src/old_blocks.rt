@@ -2,6 +2,7 @@
 ghost use Rattle.std.specs.Prelude.{◌≡◌, ◌↔◌, IsTrue, MatchOption, ◌+◌, ◌*◌, ◌/◌, ◌%◌, ◌^◌, ◌<◌, ◌≤◌, true, false, length};
 ghost use Rattle.size_classes.specs.Classes.{class_capacity};
 ghost use Rattle.pmem_lines.specs.Pmem.{words_of};
+ghost use Rattle.image_tables.specs.Forms.{normal_kind};
 ghost use Rattle.image_tables.specs.Tables.{tables_of};
 ghost use Rattle.heap_model.specs.Machine.{slab_block};
 ghost use Rattle.heap_check.specs.Heap.{is_old};
@@ -51,6 +52,17 @@ pub fn old_class<P: Pmem>(p: &P, slab: u32) -> u8
     ensures { result ≡ (tables_of (words_of (P.state p.now))).old (slab / 16384) }
 {
     fields_of(state_at(p, slab)).old
+}
+
+/// Whether the slab that begins at byte `slab` is normal: no block in it is an old one.
+pub fn is_normal<P: Pmem>(p: &P, slab: u32) -> bool
+    requires here { IsSlabHere (words_of (P.state p.now)) slab }
+    ensures { IsTrue result ↔ ((tables_of (words_of (P.state p.now))).kind (slab / 16384) ≡ normal_kind) }
+{
+    match state_at(p, slab) {
+        SlabState::Normal { .. } => true,
+        _ => false,
+    }
 }
 
 /// Whether the slab that begins at byte `slab` took its class, and no old block lives in it.
