@@ -1,6 +1,6 @@
 -- What a call has done, put together: by the place of its block.
 use Rattle.std.proofs.Common.{◌==◌, ◌≡◌, ◌≢◌, ◌*◌, ◌/◌, ◌+◌, ◌-◌, ◌%◌, ◌<◌, ◌≤◌, ℕ, true, false, cond, leb, List, [], Option, Some, refl, sym, ap, subst, ◌∙◌, arith, ◌++◌, ◌&&◌, ⊎_elim, Bool}
-use Rattle.std.proofs.lemmas.Bool.{cond-true, cond-false, eq-eqb, le-leb, lt-leb, false_from_ne_true, and_from, and_parts, eqb-true, cases_Bool}
+use Rattle.std.proofs.lemmas.Bool.{cond-true, cond-false, eq-eqb, ne_eqb, le-leb, lt-leb, false_from_ne_true, and_from, and_parts, eqb-true, cases_Bool}
 use Rattle.std.proofs.lemmas.Nat.{div-mul-add}
 use Rattle.size_classes.specs.Classes.{class_size, class_capacity}
 use Rattle.size_classes.proofs.Spacing.{class_size-least, class_size-most, class_size-rises}
@@ -28,7 +28,7 @@ use Rattle.heap_check.proofs.Loose.{IsExactBut-exact}
 use Rattle.arena_core.proofs.SmallCalls.{classes_small, index_small, bits_with, lives_as}
 use Rattle.heap_check.specs.Image.{bounds_of, IsExactImage}
 use Rattle.heap_check.specs.State.{KeepsBlocks, IsEitherHeap}
-use Rattle.arena_core.specs.Arena.{ArenaState, IsSlabsOf, live_in, AreCountsOf, IsCurrent, IsArena, old_range}
+use Rattle.arena_core.specs.Arena.{ArenaState, IsSlabsOf, live_in, AreLivesOf, IsCurrent, IsArena, old_range}
 use Rattle.arena_core.specs.declared.volatile.Volatile.{Volatile}
 use Rattle.arena_core.specs.Call.{IsStepOf, IsStepOfAny}
 use Rattle.arena_core.specs.Carried.{IsDone, IsCalled}
@@ -39,11 +39,13 @@ use Rattle.arena_core.specs.Plan.{IsAskedOf, IsGivableBlock, IsNamedSmall, IsHel
 use Rattle.heap_check.proofs.Sizes.{sizes_of}
 use Rattle.arena_core.proofs.Blocks.{heap-takable}
 use Rattle.arena_core.proofs.Arenas.{slabs_kept, same_heap}
-use Rattle.arena_core.specs.Events.{is_small, class_for, start_at, in_slab, block_at, place_events, take_events, fresh_events, unsmall_events, placed_events, freed_events, call_events, line_after, old_place, tidy_events, unold_events}
+use Rattle.arena_core.specs.Events.{is_small, class_for, start_at, in_slab, block_at, place_events, take_events, fresh_events, morphed_events, unsmall_events, placed_events, freed_events, call_events, line_after, old_place, tidy_events, unold_events}
 use Rattle.heap_check.proofs.SmallPlaces.{no_old-held}
 use Rattle.attach_steps.specs.declared.block.OldBlock.{OldBlock}
 use Rattle.arena_core.proofs.HeldBlocks.{heap_held, class_holds, old_holds, class_detachable, old_detachable}
+use Rattle.slab_lives.specs.Lives.{Lives}
 use Rattle.arena_core.proofs.LiveCounts.{counts_kept}
+use Rattle.arena_core.proofs.LiveSlabs.{calm_same, lives_kept}
 use Rattle.heap_check.proofs.Small.{one_number, is_old-held}
 use Rattle.arena_core.proofs.BlockChanges.{change_bit, book_small, keeps_small}
 
@@ -144,6 +146,12 @@ module _ (words : List ℕ) (line root : ℕ) (block : SmallBlock) (class : ℕ)
         let inside : in_slab t range.at ≡ true = ap t.slab here ∙ slab in
         let same : (t.class (start_at t range.at) == class_for (class_size class)) ≡ true = eq-eqb _ _ (ap t.class here ∙ of_class ∙ sym (class_is class is_class)) in
         sym (cond-true (is_small (class_size class)) _ _ little ∙ cond-true (in_slab t range.at) _ _ inside ∙ cond-true _ _ _ same ∙ ap (attach_events words line root) found)
+
+    pub placed_morph : t.slab block.start ≡ true → t.class block.start ≢ class → morphed_events words line root block class ≡ placed_events words line root range.at (class_size class)
+    placed_morph slab of_other =
+        let inside : in_slab t range.at ≡ true = ap t.slab here ∙ slab in
+        let differ : (t.class (start_at t range.at) == class_for (class_size class)) ≡ false = ne_eqb _ _ (λ same. of_other (sym (ap t.class here) ∙ same ∙ class_is class is_class)) in
+        sym (cond-true (is_small (class_size class)) _ _ little ∙ cond-true (in_slab t range.at) _ _ inside ∙ cond-false _ _ _ differ ∙ (λ i. morphed_events words line root (found i) (class_is class is_class i)))
 
     pub freed_there : is_old t block.start range.at ≡ false → unsmall_events words line root block ≡ freed_events words line root range.at (class_size class)
     freed_there new =
@@ -287,7 +295,9 @@ IsDone-large {old} {new} {was} {left} {root} {block} {events} arena same same_li
   step = step;
   current = kept;
   slabs = subst (λ (set : Supply). IsSlabsOf set (words_of new)) (sym same) (slabs_kept was.supply keeps (ap (λ (b : Bounds). b.granules) gives.bounds) arena.slabs);
-  lives = subst (λ (counts : List ℕ). AreCountsOf counts (words_of new)) (sym same_lives) (counts_kept (words_of old) (words_of new) was.lives (ap (λ (b : Bounds). b.granules) gives.bounds) lives arena.lives);
+  lives = subst (λ (l : Lives). AreLivesOf l (words_of new)) (sym same_lives)
+      (lives_kept (words_of old) (words_of new) was.lives was.lives (counts_kept (words_of old) (words_of new) was.lives.counts (ap (λ (b : Bounds). b.granules) gives.bounds) lives arena.lives.counts) arena.lives (λ s. refl)
+      (λ s. calm_same (tables_of (words_of old)) (tables_of (words_of new)) s (keeps.each s)));
   gives = gives;
 }
 
@@ -312,7 +322,7 @@ small_attachable words root size block class image asked placing =
 -- it came
 pub IsDone-small : {old new : PmemState} {was left : Volatile} {root class : ℕ} (block : SmallBlock) → IsArena old was → left ≡ record was { supply = left.supply; lives = left.lives } → IsAttachable (words_of old) root block →
     (tables_of (words_of old)).class block.start ≡ class → IsQuietStep old new (attach_events (words_of old) was.line root block) (IsEitherHeap (words_of old) (words_of new)) → IsAttached (words_of old) was.line root block (words_of new) →
-    IsSlabsOf left.supply (words_of new) → AreCountsOf left.lives (words_of new) →
+    IsSlabsOf left.supply (words_of new) → AreLivesOf left.lives (words_of new) →
     IsDone old new left root (Some (slab_block block.start class block.number)) (slabs (tables_of (words_of old))) (attach_events (words_of old) was.line root block)
 IsDone-small {old} {new} {was} {left} {root} {class} block arena left_is may class_is step attached slabs lives =
     let words = words_of old in

@@ -25,7 +25,9 @@ use Rattle.heap_check.specs.Formatted.{IsFormatted}
 use Rattle.heap_check.proofs.Geometry.{granules_at-large}
 use Rattle.heap_check.proofs.Formatted.{AreBlank-formatted, header_in-formatted, IsFormed-formatted, law_of_formatted}
 use Rattle.arena_core.specs.declared.volatile.Volatile.{Volatile}
+use Rattle.slab_lives.specs.Lives.{calm_at}
 use Rattle.arena_core.specs.Arena.{IsArena}
+use Rattle.arena_core.proofs.LiveSlabs.{calm_none}
 use Rattle.arena_core.specs.Call.{IsReady, IsFormattedOrNot}
 use Rattle.arena_core.specs.Events.{format_events}
 use Rattle.heap_check.proofs.Sizes.{sizes_of, heap_inside}
@@ -172,8 +174,8 @@ module _ {old begun new : PmemState} {number arenas granules : ℕ} (made : IsWr
 -- what an arena keeps, of one that was formatted
 pub formatted_arena : (device : PmemState) (header : PoolHeader) (volatile : Volatile) → IsReady device → IsFormatted (words_of device) header → Reads volatile.log (words_of device) → volatile.log.granules ≡ header.granules →
     volatile.free.granules ≡ header.granules → ((k : ℕ) → IsFree volatile.free k ↔ ((4 ≤ k) × (k < header.granules))) → volatile.supply.slabs.granules ≡ header.granules → ((s : ℕ) → class_in volatile.supply.slabs s ≡ None) →
-    length volatile.lives ≡ header.granules → ((s : ℕ) → slice_index volatile.lives s ≡ 0) → volatile.line ≡ 0 → IsArena device volatile
-formatted_arena device header volatile ready formatted reads size index each parts_size no_class count_size no_count first_line =
+    length volatile.lives.counts ≡ header.granules → ((s : ℕ) → slice_index volatile.lives.counts s ≡ 0) → ((s : ℕ) → calm_at volatile.lives s ≡ None) → volatile.line ≡ 0 → IsArena device volatile
+formatted_arena device header volatile ready formatted reads size index each parts_size no_class count_size no_count no_calm first_line =
     let words = words_of device in
     let blank = AreBlank-formatted words header formatted in
     let first = (sizes_of words (IsFormed-formatted words header formatted)).first in
@@ -204,8 +206,11 @@ formatted_arena device header volatile ready formatted reads size index each par
         blocks = λ s i slab below. absurd (none s slab);
       };
       lives = record {
-        size = count_size ∙ sym granules;
-        each = λ s. no_count s ∙ sym (cond-false ((tables_of words).slab s) (live_below (heap (tables_of words)) s (bounds_of words).roots) 0 (blank.no_slab s));
+        counts = record {
+          size = count_size ∙ sym granules;
+          each = λ s. no_count s ∙ sym (cond-false ((tables_of words).slab s) (live_below (heap (tables_of words)) s (bounds_of words).roots) 0 (blank.no_slab s));
+        };
+        calm = λ s. no_calm s ∙ sym (calm_none (tables_of words) s (blank.no_slab s));
       };
       few = omega (arith, first_line);
     }

@@ -2,6 +2,7 @@ pub mod Tests
 pub mod UnusedBlocks
 pub mod LastBlocks
 pub mod LiveCounts
+pub mod LiveSlabs
 pub mod LargeStages
 pub mod Blocks
 pub mod LargeCalls
@@ -18,8 +19,10 @@ pub mod HeldBlocks
 pub mod CoveredBlocks
 pub mod TakenBlocks
 pub mod SlabChanges
+pub mod ChangedClasses
 pub mod Tidying
 pub mod Plans
+pub mod BestSlabs
 pub mod AdoptedExtents
 pub mod AdoptedSlabs
 pub mod PayloadImages

@@ -1,44 +1,42 @@
 -- What a call means to the heap machine: the step from the state that the old words have to one that the new words have.
 use Rattle.std.proofs.Common.{◌≡◌, ◌≢◌, ◌*◌, ◌<◌, ◌≤◌, ℕ, Bool, true, List, Option, Some, None, Err, refl, sym, ap, ◌∙◌, subst, arith, inl, inr, ⊎_elim}
-use Rattle.image_tables.specs.Tables.{tables_of}
+use Rattle.image_tables.specs.Tables.{Tables, tables_of}
 use Rattle.heap_model.specs.declared.call.Call.{Call}
 use Rattle.heap_model.specs.declared.call.Call.TheVariants as calls
 use Rattle.heap_model.specs.declared.call.Reply.{Reply}
 use Rattle.heap_model.specs.declared.call.Reply.TheVariants as replies
 use Rattle.heap_model.specs.Machine.{Bounds, Range, Machine, with_key}
 use Rattle.heap_model.specs.Slabs.{view_of}
+use Rattle.heap_model.specs.Choice.{Site, IsSite, range_of, slabs_with}
+use Rattle.heap_model.specs.Choice.Site.{Granules, InSlab, InMorph, InNewSlab}
 use Rattle.heap_model.specs.Step.{HasBlock, with_block, without_block, slabs_without, forgotten, IsStep}
 use Rattle.size_classes.specs.Classes.{class_size, class_capacity}
-use Rattle.heap_model.specs.Machine.{slab_block, IsFreeGranule}
-use Rattle.heap_model.specs.Placement.{Stacks, without_left, IsStacked, IsReturned}
-use Rattle.heap_model.proofs.Fits.{IsBestFit-same}
+use Rattle.heap_model.specs.Machine.{slab_block}
+use Rattle.heap_model.specs.Placement.{Stacks, without_left, IsWay, IsStacked, IsReturned}
 use Rattle.heap_model.proofs.Sites.{class_small, IsStep-granted}
 use Rattle.heap_model.proofs.Views.{IsSite-same, HasNoSite-same}
 use Rattle.thread_cache.specs.Stacks.{stacks_of}
 use Rattle.block_supply.specs.Supply.{Supply, supply_view, TookBlock, HasNoOpen}
 use Rattle.block_supply.proofs.Views.{AgreeOnBlocks}
-use Rattle.heap_check.specs.Sound.{IsVacant}
 use Rattle.heap_check.proofs.ExactStates.{law_of_exact_state}
 use Rattle.arena_core.specs.Arena.{IsSlabsOf}
 use Rattle.arena_core.proofs.Plans.{slab_of_set, block_is}
-use Rattle.arena_core.proofs.StackSteps.{way_there, way_fresh, returned_large, returned_small, returned_old}
+use Rattle.arena_core.proofs.StackSteps.{way_there, way_fresh, way_morph, returned_large, returned_small, returned_old}
 use Rattle.arena_core.proofs.UnusedBlocks.{iff_then}
 use Rattle.heap_check.specs.Heap.{is_large, heap, slabs}
 use Rattle.heap_check.specs.Sound.{IsInSlab}
 use Rattle.heap_check.specs.Image.{bounds_of, IsExactImage}
 use Rattle.heap_check.specs.State.{HasState}
 use Rattle.heap_check.proofs.Geometry.{is_large-start}
-use Rattle.arena_core.specs.declared.plan.Place.{Place}
-use Rattle.arena_core.specs.declared.plan.Place.TheVariants.{Large, Small, Fresh}
 use Rattle.arena_core.specs.declared.answer.MallocRefusal.{MallocRefusal}
 use Rattle.arena_core.specs.declared.answer.MallocRefusal.TheVariants.{NoRoot, Occupied, ZeroSize, TooLarge, NoSpace}
 use Rattle.arena_core.specs.declared.answer.FreeRefusal.{FreeRefusal}
 use Rattle.arena_core.specs.declared.answer.FreeRefusal.TheVariants as refusals
 use Rattle.arena_core.specs.Answer.{malloc_reply, free_reply}
 use Rattle.arena_core.specs.Call.{IsStepOf, IsStepOfAny}
-use Rattle.arena_core.specs.Effect.{slabs_but, stacks_but, IsPutBack, IsSuppliedFresh, slabs_behind, IsLastOf, GivesRoot}
-use Rattle.arena_core.specs.Plan.{IsAskedOf, tables_view, site_of, number_of, IsPlacing, range_at, IsMallocPlan, IsTakable, IsFreePlan}
-use Rattle.arena_core.proofs.States.{naming, naming_slab, nameless, after_call, named_at, vacant_clear, tables_agree, slabs_without-large, slabs_without-other, slabs_without-none}
+use Rattle.arena_core.specs.Effect.{slabs_but, stacks_but, IsPutBack, IsSuppliedFresh, IsSuppliedMorph, IsLastOf, GivesRoot}
+use Rattle.arena_core.specs.Plan.{IsAskedOf, tables_view, IsMallocPlan, IsTakable, IsFreePlan}
+use Rattle.arena_core.proofs.States.{naming, naming_slab, nameless, after_call, named_at, fit_clear, tables_agree, slabs_without-large, slabs_without-other, slabs_without-none}
 
 -- the new words have the state in which the root has this block, and these are the slabs
 pub HasState-gives : (old new : List ℕ) (root : ℕ) (block : Option Range) (slab : ℕ → Option ℕ) (m : Machine) (next : ℕ → Option ℕ) → HasState old m → GivesRoot old root block slab new → ((start : ℕ) → slab start ≡ next start) →
@@ -52,26 +50,24 @@ HasState-gives old new root block slab m next state gives same =
 abbrev pub placed_reply : Range → Reply
 placed_reply range = replies.Placed range.at range.size
 
--- what became of the supply where a block is placed
-abbrev pub IsServedAt : Supply → Supply → ℕ → Place → Type 0
-IsServedAt was next seat (Large start count) = next.stacks ≡ was.stacks
-IsServedAt was next seat (Small block class) = TookBlock was seat class (number_of block) next
-IsServedAt was next seat (Fresh start class) = HasNoOpen was class × IsSuppliedFresh was next seat start class
+-- what became of the supply where a block is placed at a site
+abbrev pub IsServedAt : Tables → Supply → Supply → ℕ → Site → Type 0
+IsServedAt t was next seat (Granules start count) = next.stacks ≡ was.stacks
+IsServedAt t was next seat (InSlab start class number) = TookBlock was seat class (record { start = start; number = number }) next
+IsServedAt t was next seat (InMorph start class number) = HasNoOpen was class × IsSuppliedMorph t was next seat start class number
+IsServedAt t was next seat (InNewSlab start class number) = HasNoOpen was class × IsSuppliedFresh was next seat start class × (number ≡ 0)
 
--- a block is placed
-pub placed_step : (old new : List ℕ) (was next : Supply) (seat root size : ℕ) (place : Place) → IsExactImage old → IsSlabsOf was old → IsAskedOf (bounds_of old) (tables_of old) root size → IsPlacing (bounds_of old) (tables_of old) root size place →
-    IsServedAt was next seat place → GivesRoot old root (Some (range_at place)) (slabs_behind (tables_of old) place) new → IsStepOf seat old (stacks_of was.stacks) new (stacks_of next.stacks) (calls.Malloc root size) (placed_reply (range_at place))
-placed_step old new was next seat root size place image supply asked placing served gives = record {
+-- a block is placed at a site
+pub placed_step : (old new : List ℕ) (was next : Supply) (seat root size : ℕ) (site : Site) → IsExactImage old → IsSlabsOf was old → IsAskedOf (bounds_of old) (tables_of old) root size → IsSite (tables_view (bounds_of old) (tables_of old)) size site →
+    IsServedAt (tables_of old) was next seat site → GivesRoot old root (Some (range_of site)) (slabs_with (slabs (tables_of old)) site) new → IsStepOf seat old (stacks_of was.stacks) new (stacks_of next.stacks) (calls.Malloc root size) (placed_reply (range_of site))
+placed_step old new was next seat root size site image supply asked chosen served gives = record {
   bounds = gives.bounds;
-  each = λ m state. (
-    with_block m root (site_of place),
-    record {
-      step = IsStep-granted (bounds_of old) m root size asked.below (nameless state root asked.none) asked.some asked.most (site_of place)
-          (IsSite-same (tables_view (bounds_of old) (tables_of old)) (view_of (bounds_of old) m) (tables_agree image state) size (site_of place) placing.site);
-      stacked = stacked m state place placing served;
-    },
-    state_behind m state place gives,
-  );
+  each = λ m state.
+      let fits = IsSite-same (tables_view (bounds_of old) (tables_of old)) (view_of (bounds_of old) m) (tables_agree image state) size site chosen in (
+        with_block m root site,
+        record { step = IsStep-granted (bounds_of old) m root size asked.below (nameless state root asked.none) asked.some asked.most site fits; stacked = stacked m state site fits served },
+        HasState-gives old new root _ _ m (slabs_with m.slab site) state gives (behind m state site),
+      );
 }
   where
     agree : (m : Machine) → HasState old m → AgreeOnBlocks (supply_view was) (view_of (bounds_of old) m)
@@ -79,26 +75,32 @@ placed_step old new was next seat root size place image supply asked placing ser
       slab = λ s. supply.classes s ∙ state.slabs s;
       unused = λ s c n slab within.
           let is = slab_of_set supply s c slab in
-          iff_then (block_is supply s c n is.0 is.1 within) ((tables_agree image state).unused s c n (sym (supply.classes s) ∙ slab) within);
+          iff_then (block_is supply s c n is.0 is.1 within) ((tables_agree image state).unused s c c n (sym (supply.classes s) ∙ slab) within);
     }
 
-    stacked : (m : Machine) (state : HasState old m) (place : Place) → IsPlacing (bounds_of old) (tables_of old) root size place → IsServedAt was next seat place →
-        IsStacked (bounds_of old) seat (record { machine = m; stacks = stacks_of was.stacks }) (calls.Malloc root size) (placed_reply (range_at place)) (record { machine = with_block m root (site_of place); stacks = stacks_of next.stacks })
-    stacked m state (Large start count) placing served = inr (λ gave. class_small size gave.class gave.least placing.site.large, ap stacks_of served)
-    stacked m state (Small block class) placing served = inl (
-      record { class = class; least = placing.site.least; at = (slab_block block.start class block.number).at; given = class_size class; is = refl },
-      way_there (bounds_of old) m was next seat class (agree m state) (number_of block) served,
+    stacked : (m : Machine) (state : HasState old m) (site : Site) → IsSite (view_of (bounds_of old) m) size site → IsServedAt (tables_of old) was next seat site →
+        IsStacked (bounds_of old) seat (record { machine = m; stacks = stacks_of was.stacks }) (calls.Malloc root size) (placed_reply (range_of site)) (record { machine = with_block m root site; stacks = stacks_of next.stacks })
+    stacked m state (Granules start count) site served = inr (λ gave. class_small size gave.class gave.least site.large, ap stacks_of served)
+    stacked m state (InSlab start class number) site served = inl (
+      record { class = class; least = site.least; at = (slab_block start class number).at; given = class_size class; is = refl },
+      way_there (bounds_of old) m was next seat class (agree m state) (record { start = start; number = number }) served,
     )
-    stacked m state (Fresh start class) placing served = inl (
-      record { class = class; least = placing.site.least; at = (slab_block start class 0).at; given = class_size class; is = refl },
-      way_fresh (bounds_of old) m was next seat class (agree m state) start served.0 served.1 (λ n below. vacant_clear image state start class n below placing.place_for)
-          (IsBestFit-same (IsVacant (bounds_of old) (tables_of old)) (IsFreeGranule (bounds_of old) m) 4 start (tables_agree image state).free placing.site.fit),
+    stacked m state (InMorph start class number) site served = inl (
+      record { class = class; least = site.least; at = (slab_block start class number).at; given = class_size class; is = refl },
+      way_morph (bounds_of old) m was next seat class (agree m state) (tables_of old) start number served.0 site.best served.1
+          (λ n within. (tables_agree image state).unused start site.best.fit.class class n (state.slabs start ∙ site.best.fit.slab) within),
+    )
+    stacked m state (InNewSlab start class number) site served = inl (
+      record { class = class; least = site.least; at = (slab_block start class number).at; given = class_size class; is = refl },
+      subst (λ n. IsWay (bounds_of old) (record { machine = m; stacks = stacks_of was.stacks }) seat class (slab_block start class n).at (stacks_of next.stacks)) (sym served.2)
+          (way_fresh (bounds_of old) m was next seat class (agree m state) start served.0 site.no_fit served.1 (λ n below. fit_clear image state start class n below site.fit) site.fit),
     )
 
-    state_behind : (m : Machine) → HasState old m → (place : Place) → GivesRoot old root (Some (range_at place)) (slabs_behind (tables_of old) place) new → HasState new (with_block m root (site_of place))
-    state_behind m state (Large start count) gives = HasState-gives old new root _ _ m m.slab state gives state.slabs
-    state_behind m state (Small block class) gives = HasState-gives old new root _ _ m m.slab state gives state.slabs
-    state_behind m state (Fresh start class) gives = HasState-gives old new root _ _ m (with_key m.slab start (Some class)) state gives (λ s. ap (λ (row : ℕ → Option ℕ). with_key row start (Some class) s) (λ i k. state.slabs k i))
+    behind : (m : Machine) → HasState old m → (site : Site) (s : ℕ) → slabs_with (slabs (tables_of old)) site s ≡ slabs_with m.slab site s
+    behind m state (Granules start count) s = state.slabs s
+    behind m state (InSlab start class number) s = state.slabs s
+    behind m state (InMorph start class number) s = ap (λ (row : ℕ → Option ℕ). with_key row start (Some class) s) (λ i k. state.slabs k i)
+    behind m state (InNewSlab start class number) s = ap (λ (row : ℕ → Option ℕ). with_key row start (Some class) s) (λ i k. state.slabs k i)
 
 -- a refusal is a step that changes nothing
 refused_step : (words : List ℕ) (call : Call) (reply : Reply) → ((seat : ℕ) (m : Machine) (stacks : Stacks) → HasState words m → IsStacked (bounds_of words) seat (record { machine = m; stacks = stacks }) call reply (record { machine = m; stacks = stacks })) → ((m : Machine) → HasState words m → IsStep (bounds_of words) m call reply m) → IsStepOfAny words words call reply

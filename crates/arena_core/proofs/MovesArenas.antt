@@ -24,9 +24,11 @@ use Rattle.heap_check.specs.Image.{bounds_of}
 use Rattle.heap_check.proofs.Heaps.{heap-none}
 use Rattle.log_steps.specs.Log.{IsBookOf}
 use Rattle.move_steps.specs.Moves.{IsMovable, IsMoved}
-use Rattle.arena_core.specs.Arena.{IsIndexOf, live_in, AreCountsOf}
+use Rattle.slab_lives.specs.Lives.{Lives, calm_at}
+use Rattle.arena_core.specs.Arena.{IsIndexOf, live_in, AreLivesOf}
 use Rattle.arena_core.specs.Effect.{KeepsSlabs}
 use Rattle.arena_core.proofs.LiveCounts.{one_if, live_given, counts_kept}
+use Rattle.arena_core.proofs.LiveSlabs.{calm_same, lives_kept}
 
 -- other words of two roots make no difference to what is vacant
 vacant_roots : (b : Bounds) (t : Tables) (to at from k : ℕ) → IsVacant b (with_root (with_root t to at) from 0) k ↔ IsVacant b t k
@@ -112,5 +114,5 @@ module _ {words new : List ℕ} {line from to at : ℕ} (may : IsMovable words f
       ap (λ (b : Bounds). if (tables_of new).slab s then live_below (heap (tables_of new)) s b.roots else 0) moved.bounds
       ∙ (λ i. if (moved.slabs s).slab i then same i else 0)
 
-  pub counts_moved : (range : Range) → heap (tables_of words) from ≡ Some range → (counts : List ℕ) → AreCountsOf counts words → AreCountsOf counts new
-  counts_moved range named counts were = counts_kept words new counts granules_moved (live_in_moved range named) were
+  pub lives_moved : (range : Range) → heap (tables_of words) from ≡ Some range → (lives : Lives) → AreLivesOf lives words → AreLivesOf lives new
+  lives_moved range named lives were = lives_kept words new lives lives (counts_kept words new lives.counts granules_moved (live_in_moved range named) were.counts) were (λ s i. calm_at lives s) (λ s. calm_same t (tables_of new) s (moved.slabs s))

@@ -27,7 +27,7 @@ use Rattle.arena_core.specs.Moving.{IsToMove, IsMovePlan, IsMoveCarried}
 use Rattle.block_supply.specs.Supply.{Supply}
 use Rattle.arena_core.proofs.Arenas.{slabs_kept}
 use Rattle.arena_core.proofs.CallEvents.{meant}
-use Rattle.arena_core.proofs.MovesArenas.{granules_moved, book_moved, index_moved, slabs_moved, counts_moved}
+use Rattle.arena_core.proofs.MovesArenas.{granules_moved, book_moved, index_moved, slabs_moved, lives_moved}
 use Rattle.arena_core.proofs.MovesStates.{any_seat, step_moved, step_unmoved}
 
 -- what is planned may move
@@ -57,7 +57,7 @@ carried_moved {old} {new} {was} {from} {to} range arena plan step moved =
           index = index_moved may arena.few moved was.free arena.current.index;
         };
         slabs = slabs_kept was.supply (slabs_moved may arena.few moved) (granules_moved may arena.few moved) arena.slabs;
-        lives = counts_moved may arena.few moved range plan.named was.lives arena.lives;
+        lives = lives_moved may arena.few moved range plan.named was.lives arena.lives;
         few = omega arith;
       };
       line_is = refl;

@@ -30,9 +30,11 @@ use Rattle.heap_check.proofs.Forms.{IsFormed-same, HasWal-same, bounds_of-same}
 use Rattle.heap_check.proofs.Geometry.{index_count_few}
 use Rattle.log_steps.specs.Log.{IsBookOf}
 use Rattle.arena_core.specs.declared.volatile.Volatile.{Volatile}
-use Rattle.arena_core.specs.Arena.{IsIndexOf, IsSlabsOf, live_in, AreCountsOf, IsArena}
+use Rattle.slab_lives.specs.Lives.{Lives, calm_at}
+use Rattle.arena_core.specs.Arena.{IsIndexOf, IsSlabsOf, live_in, calm_of, AreLivesOf, IsArena}
 use Rattle.arena_core.specs.Call.{IsReady}
 use Rattle.arena_core.proofs.LiveCounts.{counts_kept}
+use Rattle.arena_core.proofs.LiveSlabs.{lives_kept}
 
 -- the words differ in the words of a block alone
 pub record IsSameOffBlock (words new : List ℕ) (range : Range) : Type 0 where
@@ -148,8 +150,8 @@ module _ {words new : List ℕ} {range : Range} (image : IsExactImage words) (ro
   lives : (start : ℕ) → live_in new start ≡ live_in words start
   lives start i = cond ((tables_kept i).slab start) (live_below (heap (tables_kept i)) start (bounds_kept i).roots) 0
 
-  pub lives_kept : (counts : List ℕ) → AreCountsOf counts words → AreCountsOf counts new
-  lives_kept counts was = counts_kept words new counts granules lives was
+  pub lives_same : (l : Lives) → AreLivesOf l words → AreLivesOf l new
+  lives_same l was = lives_kept words new l l (counts_kept words new l.counts granules lives was.counts) was (λ s i. calm_at l s) (λ s. ap (λ (t : Tables). calm_of t s) tables_kept)
 
 -- a memory that is ready, of which the words differ so from those that an arena had
 pub IsArena-block : {old new : PmemState} {was : Volatile} {range : Range} (root : ℕ) → IsArena old was → heap (tables_of (words_of old)) root ≡ Some range → IsSameOffBlock (words_of old) (words_of new) range → IsReady new → IsArena new was
@@ -163,6 +165,6 @@ IsArena-block {old} {new} {was} {range} root arena named same ready =
         index = index_kept image root named same was.free arena.current.index;
       };
       slabs = classes_kept image root named same was.supply arena.slabs;
-      lives = lives_kept image root named same was.lives arena.lives;
+      lives = lives_same image root named same was.lives arena.lives;
       few = arena.few;
     }

@@ -2,15 +2,21 @@
 use Rattle.std.proofs.Common.{◌≡◌, ℕ, ◌<◌, List, Option, Result, Ok, sym, ap, ◌∙◌, subst}
 use Rattle.pmem_lines.specs.Pmem.{PmemState, words_of, began}
 use Rattle.image_tables.specs.Tables.{Tables}
-use Rattle.heap_model.specs.Machine.{Bounds}
+use Rattle.size_classes.specs.Classes.{class_size}
+use Rattle.heap_model.specs.declared.call.Call.{Call}
+use Rattle.heap_model.specs.declared.call.Reply.TheVariants as replies
+use Rattle.heap_model.specs.Machine.{Bounds, slab_block}
 use Rattle.heap_model.proofs.Sites.{class_small}
-use Rattle.block_supply.specs.Supply.{Supply, HasNoOpen}
+use Rattle.block_supply.specs.Supply.{Supply, HasNoOpen, HadNoOpen}
 use Rattle.arena_core.specs.declared.volatile.Volatile.{Volatile}
 use Rattle.arena_core.specs.declared.plan.Place.{Place}
-use Rattle.arena_core.specs.declared.plan.Place.TheVariants.{Large, Small, Fresh}
+use Rattle.arena_core.specs.declared.plan.Place.TheVariants.{Large, Small, Morph, Fresh}
 use Rattle.arena_core.specs.declared.answer.MallocRefusal.{MallocRefusal}
+use Rattle.arena_core.specs.declared.answer.Placed.{Placed}
+use Rattle.arena_core.specs.Carried.{IsCalled}
 use Rattle.attach_steps.specs.declared.block.SmallBlock.{SmallBlock}
-use Rattle.arena_core.specs.Arena.{IsArena, AreSlabsLess, AreCountsOf}
+use Rattle.slab_lives.specs.Lives.{Lives}
+use Rattle.arena_core.specs.Arena.{IsArena, AreSlabsLess, AreLivesOf}
 use Rattle.arena_core.specs.Plan.{IsPlacing, IsSuppliedAt, IsSuppliedFor, IsPlanned}
 use Rattle.arena_core.proofs.PayloadCalls.{IsArena-began}
 use Rattle.arena_core.proofs.SmallCalls.{slabs_without}
@@ -23,6 +29,7 @@ supplied_by old new now seat found place same is supplied = subst (λ (p : Optio
 pub supplied_large : (b : Bounds) (t : Tables) (root size : ℕ) (old now : Supply) (seat : ℕ) (place : Place) → 16384 < size → IsPlacing b t root size place → now ≡ old → IsSuppliedAt old now seat place
 supplied_large b t root size old now seat (Large start count) large placing same = same
 supplied_large b t root size old now seat (Small block class) large placing same = absurd (class_small size class placing.site.least large)
+supplied_large b t root size old now seat (Morph start class) large placing same = absurd (class_small size class placing.site.least large)
 supplied_large b t root size old now seat (Fresh start class) large placing same = absurd (class_small size class placing.site.least large)
 
 pub rest_by : (was now : Volatile) (supply : Supply) → now ≡ record was { supply = supply } → now ≡ record was { supply = now.supply }
@@ -53,12 +60,12 @@ rest_then was now left rest after =
 pub planned_less : {device : PmemState} {was now : Volatile} {seat root size class : ℕ} {block : SmallBlock} → IsPlanned device was now seat root size (Ok (Small block class)) → AreSlabsLess now.supply (words_of device) block.start block.number
 planned_less {device} {was} {now} {seat} {root} {size} {class} {block} planned = slabs_without block.start block.number planned.arena.slabs planned.supplied.without
 
-pub planned_lives : {device : PmemState} {was now : Volatile} {seat root size class : ℕ} {block : SmallBlock} → IsPlanned device was now seat root size (Ok (Small block class)) → AreCountsOf now.lives (words_of device)
-planned_lives {device} {was} {now} planned = subst (λ (counts : List ℕ). AreCountsOf counts (words_of device)) (sym (lives_same was now planned.rest)) planned.arena.lives
+pub planned_lives : {device : PmemState} {was now : Volatile} {seat root size class : ℕ} {block : SmallBlock} → IsPlanned device was now seat root size (Ok (Small block class)) → AreLivesOf now.lives (words_of device)
+planned_lives {device} {was} {now} planned = subst (λ (lives : Lives). AreLivesOf lives (words_of device)) (sym (lives_same was now planned.rest)) planned.arena.lives
 
--- for a new slab none of its class is open
-pub planned_none : {device : PmemState} {was now : Volatile} {seat root size start class : ℕ} → IsPlanned device was now seat root size (Ok (Fresh start class)) → HasNoOpen now.supply class
-planned_none {device} {was} {now} {seat} {root} {size} {start} {class} planned = subst (λ (s : Supply). HasNoOpen s class) (sym planned.supplied.same) planned.supplied.none
+-- for a slab that takes the class, or a new one, none of the class is open
+pub none_open_now : (was now : Supply) (class : ℕ) → HadNoOpen was class now → HasNoOpen now class
+none_open_now was now class had = subst (λ (s : Supply). HasNoOpen s class) (sym had.same) had.none
 
 -- the plan is one for the state at the call's begin too
 pub planned_begun : {device : PmemState} (begun : PmemState) {was now : Volatile} {seat root size : ℕ} {plan : Result Place MallocRefusal} → begun ≡ began device → IsPlanned device was now seat root size plan → IsPlanned begun was now seat root size plan
@@ -68,3 +75,12 @@ planned_begun {device} begun {was} {now} {seat} {root} {size} {plan} is planned 
   rest = planned.rest;
   is = planned.is;
 })
+
+-- the answer tells the block that was placed
+pub answered_placed : {old new : PmemState} {was left : Volatile} {seat : ℕ} {call : Call} {answer placed : Placed} → answer ≡ placed → IsCalled old new was left seat call (replies.Placed placed.at placed.size) → IsCalled old new was left seat call (replies.Placed answer.at answer.size)
+answered_placed {old} {new} {was} {left} {seat} {call} same called = subst (λ (r : Placed). IsCalled old new was left seat call (replies.Placed r.at r.size)) (sym same) called
+
+-- of a slab it is told by its address
+pub answered_small : {old new : PmemState} {was left : Volatile} {seat : ℕ} {call : Call} {answer : Placed} {at : ℕ} (start class number : ℕ) → at ≡ (slab_block start class number).at → answer ≡ record { at = at; size = class_size class } →
+    IsCalled old new was left seat call (replies.Placed (slab_block start class number).at (class_size class)) → IsCalled old new was left seat call (replies.Placed answer.at answer.size)
+answered_small start class number is same called = answered_placed (same ∙ (λ i. record { at = is i; size = class_size class })) called

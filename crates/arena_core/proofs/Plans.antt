@@ -8,10 +8,8 @@ use Rattle.size_classes.specs.Classes.{class_size, class_capacity, IsClassOf, gr
 use Rattle.size_classes.proofs.Spacing.{class_size-least, class_size-most}
 use Rattle.image_tables.specs.Tables.{Tables, tables_of}
 use Rattle.heap_model.specs.Machine.{Bounds, Range, slab_block}
-use Rattle.heap_model.specs.Choice.{View, HasUnusedBlock, HasNoSite, Agree}
-use Rattle.heap_model.specs.Choice.Site.{InSlab, InNewSlab}
+use Rattle.heap_model.specs.Choice.{HasUnusedBlock, IsBestSlab, HasNoFitSlab, HasNoSite}
 use Rattle.heap_model.proofs.Fits.{IsBestFit-same, HasNoFit-same, fit_free}
-use Rattle.heap_model.proofs.Views.{IsSite-same, HasNoFitSlab-without, HasNoSite-same}
 use Rattle.heap_model.specs.Runs.{IsBestFit, HasNoFit}
 use Rattle.slab_index.specs.declared.block.SlabBlock.{SlabBlock}
 use Rattle.slab_index.specs.SlabSet.{class_in}
@@ -24,11 +22,11 @@ use Rattle.heap_check.proofs.Claims.{plain_size, IsClaim-word}
 use Rattle.heap_check.proofs.Geometry.{granules_at-slab, granules_at-live, is_large-parts}
 use Rattle.heap_check.proofs.Within.{IsInSlab-held, IsWithin-claim}
 use Rattle.heap_check.proofs.SmallPlaces.{Holds-claim}
-use Rattle.arena_core.specs.declared.plan.Place.TheVariants.{Large, Small, Fresh}
+use Rattle.arena_core.specs.declared.plan.Place.TheVariants.{Large, Small, Morph, Fresh}
 use Rattle.arena_core.specs.Arena.{IsIndexOf, IsSlabsOf}
 use Rattle.block_supply.specs.Supply.{Supply, IsOpen, IsInSlabOf, IsInNoSlabOf, HasNoOpen}
 use Rattle.block_supply.proofs.Takes.{none_open}
-use Rattle.arena_core.specs.Plan.{IsAskedOf, IsVacantRow, tables_view, IsPlacing, IsTakable, IsNamedSmall, IsSlabAt, IsRootIn}
+use Rattle.arena_core.specs.Plan.{IsAskedOf, IsVacantRow, tables_view, IsMorphable, IsPlacing, IsTakable, IsNamedSmall, IsSlabAt, IsRootIn}
 use Rattle.heap_check.proofs.LargeLogs.{large_many}
 use Rattle.heap_check.proofs.Small.{is_old-held}
 
@@ -62,10 +60,6 @@ module _ {set : Supply} {words : List ℕ} (parts : IsSlabsOf set words) where
   pub block_is : (start class i : ℕ) → (tables_of words).slab start ≡ true → (tables_of words).class start ≡ class → i < class_capacity class → IsOpen set start i ↔ IsUnusedIn (tables_of words) start class i
   block_is start class i slab is below = subst (λ c. IsOpen set start i ↔ IsUnusedIn (tables_of words) start c i) is (parts.blocks start i slab (subst (λ c. i < class_capacity c) (sym is) below))
 
--- the view of what an arena keeps, where no slab takes another class
-abbrev pub sets_view : FreeSet → Supply → View
-sets_view set parts = record { free = IsFree set; slab = class_in parts.slabs; unused = λ s c number. IsOpen parts s number; live = λ s. 0; in_transition = λ s. ⊥ }
-
 -- the granules of a best fit are vacant
 IsVacantRow-fit : (b : Bounds) (t : Tables) (n start : ℕ) → 0 < n → IsBestFit (IsVacant b t) n start → IsVacantRow b t start n
 IsVacantRow-fit b t n start some fit =
@@ -89,42 +83,41 @@ module _ {set : FreeSet} {words : List ℕ} (index : IsIndexOf set words) (root 
   HasNoSite-large large none = inr (record { large = large; no_run = HasNoFit-same (IsFree set) (IsVacant (bounds_of words) (tables_of words)) (granules_of size) index.each none })
 
   module _ {parts : Supply} (slabs : IsSlabsOf parts words) where
-    -- the sets say what the tables say
-    agree : Agree (sets_view set parts) (tables_view (bounds_of words) (tables_of words))
-    agree = record {
-      free = index.each;
-      slab = slabs.classes;
-      unused = λ s class number slab within.
-          let is = slab_of_set slabs s class slab in
-          block_is slabs s class number is.0 is.1 within;
-      fit = λ morphs. absurd (true≢false (sym morphs));
-    }
-
-    full : (class : ℕ) → HasNoOpen parts class → ¬ (HasUnusedBlock (sets_view set parts) class)
-    full class none has = none_open parts class none has.start has.number has.slab has.block.unused
+    -- where no block of the class is open, none is unused
+    full : (class : ℕ) → HasNoOpen parts class → ¬ (HasUnusedBlock (tables_view (bounds_of words) (tables_of words)) class)
+    full class none has =
+        let is = slab_parts (tables_of words) has.start class has.slab in
+        none_open parts class none has.start has.number (slab_in_set slabs has.start class is.0 is.1) ((block_is slabs has.start class has.number is.0 is.1 has.block.within).1 has.block.unused)
 
     -- a block of a class that is open
     pub IsPlacing-small : (class at : ℕ) (block : SlabBlock) → IsClassOf size class → class_in parts.slabs block.start ≡ Some class → block.number < class_capacity class → IsOpen parts block.start block.number → at ≡ (slab_block block.start class block.number).at →
         IsPlacing (bounds_of words) (tables_of words) root size (Small (record { start = block.start; number = block.number; at = at }) class)
     IsPlacing-small class at block least slab within is_open at_is =
         let is = slab_of_set slabs block.start class slab in
+        let unused = (block_is slabs block.start class block.number is.0 is.1 within).0 is_open in
         record {
-          site = IsSite-same (sets_view set parts) (tables_view (bounds_of words) (tables_of words)) agree size (InSlab block.start class block.number)
-              (record { least = least; slab = slab; block = record { within = within; unused = is_open } });
-          place_for = record { slab = is.0; class_is = is.1; below = within; unused = (block_is slabs block.start class block.number is.0 is.1 within).0 is_open; at = at_is };
+          site = record { least = least; slab = sym (slabs.classes block.start) ∙ slab; block = record { within = within; unused = unused } };
+          place_for = record { slab = is.0; class_is = is.1; below = within; unused = unused; at = at_is };
         }
 
-    -- a new slab for it
-    pub IsPlacing-fresh : (class start : ℕ) → IsClassOf size class → HasNoOpen parts class → IsBestFit (IsFree set) 4 start → IsPlacing (bounds_of words) (tables_of words) root size (Fresh start class)
-    IsPlacing-fresh class start least none fit = record {
-      site = IsSite-same (sets_view set parts) (tables_view (bounds_of words) (tables_of words)) agree size (InNewSlab start class 0)
-          (record { least = least; full = full class none; no_fit = HasNoFitSlab-without _ class; fit = fit; within = class_capacity-some class least.is_class });
-      place_for = IsVacantRow-fit (bounds_of words) (tables_of words) 4 start (omega arith) (IsBestFit-same (IsFree set) (IsVacant (bounds_of words) (tables_of words)) 4 start index.each fit);
-    }
+    -- a slab that takes the class for it
+    pub IsPlacing-morph : (class start : ℕ) → IsClassOf size class → HasNoOpen parts class → IsBestSlab (tables_view (bounds_of words) (tables_of words)) class start × IsMorphable (tables_of words) start class →
+        IsPlacing (bounds_of words) (tables_of words) root size (Morph start class)
+    IsPlacing-morph class start least none found = record { site = record { least = least; full = full class none; best = found.0 }; place_for = found.1 }
 
-    pub HasNoSite-small : (class : ℕ) → IsClassOf size class → HasNoOpen parts class → HasNoFit (IsFree set) 4 → HasNoSite (tables_view (bounds_of words) (tables_of words)) size
-    HasNoSite-small class least none no_run = HasNoSite-same (sets_view set parts) (tables_view (bounds_of words) (tables_of words)) agree size
-        (inl (record { class = class; least = least; full = full class none; no_fit = HasNoFitSlab-without _ class; no_run = no_run }))
+    -- a new slab for it
+    pub IsPlacing-fresh : (class start : ℕ) → IsClassOf size class → HasNoOpen parts class → HasNoFitSlab (tables_view (bounds_of words) (tables_of words)) class → IsBestFit (IsFree set) 4 start →
+        IsPlacing (bounds_of words) (tables_of words) root size (Fresh start class)
+    IsPlacing-fresh class start least none no_fit fit =
+        let vacant = IsBestFit-same (IsFree set) (IsVacant (bounds_of words) (tables_of words)) 4 start index.each fit in
+        record {
+          site = record { least = least; full = full class none; no_fit = no_fit; fit = vacant; within = class_capacity-some class least.is_class };
+          place_for = IsVacantRow-fit (bounds_of words) (tables_of words) 4 start (omega arith) vacant;
+        }
+
+    pub HasNoSite-small : (class : ℕ) → IsClassOf size class → HasNoOpen parts class → HasNoFitSlab (tables_view (bounds_of words) (tables_of words)) class → HasNoFit (IsFree set) 4 → HasNoSite (tables_view (bounds_of words) (tables_of words)) size
+    HasNoSite-small class least none no_fit no_run =
+        inl (record { class = class; least = least; full = full class none; no_fit = no_fit; no_run = HasNoFit-same (IsFree set) (IsVacant (bounds_of words) (tables_of words)) 4 index.each no_run })
 
 -- what a root names
 

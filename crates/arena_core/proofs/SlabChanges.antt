@@ -23,12 +23,14 @@ use Rattle.heap_check.proofs.Slabs.{IsSlabPlace, holds_none-fresh}
 use Rattle.extent_steps.specs.Slabs.{IsOpened, IsDropped}
 use Rattle.extent_steps.proofs.Images.{keeps_blocks}
 use Rattle.attach_steps.specs.Steps.{IsAttachable}
-use Rattle.arena_core.specs.Arena.{IsIndexOf, IsSlabsOf, AreCountsOf, live_in}
+use Rattle.slab_lives.specs.Lives.{Lives, calm_at}
+use Rattle.arena_core.specs.Arena.{IsIndexOf, IsSlabsOf, AreCountsOf, AreLivesOf, live_in}
 use Rattle.arena_core.specs.Plan.{IsVacantRow}
 use Rattle.arena_core.proofs.Plans.{slab_parts}
 use Rattle.arena_core.proofs.UnusedBlocks.{iff_then, iff_back}
 use Rattle.heap_check.proofs.SameSlabs.{IsUnusedIn-same}
 use Rattle.arena_core.proofs.LiveCounts.{counts_kept, live_none}
+use Rattle.arena_core.proofs.LiveSlabs.{calm_normal, calm_none, calm_same, calm_all_but, lives_put}
 use Rattle.heap_model.specs.Slabs.{live_below}
 
 -- a slab is opened
@@ -106,8 +108,8 @@ module _ (words : List ℕ) (start class : ℕ) (exact : IsExactImage words) (ro
       )
 
   -- no block lives in it
-  pub lives_opened : (counts : List ℕ) → AreCountsOf counts words → AreCountsOf counts new
-  lives_opened counts = counts_kept words new counts (ap (λ (b : Bounds). b.granules) opened.bounds) (λ s. ⊎_elim
+  counts_opened : (counts : List ℕ) → AreCountsOf counts words → AreCountsOf counts new
+  counts_opened counts = counts_kept words new counts (ap (λ (b : Bounds). b.granules) opened.bounds) (λ s. ⊎_elim
       (λ (same : s ≡ start).
       let none = live_none opened.image.but.sound opened.image.but.closed start with_it.more.slab (holds_none-fresh with_it.fresh) (bounds_of new).roots in
       ap (live_in new) same
@@ -116,6 +118,11 @@ module _ (words : List ℕ) (start class : ℕ) (exact : IsExactImage words) (ro
       ∙ sym (cond-false (t.slab s) (live_below (heap t) s (bounds_of words).roots) 0 (ap t.slab same ∙ with_it.more.none)))
       (λ (differ : s ≢ start). λ i. if (with_it.more.others s differ).slab i then live_below (λ root. opened.heap.each root i) s (opened.bounds i).roots else 0)
       (cases_eq s start))
+
+  -- and it is calm
+  pub lives_opened : (was next : Lives) → next.counts ≡ was.counts → ((s : ℕ) → calm_at next s ≡ with_key (calm_at was) start (Some class) s) → AreLivesOf was words → AreLivesOf next new
+  lives_opened was next same put were = lives_put words new was next (subst (λ (n : List ℕ). AreCountsOf n new) (sym same) (counts_opened was.counts were.counts)) were start (Some class) put
+      (calm_all_but t after start (Some class) (calm_normal after start with_it.more.slab with_it.fresh.kind ∙ ap (λ c. Some c) with_it.fresh.class_is) (λ s differ. calm_same t after s (with_it.more.others s differ)))
 
   pub keeps_opened : KeepsBlocks words new
   keeps_opened = keeps_blocks words start new exact.formed exact.exact.sound exact.exact.closed
@@ -189,14 +196,19 @@ module _ (words : List ℕ) (start : ℕ) (image : IsExactButImage words start) 
   }
 
   -- no block lived in it
-  pub lives_dropped : (counts : List ℕ) → slice_index counts start ≡ 0 → AreCountsOf counts words → AreCountsOf counts new
-  lives_dropped counts zero were = record {
+  counts_dropped : (counts : List ℕ) → slice_index counts start ≡ 0 → AreCountsOf counts words → AreCountsOf counts new
+  counts_dropped counts zero were = record {
     size = were.size ∙ ap (λ (b : Bounds). b.granules) (sym dropped.bounds);
     each = λ s. ⊎_elim
         (λ (same : s ≡ start). ap (slice_index counts) same ∙ zero ∙ sym (cond-false (less.slab s) (live_below (heap less) s (bounds_of new).roots) 0 (ap less.slab same ∙ it.none)))
         (λ (differ : s ≢ start). were.each s ∙ (λ i. if (it.others s differ).slab i then live_below (λ root. sym (dropped.heap.each root) i) s (sym dropped.bounds i).roots else 0))
         (cases_eq s start);
   }
+
+  -- and it is calm no more
+  pub lives_dropped : (was next : Lives) → next.counts ≡ was.counts → ((s : ℕ) → calm_at next s ≡ with_key (calm_at was) start None s) → slice_index was.counts start ≡ 0 → AreLivesOf was words → AreLivesOf next new
+  lives_dropped was next same put zero were = lives_put words new was next (subst (λ (n : List ℕ). AreCountsOf n new) (sym same) (counts_dropped was.counts zero were.counts)) were start None put
+      (calm_all_but full less start None (calm_none less start it.none) (λ s differ. sym (calm_same less full s (it.others s differ))))
 
   pub keeps_dropped : KeepsBlocks words new
   keeps_dropped = keeps_blocks words start new image.formed but.sound but.closed

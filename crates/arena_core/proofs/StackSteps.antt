@@ -1,18 +1,18 @@
 -- What a malloc takes of the stacks, and what a free puts back, is what the placement says.
-use Rattle.std.proofs.Common.{◌≡◌, ◌≢◌, ◌==◌, ◌&&◌, ◌||◌, not, ℕ, zero, suc, ◌+◌, ◌*◌, ◌<◌, ◌≤◌, Bool, true, false, List, [], ◌∷◌, length, Option, Some, None, if◌then◌else◌, refl, sym, ap, ◌∙◌, subst, arith, inl, inr, ⊎_elim}
-use Rattle.std.proofs.lemmas.Bool.{cases_eq, cases_lt, cond-true, cond-false, and_from, and_left, le-leb, lt-ltb}
+use Rattle.std.proofs.Common.{◌≡◌, ◌≢◌, ◌==◌, ◌&&◌, ◌||◌, not, ℕ, zero, suc, ◌+◌, ◌*◌, ◌<◌, ◌≤◌, ◌⊎◌, ◌↔◌, Bool, true, false, List, [], ◌∷◌, length, Option, Some, None, if◌then◌else◌, refl, sym, ap, ◌∙◌, subst, arith, inl, inr, ⊎_elim}
+use Rattle.std.proofs.lemmas.Bool.{cases_eq, cases_Bool, cases_lt, cond-true, cond-false, and_from, and_left, le-leb, lt-ltb}
 use Rattle.std.specs.List.{filter}
 use Rattle.size_classes.specs.Classes.{class_size, class_capacity}
 use Rattle.size_classes.proofs.Spacing.{class_size-least, class_size-most, class_size-rises}
 use Rattle.heap_model.specs.Below.{any_below}
 use Rattle.heap_model.specs.Machine.{Bounds, Range, Machine, with_key, slab_block, IsBlockOf, IsUnused, IsFreeGranule, IsOverlapFree}
 use Rattle.heap_model.specs.Runs.{IsBestFit}
+use Rattle.heap_model.specs.Choice.{IsBestSlab, HasNoFitSlab}
 use Rattle.heap_model.specs.Slabs.{is_within, view_of}
-use Rattle.heap_model.specs.Placement.{Stacks, with_stack, with_class, without_slab, without_left, has_left, HasAvailable, HasStacked, IsRefill, IsWay, IsKeepable, IsReturned}
+use Rattle.heap_model.specs.Placement.{Stacks, with_stack, with_class, without_slab, without_left, has_left, HasAvailable, HasStacked, IsRefill, IsMorphRefill, IsNewRefill, IsWay, IsKeepable, IsReturned}
 use Rattle.heap_model.proofs.Maps.{with_key-here, with_key-other, with_key-cases}
 use Rattle.heap_model.proofs.Sites.{class_known}
 use Rattle.heap_model.proofs.Slabbing.{LiesIn-block}
-use Rattle.heap_model.proofs.Views.{HasNoFitSlab-without}
 use Rattle.slab_index.specs.declared.block.SlabBlock.{SlabBlock}
 use Rattle.slab_index.specs.SlabSet.{class_in}
 use Rattle.thread_cache.specs.Stacks.{stacks_of}
@@ -20,7 +20,9 @@ use Rattle.thread_cache.proofs.Distinct.{stack_here, stack_there, here_or_there}
 use Rattle.block_supply.specs.Supply.{Supply, IsOpen, supply_view, TookBlock, HasNoOpen}
 use Rattle.block_supply.proofs.Takes.{no_top, none_available}
 use Rattle.block_supply.proofs.Views.{AgreeOnBlocks, AgreeOnBlocks-back, HasAvailable-by, IsRefill-by, IsServed-by}
-use Rattle.arena_core.specs.Effect.{stacks_but, IsPutBack, IsSuppliedFresh}
+use Rattle.image_tables.specs.Tables.{Tables}
+use Rattle.heap_check.specs.Heap.{IsUnusedIn}
+use Rattle.arena_core.specs.Effect.{stacks_but, IsPutBack, IsSuppliedFresh, IsSuppliedMorph}
 
 -- malloc
 
@@ -32,55 +34,93 @@ module _ (b : Bounds) (m : Machine) (was next : Supply) (seat class : ℕ) (agre
       (λ rest. inr (rest.0, ⊎_elim (λ some. inl some) (λ none. inr (none.0, inl none.1)) rest.1))
       (IsServed-by (supply_view was) (view_of b m) agree (stacks_of was.stacks) seat class (slab_block block.start class block.number).at (stacks_of next.stacks) took.served)
 
-  -- the first one of a new slab
-  module _ (start : ℕ) (none : HasNoOpen was class) (fresh : IsSuppliedFresh was next seat start class) (clear : (n : ℕ) → n < class_capacity class → IsUnused m (slab_block start class n)) where
-    abbrev mid : Supply
-    mid = fresh.mid
+  none_available_of : HasNoOpen was class → ¬ (HasAvailable (view_of b m) (stacks_of was.stacks) class)
+  none_available_of none has = none_available was class none.used (HasAvailable-by (view_of b m) (supply_view was) (AgreeOnBlocks-back (supply_view was) (view_of b m) agree) (stacks_of was.stacks) class has)
 
+  -- where no block of the class is open, a slab takes the class or is made for it
+  way_anew : HasNoOpen was class → (at : ℕ) → IsMorphRefill b (record { machine = m; stacks = stacks_of was.stacks }) seat class at (stacks_of next.stacks) ⊎ IsNewRefill b (record { machine = m; stacks = stacks_of was.stacks }) seat class at (stacks_of next.stacks) →
+      IsWay b (record { machine = m; stacks = stacks_of was.stacks }) seat class at (stacks_of next.stacks)
+  way_anew none at anew = inr (
+    no_top (stacks_of was.stacks) seat class (none.empty seat),
+    inr (
+      none_available_of none,
+      inr (λ (stacked : HasStacked (stacks_of was.stacks) class). no_top (stacks_of was.stacks) stacked.seat class (none.empty stacked.seat) stacked.first.top, anew),
+    ),
+  )
+
+  -- The slab at a start comes into the supply with the class, and what is open in it is what is unused.
+  module _ (start number : ℕ) (mid : Supply) (classes : (s : ℕ) → class_in mid.slabs s ≡ with_key (class_in was.slabs) start (Some class) s)
+      (here : (n : ℕ) → n < class_capacity class → IsOpen mid start n ↔ IsUnused m (slab_block start class n)) (others : (s n : ℕ) → s ≢ start → IsOpen mid s n ↔ IsOpen was s n)
+      (bare : (other : ℕ) → stacks_of mid.stacks other class ≡ []) where
     -- with it the views agree still
     agree_more : AgreeOnBlocks (supply_view mid) (view_of b (with_class m start class))
     agree_more = record {
-      slab = λ s. fresh.more.classes s ∙ ap (λ (x : Option ℕ). if s == start then Some class else x) (agree.slab s);
+      slab = λ s. classes s ∙ ap (λ (x : Option ℕ). if s == start then Some class else x) (agree.slab s);
       unused = λ s c n slab within. ⊎_elim
           (λ (same : s ≡ start).
-          let class_is : c ≡ class = (let one = sym (fresh.more.classes start ∙ with_key-here (class_in was.slabs) start (Some class)) ∙ ap (class_in mid.slabs) (sym same) ∙ slab in cc) in (
-            λ is. subst (λ k. IsUnused (with_class m start class) (slab_block k c n)) (sym same) (subst (λ k. IsUnused (with_class m start class) (slab_block start k n)) (sym class_is) (record { each = (clear n (subst (λ k. n < class_capacity k) class_is within)).each })),
-            λ unused. subst (λ k. IsOpen mid k n) (sym same) ((fresh.more.here n).1 (subst (λ k. n < class_capacity k) class_is within)),
+          let class_is : c ≡ class = (let one = sym (classes start ∙ with_key-here (class_in was.slabs) start (Some class)) ∙ ap (class_in mid.slabs) (sym same) ∙ slab in cc) in
+          let iff = here n (subst (λ k. n < class_capacity k) class_is within) in (
+            λ is. subst (λ k. IsUnused (with_class m start class) (slab_block k c n)) (sym same) (subst (λ k. IsUnused (with_class m start class) (slab_block start k n)) (sym class_is) (record { each = (iff.0 (subst (λ k. IsOpen mid k n) same is)).each })),
+            λ unused. subst (λ k. IsOpen mid k n) (sym same) (iff.1 (record { each = (subst (λ k. IsUnused (with_class m start class) (slab_block start k n)) class_is (subst (λ k. IsUnused (with_class m start class) (slab_block k c n)) same unused)).each })),
           ))
           (λ (differ : s ≢ start).
-          let same = agree.unused s c n (sym (fresh.more.classes s ∙ with_key-other (class_in was.slabs) start s (Some class) differ) ∙ slab) within in (
-            λ is. record { each = (same.0 ((fresh.more.others s n differ).0 is)).each },
-            λ unused. (fresh.more.others s n differ).1 (same.1 (record { each = unused.each })),
+          let same = agree.unused s c n (sym (classes s ∙ with_key-other (class_in was.slabs) start s (Some class) differ) ∙ slab) within in (
+            λ is. record { each = (same.0 ((others s n differ).0 is)).each },
+            λ unused. (others s n differ).1 (same.1 (record { each = unused.each })),
           ))
           (cases_eq s start);
     }
 
-    bare : (other : ℕ) → stacks_of mid.stacks other class ≡ []
-    bare other = ap (λ t. stacks_of t other class) fresh.more.stacks ∙ none.empty other
-
-    pub way_fresh : IsBestFit (IsFreeGranule b m) 4 start → IsWay b (record { machine = m; stacks = stacks_of was.stacks }) seat class (slab_block start class 0).at (stacks_of next.stacks)
-    way_fresh fit = inr (
-      no_top (stacks_of was.stacks) seat class (none.empty seat),
-      inr (
-        λ (has : HasAvailable (view_of b m) (stacks_of was.stacks) class). none_available was class none.used (HasAvailable-by (view_of b m) (supply_view was) (AgreeOnBlocks-back (supply_view was) (view_of b m) agree) (stacks_of was.stacks) class has),
-        inr (
-          λ (stacked : HasStacked (stacks_of was.stacks) class). no_top (stacks_of was.stacks) stacked.seat class (none.empty stacked.seat) stacked.first.top,
-          inr (record {
-            no_fit = HasNoFitSlab-without (view_of b m) class;
-            start = start;
-            fit = fit;
-            refill = subst (λ t. IsRefill (view_of b (with_class m start class)) (stacks_of t) seat class (slab_block start class 0).at (stacks_of next.stacks)) fresh.more.stacks
-                (IsRefill-by (supply_view mid) (view_of b (with_class m start class)) agree_more (stacks_of mid.stacks) seat class (slab_block start class 0).at (stacks_of next.stacks) refill);
-          }),
-        ),
-      ),
-    )
+    -- so the seat is given a block of it by a refill
+    refill_anew : TookBlock mid seat class (record { start = start; number = number }) next → IsRefill (view_of b (with_class m start class)) (stacks_of mid.stacks) seat class (slab_block start class number).at (stacks_of next.stacks)
+    refill_anew took = IsRefill-by (supply_view mid) (view_of b (with_class m start class)) agree_more (stacks_of mid.stacks) seat class (slab_block start class number).at (stacks_of next.stacks) refill
       where
-        refill : IsRefill (supply_view mid) (stacks_of mid.stacks) seat class (slab_block start class 0).at (stacks_of next.stacks)
+        refill : IsRefill (supply_view mid) (stacks_of mid.stacks) seat class (slab_block start class number).at (stacks_of next.stacks)
         refill = ⊎_elim
             (λ own. absurd (no_top (stacks_of mid.stacks) seat class (bare seat) own.0))
             (λ rest. ⊎_elim (λ some. some.1) (λ last. absurd (no_top (stacks_of mid.stacks) last.1.0.seat class (bare last.1.0.seat) last.1.0.first.top)) rest.1)
-            fresh.took.served
+            took.served
+
+  -- the first one of a new slab
+  pub way_fresh : (start : ℕ) → HasNoOpen was class → HasNoFitSlab (view_of b m) class → IsSuppliedFresh was next seat start class → ((n : ℕ) → n < class_capacity class → IsUnused m (slab_block start class n)) → IsBestFit (IsFreeGranule b m) 4 start →
+      IsWay b (record { machine = m; stacks = stacks_of was.stacks }) seat class (slab_block start class 0).at (stacks_of next.stacks)
+  way_fresh start none no_fit fresh clear fit =
+      let mid = fresh.mid in
+      let bare : (other : ℕ) → stacks_of mid.stacks other class ≡ [] = λ other. ap (λ t. stacks_of t other class) fresh.more.stacks ∙ none.empty other in
+      let refill = refill_anew start 0 mid fresh.more.classes (λ n within. (λ is. clear n within, λ unused. (fresh.more.here n).1 within)) fresh.more.others bare fresh.took in
+      way_anew none (slab_block start class 0).at (inr (record {
+        no_fit = no_fit;
+        start = start;
+        fit = fit;
+        refill = subst (λ t. IsRefill (view_of b (with_class m start class)) (stacks_of t) seat class (slab_block start class 0).at (stacks_of next.stacks)) fresh.more.stacks refill;
+      }))
+
+  -- one of a slab that takes the class
+  pub way_morph : (t : Tables) (start number : ℕ) → HasNoOpen was class → IsBestSlab (view_of b m) class start → IsSuppliedMorph t was next seat start class number →
+      ((n : ℕ) → n < class_capacity class → IsUnusedIn t start class n ↔ IsUnused m (slab_block start class n)) → IsWay b (record { machine = m; stacks = stacks_of was.stacks }) seat class (slab_block start class number).at (stacks_of next.stacks)
+  way_morph t start number none best supplied unused =
+      let mid = supplied.anew.mid in
+      let more = supplied.anew.more in
+      let gone = supplied.gone in
+      let stacks : stacks_of mid.stacks ≡ without_slab (stacks_of was.stacks) start = ap stacks_of more.stacks ∙ gone.stacks in
+      let bare : (other : ℕ) → stacks_of mid.stacks other class ≡ [] = λ other. ap (λ (s : Stacks). s other class) stacks ∙ ap (filter (λ at. not (is_within start at))) (none.empty other) in
+      let classes : (s : ℕ) → class_in mid.slabs s ≡ with_key (class_in was.slabs) start (Some class) s = λ s. more.classes s ∙ ap (λ (x : Option ℕ). if s == start then Some class else x) (gone.classes s) ∙ twice (class_in was.slabs) start (Some class) s in
+      let refill = refill_anew start number mid classes
+      (λ n within. (λ is. (unused n within).0 ((more.here n).0 is).1, λ is. (more.here n).1 (within, (unused n within).1 is)))
+      (λ s n differ. (λ is. (gone.others s n differ).0 ((more.others s n differ).0 is), λ is. (more.others s n differ).1 ((gone.others s n differ).1 is)))
+      bare supplied.anew.took in
+      way_anew none (slab_block start class number).at (inl (record {
+        start = start;
+        best = best;
+        refill = subst (λ (s : Stacks). IsRefill (view_of b (with_class m start class)) s seat class (slab_block start class number).at (stacks_of next.stacks)) stacks refill;
+      }))
+    where
+      -- a slab that went and came has what it came with
+      twice : (f : ℕ → Option ℕ) (k : ℕ) (x : Option ℕ) (s : ℕ) → (if s == k then x else with_key f k None s) ≡ with_key f k x s
+      twice f k x s = ⊎_elim
+          (λ (same : (s == k) ≡ true). cond-true (s == k) x (with_key f k None s) same ∙ sym (cond-true (s == k) x (f s) same))
+          (λ (differ : (s == k) ≡ false). cond-false (s == k) x (with_key f k None s) differ ∙ cond-false (s == k) None (f s) differ ∙ sym (cond-false (s == k) x (f s) differ))
+          (cases_Bool (s == k))
 
 -- free
 

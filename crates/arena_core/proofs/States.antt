@@ -2,18 +2,23 @@
 -- and its state after a call.
 use Rattle.std.proofs.Common.{◌≡◌, ◌≢◌, ℕ, ◌+◌, ◌*◌, ◌/◌, ◌<◌, ◌≤◌, true, false, true≢false, eqb, refl, sym, ap, subst, ◌∙◌, arith, inl, inr, ⊎_elim, List, Option, Some, None, ◌↔◌}
 use Rattle.std.proofs.lemmas.Bool.{cases_eq, cases_lt, cases_Bool, cond-true, cond-false, eq-eqb, ne_eqb}
-use Rattle.size_classes.specs.Classes.{class_capacity}
+use Rattle.size_classes.specs.Classes.{class_size, class_capacity}
+use Rattle.image_tables.specs.Forms.{normal_kind, morphed_kind}
 use Rattle.image_tables.specs.Tables.{Tables, tables_of}
 use Rattle.image_tables.proofs.Tables.{root_table-past}
 use Rattle.heap_model.specs.Machine.{Bounds, Range, Machine, with_key, slab_block, AreApart, IsUnused, IsFreeGranule}
 use Rattle.heap_model.specs.Choice.{Agree}
-use Rattle.heap_model.specs.Slabs.{view_of}
+use Rattle.heap_model.specs.Below.{any_below}
+use Rattle.heap_model.specs.Slabs.{IsInTransition, live_below, view_of}
+use Rattle.heap_model.proofs.Below.{any_below-some, any_below-each}
 use Rattle.heap_model.specs.Step.{slabs_without, forgotten}
+use Rattle.heap_model.specs.Runs.{IsBestFit}
+use Rattle.heap_model.proofs.Fits.{fit_free}
 use Rattle.heap_model.proofs.Placing.{rows_apart}
 use Rattle.heap_model.proofs.Slabbing.{LiesIn-block}
 use Rattle.heap_model.proofs.Maps.{with_key-here, with_key-other}
 use Rattle.heap_model.proofs.Freeing.{BeginsIn, slabs_stay, slabs_stay-away, slabs_leave}
-use Rattle.heap_check.specs.Heap.{is_large, entry_at, heap, slabs, IsClaim, IsUnusedIn}
+use Rattle.heap_check.specs.Heap.{is_large, entry_at, heap, slabs, IsClaim, Holds, HoldsBit, HoldsOld, IsUnusedIn}
 use Rattle.heap_check.specs.Sound.{granules_at, Covers, IsVacant, IsInSlab, IsSound, HasOther}
 use Rattle.heap_check.specs.Image.{bounds_of, IsExactImage}
 use Rattle.heap_check.specs.State.{HasState, KeepsBlocks}
@@ -23,7 +28,8 @@ use Rattle.heap_check.proofs.Geometry.{granules_at-slab, granules_at-large, gran
 use Rattle.heap_check.proofs.Heaps.{heap-none, heap-some, heap-large, heap-claim, IsClaim-heap}
 use Rattle.heap_check.proofs.LargePlaces.{cases_run}
 use Rattle.heap_check.proofs.Within.{IsWithin-claim, Covers-within}
-use Rattle.heap_check.proofs.SmallPlaces.{apart_unused}
+use Rattle.heap_check.proofs.LiveBlocks.{one_class}
+use Rattle.heap_check.proofs.SmallPlaces.{Holds-claim, apart_unused}
 use Rattle.arena_core.specs.Plan.{IsVacantRow, tables_view}
 use Rattle.arena_core.proofs.Plans.{slab_parts}
 use Rattle.heap_check.proofs.LargeLogs.{large_many}
@@ -154,7 +160,7 @@ module _ {words : List ℕ} (image : IsExactImage words) {m : Machine} (state : 
   }
 
   -- four vacant granules have room for a slab's blocks
-  pub vacant_clear : (start class number : ℕ) → number < class_capacity class → IsVacantRow (bounds_of words) (tables_of words) start 4 → IsUnused m (slab_block start class number)
+  vacant_clear : (start class number : ℕ) → number < class_capacity class → IsVacantRow (bounds_of words) (tables_of words) start 4 → IsUnused m (slab_block start class number)
   vacant_clear start class number within_class row = record {
     each = λ root other named.
         let within = IsWithin-claim sound root other (unnamed root) (claim root other named) in
@@ -165,6 +171,12 @@ module _ {words : List ℕ} (image : IsExactImage words) {m : Machine} (state : 
         (λ behind. inr (omega (arith, behind, within.1.high, lies.low)))
         (rows_apart start 4 within.0 (granules_at t within.0) (omega arith) (omega (arith, first.low, first.high)) (λ k from to low high. (row.vacant k from to).none within.0 (record { low = low; high = high })));
   }
+
+  -- so have those of a best fit in the state
+  pub fit_clear : (start class number : ℕ) → number < class_capacity class → IsBestFit (IsFreeGranule (bounds_of words) m) 4 start → IsUnused m (slab_block start class number)
+  fit_clear start class number within fit =
+      let vacant : (k : ℕ) → start ≤ k → k < start + 4 → IsVacant b t k = λ k low high. free_is_vacant k (fit_free (IsFreeGranule b m) 4 start k fit low high) in
+      vacant_clear start class number within (record { low = (vacant start (omega arith) (omega arith)).low; high = omega (arith, (vacant (start + 3) (omega arith) (omega arith)).high); vacant = vacant })
 
   -- a slab stays once a root has lost its block where that does not lie in it
   slab_elsewhere : (root : ℕ) (range : Range) (s : ℕ) → ¬ (IsInSlab t s range.at) → slabs_without b m root range s ≡ m.slab s
@@ -226,13 +238,45 @@ module _ {words : List ℕ} (image : IsExactImage words) {m : Machine} (state : 
     },
   )
 
+  -- a slab is in transition in the state where it is not normal
+  transition_agrees : (start : ℕ) → t.slab start ≡ true → (t.kind start ≢ normal_kind) ↔ IsInTransition m start
+  transition_agrees start slab = (
+    λ moving.
+        let kind : t.kind start ≡ morphed_kind = ⊎_elim (λ normal. absurd (moving normal)) (λ rest. ⊎_elim (λ morphing. absurd (image.exact.calm start (record { slab = slab; kind = morphing }))) (λ morphed. morphed) rest) (sound.slabs start slab).state.kinds in
+        ⊎_elim
+        (λ (some : any_below (t.live start) (t.index_count start) ≡ true).
+        let found = any_below-some (t.live start) (t.index_count start) some in
+        let range = slab_block start (t.old start) (t.number start found.0) in
+        let holds : Holds t start range = record { slab = slab; block = inr (record { place = found.0; below = found.1; live = found.2; is = refl }) } in
+        let owner = sound.claimed start range holds in
+        let state_word = (sound.slabs start slab).state in
+        record {
+          class = t.class start;
+          slab = naming_slab state start slab;
+          root = owner.0;
+          range = range;
+          named = naming state owner.0 range (heap-claim t owner.0 range (unnamed owner.0) owner.1);
+          lies = LiesIn-block start (t.old start) range (record { number = t.number start found.0; within = (sound.slabs start slab).small found.0 found.1; is = refl });
+          other = λ same. state_word.differ moving (one_class (t.old start) (t.class start) state_word.is_old_class state_word.is_class same);
+        })
+        (λ (none : any_below (t.live start) (t.index_count start) ≡ false). absurd (image.exact.none_done start (record { slab = slab; kind = kind; none = any_below-each (t.live start) (t.index_count start) none })))
+        (cases_Bool (any_below (t.live start) (t.index_count start))),
+    λ moving normal.
+        let own = slab_named state start moving.class moving.slab in
+        let wide = IsWithin-claim sound moving.root moving.range (unnamed moving.root) (claim moving.root moving.range moving.named) in
+        let holds = Holds-claim sound moving.root start moving.range (unnamed moving.root) (claim moving.root moving.range moving.named) (record { slab = slab; low = omega (arith, moving.lies.low); high = omega (arith, moving.lies.high, wide.1.some) }) in
+        ⊎_elim
+        (λ (bit : HoldsBit t start moving.range). moving.other (ap (λ (r : Range). r.size) bit.is ∙ ap class_size own.1))
+        (λ (old : HoldsOld t start moving.range). let none = ((sound.slabs start slab).state.none normal).1 in omega (arith, old.below, none))
+        holds.block,
+  )
+
   -- the tables say what the state says
   pub tables_agree : Agree (tables_view (bounds_of words) (tables_of words)) (view_of (bounds_of words) m)
   tables_agree = record {
     free = λ k. (vacant_is_free k, free_is_vacant k);
     slab = state.slabs;
-    unused = λ start class number slab below.
-        let is = slab_parts t start class slab in
-        unused_agrees start class number is.0 below;
-    fit = λ morphs. absurd (true≢false (sym morphs));
+    unused = λ start own class number slab below. unused_agrees start class number (slab_parts t start own slab).0 below;
+    live = λ s. λ i. live_below (λ root. state.blocks root i) s (bounds_of words).roots;
+    in_transition = λ s class slab. transition_agrees s (slab_parts t s class slab).0;
   }

@@ -17,7 +17,8 @@ use Rattle.heap_check.proofs.OneBlock.{stage_of}
 use Rattle.heap_check.proofs.Sizes.{sizes_of}
 use Rattle.attach_steps.specs.Steps.{KeepsOthers, GivesOne, IsDetachable, IsDetached, IsOldDetachable, IsOldDetached}
 use Rattle.arena_core.specs.declared.volatile.Volatile.{Volatile}
-use Rattle.arena_core.specs.Arena.{IsSlabsOf, IsCurrent, live_in, AreCountsOf, old_range}
+use Rattle.slab_lives.specs.Lives.{Lives}
+use Rattle.arena_core.specs.Arena.{IsSlabsOf, IsCurrent, live_in, AreLivesOf, old_range}
 use Rattle.arena_core.specs.Carried.{IsDone, IsTaken, IsTidied}
 use Rattle.arena_core.specs.Effect.{slabs_but}
 use Rattle.arena_core.specs.Events.{holds_none, tidy_events}
@@ -32,13 +33,13 @@ use Rattle.heap_check.proofs.Within.{IsInSlab-held}
 use Rattle.arena_core.proofs.HeldBlocks.{heap_held, class_holds, old_holds}
 
 -- a slab lies in the arena, so its number of live blocks is one of the counts, and small
-pub counted : (words : List ℕ) (start : ℕ) (counts : List ℕ) → IsExactButImage words start → (tables_of words).slab start ≡ true → AreCountsOf counts words → (start < length counts) × (slice_index counts start ≡ live_in words start) × (live_in words start < 5000)
-counted words start counts image slab were =
+pub counted : (words : List ℕ) (start : ℕ) (lives : Lives) → IsExactButImage words start → (tables_of words).slab start ≡ true → AreLivesOf lives words → (start < length lives.counts) × (slice_index lives.counts start ≡ live_in words start) × (live_in words start < 5000)
+counted words start lives image slab were =
     let sizes = sizes_of words image.formed in
     let four = granules_at-slab (tables_of words) start slab in
     let lies = image.but.sound.starts start (omega (arith, four)) in
     let most = live_most words start in
-    (omega (arith, lies.1, four, were.size), were.each start, omega (arith, most, sizes.roots))
+    (omega (arith, lies.1, four, were.counts.size), were.counts.each start, omega (arith, most, sizes.roots))
 
 -- the new image has one block more, or one less
 module _ (words new : List ℕ) (root start : ℕ) (range : Range) (rooted : root < (bounds_of words).roots) (bounds : bounds_of new ≡ bounds_of words) (slab_same : (s : ℕ) → (tables_of new).slab s ≡ (tables_of words).slab s)
@@ -87,11 +88,11 @@ old_more words line root block may new detached =
     (heap_held but.sound but.closed root block.start range holds (may.named ∙ may.at)) detached.gives
 
 -- a block went
-pub taken_by : {old new : PmemState} (was : Volatile) (fewer : Supply) (counts : List ℕ) {root start k : ℕ} (bits lives : Bool → ℕ → ℕ → Bool) {events : List Event} → IsBlockChange (words_of old) was.line root start k →
+pub taken_by : {old new : PmemState} (was : Volatile) (fewer : Supply) (lives_left : Lives) {root start k : ℕ} (bits lives : Bool → ℕ → ℕ → Bool) {events : List Event} → IsBlockChange (words_of old) was.line root start k →
     IsQuietStep old new events (IsEitherHeap (words_of old) (words_of new)) → IsExactButImage (words_of new) start → bounds_of (words_of new) ≡ bounds_of (words_of old) →
     tables_of (words_of new) ≡ stage_of (tables_of (words_of old)) bits lives root false 0 None → GivesOne (words_of old) root None (words_of new) → KeepsOthers (words_of old) was.line root k (words_of new) →
-    IsCurrent old was → IsSlabsOf fewer (words_of new) → AreCountsOf counts (words_of new) → IsTaken old new was (record was { supply = fewer; lives = counts }) root start events
-taken_by {old} {new} was fewer counts {root} {start} {k} bits lives {events} change step image bounds tables gives rest current slabs_are counts_are =
+    IsCurrent old was → IsSlabsOf fewer (words_of new) → AreLivesOf lives_left (words_of new) → IsTaken old new was (record was { supply = fewer; lives = lives_left }) root start events
+taken_by {old} {new} was fewer lives_left {root} {start} {k} bits lives {events} change step image bounds tables gives rest current slabs_are lives_are =
     let words = words_of old in
     let left = words_of new in
     let t = tables_of words in
@@ -105,7 +106,7 @@ taken_by {old} {new} was fewer counts {root} {start} {k} bits lives {events} cha
         log = book_small change left rest bounds was.log current.log;
         index = index_small words bits lives root false 0 left bounds tables was.free current.index;
         slabs = slabs_are;
-        lives = counts_are;
+        lives = lives_are;
       };
       last = last_of t root start image.but slab change.slab (ap (λ (x : Tables). x.root root) tables ∙ put_at-same t.root root 0) (λ other differ. ap (λ (x : Tables). x.root other) tables ∙ put_at-other t.root root other 0 differ);
       gives = record {

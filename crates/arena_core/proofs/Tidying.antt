@@ -8,7 +8,7 @@ use Rattle.image_tables.specs.Forms.{morphed_kind}
 use Rattle.image_tables.specs.Tables.{Tables, tables_of}
 use Rattle.image_tables.proofs.Headers.{SameLog-off_header}
 use Rattle.book_log.proofs.Books.{Reads-same}
-use Rattle.heap_model.specs.Machine.{Bounds}
+use Rattle.heap_model.specs.Machine.{Bounds, with_key}
 use Rattle.heap_model.specs.Below.{any_below}
 use Rattle.heap_check.specs.Heap.{slabs, IsUnusedIn, heap}
 use Rattle.heap_check.specs.Sound.{IsVacant, IsDoneSlab, IsInSlab}
@@ -19,13 +19,15 @@ use Rattle.heap_check.proofs.Sizes.{sizes_of}
 use Rattle.log_steps.specs.Log.{IsBookOf}
 use Rattle.transition_steps.specs.Transitions.{end_events, IsEndable, LeavesEntry, IsEnded}
 use Rattle.arena_core.specs.declared.volatile.Volatile.{Volatile}
-use Rattle.arena_core.specs.Arena.{IsIndexOf, IsSlabsOf, AreCountsOf}
+use Rattle.slab_lives.specs.Lives.{Lives, calm_at}
+use Rattle.arena_core.specs.Arena.{IsIndexOf, IsSlabsOf, AreCountsOf, calm_of}
 use Rattle.arena_core.specs.Carried.{IsUntidy, IsTidied}
 use Rattle.arena_core.specs.Effect.{slabs_but}
 use Rattle.arena_core.specs.Events.{holds_none, is_done, tidy_events}
 use Rattle.arena_core.proofs.Arenas.{same_heap}
 use Rattle.arena_core.proofs.LastBlocks.{none_by_tests, some_by_tests, rooted_by_tests}
 use Rattle.arena_core.proofs.LiveCounts.{live_none, live_some, live_same, counts_kept}
+use Rattle.arena_core.proofs.LiveSlabs.{calm_normal, calm_header, calm_all_but, lives_put}
 use Rattle.arena_core.proofs.SlabChanges.{exact_held}
 use Rattle.heap_model.proofs.Below.{any_below-each, any_below-some}
 use Rattle.arena_core.proofs.Tests.{not_true}
@@ -57,11 +59,11 @@ module _ (s : PmemState) (volatile : Volatile) (start : ℕ) (untidy : IsUntidy 
   abbrev t : Tables
   t = tables_of words
 
-  count_is : slice_index volatile.lives start ≡ live_below (heap t) start (bounds_of words).roots
-  count_is = untidy.lives.each start ∙ cond-true (t.slab start) (live_below (heap t) start (bounds_of words).roots) 0 untidy.slab
+  count_is : slice_index volatile.lives.counts start ≡ live_below (heap t) start (bounds_of words).roots
+  count_is = untidy.lives.counts.each start ∙ cond-true (t.slab start) (live_below (heap t) start (bounds_of words).roots) 0 untidy.slab
 
   -- by its count
-  pub none_by_count : slice_index volatile.lives start ≡ 0 → holds_none (tables_of (words_of s)) start ≡ true
+  pub none_by_count : slice_index volatile.lives.counts start ≡ 0 → holds_none (tables_of (words_of s)) start ≡ true
   none_by_count zero = ⊎_elim
       (λ (none : holds_none t start ≡ true). none)
       (λ (some : holds_none t start ≡ false).
@@ -71,13 +73,13 @@ module _ (s : PmemState) (volatile : Volatile) (start : ℕ) (untidy : IsUntidy 
       absurd (omega (arith, lives, zero, count_is)))
       (cases_Bool (holds_none t start))
 
-  pub some_by_count : slice_index volatile.lives start ≢ 0 → holds_none (tables_of (words_of s)) start ≡ false
+  pub some_by_count : slice_index volatile.lives.counts start ≢ 0 → holds_none (tables_of (words_of s)) start ≡ false
   some_by_count some = false_from_ne_true (holds_none t start) (λ none.
       let but = untidy.image.but in
       some (count_is ∙ live_none but.sound but.closed start untidy.slab (none_by_tests t start none) (bounds_of words).roots))
 
   -- it holds a block, and is not done: nothing is to be tidied
-  pub tidied_none : slice_index volatile.lives start ≢ 0 → ¬ (IsDoneSlab (tables_of (words_of s)) start) → IsTidied s s volatile start
+  pub tidied_none : slice_index volatile.lives.counts start ≢ 0 → ¬ (IsDoneSlab (tables_of (words_of s)) start) → IsTidied s s volatile start
   tidied_none some lively =
       let none = some_by_count some in
       let exact = exact_held words start untidy.image (rooted_by_tests start untidy.image.but untidy.slab none) lively in
@@ -102,7 +104,7 @@ module _ (s : PmemState) (volatile : Volatile) (start : ℕ) (untidy : IsUntidy 
   }
 
   -- and it ended
-  module _ (some : slice_index volatile.lives start ≢ 0) (done : IsDoneSlab (tables_of (words_of s)) start) (u : PmemState) (step : IsQuietStep s u (end_events (words_of s) start) (LeavesEntry (words_of s))) (ended : IsEnded (words_of s) start (words_of u)) where
+  module _ (some : slice_index volatile.lives.counts start ≢ 0) (done : IsDoneSlab (tables_of (words_of s)) start) (u : PmemState) (step : IsQuietStep s u (end_events (words_of s) start) (LeavesEntry (words_of s))) (ended : IsEnded (words_of s) start (words_of u)) where
     abbrev new : List ℕ
     new = words_of u
 
@@ -176,7 +178,10 @@ module _ (s : PmemState) (volatile : Volatile) (start : ℕ) (untidy : IsUntidy 
       λ unused. record { each = λ range holds. unused.each range ((ended.held.each o range).1 holds) },
     )
 
-    class_same : (o : ℕ) → after.class o ≡ t.class o
+    pub slab_same : (o : ℕ) → (tables_of (words_of u)).slab o ≡ (tables_of (words_of s)).slab o
+    slab_same o = row (λ x. x.slab o)
+
+    pub class_same : (o : ℕ) → (tables_of (words_of u)).class o ≡ (tables_of (words_of s)).class o
     class_same o = row (λ x. x.class o) ∙ ap (λ (f : ℕ → ℕ). f o) (put_at-own t.class start)
 
     classes_ended : (o : ℕ) → slabs after o ≡ slabs t o
@@ -191,11 +196,17 @@ module _ (s : PmemState) (volatile : Volatile) (start : ℕ) (untidy : IsUntidy 
           iff_then was (subst (λ c. IsUnusedIn t o (t.class o) i ↔ IsUnusedIn after o c i) (sym (class_same o)) (unused_same o (t.class o) i));
     }
 
-    lives : AreCountsOf volatile.lives new
-    lives = counts_kept words new volatile.lives (ap (λ (b : Bounds). b.granules) ended.bounds) (live_same words new ended.bounds (λ o. row (λ x. x.slab o)) ended.heap.each) untidy.lives
+    counts : AreCountsOf volatile.lives.counts new
+    counts = counts_kept words new volatile.lives.counts (ap (λ (b : Bounds). b.granules) ended.bounds) (live_same words new ended.bounds (λ o. row (λ x. x.slab o)) ended.heap.each) untidy.lives.counts
 
-    pub tidied_ended : IsTidied s u volatile start
-    tidied_ended =
+    -- it is calm now
+    calm_ended : (o : ℕ) → calm_of after o ≡ with_key (calm_of t) start (Some (t.class start)) o
+    calm_ended = calm_all_but t after start (Some (t.class start))
+        (calm_normal after start (row (λ x. x.slab start) ∙ untidy.slab) (row (λ x. x.kind start) ∙ put_at-same t.kind start 1) ∙ ap (λ c. Some c) (class_same start))
+        (λ o differ. row (λ x. calm_of x o) ∙ calm_header t start (settled (header_of t start)) o differ)
+
+    pub tidied_ended : (next : Lives) → next.counts ≡ volatile.lives.counts → ((o : ℕ) → calm_at next o ≡ with_key (calm_at volatile.lives) start (Some ((tables_of (words_of s)).class start)) o) → IsTidied s u (record volatile { lives = next }) start
+    tidied_ended next same put =
         let none = some_by_count some in
         let steady : IsSteadyImage words = record { formed = untidy.image.formed; steady = IsSteady-but untidy.image.but } in
         let events : tidy_events words start ≡ end_events words start = cond-false (holds_none t start) _ _ none ∙ cond-true (is_done t start) _ [] (done_by_test t start done) in
@@ -205,7 +216,7 @@ module _ (s : PmemState) (volatile : Volatile) (start : ℕ) (untidy : IsUntidy 
               record { steady = kept.steady; heap = inl kept.heap; words = kept.blocks; still = HasNoMove-closed (left.entry ∙ untidy.image.but.closed) }) step);
           current = record { ready = record { quiet = step.quiet; room = omega (arith, untidy.ready.room, step.appends.room) }; exact = exact; log = book; index = index };
           slabs = slabs_after;
-          lives = lives;
+          lives = lives_put words new volatile.lives next (subst (λ (n : List ℕ). AreCountsOf n new) (sym same) counts) untidy.lives start (Some (t.class start)) put calm_ended;
           bounds = ended.bounds;
           heap = ended.heap;
           slab = λ o. classes_ended o ∙ sym (ap (λ gone. slabs_but (slabs t) start gone o) none);

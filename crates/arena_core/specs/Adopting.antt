@@ -10,10 +10,12 @@ use Rattle.heap_model.specs.Machine.{Bounds}
 use Rattle.heap_model.specs.Slabs.{live_below}
 use Rattle.extent_index.specs.FreeSet.{FreeSet, IsFree}
 use Rattle.slab_index.specs.SlabSet.{class_in}
+use Rattle.slab_lives.specs.Lives.{Lives, calm_at}
 use Rattle.block_supply.specs.Supply.{Supply, IsOpen}
 use Rattle.heap_check.specs.Heap.{heap, slabs, IsUnusedIn}
 use Rattle.heap_check.specs.Sound.{Covers}
 use Rattle.heap_check.specs.Image.{bounds_of}
+use Rattle.arena_core.specs.Arena.{calm_of}
 
 -- a granule lies in the heap, and in no live extent that starts below another
 pub record IsVacantBelow (b : Bounds) (t : Tables) (from k : ℕ) : Type 0 where
@@ -46,6 +48,10 @@ pub record IsWithSlabOf (words : List ℕ) (old new : Supply) (start : ℕ) : Ty
 pub record HasCounted (words : List ℕ) (counts : List ℕ) (root : ℕ) : Type 0 where
   pub size : length counts ≡ granules_in words
   pub each : (start : ℕ) → slice_index counts start ≡ (if (tables_of words).slab start then live_below (heap (tables_of words)) start root else 0)
+
+-- of the slabs that begin below a granule the normal ones are calm
+pub record HasNoted (words : List ℕ) (lives : Lives) (from : ℕ) : Type 0 where
+  pub each : (start : ℕ) → calm_at lives start ≡ (if nat_lt start from then calm_of (tables_of words) start else None)
 
 -- the entry says the next live extent, and those that start below it are read
 pub record IsNextRead (words : List ℕ) (set : FreeSet) (parts : Supply) (next : LogEntry) : Type 0 where

@@ -1,8 +1,9 @@
 -- What an arena keeps between its calls, and the memory that it is made of.
-use Rattle.std.specs.Prelude.{◌≡◌, ◌↔◌, ℕ, ◌<◌, ◌≤◌, ◌≢◌, ◌⊎◌, true, List, length, slice_index, if◌then◌else◌, Option, Some, None}
+use Rattle.std.specs.Prelude.{◌≡◌, ◌↔◌, ◌==◌, ◌&&◌, ℕ, ◌<◌, ◌≤◌, ◌≢◌, ◌⊎◌, true, List, length, slice_index, if◌then◌else◌, Option, Some, None}
 use Rattle.pmem_lines.specs.Pmem.{PmemState, words_of}
 use Rattle.pool_layout.specs.Header.{granules_in}
 use Rattle.size_classes.specs.Classes.{class_capacity}
+use Rattle.image_tables.specs.Forms.{normal_kind}
 use Rattle.image_tables.specs.Tables.{Tables, tables_of}
 use Rattle.book_log.specs.Book.{IsBlank}
 use Rattle.heap_model.specs.declared.block.Block.{Block}
@@ -11,6 +12,7 @@ use Rattle.heap_model.specs.Slabs.{live_below}
 use Rattle.extent_index.specs.FreeSet.{FreeSet, IsFree}
 use Rattle.heap_model.specs.Placement.{no_stacks}
 use Rattle.slab_index.specs.SlabSet.{class_in}
+use Rattle.slab_lives.specs.Lives.{Lives, calm_at}
 use Rattle.thread_cache.specs.Stacks.{StackTable, stacks_of}
 use Rattle.block_supply.specs.Supply.{Supply, IsOpen}
 use Rattle.heap_check.specs.Heap.{heap, slabs, IsUnusedIn}
@@ -67,6 +69,15 @@ pub record AreCountsOf (counts : List ℕ) (words : List ℕ) : Type 0 where
   pub size : length counts ≡ granules_in words
   pub each : (start : ℕ) → slice_index counts start ≡ live_in words start
 
+-- the class of the slab at a start that is normal: no live block in it has another size
+abbrev pub calm_of : Tables → ℕ → Option ℕ
+calm_of t start = if t.slab start && (t.kind start == normal_kind) then Some (t.class start) else None
+
+-- the counts are those of these words, and the calm slabs are the normal ones
+pub record AreLivesOf (lives : Lives) (words : List ℕ) : Type 0 where
+  pub counts : AreCountsOf lives.counts words
+  pub calm : (start : ℕ) → calm_at lives start ≡ calm_of (tables_of words) start
+
 -- what an arena keeps, whatever slabs there are: its memory is ready and its image exact, and log and index are those of
 -- the image
 pub record IsCurrent (device : PmemState) (volatile : Volatile) : Type 0 where
@@ -79,11 +90,11 @@ pub record IsCurrent (device : PmemState) (volatile : Volatile) : Type 0 where
 pub record IsArena (device : PmemState) (volatile : Volatile) : Type 0 where
   pub current : IsCurrent device volatile
   pub slabs : IsSlabsOf volatile.supply (words_of device)
-  pub lives : AreCountsOf volatile.lives (words_of device)
+  pub lives : AreLivesOf volatile.lives (words_of device)
   pub few : volatile.line < 8
 
 -- memory for an arena of so many granules: an empty log, an index in which all of the heap is free, a supply without slabs and
--- with empty stacks, and counts of 0
+-- with empty stacks, counts of 0 and no calm slab
 pub record IsRoom (granules : ℕ) (volatile : Volatile) : Type 0 where
   pub least : 16 ≤ granules
   pub most : granules ≤ 1024
@@ -93,8 +104,9 @@ pub record IsRoom (granules : ℕ) (volatile : Volatile) : Type 0 where
   pub slabs : volatile.supply.slabs.granules ≡ granules
   pub no_slab : (start : ℕ) → class_in volatile.supply.slabs start ≡ None
   pub no_stacks : stacks_of volatile.supply.stacks ≡ no_stacks
-  pub lives : length volatile.lives ≡ granules
-  pub none_lives : (start : ℕ) → slice_index volatile.lives start ≡ 0
+  pub counts : length volatile.lives.counts ≡ granules
+  pub no_lives : (start : ℕ) → slice_index volatile.lives.counts start ≡ 0
+  pub no_calm : (start : ℕ) → calm_at volatile.lives start ≡ None
   pub first : volatile.line ≡ 0
 
 -- the block of a root, where it has one

@@ -12,7 +12,7 @@ use Rattle.heap_check.specs.Image.{bounds_of, IsExactButImage}
 use Rattle.heap_check.specs.State.{HaveSameHeap, KeepsBlocks, IsEitherHeap}
 use Rattle.log_steps.specs.Log.{IsBookOf}
 use Rattle.arena_core.specs.declared.volatile.Volatile.{Volatile}
-use Rattle.arena_core.specs.Arena.{IsIndexOf, IsSlabsOf, AreCountsOf, IsCurrent, IsArena}
+use Rattle.arena_core.specs.Arena.{IsIndexOf, IsSlabsOf, AreLivesOf, IsCurrent, IsArena}
 use Rattle.thread_cache.specs.Stacks.{stacks_of}
 use Rattle.arena_core.specs.Call.{IsReady, IsStepOf}
 use Rattle.arena_core.specs.Effect.{slabs_but, GivesRoot, IsLastOf}
@@ -23,7 +23,7 @@ pub record IsDone (old new : PmemState) (left : Volatile) (root : ℕ) (block : 
   pub step : IsQuietStep old new events (IsEitherHeap (words_of old) (words_of new))
   pub current : IsCurrent new left
   pub slabs : IsSlabsOf left.supply (words_of new)
-  pub lives : AreCountsOf left.lives (words_of new)
+  pub lives : AreLivesOf left.lives (words_of new)
   pub gives : GivesRoot (words_of old) root block slab (words_of new)
 
 -- what an arena keeps, but that a slab may be without a block, or done
@@ -34,7 +34,7 @@ pub record IsUntidy (device : PmemState) (volatile : Volatile) (start : ℕ) : T
   pub log : IsBookOf volatile.log (words_of device)
   pub index : IsIndexOf volatile.free (words_of device)
   pub slabs : IsSlabsOf volatile.supply (words_of device)
-  pub lives : AreCountsOf volatile.lives (words_of device)
+  pub lives : AreLivesOf volatile.lives (words_of device)
 
 -- a block went from its root, and its slab may be without a block, or done
 pub record IsTaken (old new : PmemState) (was left : Volatile) (root start : ℕ) (events : List Event) : Type 0 where
@@ -50,7 +50,7 @@ pub record IsTidied (old new : PmemState) (left : Volatile) (start : ℕ) : Type
   pub step : IsQuietStep old new (tidy_events (words_of old) start) (IsEitherHeap (words_of old) (words_of new))
   pub current : IsCurrent new left
   pub slabs : IsSlabsOf left.supply (words_of new)
-  pub lives : AreCountsOf left.lives (words_of new)
+  pub lives : AreLivesOf left.lives (words_of new)
   pub bounds : bounds_of (words_of new) ≡ bounds_of (words_of old)
   pub heap : HaveSameHeap (words_of old) (words_of new)
   pub slab : (other : ℕ) → Heap.slabs (tables_of (words_of new)) other ≡ slabs_but (Heap.slabs (tables_of (words_of old))) start (holds_none (tables_of (words_of old)) start) other

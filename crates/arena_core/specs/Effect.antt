@@ -4,14 +4,12 @@ use Rattle.image_tables.specs.Tables.{Tables, tables_of}
 use Rattle.size_classes.specs.Classes.{class_capacity}
 use Rattle.heap_model.specs.Machine.{Range, with_key}
 use Rattle.heap_model.specs.Placement.{Stacks, without_slab}
-use Rattle.block_supply.specs.Supply.{Supply, HasSlabMore, TookBlock, IsPutOn}
-use Rattle.heap_check.specs.Heap.{heap, slabs}
+use Rattle.block_supply.specs.Supply.{Supply, HasSlabMore, HasSlabLess, TookBlock, IsPutOn}
+use Rattle.heap_check.specs.Heap.{heap, slabs, IsUnusedIn}
 use Rattle.heap_check.specs.Slabs.{IsSameSlab}
 use Rattle.heap_check.specs.Sound.{IsInSlab, HasOther}
 use Rattle.heap_check.specs.Image.{bounds_of}
 use Rattle.heap_check.specs.State.{KeepsBlocks}
-use Rattle.arena_core.specs.declared.plan.Place.{Place}
-use Rattle.arena_core.specs.declared.plan.Place.TheVariants.{Large, Small, Fresh}
 
 -- the root has this block now, or none, these are the slabs, and all else is as before
 pub record GivesRoot (old : List ℕ) (root : ℕ) (block : Option Range) (slab : ℕ → Option ℕ) (new : List ℕ) : Type 0 where
@@ -39,17 +37,21 @@ pub record IsPutBack (was : Stacks) (seat class at start : ℕ) (gone : Bool) (a
   pub put : IsPutOn was seat class at mid
   pub left : after ≡ stacks_but mid start gone
 
--- a slab came into the supply, and its first block was taken for a seat
-pub record IsSuppliedFresh (old new : Supply) (seat start class : ℕ) : Type 0 where
+-- a slab of the class came into the supply, in which these blocks are open, and one of them was taken for a seat
+pub record IsSuppliedAnew (old new : Supply) (seat start class number : ℕ) (Opens : ℕ → Type 0) : Type 0 where
   pub mid : Supply
-  pub more : HasSlabMore old mid start class (λ i. i < class_capacity class)
-  pub took : TookBlock mid seat class (record { start = start; number = 0 }) new
+  pub more : HasSlabMore old mid start class Opens
+  pub took : TookBlock mid seat class (record { start = start; number = number }) new
 
--- the slabs behind a call that places a block
-abbrev pub slabs_behind : Tables → Place → ℕ → Option ℕ
-slabs_behind t (Large start count) = slabs t
-slabs_behind t (Small block class) = slabs t
-slabs_behind t (Fresh start class) = with_key (slabs t) start (Some class)
+-- of a slab that is opened it is the first
+abbrev pub IsSuppliedFresh : Supply → Supply → (seat start class : ℕ) → Type 0
+IsSuppliedFresh old new seat start class = IsSuppliedAnew old new seat start class 0 (λ i. i < class_capacity class)
+
+-- a slab that takes the class went out of the supply, and came back with the unused blocks of the class
+pub record IsSuppliedMorph (t : Tables) (old new : Supply) (seat start class number : ℕ) : Type 0 where
+  pub less : Supply
+  pub gone : HasSlabLess old less start
+  pub anew : IsSuppliedAnew less new seat start class number (λ i. (i < class_capacity class) × IsUnusedIn t start class i)
 
 -- no root but this one has a block in the slab at a start, or some other has
 pub record IsLastOf (t : Tables) (root start : ℕ) (gone : Bool) : Type 0 where

@@ -1,12 +1,11 @@
 -- What a call decides before its first store, over the tables of the image at its begin.
 use Rattle.std.specs.Prelude.{◌≡◌, ◌≢◌, ℕ, ◌+◌, ◌-◌, ◌*◌, ◌<◌, ◌≤◌, true, Option, MatchOption, Result, Ok, Err}
-use Rattle.size_classes.specs.Classes.{class_size, class_capacity}
+use Rattle.size_classes.specs.Classes.{class_size, class_capacity, IsClassOf}
 use Rattle.image_tables.specs.Forms.{normal_kind}
 use Rattle.pmem_lines.specs.Pmem.{PmemState, words_of}
 use Rattle.image_tables.specs.Tables.{Tables, tables_of}
 use Rattle.heap_model.specs.Machine.{Bounds, Range, slab_block}
-use Rattle.heap_model.specs.Choice.{View, Site, range_of, IsSite, HasNoSite}
-use Rattle.heap_model.specs.Choice.Site.{Granules, InSlab, InNewSlab}
+use Rattle.heap_model.specs.Choice.{View, HasUnusedBlock, IsFit, IsBestSlab, IsFromGranules, IsFromSlab, IsFromNewSlab, HasNoSite}
 use Rattle.heap_model.specs.Slabs.{live_below}
 use Rattle.heap_check.specs.Heap.{heap, slabs, IsUnusedIn}
 use Rattle.heap_check.specs.Sound.{IsVacant, IsInSlab}
@@ -14,12 +13,13 @@ use Rattle.heap_check.specs.Image.{bounds_of}
 use Rattle.attach_steps.specs.declared.block.SmallBlock.{SmallBlock}
 use Rattle.attach_steps.specs.declared.block.OldBlock.{OldBlock}
 use Rattle.slab_morph.specs.SlabHeaders.{IsOldAt}
+use Rattle.slab_morph.specs.Fitness.{held_view}
 use Rattle.slab_index.specs.declared.block.SlabBlock.{SlabBlock}
 use Rattle.block_supply.specs.Supply.{Supply, TookBlock, HadNoOpen}
 use Rattle.arena_core.specs.declared.volatile.Volatile.{Volatile}
 use Rattle.arena_core.specs.Arena.{IsArena}
 use Rattle.arena_core.specs.declared.plan.Place.{Place}
-use Rattle.arena_core.specs.declared.plan.Place.TheVariants.{Large, Small, Fresh}
+use Rattle.arena_core.specs.declared.plan.Place.TheVariants.{Large, Small, Morph, Fresh}
 use Rattle.arena_core.specs.declared.plan.Held.{Held}
 use Rattle.arena_core.specs.declared.plan.Held.TheVariants as held
 use Rattle.arena_core.specs.declared.answer.MallocRefusal.{MallocRefusal}
@@ -57,6 +57,12 @@ pub record IsGivableBlock (t : Tables) (block : SmallBlock) (class : ℕ) : Type
   pub unused : IsUnusedIn t block.start class block.number
   pub at : block.at ≡ (slab_block block.start class block.number).at
 
+-- it is the block of a slab at a start with this number, by a class
+pub record IsBlockAs (block : SmallBlock) (start class number : ℕ) : Type 0 where
+  pub start_is : block.start ≡ start
+  pub number_is : block.number ≡ number
+  pub at_is : block.at ≡ (slab_block start class number).at
+
 -- the view that the choice of a malloc has of the tables
 abbrev pub tables_view : Bounds → Tables → View
 tables_view b t = record {
@@ -67,21 +73,35 @@ tables_view b t = record {
   in_transition = λ s. t.kind s ≢ normal_kind;
 }
 
--- the site of a place
-abbrev pub site_of : Place → Site
-site_of (Large start count) = Granules start count
-site_of (Small block class) = InSlab block.start class block.number
-site_of (Fresh start class) = InNewSlab start class 0
+-- a slab is the one that takes a class for a request: whichever unused block of it is given, that is a site
+pub record IsFromFit (v : View) (size start class : ℕ) : Type 0 where
+  pub least : IsClassOf size class
+  pub full : ¬ (HasUnusedBlock v class)
+  pub best : IsBestSlab v class start
+
+-- a request has a site at a place
+abbrev pub HasSiteAt : View → ℕ → Place → Type 0
+HasSiteAt v size (Large start count) = IsFromGranules v size start count
+HasSiteAt v size (Small block class) = IsFromSlab v size block.start class block.number
+HasSiteAt v size (Morph start class) = IsFromFit v size start class
+HasSiteAt v size (Fresh start class) = IsFromNewSlab v size start class 0
+
+-- a slab may take a class, by the blocks that it holds: it is normal, and fit for the class
+pub record IsMorphable (t : Tables) (start class : ℕ) : Type 0 where
+  pub slab : t.slab start ≡ true
+  pub normal : t.kind start ≡ normal_kind
+  pub fit : IsFit (held_view t) class start
 
 -- what a place has to be, to be given to a root
 abbrev pub IsPlaceFor : Bounds → Tables → ℕ → Place → Type 0
 IsPlaceFor b t root (Large start count) = IsGivable b t root start count
 IsPlaceFor b t root (Small block class) = IsGivableBlock t block class
+IsPlaceFor b t root (Morph start class) = IsMorphable t start class
 IsPlaceFor b t root (Fresh start class) = IsVacantRow b t start 4
 
 -- a place for a request: a site for it
 pub record IsPlacing (b : Bounds) (t : Tables) (root size : ℕ) (place : Place) : Type 0 where
-  pub site : IsSite (tables_view b t) size (site_of place)
+  pub site : HasSiteAt (tables_view b t) size place
   pub place_for : IsPlaceFor b t root place
 
 -- what is found for a request: no place where it has no site
@@ -100,10 +120,12 @@ IsMallocPlan b t root size (Err NoSpace) = IsAskedOf b t root size × HasNoSite 
 abbrev pub number_of : SmallBlock → SlabBlock
 number_of block = record { start = block.start; number = block.number }
 
--- what a place takes of the supply: a block of a slab is taken for the seat, and for a new slab none of the class is open
+-- what a place takes of the supply: a block of a slab is taken for the seat; for a slab that takes the class, or a new one,
+-- none of the class is open
 abbrev pub IsSuppliedAt : Supply → Supply → ℕ → Place → Type 0
 IsSuppliedAt old new seat (Large start count) = new ≡ old
 IsSuppliedAt old new seat (Small block class) = TookBlock old seat class (number_of block) new
+IsSuppliedAt old new seat (Morph start class) = HadNoOpen old class new
 IsSuppliedAt old new seat (Fresh start class) = HadNoOpen old class new
 
 -- the same of what is found, or of a plan: nothing where there is no place
@@ -120,10 +142,6 @@ pub record IsPlanned (device : PmemState) (was now : Volatile) (seat root size :
   pub supplied : IsSupplied was.supply now.supply seat plan
   pub rest : now ≡ record was { supply = now.supply }
   pub is : IsMallocPlan (bounds_of (words_of device)) (tables_of (words_of device)) root size plan
-
--- the block of a place
-abbrev pub range_at : Place → Range
-range_at place = range_of (site_of place)
 
 -- free
 

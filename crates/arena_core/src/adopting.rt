@@ -9,18 +9,19 @@ ghost use Rattle.slab_index.specs.SlabSet.{class_in};
 ghost use Rattle.block_supply.specs.Supply.{IsClearOf};
 ghost use Rattle.heap_check.specs.Image.{bounds_of, IsExactImage};
 ghost use Rattle.log_steps.specs.Log.{IsBookOf};
-ghost use Rattle.arena_core.specs.Arena.{IsIndexOf, IsSlabsOf, AreCountsOf};
-ghost use Rattle.arena_core.specs.Adopting.{IsReadBelow, IsNextRead, IsWithSlabOf, HasCounted};
+ghost use Rattle.slab_lives.specs.Lives.{calm_at};
+ghost use Rattle.arena_core.specs.Arena.{IsIndexOf, IsSlabsOf, AreLivesOf};
+ghost use Rattle.arena_core.specs.Adopting.{IsReadBelow, IsNextRead, IsWithSlabOf, HasCounted, HasNoted};
 
-use crate::plan::{layout_in, root_word};
+use crate::plan::{granules_in, layout_in, root_word};
 use block_supply::BlockSupply;
 use book_log::{BookLog, LogEntry};
 use extent_index::ExtentIndex;
 use pmem_lines::Pmem;
 use pool_layout::{GRANULE_BYTES, SLAB_GRANULES, granule_at};
 use slab_header::class_at;
-use slab_index::LiveCounts;
-use slab_morph::used_blocks;
+use slab_lives::SlabLives;
+use slab_morph::{is_normal, used_blocks};
 
 /// Makes the indexes those of an exact image: all of the heap was free before, and no slab was there. `log` is the
 /// image's.
@@ -83,26 +84,32 @@ fn read_slab<P: Pmem>(device: &P, supply: &mut BlockSupply, start: u32)
     supply.add_used(start, class_at(device, at), &used_blocks(device, at));
 }
 
-/// Counts the live blocks of each slab of an exact image, by the words of its roots; all counts were 0 before.
-pub(crate) fn count_lives<P: Pmem>(device: &P, supply: &BlockSupply, lives: &mut LiveCounts)
+/// Counts the live blocks of each slab of an exact image, by the words of its roots, and notes which slabs are calm; all counts
+/// were 0 before, and no slab was calm.
+pub(crate) fn read_lives<P: Pmem>(device: &P, supply: &BlockSupply, lives: &mut SlabLives)
     requires exact { IsExactImage (words_of (P.state device.now)) }
     requires slabs { IsSlabsOf supply.now (words_of (P.state device.now)) }
-    requires size { length lives.old ≡ granules_in (words_of (P.state device.now)) }
-    requires none { (start : ℕ) → slice_index lives.old start ≡ 0 }
-    ensures { AreCountsOf lives.new (words_of (P.state device.now)) }
+    requires size { length lives.old.counts ≡ granules_in (words_of (P.state device.now)) }
+    requires none { (start : ℕ) → slice_index lives.old.counts start ≡ 0 }
+    requires no_calm { (start : ℕ) → calm_at lives.old start ≡ None }
+    ensures { AreLivesOf lives.new (words_of (P.state device.now)) }
 {
     for root in 0..layout_in(device).roots {
         count_root(device, supply, lives, root);
     }
+    for start in 0..granules_in(device) {
+        note_slab(device, supply, lives, start);
+    }
 }
 
 // Counts the block of a root, where it lies in a slab; those of the roots below it are counted.
-fn count_root<P: Pmem>(device: &P, supply: &BlockSupply, lives: &mut LiveCounts, root: u32)
+fn count_root<P: Pmem>(device: &P, supply: &BlockSupply, lives: &mut SlabLives, root: u32)
     requires exact { IsExactImage (words_of (P.state device.now)) }
     requires slabs { IsSlabsOf supply.now (words_of (P.state device.now)) }
     requires root { root < (bounds_of (words_of (P.state device.now))).roots }
-    requires counted { HasCounted (words_of (P.state device.now)) lives.old root }
-    ensures { HasCounted (words_of (P.state device.now)) lives.new (root + 1) }
+    requires counted { HasCounted (words_of (P.state device.now)) lives.old.counts root }
+    ensures counted { HasCounted (words_of (P.state device.now)) lives.new.counts (root + 1) }
+    ensures calm { (start : ℕ) → calm_at lives.new start ≡ calm_at lives.old start }
 {
     let at = root_word(device, root);
     if at == 0 {
@@ -110,5 +117,21 @@ fn count_root<P: Pmem>(device: &P, supply: &BlockSupply, lives: &mut LiveCounts,
     }
     if let Some(slab) = supply.slab_with(at / GRANULE_BYTES) {
         lives.raise(slab.start);
+    }
+}
+
+// Notes the slab that begins at a granule, where it is calm; those that begin below are noted.
+fn note_slab<P: Pmem>(device: &P, supply: &BlockSupply, lives: &mut SlabLives, start: u32)
+    requires exact { IsExactImage (words_of (P.state device.now)) }
+    requires slabs { IsSlabsOf supply.now (words_of (P.state device.now)) }
+    requires size { length lives.old.counts ≡ granules_in (words_of (P.state device.now)) }
+    requires noted { HasNoted (words_of (P.state device.now)) lives.old start }
+    ensures noted { HasNoted (words_of (P.state device.now)) lives.new (start + 1) }
+    ensures counts { lives.new.counts ≡ lives.old.counts }
+{
+    if let Some(class) = supply.class_at(start) {
+        if is_normal(device, granule_at(start)) {
+            lives.calm(start, class);
+        }
     }
 }

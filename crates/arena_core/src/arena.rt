@@ -17,7 +17,7 @@ ghost use Rattle.arena_core.specs.Call.{IsReady, IsStepOf, IsStepOfAny, IsFormat
 ghost use Rattle.arena_core.specs.Events.{call_events, line_after, format_events};
 ghost use Rattle.arena_core.specs.Payload.{payload_events, IsWriteStep, IsWrittenBy, IsEitherWords, IsViewOf};
 
-use crate::adopting::{count_lives, read_image};
+use crate::adopting::{read_image, read_lives};
 use crate::formatting::write_header;
 use crate::moving::plan_move;
 use crate::payload::{block_of, carry_out_write, plan_write};
@@ -105,7 +105,7 @@ impl<P: Pmem> Arena<P> {
             &mut volatile.free,
             &mut volatile.supply,
         );
-        count_lives(&device, &volatile.supply, &mut volatile.lives);
+        read_lives(&device, &volatile.supply, &mut volatile.lives);
         Arena { device, volatile }
     }
 

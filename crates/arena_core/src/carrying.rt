@@ -7,34 +7,39 @@ ghost use Rattle.image_tables.specs.Tables.{tables_of};
 ghost use Rattle.heap_model.specs.declared.call.Call.TheVariants as calls;
 ghost use Rattle.heap_model.specs.declared.call.Reply.TheVariants as replies;
 ghost use Rattle.heap_model.specs.Machine.{with_key, slab_block};
-ghost use Rattle.heap_check.specs.Heap.{slabs as classes_of};
+ghost use Rattle.slab_header.specs.Morph.{morph_events};
+ghost use Rattle.heap_check.specs.Heap.{slabs as classes_of, IsUnusedIn};
 ghost use Rattle.heap_check.specs.Image.{bounds_of, IsExactButImage};
 ghost use Rattle.heap_check.specs.State.{IsEitherHeap};
 ghost use Rattle.size_classes.specs.Classes.{class_capacity};
 ghost use Rattle.thread_cache.specs.Stacks.{stacks_of};
-ghost use Rattle.block_supply.specs.Supply.{HasNoOpen, HasSlabMore, IsPutOn};
+ghost use Rattle.block_supply.specs.Supply.{Supply, HasNoOpen, HasSlabMore, HasSlabLess, IsPutOn};
+ghost use Rattle.class_steps.specs.Classes.{LeavesClosed, IsOfClass};
 ghost use Rattle.log_steps.specs.Log.{IsBookOf};
 ghost use Rattle.extent_steps.specs.Slabs.{open_events, IsOpened};
 ghost use Rattle.attach_steps.specs.Steps.{attach_events, detach_events, detach_old_events, IsAttachable, IsDetachable, IsOldDetachable, IsAttached};
 ghost use Rattle.arena_core.specs.Answer.{malloc_reply, free_reply};
-ghost use Rattle.arena_core.specs.Arena.{IsIndexOf, IsSlabsOf, AreSlabsLess, AreSlabsBut, AreCountsOf, IsCurrent, IsArena};
+ghost use Rattle.arena_core.specs.Arena.{IsIndexOf, IsSlabsOf, AreSlabsLess, AreSlabsBut, AreLivesOf, IsCurrent, IsArena};
 ghost use Rattle.arena_core.specs.Call.{IsReady};
 ghost use Rattle.arena_core.specs.Carried.{IsDone, IsUntidy, IsTaken, IsTidied, IsCalled};
-ghost use Rattle.arena_core.specs.Effect.{IsLastOf, slabs_but, stacks_but, IsPutBack, IsSuppliedFresh};
-ghost use Rattle.arena_core.specs.Events.{place_events, take_events, fresh_events, unsmall_events, tidy_events, holds_none};
-ghost use Rattle.arena_core.specs.Plan.{IsAskedOf, IsVacantRow, IsGivable, IsTakable, IsNamedSmall, IsNamedOld, IsHeldBy, IsPlanned, IsFreePlan};
+ghost use Rattle.arena_core.specs.Effect.{IsLastOf, slabs_but, stacks_but, IsPutBack, IsSuppliedFresh, IsSuppliedMorph};
+ghost use Rattle.arena_core.specs.Events.{place_events, take_events, fresh_events, morphed_events, unsmall_events, tidy_events, holds_none};
+ghost use Rattle.arena_core.specs.Plan.{IsBlockAs, IsMorphable, IsAskedOf, IsVacantRow, IsGivable, IsTakable, IsNamedSmall, IsNamedOld, IsHeldBy, IsPlanned, IsFreePlan};
 
-use crate::plan::{Held, Place, freed_of, placed_at};
+use crate::plan::{Held, Place, freed_of, placed_large, placed_small};
 use crate::volatile::Volatile;
 use crate::{FreeRefusal, Freed, MallocRefusal, Placed};
 use attach_steps::{OldBlock, SmallBlock, attach, detach, detach_old, put_root};
 use block_supply::{BlockSupply, SlabAt, SlabBlock};
 use book_log::LogEntry;
+use class_steps::take_class;
 use extent_steps::{drop_extent, drop_slab, open_slab};
 use log_steps::log_entry;
 use pmem_lines::Pmem;
 use pool_layout::{SLAB_GRANULES, blocks_at, granule_at};
-use slab_morph::{covered_by, is_done, is_unused};
+use size_classes::size_of_class;
+use slab_header::class_at;
+use slab_morph::{covered_by, is_done, is_unused, used_blocks};
 use transition_steps::end_transition;
 
 impl Volatile {
@@ -71,17 +76,26 @@ impl Volatile {
         ensures { (was : Volatile) (size : ℕ) → IsPlanned (P.state device.old) was self.old seat root size (Ok place) → IsCalled (P.state device.old) (P.state device.new) was self.new seat (calls.Malloc root size) (replies.Placed result.at result.size) }
     {
         match place {
-            Place::Large { start, granules } => self.give_large(device, root, start, granules),
-            Place::Small { block, class: _ } => {
+            Place::Large { start, granules } => {
+                self.give_large(device, root, start, granules);
+                placed_large(start, granules)
+            }
+            Place::Small { block, class } => {
                 self.give_small(device, root, block);
                 self.line = (self.line + 1) % 8;
+                placed_small(block, class)
+            }
+            Place::Morph { start, class } => {
+                let block = self.give_morphed(device, seat, root, SlabAt { start, class });
+                self.line = (self.line + 1) % 8;
+                placed_small(block, class)
             }
             Place::Fresh { start, class } => {
-                self.give_fresh(device, seat, root, SlabAt { start, class });
+                let block = self.give_fresh(device, seat, root, SlabAt { start, class });
                 self.line = (self.line + 1) % 8;
+                placed_small(block, class)
             }
         }
-        placed_at(place)
     }
 
     /// Does what the plan of a free says, and answers the call.
@@ -161,11 +175,11 @@ impl Volatile {
         requires line { self.old.line < 8 }
         requires attachable { IsAttachable (words_of (P.state device.old)) root block }
         requires slabs { AreSlabsLess self.old.supply (words_of (P.state device.old)) block.start block.number }
-        requires lives { AreCountsOf self.old.lives (words_of (P.state device.old)) }
+        requires lives { AreLivesOf self.old.lives (words_of (P.state device.old)) }
         ensures step { IsQuietStep (P.state device.old) (P.state device.new) (attach_events (words_of (P.state device.old)) self.old.line root block) (IsEitherHeap (words_of (P.state device.old)) (words_of (P.state device.new))) }
         ensures attached { IsAttached (words_of (P.state device.old)) self.old.line root block (words_of (P.state device.new)) }
         ensures slabs { IsSlabsOf self.new.supply (words_of (P.state device.new)) }
-        ensures lives { AreCountsOf self.new.lives (words_of (P.state device.new)) }
+        ensures lives { AreLivesOf self.new.lives (words_of (P.state device.new)) }
         ensures rest { self.new ≡ record self.old { lives = self.new.lives } }
     {
         attach(device, self.line, root, block);
@@ -179,7 +193,7 @@ impl Volatile {
         requires row { IsVacantRow (bounds_of (words_of (P.state device.old))) (tables_of (words_of (P.state device.old))) start 4 }
         requires class { class < 36 }
         requires slabs { IsSlabsOf self.old.supply (words_of (P.state device.old)) }
-        requires lives { AreCountsOf self.old.lives (words_of (P.state device.old)) }
+        requires lives { AreLivesOf self.old.lives (words_of (P.state device.old)) }
         ensures step { IsQuietStep (P.state device.old) (P.state device.new) (open_events (words_of (P.state device.old)) start class) (IsEitherHeap (words_of (P.state device.old)) (words_of (P.state device.new))) }
         ensures few { length (P.state device.new).events ≤ 757 }
         ensures opened { IsOpened (words_of (P.state device.old)) start class (words_of (P.state device.new)) }
@@ -187,16 +201,73 @@ impl Volatile {
         ensures index { IsIndexOf self.new.free (words_of (P.state device.new)) }
         ensures slabs { IsSlabsOf self.new.supply (words_of (P.state device.new)) }
         ensures more { HasSlabMore self.old.supply self.new.supply start class (λ i. i < class_capacity class) }
-        ensures lives { AreCountsOf self.new.lives (words_of (P.state device.new)) }
+        ensures lives { AreLivesOf self.new.lives (words_of (P.state device.new)) }
         ensures line { self.new.line ≡ self.old.line }
     {
         open_slab(device, &mut self.log, start, class);
         self.free.take(start, SLAB_GRANULES);
         self.supply.add(start, class);
+        self.lives.calm(start, class);
+    }
+
+    // Gives a slab another class, for which it is fit: the blocks that it held live on in it as old ones.
+    fn change_class<P: Pmem>(&mut self, device: &mut P, start: u32, class: u8)
+        requires arena { IsArena (P.state device.old) self.old }
+        requires fresh { (P.state device.old).events ≡ [] }
+        requires morphable { IsMorphable (tables_of (words_of (P.state device.old))) start class }
+        requires class { class < 36 }
+        ensures step { IsQuietStep (P.state device.old) (P.state device.new) (morph_events (tables_of (words_of (P.state device.old))) start class) (LeavesClosed (words_of (P.state device.old))) }
+        ensures few { length (P.state device.new).events ≤ 757 }
+        ensures taken { IsOfClass (words_of (P.state device.old)) start class (words_of (P.state device.new)) }
+        ensures current { IsCurrent (P.state device.new) self.new }
+        ensures slabs { IsSlabsOf self.new.supply (words_of (P.state device.new)) }
+        ensures supplied { (less : Supply) × HasSlabLess self.old.supply less start × HasSlabMore less self.new.supply start class (λ i. (i < class_capacity class) × IsUnusedIn (tables_of (words_of (P.state device.old))) start class i) }
+        ensures lives { AreLivesOf self.new.lives (words_of (P.state device.new)) }
+        ensures line { self.new.line ≡ self.old.line }
+    {
+        take_class(device, start, class);
+        self.lives.stir(start);
+        self.supply.remove(start);
+        let used = used_blocks(device, granule_at(start));
+        self.supply.add_used(start, class, &used);
+    }
+
+    // Gives a slab another class, where no block of the class is open, and the first block of it that the seat is given then
+    // to a root.
+    fn give_morphed<P: Pmem>(
+        &mut self,
+        device: &mut P,
+        seat: u32,
+        root: u32,
+        slab: SlabAt,
+    ) -> SmallBlock
+        requires arena { IsArena (P.state device.old) self.old }
+        requires fresh { (P.state device.old).events ≡ [] }
+        requires seat { seat < 64 }
+        requires asked { (size : ℕ) × IsAskedOf (bounds_of (words_of (P.state device.old))) (tables_of (words_of (P.state device.old))) root size }
+        requires morphable { IsMorphable (tables_of (words_of (P.state device.old))) slab.start slab.class }
+        requires class { slab.class < 36 }
+        requires none { HasNoOpen self.old.supply slab.class }
+        ensures block { IsBlockAs result slab.start slab.class result.number }
+        ensures done { IsDone (P.state device.old) (P.state device.new) self.new root (Some (slab_block slab.start slab.class result.number)) (with_key (classes_of (tables_of (words_of (P.state device.old)))) slab.start (Some slab.class)) (morphed_events (words_of (P.state device.old)) self.old.line root result slab.class) }
+        ensures supplied { IsSuppliedMorph (tables_of (words_of (P.state device.old))) self.old.supply self.new.supply seat slab.start slab.class result.number }
+        ensures line { self.new.line ≡ self.old.line }
+    {
+        self.change_class(device, slab.start, slab.class);
+        let taken = self.supply.take(seat, slab.class).unwrap();
+        let at =
+            blocks_at(granule_at(slab.start)) + taken.number * size_of_class(slab.class);
+        let block = SmallBlock {
+            start: slab.start,
+            number: taken.number,
+            at,
+        };
+        self.give_small(device, root, block);
+        block
     }
 
     // Opens a slab, where no block of its class is open, and gives its first block to a root of a seat.
-    fn give_fresh<P: Pmem>(&mut self, device: &mut P, seat: u32, root: u32, slab: SlabAt)
+    fn give_fresh<P: Pmem>(&mut self, device: &mut P, seat: u32, root: u32, slab: SlabAt) -> SmallBlock
         requires arena { IsArena (P.state device.old) self.old }
         requires fresh { (P.state device.old).events ≡ [] }
         requires seat { seat < 64 }
@@ -204,6 +275,7 @@ impl Volatile {
         requires row { IsVacantRow (bounds_of (words_of (P.state device.old))) (tables_of (words_of (P.state device.old))) slab.start 4 }
         requires class { slab.class < 36 }
         requires none { HasNoOpen self.old.supply slab.class }
+        ensures block { IsBlockAs result slab.start slab.class 0 }
         ensures done { IsDone (P.state device.old) (P.state device.new) self.new root (Some (slab_block slab.start slab.class 0)) (with_key (classes_of (tables_of (words_of (P.state device.old)))) slab.start (Some slab.class)) (fresh_events (words_of (P.state device.old)) self.old.line root slab.start slab.class) }
         ensures supplied { IsSuppliedFresh self.old.supply self.new.supply seat slab.start slab.class }
         ensures line { self.new.line ≡ self.old.line }
@@ -217,6 +289,7 @@ impl Volatile {
             at: blocks_at(granule_at(slab.start)),
         };
         self.give_small(device, root, first);
+        first
     }
 
     // Takes a block of its slab's class from a root of a seat, and tidies the slab.
@@ -295,8 +368,10 @@ impl Volatile {
             drop_slab(device, &mut self.log, start);
             self.free.give(start, SLAB_GRANULES);
             self.supply.remove(start);
+            self.lives.stir(start);
         } else if is_done(device, granule_at(start)) {
             end_transition(device, start);
+            self.lives.calm(start, class_at(device, granule_at(start)));
         }
     }
 }

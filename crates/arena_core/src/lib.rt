@@ -19,6 +19,7 @@ mod adopting;
 mod answer;
 mod arena;
 mod carrying;
+mod fitting;
 mod formatting;
 mod laws;
 mod moving;

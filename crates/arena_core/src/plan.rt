@@ -1,9 +1,9 @@
 // What a call decides before its first store. It stores nothing; a malloc takes its block out of the supply.
-ghost use Rattle.std.specs.Prelude.{◌≡◌, ◌<◌, ◌≤◌, ◌+◌, ◌^◌, ℕ, List, MatchOption, None, Some};
+ghost use Rattle.std.specs.Prelude.{◌≡◌, ◌<◌, ◌≤◌, ◌+◌, ◌*◌, ◌^◌, ℕ, List, MatchOption, None, Some};
 ghost use Rattle.pmem_lines.specs.Pmem.{words_of};
 ghost use Rattle.pool_layout.specs.Layout.{layout_of};
 ghost use Rattle.pool_layout.specs.Header.{version_in};
-ghost use Rattle.size_classes.specs.Classes.{class_capacity, IsClassOf, granules_of};
+ghost use Rattle.size_classes.specs.Classes.{class_size, IsClassOf, granules_of};
 ghost use Rattle.image_tables.specs.Tables.{Tables, tables_of};
 ghost use Rattle.heap_model.specs.Machine.{Bounds, slab_block};
 ghost use Rattle.heap_model.specs.Runs.{IsBestFit, HasNoFit};
@@ -12,8 +12,9 @@ ghost use Rattle.heap_check.specs.Image.{bounds_of, IsFormed, IsExactImage};
 ghost use Rattle.slab_index.specs.SlabSet.{class_in};
 ghost use Rattle.log_steps.specs.Log.{IsBookOf};
 ghost use Rattle.arena_core.specs.Arena.{IsIndexOf, IsSlabsOf, IsArena};
-ghost use Rattle.arena_core.specs.Plan.{IsPlanned, IsFreePlan, IsHeldBy, IsSlabAt, IsRootIn, IsAskedOf, IsFound, IsSuppliedFor, range_at, range_held};
+ghost use Rattle.arena_core.specs.Plan.{IsPlanned, IsFreePlan, IsHeldBy, IsSlabAt, IsRootIn, IsAskedOf, IsFound, IsSuppliedFor, range_held};
 
+use crate::fitting::best_slab;
 use crate::volatile::Volatile;
 use crate::{FreeRefusal, Freed, MallocRefusal, Placed};
 use attach_steps::{OldBlock, SmallBlock};
@@ -34,6 +35,8 @@ pub(crate) enum Place {
     Large { start: u32, granules: u32 },
     /// A free block of a slab, which has the class.
     Small { block: SmallBlock, class: u8 },
+    /// A block of a slab, from a granule on, that takes the class for it.
+    Morph { start: u32, class: u8 },
     /// The first block of a slab of the class that is opened for it, on four granules from one on.
     Fresh { start: u32, class: u8 },
 }
@@ -79,7 +82,7 @@ impl Volatile {
             return Err(MallocRefusal::TooLarge);
         }
         let place = match class_of(size) {
-            Some(class) => small_place(&self.free, &mut self.supply, seat, class),
+            Some(class) => self.small_place(device, seat, class),
             None => large_place(&self.free, granules(size) as u32),
         };
         match place {
@@ -87,30 +90,33 @@ impl Volatile {
             None => Err(MallocRefusal::NoSpace),
         }
     }
-}
 
-// A place for a block of a class: a block that the supply gives the seat, or a new slab at the best fit.
-fn small_place(free: &ExtentIndex, supply: &mut BlockSupply, seat: u32, class: u8) -> Option<Place>
-    requires seat { seat < 64 }
-    requires class { class < 36 }
-    requires few { (start class : ℕ) → class_in supply.old.slabs start ≡ Some class → start < 1024 }
-    ensures found { (words : List ℕ) → IsExactImage words → IsIndexOf free.now words → IsSlabsOf supply.old words → (root size : ℕ) → IsClassOf size class → IsFound (bounds_of words) (tables_of words) root size result }
-    ensures supplied { IsSuppliedFor supply.old supply.new seat result }
-{
-    match supply.take(seat, class) {
-        Some(block) => {
+    // The place for a block of a class, below 36: a block that the supply gives the seat, or a slab that takes the class, or a
+    // new slab at the best fit.
+    fn small_place<P: Pmem>(&mut self, device: &P, seat: u32, class: u8) -> Option<Place>
+        requires arena { IsArena (P.state device.now) self.old }
+        requires seat { seat < 64 }
+        requires class { class < 36 }
+        ensures found { (root size : ℕ) → IsClassOf size class → IsFound (bounds_of (words_of (P.state device.now))) (tables_of (words_of (P.state device.now))) root size result }
+        ensures supplied { IsSuppliedFor self.old.supply self.new.supply seat result }
+        ensures rest { self.new ≡ record self.old { supply = self.new.supply } }
+    {
+        if let Some(block) = self.supply.take(seat, class) {
             let at = blocks_at(granule_at(block.start)) + block.number * size_of_class(class);
             let block = SmallBlock {
                 start: block.start,
                 number: block.number,
                 at,
             };
-            Some(Place::Small { block, class })
+            return Some(Place::Small { block, class });
         }
-        None => match free.best_fit(SLAB_GRANULES) {
+        if let Some(start) = best_slab(device, &self.lives, class) {
+            return Some(Place::Morph { start, class });
+        }
+        match self.free.best_fit(SLAB_GRANULES) {
             Some(start) => Some(Place::Fresh { start, class }),
             None => None,
-        },
+        }
     }
 }
 
@@ -125,24 +131,25 @@ fn large_place(free: &ExtentIndex, granules: u32) -> Option<Place>
     }
 }
 
-/// The block at a place.
-pub(crate) fn placed_at(place: Place) -> Placed
-    requires { (b : Bounds) × (t : Tables) × (root : ℕ) × (size : ℕ) × Rattle.arena_core.specs.Plan.IsPlacing b t root size place × (b.granules ≤ 1024) }
-    ensures { (result.at ≡ (range_at place).at) × (result.size ≡ (range_at place).size) }
+/// The block on so many granules, from one on.
+pub(crate) fn placed_large(start: u32, granules: u32) -> Placed
+    requires { start + granules ≤ 1024 }
+    ensures { result ≡ record { at = 16384 * start; size = 16384 * granules } }
 {
-    match place {
-        Place::Large { start, granules } => Placed {
-            at: granule_at(start),
-            size: GRANULE_BYTES * granules,
-        },
-        Place::Small { block, class } => Placed {
-            at: block.at,
-            size: size_of_class(class),
-        },
-        Place::Fresh { start, class } => Placed {
-            at: blocks_at(granule_at(start)),
-            size: size_of_class(class),
-        },
+    Placed {
+        at: granule_at(start),
+        size: GRANULE_BYTES * granules,
+    }
+}
+
+/// A block of a slab, which has the class, below 36.
+pub(crate) fn placed_small(block: SmallBlock, class: u8) -> Placed
+    requires { class < 36 }
+    ensures { result ≡ record { at = block.at; size = class_size class } }
+{
+    Placed {
+        at: block.at,
+        size: size_of_class(class),
     }
 }
 

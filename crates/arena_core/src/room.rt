@@ -6,7 +6,7 @@ use block_supply::BlockSupply;
 use book_log::BookLog;
 use extent_index::ExtentIndex;
 use pmem_lines::OutOfMemory;
-use slab_index::LiveCounts;
+use slab_lives::SlabLives;
 use std::alloc::Global;
 use std::marker::Model;
 
@@ -38,7 +38,7 @@ impl ArenaRoom {
         let log = BookLog::new(alloc, granules)?;
         let free = ExtentIndex::new(alloc, granules)?;
         let supply = BlockSupply::new(alloc, granules)?;
-        let lives = LiveCounts::new(alloc, granules)?;
+        let lives = SlabLives::new(alloc, granules)?;
         let volatile = Volatile {
             log,
             free,

@@ -49,7 +49,7 @@ invariant_of-result g c =
     let same = sym c.granules.ensures.granules in
     formatted_arena (g.P.Pmem.state c.write_header.new.device) header (record c.room.inside.volatile { log = c.load.new.self }) (formatted_ready (left g c)) (formatted_device (left g c)) c.load.ensures.reads (c.load.ensures.granules ∙ same)
     (c.room.invariant.index ∙ same) (subst (λ (n : ℕ). (k : ℕ) → IsFree c.room.inside.volatile.free k ↔ ((4 ≤ k) × (k < n))) same c.room.invariant.each)
-    (c.room.invariant.slabs ∙ same) c.room.invariant.no_slab (c.room.invariant.lives ∙ same) c.room.invariant.none_lives c.room.invariant.first
+    (c.room.invariant.slabs ∙ same) c.room.invariant.no_slab (c.room.invariant.counts ∙ same) c.room.invariant.no_lives c.room.invariant.no_calm c.room.invariant.first
 
 pub returns-clause-ready : goal.returns-clause-ready
 returns-clause-ready g c = formatted_ready (left g c)

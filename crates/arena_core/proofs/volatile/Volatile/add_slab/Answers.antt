@@ -1,3 +1,4 @@
+use Rattle.std.proofs.Common.{arith}
 use Rattle.pmem_lines.specs.Pmem.{words_of}
 use Rattle.arena_core.proofs.SlabChanges.{clear_opened, lives_opened, index_opened, slabs_opened}
 use Rattle.arena_core.proofs.volatile.Volatile.add_slab.Goals as goal
@@ -14,7 +15,7 @@ returns-clause-index g c =
 pub returns-clause-lives : goal.returns-clause-lives
 returns-clause-lives g c =
     let state = g.P.Pmem.state in
-    lives_opened (words_of (state c.args.device.now)) c.args.start c.args.class c.requires.current.exact c.requires.row c.requires.class (words_of (state c.open_slab.new.p)) c.open_slab.ensures.opened c.args.self.now.lives c.requires.lives
+    lives_opened (words_of (state c.args.device.now)) c.args.start c.args.class c.requires.current.exact c.requires.row c.requires.class (words_of (state c.open_slab.new.p)) c.open_slab.ensures.opened c.args.self.now.lives c.calm.new.self c.calm.ensures.counts c.calm.ensures.calm c.requires.lives
 
 pub returns-clause-slabs : goal.returns-clause-slabs
 returns-clause-slabs g c =
@@ -26,3 +27,9 @@ pub add-requires-clause-clear : goal.add-requires-clause-clear
 add-requires-clause-clear g c =
     let state = g.P.Pmem.state in
     clear_opened (words_of (state c.args.device.now)) c.args.start c.args.class c.requires.current.exact c.requires.row c.requires.class (words_of (state c.open_slab.new.p)) c.open_slab.ensures.opened c.args.self.now.supply c.requires.slabs
+
+-- the slab is one of the arena's granules
+pub calm-requires-clause-inside : goal.calm-requires-clause-inside
+calm-requires-clause-inside g c =
+    let sizes = c.requires.lives.counts.size in
+    omega (arith, c.requires.row.high, sizes)

@@ -5,7 +5,9 @@ use Rattle.heap_model.specs.Machine.{slab_block}
 use Rattle.heap_check.specs.Heap.{IsUnusedIn}
 use Rattle.heap_check.proofs.Heaps.{heap-none}
 use Rattle.heap_check.proofs.SmallPlaces.{IsWithin-block, in_slab}
+use Rattle.arena_core.specs.Arena.{calm_of}
 use Rattle.arena_core.proofs.LiveCounts.{counts_raised}
+use Rattle.arena_core.proofs.LiveSlabs.{lives_kept}
 use Rattle.arena_core.proofs.SmallCalls.{slabs_less, slabs_used, used_given}
 use Rattle.arena_core.proofs.TakenBlocks.{counted, more_given}
 use Rattle.arena_core.proofs.volatile.Volatile.give_small.Goals as goal
@@ -45,6 +47,8 @@ returns-clause-lives g c =
     let but = may.block_in.image.but in
     let range = slab_block block.start (t.class block.start) block.number in
     let inside = in_slab but.sound but.closed block.start block.number may.block_in.slab may.block_in.below range (IsWithin-block but.sound but.closed block.start block.number may.block_in.slab may.block_in.below) in
-    counts_raised words (words_of (state c.attach.new.p)) c.args.root block.start range c.args.self.now.lives c.raise.new.self
+    lives_kept words (words_of (state c.attach.new.p)) c.args.self.now.lives c.raise.new.self
+    (counts_raised words (words_of (state c.attach.new.p)) c.args.root block.start range c.args.self.now.lives.counts c.raise.new.self.counts
     (more_given words (words_of (state c.attach.new.p)) c.args.root block.start range may.block_in.rooted attached.bounds (λ s. ap (λ (x : Tables). x.slab s) attached.tables) but.sound inside (heap-none t c.args.root may.none) attached.gives)
-    c.raise.ensures.size c.raise.ensures.counts c.requires.lives
+    c.raise.ensures.size c.raise.ensures.counts c.requires.lives.counts)
+    c.requires.lives c.raise.ensures.calm (λ s. ap (λ (x : Tables). calm_of x s) attached.tables)

@@ -8,7 +8,6 @@ use Rattle.heap_check.specs.Image.{bounds_of}
 use Rattle.arena_core.specs.declared.volatile.Volatile.{Volatile}
 use Rattle.arena_core.specs.Plan.{IsAskedOf, IsPlacing, IsFound}
 use Rattle.heap_check.proofs.Sizes.{sizes_of}
-use Rattle.arena_core.proofs.Plans.{slab_few}
 use Rattle.arena_core.proofs.PlannedCalls.{supplied_by, supplied_large, rest_by}
 use Rattle.arena_core.proofs.volatile.Volatile.plan_malloc.Goals as goal
 use Rattle.arena_core.proofs.volatile.Volatile.plan_malloc.Goals.{in-Some, in-None}
@@ -37,12 +36,12 @@ returns-in-Some-place g c =
     elim c.match-class_of.branch [
       | in-Some w ↦ record {
         arena = c.requires.arena;
-        supplied = supplied_by now.supply w.small_place-place.new.supply c.match-class_of.self.supply c.args.seat w.small_place-place.result (Some c.in-Some-place.place) (ap (λ (v : Volatile). v.supply) w.self-is) (sym w.place-is ∙ c.in-Some-place.is) w.small_place-place.ensures.supplied;
-        rest = rest_by now c.match-class_of.self w.small_place-place.new.supply w.self-is;
+        supplied = supplied_by now.supply w.small_place-place.new.self.supply c.match-class_of.self.supply c.args.seat w.small_place-place.result (Some c.in-Some-place.place) (ap (λ (v : Volatile). v.supply) w.self-is) (sym w.place-is ∙ c.in-Some-place.is) w.small_place-place.ensures.supplied;
+        rest = rest_by now c.match-class_of.self w.small_place-place.new.self.supply (w.self-is ∙ w.small_place-place.ensures.rest);
         is = (
           asked,
           subst (IsFound (bounds_of words) (tables_of words) c.args.root c.args.size) (sym w.place-is ∙ c.in-Some-place.is)
-              (w.small_place-place.ensures.found words c.requires.arena.current.exact c.requires.arena.current.index c.requires.arena.slabs c.args.root c.args.size w.in-Some.ensures.class),
+              (w.small_place-place.ensures.found c.args.root c.args.size w.in-Some.ensures.class),
         );
       }
       | in-None w ↦
@@ -66,12 +65,12 @@ returns-in-None-place g c =
     elim c.match-class_of.branch [
       | in-Some w ↦ record {
         arena = c.requires.arena;
-        supplied = supplied_by now.supply w.small_place-place.new.supply c.match-class_of.self.supply c.args.seat w.small_place-place.result None (ap (λ (v : Volatile). v.supply) w.self-is) (sym w.place-is ∙ c.in-None-place.is) w.small_place-place.ensures.supplied;
-        rest = rest_by now c.match-class_of.self w.small_place-place.new.supply w.self-is;
+        supplied = supplied_by now.supply w.small_place-place.new.self.supply c.match-class_of.self.supply c.args.seat w.small_place-place.result None (ap (λ (v : Volatile). v.supply) w.self-is) (sym w.place-is ∙ c.in-None-place.is) w.small_place-place.ensures.supplied;
+        rest = rest_by now c.match-class_of.self w.small_place-place.new.self.supply (w.self-is ∙ w.small_place-place.ensures.rest);
         is = (
           asked,
           subst (IsFound (bounds_of words) (tables_of words) c.args.root c.args.size) (sym w.place-is ∙ c.in-None-place.is)
-              (w.small_place-place.ensures.found words c.requires.arena.current.exact c.requires.arena.current.index c.requires.arena.slabs c.args.root c.args.size w.in-Some.ensures.class),
+              (w.small_place-place.ensures.found c.args.root c.args.size w.in-Some.ensures.class),
         );
       }
       | in-None w ↦
@@ -87,6 +86,3 @@ returns-in-None-place g c =
             );
           }
     ]
-
-pub small_place-place-requires-clause-few : goal.small_place-place-requires-clause-few
-small_place-place-requires-clause-few g c = slab_few c.requires.arena.current.exact c.requires.arena.slabs

@@ -1,11 +1,13 @@
 use Rattle.std.proofs.Common.{ℕ, false, sym, ap, subst, ◌∙◌, arith, Some, None, length}
 use Rattle.std.proofs.lemmas.Bool.{cond-true}
 use Rattle.pmem_lines.specs.Pmem.{words_of}
-use Rattle.image_tables.specs.Tables.{tables_of}
+use Rattle.image_tables.specs.Tables.{Tables, tables_of}
 use Rattle.thread_cache.specs.Stacks.{stacks_of}
 use Rattle.block_supply.specs.Supply.{IsPutOn}
 use Rattle.arena_core.proofs.BlockChanges.{change_bit}
+use Rattle.arena_core.specs.Arena.{calm_of}
 use Rattle.arena_core.proofs.LiveCounts.{counts_lowered, live_positive}
+use Rattle.arena_core.proofs.LiveSlabs.{lives_kept}
 use Rattle.arena_core.proofs.SmallCalls.{bits_with, lives_as, slabs_less, slabs_missing, slabs_with, named_used, unused_taken}
 use Rattle.arena_core.proofs.TakenBlocks.{counted, class_more, taken_by}
 use Rattle.arena_core.proofs.volatile.Volatile.take_block.Goals as goal
@@ -33,7 +35,7 @@ pub lower-requires-clause-some : goal.lower-requires-clause-some
 lower-requires-clause-some g c =
     let state = g.P.Pmem.state in
     let some = live_positive (words_of (state c.detach.new.p)) (words_of (state c.args.device.now)) c.args.root c.args.block.start _ (class_more (words_of (state c.args.device.now)) c.args.self.now.line c.args.root c.args.block c.requires.detachable (words_of (state c.detach.new.p)) c.detach.ensures.detached) in
-    omega (arith, some, c.requires.arena.lives.each c.args.block.start)
+    omega (arith, some, c.requires.arena.lives.counts.each c.args.block.start)
 
 pub returns : goal.returns
 returns g c =
@@ -54,6 +56,8 @@ returns g c =
           (slabs_less words c.args.root block.start block.number false 0 new detached.bounds detached.tables c.args.self.now.supply
           (slabs_missing block.start block.number arena.slabs (named_used arena.slabs c.requires.detachable)))
           came.with_block (unused_taken words c.args.self.now.line c.args.root block c.requires.detachable new detached))
-          (counts_lowered new words c.args.root block.start _ c.args.self.now.lives c.lower.new.self (class_more (words_of (state c.args.device.now)) c.args.self.now.line c.args.root c.args.block c.requires.detachable (words_of (state c.detach.new.p)) c.detach.ensures.detached) c.lower.ensures.size c.lower.ensures.counts arena.lives);
+          (lives_kept words new c.args.self.now.lives c.lower.new.self
+          (counts_lowered new words c.args.root block.start _ c.args.self.now.lives.counts c.lower.new.self.counts (class_more (words_of (state c.args.device.now)) c.args.self.now.line c.args.root c.args.block c.requires.detachable (words_of (state c.detach.new.p)) c.detach.ensures.detached) c.lower.ensures.size c.lower.ensures.counts arena.lives.counts)
+          arena.lives c.lower.ensures.calm (λ s. ap (λ (x : Tables). calm_of x s) detached.tables));
       stacks = subst (λ (a : ℕ). IsPutOn (stacks_of c.args.self.now.supply.stacks) c.args.seat (t.class block.start) a (stacks_of c.put_back.new.self.stacks)) (sym block_in.at) came.stacks;
     }

@@ -1,4 +1,4 @@
-use Rattle.std.proofs.Common.{◌≡◌, ◌↔◌, ◌/◌, IsTrue, true≢false, sym, ap, subst, ◌∙◌, arith}
+use Rattle.std.proofs.Common.{◌≡◌, ◌≢◌, ◌↔◌, ◌/◌, ℕ, Some, slice_index, IsTrue, true≢false, sym, ap, subst, ◌∙◌, arith}
 use Rattle.std.proofs.lemmas.Bool.{cond-true}
 use Rattle.pmem_lines.specs.Pmem.{words_of}
 use Rattle.pmem_lines.proofs.Steps.{step_by}
@@ -13,7 +13,12 @@ use Rattle.arena_core.specs.Events.{holds_none, tidy_events}
 use Rattle.arena_core.proofs.HeldBlocks.{slab_here}
 use Rattle.arena_core.proofs.LastBlocks.{empty_by_tests}
 use Rattle.arena_core.proofs.SlabChanges.{held_row, classes_dropped, index_dropped, slabs_dropped, lives_dropped, keeps_dropped}
-use Rattle.arena_core.proofs.Tidying.{none_by_count, some_by_count, tidied_none, endable, tidied_ended}
+use Rattle.heap_model.specs.Machine.{with_key}
+use Rattle.slab_lives.specs.Lives.{calm_at}
+use Rattle.arena_core.proofs.AdoptedSlabs.{class_read}
+use Rattle.arena_core.proofs.TakenBlocks.{counted}
+use Rattle.arena_core.proofs.Tidying.{none_by_count, some_by_count, tidied_none, endable, slab_same, class_same, tidied_ended}
+use Rattle.arena_core.proofs.volatile.Volatile.tidy.Given as given
 use Rattle.arena_core.proofs.volatile.Volatile.tidy.Goals as goal
 
 pub drop_slab-requires-clause-droppable : goal.drop_slab-requires-clause-droppable
@@ -63,19 +68,45 @@ returns-then-at-eq0-clause-tidied g c =
         index = index_dropped words start image empty new dropped c.args.self.now.free c.give.new.self c.give.ensures.granules c.give.ensures.free c.requires.untidy.index;
       };
       slabs = slabs_dropped words start image empty new dropped c.args.self.now.supply c.remove.new.self c.remove.ensures c.requires.untidy.slabs;
-      lives = lives_dropped words start image empty new dropped c.args.self.now.lives zero c.requires.untidy.lives;
+      lives = lives_dropped words start image empty new dropped c.args.self.now.lives c.stir.new.self c.stir.ensures.counts c.stir.ensures.calm zero c.requires.untidy.lives;
       bounds = dropped.bounds;
       heap = dropped.heap;
       slab = λ other. classes_dropped words start image empty new dropped other ∙ sym (ap (λ gone. slabs_but (slabs (tables_of words)) start gone other) none);
       keeps = keeps_dropped words start image empty new dropped;
     }
 
+-- the slab's class, as it was read behind the end of its transition
+class_left : (g : given.Over) (c : goal.After-class_at g) → c.class_at.result ≡ (tables_of (words_of (g.P.Pmem.state c.args.device.now))).class c.args.start
+class_left g c =
+    let old = g.P.Pmem.state c.args.device.now in
+    let new = g.P.Pmem.state c.end_transition.new.p in
+    let start : c.granule_at.result / 16384 ≡ c.args.start = omega (arith, c.granule_at.ensures) in
+    let says = subst (λ s. IsTrue c.is_done.result ↔ IsDoneSlab (tables_of (words_of old)) s) start c.is_done.ensures in
+    let some : slice_index c.args.self.now.lives.counts c.args.start ≢ 0 = λ zero. c.if-at-eq0.false (c.at.ensures ∙ zero) in
+    let slab = slab_same old c.args.self.now c.args.start c.requires.untidy some (says.0 c.if-is_done.true) new c.end_transition.ensures.step c.end_transition.ensures.ended c.args.start in
+    class_read (words_of new) c.granule_at-then-is_done.result c.args.start c.class_at.result (omega (arith, c.granule_at-then-is_done.ensures)) (slab ∙ c.requires.untidy.slab) c.class_at.ensures
+    ∙ class_same old c.args.self.now c.args.start c.requires.untidy some (says.0 c.if-is_done.true) new c.end_transition.ensures.step c.end_transition.ensures.ended c.args.start
+
+calm_put : (g : given.Over) (c : goal.After-calm g) → (s : ℕ) → calm_at c.calm.new.self s ≡ with_key (calm_at c.args.self.now.lives) c.args.start (Some ((tables_of (words_of (g.P.Pmem.state c.args.device.now))).class c.args.start)) s
+calm_put g c s = c.calm.ensures.calm s ∙ ap (λ n. with_key (calm_at c.args.self.now.lives) c.args.start (Some n) s) (class_left g c.before)
+
+pub calm-requires-clause-inside : goal.calm-requires-clause-inside
+calm-requires-clause-inside g c = (counted (words_of (g.P.Pmem.state c.args.device.now)) c.args.start c.args.self.now.lives c.requires.untidy.image c.requires.untidy.slab c.requires.untidy.lives).0
+
+pub calm-requires-clause-class : goal.calm-requires-clause-class
+calm-requires-clause-class g c =
+    let valid = c.requires.untidy.image.but.sound.slabs c.args.start c.requires.untidy.slab in
+    omega (arith, class_left g c, valid.state.is_class)
+
+pub class_at-requires-clause-aligned : goal.class_at-requires-clause-aligned
+class_at-requires-clause-aligned g c = omega (arith, c.granule_at-then-is_done.ensures)
+
 pub returns-then-is_done-clause-tidied : goal.returns-then-is_done-clause-tidied
 returns-then-is_done-clause-tidied g c =
     let old = g.P.Pmem.state c.args.device.now in
     let start : c.granule_at.result / 16384 ≡ c.args.start = omega (arith, c.granule_at.ensures) in
     let says = subst (λ s. IsTrue c.is_done.result ↔ IsDoneSlab (tables_of (words_of old)) s) start c.is_done.ensures in
-    tidied_ended old c.args.self.now c.args.start c.requires.untidy (λ zero. c.if-at-eq0.false (c.at.ensures ∙ zero)) (says.0 c.if-is_done.true) (g.P.Pmem.state c.end_transition.new.p) c.end_transition.ensures.step c.end_transition.ensures.ended
+    tidied_ended old c.args.self.now c.args.start c.requires.untidy (λ zero. c.if-at-eq0.false (c.at.ensures ∙ zero)) (says.0 c.if-is_done.true) (g.P.Pmem.state c.end_transition.new.p) c.end_transition.ensures.step c.end_transition.ensures.ended c.calm.new.self c.calm.ensures.counts (calm_put g c)
 
 pub returns-else-is_done-clause-tidied : goal.returns-else-is_done-clause-tidied
 returns-else-is_done-clause-tidied g c =

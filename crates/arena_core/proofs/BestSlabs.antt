@@ -1,0 +1,146 @@
+-- The search for the slab that takes a class: the candidates come in order, so the first one that is fit is the best.
+use Rattle.std.proofs.Common.{◌≡◌, ◌≢◌, ◌⊎◌, ℕ, ◌+◌, ◌-◌, ◌*◌, ◌<◌, ◌≤◌, true, List, length, Option, slice_index, Some, None, MatchOption, IfSome, sym, ap, ◌∙◌, subst, arith, inl, inr, ⊎_elim}
+use Rattle.std.proofs.lemmas.Bool.{cases_eq, cases_lt, cond-true}
+use Rattle.size_classes.specs.Classes.{class_capacity}
+use Rattle.image_tables.specs.Forms.{normal_kind}
+use Rattle.image_tables.specs.Tables.{Tables, tables_of}
+use Rattle.heap_model.specs.Choice.{View, IsFit, IsBestSlab, HasNoFitSlab}
+use Rattle.heap_model.specs.Slabs.{live_below}
+use Rattle.slab_index.specs.declared.candidates.Candidate.{Candidate}
+use Rattle.slab_index.specs.Candidates.{IsBefore}
+use Rattle.slab_lives.specs.Lives.{Lives, IsSparse, HasNoSparse, IsFirstSparse, HasNoSparseBehind, IsNextSparse}
+use Rattle.heap_check.specs.Heap.{heap}
+use Rattle.heap_check.specs.Image.{bounds_of}
+use Rattle.class_steps.specs.Classes.{IsReadyFor, IsFitIn}
+use Rattle.arena_core.specs.Arena.{AreLivesOf}
+use Rattle.arena_core.specs.Plan.{tables_view, IsMorphable}
+use Rattle.arena_core.proofs.LiveSlabs.{calm_normal, calm_parts}
+use Rattle.arena_core.proofs.Plans.{slab_parts}
+
+-- the order of candidates
+
+-- of two places one comes first, or they are the same
+before_or_behind : (live start n s : ℕ) → IsBefore live start n s ⊎ (IsBefore n s live start ⊎ ((live ≡ n) × (start ≡ s)))
+before_or_behind live start n s = ⊎_elim
+    (λ (less : live < n). inl (inl less))
+    (λ (most : n ≤ live). ⊎_elim
+    (λ (more : n < live). inr (inl (inl more)))
+    (λ (least : live ≤ n).
+    let same : live ≡ n = omega (arith, most, least) in
+    ⊎_elim
+    (λ (lower : start < s). inl (inr (same, lower)))
+    (λ (high : s ≤ start). ⊎_elim
+    (λ (higher : s < start). inr (inl (inr (sym same, higher))))
+    (λ (low : start ≤ s). inr (inr (same, omega (arith, high, low))))
+    (cases_lt s start))
+    (cases_lt start s))
+    (cases_lt n live))
+    (cases_lt live n)
+
+-- how far a candidate is from the last place that one may have
+abbrev pub left_behind : Option Candidate → ℕ
+left_behind None = 0
+left_behind (Some found) = 300000 - (4096 * found.live + found.start)
+
+module _ (words : List ℕ) (lives : Lives) (class : ℕ) where
+  abbrev t : Tables
+  t = tables_of words
+
+  abbrev v : View
+  v = tables_view (bounds_of words) (tables_of words)
+
+  -- A candidate is such a slab, and none before it is fit; where there is none any more, no slab is fit.
+  abbrev pub IsSought : Option Candidate → Type 0
+  IsSought None = HasNoFitSlab (tables_view (bounds_of words) (tables_of words)) class
+  IsSought (Some found) = IsSparse lives class found.start found.live × ((s : ℕ) → IsFit (tables_view (bounds_of words) (tables_of words)) class s → ¬ (IsBefore (live_below (heap (tables_of words)) s (bounds_of words).roots) s found.live found.start))
+
+  module _ (are : AreLivesOf lives words) where
+    -- a candidate is a normal slab
+    pub sparse_slab : (start live : ℕ) → IsSparse lives class start live → ((tables_of words).slab start ≡ true) × ((tables_of words).kind start ≡ normal_kind)
+    sparse_slab start live is = let parts = calm_parts t start is.own (sym (are.calm start) ∙ is.slab) in (parts.0, parts.1)
+
+    -- so many blocks live in a slab as are counted
+    live_is : (start : ℕ) → t.slab start ≡ true → slice_index lives.counts start ≡ live_below (heap t) start (bounds_of words).roots
+    live_is start slab = are.counts.each start ∙ cond-true (t.slab start) (live_below (heap t) start (bounds_of words).roots) 0 slab
+
+    -- a slab that is fit is a candidate
+    sparse_of_fit : (s : ℕ) → IsFit v class s → IsSparse lives class s (live_below (heap t) s (bounds_of words).roots)
+    sparse_of_fit s fit =
+        let is = slab_parts t s fit.class fit.slab in
+        let normal : t.kind s ≡ normal_kind = ⊎_elim (λ normal. normal) (λ moving. absurd (fit.calm moving)) (cases_eq (t.kind s) normal_kind) in
+        record {
+          own = fit.class;
+          slab = are.calm s ∙ calm_normal t s is.0 normal ∙ ap (λ c. Some c) is.1;
+          count = sym (live_is s is.0);
+          differs = fit.differs;
+          few = fit.few;
+          sparse = fit.sparse;
+        }
+
+    -- what the first candidate is, and what the one behind another
+    pub first_sought : (next : Option Candidate) → MatchOption next (HasNoSparse lives class) (IsFirstSparse lives class) → IsSought next
+    first_sought None none = record { none = λ s fit. none.none s _ (sparse_of_fit s fit) }
+    first_sought (Some found) first = (first.is, λ s fit. first.first s _ (sparse_of_fit s fit))
+
+    -- a slab that is fit is not the one that isn't, and so it comes behind
+    comes_behind : (found : Candidate) → IsSought (Some found) → ¬ (IsFitIn words found.start class) → (s : ℕ) → IsFit v class s → IsBefore found.live found.start (live_below (heap t) s (bounds_of words).roots) s
+    comes_behind found sought unfit s fit =
+        let live = live_below (heap t) s (bounds_of words).roots in
+        ⊎_elim
+        (λ behind. behind)
+        (λ rest. ⊎_elim
+        (λ before. absurd (sought.1 s fit before))
+        (λ same.
+        let is = slab_parts t s fit.class fit.slab in
+        absurd (unfit (subst (λ (k : ℕ). IsFitIn words k class) (sym same.1) (record {
+          differs = λ own. fit.differs (own ∙ is.1);
+          few = fit.few;
+          sparse = subst (λ (c : ℕ). 5 * live ≤ class_capacity c) (sym is.1) fit.sparse;
+          number = fit.number;
+          below = fit.block.within;
+          unused = fit.block.unused;
+        }))))
+        rest)
+        (before_or_behind found.live found.start live s)
+
+    pub next_sought : (found : Candidate) → IsSought (Some found) → ¬ (IsFitIn words found.start class) → (next : Option Candidate) → MatchOption next (HasNoSparseBehind lives class found.live found.start) (IsNextSparse lives class found.live found.start) → IsSought next
+    next_sought found sought unfit None none = record { none = λ s fit. none.none s _ (comes_behind found sought unfit s fit) (sparse_of_fit s fit) }
+    next_sought found sought unfit (Some later) next = (next.is, λ s fit. next.first s _ (sparse_of_fit s fit) (comes_behind found sought unfit s fit))
+
+    -- a candidate that is fit is the best slab
+    pub best_sought : (found : Candidate) → IsSought (Some found) → IsReadyFor words found.start class → IsBestSlab (tables_view (bounds_of words) (tables_of words)) class found.start × IsMorphable (tables_of words) found.start class
+    best_sought found sought ready =
+        let is = sought.0 in
+        let parts = calm_parts t found.start is.own (sym (are.calm found.start) ∙ is.slab) in
+        let live : found.live ≡ live_below (heap t) found.start (bounds_of words).roots = is.count ∙ live_is found.start ready.slab in (
+          record {
+            fit = record {
+              class = t.class found.start;
+              slab = cond-true (t.slab found.start) (Some (t.class found.start)) None ready.slab;
+              calm = λ moving. moving ready.normal;
+              differs = λ own. is.differs (own ∙ sym parts.2);
+              few = omega (arith, live, is.few);
+              sparse = subst (λ (c : ℕ). 5 * live_below (heap t) found.start (bounds_of words).roots ≤ class_capacity c) parts.2 (omega (arith, live, is.sparse));
+              number = ready.fit.number;
+              block = record { within = ready.fit.block.within; unused = record { each = λ range holds. ⊎_elim inr inl (ready.fit.block.unused.each range holds) } };
+            };
+            fewest = λ s fit. ⊎_elim (λ low. low) (λ more. absurd (sought.1 s fit (inl (omega (arith, more, live))))) (at_most (live_below (heap t) found.start (bounds_of words).roots) (live_below (heap t) s (bounds_of words).roots));
+            lowest = λ s fit same. ⊎_elim (λ low. low) (λ more. absurd (sought.1 s fit (inr (same ∙ sym live, more)))) (at_most found.start s);
+          },
+          record { slab = ready.slab; normal = ready.normal; fit = ready.fit },
+        )
+      where
+        at_most : (a b : ℕ) → (a ≤ b) ⊎ (b < a)
+        at_most a b = ⊎_elim (λ less. inr less) (λ most. inl most) (cases_lt b a)
+
+-- a candidate behind another is nearer to the end
+nearer : (found later : Candidate) → IsBefore found.live found.start later.live later.start → later.live ≤ 64 → later.start < 4096 → found.start < 4096 → left_behind (Some later) < left_behind (Some found)
+nearer found later behind few low under = ⊎_elim (λ more. omega (arith, more, few, low, under)) (λ same. omega (arith, same.0, same.1, few, low)) behind
+
+at_the_end : (found : Candidate) → found.live ≤ 64 → found.start < 4096 → left_behind None < left_behind (Some found)
+at_the_end found few low = omega (arith, few, low)
+
+pub smaller : (lives : Lives) (class : ℕ) (found : Candidate) (next : Option Candidate) → IsSparse lives class found.start found.live → length lives.counts ≤ 4096 → found.start < length lives.counts →
+    MatchOption next (HasNoSparseBehind lives class found.live found.start) (IsNextSparse lives class found.live found.start) → IfSome next (λ later. later.start < length lives.counts) → left_behind next < left_behind (Some found)
+smaller lives class found None is size inside next within = at_the_end found is.few (omega (arith, inside, size))
+smaller lives class found (Some later) is size inside next within = nearer found later next.behind next.is.few (omega (arith, within, size)) (omega (arith, inside, size))

@@ -1,0 +1,245 @@
+-- A slab took another class: what stands beside the words of an arena holds again.
+use Rattle.std.proofs.Common.{◌≡◌, ◌≢◌, ◌==◌, ◌↔◌, ◌⊎◌, ℕ, ◌+◌, ◌-◌, ◌*◌, ◌<◌, ◌≤◌, Bool, true, false, List, length, Option, Some, None, MatchOption, IsSome, refl, sym, ap, ◌∙◌, subst, arith, inl, inr, ⊎_elim, if◌then◌else◌}
+use Rattle.std.proofs.Math.Nat.{min-le_right}
+use Rattle.std.proofs.lemmas.Bool.{cases_eq, cases_lt, cond-true, cond-false, eq-eqb, ne_eqb}
+use Rattle.size_classes.specs.Classes.{class_capacity}
+use Rattle.pmem_lines.specs.declared.event.Event.{Event}
+use Rattle.image_tables.specs.Forms.{normal_kind, morphing_kind, morphed_kind}
+use Rattle.image_tables.specs.Tables.{Tables, tables_of}
+use Rattle.image_tables.proofs.Headers.{SameLog-off_header}
+use Rattle.image_tables.proofs.Stores.{HasNoMove-closed}
+use Rattle.image_tables.proofs.Updates.{put_at-same, put_at-other}
+use Rattle.book_log.specs.Book.{Book}
+use Rattle.book_log.proofs.Books.{Reads-same}
+use Rattle.heap_model.specs.Machine.{Bounds, with_key, slab_block}
+use Rattle.heap_model.proofs.Maps.{with_key-here, with_key-other}
+use Rattle.extent_index.specs.FreeSet.{FreeSet, IsFree}
+use Rattle.slab_index.specs.SlabSet.{class_in, IsSlab}
+use Rattle.slab_lives.specs.Lives.{Lives, calm_at}
+use Rattle.slab_index.specs.declared.block.SlabBlock.{SlabBlock}
+use Rattle.block_supply.specs.Supply.{Supply, IsOpen, IsClearOf, HasSlabMore, HasSlabLess, HasNoOpen, HadNoOpen, TookBlock}
+use Rattle.block_supply.proofs.Takes.{none_open}
+use Rattle.block_supply.proofs.Firsts.{in_new}
+use Rattle.heap_check.specs.Heap.{slabs, IsUnusedIn}
+use Rattle.heap_check.specs.Sound.{IsVacant}
+use Rattle.heap_check.specs.Image.{bounds_of, IsExactImage}
+use Rattle.heap_check.specs.State.{IsEitherHeap}
+use Rattle.heap_check.proofs.Geometry.{granules_at-slab, Covers-slab}
+use Rattle.heap_check.proofs.Sizes.{sizes_of}
+use Rattle.log_steps.specs.Log.{IsBookOf}
+use Rattle.slab_header.specs.Morph.{held_numbers}
+use Rattle.slab_morph.specs.SlabHeaders.{SlabHeader, header_of, put_header}
+use Rattle.slab_morph.specs.Stages.{morphed, morph_count}
+use Rattle.class_steps.specs.Classes.{IsReadyFor, LeavesClosed, IsOfClass}
+use Rattle.arena_core.specs.Arena.{IsIndexOf, IsSlabsOf, AreCountsOf, AreLivesOf, calm_of}
+use Rattle.arena_core.specs.Plan.{IsAskedOf, IsMorphable, IsGivableBlock}
+use Rattle.arena_core.proofs.LiveCounts.{counts_kept, live_same}
+use Rattle.arena_core.proofs.LiveSlabs.{calm_stirred, calm_header, calm_all_but, lives_put}
+use Rattle.arena_core.proofs.Plans.{slab_parts}
+use Rattle.arena_core.proofs.UnusedBlocks.{iff_then}
+
+-- before
+
+-- by what the plan says of it the slab is ready
+pub ready_for : (words : List ℕ) (start class : ℕ) → IsExactImage words → IsMorphable (tables_of words) start class → IsReadyFor words start class
+ready_for words start class image may = record { image = image; slab = may.slab; normal = may.normal; fit = may.fit }
+
+-- it has few blocks, and so few events
+pub few_changes : (t : Tables) (start class : ℕ) → IsMorphable t start class → morph_count (header_of t start) ≤ 152
+few_changes t start class may =
+    let count = length (held_numbers t start) in
+    let held : (if t.kind start == morphing_kind then 0 else count) ≡ count = cond-false (t.kind start == morphing_kind) 0 count (ne_eqb (t.kind start) morphing_kind (λ same. omega (arith, same, may.normal))) in
+    let most = min-le_right count 8 in
+    omega (arith, may.fit.few, held, most)
+
+-- the slab is one of the supply
+pub is_slab : {set : Supply} {words : List ℕ} (start : ℕ) → IsSlabsOf set words → (tables_of words).slab start ≡ true → IsSlab set.slabs start
+is_slab {set} {words} start were slab = record { class = (tables_of words).class start; is = were.classes start ∙ cond-true ((tables_of words).slab start) (Some ((tables_of words).class start)) None slab }
+
+-- once it is out of the supply, no other slab has one of its granules
+pub clear_without : {set less : Supply} {words : List ℕ} (start : ℕ) → IsExactImage words → IsSlabsOf set words → (tables_of words).slab start ≡ true → HasSlabLess set less start → IsClearOf less start
+clear_without {set} {less} {words} start image were slab gone = record {
+  apart = λ other c is. ⊎_elim
+      (λ (same : other ≡ start). absurd (let none = sym (ap (class_in less.slabs) same ∙ gone.classes start ∙ with_key-here (class_in set.slabs) start None) ∙ ap (class_in less.slabs) (sym (sym same)) in cc))
+      (λ (differ : other ≢ start).
+      let t = tables_of words in
+      let lives = (slab_parts t other c (sym (were.classes other) ∙ sym (gone.classes other ∙ with_key-other (class_in set.slabs) start other None differ) ∙ is)).0 in
+      ⊎_elim
+      (λ (before : other < start + 4). ⊎_elim
+      (λ (behind : start < other + 4).
+      absurd (differ (sym (⊎_elim
+      (λ (less : other < start). image.exact.sound.disjoint start other start (Covers-slab t start start slab (omega arith) (omega arith)) (Covers-slab t other start lives (omega (arith, less)) behind))
+      (λ (low : start ≤ other). image.exact.sound.disjoint start other other (Covers-slab t start other slab low before) (Covers-slab t other other lives (omega arith) (omega arith)))
+      (cases_lt other start)))))
+      (λ (past : other + 4 ≤ start). inr past)
+      (cases_lt start (other + 4)))
+      (λ (far : start + 4 ≤ other). inl far)
+      (cases_lt other (start + 4)))
+      (cases_eq other start);
+}
+
+-- behind
+
+module _ (words : List ℕ) (start class : ℕ) (may : IsMorphable (tables_of words) start class) (new : List ℕ) (taken : IsOfClass words start class new) where
+  abbrev t : Tables
+  t = tables_of words
+
+  abbrev after : Tables
+  after = tables_of new
+
+  abbrev header : SlabHeader
+  header = morphed (header_of (tables_of words) start) class
+
+  row : {X : Type 0} (f : Tables → X) → f after ≡ f (put_header t start header)
+  row f = ap f taken.tables
+
+  pub slab_now : (s : ℕ) → (tables_of new).slab s ≡ (tables_of words).slab s
+  slab_now s = row (λ x. x.slab s)
+
+  pub class_now : (tables_of new).class start ≡ class
+  class_now = row (λ x. x.class start) ∙ put_at-same t.class start class
+
+  class_other : (s : ℕ) → s ≢ start → after.class s ≡ t.class s
+  class_other s differ = row (λ x. x.class s) ∙ put_at-other t.class start s class differ
+
+  -- a crash within it leaves the heap
+  pub either_kept : (image : List ℕ) → LeavesClosed words image → IsEitherHeap words new image
+  either_kept image left = record { steady = left.keeps.steady; heap = inl left.keeps.heap; words = left.keeps.blocks; still = HasNoMove-closed left.closed }
+
+  pub book_changed : IsExactImage words → (book : Book) → IsBookOf book words → IsBookOf book new
+  book_changed image book log =
+      let sizes = sizes_of words image.formed in
+      let four = granules_at-slab t start may.slab in
+      let lies = image.exact.sound.starts start (omega (arith, four)) in
+      record {
+        reads = Reads-same book words new (SameLog-off_header words new start (record { in_heap = lies.0; others = taken.off.others })) taken.off.same_length log.reads;
+        granules = log.granules ∙ ap (λ (b : Bounds). b.granules) (sym taken.bounds);
+      }
+
+  pub index_changed : (set : FreeSet) → IsIndexOf set words → IsIndexOf set new
+  index_changed set index = record {
+    granules = index.granules ∙ ap (λ (b : Bounds). b.granules) (sym taken.bounds);
+    each = λ k. subst (λ b. IsFree set k ↔ IsVacant b after k) (sym taken.bounds)
+        (subst (λ x. IsFree set k ↔ IsVacant (bounds_of words) x k) (sym taken.tables)
+        (iff_then (index.each k) (
+          λ vacant. record { low = vacant.low; high = vacant.high; none = λ other covers. vacant.none other (record { low = covers.low; high = covers.high }) },
+          λ vacant. record { low = vacant.low; high = vacant.high; none = λ other covers. vacant.none other (record { low = covers.low; high = covers.high }) },
+        )));
+  }
+
+  -- what each slab holds is the same, and so is what is unused
+  pub unused_now : (s c i : ℕ) → IsUnusedIn (tables_of words) s c i ↔ IsUnusedIn (tables_of new) s c i
+  unused_now s c i = (
+    λ unused. record { each = λ range holds. unused.each range ((taken.held.each s range).0 holds) },
+    λ unused. record { each = λ range holds. unused.each range ((taken.held.each s range).1 holds) },
+  )
+
+  -- the slab has the class
+  pub classes_changed : (s : ℕ) → slabs (tables_of new) s ≡ with_key (slabs (tables_of words)) start (Some class) s
+  classes_changed s = ⊎_elim
+      (λ (same : s ≡ start).
+      ap (slabs after) same ∙ cond-true (after.slab start) (Some (after.class start)) None (slab_now start ∙ may.slab) ∙ ap (λ c. Some c) class_now ∙ sym (cond-true (s == start) (Some class) (slabs t s) (eq-eqb s start same)))
+      (λ (differ : s ≢ start). (λ i. if slab_now s i then Some (class_other s differ i) else None) ∙ sym (cond-false (s == start) (Some class) (slabs t s) (ne_eqb s start differ)))
+      (cases_eq s start)
+
+  -- it came back into the supply, with the blocks of the class that are unused
+  pub came_back : {less mid : Supply} {used : ℕ → Bool} (k : ℕ) → k ≡ start → HasSlabMore less mid start class (λ i. (i < class_capacity class) × (used i ≡ false)) →
+      ((i : ℕ) → i < class_capacity ((tables_of new).class k) → (used i ≡ false) ↔ IsUnusedIn (tables_of new) k ((tables_of new).class k) i) →
+      HasSlabMore less mid start class (λ i. (i < class_capacity class) × IsUnusedIn (tables_of words) start class i)
+  came_back {less} {mid} {used} k at more says = record {
+    granules = more.granules;
+    classes = more.classes;
+    here = λ i. (
+      λ is. let both = (more.here i).0 is in (both.0, (unused_now start class i).1 ((here i both.0).0 both.1)),
+      λ both. (more.here i).1 (both.0, (here i both.0).1 ((unused_now start class i).0 both.1)),
+    );
+    loose = more.loose;
+    others = more.others;
+    stacks = more.stacks;
+  }
+    where
+      here : (i : ℕ) → i < class_capacity class → (used i ≡ false) ↔ IsUnusedIn after start class i
+      here i within =
+          let there : (i : ℕ) → i < class_capacity (after.class start) → (used i ≡ false) ↔ IsUnusedIn after start (after.class start) i = subst (λ s. (i : ℕ) → i < class_capacity (after.class s) → (used i ≡ false) ↔ IsUnusedIn after s (after.class s) i) at says in
+          subst (λ c. (used i ≡ false) ↔ IsUnusedIn after start c i) class_now (there i (subst (λ c. i < class_capacity c) (sym class_now) within))
+
+  pub slabs_changed : {set less mid : Supply} → IsSlabsOf set words → HasSlabLess set less start → HasSlabMore less mid start class (λ i. (i < class_capacity class) × IsUnusedIn (tables_of words) start class i) → IsSlabsOf mid new
+  slabs_changed {set} {less} {mid} were gone more = record {
+    granules = more.granules ∙ gone.granules ∙ were.granules ∙ ap (λ (b : Bounds). b.granules) (sym taken.bounds);
+    classes = λ s. ⊎_elim
+        (λ (same : s ≡ start).
+        more.classes s ∙ cond-true (s == start) (Some class) (class_in less.slabs s) (eq-eqb s start same) ∙ sym (classes_changed s ∙ cond-true (s == start) (Some class) (slabs t s) (eq-eqb s start same)))
+        (λ (differ : s ≢ start).
+        more.classes s
+        ∙ cond-false (s == start) (Some class) (class_in less.slabs s) (ne_eqb s start differ)
+        ∙ gone.classes s
+        ∙ cond-false (s == start) None (class_in set.slabs s) (ne_eqb s start differ)
+        ∙ were.classes s
+        ∙ sym (classes_changed s ∙ cond-false (s == start) (Some class) (slabs t s) (ne_eqb s start differ)))
+        (cases_eq s start);
+    blocks = λ s i slab below. ⊎_elim
+        (λ (same : s ≡ start). subst (λ k. i < class_capacity (after.class k) → IsOpen mid k i ↔ IsUnusedIn after k (after.class k) i) (sym same) (λ within. own i within) below)
+        (λ (differ : s ≢ start).
+        let was = were.blocks s i (sym (slab_now s) ∙ slab) (subst (λ c. i < class_capacity c) (class_other s differ) below) in
+        iff_then (more.others s i differ) (iff_then (gone.others s i differ) (iff_then was (subst (λ c. IsUnusedIn t s (t.class s) i ↔ IsUnusedIn after s c i) (sym (class_other s differ)) (unused_now s (t.class s) i)))))
+        (cases_eq s start);
+  }
+    where
+      own : (i : ℕ) → i < class_capacity (after.class start) → IsOpen mid start i ↔ IsUnusedIn after start (after.class start) i
+      own i below =
+          let within : i < class_capacity class = subst (λ c. i < class_capacity c) class_now below in
+          iff_then (more.here i) (subst (λ c. ((i < class_capacity class) × IsUnusedIn t start class i) ↔ IsUnusedIn after start c i) (sym class_now) (
+            λ both. (unused_now start class i).0 both.1,
+            λ unused. (within, (unused_now start class i).1 unused),
+          ))
+
+  -- as many blocks live in it as before, and it is calm no more
+  pub lives_changed : (was next : Lives) → next.counts ≡ was.counts → ((s : ℕ) → calm_at next s ≡ with_key (calm_at was) start None s) → AreLivesOf was words → AreLivesOf next new
+  lives_changed was next same put were =
+      let counts : AreCountsOf was.counts new = counts_kept words new was.counts (ap (λ (b : Bounds). b.granules) taken.bounds) (live_same words new taken.bounds slab_now taken.left.keeps.heap.each) were.counts in
+      lives_put words new was next (subst (λ (n : List ℕ). AreCountsOf n new) (sym same) counts) were start None put
+      (calm_all_but t after start None
+      (calm_stirred after start (λ normal. let kind : after.kind start ≡ morphed_kind = row (λ x. x.kind start) ∙ put_at-same t.kind start morphed_kind in omega (arith, normal, kind)))
+      (λ s differ. row (λ x. calm_of x s) ∙ calm_header t start header s differ))
+
+-- the seat's block
+
+-- where no block of the class was open, and its slab had another class, none is without it
+none_without : {was less : Supply} {start class : ℕ} → HasNoOpen was class → HasSlabLess was less start → (s i : ℕ) → class_in less.slabs s ≡ Some class → ¬ (IsOpen less s i)
+none_without {was} {less} {start} {class} none gone s i slab is = ⊎_elim
+    (λ (same : s ≡ start). let nothing = sym (ap (class_in less.slabs) same ∙ gone.classes start ∙ with_key-here (class_in was.slabs) start None) ∙ slab in absurd (cc))
+    (λ (differ : s ≢ start). none_open was class none s i (sym (gone.classes s ∙ with_key-other (class_in was.slabs) start s None differ) ∙ slab) ((gone.others s i differ).0 is))
+    (cases_eq s start)
+
+-- so a seat is given a block of the slab
+pub some_anew : {t : Tables} {less mid : Supply} (next : Supply) (seat : ℕ) {start class : ℕ} → HasSlabMore less mid start class (λ i. (i < class_capacity class) × IsUnusedIn t start class i) → IsMorphable t start class →
+    (found : Option SlabBlock) → MatchOption found (HadNoOpen mid class next) (λ block. TookBlock mid seat class block next) → IsSome found
+some_anew {t} {less} {mid} next seat {start} {class} more may None had =
+    let block = may.fit.block in
+    let unused : IsUnusedIn t start class may.fit.number = record { each = λ range holds. ⊎_elim inr inl (block.unused.each range holds) } in
+    absurd (none_open mid class had.none start may.fit.number (more.classes start ∙ with_key-here (class_in less.slabs) start (Some class)) ((more.here may.fit.number).1 (block.within, unused)))
+some_anew next seat more may (Some block) took = refl
+
+pub took_anew : {t : Tables} {was less mid next : Supply} {seat start class : ℕ} → HasNoOpen was class → HasSlabLess was less start → HasSlabMore less mid start class (λ i. (i < class_capacity class) × IsUnusedIn t start class i) →
+    {found : Option SlabBlock} (block : SlabBlock) → found ≡ Some block → MatchOption found (HadNoOpen mid class next) (λ block. TookBlock mid seat class block next) → TookBlock mid seat class (record { start = start; number = block.number }) next
+took_anew {t} {was} {less} {mid} {next} {seat} {start} {class} none gone more {found} block is had =
+    let took : TookBlock mid seat class block next = subst (λ (f : Option SlabBlock). MatchOption f (HadNoOpen mid class next) (λ block. TookBlock mid seat class block next)) is had in
+    let here = in_new (none_without none gone) more block.start block.number took.slab took.was_open in
+    subst (λ (b : SlabBlock). TookBlock mid seat class b next) (λ i. record { start = here i; number = block.number }) took
+
+-- and it may come to a root
+pub morph_givable : (words : List ℕ) (start class : ℕ) (may : IsMorphable (tables_of words) start class) (new : List ℕ) → IsOfClass words start class new → {less mid next : Supply} {seat : ℕ} (number at : ℕ) →
+    HasSlabMore less mid start class (λ i. (i < class_capacity class) × IsUnusedIn (tables_of words) start class i) → TookBlock mid seat class (record { start = start; number = number }) next → at ≡ (slab_block start class number).at →
+    IsGivableBlock (tables_of new) (record { start = start; number = number; at = at }) class
+morph_givable words start class may new taken number at more took is =
+    let both = (more.here number).0 took.was_open in
+    record { slab = slab_now words start class may new taken start ∙ may.slab; class_is = class_now words start class may new taken; below = both.0; unused = (unused_now words start class may new taken start class number).0 both.1; at = is }
+
+-- a request that is asked of the arena is so behind the change too
+pub asked_still : (words : List ℕ) (start class root size : ℕ) (new : List ℕ) → IsOfClass words start class new → IsAskedOf (bounds_of words) (tables_of words) root size → IsAskedOf (bounds_of new) (tables_of new) root size
+asked_still words start class root size new taken asked = record {
+  below = subst (λ (b : Bounds). root < b.roots) (sym taken.bounds) asked.below;
+  none = ap (λ (x : Tables). x.root root) taken.tables ∙ asked.none;
+  some = asked.some;
+  most = subst (λ (b : Bounds). size ≤ (b.granules - b.first) * 16384) (sym taken.bounds) asked.most;
+}

@@ -1,0 +1,20 @@
+use Rattle.std.proofs.Common.{◌≡◌, ℕ, None}
+use Rattle.pmem_lines.specs.Pmem.{words_of}
+use Rattle.image_tables.specs.Tables.{tables_of}
+use Rattle.heap_check.specs.Image.{bounds_of}
+use Rattle.slab_lives.specs.Lives.{calm_at}
+use Rattle.arena_core.specs.Arena.{AreCountsOf}
+use Rattle.arena_core.specs.Adopting.{HasCounted, HasNoted}
+use Rattle.arena_core.proofs.adopting.read_lives.Given as goal
+
+abbrev pub invariant-loop-root : goal.invariant-loop-root
+invariant-loop-root g l = record {
+  counted : HasCounted (words_of (g.P.Pmem.state l.device)) l.lives.counts l.root;
+  calm : (start : ℕ) → calm_at l.lives start ≡ None;
+}
+
+abbrev pub invariant-loop-start : goal.invariant-loop-start
+invariant-loop-start g l = record {
+  counts : AreCountsOf l.lives.counts (words_of (g.P.Pmem.state l.device));
+  noted : HasNoted (words_of (g.P.Pmem.state l.device)) l.lives l.start;
+}

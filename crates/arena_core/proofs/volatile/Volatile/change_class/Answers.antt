@@ -1,0 +1,75 @@
+use Rattle.std.proofs.Common.{◌≡◌, ◌/◌, ◌+◌, ◌<◌, ◌↔◌, ℕ, false, length, sym, ap, subst, ◌∙◌, arith}
+use Rattle.pmem_lines.specs.Pmem.{words_of}
+use Rattle.image_tables.specs.Tables.{tables_of}
+use Rattle.heap_model.proofs.Maps.{with_key-here}
+use Rattle.slab_index.specs.SlabSet.{class_in}
+use Rattle.heap_check.proofs.Sizes.{sizes_of}
+use Rattle.heap_check.proofs.Geometry.{granules_at-slab}
+use Rattle.arena_core.proofs.HeldBlocks.{slab_here}
+use Rattle.arena_core.proofs.ChangedClasses.{ready_for, few_changes, is_slab, clear_without, slab_now, came_back, book_changed, index_changed, slabs_changed, lives_changed}
+use Rattle.arena_core.proofs.volatile.Volatile.change_class.Given as given
+use Rattle.arena_core.proofs.volatile.Volatile.change_class.Goals as goal
+
+pub take_class-requires-clause-ready : goal.take_class-requires-clause-ready
+take_class-requires-clause-ready g c = ready_for (words_of (g.P.Pmem.state c.args.device.now)) c.args.start c.args.class c.requires.arena.current.exact c.requires.morphable
+
+pub take_class-requires-clause-room : goal.take_class-requires-clause-room
+take_class-requires-clause-room g c =
+    let few = few_changes (tables_of (words_of (g.P.Pmem.state c.args.device.now))) c.args.start c.args.class c.requires.morphable in
+    omega (arith, few, ap length c.requires.fresh, c.requires.arena.current.ready.room)
+
+pub remove-requires : goal.remove-requires
+remove-requires g c = is_slab c.args.start c.requires.arena.slabs c.requires.morphable.slab
+
+pub used_blocks-used-requires : goal.used_blocks-used-requires
+used_blocks-used-requires g c =
+    let words = words_of (g.P.Pmem.state c.args.device.now) in
+    let new = words_of (g.P.Pmem.state c.take_class.new.p) in
+    let taken = c.take_class.ensures.taken in
+    slab_here new c.args.start c.granule_at.result (omega (arith, c.granule_at.ensures)) taken.exact.formed taken.exact.exact.sound (slab_now words c.args.start c.args.class c.requires.morphable new taken c.args.start ∙ c.requires.morphable.slab)
+
+pub add_used-requires-clause-inside : goal.add_used-requires-clause-inside
+add_used-requires-clause-inside g c =
+    let words = words_of (g.P.Pmem.state c.args.device.now) in
+    let image = c.requires.arena.current.exact in
+    let four = granules_at-slab (tables_of words) c.args.start c.requires.morphable.slab in
+    let lies = image.exact.sound.starts c.args.start (omega (arith, four)) in
+    omega (arith, lies.1, four, c.remove.ensures.granules, c.requires.arena.slabs.granules)
+
+pub add_used-requires-clause-fresh : goal.add_used-requires-clause-fresh
+add_used-requires-clause-fresh g c = c.remove.ensures.classes c.args.start ∙ with_key-here (class_in c.args.self.now.supply.slabs) c.args.start _
+
+pub add_used-requires-clause-clear : goal.add_used-requires-clause-clear
+add_used-requires-clause-clear g c = clear_without c.args.start c.requires.arena.current.exact c.requires.arena.slabs c.requires.morphable.slab c.remove.ensures
+
+pub returns : goal.returns
+returns g c =
+    let old = g.P.Pmem.state c.args.device.now in
+    let left = g.P.Pmem.state c.take_class.new.p in
+    let words = words_of old in
+    let new = words_of left in
+    let start = c.args.start in
+    let class = c.args.class in
+    let may = c.requires.morphable in
+    let arena = c.requires.arena in
+    let image = arena.current.exact in
+    let taken = c.take_class.ensures.taken in
+    let step = c.take_class.ensures.step in
+    let few = few_changes (tables_of words) start class may in
+    let at : c.granule_at.result / 16384 ≡ start = omega (arith, c.granule_at.ensures) in
+    let more = came_back words start class may new taken (c.granule_at.result / 16384) at c.add_used.ensures c.used_blocks-used.ensures.unused in
+    record {
+      step = step;
+      few = omega (arith, few, ap length c.requires.fresh, c.take_class.ensures.count);
+      taken = taken;
+      current = record {
+        ready = record { quiet = step.quiet; room = omega (arith, arena.current.ready.room, step.appends.room) };
+        exact = taken.exact;
+        log = book_changed words start class may new taken image c.args.self.now.log arena.current.log;
+        index = index_changed words start class may new taken c.args.self.now.free arena.current.index;
+      };
+      slabs = slabs_changed words start class may new taken arena.slabs c.remove.ensures more;
+      supplied = (c.remove.new.self, c.remove.ensures, more);
+      lives = lives_changed words start class may new taken c.args.self.now.lives c.stir.new.self c.stir.ensures.counts c.stir.ensures.calm arena.lives;
+      line = λ i. c.args.self.now.line;
+    }

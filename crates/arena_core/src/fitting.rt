@@ -1,0 +1,31 @@
+// Which slab takes another class for a malloc.
+ghost use Rattle.std.specs.Prelude.{MatchOption, ◌<◌};
+ghost use Rattle.pmem_lines.specs.Pmem.{words_of};
+ghost use Rattle.image_tables.specs.Tables.{tables_of};
+ghost use Rattle.heap_model.specs.Choice.{IsBestSlab, HasNoFitSlab};
+ghost use Rattle.heap_check.specs.Image.{bounds_of, IsExactImage};
+ghost use Rattle.arena_core.specs.Arena.{AreLivesOf};
+ghost use Rattle.arena_core.specs.Plan.{tables_view, IsMorphable};
+
+use class_steps::is_ready;
+use pmem_lines::Pmem;
+use slab_lives::SlabLives;
+
+/// Of the slabs that are fit for a class, below 36, the one with the fewest live blocks, the lowest among equals. `None`
+/// exactly where none is. The candidates are looked at in this order, so a slab is read only where all before it are too
+/// full for a block of the class.
+pub(crate) fn best_slab<P: Pmem>(device: &P, lives: &SlabLives, class: u8) -> Option<u32>
+    requires exact { IsExactImage (words_of (P.state device.now)) }
+    requires lives { AreLivesOf lives.now (words_of (P.state device.now)) }
+    requires class { class < 36 }
+    ensures { let b = bounds_of (words_of (P.state device.now)) in let t = tables_of (words_of (P.state device.now)) in MatchOption result (HasNoFitSlab (tables_view b t) class) (λ start. IsBestSlab (tables_view b t) class start × IsMorphable t start class) }
+{
+    let mut next = lives.first(class);
+    while let Some(slab) = next {
+        if is_ready(device, slab.start, class) {
+            return Some(slab.start);
+        }
+        next = lives.next_behind(class, slab);
+    }
+    None
+}
