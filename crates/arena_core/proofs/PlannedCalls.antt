@@ -1,5 +1,5 @@
 -- What an arena keeps behind the plan of a malloc: all but the supply is as it was.
-use Rattle.std.proofs.Common.{◌≡◌, ℕ, ◌<◌, List, Option, Result, Ok, sym, ap, ◌∙◌, subst}
+use Rattle.std.proofs.Common.{◌≡◌, ℕ, ◌<◌, Option, Result, Ok, sym, ap, ◌∙◌, subst}
 use Rattle.pmem_lines.specs.Pmem.{PmemState, words_of, began}
 use Rattle.image_tables.specs.Tables.{Tables}
 use Rattle.size_classes.specs.Classes.{class_size}

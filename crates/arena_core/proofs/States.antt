@@ -6,7 +6,7 @@ use Rattle.size_classes.specs.Classes.{class_size, class_capacity}
 use Rattle.image_tables.specs.Forms.{normal_kind, morphed_kind}
 use Rattle.image_tables.specs.Tables.{Tables, tables_of}
 use Rattle.image_tables.proofs.Tables.{root_table-past}
-use Rattle.heap_model.specs.Machine.{Bounds, Range, Machine, with_key, slab_block, AreApart, IsUnused, IsFreeGranule}
+use Rattle.heap_model.specs.Machine.{Bounds, Range, Machine, with_key, slab_block, IsUnused, IsFreeGranule}
 use Rattle.heap_model.specs.Choice.{Agree}
 use Rattle.heap_model.specs.Below.{any_below}
 use Rattle.heap_model.specs.Slabs.{IsInTransition, live_below, view_of}

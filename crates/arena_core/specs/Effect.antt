@@ -1,5 +1,5 @@
 -- What a call changes of the words of an arena: one root's block, and the slabs.
-use Rattle.std.specs.Prelude.{◌≡◌, ◌≢◌, ◌⊎◌, ℕ, ◌<◌, Bool, true, false, List, Option, Some, None, if◌then◌else◌}
+use Rattle.std.specs.Prelude.{◌≡◌, ◌≢◌, ◌⊎◌, ℕ, ◌<◌, Bool, true, false, List, Option, None, if◌then◌else◌}
 use Rattle.image_tables.specs.Tables.{Tables, tables_of}
 use Rattle.size_classes.specs.Classes.{class_capacity}
 use Rattle.heap_model.specs.Machine.{Range, with_key}

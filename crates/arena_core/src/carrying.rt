@@ -255,8 +255,7 @@ impl Volatile {
     {
         self.change_class(device, slab.start, slab.class);
         let taken = self.supply.take(seat, slab.class).unwrap();
-        let at =
-            blocks_at(granule_at(slab.start)) + taken.number * size_of_class(slab.class);
+        let at = blocks_at(granule_at(slab.start)) + taken.number * size_of_class(slab.class);
         let block = SmallBlock {
             start: slab.start,
             number: taken.number,
@@ -267,7 +266,13 @@ impl Volatile {
     }
 
     // Opens a slab, where no block of its class is open, and gives its first block to a root of a seat.
-    fn give_fresh<P: Pmem>(&mut self, device: &mut P, seat: u32, root: u32, slab: SlabAt) -> SmallBlock
+    fn give_fresh<P: Pmem>(
+        &mut self,
+        device: &mut P,
+        seat: u32,
+        root: u32,
+        slab: SlabAt,
+    ) -> SmallBlock
         requires arena { IsArena (P.state device.old) self.old }
         requires fresh { (P.state device.old).events ≡ [] }
         requires seat { seat < 64 }

@@ -1,7 +1,5 @@
 use Rattle.std.proofs.Common.{◌≡◌, ℕ, None}
 use Rattle.pmem_lines.specs.Pmem.{words_of}
-use Rattle.image_tables.specs.Tables.{tables_of}
-use Rattle.heap_check.specs.Image.{bounds_of}
 use Rattle.slab_lives.specs.Lives.{calm_at}
 use Rattle.arena_core.specs.Arena.{AreCountsOf}
 use Rattle.arena_core.specs.Adopting.{HasCounted, HasNoted}

@@ -13,7 +13,6 @@ use Rattle.arena_core.specs.declared.plan.Place.{Place}
 use Rattle.arena_core.specs.declared.plan.Place.TheVariants as places
 use Rattle.pmem_lines.specs.Steps.{IsQuietStep}
 use Rattle.heap_check.specs.State.{IsEitherHeap}
-use Rattle.thread_cache.specs.Stacks.{stacks_of}
 use Rattle.block_supply.specs.Supply.{Supply, TookBlock}
 use Rattle.attach_steps.specs.Steps.{attach_events, IsAttached}
 use Rattle.arena_core.specs.Effect.{IsSuppliedFresh, IsSuppliedMorph}

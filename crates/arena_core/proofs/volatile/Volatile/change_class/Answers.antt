@@ -1,13 +1,11 @@
-use Rattle.std.proofs.Common.{◌≡◌, ◌/◌, ◌+◌, ◌<◌, ◌↔◌, ℕ, false, length, sym, ap, subst, ◌∙◌, arith}
+use Rattle.std.proofs.Common.{◌≡◌, ◌/◌, length, ap, ◌∙◌, arith}
 use Rattle.pmem_lines.specs.Pmem.{words_of}
 use Rattle.image_tables.specs.Tables.{tables_of}
 use Rattle.heap_model.proofs.Maps.{with_key-here}
 use Rattle.slab_index.specs.SlabSet.{class_in}
-use Rattle.heap_check.proofs.Sizes.{sizes_of}
 use Rattle.heap_check.proofs.Geometry.{granules_at-slab}
 use Rattle.arena_core.proofs.HeldBlocks.{slab_here}
 use Rattle.arena_core.proofs.ChangedClasses.{ready_for, few_changes, is_slab, clear_without, slab_now, came_back, book_changed, index_changed, slabs_changed, lives_changed}
-use Rattle.arena_core.proofs.volatile.Volatile.change_class.Given as given
 use Rattle.arena_core.proofs.volatile.Volatile.change_class.Goals as goal
 
 pub take_class-requires-clause-ready : goal.take_class-requires-clause-ready
