@@ -39,21 +39,21 @@ pub record IsStageOf (words : List ℕ) (root start here word : ℕ) (image : Li
   pub bounds : bounds_of image ≡ bounds_of words
   pub slabs : AreSlabsInHeap image
   pub size : length image ≡ length words
-  pub without_morphs : HasNoMove (tables_of words).open_entry
+  pub unmoved : HasNoMove (tables_of words).open_entry
   pub tables : tables_of image ≡ with_large (tables_of words) start here root word
   pub heap : (k : ℕ) → heap_word (version_in words) ≤ k → word_at image k ≡ word_at words k
 
 -- the words as they are
 pub stage_none : (words : List ℕ) (root start : ℕ) → IsFormed words → AreSlabsInHeap words → HasNoMove (tables_of words).open_entry → IsStageOf words root start ((tables_of words).large start) ((tables_of words).root root) words
-stage_none words root start formed slabs without_morphs =
+stage_none words root start formed slabs unmoved =
     let t = tables_of words in
-    let own_word : put_at t.word root (t.root root) ≡ t.word = ap (λ (held : ℕ → ℕ). put_at t.word root (held root)) (roots_plain words without_morphs) ∙ put_at-own t.word root in
+    let own_word : put_at t.word root (t.root root) ≡ t.word = ap (λ (held : ℕ → ℕ). put_at t.word root (held root)) (roots_plain words unmoved) ∙ put_at-own t.word root in
     record {
       formed = formed;
       bounds = refl;
       slabs = slabs;
       size = refl;
-      without_morphs = without_morphs;
+      unmoved = unmoved;
       tables = sym (λ i. record t { large = put_at-own t.large start i; word = own_word i; root = put_at-own t.root root i });
       heap = λ k high. refl;
     }
@@ -78,8 +78,8 @@ stage_root words root start here word made value stage below inside =
             (stage.slabs.low other (sym (ap is_slab_of (extent_at-put_root made root value other among)) ∙ is));
       };
       size = length-put_word made (root_word root) value ∙ stage.size;
-      without_morphs = stage.without_morphs;
-      tables = tables_put_root made root value among within stage.slabs (subst HasNoMove (sym (ap (λ (s : Tables). s.open_entry) stage.tables)) stage.without_morphs)
+      unmoved = stage.unmoved;
+      tables = tables_put_root made root value among within stage.slabs (subst HasNoMove (sym (ap (λ (s : Tables). s.open_entry) stage.tables)) stage.unmoved)
           ∙ ap (λ (s : Tables). with_root s root value) stage.tables
           ∙ (λ i. record t { large = put_at t.large start here; word = put_at-twice t.word root word value i; root = put_at-twice t.root root word value i });
       heap = λ k high. heap_word-put_root made root value k among (omega (arith, high, same_heap_word words made stage.bounds)) ∙ stage.heap k high;
@@ -99,7 +99,7 @@ stage_log words root start here word made image after stage rest slab large =
         low = λ other is. subst (λ v. (layout_of v).first_granule ≤ other) (sym (version_in-off_log made image off)) (stage.slabs.low other (sym (slab other) ∙ is));
       };
       size = rest.same_length ∙ stage.size;
-      without_morphs = stage.without_morphs;
+      unmoved = stage.unmoved;
       tables = tables_off_log made image (put_at (tables_of made).large start after) off stage.slabs slab large
           ∙ ap (λ (s : Tables). record s { large = put_at s.large start after }) stage.tables
           ∙ ap (λ (larges : ℕ → ℕ). record (with_root t root word) { large = larges }) (put_at-twice t.large start here after);
@@ -135,7 +135,7 @@ stage_gone words root start here word made image stage gone =
       bounds = gone.bounds ∙ stage.bounds;
       slabs = AreSlabsInHeap-sound image gone.image.steady.sound;
       size = gone.rest.same_length ∙ stage.size;
-      without_morphs = stage.without_morphs;
+      unmoved = stage.unmoved;
       tables = gone.tables
           ∙ ap (λ (s : Tables). record s { large = put_at s.large start 0 }) stage.tables
           ∙ ap (λ (larges : ℕ → ℕ). record (with_root t root word) { large = larges }) (put_at-twice t.large start here 0);
@@ -144,7 +144,7 @@ stage_gone words root start here word made image stage gone =
 
 -- no move entry is open in it
 pub still_stage : {words : List ℕ} {root start here word : ℕ} {image : List ℕ} → IsStageOf words root start here word image → HasNoMove (tables_of image).open_entry
-still_stage {words} {root} {start} {here} {word} {image} stage = subst HasNoMove (sym (ap (λ (t : Tables). t.open_entry) stage.tables)) stage.without_morphs
+still_stage {words} {root} {start} {here} {word} {image} stage = subst HasNoMove (sym (ap (λ (t : Tables). t.open_entry) stage.tables)) stage.unmoved
 
 -- what a stage has
 

@@ -74,7 +74,7 @@ entry_of seat call reply = record { seat = seat; call = call; reply = reply }
 block_settled : (b : Bounds) (seat : ℕ) (s next last : PlacedState) (call : Call) (reply other : Reply) → IsOfBlock call → IsPlacedStep b seat s call reply next → IsPlacedStep b seat s call other last → (reply ≡ other) × (next ≡ last)
 unfolding entry_of reply_of
 block_settled b seat s next last call reply other of one two =
-    let same = one_journal without_morphs b s next last (entry_of seat call reply ∷ []) (entry_of seat call other ∷ []) (refl, refl, of, tt) (next, one, refl) (last, two, refl) in
+    let same = one_journal b s next last (entry_of seat call reply ∷ []) (entry_of seat call other ∷ []) (refl, refl, of, tt) (next, one, refl) (last, two, refl) in
     (ap (reply_of reply) same.0, same.1)
 
 -- of a call that reads or writes a word the stacks stay

@@ -30,7 +30,7 @@ ask_the_same (call ∷ calls) (entry ∷ journal) (another ∷ other) valid one 
 
 pub law_of_one_journal : LawOfOneJournal
 law_of_one_journal granules calls journal other last another valid first second one two =
-    one_journal without_morphs (bounds_for granules) (bare no_heap) last another journal other (ask_the_same calls journal other valid first second) one two
+    one_journal (bounds_for granules) (bare no_heap) last another journal other (ask_the_same calls journal other valid first second) one two
 
 -- one call, from the same words, line and state, makes one stage
 stage_once : (b : Bounds) (words : List ℕ) (line : ℕ) (s next last : PlacedState) (later after : ℕ) (call : TraceCall) (stage other : Stage) → IsStage b words line s call stage later next → IsStage b words line s call other after last →
