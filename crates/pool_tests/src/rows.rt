@@ -2,11 +2,11 @@
 ghost use Rattle.std.specs.Prelude.{◌<◌};
 
 use crate::callers::{Word, arena_lock_of_two, close, empty_arena, pool_of, start_and_close};
-use crate::jobs::LookBeside;
-use crate::pool_threads::{malloc_on_two_threads, try_beside_a_store};
+use crate::threads::{malloc_on_two_threads, try_beside_a_store};
 use crate::watched::{Flags, Watched};
 use arena_core::{Arena, ArenaRoom};
 use heap_model::{Call, Reply};
+use lock_tests::LookBeside;
 use pmem_lines::{OutOfMemory, SimPmem};
 use shared_pool::{PoolJob, TryRefusal};
 use std::alloc::Global;

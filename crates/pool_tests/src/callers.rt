@@ -2,7 +2,7 @@
 ghost use Rattle.std.specs.Prelude.{◌≡◌, ◌^◌, ◌<◌, ◌≤◌, [], ◌∷◌, length, IfOk};
 ghost use Rattle.arena_lock.specs.Known.{seat_at};
 ghost use Rattle.shared_pool.specs.Passes.{IsPassOf};
-ghost use Rattle.lock_tests.specs.CallsLeft.{CallerState, CanCall};
+ghost use Rattle.pool_tests.specs.CallsLeft.{CallerState, CanCall};
 
 use arena_core::{Arena, ArenaRoom};
 use arena_lock::{ArenaLock, LockSeat};
@@ -20,7 +20,7 @@ pub struct Caller {
 }
 
 impl Model for Caller {
-    ghost use Rattle.lock_tests.specs.CallsLeft.{CallerState};
+    ghost use Rattle.pool_tests.specs.CallsLeft.{CallerState};
 
     ghost Value = { CallerState };
 

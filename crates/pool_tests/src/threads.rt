@@ -1,6 +1,6 @@
 // Two threads at one pool.
 ghost use Rattle.std.specs.Prelude.{◌≡◌, ◌<◌, length};
-ghost use Rattle.lock_tests.specs.CallsLeft.{CanCall};
+ghost use Rattle.pool_tests.specs.CallsLeft.{CanCall};
 
 use crate::callers::Caller;
 use crate::watched::Flags;

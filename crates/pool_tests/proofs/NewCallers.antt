@@ -3,7 +3,7 @@ use Rattle.std.proofs.Common.{◌≡◌, ℕ, zero, suc, ◌<◌, ◌≤◌, Lis
 use Rattle.arena_lock.specs.Known.{Lock}
 use Rattle.shared_pool.specs.Passes.{PassState, PoolState, part_at, fresh_pass}
 use Rattle.shared_pool.proofs.AllPasses.{fresh_fits}
-use Rattle.lock_tests.specs.CallsLeft.{CanCall}
+use Rattle.pool_tests.specs.CallsLeft.{CanCall}
 
 fresh_turns : (n left : ℕ) (locks : List Lock) → left ≤ 1000 → (a : ℕ) → a < length locks → left ≤ (part_at (fresh_pass locks n) a).turns
 fresh_turns n left [] few a l = absurd (omega arith)

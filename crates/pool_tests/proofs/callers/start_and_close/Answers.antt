@@ -3,7 +3,7 @@ use Rattle.arena_lock.specs.Known.{Lock}
 use Rattle.shared_pool.specs.Closed.{AllFitLocks, HasAll}
 use Rattle.shared_pool.specs.Passes.{PassState}
 use Rattle.shared_pool.proofs.AllPasses.{all_fit, has_fresh}
-use Rattle.lock_tests.proofs.callers.start_and_close.Goals as goal
+use Rattle.pool_tests.proofs.callers.start_and_close.Goals as goal
 
 pub close-requires-clause-fits : goal.close-requires-clause-fits
 close-requires-clause-fits g c =

@@ -1,7 +1,7 @@
 use Rattle.std.proofs.Common.{rules, arith, ◌≡◌, ap}
 use Rattle.shared_pool.specs.Passes.{PassState, fresh_pass}
-use Rattle.lock_tests.proofs.NewCallers.{fresh_can}
-use Rattle.lock_tests.proofs.callers.pool_of.Goals as goal
+use Rattle.pool_tests.proofs.NewCallers.{fresh_can}
+use Rattle.pool_tests.proofs.callers.pool_of.Goals as goal
 
 pub returns-clause-zero : goal.returns-clause-zero
 returns-clause-zero g c =
