@@ -1,2 +1,1 @@
-pub mod CallsLeft
 pub mod Tally

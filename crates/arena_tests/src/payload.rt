@@ -1,0 +1,143 @@
+// The words of blocks, in an arena of 16 granules. Root 5 has the block of 112 bytes at 67584, which are 14 words on lines
+// 1056 and 1057.
+use crate::arenas::{had, new_arena};
+use arena_core::{Arena, BlockRefusal};
+use pmem_lines::{Event, SimPmem};
+use std::test::Fail;
+
+// The words that a root's block has.
+fn has(arena: &Arena<SimPmem>, root: u32, words: &[u64]) -> bool {
+    match arena.view(root) {
+        Ok(view) => view == words,
+        Err(_) => false,
+    }
+}
+
+#[test]
+fn across_two_lines(rt: HostRuntime) -> Result<(), Fail> {
+    let mut arena = new_arena(rt.alloc())?;
+    assert!(rt; arena.malloc_to(0, 5, 100).is_ok());
+    assert_eq!(rt; arena.write(5, 6, &[1, 2, 3, 4]), Ok(()));
+    assert!(rt;
+        had(
+            &arena,
+            &[
+                Event::Store {
+                    at: 67632,
+                    value: 1
+                },
+                Event::Store {
+                    at: 67640,
+                    value: 2
+                },
+                Event::Store {
+                    at: 67648,
+                    value: 3
+                },
+                Event::Store {
+                    at: 67656,
+                    value: 4
+                },
+                Event::Flush { line: 1056 },
+                Event::Flush { line: 1057 },
+                Event::Fence,
+            ],
+        )
+    );
+    assert!(rt; has(&arena, 5, &[0, 0, 0, 0, 0, 0, 1, 2, 3, 4, 0, 0, 0, 0]));
+    Ok(())
+}
+
+#[test]
+fn at_the_end(rt: HostRuntime) -> Result<(), Fail> {
+    let mut arena = new_arena(rt.alloc())?;
+    assert!(rt; arena.malloc_to(0, 5, 100).is_ok());
+    assert_eq!(rt; arena.write(5, 12, &[8, 9]), Ok(()));
+    assert!(rt;
+        had(
+            &arena,
+            &[
+                Event::Store {
+                    at: 67680,
+                    value: 8
+                },
+                Event::Store {
+                    at: 67688,
+                    value: 9
+                },
+                Event::Flush { line: 1057 },
+                Event::Fence,
+            ],
+        )
+    );
+    assert_eq!(rt; arena.write(5, 13, &[1, 2]), Err(BlockRefusal::OutOfRange));
+    assert!(rt; had(&arena, &[]));
+    assert_eq!(rt; arena.write(5, 14, &[1]), Err(BlockRefusal::OutOfRange));
+    assert_eq!(rt;
+        arena.write(5, 4294967295, &[1]),
+        Err(BlockRefusal::OutOfRange)
+    );
+    assert!(rt; has(&arena, 5, &[0, 0, 0, 0, 0, 0, 0, 0, 0, 0, 0, 0, 8, 9]));
+    Ok(())
+}
+
+#[test]
+fn no_words(rt: HostRuntime) -> Result<(), Fail> {
+    let mut arena = new_arena(rt.alloc())?;
+    assert!(rt; arena.malloc_to(0, 5, 100).is_ok());
+    assert_eq!(rt; arena.write(5, 14, &[]), Ok(()));
+    assert!(rt; had(&arena, &[]));
+    assert_eq!(rt; arena.write(5, 15, &[]), Err(BlockRefusal::OutOfRange));
+    Ok(())
+}
+
+#[test]
+fn no_block(rt: HostRuntime) -> Result<(), Fail> {
+    let mut arena = new_arena(rt.alloc())?;
+    assert_eq!(rt; arena.write(4096, 0, &[1]), Err(BlockRefusal::NoRoot));
+    assert_eq!(rt;
+        arena.write(4095, 4294967295, &[1]),
+        Err(BlockRefusal::Empty)
+    );
+    assert!(rt; matches!(arena.view(4096), Err(BlockRefusal::NoRoot)));
+    assert!(rt; matches!(arena.view(4095), Err(BlockRefusal::Empty)));
+    assert!(rt; had(&arena, &[]));
+    Ok(())
+}
+
+#[test]
+fn the_longest(rt: HostRuntime) -> Result<(), Fail> {
+    let mut arena = new_arena(rt.alloc())?;
+    assert!(rt; arena.malloc_to(0, 7, 20000).is_ok());
+    assert_eq!(rt; arena.write(7, 1, &[3; 512]), Ok(()));
+    assert_eq!(rt; arena.pmem().event_count(), 578);
+    match arena.view(7) {
+        Ok(view) => {
+            assert_eq!(rt; view.len(), 4096);
+            let first = (view.get(0).copied(), view.get(1).copied());
+            assert_eq!(rt; first, (Some(0), Some(3)));
+            let last = (view.get(512).copied(), view.get(513).copied());
+            assert_eq!(rt; last, (Some(3), Some(0)));
+        }
+        Err(_) => assert!(rt; false),
+    }
+    Ok(())
+}
+
+#[test]
+fn others_come_and_go(rt: HostRuntime) -> Result<(), Fail> {
+    let mut arena = new_arena(rt.alloc())?;
+    assert!(rt; arena.malloc_to(0, 5, 16).is_ok());
+    assert_eq!(rt; arena.write(5, 0, &[11, 12]), Ok(()));
+    assert!(rt; arena.malloc_to(1, 6, 16).is_ok());
+    assert_eq!(rt; arena.write(6, 0, &[13, 14]), Ok(()));
+    assert!(rt; arena.malloc_to(0, 7, 40000).is_ok());
+    assert!(rt; arena.free_from(0, 6).is_ok());
+    assert!(rt; arena.malloc_to(0, 8, 16).is_ok());
+    assert_eq!(rt; arena.write(8, 1, &[15]), Ok(()));
+    assert!(rt; arena.free_from(0, 7).is_ok());
+    assert!(rt; has(&arena, 5, &[11, 12]));
+    assert!(rt; has(&arena, 8, &[13, 15]));
+    assert!(rt; matches!(arena.view(6), Err(BlockRefusal::Empty)));
+    Ok(())
+}

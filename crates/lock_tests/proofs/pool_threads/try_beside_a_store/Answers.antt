@@ -1,9 +1,0 @@
-use denote.Param.Send.{sendable}
-use Rattle.std.proofs.alloc.Global.TheSendSync as heap
-use Rattle.shared_pool.proofs.Crossing.{pool_sync}
-use Rattle.lock_tests.proofs.callers.Caller.TheSendSync as caller
-use Rattle.lock_tests.proofs.watched.Flags.TheSendSync as flags
-use Rattle.lock_tests.proofs.pool_threads.try_beside_a_store.Goals as goal
-
-pub join_mut-requires-send-F : goal.join_mut-requires-send-F
-join_mut-requires-send-F g c κs within = search (sendable, pool_sync, caller.the_send, flags.the_sync, heap.the_sync, heap.the_send) depth 20

@@ -1,0 +1,271 @@
+// Journals, receipts and lengths of a pool, on one thread and on two.
+ghost use Rattle.std.specs.Prelude.{◌<◌};
+
+use crate::callers::{Word, arena_lock_of_two, close, empty_arena, pool_of, start_and_close};
+use crate::threads::{malloc_on_two_threads, try_beside_a_store};
+use crate::watched::{Flags, Watched};
+use arena_core::{Arena, ArenaRoom};
+use heap_model::{Call, Reply};
+use lock_tests::LookBeside;
+use pmem_lines::{OutOfMemory, SimPmem};
+use shared_pool::{PoolJob, TryRefusal};
+use std::alloc::Global;
+use std::sync::Arc;
+
+// The first block of 112 bytes of an empty arena.
+const FIRST: u32 = 67584;
+
+fn want_of_memory(refusal: TryRefusal) -> Option<OutOfMemory> {
+    match refusal {
+        TryRefusal::Memory(error) => Some(error),
+        TryRefusal::Busy => None,
+    }
+}
+
+// Two passes ask for one root: the second receipt is behind the first, and its entry has the refusal. Then it is freed.
+#[test]
+fn one_root_for_two_passes(rt: HostRuntime) -> Result<(), OutOfMemory> {
+    let alloc = rt.alloc();
+    let arenas = vec![in alloc; empty_arena(alloc, 0, 1)?]?;
+    let (pool, mut zero, mut one) = pool_of(alloc, arenas)?;
+    let first = zero.malloc(&rt, alloc, &pool, 0, 5, 100)?;
+    let second = one.malloc(&rt, alloc, &pool, 0, 5, 100)?;
+    assert_eq!(&rt; first.place, 0);
+    assert_eq!(&rt;
+        first.entry.reply,
+        Reply::Placed {
+            at: FIRST,
+            size: 112
+        }
+    );
+    assert_eq!(&rt; second.place, 1);
+    assert_eq!(&rt; second.entry.seat, 1);
+    assert_eq!(&rt; second.entry.reply, Reply::Occupied { at: FIRST });
+    assert_eq!(&rt; zero.seen(&pool, 0), 1);
+    assert_eq!(&rt; one.seen(&pool, 0), 2);
+    let third = zero.free(&rt, alloc, &pool, 0, 5)?;
+    assert_eq!(&rt; third.place, 2);
+    assert_eq!(&rt;
+        third.entry.reply,
+        Reply::Freed {
+            at: FIRST,
+            size: 112
+        }
+    );
+    Ok(())
+}
+
+// What one pass did is published, and a pass that has seen nothing reads it.
+#[test]
+fn lengths_of_a_journal(rt: HostRuntime) -> Result<(), OutOfMemory> {
+    let alloc = rt.alloc();
+    let arenas = vec![in alloc; empty_arena(alloc, 0, 1)?]?;
+    let (pool, mut zero, mut one) = pool_of(alloc, arenas)?;
+    zero.malloc(&rt, alloc, &pool, 0, 1, 64)?;
+    zero.malloc(&rt, alloc, &pool, 0, 2, 64)?;
+    assert_eq!(&rt; zero.published(&pool, 0), 2);
+    assert_eq!(&rt; one.published(&pool, 0), 2);
+    assert_eq!(&rt; one.seen(&pool, 0), 0);
+    Ok(())
+}
+
+// The same at a lock over one arena, where the other seat reads while the turn is held.
+#[test]
+fn length_inside_a_turn_of_an_arena(rt: HostRuntime) -> Result<(), OutOfMemory> {
+    let (lock, mut zero, one) = arena_lock_of_two(rt.alloc())?;
+    let call = Call::Malloc { root: 1, size: 64 };
+    lock.with_turn(&rt, &mut zero, PoolJob { seat: 0, call })?;
+    let call = Call::Malloc { root: 2, size: 64 };
+    lock.with_turn(&rt, &mut zero, PoolJob { seat: 0, call })?;
+    let beside = LookBeside {
+        seat: 0,
+        lock: &lock,
+        other: one,
+    };
+    let (count, _one) = lock.with_turn(&rt, &mut zero, beside);
+    assert_eq!(&rt; count, 2);
+    Ok(())
+}
+
+// Tries where nobody else has the turn are made, and the journal has them.
+#[test]
+fn tries_on_one_thread(rt: HostRuntime) -> Result<(), OutOfMemory> {
+    let alloc = rt.alloc();
+    let arenas = vec![in alloc; empty_arena(alloc, 0, 1)?]?;
+    let (pool, mut zero, one) = pool_of(alloc, arenas)?;
+    let placed = match zero.try_malloc(alloc, &pool, 0, 5, 100) {
+        Ok(receipt) => receipt,
+        Err(refusal) => {
+            assert!(&rt; want_of_memory(refusal).is_some());
+            return Err(OutOfMemory);
+        }
+    };
+    let freed = match zero.try_free(alloc, &pool, 0, 5) {
+        Ok(receipt) => receipt,
+        Err(refusal) => {
+            assert!(&rt; want_of_memory(refusal).is_some());
+            return Err(OutOfMemory);
+        }
+    };
+    assert_eq!(&rt; placed.place, 0);
+    assert_eq!(&rt;
+        placed.entry.reply,
+        Reply::Placed {
+            at: FIRST,
+            size: 112
+        }
+    );
+    assert_eq!(&rt; freed.place, 1);
+    assert_eq!(&rt;
+        freed.entry.reply,
+        Reply::Freed {
+            at: FIRST,
+            size: 112
+        }
+    );
+    let closed = close(alloc, pool, zero, one)?;
+    assert_eq!(&rt; closed.len(), 1);
+    for arena in &closed {
+        assert_eq!(&rt;
+            arena.journal.as_slice(),
+            [placed.entry, freed.entry].as_slice()
+        );
+        assert_eq!(&rt; arena.arena.block(5), None);
+    }
+    Ok(())
+}
+
+// One pass writes a word and another reads it: the journal has both, and the read leaves the memory behind the write.
+#[test]
+fn a_word_for_two_passes(rt: HostRuntime) -> Result<(), OutOfMemory> {
+    let alloc = rt.alloc();
+    let arenas = vec![in alloc; empty_arena(alloc, 0, 1)?]?;
+    let (pool, mut zero, mut one) = pool_of(alloc, arenas)?;
+    zero.malloc(&rt, alloc, &pool, 0, 5, 100)?;
+    let word = Word {
+        root: 5,
+        index: 13,
+        value: 77,
+    };
+    let none = one.write(&rt, alloc, &pool, 0, Word { root: 6, ..word })?;
+    let wrote = zero.write(&rt, alloc, &pool, 0, word)?;
+    let read = one.read(&rt, alloc, &pool, 0, 5, 13)?;
+    let past = one.read(&rt, alloc, &pool, 0, 5, 14)?;
+    assert_eq!(&rt; (none.place, none.entry.reply), (1, Reply::Empty));
+    assert_eq!(&rt; (wrote.place, wrote.entry.reply), (2, Reply::Wrote));
+    assert_eq!(&rt;
+        (read.place, read.entry.reply),
+        (3, Reply::Value { word: 77 })
+    );
+    assert_eq!(&rt; (past.place, past.entry.reply), (4, Reply::OutOfRange));
+    let closed = close(alloc, pool, zero, one)?;
+    for arena in &closed {
+        assert_eq!(&rt; arena.journal.len(), 5);
+        assert_eq!(&rt; arena.arena.pmem().event_count(), 3);
+    }
+    Ok(())
+}
+
+// Two threads ask for one root: one of them has the block, the other's answer says so, whichever was first.
+#[test]
+fn two_threads_one_root(rt: HostRuntime) -> Result<(), OutOfMemory> {
+    let alloc = rt.alloc();
+    let arenas = vec![in alloc; empty_arena(alloc, 0, 1)?]?;
+    let (pool, mut zero, mut one) = pool_of(alloc, arenas)?;
+    let (by_zero, by_one) = malloc_on_two_threads(&rt, alloc, &pool, &mut zero, &mut one);
+    let by_zero = by_zero?;
+    let by_one = by_one?;
+    let closed = close(alloc, pool, zero, one)?;
+    assert_eq!(&rt; closed.len(), 1);
+    let placed = Reply::Placed {
+        at: FIRST,
+        size: 112,
+    };
+    let occupied = Reply::Occupied { at: FIRST };
+    let (first, second) = if by_zero.place == 0 {
+        (by_zero.entry, by_one.entry)
+    } else {
+        (by_one.entry, by_zero.entry)
+    };
+    assert_eq!(&rt; first.reply, placed);
+    assert_eq!(&rt; second.reply, occupied);
+    for arena in &closed {
+        assert_eq!(&rt; arena.journal.as_slice(), [first, second].as_slice());
+        assert!(&rt; arena.arena.block(5).is_some());
+    }
+    Ok(())
+}
+
+fn watched_arena(
+    alloc: Global,
+    number: u32,
+    flags: Arc<Flags>,
+) -> Result<Arena<Watched>, OutOfMemory>
+    requires { number < 2 }
+{
+    let room = ArenaRoom::new(alloc, 16)?;
+    let memory = Watched::new(SimPmem::zeroed(alloc, 4096, 2048)?, flags);
+    Ok(Arena::format(room, memory, number, 2))
+}
+
+// A call stops in the middle of its stores, in its turn at one arena. A try at the other arena is made meanwhile.
+#[test]
+fn two_arenas_have_two_locks(rt: HostRuntime) -> Result<(), OutOfMemory> {
+    let alloc = rt.alloc();
+    let flags = Arc::new(alloc, Flags::new())?;
+    let others = Arc::new(alloc, Flags::new())?;
+    let one = watched_arena(alloc, 0, flags.clone()?)?;
+    let two = watched_arena(alloc, 1, others)?;
+    let (pool, mut zero, mut one) = pool_of(alloc, vec![in alloc; one, two]?)?;
+    flags.arm();
+    let (called, tried) = try_beside_a_store(&rt, alloc, &pool, &mut zero, &mut one, &flags);
+    assert_eq!(&rt;
+        called?.entry.reply,
+        Reply::Placed {
+            at: FIRST,
+            size: 112
+        }
+    );
+    match tried {
+        Ok(receipt) => assert_eq!(&rt;
+            receipt.entry.reply,
+            Reply::Placed {
+                at: FIRST,
+                size: 112
+            }
+        ),
+        Err(refusal) => assert!(&rt; want_of_memory(refusal).is_some()),
+    }
+    assert!(&rt; flags.all_met());
+    Ok(())
+}
+
+// With ample memory a pool has as many arenas and passes as it may: the passes are numbered in order, and each arena comes
+// back with what it had, and with an empty journal. Arena n has a block at root n.
+#[test]
+fn sixteen_arenas_and_sixty_four_passes(rt: HostRuntime) -> Result<(), OutOfMemory> {
+    let alloc = rt.alloc();
+    let mut arenas = Vec::new(alloc);
+    for number in 0..16 {
+        let mut arena = empty_arena(alloc, number, 16)?;
+        assert!(&rt; arena.malloc_to(0, number, 100).is_ok());
+        arenas.push(arena)?;
+    }
+    let (numbers, closed) = start_and_close(alloc, arenas, 64)?;
+    assert_eq!(&rt; numbers.len(), 64);
+    for (i, number) in numbers.iter().enumerate() {
+        assert_eq!(&rt; *number as usize, i);
+    }
+    assert_eq!(&rt; closed.len(), 16);
+    for (i, one) in closed.iter().enumerate() {
+        assert_eq!(&rt; one.journal.len(), 0, "arena {i}");
+        for root in 0..16 {
+            assert_eq!(&rt;
+                one.arena.block(root).is_some(),
+                root as usize == i,
+                "arena {i}"
+            );
+        }
+    }
+    Ok(())
+}
