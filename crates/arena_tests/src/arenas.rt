@@ -1,5 +1,10 @@
-// An arena of 16 granules for the rows of this crate, and the events of its last call.
-use arena_core::{Arena, ArenaRoom};
+// An arena of 16 granules for the rows of this crate, its calls, and the events of the last one.
+//
+// Of what the arena's contract says of a call nothing is handed on here: the tests compare what is answered, and the proof of
+// a test that makes ten calls stays small.
+ghost use Rattle.std.specs.Prelude.{◌<◌, ◌≤◌, length};
+
+use arena_core::{Arena, ArenaRoom, BlockRefusal, MoveRefusal, Moved};
 use pmem_lines::{Event, OutOfMemory, SimPmem};
 use std::alloc::Global;
 
@@ -22,4 +27,35 @@ pub(crate) fn had(arena: &Arena<SimPmem>, events: &[Event]) -> bool {
         }
     }
     true
+}
+
+/// Seat `seat` below 64 gives the root a block for so many bytes. Whether there was one.
+pub(crate) fn gave(arena: &mut Arena<SimPmem>, seat: u32, root: u32, size: u64) -> bool
+    requires { seat < 64 }
+{
+    arena.malloc_to(seat, root, size).is_ok()
+}
+
+/// Seat `seat` below 64 takes the root's block back. Whether it had one.
+pub(crate) fn freed(arena: &mut Arena<SimPmem>, seat: u32, root: u32) -> bool
+    requires { seat < 64 }
+{
+    arena.free_from(seat, root).is_ok()
+}
+
+/// Writes at most 512 words into the root's block, from the word numbered `from` on.
+pub(crate) fn write(
+    arena: &mut Arena<SimPmem>,
+    root: u32,
+    from: u32,
+    words: &[u64],
+) -> Result<(), BlockRefusal>
+    requires { length words.now ≤ 512 }
+{
+    arena.write(root, from, words)
+}
+
+/// Moves the block of a root to another.
+pub(crate) fn moved(arena: &mut Arena<SimPmem>, from: u32, to: u32) -> Result<Moved, MoveRefusal> {
+    arena.move_to(from, to)
 }

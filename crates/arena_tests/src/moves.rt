@@ -1,6 +1,6 @@
 // Blocks that move from a root to another, in an arena of 16 granules: root 5 has the block of 112 bytes at 67584, and root
 // 7 the two granules at 131072.
-use crate::arenas::{had, new_arena};
+use crate::arenas::{freed, gave, had, moved, new_arena, write};
 use arena_core::{Arena, MoveRefusal, Moved};
 use heap_model::Block;
 use pmem_lines::{Event, OutOfMemory, Pmem, SimPmem};
@@ -22,8 +22,8 @@ const LARGE: Moved = Moved {
 // An arena with both blocks. The small one took write-ahead line 0.
 fn arena_of_two(alloc: Global) -> Result<Option<Arena<SimPmem>>, OutOfMemory> {
     let mut arena = new_arena(alloc)?;
-    let small = arena.malloc_to(0, 5, 100).is_ok();
-    let large = arena.malloc_to(0, 7, 20000).is_ok();
+    let small = gave(&mut arena, 0, 5, 100);
+    let large = gave(&mut arena, 0, 7, 20000);
     Ok(if small && large { Some(arena) } else { None })
 }
 
@@ -84,9 +84,13 @@ fn blocks_move(rt: HostRuntime) -> Result<(), Fail> {
     let Some(mut arena) = arena_of_two(rt.alloc())? else {
         return Ok(assert!(rt; false, "no arena of two blocks"));
     };
-    assert_eq!(rt; arena.write(5, 0, &[31, 32]), Ok(()));
+    assert_eq!(rt; write(&mut arena, 5, 0, &[31, 32]), Ok(()));
     for (from, to, block, line, entry) in table {
-        assert_eq!(rt; arena.move_to(from, to), Ok(block), "from {from} to {to}");
+        assert_eq!(rt;
+            moved(&mut arena, from, to),
+            Ok(block),
+            "from {from} to {to}"
+        );
         let events = events_of(line, entry, from, to, u64::from(block.at));
         assert!(rt; had(&arena, &events), "events from {from} to {to}");
         assert_eq!(rt;
@@ -99,8 +103,8 @@ fn blocks_move(rt: HostRuntime) -> Result<(), Fail> {
         Err(_) => None,
     };
     assert_eq!(rt; first, Some(32));
-    assert_eq!(rt; arena.free_from(0, 2).is_ok(), true);
-    assert_eq!(rt; arena.free_from(0, 5).is_ok(), true);
+    assert!(rt; freed(&mut arena, 0, 2));
+    assert!(rt; freed(&mut arena, 0, 5));
     assert_eq!(rt; arena.pmem().event_count(), 6);
     Ok(())
 }
@@ -125,7 +129,7 @@ fn refusals_in_their_order(rt: HostRuntime) -> Result<(), Fail> {
     };
     for (from, to, refusal) in table {
         assert_eq!(rt;
-            arena.move_to(from, to),
+            moved(&mut arena, from, to),
             Err(refusal),
             "from {from} to {to}"
         );
@@ -167,7 +171,7 @@ fn crashes_within(rt: HostRuntime) -> Result<(), Fail> {
     let Some(mut arena) = arena_of_two(rt.alloc())? else {
         return Ok(assert!(rt; false, "no arena of two blocks"));
     };
-    assert_eq!(rt; arena.move_to(5, 9), Ok(SMALL));
+    assert_eq!(rt; moved(&mut arena, 5, 9), Ok(SMALL));
     for k in 0..=12 {
         for seed in 0..16u64 {
             let mut picks = SplitMix64::from_seed(seed.to_le_bytes());

@@ -1,6 +1,6 @@
 // The words of blocks, in an arena of 16 granules. Root 5 has the block of 112 bytes at 67584, which are 14 words on lines
 // 1056 and 1057.
-use crate::arenas::{had, new_arena};
+use crate::arenas::{freed, gave, had, new_arena, write};
 use arena_core::{Arena, BlockRefusal};
 use pmem_lines::{Event, SimPmem};
 use std::test::Fail;
@@ -16,8 +16,8 @@ fn has(arena: &Arena<SimPmem>, root: u32, words: &[u64]) -> bool {
 #[test]
 fn across_two_lines(rt: HostRuntime) -> Result<(), Fail> {
     let mut arena = new_arena(rt.alloc())?;
-    assert!(rt; arena.malloc_to(0, 5, 100).is_ok());
-    assert_eq!(rt; arena.write(5, 6, &[1, 2, 3, 4]), Ok(()));
+    assert!(rt; gave(&mut arena, 0, 5, 100));
+    assert_eq!(rt; write(&mut arena, 5, 6, &[1, 2, 3, 4]), Ok(()));
     assert!(rt;
         had(
             &arena,
@@ -51,8 +51,8 @@ fn across_two_lines(rt: HostRuntime) -> Result<(), Fail> {
 #[test]
 fn at_the_end(rt: HostRuntime) -> Result<(), Fail> {
     let mut arena = new_arena(rt.alloc())?;
-    assert!(rt; arena.malloc_to(0, 5, 100).is_ok());
-    assert_eq!(rt; arena.write(5, 12, &[8, 9]), Ok(()));
+    assert!(rt; gave(&mut arena, 0, 5, 100));
+    assert_eq!(rt; write(&mut arena, 5, 12, &[8, 9]), Ok(()));
     assert!(rt;
         had(
             &arena,
@@ -70,11 +70,17 @@ fn at_the_end(rt: HostRuntime) -> Result<(), Fail> {
             ],
         )
     );
-    assert_eq!(rt; arena.write(5, 13, &[1, 2]), Err(BlockRefusal::OutOfRange));
-    assert!(rt; had(&arena, &[]));
-    assert_eq!(rt; arena.write(5, 14, &[1]), Err(BlockRefusal::OutOfRange));
     assert_eq!(rt;
-        arena.write(5, 4294967295, &[1]),
+        write(&mut arena, 5, 13, &[1, 2]),
+        Err(BlockRefusal::OutOfRange)
+    );
+    assert!(rt; had(&arena, &[]));
+    assert_eq!(rt;
+        write(&mut arena, 5, 14, &[1]),
+        Err(BlockRefusal::OutOfRange)
+    );
+    assert_eq!(rt;
+        write(&mut arena, 5, 4294967295, &[1]),
         Err(BlockRefusal::OutOfRange)
     );
     assert!(rt; has(&arena, 5, &[0, 0, 0, 0, 0, 0, 0, 0, 0, 0, 0, 0, 8, 9]));
@@ -84,19 +90,22 @@ fn at_the_end(rt: HostRuntime) -> Result<(), Fail> {
 #[test]
 fn no_words(rt: HostRuntime) -> Result<(), Fail> {
     let mut arena = new_arena(rt.alloc())?;
-    assert!(rt; arena.malloc_to(0, 5, 100).is_ok());
-    assert_eq!(rt; arena.write(5, 14, &[]), Ok(()));
+    assert!(rt; gave(&mut arena, 0, 5, 100));
+    assert_eq!(rt; write(&mut arena, 5, 14, &[]), Ok(()));
     assert!(rt; had(&arena, &[]));
-    assert_eq!(rt; arena.write(5, 15, &[]), Err(BlockRefusal::OutOfRange));
+    assert_eq!(rt;
+        write(&mut arena, 5, 15, &[]),
+        Err(BlockRefusal::OutOfRange)
+    );
     Ok(())
 }
 
 #[test]
 fn no_block(rt: HostRuntime) -> Result<(), Fail> {
     let mut arena = new_arena(rt.alloc())?;
-    assert_eq!(rt; arena.write(4096, 0, &[1]), Err(BlockRefusal::NoRoot));
+    assert_eq!(rt; write(&mut arena, 4096, 0, &[1]), Err(BlockRefusal::NoRoot));
     assert_eq!(rt;
-        arena.write(4095, 4294967295, &[1]),
+        write(&mut arena, 4095, 4294967295, &[1]),
         Err(BlockRefusal::Empty)
     );
     assert!(rt; matches!(arena.view(4096), Err(BlockRefusal::NoRoot)));
@@ -108,8 +117,8 @@ fn no_block(rt: HostRuntime) -> Result<(), Fail> {
 #[test]
 fn the_longest(rt: HostRuntime) -> Result<(), Fail> {
     let mut arena = new_arena(rt.alloc())?;
-    assert!(rt; arena.malloc_to(0, 7, 20000).is_ok());
-    assert_eq!(rt; arena.write(7, 1, &[3; 512]), Ok(()));
+    assert!(rt; gave(&mut arena, 0, 7, 20000));
+    assert_eq!(rt; write(&mut arena, 7, 1, &[3; 512]), Ok(()));
     assert_eq!(rt; arena.pmem().event_count(), 578);
     match arena.view(7) {
         Ok(view) => {
@@ -127,15 +136,15 @@ fn the_longest(rt: HostRuntime) -> Result<(), Fail> {
 #[test]
 fn others_come_and_go(rt: HostRuntime) -> Result<(), Fail> {
     let mut arena = new_arena(rt.alloc())?;
-    assert!(rt; arena.malloc_to(0, 5, 16).is_ok());
-    assert_eq!(rt; arena.write(5, 0, &[11, 12]), Ok(()));
-    assert!(rt; arena.malloc_to(1, 6, 16).is_ok());
-    assert_eq!(rt; arena.write(6, 0, &[13, 14]), Ok(()));
-    assert!(rt; arena.malloc_to(0, 7, 40000).is_ok());
-    assert!(rt; arena.free_from(0, 6).is_ok());
-    assert!(rt; arena.malloc_to(0, 8, 16).is_ok());
-    assert_eq!(rt; arena.write(8, 1, &[15]), Ok(()));
-    assert!(rt; arena.free_from(0, 7).is_ok());
+    assert!(rt; gave(&mut arena, 0, 5, 16));
+    assert_eq!(rt; write(&mut arena, 5, 0, &[11, 12]), Ok(()));
+    assert!(rt; gave(&mut arena, 1, 6, 16));
+    assert_eq!(rt; write(&mut arena, 6, 0, &[13, 14]), Ok(()));
+    assert!(rt; gave(&mut arena, 0, 7, 40000));
+    assert!(rt; freed(&mut arena, 0, 6));
+    assert!(rt; gave(&mut arena, 0, 8, 16));
+    assert_eq!(rt; write(&mut arena, 8, 1, &[15]), Ok(()));
+    assert!(rt; freed(&mut arena, 0, 7));
     assert!(rt; has(&arena, 5, &[11, 12]));
     assert!(rt; has(&arena, 8, &[13, 15]));
     assert!(rt; matches!(arena.view(6), Err(BlockRefusal::Empty)));
