@@ -112,9 +112,12 @@ impl<P: Pmem> Arena<P> {
     /// Gives a root a block of at least `size` bytes. A size of at most 16384 takes a block of its class: the top of the
     /// seat's own stack; where that is empty, the lowest available block of the lowest slab of the class that has one, and
     /// the next ones of that slab, up to seven, go on the seat's stack; where there is none, the top of the stack of the
-    /// lowest-numbered seat that has one; and else the first of a slab that is opened at the best fit of four granules, and
-    /// the next ones go on the seat's stack. Any other size takes whole granules at their best fit. The answer is the machine's: `NoRoot` where there is no such root
-    /// word, `Occupied` where the root names a block, `ZeroSize`, `TooLarge` above the bytes of the whole heap, `NoSpace`.
+    /// lowest-numbered seat that has one; where there is none either, the lowest unused block of the slab that takes the
+    /// class, while its live blocks live on: the one with the fewest of those that are fit, which leaves all stacks; and else
+    /// the first of a slab that is opened at the best fit of four granules. Behind the last two the next blocks go on the
+    /// seat's stack. Any other size takes whole granules at their best fit. The answer is the machine's: `NoRoot` where there
+    /// is no such root word, `Occupied` where the root names a block, `ZeroSize`, `TooLarge` above the bytes of the whole
+    /// heap, `NoSpace`.
     /// It begins one call, ahead of its events, also where it refuses; a refusal has no event and changes no word
     /// and no stack. Every other block keeps its words. After a crash within it the heap is the one before the call or the
     /// one after it. It takes no memory. `seat` is the caller's, below 64.
