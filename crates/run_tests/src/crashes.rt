@@ -1,4 +1,4 @@
-// Crashes at every event of some calls, with three seeds each.
+// Crashes at every event of some calls, with several seeds each.
 use crate::runs::tells;
 use crate::traces::{ROLLS, WRITES_ANEW, around_sixteen, expanded};
 use std::alloc::Global;
@@ -11,16 +11,19 @@ use std::thread::Threads;
 // the seed picks.
 type Events<'a> = (u32, u32, &'a str, &'a str);
 
-// Whatever the seed, the run writes one of both texts after so many events.
+// Whatever the seed, of the seeds below a number, the run writes one of both texts after so many events; and each of both
+// with some seed.
 fn crash_writes<R: Abort + Threads + Wait + Sync>(
     rt: &R,
     alloc: Global,
     trace: &str,
+    seeds: u32,
     events: &[Events<'_>],
 ) -> Result<(), Fail> {
     for (first, last, one, other) in events {
         for event in *first..=*last {
-            for seed in 0..3 {
+            let (mut is_one, mut is_other) = (false, false);
+            for seed in 0..seeds {
                 let words = format!(in alloc; "crash 0 {event} {seed}")?;
                 let (code, text) = tells(rt, alloc, &words, trace.as_bytes())?;
                 assert_eq!(rt; code, 0, "{words}");
@@ -28,7 +31,10 @@ fn crash_writes<R: Abort + Threads + Wait + Sync>(
                     text.as_str() == *one || text.as_str() == *other,
                     "{words}: {text}"
                 );
+                is_one = is_one || text.as_str() == *one;
+                is_other = is_other || text.as_str() == *other;
             }
+            assert!(rt; is_one && is_other, "one text alone after {event} events");
         }
     }
     Ok(())
@@ -52,7 +58,7 @@ fn in_small_calls(rt: HostRuntime) -> Result<(), Fail> {
         (84, 85, EMPTY_1, PLACED_1),
         (86, 89, PLACED_1, PLACED_1),
     ];
-    crash_writes(&rt, rt.alloc(), "pool 1 16\n0 0 m 5 100\n", &events)?;
+    crash_writes(&rt, rt.alloc(), "pool 1 16\n0 0 m 5 100\n", 3, &events)?;
     let events = [
         (86, 89, PLACED_1, PLACED_1),
         (90, 92, PLACED_2, PLACED_2),
@@ -63,6 +69,7 @@ fn in_small_calls(rt: HostRuntime) -> Result<(), Fail> {
         &rt,
         rt.alloc(),
         "pool 1 16\n0 0 m 5 100\n0 0 f 5\n",
+        3,
         &events,
     )
 }
@@ -91,7 +98,7 @@ fn where_the_log_rolls(rt: HostRuntime) -> Result<(), Fail> {
         (868, 871, EMPTY_122, EMPTY_122),
     ];
     let trace = expanded(rt.alloc(), ROLLS)?;
-    crash_writes(&rt, rt.alloc(), &trace, &events)
+    crash_writes(&rt, rt.alloc(), &trace, 3, &events)
 }
 
 // The last malloc writes the log anew. It begins behind event 6733, and has 139 events that do so and 3 that put the
@@ -118,5 +125,49 @@ fn where_the_log_is_written_anew(rt: HostRuntime) -> Result<(), Fail> {
         (6878, 6878, after, after),
     ];
     let trace = expanded(rt.alloc(), WRITES_ANEW)?;
-    crash_writes(&rt, rt.alloc(), &trace, &events)
+    crash_writes(&rt, rt.alloc(), &trace, 3, &events)
+}
+
+// A slab of class 3 with one block, which root 1 has, takes class 19 for root 2.
+const TAKES_A_CLASS: &str = "pool 1 16
+0 0 m 0 131072
+0 0 m 1 64
+0 0 m 2 1000
+";
+
+const HELD_2: &str = "call 2 after\nheap 2\n0 65536 131072\n1 198656 64\n";
+
+const HELD_3: &str = "call 3 before\nheap 2\n0 65536 131072\n1 198656 64\n";
+
+const TAKEN_3: &str = "call 3 after\nheap 3\n0 65536 131072\n1 198656 64\n2 199680 1024\n";
+
+// The first two calls have 95 events. Behind them 82 are those of the slab, 3 open the entry, and then the bit is stored
+// and flushed, and the root by event 183. Its fence is event 185, and 3 close the entry.
+#[test]
+fn where_a_slab_takes_a_class(rt: HostRuntime) -> Result<(), Fail> {
+    let events = [
+        (95, 95, HELD_2, HELD_2),
+        (96, 182, HELD_3, HELD_3),
+        (183, 184, HELD_3, TAKEN_3),
+        (185, 188, TAKEN_3, TAKEN_3),
+    ];
+    crash_writes(&rt, rt.alloc(), TAKES_A_CLASS, 8, &events)
+}
+
+const TAKEN_4: &str = "call 4 before\nheap 3\n0 65536 131072\n1 198656 64\n2 199680 1024\n";
+
+const GONE_4: &str = "call 4 after\nheap 2\n0 65536 131072\n2 199680 1024\n";
+
+// The free of the old block opens its entry by events 189 to 191, stores and flushes the root and then the index entry, and
+// its fence is event 196. By 199 the entry is closed, and by 202 the slab is normal.
+#[test]
+fn where_the_last_old_block_goes(rt: HostRuntime) -> Result<(), Fail> {
+    let events = [
+        (188, 188, TAKEN_3, TAKEN_3),
+        (189, 191, TAKEN_4, TAKEN_4),
+        (192, 195, TAKEN_4, GONE_4),
+        (196, 202, GONE_4, GONE_4),
+    ];
+    let trace = format!(in rt.alloc(); "{TAKES_A_CLASS}0 0 f 1\n")?;
+    crash_writes(&rt, rt.alloc(), &trace, 8, &events)
 }

@@ -1,8 +1,9 @@
 // Images that `image` makes of a trace, and what `check` and `recover` write of them.
-use crate::images::{ONE_BLOCK, Run, both_tell, image_of};
+use crate::images::{IN_TRANSITION, ONE_BLOCK, Run, both_tell, image_of};
 use crate::runs::{ends_and_writes, tells};
 use crate::traces::{
-    BOTH_WRITE_ANEW, MIXED, REPEATS, ROLLS, SIXTEEN_ARENAS, TWO_ARENAS, WRITES_ANEW, expanded,
+    BOTH_WRITE_ANEW, CLASSES_TAKEN, MIXED, REPEATS, ROLLS, SIXTEEN_ARENAS, TWO_ARENAS, WRITES_ANEW,
+    expanded,
 };
 use nvheap::Status;
 use std::alloc::Global;
@@ -77,6 +78,10 @@ fn heaps_come_back(rt: HostRuntime) -> Result<(), Fail> {
         ),
         (SIXTEEN_ARENAS, SIXTEEN),
         (
+            CLASSES_TAKEN,
+            "arena 0 large 1 slabs 1 blocks 4 loose 0\narena 1 large 1 slabs 1 blocks 2 loose 0\narena 2 large 0 slabs 3 blocks 7 loose 0\n",
+        ),
+        (
             "pool 1 16\n0 0 m 5 20000\n0 0 m 6 100\n0 0 m 7 100\n0 0 w 6 13 9\n0 0 v 6 4095\n0 0 v 5 6\n0 0 f 7\n",
             "arena 0 large 1 slabs 1 blocks 2 loose 0\n",
         ),
@@ -127,6 +132,49 @@ fn images_byte_by_byte(rt: HostRuntime) -> Result<(), Fail> {
             &largest
         )?
     );
+    Ok(())
+}
+
+// The same when root 1's block is gone: class 19, and no old block.
+const NORMAL_AGAIN: [Run; 9] = [
+    (0, b"NVALLOG1"),
+    (8, &[1, 0, 0, 0, 16, 0, 1, 0]),
+    (16, &[1]),
+    (16386, &[1]),
+    (16401, &[12, 3]),
+    (49216, &[1, 4, 0, 8]),
+    (49280, &[2, 12]),
+    (196608, &[1, 19]),
+    (196736, &[1]),
+];
+
+// The same with two old blocks, numbers 1 and 2 of class 3, of which the first is gone: its index entry keeps its number.
+// Root 3 has the second, and root 4 block 1 of class 19.
+const ONE_OF_TWO: [Run; 12] = [
+    (0, b"NVALLOG1"),
+    (8, &[1, 0, 0, 0, 16, 0, 1, 0]),
+    (16, &[1]),
+    (16386, &[1]),
+    (16408, &[128, 8, 3]),
+    (16417, &[12, 3]),
+    (49216, &[1, 4, 0, 8]),
+    (49280, &[2, 12]),
+    (196608, &[3, 19, 3, 2]),
+    (196736, &[1]),
+    (197184, &[0, 0, 1]),
+    (197248, &[1, 0, 2]),
+];
+
+// A slab takes class 19 with one old block; that block goes; and a slab takes it with two, and the first goes.
+#[test]
+fn images_of_old_blocks(rt: HostRuntime) -> Result<(), Fail> {
+    let taken = "pool 1 16\n0 0 m 0 131072\n0 0 m 1 64\n0 0 m 2 1000\n";
+    assert!(rt; leaves(&rt, rt.alloc(), taken, 262144, &IN_TRANSITION)?);
+    let gone = format!(in rt.alloc(); "{taken}0 0 f 1\n")?;
+    assert!(rt; leaves(&rt, rt.alloc(), &gone, 262144, &NORMAL_AGAIN)?);
+    let two =
+        "pool 1 16\n0 0 m 0 131072\n0 0 m 1 64\n0 0 m 2 64\n0 0 m 3 64\n0 0 f 1\n0 0 m 4 1000\n0 0 f 2\n";
+    assert!(rt; leaves(&rt, rt.alloc(), two, 262144, &ONE_OF_TWO)?);
     Ok(())
 }
 

@@ -1,12 +1,12 @@
 // Generated work: what it prints, and what it leaves.
-use crate::runs::{all_tell, ends, ends_and_writes, words_of};
+use crate::runs::{all_tell, ends, words_of};
 use nvheap::{KeptShelf, MemSink, MemSource, OpenGate, Status, SureSource, run};
 use pmem_lines::Pmem;
 use std::process::Abort;
 use std::test::Fail;
 
 // The one call of `gen 1 0` is `0 0 m 431 1892`. The numbers of the others were worked by a model of the calls alone: no arena
-// comes to its end, so that the places of blocks do not show.
+// comes to its end, so that the places of blocks do not show, nor which slab takes another class.
 const WORKS: [(&str, u8, &str); 3] = [
     (
         "gen 1 0",
@@ -61,14 +61,18 @@ fn no_works(rt: HostRuntime) -> Result<(), Fail> {
     all_tell(&rt, rt.alloc(), b"", &NO_WORKS)
 }
 
+// The numbers were worked by a model of calls and places, in which each arena's slabs take other classes more than 70 times,
+// and some blocks find no space.
+const MUCH: &str = "arena 0 calls 50000 placed 8837 freed 8169 refused 24955 live 668 bytes 2672720
+arena 1 calls 50000 placed 8914 freed 8226 refused 24900 live 688 bytes 2542672
+arena 2 calls 50000 placed 8777 freed 8083 refused 25067 live 694 bytes 2274464
+arena 3 calls 50000 placed 8762 freed 8057 refused 25094 live 705 bytes 2445920
+";
+
 #[test]
-fn the_same_twice(rt: HostRuntime) -> Result<(), Fail> {
-    let alloc = rt.alloc();
-    let (status, first) = ends_and_writes(&rt, alloc, "gen 2000 7", b"")?;
-    assert_eq!(rt; status, Status::Done);
-    let (_, second) = ends_and_writes(&rt, alloc, "gen 2000 7", b"")?;
-    assert_eq!(rt; first.as_slice(), second.as_slice());
-    Ok(())
+fn much_the_same_twice(rt: HostRuntime) -> Result<(), Fail> {
+    let rows = [("gen 200000 7", 0, MUCH), ("gen 200000 7", 0, MUCH)];
+    all_tell(&rt, rt.alloc(), b"", &rows)
 }
 
 #[test]

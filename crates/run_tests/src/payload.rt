@@ -3,7 +3,9 @@ use crate::runs::{all_end_and_write, tells, word_after};
 use std::test::Fail;
 
 // A block of 16 bytes has the words 0 and 1. A malloc that opens a slab has 89 events and a write three, so that the
-// write of the second trace is under way from event 90 to 92. A read has none, and counts as a call.
+// write of the second trace is under way from event 90 to 92. A read has none, and counts as a call. In the trace of two
+// arenas the slab of the block of 4096 bytes takes the class of those of 48: block 86 of that class, at 71712, is the first
+// behind the old one.
 const TRACES: &str = "pool 1 16
 0 0 m 1 16
 0 0 w 1 1 18446744073709551615
@@ -140,14 +142,14 @@ pool 2 64
 $0 replay
 arena 0 calls 6
 0 m 0 4096 placed 67584 4096
-0 m 1 40 placed 133120 48
-0 m 2 40 placed 133168 48
+0 m 1 40 placed 71712 48
+0 m 2 40 placed 71760 48
 0 w 1 0 7 wrote
 0 r 1 0 value 7
-0 f 2 freed 133168 48
+0 f 2 freed 71760 48
 heap 2
 0 67584 4096
-1 133120 48
+1 71712 48
 arena 1 calls 3
 1 m 0 100000 placed 65536 114688
 1 m 1 200 placed 182272 224

@@ -71,6 +71,49 @@ pub(crate) const TWO_ARENAS: &str = "pool 2 32
 0 0 m 2 16384
 ";
 
+/// Three arenas, each with a thread of its own. In the first a slab takes a class over two old blocks, of which one moves
+/// and one goes; in the second a slab takes a class, is normal again, takes its first class once more, and is normal again;
+/// in the third each of three slabs takes a class. Blocks old and new are written and moved.
+pub(crate) const CLASSES_TAKEN: &str = "pool 3 16
+0 0 m 0 131072
+0 0 m 1 64
+0 0 m 2 64
+0 0 w 1 7 11
+0 0 m 3 1000
+0 0 v 1 4095
+0 0 w 4095 0 12
+0 0 f 2
+0 0 m 4 1000
+0 0 v 4 1
+1 1 m 0 131072
+1 1 m 1 1000
+1 1 w 1 127 13
+1 1 m 2 64
+1 1 w 1 0 14
+1 1 f 1
+1 1 v 2 1
+1 1 m 2 1000
+1 1 w 2 127 15
+1 1 f 1
+2 2 m 1 6144
+2 2 m 2 6144
+2 2 m 3 6144
+2 2 m 4 12288
+2 2 m 5 12288
+2 2 m 6 10240
+2 2 m 7 10240
+2 2 f 3
+2 2 f 5
+2 2 f 7
+2 2 m 8 64
+2 2 m 9 128
+2 2 w 4 1535 16
+2 2 m 10 16
+2 2 v 1 5
+2 2 w 5 767 17
+2 2 v 8 7
+";
+
 /// `WRITES_ANEW` on each of two arenas, by a thread for each.
 pub(crate) const BOTH_WRITE_ANEW: &str = "pool 2 64
 0 0 m 0 20000
