@@ -40,7 +40,7 @@ const SIZES: [u64; 16] = [
 // One of the sizes. At each time two or three of them come more often than the others.
 fn size(time: u64, drawn: u64) -> u64 {
     let at = if drawn % 8 < 6 {
-        (time + drawn / 8 % 3) % 14
+        time.saturating_add(drawn / 8 % 3) % 14
     } else {
         drawn / 8 % 16
     };

@@ -169,7 +169,7 @@ fn heaps_of_four_seats(rt: HostRuntime) -> Result<(), Fail> {
     for seed in 0..TRACES {
         let whole = of_seed(seed);
         for part in 1..4 {
-            let turns = whole.turns / 4 * part;
+            let turns = (whole.turns / 4).saturating_mul(part);
             let text = trace(rt.alloc(), Made { turns, ..whole })?;
             let _ = recovered(&rt, rt.alloc(), &text)?;
         }
