@@ -92,12 +92,34 @@ fn replayed<R: Abort + Threads + Wait + Sync>(
     Ok(verdict.counts())
 }
 
-// Four threads, whose calls come in turns.
+// Four threads, whose calls come in turns. Which order they come in is not said, and so not how often each way does.
 #[test]
 fn reports_of_four_threads(rt: HostRuntime) -> Result<(), Fail> {
     for seed in 0..TRACES {
         let text = trace(rt.alloc(), of_seed(seed))?;
         let _ = replayed(&rt, rt.alloc(), &text, 100_000)?;
+    }
+    Ok(())
+}
+
+// A trace of 131072 bytes at root 0, so many blocks of 64 bytes, and one of 1000 bytes: four granules are left for them.
+fn with_old_blocks(alloc: Global, count: u32) -> Result<String, AllocError> {
+    let mut text = String::from_str(alloc, "pool 1 16\n0 0 m 0 131072\n")?;
+    for root in 1..=count {
+        let line = format!(in alloc; "0 0 m {root} 64\n")?;
+        text.push_str(&line)?;
+    }
+    text.push_str("0 0 m 2000 1000\n")?;
+    Ok(text)
+}
+
+// A slab with 64 live blocks takes another class, and one with 65 does not: then there is no space.
+#[test]
+fn as_many_old_blocks_as_may_be(rt: HostRuntime) -> Result<(), Fail> {
+    for (count, taken, none) in [(1, 1, 0), (64, 1, 0), (65, 0, 1)] {
+        let text = with_old_blocks(rt.alloc(), count)?;
+        let counts = replayed(&rt, rt.alloc(), &text, 0)?;
+        assert_eq!(rt; (counts.taken, counts.none), (taken, none), "of {count}");
     }
     Ok(())
 }
