@@ -184,17 +184,15 @@ fn recovered<R: Abort + Threads + Wait + Sync>(
     Ok(counts)
 }
 
-// The calls of four seats in the order of the lines, as `image` makes them: the heaps behind all calls, and behind a part.
+// The calls of four seats in the order of the lines, as `image` makes them: the heaps behind all calls, and behind half of them.
 #[test]
 fn heaps_of_four_seats(rt: HostRuntime) -> Result<(), Fail> {
     let mut counts = Counts::ZERO;
     for seed in 0..TRACES {
         let whole = of_seed(seed);
-        for part in 1..4 {
-            let turns = (whole.turns / 4).saturating_mul(part);
-            let text = trace(rt.alloc(), Made { turns, ..whole })?;
-            let _ = recovered(&rt, rt.alloc(), &text)?;
-        }
+        let turns = whole.turns / 2;
+        let half = trace(rt.alloc(), Made { turns, ..whole })?;
+        let _ = recovered(&rt, rt.alloc(), &half)?;
         let text = trace(rt.alloc(), whole)?;
         counts = counts.with(recovered(&rt, rt.alloc(), &text)?);
     }
