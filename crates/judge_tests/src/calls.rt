@@ -1,0 +1,102 @@
+// The calls of a trace.
+use std::alloc::{AllocError, Global};
+
+/// A call at an arena.
+#[derive(Clone, Copy)]
+pub(crate) enum Call {
+    Malloc { root: u64, size: u64 },
+    Free { root: u64 },
+    Write { root: u64, index: u64, value: u64 },
+    Read { root: u64, index: u64 },
+    Move { from: u64, to: u64 },
+}
+
+/// A call that a thread asks of an arena.
+#[derive(Clone, Copy)]
+pub(crate) struct Asked<'a> {
+    pub(crate) thread: u64,
+    pub(crate) arena: u64,
+    pub(crate) call: Call,
+    /// The words of the call, as trace and report have them.
+    pub(crate) text: &'a str,
+}
+
+// The number that a word says.
+fn number(word: Option<&str>) -> Option<u64> {
+    word?.parse().ok()
+}
+
+/// The number that a text begins with, and the text behind the space that follows.
+pub(crate) fn numbered(text: &str) -> Option<(u64, &str)> {
+    let (word, rest) = text.split_once(' ')?;
+    Some((number(Some(word))?, rest))
+}
+
+// The call that some words say.
+fn call_of(text: &str) -> Option<Call> {
+    let mut words = text.split(' ');
+    let kind = words.next()?;
+    let root = number(words.next())?;
+    if kind == "f" {
+        return Some(Call::Free { root });
+    }
+    let second = number(words.next())?;
+    match kind {
+        "m" => Some(Call::Malloc { root, size: second }),
+        "r" => Some(Call::Read {
+            root,
+            index: second,
+        }),
+        "v" => Some(Call::Move {
+            from: root,
+            to: second,
+        }),
+        "w" => Some(Call::Write {
+            root,
+            index: second,
+            value: number(words.next())?,
+        }),
+        _ => None,
+    }
+}
+
+// The call that a line asks for.
+fn read_call(line: &str) -> Option<Asked<'_>> {
+    let (thread, rest) = numbered(line)?;
+    let (arena, text) = numbered(rest)?;
+    let call = call_of(text)?;
+    Some(Asked {
+        thread,
+        arena,
+        call,
+        text,
+    })
+}
+
+/// The calls of a trace that are asked of an arena, in order.
+pub(crate) fn calls_at(
+    alloc: Global,
+    trace: &str,
+    arena: u64,
+) -> Result<Vec<Asked<'_>>, AllocError> {
+    let mut calls = Vec::new(alloc);
+    for line in trace.lines() {
+        if let Some(asked) = read_call(line) {
+            if asked.arena == arena {
+                calls.push(asked)?;
+            }
+        }
+    }
+    Ok(calls)
+}
+
+/// The arenas of a trace, and the granules of each.
+pub(crate) fn pool_of(trace: &str) -> Option<(u64, u64)> {
+    for line in trace.lines() {
+        if let Some(rest) = line.strip_prefix("pool ") {
+            let (arenas, granules) = numbered(rest)?;
+            return Some((arenas, number(Some(granules))?));
+        }
+    }
+    None
+}

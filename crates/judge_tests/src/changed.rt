@@ -1,0 +1,136 @@
+// Reports that were changed by hand: the judge refuses each at the line at which it is no report of its trace any more.
+use crate::judge::{Verdict, judge};
+use crate::known::TAKES_A_CLASS;
+use std::alloc::{AllocError, Global};
+use std::test::Fail;
+
+// Two threads on one arena, and one of them on another. The slab that the first call makes takes the class of 6144 bytes in the
+// second, whose block 0 the old block overlaps.
+const TRACE: &str = "pool 2 16
+0 0 m 1 100
+1 0 m 3 6000
+0 0 m 2 100
+1 0 f 3
+0 0 w 1 3 7
+0 0 r 1 3
+0 0 r 1 4
+1 1 m 1 20000
+0 0 v 2 5
+";
+
+const REPORT: &str = "arena 0 calls 8
+0 m 1 100 placed 67584 112
+1 m 3 6000 placed 73728 6144
+0 m 2 100 placed 133120 112
+0 w 1 3 7 wrote
+1 f 3 freed 73728 6144
+0 r 1 3 value 7
+0 r 1 4 value 0
+0 v 2 5 moved 133120 112
+heap 2
+1 67584 112
+5 133120 112
+arena 1 calls 1
+1 m 1 20000 placed 65536 32768
+heap 1
+1 65536 32768
+";
+
+// A part of the report, what stands in its place, and the line at which it is refused.
+const CHANGES: [(&str, &str, usize); 22] = [
+    ("placed 133120", "placed 133232", 4),
+    ("placed 133120", "placed 67584", 4),
+    ("placed 73728", "placed 67584", 3),
+    ("placed 65536 32768", "placed 65536 20000", 14),
+    ("2 100 placed 133120 112", "2 100 no space", 4),
+    ("moved 133120", "placed 133120", 9),
+    ("value 7", "value 8", 7),
+    ("value 0", "value 00", 8),
+    ("value 0", "wrote", 8),
+    ("1 f 3", "0 f 3", 6),
+    ("1 f 3", "2 f 3", 6),
+    ("0 w 1 3 7", "00 w 1 3 7", 5),
+    (
+        "0 r 1 3 value 7\n0 r 1 4 value 0\n",
+        "0 r 1 4 value 0\n0 r 1 3 value 7\n",
+        7,
+    ),
+    ("0 r 1 4 value 0\n", "", 8),
+    ("0 v 2 5 moved 133120 112\n", "", 9),
+    (
+        "1 f 3 freed 73728 6144\n",
+        "1 f 3 freed 73728 6144\n1 f 3 empty\n",
+        7,
+    ),
+    ("calls 8", "calls 7", 1),
+    ("heap 2", "heap 3", 10),
+    ("1 67584 112\n", "", 11),
+    (
+        "heap 2\n1 67584 112\n5 133120 112\n",
+        "heap 1\n1 67584 112\n",
+        10,
+    ),
+    ("5 133120 112\narena 1", "5 133120 112\narena 2", 13),
+    ("1 65536 32768\n", "1 65536 32768", 17),
+];
+
+// The report with one part changed, where it has that part.
+fn changed(alloc: Global, old: &str, new: &str) -> Result<Option<String>, AllocError> {
+    match REPORT.split_once(old) {
+        Some((before, behind)) => {
+            let text = format!(in alloc; "{before}{new}{behind}")?;
+            Ok(Some(text))
+        }
+        None => Ok(None),
+    }
+}
+
+#[test]
+fn changed_reports_are_refused(rt: HostRuntime) -> Result<(), Fail> {
+    let verdict = judge(rt.alloc(), TRACE, REPORT)?;
+    assert!(rt; verdict.is_right(), "{verdict:?}");
+    for (old, new, line) in CHANGES {
+        let report = changed(rt.alloc(), old, new)?.ok_or("no such part")?;
+        let verdict = judge(rt.alloc(), TRACE, &report)?;
+        assert_eq!(rt; verdict, Verdict::WrongAt(line), "{new} in place of {old}");
+    }
+    Ok(())
+}
+
+// What threads do in another order is right, as is another word that was never written.
+#[test]
+fn other_reports_are_right(rt: HostRuntime) -> Result<(), Fail> {
+    for (old, new) in [
+        ("value 0", "value 18446744073709551615"),
+        (
+            "0 w 1 3 7 wrote\n1 f 3 freed 73728 6144\n",
+            "1 f 3 freed 73728 6144\n0 w 1 3 7 wrote\n",
+        ),
+    ] {
+        let report = changed(rt.alloc(), old, new)?.ok_or("no such part")?;
+        let verdict = judge(rt.alloc(), TRACE, &report)?;
+        assert!(rt; verdict.is_right(), "{verdict:?} of {new}");
+    }
+    Ok(())
+}
+
+// Of a report whose reader knows each block: no cut of it is right.
+#[test]
+fn reports_that_are_cut_are_refused(rt: HostRuntime) -> Result<(), Fail> {
+    let (trace, report) = TAKES_A_CLASS.split_once('$').ok_or("no report")?;
+    let mut cut = String::new(rt.alloc());
+    let mut count = 0usize;
+    for line in report.lines() {
+        let verdict = judge(rt.alloc(), trace, &cut)?;
+        count = count.saturating_add(1);
+        assert_eq!(rt; verdict, Verdict::WrongAt(count));
+        cut.push_str(line)?;
+        cut.push_str("\n")?;
+    }
+    let verdict = judge(rt.alloc(), trace, &cut)?;
+    assert!(rt; verdict.is_right(), "{verdict:?}");
+    cut.push_str("arena 1 calls 0\n")?;
+    let verdict = judge(rt.alloc(), trace, &cut)?;
+    assert_eq!(rt; verdict, Verdict::WrongAt(count.saturating_add(1)));
+    Ok(())
+}

@@ -1,0 +1,110 @@
+// Traces that are made of drawn numbers.
+use rand_core::SeedableRng;
+use rand_core::utils::NextWord;
+use rand_xoshiro::SplitMix64;
+use std::alloc::{AllocError, Global};
+
+/// How many threads a trace has.
+pub(crate) const THREADS: u64 = 4;
+
+/// What a trace is made of.
+#[derive(Clone, Copy)]
+pub(crate) struct Made {
+    /// The seed of its numbers.
+    pub(crate) seed: u64,
+    /// How many arenas its pool has, of 16 granules each.
+    pub(crate) arenas: u64,
+    /// How many calls each of its threads makes.
+    pub(crate) turns: u64,
+    /// How many roots its calls take at an arena.
+    pub(crate) roots: u64,
+}
+
+/// Traces of one to four arenas, with few roots or many.
+pub(crate) fn of_seed(seed: u64) -> Made {
+    let arenas = 1 + seed % 4;
+    Made {
+        seed,
+        arenas,
+        turns: 60 + 40 * arenas,
+        roots: 8 + 4 * (seed / 4 % 5),
+    }
+}
+
+// The sizes of requests. Of 16384 bytes a slab has three blocks, so that seats take from each other; of 12288 it has five, of
+// 6144 ten, and of the others many, so that slabs with few live blocks take another class.
+const SIZES: [u64; 16] = [
+    16384, 12288, 6000, 1000, 64, 16384, 6000, 3000, 12288, 100, 6000, 1, 16385, 40000, 0, 196609,
+];
+
+// One of the sizes. At each time two or three of them come more often than the others.
+fn size(time: u64, drawn: u64) -> u64 {
+    let at = if drawn % 8 < 6 {
+        time.saturating_add(drawn / 8 % 3) % 14
+    } else {
+        drawn / 8 % 16
+    };
+    match SIZES.get(at as usize) {
+        Some(size) => *size,
+        None => 0,
+    }
+}
+
+// One of the roots, or rarely one that is none.
+fn root(roots: u64, drawn: u64) -> u64 {
+    match drawn % 64 {
+        0 => 4096,
+        _ => drawn / 64 % roots.max(1),
+    }
+}
+
+// The words of a call, by two drawn numbers. Mallocs and frees come in turns, more of the one and then of the other.
+fn call(alloc: Global, made: Made, turn: u64, one: u64, other: u64) -> Result<String, AllocError> {
+    let at = root(made.roots, one / 16);
+    let second = root(made.roots, other);
+    let index = other % 5;
+    let value = one ^ other;
+    let bytes = size(turn / 24, other);
+    let is_filling = turn / 12 % 2 == 0;
+    match one % 16 {
+        0 => format!(in alloc; "w {at} {index} {value}"),
+        1 => format!(in alloc; "r {at} {index}"),
+        2 => format!(in alloc; "v {at} {second}"),
+        3..=5 => format!(in alloc; "f {at}"),
+        6..=8 => format!(in alloc; "m {at} {bytes}"),
+        _ if is_filling => format!(in alloc; "m {at} {bytes}"),
+        _ => format!(in alloc; "f {at}"),
+    }
+}
+
+/// The trace: its threads ask in turn, each as many calls.
+pub(crate) fn trace(alloc: Global, made: Made) -> Result<String, AllocError> {
+    let arenas = made.arenas;
+    let mut text = format!(in alloc; "pool {arenas} 16\n")?;
+    let mut picks = SplitMix64::seed_from_u64(made.seed);
+    for turn in 0..made.turns {
+        for thread in 0..THREADS {
+            let arena = picks.next_word() % arenas.max(1);
+            let words = call(alloc, made, turn, picks.next_word(), picks.next_word())?;
+            let line = format!(in alloc; "{thread} {arena} {words}\n")?;
+            text.push_str(&line)?;
+        }
+    }
+    Ok(text)
+}
+
+/// The same calls in the same order, all of thread 0.
+pub(crate) fn on_one_thread(alloc: Global, trace: &str) -> Result<String, AllocError> {
+    let mut text = String::new(alloc);
+    for line in trace.lines() {
+        match line.split_once(' ') {
+            Some((thread, rest)) if thread != "pool" => {
+                text.push_str("0 ")?;
+                text.push_str(rest)?;
+            }
+            _ => text.push_str(line)?,
+        }
+        text.push_str("\n")?;
+    }
+    Ok(text)
+}

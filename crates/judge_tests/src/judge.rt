@@ -1,0 +1,156 @@
+// The judge: replays a report line by line, beside the trace and the machine.
+use crate::calls::{Asked, calls_at, numbered, pool_of};
+use crate::machine::{Counts, Machine};
+use std::alloc::{AllocError, Global};
+
+/// What the judge says of a report.
+#[derive(Clone, Copy, Debug, PartialEq, Eq)]
+pub(crate) enum Verdict {
+    /// It is one that the trace may have. How often each way of a malloc came.
+    Right(Counts),
+    /// The number of the first line that no such report has, counted from 1.
+    WrongAt(usize),
+}
+
+impl Verdict {
+    /// The report is one that the trace may have.
+    pub(crate) fn is_right(self) -> bool {
+        match self {
+            Verdict::Right(_) => true,
+            Verdict::WrongAt(_) => false,
+        }
+    }
+
+    /// How often each way of a malloc came; never, where the report is refused.
+    pub(crate) fn counts(self) -> Counts {
+        match self {
+            Verdict::Right(counts) => counts,
+            Verdict::WrongAt(_) => Counts::ZERO,
+        }
+    }
+}
+
+// The lines of a report, and how many were read.
+#[derive(Drop)]
+struct Lines<'a> {
+    lines: Vec<&'a str>,
+    read: usize,
+}
+
+impl<'a> Lines<'a> {
+    fn next(&mut self) -> Option<&'a str> {
+        let line = self.lines.as_slice().get(self.read).copied();
+        self.read = self.read.saturating_add(1);
+        line
+    }
+
+    // The next line is this one.
+    fn is_next(&mut self, wanted: &str) -> bool {
+        self.next() == Some(wanted)
+    }
+}
+
+// Takes the first call of a thread out of those that are left.
+fn take_first<'a>(left: &mut Vec<Asked<'a>>, thread: u64) -> Option<Asked<'a>> {
+    let at = left.iter().position(|asked| asked.thread == thread)?;
+    if at < left.len() {
+        Some(left.remove(at))
+    } else {
+        None
+    }
+}
+
+// The last word of a line as a number; 0 where it is none.
+fn last_number(line: &str) -> u64 {
+    match line.rsplit_once(' ') {
+        Some((_, word)) => word.parse().unwrap_or(0),
+        None => 0,
+    }
+}
+
+// A line is the first call that its thread has left, with the machine's reply.
+fn is_answered(
+    alloc: Global,
+    machine: &mut Machine,
+    left: &mut Vec<Asked<'_>>,
+    line: &str,
+) -> Result<bool, AllocError> {
+    let Some((thread, _)) = numbered(line) else {
+        return Ok(false);
+    };
+    let Some(asked) = take_first(left, thread) else {
+        return Ok(false);
+    };
+    let reply = machine.answer(alloc, thread, asked.call)?;
+    let said = reply.text(alloc, last_number(line))?;
+    let text = asked.text;
+    let wanted = format!(in alloc; "{thread} {text} {said}")?;
+    Ok(line == wanted.as_str())
+}
+
+// The next lines are the heap of the machine.
+fn is_heap(alloc: Global, machine: &Machine, lines: &mut Lines<'_>) -> Result<bool, AllocError> {
+    let blocks = machine.heap_lines(alloc)?;
+    let count = blocks.len();
+    let heading = format!(in alloc; "heap {count}")?;
+    if !lines.is_next(&heading) {
+        return Ok(false);
+    }
+    for block in blocks.iter() {
+        if !lines.is_next(block) {
+            return Ok(false);
+        }
+    }
+    Ok(true)
+}
+
+// The next lines are the journal and the heap of an arena. How often each way came, if they are.
+fn judge_arena(
+    alloc: Global,
+    trace: &str,
+    arena: u64,
+    granules: u64,
+    lines: &mut Lines<'_>,
+) -> Result<Option<Counts>, AllocError> {
+    let mut left = calls_at(alloc, trace, arena)?;
+    let mut machine = Machine::new(alloc, granules);
+    let count = left.len();
+    let heading = format!(in alloc; "arena {arena} calls {count}")?;
+    if !lines.is_next(&heading) {
+        return Ok(None);
+    }
+    for _ in 0..count {
+        let Some(line) = lines.next() else {
+            return Ok(None);
+        };
+        if !is_answered(alloc, &mut machine, &mut left, line)? {
+            return Ok(None);
+        }
+    }
+    if !is_heap(alloc, &machine, lines)? {
+        return Ok(None);
+    }
+    Ok(Some(machine.counts))
+}
+
+/// Judges a report of a trace: each line's reply is the machine's, where the word that a read finds unwritten may be any; the
+/// calls at each arena are those that its threads ask of it, each thread's in its order and each call once; and the heaps
+/// are those behind the last calls.
+pub(crate) fn judge(alloc: Global, trace: &str, report: &str) -> Result<Verdict, AllocError> {
+    let mut lines = Lines {
+        lines: report.lines().collect(alloc)?,
+        read: 0,
+    };
+    let (arenas, granules) = pool_of(trace).unwrap_or((0, 0));
+    let mut counts = Counts::ZERO;
+    for arena in 0..arenas {
+        match judge_arena(alloc, trace, arena, granules, &mut lines)? {
+            Some(more) => counts = counts.with(more),
+            None => return Ok(Verdict::WrongAt(lines.read)),
+        }
+    }
+    if lines.next().is_some() || !report.ends_with('\n') {
+        return Ok(Verdict::WrongAt(lines.read));
+    }
+    Ok(Verdict::Right(counts))
+}
