@@ -1,5 +1,6 @@
-// A stop at every event of an arena's calls: after each the image is recovered, and its heap is the one from before the call
-// or from behind it; and at every event of that recovery, after which the image is recovered again to the same heap.
+// A stop at every event of some calls of an arena: after each the image is recovered, and its heap is the one from before the
+// call or from behind it. For two stops of each call recovery is stopped at every event of its own too, and the image that is
+// left is recovered again to the same heap.
 //
 // `stops` makes the calls of a script and stops, `scripts` has the scripts. The crate has no code. What it tests is proved, of
 // every call and every crash image (`IsEitherHeap`); here the definitions meet what runs.

@@ -1,6 +1,4 @@
 // The calls of a script are made one by one, and each is stopped at each of its events.
-ghost use Rattle.std.specs.Prelude.{◌≤◌};
-
 use arena_core::{Arena, ArenaRoom};
 use arena_journal::answer;
 use heap_model::{Block, Call};
