@@ -8,7 +8,7 @@ use Rattle.bit_words.proofs.Bits.{has-zeros, get_or-zeros}
 use Rattle.slab_index.specs.declared.candidates.CalmSlab.{CalmSlab}
 use Rattle.slab_index.specs.Candidates.{calm_in}
 use Rattle.slab_index.specs.Kept.{IsSummary}
-use Rattle.slab_index.specs.Sparse.{is_sparse, has_live, has_class, AreKept, IsMarked}
+use Rattle.slab_index.specs.Sparse.{is_sparse, has_live, has_class, AreKept, IsMarked, IsMarkedAnew}
 
 -- the calm slabs after one was replaced
 pub calm_after : (calm : List (Option CalmSlab)) (start : ℕ) (slab : Option CalmSlab) → start < length calm → (s : ℕ) → calm_in (set calm start slab) s ≡ cond (eqb s start) slab (calm_in calm s)
@@ -127,6 +127,49 @@ AreKept-come starts' some' classes' start slab kept inside was known marked some
     (λ n. comes (eqb n slab.live && is_sparse slab))
     (λ n. comes_class (eqb n slab.class))
     (λ other e. omega (arith, same_Some slab other e, known))
+
+-- a slab of the same class has it still
+same_class : (was slab : CalmSlab) → slab.class ≡ was.class → (n : ℕ) → has_class (Some was) n ≡ has_class (Some slab) n
+same_class was slab same n = ap (eqb n) (sym same)
+
+-- after its live blocks were counted anew: its start went from the set of the one number to that of the other
+pub AreKept-recounted : {calm : List (Option CalmSlab)} {starts some classes : List ℕ} (starts' some' : List ℕ) (start : ℕ) (was slab : CalmSlab) → AreKept calm starts some classes → start < length calm → get_or calm start None ≡ Some was →
+    slab.class ≡ was.class → slab.class < 36 → IsMarkedAnew starts start was slab starts' → length some' ≡ 65 → IsSummary starts' some' → AreKept (set calm start (Some slab)) starts' some' classes
+AreKept-recounted {calm} {starts} {some} {classes} starts' some' start was slab kept inside was_is same known marked some_size summary =
+    let mid = marked.mid in
+    let small : start < 4096 = omega (arith, inside, kept.few) in
+    let none : List (Option CalmSlab) = set calm start None in
+    let later : List (Option CalmSlab) = set calm start (Some slab) in
+    let none_here : get_or none start None ≡ None = get_or-set_same calm start None None inside in
+    let here : get_or later start None ≡ Some slab = get_or-set_same calm start (Some slab) None inside in
+    let none_others : (other : ℕ) → other ≢ start → get_or none other None ≡ get_or calm other None = λ other apart. get_or-set_other calm start other None None apart in
+    let others : (other : ℕ) → other ≢ start → get_or later other None ≡ get_or calm other None = λ other apart. get_or-set_other calm start other (Some slab) None apart in
+    let told : (k : ℕ) → has mid k ≡ has_live (get_or none (k % 4096) None) (k / 4096) = told_marked has_live calm none starts mid start was.live (is_sparse was) false (Some was) None small kept.starts_are marked.out.each was_is none_here none_others
+        (λ n. leaves (eqb n was.live && is_sparse was)) in
+    record {
+      few = omega (arith, kept.few, length-set calm start (Some slab));
+      starts_size = marked.back.size ∙ marked.out.size ∙ kept.starts_size;
+      some_size = some_size;
+      classes_size = kept.classes_size;
+      known = λ s other is. ⊎_elim
+          (λ (at : s ≡ start). omega (arith, same_Some slab other (sym here ∙ ap (λ t. get_or later t None) (sym at) ∙ is), known))
+          (λ (apart : s ≢ start). kept.known s other (sym (others s apart) ∙ is))
+          (cases_eq s start);
+      starts_are = told_marked has_live none later mid starts' start slab.live (is_sparse slab) true None (Some slab) small told marked.back.each none_here here
+          (λ other apart. others other apart ∙ sym (none_others other apart))
+          (λ n. comes (eqb n slab.live && is_sparse slab));
+      summary = summary;
+      classes_are = λ k. ⊎_elim
+          (λ (at : k % 4096 ≡ start).
+          kept.classes_are k
+          ∙ ap (λ s. has_class (get_or calm s None) (k / 4096)) at
+          ∙ ap (λ was. has_class was (k / 4096)) was_is
+          ∙ same_class was slab same (k / 4096)
+          ∙ ap (λ now. has_class now (k / 4096)) (sym here)
+          ∙ ap (λ s. has_class (get_or later s None) (k / 4096)) (sym at))
+          (λ (apart : k % 4096 ≢ start). kept.classes_are k ∙ ap (λ slab. has_class slab (k / 4096)) (sym (others (k % 4096) apart)))
+          (cases_eq (k % 4096) start);
+    }
 
 -- no slab is in a list of none
 get_or-nones : (n i : ℕ) → get_or {A = Option CalmSlab} (replicate n None) i None ≡ None

@@ -38,6 +38,12 @@ pub record IsMarked (old : List ℕ) (start : ℕ) (slab : CalmSlab) (on : Bool)
   pub size : length new ≡ length old
   pub each : (k : ℕ) → has new k ≡ (if k == 4096 * slab.live + start && is_sparse slab then on else has old k)
 
+-- the set lost a slab's start, and got that of another
+pub record IsMarkedAnew (old : List ℕ) (start : ℕ) (was slab : CalmSlab) (new : List ℕ) : Type 0 where
+  pub mid : List ℕ
+  pub out : IsMarked old start was false mid
+  pub back : IsMarked mid start slab true new
+
 -- a slab with so many live blocks begins at the start, and has another class than this one
 pub record IsOther (starts classes : List ℕ) (class live start : ℕ) : Type 0 where
   pub is : has starts (4096 * live + start) ≡ true

@@ -4,7 +4,7 @@ ghost use Rattle.heap_model.specs.Machine.{with_key};
 ghost use Rattle.slab_index.specs.Candidates.{calm_in, HasNoCandidate, IsFirstCandidate, HasNoneBehind, IsNextCandidate};
 ghost use Rattle.slab_index.specs.Sparse.{HasNoneFrom, IsLeastFrom};
 
-use crate::sparse::{COUNTS, in_row, mark_class, mark_sparse};
+use crate::sparse::{COUNTS, in_row, mark_anew, mark_class, mark_sparse};
 use pmem_lines::OutOfMemory;
 use std::alloc::Global;
 use std::marker::Model;
@@ -100,8 +100,14 @@ impl Candidates {
         ensures size { length self.new ≡ length self.old }
         ensures calm { (s : ℕ) → calm_in self.new s ≡ with_key (calm_in self.old) start (Some (record { class = class; live = live })) s }
     {
-        self.remove(start);
-        self.insert(start, CalmSlab { class, live });
+        let slab = CalmSlab { class, live };
+        match self.calm_at(start) {
+            Some(was) if was.class == class => self.recount(start, was, slab),
+            _ => {
+                self.remove(start);
+                self.insert(start, slab);
+            }
+        }
     }
 
     /// The slab at a granule is not calm, or there is none; whether it was calm before makes no difference. The other slabs
@@ -160,6 +166,19 @@ impl Candidates {
             }
         }
         None
+    }
+
+    // The calm slab at a granule has so many live blocks now. The set of its class has it already.
+    fn recount(&mut self, start: u32, was: CalmSlab, slab: CalmSlab)
+        requires was { calm_in self.old start ≡ Some was }
+        requires class { slab.class ≡ was.class }
+        requires known { slab.class < 36 }
+        requires inside { start < length self.old }
+        ensures size { length self.new ≡ length self.old }
+        ensures calm { (s : ℕ) → calm_in self.new s ≡ with_key (calm_in self.old) start (Some slab) s }
+    {
+        self.calm[start as usize] = Some(slab);
+        mark_anew(&mut self.starts, &mut self.some, start, was, slab);
     }
 
     // A calm slab begins at a granule where none did.

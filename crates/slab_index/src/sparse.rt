@@ -2,7 +2,7 @@
 ghost use Rattle.std.specs.Prelude.{◌≡◌, ◌+◌, ◌*◌, ◌/◌, ◌<◌, length, MatchOption};
 ghost use Rattle.bit_words.specs.Numbers.{IsPut};
 ghost use Rattle.slab_index.specs.Kept.{IsSummary};
-ghost use Rattle.slab_index.specs.Sparse.{is_sparse, IsMarked, HasNoneInWord, IsFirstInWord, HasNoneInRow, IsFirstInRow};
+ghost use Rattle.slab_index.specs.Sparse.{is_sparse, IsMarked, IsMarkedAnew, HasNoneInWord, IsFirstInWord, HasNoneInRow, IsFirstInRow};
 
 use crate::CalmSlab;
 use crate::words::{NUMBERS, put_summed};
@@ -52,6 +52,28 @@ pub(crate) fn mark_sparse(
         return;
     }
     put_summed(starts, some, NUMBERS * slab.live + start, on);
+}
+
+/// Puts the start of a slab out of the set of one number of live blocks and into that of another.
+pub(crate) fn mark_anew(
+    starts: &mut [u64],
+    some: &mut [u64],
+    start: u32,
+    was: CalmSlab,
+    slab: CalmSlab,
+)
+    requires start { start < 4096 }
+    requires was_class { was.class < 36 }
+    requires class { slab.class < 36 }
+    requires starts_size { length starts.old ≡ 4160 }
+    requires some_size { length some.old ≡ 65 }
+    requires summary { IsSummary starts.old some.old }
+    ensures starts { IsMarkedAnew starts.old start was slab starts.new }
+    ensures some_size { length some.new ≡ 65 }
+    ensures summary { IsSummary starts.new some.new }
+{
+    mark_sparse(starts, some, start, was, false);
+    mark_sparse(starts, some, start, slab, true);
 }
 
 // Of the slabs with so many live blocks that begin among 64 granules the lowest that has another class, from a start on.

@@ -1,0 +1,32 @@
+use Rattle.std.proofs.Common.{◌≡◌, ◌<◌, ℕ, List, Option, Some, length, set, ◌∙◌, subst, arith}
+use Rattle.std.specs.Vec.{with_items}
+use Rattle.std.proofs.lemmas.List.{with_items_is}
+use Rattle.heap_model.specs.Machine.{with_key}
+use Rattle.slab_index.specs.declared.candidates.CalmSlab.{CalmSlab}
+use Rattle.slab_index.specs.Candidates.{calm_in}
+use Rattle.slab_index.proofs.Marks.{AreKept-recounted, calm_after, calm_of_list}
+use Rattle.slab_index.proofs.candidates.Candidates.recount.Goals as goal
+
+pub invariant_of-self : goal.invariant_of-self
+invariant_of-self c =
+    let s = c.self.inside in
+    let start = c.args.start in
+    let inside : start < length s.calm.items = rw c.self.view_is c.requires.inside in
+    let marked = rw c.deref_mut.ensures.value at c.mark_anew.ensures.starts in
+    let starts_are : (with_items s.starts c.mark_anew.new.starts).items ≡ c.mark_anew.new.starts = with_items_is s.starts c.mark_anew.new.starts (omega (arith, marked.back.size, marked.out.size, s.starts.ok.0)) in
+    let some_are : (with_items s.some c.mark_anew.new.some).items ≡ c.mark_anew.new.some = with_items_is s.some c.mark_anew.new.some (omega (arith, c.mark_anew.ensures.some_size, c.self.invariant.some_size, s.some.ok.0)) in
+    rw (starts_are, some_are)
+    (AreKept-recounted c.mark_anew.new.starts c.mark_anew.new.some start c.args.was c.args.slab c.self.invariant inside
+    (calm_of_list c.self.view_is start ∙ c.requires.was)
+    c.requires.class
+    c.requires.known
+    marked
+    c.mark_anew.ensures.some_size
+    c.mark_anew.ensures.summary)
+
+pub returns-clause-calm : goal.returns-clause-calm
+returns-clause-calm c =
+    let s = c.self.inside in
+    let start = c.args.start in
+    let slab : Option CalmSlab = Some c.args.slab in
+    subst (λ (was : List (Option CalmSlab)). (k : ℕ) → calm_in (set s.calm.items start slab) k ≡ with_key (calm_in was) start slab k) c.self.view_is (calm_after s.calm.items start slab (rw c.self.view_is c.requires.inside))
