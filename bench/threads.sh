@@ -1,7 +1,9 @@
 #!/usr/bin/env bash
 # Times `replay` of the built program on a million mallocs and frees of small blocks over four arenas: all of them by one
-# thread, then each arena's by a thread of its own; on a hundred thousand over one arena, by one thread and by 64; and `gen`
-# of a million calls. It is no test. The traces are made in a temporary folder, which is removed at the end.
+# thread, then each arena's by a thread of its own; on a hundred thousand over one arena, by one thread, by four and by 64; and
+# `gen` of a million calls. Of each trace the program `call_times` says how long its calls alone take, without text: by
+# workers, through the locks of the pool, and where they are the calls of one thread by a caller without a pool too. Calls that
+# are refused show what the turns take. It is no test. The traces are made in a temporary folder, which is removed at the end.
 set -eu
 
 top=$(dirname -- "$(dirname -- "$(readlink -f -- "${BASH_SOURCE[0]}")")")
@@ -11,6 +13,8 @@ trap 'rm -rf -- "$room"' EXIT
 # The launcher builds the program; what it built is timed by itself.
 "$top/nvheap" replay <"$top/examples/large.trace" >"$room/out"
 program=$top/crates/program/out/launched/nvheap
+(cd "$top/crates/call_times" && rt run -- workers <"$top/examples/small.trace" >"$room/out" 2>"$room/log") || { cat "$room/log" >&2; exit 1; }
+caller=$top/crates/call_times/out/call_times
 
 # So many calls over so many arenas, by so many threads: the calls go to the arenas in turn, and those of a turn to one
 # thread after another. A call frees its root's block or gives it one; the draws are by a fixed rule.
@@ -29,20 +33,44 @@ calls() {
     }'
 }
 
+# Times `replay` of the trace, and its calls alone: the best of five times.
 measure() {
     python3 "$top/bench/measure.py" "$program" "$room/trace" "$room/out" "$1" "$2" call replay
+    alone "$1, the calls alone" workers
+}
+
+alone() {
+    for _ in 1 2 3 4 5; do "$caller" "$2" <"$room/trace" 2>&1 >/dev/null; done | sort -n | head -n 1 | sed "s/^/$1: /"
 }
 
 calls 1000000 4 1 >"$room/trace"
 measure "four arenas, one thread" 1000000
+alone "four arenas, without a pool" alone
 calls 1000000 4 4 >"$room/trace"
 measure "four arenas, four threads" 1000000
 calls 100000 1 1 >"$room/trace"
 measure "one arena, one thread" 100000
+alone "one arena, without a pool" alone
 calls 100000 1 4 >"$room/trace"
 measure "one arena, four threads" 100000
 calls 100000 1 64 >"$room/trace"
 measure "one arena, 64 threads" 100000
+
+# Calls of one arena that are all refused but for the first, so that the turns at its lock are most of what they take: by one
+# caller without a pool, and by one, four and eight threads in turn.
+refused() {
+    awk -v count="$1" -v threads="$2" 'BEGIN {
+        print "pool 1 16"
+        for (i = 0; i < count; i++) print (i % threads) " 0 m 7 64"
+    }' >"$room/trace"
+}
+refused 1000000 1
+alone "refused calls, without a pool" alone
+alone "refused calls, one thread" workers
+refused 1000000 4
+alone "refused calls, four threads" workers
+refused 1000000 8
+alone "refused calls, eight threads" workers
 
 # A million generated calls, for which no input is read.
 python3 "$top/bench/measure.py" "$program" /dev/null "$room/out" "generated work" 1000000 call gen 1000000 7

@@ -1,6 +1,6 @@
 // The classes of small blocks.
 
-ghost use Rattle.std.specs.Prelude.{◌≡◌, ◌<◌, ◌≤◌, ◌↔◌, ◌⊎◌, IfSome, IsNone};
+ghost use Rattle.std.specs.Prelude.{◌≡◌, ◌<◌, ◌≤◌, ◌^◌, ◌↔◌, ◌⊎◌, nat_le, IfSome, IsNone};
 ghost use Rattle.size_classes.specs.Classes.{class_size, class_capacity, IsClassOf, IsSpaced};
 
 /// How many bytes of a slab are for blocks: four granules without the header.
@@ -33,6 +33,15 @@ pub fn size_of_class(class: u8) -> u32
         return 16 * (u32::from(class) + 1);
     }
     (5 + u32::from(class % 4)) << (class / 4 + 3)
+}
+
+/// Whether a slab of the class has at least so many blocks, which are asked for without dividing.
+pub fn has_at_least(class: u8, blocks: u32) -> bool
+    requires class { class < 36 }
+    requires few { blocks < 2 ^ 16 }
+    ensures { result ≡ nat_le blocks (class_capacity class) }
+{
+    blocks * size_of_class(class) <= BLOCK_BYTES
 }
 
 /// How many blocks a slab of the class has.

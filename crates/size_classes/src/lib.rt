@@ -10,5 +10,5 @@
 mod class;
 mod granule;
 
-pub use class::{capacity, class_of, size_of_class};
+pub use class::{capacity, class_of, has_at_least, size_of_class};
 pub use granule::granules;

@@ -145,7 +145,7 @@ AreKept-recounted {calm} {starts} {some} {classes} starts' some' start was slab 
     let none_others : (other : ℕ) → other ≢ start → get_or none other None ≡ get_or calm other None = λ other apart. get_or-set_other calm start other None None apart in
     let others : (other : ℕ) → other ≢ start → get_or later other None ≡ get_or calm other None = λ other apart. get_or-set_other calm start other (Some slab) None apart in
     let told : (k : ℕ) → has mid k ≡ has_live (get_or none (k % 4096) None) (k / 4096) = told_marked has_live calm none starts mid start was.live (is_sparse was) false (Some was) None small kept.starts_are marked.out.each was_is none_here none_others
-        (λ n. leaves (eqb n was.live && is_sparse was)) in
+    (λ n. leaves (eqb n was.live && is_sparse was)) in
     record {
       few = omega (arith, kept.few, length-set calm start (Some slab));
       starts_size = marked.back.size ∙ marked.out.size ∙ kept.starts_size;

@@ -7,7 +7,7 @@ ghost use Rattle.slab_index.specs.Sparse.{is_sparse, IsMarked, IsMarkedAnew, Has
 use crate::CalmSlab;
 use crate::words::{NUMBERS, put_summed};
 use bit_words::{has, ones, put};
-use size_classes::capacity;
+use size_classes::has_at_least;
 
 /// How many numbers of live blocks there are that a slab may have which takes another class: from 0 to 64.
 pub(crate) const COUNTS: u32 = 65;
@@ -17,7 +17,7 @@ pub(crate) fn is_sparse(slab: CalmSlab) -> bool
     requires { slab.class < 36 }
     ensures { result ≡ is_sparse slab }
 {
-    slab.live < COUNTS && 5 * slab.live <= capacity(slab.class)
+    slab.live < COUNTS && has_at_least(slab.class, 5 * slab.live)
 }
 
 /// Puts the start of a slab into the set of its class, or out of it.

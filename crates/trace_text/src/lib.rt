@@ -11,6 +11,7 @@ mod call;
 mod image_report;
 mod laws;
 mod line;
+mod line_end;
 mod number;
 mod report;
 mod trace;

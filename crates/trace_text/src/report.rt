@@ -1,9 +1,10 @@
 // What is printed: reports of arenas and of crashes, and refusals.
-ghost use Rattle.std.specs.Prelude.{◌≡◌, [], ◌∷◌, ◌++◌, codes, decimal, flat_map, OnOk, OnErr};
+ghost use Rattle.std.specs.Prelude.{◌≡◌, [], ◌+◌, ◌≤◌, ◌∷◌, ◌++◌, codes, decimal, flat_map, length, OnOk, OnErr};
 ghost use Rattle.trace_text.specs.Words.{call_text};
 ghost use Rattle.trace_text.specs.Fronts.{BeginsWith};
 ghost use Rattle.trace_text.specs.Report.{reply_text, arena_line, entry_line, block_line, heap_text, side_text, crash_text, refusal_text};
 
+use crate::line_end::LineEnd;
 use crate::writing::{write_bytes, write_number, write_pair, write_word};
 use crate::{CrashSide, Refusal};
 use heap_model::{Block, Call, Entry, Reply};
@@ -20,52 +21,58 @@ pub fn write_arena(out: &mut Vec<u8>, arena: u32, calls: u64) -> Result<(), OutO
     write_bytes(out, b"\n")
 }
 
-/// Writes what a call asks.
-fn write_call(out: &mut Vec<u8>, call: Call) -> Result<(), OutOfMemory>
-    ensures text { OnOk result (out.new.items ≡ out.old.items ++ call_text call) }
-    ensures kept { OnErr result (BeginsWith out.new.items out.old.items) }
+// Puts what a call asks ahead of the end of a line.
+fn put_call(line: &mut LineEnd, call: Call)
+    requires { 64 + length line.old ≤ 160 }
+    ensures text { line.new ≡ call_text call ++ line.old }
+    ensures few { length line.new ≤ 64 + length line.old }
 {
     match call {
-        Call::Malloc { root, size } => write_pair(out, b"m ", u64::from(root), size),
-        Call::Free { root } => write_word(out, b"f ", u64::from(root)),
+        Call::Malloc { root, size } => line.put_pair(b"m ", u64::from(root), size),
+        Call::Free { root } => line.put_word(b"f ", u64::from(root)),
         Call::Write { root, index, value } => {
-            write_pair(out, b"w ", u64::from(root), u64::from(index))?;
-            write_word(out, b" ", value)
+            line.put_word(b" ", value);
+            line.put_pair(b"w ", u64::from(root), u64::from(index));
         }
-        Call::Read { root, index } => write_pair(out, b"r ", u64::from(root), u64::from(index)),
-        Call::Move { from, to } => write_pair(out, b"v ", u64::from(from), u64::from(to)),
+        Call::Read { root, index } => line.put_pair(b"r ", u64::from(root), u64::from(index)),
+        Call::Move { from, to } => line.put_pair(b"v ", u64::from(from), u64::from(to)),
     }
 }
 
-/// Writes an answer.
-fn write_reply(out: &mut Vec<u8>, reply: Reply) -> Result<(), OutOfMemory>
-    ensures text { OnOk result (out.new.items ≡ out.old.items ++ reply_text reply) }
-    ensures kept { OnErr result (BeginsWith out.new.items out.old.items) }
+// Puts an answer ahead of the end of a line.
+fn put_reply(line: &mut LineEnd, reply: Reply)
+    requires { 50 + length line.old ≤ 160 }
+    ensures text { line.new ≡ reply_text reply ++ line.old }
+    ensures few { length line.new ≤ 50 + length line.old }
 {
     match reply {
-        Reply::Placed { at, size } => write_pair(out, b"placed ", u64::from(at), u64::from(size)),
-        Reply::Freed { at, size } => write_pair(out, b"freed ", u64::from(at), u64::from(size)),
-        Reply::Wrote => write_bytes(out, b"wrote"),
-        Reply::Value { word } => write_word(out, b"value ", word),
-        Reply::Moved { at, size } => write_pair(out, b"moved ", u64::from(at), u64::from(size)),
-        Reply::NoRoot => write_bytes(out, b"no root"),
-        Reply::Occupied { at } => write_word(out, b"occupied ", u64::from(at)),
-        Reply::Empty => write_bytes(out, b"empty"),
-        Reply::ZeroSize => write_bytes(out, b"zero size"),
-        Reply::TooLarge => write_bytes(out, b"too large"),
-        Reply::OutOfRange => write_bytes(out, b"out of range"),
-        Reply::NoSpace => write_bytes(out, b"no space"),
+        Reply::Placed { at, size } => line.put_pair(b"placed ", u64::from(at), u64::from(size)),
+        Reply::Freed { at, size } => line.put_pair(b"freed ", u64::from(at), u64::from(size)),
+        Reply::Wrote => line.put(b"wrote"),
+        Reply::Value { word } => line.put_word(b"value ", word),
+        Reply::Moved { at, size } => line.put_pair(b"moved ", u64::from(at), u64::from(size)),
+        Reply::NoRoot => line.put(b"no root"),
+        Reply::Occupied { at } => line.put_word(b"occupied ", u64::from(at)),
+        Reply::Empty => line.put(b"empty"),
+        Reply::ZeroSize => line.put(b"zero size"),
+        Reply::TooLarge => line.put(b"too large"),
+        Reply::OutOfRange => line.put(b"out of range"),
+        Reply::NoSpace => line.put(b"no space"),
     }
 }
 
-/// Writes who asked, and what.
-fn write_asked(out: &mut Vec<u8>, seat: u32, call: Call) -> Result<(), OutOfMemory>
-    ensures text { OnOk result (out.new.items ≡ out.old.items ++ (decimal seat ++ 32 ∷ call_text call)) }
-    ensures kept { OnErr result (BeginsWith out.new.items out.old.items) }
+// The line of an entry.
+fn entry_end(entry: Entry) -> LineEnd
+    ensures { result ≡ entry_line entry }
 {
-    write_number(out, u64::from(seat))?;
-    write_bytes(out, b" ")?;
-    write_call(out, call)
+    let mut line = LineEnd::new();
+    line.put(b"\n");
+    put_reply(&mut line, entry.reply);
+    line.put(b" ");
+    put_call(&mut line, entry.call);
+    line.put(b" ");
+    line.put_number(u64::from(entry.seat));
+    line
 }
 
 /// Writes the line of an entry of a journal behind what stands in `out`. Where memory runs out, what stood there still
@@ -74,10 +81,7 @@ pub fn write_entry(out: &mut Vec<u8>, entry: Entry) -> Result<(), OutOfMemory>
     ensures text { OnOk result (out.new.items ≡ out.old.items ++ entry_line entry) }
     ensures kept { OnErr result (BeginsWith out.new.items out.old.items) }
 {
-    write_asked(out, entry.seat, entry.call)?;
-    write_bytes(out, b" ")?;
-    write_reply(out, entry.reply)?;
-    write_bytes(out, b"\n")
+    write_bytes(out, entry_end(entry).text())
 }
 
 /// Writes a block of a heap.

@@ -3,4 +3,4 @@ mod ClosedJournals
 mod Counting
 mod Replays
 mod PublishedLengths
-mod Summaries
+mod ListedBlocks

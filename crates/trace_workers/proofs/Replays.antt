@@ -1,4 +1,4 @@
--- The report of closed arenas is that of runs that answer the trace.
+-- What is told of closed arenas is told of runs that answer the trace.
 use Rattle.std.proofs.Common.{◌≡◌, ℕ, zero, suc, ◌+◌, ◌≤◌, ◌<◌, ◌^◌, List, [], ◌∷◌, ◌++◌, length, map, take, get_or, remove, sym, ap, ◌∙◌, refl, arith, subst, Result, Ok, Err}
 use Rattle.std.specs.List.{All}
 use Rattle.std.specs.Result.{IfOk}
@@ -15,13 +15,12 @@ use Rattle.arena_journal.specs.Journals.{opened}
 use Rattle.trace_text.specs.declared.call.PoolSize.{PoolSize}
 use Rattle.trace_text.specs.declared.call.TraceCall.{TraceCall}
 use Rattle.trace_text.specs.Grammar.{IsTraceCall}
-use Rattle.trace_text.specs.Report.{arena_text}
 use Rattle.trace_runs.specs.Arenas.{header_for}
 use Rattle.trace_runs.specs.Blocks.{blocks_of}
 use Rattle.trace_runs.proofs.Journals.{HasRun-behind}
 use Rattle.trace_runs.proofs.Listing.{blocks_of-same}
 use Rattle.trace_workers.specs.Answers.{AllAnswer}
-use Rattle.trace_workers.specs.Reports.{ArenaRun, AreRuns, report_from, devices_of, IsReplayed, AreNew, closed_text, closed_texts, closed_devices}
+use Rattle.trace_workers.specs.Reports.{ArenaRun, AreRuns, Telling, told_from, devices_of, IsTold, AreNew, closed_text, closed_texts, closed_devices}
 use Rattle.trace_workers.specs.Workers.{AllIn, AllBy}
 use Rattle.trace_workers.proofs.Calls.{take_next}
 
@@ -57,20 +56,20 @@ by_more n m calls i d here le below by =
     subst (AllBy m) (take_next calls i d here) (by_append m (take i calls) (get_or calls i d) (by_up n m (take i calls) le by) below)
 
 -- the runs of arenas, from one on
-record Runs (pool : PoolSize) (calls : List TraceCall) (arena : ℕ) (news : List ArenaState) (closed : List (List Entry × ArenaState)) : Type 0 where
+record Runs (tell : Telling) (pool : PoolSize) (calls : List TraceCall) (arena : ℕ) (news : List ArenaState) (closed : List (List Entry × ArenaState)) : Type 0 where
   runs : List ArenaRun
   each : AreRuns pool calls arena runs
   all : length runs ≡ length news
-  report : closed_texts arena closed ≡ report_from arena runs
+  told : closed_texts tell arena closed ≡ told_from tell arena runs
   devices : closed_devices closed ≡ devices_of runs
 
-runs_from : (pool : PoolSize) (calls : List TraceCall) (arena : ℕ) (news : List ArenaState) (closed : List (List Entry × ArenaState)) → length calls < 2 ^ 32 → AreNew pool arena news →
-    AllAnswer calls arena (map opened news) closed → Runs pool calls arena news closed
-runs_from pool calls arena [] [] few new h = record { runs = []; each = tt; all = refl; report = refl; devices = refl }
-runs_from pool calls arena [] (c ∷ cs) few new h = absurd h
-runs_from pool calls arena (n ∷ ns) [] few new h = absurd h
-runs_from pool calls arena (n ∷ ns) (c ∷ cs) few new h =
-    let rest = runs_from pool calls (suc arena) ns cs few new.1 h.1 in
+runs_from : (tell : Telling) (pool : PoolSize) (calls : List TraceCall) (arena : ℕ) (news : List ArenaState) (closed : List (List Entry × ArenaState)) → length calls < 2 ^ 32 → AreNew pool arena news →
+    AllAnswer calls arena (map opened news) closed → Runs tell pool calls arena news closed
+runs_from tell pool calls arena [] [] few new h = record { runs = []; each = tt; all = refl; told = refl; devices = refl }
+runs_from tell pool calls arena [] (c ∷ cs) few new h = absurd h
+runs_from tell pool calls arena (n ∷ ns) [] few new h = absurd h
+runs_from tell pool calls arena (n ∷ ns) (c ∷ cs) few new h =
+    let rest = runs_from tell pool calls (suc arena) ns cs few new.1 h.1 in
     let machine = h.0.behind.machine in
     let one : ArenaRun = record { journal = c.0; machine = machine; device = c.1.device } in
     let run = HasRun-behind (header_for pool arena) n c.1 c.0 new.0 (omega (arith, h.0.few, few)) h.0.behind in
@@ -79,7 +78,7 @@ runs_from pool calls arena (n ∷ ns) (c ∷ cs) few new h =
       runs = one ∷ rest.runs;
       each = (record { run = run; threads = h.0.threads }, rest.each);
       all = ap suc rest.all;
-      report = ap (λ (bs : List Block). arena_text arena c.0 bs ++ closed_texts (suc arena) cs) listed ∙ ap (λ (t : List ℕ). arena_text arena c.0 (blocks_of machine.block) ++ t) rest.report;
+      told = ap (λ (bs : List Block). tell arena c.0 bs ++ closed_texts tell (suc arena) cs) listed ∙ ap (λ (t : List ℕ). tell arena c.0 (blocks_of machine.block) ++ t) rest.told;
       devices = ap (λ (ds : List PmemState). c.1.device ∷ ds) rest.devices;
     }
 
@@ -89,24 +88,24 @@ answers_length calls arena [] (c ∷ cs) h = absurd h
 answers_length calls arena (n ∷ ns) [] h = absurd h
 answers_length calls arena (n ∷ ns) (c ∷ cs) h = ap suc (answers_length calls (suc arena) ns cs h.1)
 
-pub IsReplayed-closed : (pool : PoolSize) (calls : List TraceCall) (news : List ArenaState) (closed : List (List Entry × ArenaState)) (text : List ℕ) (devices : List PmemState) → length calls < 2 ^ 32 → length news ≡ pool.arenas →
-    AreNew pool 0 news → AllAnswer calls 0 (map opened news) closed → text ≡ closed_texts 0 closed → devices ≡ closed_devices closed → IsReplayed pool calls text devices
-IsReplayed-closed pool calls news closed text devices few all new h is left =
-    let runs = runs_from pool calls 0 news closed few new h in
-    record { runs = runs.runs; all = runs.all ∙ all; each = runs.each; report = is ∙ runs.report; left = left ∙ runs.devices }
+pub IsTold-closed : (tell : Telling) (pool : PoolSize) (calls : List TraceCall) (news : List ArenaState) (closed : List (List Entry × ArenaState)) (text : List ℕ) (devices : List PmemState) → length calls < 2 ^ 32 → length news ≡ pool.arenas →
+    AreNew pool 0 news → AllAnswer calls 0 (map opened news) closed → text ≡ closed_texts tell 0 closed → devices ≡ closed_devices closed → IsTold tell pool calls text devices
+IsTold-closed tell pool calls news closed text devices few all new h is left =
+    let runs = runs_from tell pool calls 0 news closed few new h in
+    record { runs = runs.runs; all = runs.all ∙ all; each = runs.each; told = is ∙ runs.told; left = left ∙ runs.devices }
 
 -- the text of closed arenas, one arena further
 
-pub texts_none : (arena : ℕ) (text : List ℕ) (closed : List (List Entry × ArenaState)) → length closed ≡ 0 → text ++ closed_texts arena closed ≡ text
-texts_none arena text [] none = append-nil text
-texts_none arena text (c ∷ cs) none = absurd (omega (arith, none))
+pub texts_none : (tell : Telling) (arena : ℕ) (text : List ℕ) (closed : List (List Entry × ArenaState)) → length closed ≡ 0 → text ++ closed_texts tell arena closed ≡ text
+texts_none tell arena text [] none = append-nil text
+texts_none tell arena text (c ∷ cs) none = absurd (omega (arith, none))
 
-pub texts_more : (arena : ℕ) (text more : List ℕ) (closed rest : List (List Entry × ArenaState)) (one : List Entry × ArenaState) → closed ≡ one ∷ rest → more ≡ text ++ closed_text arena one →
-    more ++ closed_texts (arena + 1) rest ≡ text ++ closed_texts arena closed
-texts_more arena text more closed rest one whole is =
+pub texts_more : (tell : Telling) (arena : ℕ) (text more : List ℕ) (closed rest : List (List Entry × ArenaState)) (one : List Entry × ArenaState) → closed ≡ one ∷ rest → more ≡ text ++ closed_text tell arena one →
+    more ++ closed_texts tell (arena + 1) rest ≡ text ++ closed_texts tell arena closed
+texts_more tell arena text more closed rest one whole is =
     let next : arena + 1 ≡ suc arena = omega arith in
-    ap (λ n. more ++ closed_texts n rest) next ∙ ap (λ (t : List ℕ). t ++ closed_texts (suc arena) rest) is
-    ∙ append_assoc text (closed_text arena one) (closed_texts (suc arena) rest) ∙ ap (λ (cs : List (List Entry × ArenaState)). text ++ closed_texts arena cs) (sym whole)
+    ap (λ n. more ++ closed_texts tell n rest) next ∙ ap (λ (t : List ℕ). t ++ closed_texts tell (suc arena) rest) is
+    ∙ append_assoc text (closed_text tell arena one) (closed_texts tell (suc arena) rest) ∙ ap (λ (cs : List (List Entry × ArenaState)). text ++ closed_texts tell arena cs) (sym whole)
 
 pub head_back : {A : Type 0} (xs ys : List A) (x : A) → 0 < length xs → x ≡ get_or xs 0 x → ys ≡ remove xs 0 → xs ≡ x ∷ ys
 head_back [] ys x some first rest = absurd (omega (arith, some))

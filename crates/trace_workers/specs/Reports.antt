@@ -1,7 +1,8 @@
--- The report of a trace that threads carried out, and the devices that went through its journals.
+-- What is told of a trace that threads carried out, as its report, and the devices that went through its journals.
 use Rattle.std.specs.Prelude.{◌≡◌, ℕ, suc, List, [], ◌∷◌, ◌++◌, length, map}
 use Rattle.pmem_lines.specs.Pmem.{PmemState, words_of}
 use Rattle.image_tables.specs.Tables.{tables_of}
+use Rattle.heap_model.specs.declared.block.Block.{Block}
 use Rattle.heap_model.specs.declared.call.Entry.{Entry}
 use Rattle.heap_model.specs.Machine.{Machine}
 use Rattle.heap_check.specs.Heap.{heap}
@@ -32,23 +33,30 @@ abbrev pub AreRuns : PoolSize → List TraceCall → ℕ → List ArenaRun → T
 AreRuns pool calls arena [] = Unit {0}
 AreRuns pool calls arena (r ∷ rs) = HasRunThreads pool calls arena r × AreRuns pool calls (suc arena) rs
 
--- the report of each arena, from this number on: its journal and its heap
-abbrev pub report_from : ℕ → List ArenaRun → List ℕ
-report_from arena [] = []
-report_from arena (r ∷ rs) = arena_text arena r.journal (blocks_of r.machine.block) ++ report_from (suc arena) rs
+-- what is told of an arena: by its number, its journal and the blocks at the end
+abbrev pub Telling : Type 0
+Telling = ℕ → List Entry → List Block → List ℕ
+
+-- what is told of each arena, from this number on
+abbrev pub told_from : Telling → ℕ → List ArenaRun → List ℕ
+told_from tell arena [] = []
+told_from tell arena (r ∷ rs) = tell arena r.journal (blocks_of r.machine.block) ++ told_from tell (suc arena) rs
 
 -- their devices
 abbrev pub devices_of : List ArenaRun → List PmemState
 devices_of rs = map (λ r. r.device) rs
 
--- The text is the report of runs that answer the trace's calls, one for each arena of the pool, and these devices went through
--- them.
-pub record IsReplayed (pool : PoolSize) (calls : List TraceCall) (text : List ℕ) (devices : List PmemState) : Type 0 where
+-- The text tells of runs that answer the trace's calls, one for each arena of the pool, and these devices went through them.
+pub record IsTold (tell : Telling) (pool : PoolSize) (calls : List TraceCall) (text : List ℕ) (devices : List PmemState) : Type 0 where
   pub runs : List ArenaRun
   pub all : length runs ≡ pool.arenas
   pub each : AreRuns pool calls 0 runs
-  pub report : text ≡ report_from 0 runs
+  pub told : text ≡ told_from tell 0 runs
   pub left : devices ≡ devices_of runs
+
+-- the text is the report: of each arena its journal and its heap
+abbrev pub IsReplayed : PoolSize → List TraceCall → List ℕ → List PmemState → Type 0
+IsReplayed pool calls text devices = IsTold arena_text pool calls text devices
 
 -- for the functions below
 
@@ -57,14 +65,14 @@ abbrev pub AreNew : PoolSize → ℕ → List ArenaState → Type 0
 AreNew pool arena [] = Unit {0}
 AreNew pool arena (a ∷ rest) = IsNewArena (header_for pool arena) a × AreNew pool (suc arena) rest
 
--- the report of an arena as it is, and its journal
-abbrev pub closed_text : ℕ → List Entry × ArenaState → List ℕ
-closed_text arena closed = arena_text arena closed.0 (blocks_of (heap (tables_of (words_of closed.1.device))))
+-- what is told of an arena as it is, and of its journal
+abbrev pub closed_text : Telling → ℕ → List Entry × ArenaState → List ℕ
+closed_text tell arena closed = tell arena closed.0 (blocks_of (heap (tables_of (words_of closed.1.device))))
 
 -- of each, from this number on
-abbrev pub closed_texts : ℕ → List (List Entry × ArenaState) → List ℕ
-closed_texts arena [] = []
-closed_texts arena (c ∷ cs) = closed_text arena c ++ closed_texts (suc arena) cs
+abbrev pub closed_texts : Telling → ℕ → List (List Entry × ArenaState) → List ℕ
+closed_texts tell arena [] = []
+closed_texts tell arena (c ∷ cs) = closed_text tell arena c ++ closed_texts tell (suc arena) cs
 
 -- their devices
 abbrev pub closed_devices : List (List Entry × ArenaState) → List PmemState

@@ -1,12 +1,17 @@
-// All workers.
+// All workers, and what they leave.
 ghost use Rattle.std.specs.Prelude.{◌≡◌, ◌<◌, ◌≤◌, ◌^◌, map, length, IfOk};
+ghost use Rattle.std.specs.List.{All};
 ghost use Rattle.std.specs.Thread.{IsSync};
 ghost use Rattle.arena_journal.specs.Journals.{opened};
 ghost use Rattle.shared_pool.specs.Rows.{each_of};
 ghost use Rattle.trace_workers.specs.Workers.{AllIn, AllBy, AllReady, AllOf, AllDone};
+ghost use Rattle.trace_gen.specs.Draws.{IsOwn};
+ghost use Rattle.trace_workers.specs.Lengths.{AreInOrder, AreCounted};
 ghost use Rattle.trace_workers.specs.Answers.{AllAnswer};
+ghost use Rattle.trace_workers.specs.Summaries.{lengths_of};
 
 use crate::gate::Gate;
+use crate::lengths::lengths_of;
 use crate::working::work;
 use arena_core::Arena;
 use pmem_lines::{OutOfMemory, Pmem};
@@ -56,8 +61,45 @@ pub(crate) fn work_all<R: Threads + Wait + Sync, P: Pmem + Drop + Send, G: Gate 
     second
 }
 
+/// Arenas with their journals behind the calls of a trace, and the length of each journal, as the pool published it once all
+/// workers had ended.
+#[derive(Drop)]
+pub struct Ended<P: Pmem + Drop> {
+    pub lengths: Vec<u64>,
+    pub closed: Vec<ClosedArena<P>>,
+}
+
+// All workers, and once they have ended the published length of the journal of each arena, of which there are so many.
+fn work_counted<R: Threads + Wait + Sync, P: Pmem + Drop + Send, G: Gate + Sync>(
+    rt: &R,
+    alloc: Global,
+    pool: &SharedPool<P>,
+    passes: &mut [Pass],
+    calls: &[TraceCall],
+    arenas: u32,
+    gate: &G,
+) -> Result<Vec<u64>, OutOfMemory>
+    requires ready { AllReady pool.now passes.old }
+    requires order { AreInOrder 0 passes.old }
+    requires some { 0 < length passes.old }
+    requires arenas { arenas ≤ length pool.now.locks }
+    requires calls { AllIn (length pool.now.locks) calls.now }
+    requires few { length calls.now < 2 ^ 32 }
+    ensures of { AllOf pool.now passes.new }
+    ensures numbers { map (λ p. p.number) passes.new ≡ map (λ p. p.number) passes.old }
+    ensures done { IfOk result (λ _. AllDone calls.now passes.new) }
+    ensures counted { IfOk result (λ counts. AreCounted passes.new 0 counts.items) }
+    ensures all { IfOk result (λ counts. length counts.items ≡ arenas) }
+{
+    match work_all(rt, alloc, pool, passes, calls, gate) {
+        Ok(()) => lengths_of(alloc, pool, passes, arenas),
+        Err(fault) => Err(fault),
+    }
+}
+
 /// Carries out the calls of a trace, each thread's by a worker of its own, and gives each arena with its journal. The
-/// threads of the calls are below `seats`, from 1 to 64, and their arenas below the number of arenas.
+/// threads of the calls are below `seats`, from 1 to 64, and their arenas below the number of arenas. The lengths of the
+/// journals are asked of the pool before it is closed; where each arena has one thread, they are those of the journals.
 pub fn run_trace<R: Threads + Wait + Sync, P: Pmem + Drop + Send, G: Gate + Sync>(
     rt: &R,
     alloc: Global,
@@ -65,20 +107,23 @@ pub fn run_trace<R: Threads + Wait + Sync, P: Pmem + Drop + Send, G: Gate + Sync
     seats: u32,
     calls: &[TraceCall],
     gate: &G,
-) -> Result<Vec<ClosedArena<P>>, OutOfMemory>
+) -> Result<Ended<P>, OutOfMemory>
     requires seats { (1 ≤ seats) × (seats ≤ 64) }
     requires threads { AllBy seats calls.now }
     requires arenas { AllIn (length arenas.items) calls.now }
     requires few { length calls.now < 2 ^ 32 }
-    ensures { IfOk result (λ v. AllAnswer calls.now 0 (each_of arenas.items (λ a. opened a)) (each_of v.items (λ c. (c.journal.items, c.arena)))) }
+    requires many { length arenas.items < 2 ^ 32 }
+    ensures answers { IfOk result (λ e. AllAnswer calls.now 0 (each_of arenas.items (λ a. opened a)) (each_of e.closed.items (λ c. (c.journal.items, c.arena)))) }
+    ensures lengths { IfOk result (λ e. All IsOwn calls.now → e.lengths.items ≡ lengths_of (each_of e.closed.items (λ c. (c.journal.items, c.arena)))) }
 {
+    let many = arenas.len() as u32;
     let Started { pool, mut passes } = match SharedPool::start(alloc, arenas, seats) {
         Ok(started) => started,
         Err((error, _arenas)) => return Err(error),
     };
-    work_all(rt, alloc, &pool, passes.as_mut_slice(), calls, gate)?;
+    let lengths = work_counted(rt, alloc, &pool, passes.as_mut_slice(), calls, many, gate)?;
     match pool.close(alloc, passes) {
-        Ok(closed) => Ok(closed),
+        Ok(closed) => Ok(Ended { lengths, closed }),
         Err((error, _pool, _passes)) => Err(error),
     }
 }

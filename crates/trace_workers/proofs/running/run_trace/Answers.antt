@@ -1,4 +1,5 @@
-use Rattle.std.proofs.Common.{rules, ◌≡◌, ℕ, ◌∙◌, ap, sym, subst, map, length, drop, List}
+use Rattle.std.proofs.Common.{rules, ◌≡◌, ℕ, ◌∙◌, ap, sym, subst, map, length, drop, List, arith}
+use Rattle.std.proofs.lemmas.List.{length-map}
 use Rattle.arena_lock.specs.declared.opening.Opening.{Opening}
 use Rattle.arena_lock.specs.Known.{Lock}
 use Rattle.shared_pool.specs.Closed.{AllFitLocks, HasAll, AllClosed}
@@ -7,41 +8,73 @@ use Rattle.shared_pool.specs.Passes.{PassState, fresh_passes}
 use Rattle.shared_pool.specs.Rows.{each_of}
 use Rattle.shared_pool.proofs.AllPasses.{has_fresh}
 use Rattle.trace_workers.specs.Workers.{AllReady}
-use Rattle.trace_workers.proofs.ClosedJournals.{answers, ready_fresh, fits_of, take_front}
+use Rattle.trace_workers.proofs.ClosedJournals.{answers, ready_fresh, length_fresh, fits_of, take_front}
+use Rattle.trace_workers.proofs.PublishedLengths.{order_fresh, lengths_are}
 use Rattle.trace_workers.proofs.running.run_trace.Goals as goal
 
-pub work_all-requires-clause-ready : goal.work_all-requires-clause-ready
-work_all-requires-clause-ready g c κs within =
+pub work_counted-requires-clause-ready : goal.work_counted-requires-clause-ready
+work_counted-requires-clause-ready g c κs within =
     let pool = c.in-Ok.started.pool in
     subst (λ ps. AllReady pool ps) (sym (c.as_mut_slice.ensures.value ∙ c.in-Ok.ensures.passes)) (ready_fresh pool 0 c.args.seats)
+
+pub work_counted-requires-clause-order : goal.work_counted-requires-clause-order
+work_counted-requires-clause-order g c κs within =
+    order_fresh c.in-Ok.started.pool.locks 0 c.args.seats c.as_mut_slice.result.now (ap (map (λ (p : PassState). p.number)) (c.as_mut_slice.ensures.value ∙ c.in-Ok.ensures.passes))
+
+pub work_counted-requires-clause-some : goal.work_counted-requires-clause-some
+work_counted-requires-clause-some g c κs within =
+    let same = ap length (c.as_mut_slice.ensures.value ∙ c.in-Ok.ensures.passes) in
+    let many = length_fresh c.in-Ok.started.pool.locks 0 c.args.seats in
+    let some = c.requires.seats.0 in
+    omega (arith, same, many, some)
 
 pub close-requires-clause-fits : goal.close-requires-clause-fits
 close-requires-clause-fits g c =
     let pool = c.in-Ok.started.pool in
-    let new = c.work_all.new.passes in
-    subst (λ ps. AllFitLocks (map (λ (l : Lock). l.id) pool.locks) ps) (sym (take_front new (drop (length new) c.in-Ok.started.passes.items) c.in-Ok.started.passes.len (search rules))) (fits_of pool new c.work_all.ensures.of)
+    let new = c.work_counted.new.passes in
+    subst (λ ps. AllFitLocks (map (λ (l : Lock). l.id) pool.locks) ps) (sym (take_front new (drop (length new) c.in-Ok.started.passes.items) c.in-Ok.started.passes.len (search rules))) (fits_of pool new c.work_counted.ensures.of)
 
 pub close-requires-clause-all : goal.close-requires-clause-all
 close-requires-clause-all g c =
     let pool = c.in-Ok.started.pool in
-    let new = c.work_all.new.passes in
+    let new = c.work_counted.new.passes in
     let number = λ (p : PassState). p.number in
     let fresh = fresh_passes pool.locks 0 c.args.seats in
-    let numbers : map number new ≡ map number fresh = c.work_all.ensures.numbers ∙ ap (map number) (c.as_mut_slice.ensures.value ∙ c.in-Ok.ensures.passes) in
+    let numbers : map number new ≡ map number fresh = c.work_counted.ensures.numbers ∙ ap (map number) (c.as_mut_slice.ensures.value ∙ c.in-Ok.ensures.passes) in
     subst (λ (z : ℕ × List ℕ). HasAll z.0 z.1) (λ i. (sym c.in-Ok.ensures.seats i, (sym numbers ∙ ap (map number) (sym (take_front new (drop (length new) c.in-Ok.started.passes.items) c.in-Ok.started.passes.len (search rules)))) i)) (has_fresh pool.locks c.args.seats)
 
-pub returns-in-Ok-close : goal.returns-in-Ok-close
-returns-in-Ok-close g c =
+pub returns-in-Ok-close-clause-answers : goal.returns-in-Ok-close-clause-answers
+returns-in-Ok-close-clause-answers g c =
     let pool = c.in-Ok.started.pool in
-    let new = c.work_all.new.passes in
+    let new = c.work_counted.new.passes in
     let number = λ (p : PassState). p.number in
     let fresh = fresh_passes pool.locks 0 c.args.seats in
-    let numbers : map number new ≡ map number fresh = c.work_all.ensures.numbers ∙ ap (map number) (c.as_mut_slice.ensures.value ∙ c.in-Ok.ensures.passes) in
+    let numbers : map number new ≡ map number fresh = c.work_counted.ensures.numbers ∙ ap (map number) (c.as_mut_slice.ensures.value ∙ c.in-Ok.ensures.passes) in
     let all : HasAll c.args.seats (map number new) = subst (λ ns. HasAll c.args.seats ns) (sym numbers) (has_fresh pool.locks c.args.seats) in
     let calls = c.args.calls.now in
     let openings = each_of c.args.arenas.items (λ a. opened a) in
     let closed = each_of c.in-Ok-close.closed.items (λ e. (e.journal.items, e.arena)) in
-    answers calls c.args.seats new openings closed all c.requires.threads c.in_ok-work_all.ensures.done
+    answers calls c.args.seats new openings closed all c.requires.threads c.in_ok-lengths.ensures.done
     (subst (λ (z : ℕ × List PassState × List Opening). AllClosed z.0 z.1 z.2 closed)
     (λ i. (c.in-Ok.ensures.seats i, take_front new (drop (length new) c.in-Ok.started.passes.items) c.in-Ok.started.passes.len (search rules) i, c.in-Ok.ensures.openings i))
     c.in-Ok-close.ensures.closed)
+
+pub returns-in-Ok-close-clause-lengths : goal.returns-in-Ok-close-clause-lengths
+returns-in-Ok-close-clause-lengths g c own =
+    let pool = c.in-Ok.started.pool in
+    let new = c.work_counted.new.passes in
+    let number = λ (p : PassState). p.number in
+    let fresh = fresh_passes pool.locks 0 c.args.seats in
+    let numbers : map number new ≡ map number fresh = c.work_counted.ensures.numbers ∙ ap (map number) (c.as_mut_slice.ensures.value ∙ c.in-Ok.ensures.passes) in
+    let all : HasAll c.args.seats (map number new) = subst (λ ns. HasAll c.args.seats ns) (sym numbers) (has_fresh pool.locks c.args.seats) in
+    let calls = c.args.calls.now in
+    let openings = each_of c.args.arenas.items (λ a. opened a) in
+    let closed = each_of c.in-Ok-close.closed.items (λ e. (e.journal.items, e.arena)) in
+    let ended : AllClosed c.args.seats new openings closed = subst (λ (z : ℕ × List PassState × List Opening). AllClosed z.0 z.1 z.2 closed)
+    (λ i. (c.in-Ok.ensures.seats i, take_front new (drop (length new) c.in-Ok.started.passes.items) c.in-Ok.started.passes.len (search rules) i, c.in-Ok.ensures.openings i))
+    c.in-Ok-close.ensures.closed in
+    let many = length-map {B = Opening} c.args.arenas.items (λ a. opened a) in
+    let arenas = c.len-many.ensures in
+    let counts = c.in_ok-lengths.ensures.all in
+    lengths_are calls c.args.seats new openings closed c.in_ok-lengths.lengths.items own all ended
+    (answers calls c.args.seats new openings closed all c.requires.threads c.in_ok-lengths.ensures.done ended) c.in_ok-lengths.ensures.counted (omega (arith, many, arenas, counts))

@@ -3,7 +3,7 @@ use Rattle.pmem_lines.specs.Pmem.{words_of}
 use Rattle.image_tables.specs.Tables.{tables_of}
 use Rattle.heap_model.specs.declared.block.Block.{Block}
 use Rattle.heap_check.specs.Heap.{heap}
-use Rattle.trace_workers.proofs.Summaries.{blocks_of-few}
+use Rattle.trace_workers.proofs.ListedBlocks.{blocks_of-few}
 use Rattle.trace_workers.proofs.summing.sum_up.Goals as goal
 
 pub put_summary-requires : goal.put_summary-requires

@@ -1,8 +1,8 @@
 use Rattle.std.proofs.Common.{rules, ◌≡◌, ◌<◌, ◌++◌, [], ◌∷◌, ◌∙◌, ap, length, arith, remove}
 use Rattle.shared_pool.specs.Rows.{each_of}
+use Rattle.trace_gen.specs.Works.{summary_text}
 use Rattle.trace_workers.specs.Summaries.{lengths_of}
-use Rattle.trace_workers.proofs.Replays.{head_back, devices_more}
-use Rattle.trace_workers.proofs.Summaries.{summaries_more}
+use Rattle.trace_workers.proofs.Replays.{head_back, texts_more, devices_more}
 use Rattle.trace_workers.proofs.summing.summaries.Goals as goal
 
 pub loop-alloc-preserved : goal.loop-alloc-preserved
@@ -13,7 +13,7 @@ loop-alloc-preserved g c =
     head_back c.loop-alloc.closed.items c.remove-one.new.self.items one some c.remove-one.ensures.value c.remove-one.ensures.items in
     let pushed : c.push.new.self.items ≡ c.loop-alloc.devices.items ++ c.into_pmem.result ∷ [] = search rules in
     record {
-      text = summaries_more c.loop-alloc.number c.loop-alloc.text.items c.sum_up.new.text.items (each_of c.loop-alloc.closed.items (λ e. (e.journal.items, e.arena))) (each_of c.remove-one.new.self.items (λ e. (e.journal.items, e.arena)))
+      text = texts_more summary_text c.loop-alloc.number c.loop-alloc.text.items c.sum_up.new.text.items (each_of c.loop-alloc.closed.items (λ e. (e.journal.items, e.arena))) (each_of c.remove-one.new.self.items (λ e. (e.journal.items, e.arena)))
           (one.journal.items, one.arena) (ap (λ l. each_of l (λ e. (e.journal.items, e.arena))) whole) c.in_ok-sum_up.ensures ∙ c.loop-alloc.invariant.text;
       devices = devices_more (λ d. g.P.Pmem.state d) (λ e. (e.journal.items, e.arena)) c.loop-alloc.devices.items c.push.new.self.items c.into_pmem.result c.loop-alloc.closed.items c.remove-one.new.self.items one
           whole pushed c.into_pmem.ensures.device ∙ c.loop-alloc.invariant.devices;

@@ -1,14 +1,15 @@
 use Rattle.std.proofs.Common.{◌≡◌, ◌+◌, ◌++◌, ◌<◌, ◌^◌, length}
 use Rattle.shared_pool.specs.Rows.{each_of}
-use Rattle.trace_workers.specs.Reports.{closed_devices}
-use Rattle.trace_workers.specs.Summaries.{lengths_of, closed_summaries}
+use Rattle.trace_gen.specs.Works.{summary_text}
+use Rattle.trace_workers.specs.Reports.{closed_texts, closed_devices}
+use Rattle.trace_workers.specs.Summaries.{lengths_of}
 use Rattle.trace_workers.proofs.summing.summaries.Given as goal
 
 abbrev pub invariant-loop-alloc : goal.invariant-loop-alloc
 invariant-loop-alloc g l = record {
-  text : l.text.items ++ closed_summaries l.number (each_of l.closed.items (λ c. (c.journal.items, c.arena))) ≡ closed_summaries 0 (each_of l.fn.closed.items (λ c. (c.journal.items, c.arena)));
+  text : l.text.items ++ closed_texts summary_text l.number (each_of l.closed.items (λ c. (c.journal.items, c.arena))) ≡ closed_texts summary_text 0 (each_of l.fn.closed.items (λ c. (c.journal.items, c.arena)));
   devices : each_of l.devices.items (λ d. g.P.Pmem.state d) ++ closed_devices (each_of l.closed.items (λ c. (c.journal.items, c.arena))) ≡ closed_devices (each_of l.fn.closed.items (λ c. (c.journal.items, c.arena)));
-  lengths : l.counts.items ≡ lengths_of (each_of l.closed.items (λ c. (c.journal.items, c.arena)));
+  lengths : l.lengths.items ≡ lengths_of (each_of l.closed.items (λ c. (c.journal.items, c.arena)));
   few : l.number + length l.closed.items < 2 ^ 32;
 }
 

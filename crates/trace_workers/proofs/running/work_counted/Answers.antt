@@ -1,6 +1,6 @@
 use Rattle.std.proofs.Common.{◌∙◌}
 use Rattle.trace_workers.proofs.PublishedLengths.{numbers_asked, done_asked, order_numbers, some_numbers, IfOk-always}
-use Rattle.trace_workers.proofs.summing.work_counted.Goals as goal
+use Rattle.trace_workers.proofs.running.work_counted.Goals as goal
 
 pub lengths_of-requires-clause-order : goal.lengths_of-requires-clause-order
 lengths_of-requires-clause-order g c = order_numbers 0 c.args.passes.now c.work_all.new.passes c.work_all.ensures.numbers c.requires.order

@@ -1,0 +1,197 @@
+// The program `call_times`: how long the calls of a trace take alone, without the reading of its text and the report of its
+// journals. The trace comes on standard input. The word `workers` has a worker for each thread make the calls, through the
+// locks of a pool, as `replay` does; the word `alone` has one caller make them in the order of the lines, without a pool.
+// Standard output has the number of calls of each arena, standard error the time. It serves `bench/`, and nothing of it is
+// promised but that it is safe.
+#![tactic(auto)]
+
+ghost use Rattle.std.specs.Prelude.{◌≡◌, ◌<◌, ◌^◌, length, IfOk};
+ghost use Rattle.std.specs.List.{All};
+ghost use Rattle.trace_text.specs.Grammar.{pool_of, IsPool, IsTraceCall};
+
+use arena_core::Arena;
+use arena_journal::answer;
+use heap_model::Entry;
+use pmem_lines::{OutOfMemory, SimPmem};
+use std::alloc::{AllocError, Global};
+use std::io::Read;
+use std::process::ExitCode;
+use std::rt::Runtime;
+use std::sync::Wait;
+use std::thread::Threads;
+use std::time::Instant;
+use std::{env, io};
+use trace_runs::new_arena;
+use trace_text::{PoolSize, Trace, TraceFault, read_trace};
+use trace_workers::{OpenGate, make_calls};
+
+const GRANULE_LINES: u32 = 256;
+
+const ROOM: u32 = 2048;
+
+const LONGEST: usize = 67_108_864;
+
+/// Who makes the calls.
+#[derive(Clone, Copy)]
+enum Caller {
+    Workers,
+    Alone,
+}
+
+/// Why there is no time.
+#[derive(Debug, Drop)]
+enum Fault {
+    Usage,
+    Outside,
+    Memory,
+    NoTrace,
+}
+
+impl From<AllocError> for Fault {
+    fn from(_error: AllocError) -> Self {
+        Fault::Memory
+    }
+}
+
+impl From<OutOfMemory> for Fault {
+    fn from(_error: OutOfMemory) -> Self {
+        Fault::Memory
+    }
+}
+
+impl From<io::Error> for Fault {
+    fn from(_error: io::Error) -> Self {
+        Fault::Outside
+    }
+}
+
+impl From<TraceFault> for Fault {
+    fn from(fault: TraceFault) -> Self {
+        match fault {
+            TraceFault::Memory(_) => Fault::Memory,
+            TraceFault::BadLine { .. } => Fault::NoTrace,
+        }
+    }
+}
+
+/// The caller that the words name.
+fn caller_named<R: Runtime>(rt: &R) -> Result<Caller, Fault> {
+    let mut words = env::args(rt)?.skip(1);
+    let (Some(word), None) = (words.next(), words.next()) else {
+        return Err(Fault::Usage);
+    };
+    match word.as_str() {
+        "workers" => Ok(Caller::Workers),
+        "alone" => Ok(Caller::Alone),
+        _ => Err(Fault::Usage),
+    }
+}
+
+/// The trace of a reader's text.
+fn trace_of<S: Read + Drop>(mut input: S, alloc: Global) -> Result<Trace, Fault>
+    ensures pool { IfOk result (λ trace. IsPool (pool_of trace)) }
+    ensures each { IfOk result (λ trace. All (IsTraceCall trace.arenas) trace.calls.items) }
+    ensures few { IfOk result (λ trace. length trace.calls.items < 2 ^ 32) }
+{
+    let mut text = Vec::new(alloc);
+    input.read_to_end(&mut text)?;
+    if text.len() > LONGEST {
+        return Err(Fault::NoTrace);
+    }
+    Ok(read_trace(alloc, &text)?)
+}
+
+/// The arenas of a trace's pool, over simulated devices.
+fn arenas_for(alloc: Global, trace: &Trace) -> Result<Vec<Arena<SimPmem>>, OutOfMemory>
+    requires { IsPool (pool_of trace.now) }
+    ensures { IfOk result (λ arenas. length arenas.items ≡ trace.now.arenas) }
+{
+    let pool = PoolSize {
+        arenas: trace.arenas,
+        granules: trace.granules,
+    };
+    let mut arenas = Vec::new(alloc);
+    for number in 0..pool.arenas {
+        let device = SimPmem::zeroed(alloc, GRANULE_LINES * pool.granules, ROOM)?;
+        arenas.push(new_arena(alloc, device, pool, number)?)?;
+    }
+    Ok(arenas)
+}
+
+/// Has a worker for each thread make the calls, and gives the number of entries of each journal.
+fn by_workers<R: Threads + Wait + Sync>(
+    rt: &R,
+    alloc: Global,
+    trace: &Trace,
+    arenas: Vec<Arena<SimPmem>>,
+) -> Result<Vec<usize>, OutOfMemory>
+    requires pool { IsPool (pool_of trace.now) }
+    requires each { All (IsTraceCall trace.now.arenas) trace.now.calls.items }
+    requires few { length trace.now.calls.items < 2 ^ 32 }
+    requires all { length arenas.items ≡ trace.now.arenas }
+{
+    let ended = make_calls(rt, alloc, trace, arenas, &OpenGate)?;
+    let mut counts = Vec::new(alloc);
+    for closed in ended.closed.iter() {
+        counts.push(closed.journal.len())?;
+    }
+    Ok(counts)
+}
+
+/// Makes the calls in the order of the lines, and gives the number of entries of each arena.
+fn by_one_caller(
+    alloc: Global,
+    trace: &Trace,
+    mut arenas: Vec<Arena<SimPmem>>,
+) -> Result<Vec<usize>, OutOfMemory> {
+    let mut journals: Vec<Vec<Entry>> = Vec::new(alloc);
+    for _ in 0..arenas.len() {
+        journals.push(Vec::new(alloc))?;
+    }
+    for call in trace.calls.iter() {
+        let at = call.arena as usize;
+        if let (Some(arena), Some(journal)) = (arenas.get_mut(at), journals.get_mut(at)) {
+            journal.push(answer(arena, call.thread % 64, call.call))?;
+        }
+    }
+    let mut counts = Vec::new(alloc);
+    for journal in journals.iter() {
+        counts.push(journal.len())?;
+    }
+    Ok(counts)
+}
+
+/// Times the calls, and says how many each arena had.
+fn time_calls<R: Runtime + Threads + Wait + Sync, S: Read + Drop>(
+    rt: &R,
+    alloc: Global,
+    input: S,
+) -> Result<(), Fault> {
+    let caller = caller_named(rt)?;
+    let trace = trace_of(input, alloc)?;
+    let arenas = arenas_for(alloc, &trace)?;
+    let begun = Instant::now(rt)?;
+    let counts = match caller {
+        Caller::Workers => by_workers(rt, alloc, &trace, arenas)?,
+        Caller::Alone => by_one_caller(alloc, &trace, arenas)?,
+    };
+    let took = begun.elapsed(rt)?.as_nanos();
+    for (arena, count) in counts.iter().enumerate() {
+        println!(rt; "arena {arena} calls {count}")?;
+    }
+    let each = took / (trace.calls.len() as u128).max(1);
+    eprintln!(rt; "{} ms, {each} ns a call", took / 1_000_000)?;
+    Ok(())
+}
+
+fn main(rt: HostRuntime) -> ExitCode {
+    let line = match time_calls(&rt, rt.alloc(), rt.stdin()) {
+        Ok(()) => return ExitCode::SUCCESS,
+        Err(Fault::Usage) => "usage: call_times workers, alone",
+        Err(Fault::Outside) => "read, write or clock fault",
+        Err(Fault::Memory) => "out of memory",
+        Err(Fault::NoTrace) => "no trace",
+    };
+    let _ = eprintln!(rt; "{line}");
+    ExitCode::FAILURE
+}

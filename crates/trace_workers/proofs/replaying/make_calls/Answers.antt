@@ -1,0 +1,20 @@
+use Rattle.std.proofs.Common.{List, subst, arith, sym}
+use Rattle.heap_model.specs.declared.call.Entry.{Entry}
+use Rattle.arena_core.specs.Arena.{ArenaState}
+use Rattle.trace_workers.specs.Workers.{AllBy}
+use Rattle.trace_workers.proofs.Replays.{AllIn-trace, AllBy-trace}
+use Rattle.trace_workers.proofs.replaying.make_calls.Goals as goal
+
+pub seats_of-seats-requires : goal.seats_of-seats-requires
+seats_of-seats-requires g c =
+    subst (AllBy 64) (sym c.deref.ensures.value) (AllBy-trace c.args.trace.now.arenas c.args.trace.now.calls.items c.requires.each)
+
+pub run_trace-requires-clause-arenas : goal.run_trace-requires-clause-arenas
+run_trace-requires-clause-arenas g c κs within =
+    rw (c.deref-2.ensures.value, c.requires.all) (AllIn-trace c.args.trace.now.arenas c.args.trace.now.calls.items c.requires.each)
+
+pub returns-clause-answers : goal.returns-clause-answers
+returns-clause-answers g c = rw c.deref-2.ensures.value at c.run_trace.ensures.answers
+
+pub returns-clause-lengths : goal.returns-clause-lengths
+returns-clause-lengths g c = rw c.deref-2.ensures.value at c.run_trace.ensures.lengths
