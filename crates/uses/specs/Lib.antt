@@ -1,0 +1,5 @@
+pub mod Stack
+pub mod Calls
+pub mod Steps
+pub mod Opening
+pub mod Reopening

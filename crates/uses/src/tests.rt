@@ -1,0 +1,147 @@
+// A stack's calls, and a push that is stopped at every event.
+use crate::{PopRefusal, PushRefusal, Record, RecordStack, ReopenFault, reopen};
+use arena_core::{Arena, ArenaRoom};
+use pmem_lines::{OutOfMemory, Pmem, SimPmem};
+use rand_core::SeedableRng;
+use rand_xoshiro::SplitMix64;
+use std::alloc::Global;
+use std::process::Abort;
+use std::test::Fail;
+
+const LOW: Record = [1, 2, 3, 4, 5, 6, 7, 8];
+
+const HIGH: Record = [9, 10, 11, 12, 13, 14, 15, u64::MAX];
+
+// An arena of 16 to 1024 granules in which no root names a block.
+fn new_arena(alloc: Global, granules: u32) -> Result<Arena<SimPmem>, OutOfMemory> {
+    let granules = granules.clamp(16, 1024);
+    let room = ArenaRoom::new(alloc, granules)?;
+    let device = SimPmem::zeroed(alloc, 256 * granules, 2048)?;
+    Ok(Arena::format(room, device, 0, 1))
+}
+
+fn new_stack(alloc: Global, granules: u32) -> Result<RecordStack<SimPmem>, Fail> {
+    let stack = RecordStack::over(new_arena(alloc, granules)?).ok();
+    Ok(stack.ok_or("no stack")?)
+}
+
+#[test]
+fn the_last_record_comes_first(rt: HostRuntime) -> Result<(), Fail> {
+    let mut stack = new_stack(rt.alloc(), 16)?;
+    assert!(rt; stack.is_empty());
+    assert_eq!(rt; stack.pop(), Err(PopRefusal::Empty));
+    assert!(rt; stack.top().is_none());
+    stack.push(&LOW)?;
+    stack.push(&HIGH)?;
+    assert_eq!(rt; stack.len(), 2);
+    assert_eq!(rt; stack.top().ok_or("no record")?, HIGH.as_slice());
+    stack.pop()?;
+    assert_eq!(rt; stack.top().ok_or("no record")?, LOW.as_slice());
+    stack.pop()?;
+    assert_eq!(rt; stack.len(), 0);
+    Ok(())
+}
+
+// So many records come to a stack of an arena of so many granules, and then this refusal.
+fn fills<R: Abort>(
+    rt: &R,
+    stack: &mut RecordStack<SimPmem>,
+    records: u32,
+    refusal: PushRefusal,
+) -> Result<(), Fail> {
+    for _ in 0..records {
+        stack.push(&LOW)?;
+    }
+    assert_eq!(rt; stack.push(&HIGH), Err(refusal));
+    assert_eq!(rt; stack.len(), records);
+    assert_eq!(rt; stack.top().ok_or("no record")?, LOW.as_slice());
+    Ok(())
+}
+
+// Twelve granules are three slabs of 992 blocks of 64 bytes.
+#[test]
+fn the_heap_has_no_place(rt: HostRuntime) -> Result<(), Fail> {
+    let mut stack = new_stack(rt.alloc(), 16)?;
+    fills(&rt, &mut stack, 2976, PushRefusal::NoSpace)
+}
+
+#[test]
+fn every_root_has_a_record(rt: HostRuntime) -> Result<(), Fail> {
+    let mut stack = new_stack(rt.alloc(), 24)?;
+    fills(&rt, &mut stack, 4095, PushRefusal::Full)
+}
+
+#[test]
+fn another_heap_is_no_stack(rt: HostRuntime) -> Result<(), Fail> {
+    let mut arena = new_arena(rt.alloc(), 16)?;
+    arena.malloc_to(0, 1, 64)?;
+    assert!(rt; RecordStack::over(arena).is_err());
+    Ok(())
+}
+
+// The stack that is reopened from the image behind the first `k` events of a device, as a generator from `seed` picks.
+fn reopened(
+    alloc: Global,
+    device: &SimPmem,
+    k: u32,
+    seed: u64,
+) -> Result<RecordStack<SimPmem>, ReopenFault> {
+    if k > device.event_count() {
+        return Err(ReopenFault::NoStack);
+    }
+    let mut picks = SplitMix64::seed_from_u64(seed);
+    let image = device
+        .image(alloc, k, &mut picks)
+        .map_err(ReopenFault::Memory)?;
+    if image.len() % 8 != 0 || image.len() < 8 || image.len() > 8_388_608 {
+        return Err(ReopenFault::NoStack);
+    }
+    let device = SimPmem::from_image(alloc, &image, 2048).map_err(ReopenFault::Memory)?;
+    reopen(alloc, device).map_err(|refused| refused.0)
+}
+
+// After a stop at each event of the last call of an arena, for the seeds 0, 1 and 2, the stack has LOW alone with an empty
+// stage, or HIGH above it where the call may show that.
+fn all_stop<R: Abort>(
+    rt: &R,
+    alloc: Global,
+    arena: &Arena<SimPmem>,
+    shows: bool,
+) -> Result<(), Fail> {
+    let device = arena.pmem();
+    let events = device.event_count();
+    for k in 0..=events {
+        for seed in 0..3 {
+            let stack = reopened(alloc, device, k, seed)?;
+            let top = stack.top().ok_or("no record")?;
+            let is_old = stack.len() == 1 && top == LOW.as_slice();
+            let is_new = stack.len() == 2 && top == HIGH.as_slice();
+            assert!(rt; is_old && !(shows && k == events) || is_new && shows && k > 0);
+            assert!(rt; stack.arena().block(4095).is_none());
+        }
+    }
+    Ok(())
+}
+
+// The three calls of a push, one by one.
+#[test]
+fn a_push_is_stopped(rt: HostRuntime) -> Result<(), Fail> {
+    let mut stack = new_stack(rt.alloc(), 16)?;
+    stack.push(&LOW)?;
+    let mut arena = stack.into_arena();
+    arena.malloc_to(0, 4095, 64)?;
+    all_stop(&rt, rt.alloc(), &arena, false)?;
+    arena.write(4095, 0, &HIGH)?;
+    all_stop(&rt, rt.alloc(), &arena, false)?;
+    arena.move_to(4095, 1)?;
+    all_stop(&rt, rt.alloc(), &arena, true)
+}
+
+// The device of a whole push has the events of its last call.
+#[test]
+fn a_push_ends_with_a_move(rt: HostRuntime) -> Result<(), Fail> {
+    let mut stack = new_stack(rt.alloc(), 16)?;
+    stack.push(&LOW)?;
+    stack.push(&HIGH)?;
+    all_stop(&rt, rt.alloc(), stack.arena(), true)
+}
