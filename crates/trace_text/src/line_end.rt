@@ -1,4 +1,5 @@
-// A line that is put together from its end, in a buffer of its own, so that it is copied once.
+// A line that is put together from its end, in a buffer of its own, so that it is copied once. What puts pieces is inlined
+// where their bytes are known, so that each is a move or two.
 ghost use Rattle.std.specs.Prelude.{◌≡◌, ◌+◌, ◌≤◌, ◌∷◌, ◌++◌, [], decimal, length};
 
 use itoa::write_digits;
@@ -37,6 +38,7 @@ impl LineEnd {
     }
 
     /// Puts bytes ahead of the text.
+    #[inline(always)]
     pub(crate) fn put(&mut self, bytes: &[u8])
         requires { length bytes.now + length self.old ≤ 160 }
         ensures { self.new ≡ bytes.now ++ self.old }
@@ -56,6 +58,7 @@ impl LineEnd {
     }
 
     /// Puts bytes and a number ahead of the text.
+    #[inline(always)]
     pub(crate) fn put_word(&mut self, bytes: &[u8], number: u64)
         requires { length bytes.now + 20 + length self.old ≤ 160 }
         ensures text { self.new ≡ (bytes.now ++ decimal number) ++ self.old }
@@ -66,6 +69,7 @@ impl LineEnd {
     }
 
     /// Puts bytes and two numbers with a space between ahead of the text.
+    #[inline(always)]
     pub(crate) fn put_pair(&mut self, bytes: &[u8], first: u64, second: u64)
         requires { length bytes.now + 41 + length self.old ≤ 160 }
         ensures text { self.new ≡ (bytes.now ++ decimal first ++ 32 ∷ decimal second) ++ self.old }
