@@ -1,0 +1,65 @@
+// The program `stop_runs`: stops an arena at the events of scripts of calls, recovers what each stop leaves, and prints a line
+// for each script, with how many events its calls have, at how many the calls were stopped, and how many images were
+// recovered. At the first image that is not recovered to a heap that it may have it ends with status 1, and says on standard
+// error which one it was.
+//
+// The words are `brief` or `whole`, and a script's name or none, which is for all. `scripts` has the scripts, of which
+// `full_arena` draws one, `stopping` makes their calls and stops these, and `heaps` has what is compared. That each image is
+// recovered to one of the two heaps is proved of every call (`IsEitherHeap`); here the definitions meet what runs.
+#![tactic(auto)]
+
+mod full_arena;
+mod heaps;
+mod scripts;
+mod stopping;
+
+use anyhow::{Context, Result, bail};
+use scripts::{Amount, NAMES, script_of};
+use std::env;
+use stopping::{StopFault, stop_calls};
+
+/// The words after the program's name.
+fn words_of_program(rt: &HostRuntime) -> Result<Vec<String>> {
+    let mut words = Vec::new(rt.alloc());
+    for word in env::args(rt)?.skip(1) {
+        words.push(word)?;
+    }
+    Ok(words)
+}
+
+/// Stops the calls of a script, and prints its line.
+fn run_script(rt: &HostRuntime, name: &str, amount: Amount) -> Result<()> {
+    let Some(script) = script_of(rt.alloc(), name).map_err(StopFault::from)? else {
+        bail!("there is no script {name}");
+    };
+    let first = script.first_of(amount);
+    let counts = stop_calls(rt.alloc(), &script, first).context(format_args!("{name}"))?;
+    let events = counts.events;
+    let stops = counts.stops;
+    let recovered = counts.recovered;
+    println!(rt; "{name} events {events} stops {stops} recovered {recovered}")?;
+    Ok(())
+}
+
+fn main(rt: HostRuntime) -> Result<()> {
+    let words = words_of_program(&rt)?;
+    let (amount, name) = match words.as_slice() {
+        [amount] => (amount.as_str(), None),
+        [amount, name] => (amount.as_str(), Some(name.as_str())),
+        _ => ("", None),
+    };
+    let amount = match amount {
+        "brief" => Amount::Brief,
+        "whole" => Amount::Whole,
+        _ => bail!("usage: stop_runs brief|whole [SCRIPT]"),
+    };
+    match name {
+        Some(name) => run_script(&rt, name, amount),
+        None => {
+            for name in NAMES {
+                run_script(&rt, name, amount)?;
+            }
+            Ok(())
+        }
+    }
+}

@@ -1,0 +1,181 @@
+// The scripts.
+use crate::full_arena::full_arena;
+use heap_model::Call;
+use pmem_lines::OutOfMemory;
+use std::alloc::{AllocError, Global};
+
+/// How much of a script is stopped.
+#[derive(Clone, Copy, Debug, PartialEq, Eq)]
+pub(crate) enum Amount {
+    /// The calls for which it is there.
+    Brief,
+    /// All calls, but for those that another script begins with too.
+    Whole,
+}
+
+/// Calls of an arena of so many granules, each by a seat, that name roots below a number. None is a Read, which has no events
+/// of its own.
+#[derive(Drop)]
+pub(crate) struct Script {
+    pub(crate) granules: u32,
+    pub(crate) roots: u32,
+    pub(crate) calls: Vec<(u32, Call)>,
+    brief_from: usize,
+    whole_from: usize,
+}
+
+impl Script {
+    /// The first call that is stopped, counted from 0.
+    pub(crate) fn first_of(&self, amount: Amount) -> usize {
+        match amount {
+            Amount::Brief => self.brief_from,
+            Amount::Whole => self.whole_from,
+        }
+    }
+}
+
+/// The names of the scripts, in the order in which they run.
+pub(crate) const NAMES: [&str; 12] = [
+    "ordinary-use",
+    "payload",
+    "slab-goes-back",
+    "morph",
+    "transition-ends",
+    "moves",
+    "log-roll",
+    "roll-in-slab",
+    "log-rewrite",
+    "rewrite-in-slab",
+    "widest-rewrite",
+    "full-arena",
+];
+
+/// The script of a name.
+pub(crate) fn script_of(alloc: Global, name: &str) -> Result<Option<Script>, OutOfMemory> {
+    let script = match name {
+        "ordinary-use" => of_calls(16, 6, vec![in alloc; malloc(5, 100)]?, 0, 0),
+        "payload" => payload(alloc)?,
+        "slab-goes-back" => of_calls(16, 2, vec![in alloc; malloc(1, 64), free(1)]?, 1, 0),
+        "morph" => of_calls(16, 3, takes_a_class(alloc)?, 2, 0),
+        "transition-ends" => transition_ends(alloc)?,
+        "moves" => moves(alloc)?,
+        "log-roll" => log_roll(alloc)?,
+        "roll-in-slab" => roll_in_slab(alloc)?,
+        "log-rewrite" => of_calls(64, 102, rewrites(alloc, 20_000)?, 960, 0),
+        "rewrite-in-slab" => of_calls(64, 102, rewrites(alloc, 100)?, 960, 960),
+        "widest-rewrite" => widest_rewrite(alloc)?,
+        "full-arena" => of_calls(16, 30, full_arena(alloc)?, 199, 0),
+        _ => return Ok(None),
+    };
+    Ok(Some(script))
+}
+
+// A script, with the first of its calls that is stopped where the stops are brief, and where they are whole.
+fn of_calls(
+    granules: u32,
+    roots: u32,
+    calls: Vec<(u32, Call)>,
+    brief_from: usize,
+    whole_from: usize,
+) -> Script {
+    Script {
+        granules,
+        roots,
+        calls,
+        brief_from,
+        whole_from,
+    }
+}
+
+fn malloc(root: u32, size: u64) -> (u32, Call) {
+    (0, Call::Malloc { root, size })
+}
+
+fn free(root: u32) -> (u32, Call) {
+    (0, Call::Free { root })
+}
+
+// A word of a block is written.
+fn payload(alloc: Global) -> Result<Script, AllocError> {
+    let write = Call::Write {
+        root: 1,
+        index: 1,
+        value: u64::MAX,
+    };
+    Ok(of_calls(16, 2, vec![in alloc; malloc(1, 16), (0, write)]?, 1, 0))
+}
+
+// Eight granules are taken, a slab is opened, and it takes another class.
+fn takes_a_class(alloc: Global) -> Result<Vec<(u32, Call)>, AllocError> {
+    Ok(vec![in alloc; malloc(0, 131_072), malloc(1, 64), malloc(2, 1000)]?)
+}
+
+// Then the slab's old block goes, and with it the transition.
+fn transition_ends(alloc: Global) -> Result<Script, AllocError> {
+    let mut calls = takes_a_class(alloc)?;
+    calls.push(free(1))?;
+    Ok(of_calls(16, 3, calls, 3, 3))
+}
+
+// A large block, an old block of a slab that took another class, and one of the slab's class move.
+fn moves(alloc: Global) -> Result<Script, AllocError> {
+    let mut calls = takes_a_class(alloc)?;
+    calls.push((0, Call::Move { from: 0, to: 7 }))?;
+    calls.push((1, Call::Move { from: 1, to: 8 }))?;
+    calls.push((2, Call::Move { from: 2, to: 1 }))?;
+    Ok(of_calls(16, 9, calls, 3, 3))
+}
+
+// A block comes to a root and goes, so many times.
+fn comes_and_goes(calls: &mut Vec<(u32, Call)>, root: u32, times: u32) -> Result<(), AllocError> {
+    for _ in 0..times {
+        calls.push(malloc(root, 20_000))?;
+        calls.push(free(root))?;
+    }
+    Ok(())
+}
+
+// One block 60 times: the first chunk of the log has room for no more entry then. A needless chunk is dropped, and the next
+// one taken.
+fn log_roll(alloc: Global) -> Result<Script, AllocError> {
+    let mut calls = Vec::new(alloc);
+    comes_and_goes(&mut calls, 0, 61)?;
+    Ok(of_calls(16, 1, calls, 120, 0))
+}
+
+// The log rolls within a call that opens a slab.
+fn roll_in_slab(alloc: Global) -> Result<Script, AllocError> {
+    let mut calls = Vec::new(alloc);
+    comes_and_goes(&mut calls, 0, 60)?;
+    calls.push(malloc(5, 100))?;
+    Ok(of_calls(16, 6, calls, 120, 120))
+}
+
+// Eight chunks of the log with the entries of two live blocks each, and a call for which it is written anew.
+fn rewrites(alloc: Global, size: u64) -> Result<Vec<(u32, Call)>, AllocError> {
+    let mut calls = Vec::new(alloc);
+    for chunk in 0..8u32 {
+        calls.push(malloc(2 * chunk, 20_000))?;
+        comes_and_goes(&mut calls, 100, 59)?;
+        calls.push(malloc(2 * chunk + 1, 20_000))?;
+    }
+    calls.push(malloc(101, size))?;
+    Ok(calls)
+}
+
+// Four chunks of the log with entries of live blocks alone, and four with those of two live blocks each. It is written anew
+// into five, within a call that opens a slab. Each image has 16 MiB, so that no call is stopped where the stops are brief, and
+// else the last one.
+fn widest_rewrite(alloc: Global) -> Result<Script, AllocError> {
+    let mut calls = Vec::new(alloc);
+    for root in 0..480u32 {
+        calls.push(malloc(root, 20_000))?;
+    }
+    for chunk in 0..4u32 {
+        calls.push(malloc(480 + 2 * chunk, 20_000))?;
+        comes_and_goes(&mut calls, 500, 59)?;
+        calls.push(malloc(481 + 2 * chunk, 20_000))?;
+    }
+    calls.push(malloc(501, 100))?;
+    Ok(of_calls(1024, 502, calls, 961, 960))
+}

@@ -1,0 +1,190 @@
+// The calls of a script are made one by one. Each is stopped at each of its events, and what is left is recovered.
+use crate::heaps::{Held, heap_of, new_arena};
+use crate::scripts::Script;
+use arena_core::Arena;
+use arena_journal::answer;
+use pmem_lines::{OutOfMemory, Pmem, SimPmem};
+use rand_core::SeedableRng;
+use rand_xoshiro::SplitMix64;
+use recover::{RecoverFault, recover};
+use std::alloc::Global;
+use thiserror::Error;
+
+// How many seeds pick an image at each stop.
+const SEEDS: u64 = 3;
+
+// The roots of an arena.
+const ALL_ROOTS: u32 = 4096;
+
+/// How many events the calls of a script have, how many images of stopped calls were recovered, and how many images in all,
+/// with those of stopped recoveries.
+#[derive(Clone, Copy, Debug)]
+pub(crate) struct Counts {
+    pub(crate) events: u64,
+    pub(crate) stops: u64,
+    pub(crate) recovered: u64,
+}
+
+/// Why a script was not stopped to its end. Events are counted over all of the script.
+#[derive(Debug, Drop, Error)]
+pub(crate) enum StopFault {
+    #[error("out of memory")]
+    Memory,
+    #[error("stopped at event {event}, seed {seed}: neither the heap before the call nor the one behind it")]
+    Call { event: u64, seed: u64 },
+    #[error("stopped at event {event}, seed 0, and recovery at its event {again}: another heap than that of recovery")]
+    Recovery { event: u64, again: u32 },
+    #[error("behind all calls: another heap over all roots than over those of the script")]
+    Roots,
+}
+
+impl Counts {
+    // Adds the events of the call that a device carried out last.
+    fn add_events(&mut self, device: &SimPmem) {
+        self.events = self.events.saturating_add(u64::from(device.event_count()));
+    }
+}
+
+impl From<OutOfMemory> for StopFault {
+    fn from(_error: OutOfMemory) -> Self {
+        StopFault::Memory
+    }
+}
+
+// The heaps before a call and behind it.
+#[derive(Clone, Copy)]
+struct Sides<'a> {
+    before: &'a [Held],
+    behind: &'a [Held],
+}
+
+/// Makes the calls of a script, and stops those from one on. A call is stopped at each of its events, the first one stopped
+/// also at its begin, with each of the seeds: recovery comes to the heap before the call or to the one behind it, and to the
+/// latter at the call's last event. With the first seed recovery too is stopped at each of its events, and what is left is
+/// recovered to the same heap. At the end all roots are compared.
+pub(crate) fn stop_calls(
+    alloc: Global,
+    script: &Script,
+    first: usize,
+) -> Result<Counts, StopFault> {
+    let (made, stopped) = script.calls.split_at(first.min(script.calls.len()));
+    let mut arena = new_arena(alloc, script.granules)?;
+    let mut counts = Counts {
+        events: 0,
+        stops: 0,
+        recovered: 0,
+    };
+    for (seat, call) in made {
+        answer(&mut arena, *seat % 64, *call);
+        counts.add_events(arena.pmem());
+    }
+    let mut before = heap_of(alloc, &arena, script.roots)?;
+    for (seat, call) in stopped {
+        answer(&mut arena, *seat % 64, *call);
+        let behind = heap_of(alloc, &arena, script.roots)?;
+        let sides = Sides {
+            before: &before,
+            behind: &behind,
+        };
+        stop_call(alloc, arena.pmem(), script.roots, sides, &mut counts)?;
+        counts.add_events(arena.pmem());
+        before = behind;
+    }
+    compare_all_roots(alloc, &arena, &before)?;
+    Ok(counts)
+}
+
+// Stops the call that a device carried out last.
+fn stop_call(
+    alloc: Global,
+    device: &SimPmem,
+    roots: u32,
+    sides: Sides<'_>,
+    counts: &mut Counts,
+) -> Result<(), StopFault> {
+    // Behind none of its events a call leaves what the one before it left behind all of them.
+    let first = if counts.stops == 0 { 0 } else { 1 };
+    for k in first..=device.event_count() {
+        let event = counts.events.saturating_add(u64::from(k));
+        for seed in 0..SEEDS {
+            let Some(arena) = recovered(alloc, device, k, seed)? else {
+                return Err(StopFault::Call { event, seed });
+            };
+            let heap = heap_of(alloc, &arena, roots)?;
+            if !may_be_left(sides, &heap, k, device.event_count()) {
+                return Err(StopFault::Call { event, seed });
+            }
+            counts.stops = counts.stops.saturating_add(1);
+            counts.recovered = counts.recovered.saturating_add(1);
+            if seed == 0 {
+                stop_recovery(alloc, arena.pmem(), roots, &heap, event, counts)?;
+            }
+        }
+    }
+    Ok(())
+}
+
+// A heap is one that may be left behind `k` of a call's events: behind none the first of two, and behind all the second.
+fn may_be_left(sides: Sides<'_>, heap: &[Held], k: u32, count: u32) -> bool {
+    k < count && heap == sides.before || (k > 0 || count == 0) && heap == sides.behind
+}
+
+// Stops the recovery that a device carried out, of a call that was stopped at an event, at each of its own events: what is
+// left is recovered to the same heap.
+fn stop_recovery(
+    alloc: Global,
+    device: &SimPmem,
+    roots: u32,
+    heap: &[Held],
+    event: u64,
+    counts: &mut Counts,
+) -> Result<(), StopFault> {
+    for again in 1..=device.event_count() {
+        match recovered(alloc, device, again, 0)? {
+            Some(arena) if heap_of(alloc, &arena, roots)?.as_slice() == heap => {}
+            _ => return Err(StopFault::Recovery { event, again }),
+        }
+        counts.recovered = counts.recovered.saturating_add(1);
+    }
+    Ok(())
+}
+
+// Of all roots none but those of the script has a block, and so it is when the last image is recovered.
+fn compare_all_roots(
+    alloc: Global,
+    arena: &Arena<SimPmem>,
+    heap: &[Held],
+) -> Result<(), StopFault> {
+    let all = heap_of(alloc, arena, ALL_ROOTS)?;
+    let device = arena.pmem();
+    match recovered(alloc, device, device.event_count(), 0)? {
+        Some(again)
+            if all.as_slice() == heap && heap_of(alloc, &again, ALL_ROOTS)?.as_slice() == heap => {
+            Ok(())
+        }
+        _ => Err(StopFault::Roots),
+    }
+}
+
+// The arena that is recovered from the image behind the first `k` events of a device, as a generator from `seed` picks.
+// `None` where the device has fewer events, or the image is not sound.
+fn recovered(
+    alloc: Global,
+    device: &SimPmem,
+    k: u32,
+    seed: u64,
+) -> Result<Option<Arena<SimPmem>>, OutOfMemory> {
+    if k > device.event_count() {
+        return Ok(None);
+    }
+    let mut picks = SplitMix64::seed_from_u64(seed);
+    let image = device.image(alloc, k, &mut picks)?;
+    if image.len() % 8 != 0 || image.len() < 8 || image.len() > 8_388_608 {
+        return Ok(None);
+    }
+    match recover(alloc, SimPmem::from_image(alloc, &image, 2048)?) {
+        Ok(arena) => Ok(Some(arena)),
+        Err((RecoverFault::Memory(error), _)) => Err(error),
+        Err((RecoverFault::Defect(_), _)) => Ok(None),
+    }
+}
