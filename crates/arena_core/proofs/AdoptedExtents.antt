@@ -207,13 +207,13 @@ clear_read words set parts start image slab read = record {
 }
 
 -- before anything is read
-pub IsReadBelow-first : (words : List ℕ) (set : FreeSet) (parts : Supply) → (bounds_of words).first ≡ 4 → set.granules ≡ (bounds_of words).granules → ((k : ℕ) → IsFree set k ↔ ((4 ≤ k) × (k < set.granules))) →
+pub IsReadBelow-first : (words : List ℕ) (set : FreeSet) (parts : Supply) → set.granules ≡ (bounds_of words).granules → ((k : ℕ) → IsFree set k ↔ (((bounds_of words).first ≤ k) × (k < set.granules))) →
     parts.slabs.granules ≡ (bounds_of words).granules → ((start : ℕ) → class_in parts.slabs start ≡ None) → IsReadBelow words set parts 0
-IsReadBelow-first words set parts first granules free slab_granules none = record {
+IsReadBelow-first words set parts granules free slab_granules none = record {
   granules = granules;
   free = λ k. (
-    λ is. let within = (free k).0 is in record { low = omega (arith, first, within.0); high = omega (arith, granules, within.1); none = λ start less. absurd (omega (arith, less)) },
-    λ vacant. (free k).1 (omega (arith, first, vacant.low), omega (arith, granules, vacant.high)),
+    λ is. let within = (free k).0 is in record { low = within.0; high = omega (arith, granules, within.1); none = λ start less. absurd (omega (arith, less)) },
+    λ vacant. (free k).1 (vacant.low, omega (arith, granules, vacant.high)),
   );
   slab_granules = slab_granules;
   classes = λ start. none start ∙ sym (not_below (tables_of words) 0 start (omega arith));

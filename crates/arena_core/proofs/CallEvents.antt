@@ -1,5 +1,6 @@
 -- What a call has done, put together: by the place of its block.
 use Rattle.std.proofs.Common.{◌==◌, ◌≡◌, ◌≢◌, ◌*◌, ◌/◌, ◌+◌, ◌-◌, ◌%◌, ◌<◌, ◌≤◌, ℕ, true, false, cond, leb, List, [], Option, Some, refl, sym, ap, subst, ◌∙◌, arith, ◌++◌, ◌&&◌, ⊎_elim, Bool}
+use Rattle.arena_core.proofs.Readiness.{ready_after}
 use Rattle.std.proofs.lemmas.Bool.{cond-true, cond-false, eq-eqb, ne_eqb, le-leb, lt-leb, false_from_ne_true, and_from, and_parts, eqb-true, cases_Bool}
 use Rattle.std.proofs.lemmas.Nat.{div-mul-add}
 use Rattle.size_classes.specs.Classes.{class_size, class_capacity}
@@ -333,7 +334,7 @@ IsDone-small {old} {new} {was} {left} {root} {class} block arena left_is may cla
     record {
       step = step;
       current = subst (IsCurrent new) (sym left_is) (record {
-        ready = record { quiet = step.quiet; room = omega (arith, arena.current.ready.room, step.appends.room) };
+        ready = ready_after arena.current.ready step.appends.room step.quiet arena.current.exact.formed attached.exact.formed attached.bounds;
         exact = attached.exact;
         log = book_small change after attached.rest attached.bounds was.log arena.current.log;
         index = index_small words bits live_bits root true block.at after attached.bounds attached.tables was.free arena.current.index;

@@ -1,5 +1,6 @@
 -- An arena is formatted: the words that its header line leaves, and those that a crash leaves.
 use Rattle.std.proofs.Common.{◌≡◌, ◌≢◌, ◌↔◌, ℕ, zero, suc, ◌*◌, ◌<◌, ◌≤◌, List, [], ◌∷◌, length, take, true, true≢false, Some, None, refl, sym, ap, subst, ◌∙◌, arith, inl, inr, slice_index}
+use Rattle.pool_layout.proofs.Layouts.{layout_rules}
 use Rattle.std.proofs.lemmas.Bool.{cond-false}
 use Rattle.pmem_lines.specs.Words.{word_at, put_word, AreZeros}
 use Rattle.pmem_lines.specs.declared.event.Event.TheVariants.{Flush, Fence}
@@ -30,12 +31,12 @@ use Rattle.arena_core.specs.Arena.{IsArena}
 use Rattle.arena_core.proofs.LiveSlabs.{calm_none}
 use Rattle.arena_core.specs.Call.{IsReady, IsFormattedOrNot}
 use Rattle.arena_core.specs.Events.{format_events}
-use Rattle.heap_check.proofs.Sizes.{sizes_of, heap_inside}
+use Rattle.heap_check.proofs.Sizes.{heap_inside}
 use Rattle.heap_model.specs.Slabs.{live_below}
 use Rattle.heap_check.specs.Heap.{heap}
 
 -- the header of an arena of version 1
-pub IsPoolHeader-new : (number arenas granules : ℕ) → number < arenas → arenas ≤ 16 → 16 ≤ granules → granules ≤ 1024 →
+pub IsPoolHeader-new : (number arenas granules : ℕ) → number < arenas → arenas ≤ 16 → 16 ≤ granules → granules ≤ (layout_of 1).most_granules →
     IsPoolHeader (record { version = 1; number = number; arenas = arenas; granules = granules })
 unfolding layout_of
 IsPoolHeader-new number arenas granules below few least most = record {
@@ -68,8 +69,7 @@ module _ (words : List ℕ) (header : PoolHeader) where
 
   module _ (zeros : AreZeros words) (valid : IsPoolHeader header) (size : length words ≡ 2048 * header.granules) where
     long : 8 ≤ length words
-    unfolding layout_of
-    long = omega (arith, size, valid.least)
+    long = omega (arith, size, valid.least, (layout_rules header.version).least)
 
     length_one : length one ≡ length words
     length_one = length-put_word words fields_word (header_word header)
@@ -135,8 +135,8 @@ pub record IsWritten (old begun new : PmemState) (number arenas granules : ℕ) 
   pub below : number < arenas
   pub few : arenas ≤ 16
   pub least : 16 ≤ granules
-  pub most : granules ≤ 1024
-  pub room : 2048 ≤ old.room
+  pub most : granules ≤ (layout_of 1).most_granules
+  pub room : (layout_of 1).room ≤ old.room
 
 module _ {old begun new : PmemState} {number arenas granules : ℕ} (made : IsWritten old begun new number arenas granules) where
   abbrev header : PoolHeader
@@ -159,7 +159,7 @@ module _ {old begun new : PmemState} {number arenas granules : ℕ} (made : IsWr
   pub formatted_ready : IsReady new
   formatted_ready = record {
     quiet = quiet_after made.step (quiet_format header) (subst (λ (s : PmemState). IsQuiet s.events) (sym made.begun_is) tt);
-    room = omega (arith, made.step.room, ap (λ (s : PmemState). s.room) made.begun_is, made.room);
+    room = omega (arith, made.step.room, ap (λ (s : PmemState). s.room) made.begun_is, made.room, ap (λ (h : PoolHeader). (layout_of h.version).room) (header_in-formatted (words_of new) header formatted_device));
   }
 
   pub formatted_exact : IsExactImage (words_of new) × HasState (words_of new) no_heap
@@ -173,12 +173,12 @@ module _ {old begun new : PmemState} {number arenas granules : ℕ} (made : IsWr
 
 -- what an arena keeps, of one that was formatted
 pub formatted_arena : (device : PmemState) (header : PoolHeader) (volatile : Volatile) → IsReady device → IsFormatted (words_of device) header → Reads volatile.log (words_of device) → volatile.log.granules ≡ header.granules →
-    volatile.free.granules ≡ header.granules → ((k : ℕ) → IsFree volatile.free k ↔ ((4 ≤ k) × (k < header.granules))) → volatile.supply.slabs.granules ≡ header.granules → ((s : ℕ) → class_in volatile.supply.slabs s ≡ None) →
+    volatile.free.granules ≡ header.granules → ((k : ℕ) → IsFree volatile.free k ↔ (((layout_of header.version).first_granule ≤ k) × (k < header.granules))) → volatile.supply.slabs.granules ≡ header.granules → ((s : ℕ) → class_in volatile.supply.slabs s ≡ None) →
     length volatile.lives.counts ≡ header.granules → ((s : ℕ) → slice_index volatile.lives.counts s ≡ 0) → ((s : ℕ) → calm_at volatile.lives s ≡ None) → volatile.line ≡ 0 → IsArena device volatile
 formatted_arena device header volatile ready formatted reads size index each parts_size no_class count_size no_count no_calm first_line =
     let words = words_of device in
     let blank = AreBlank-formatted words header formatted in
-    let first = (sizes_of words (IsFormed-formatted words header formatted)).first in
+    let first : (bounds_of words).first ≡ (layout_of header.version).first_granule = ap (λ (h : PoolHeader). (layout_of h.version).first_granule) (header_in-formatted words header formatted) in
     let granules : granules_in words ≡ header.granules = ap (λ (h : PoolHeader). h.granules) (header_in-formatted words header formatted) in
     let none : (s : ℕ) → (tables_of words).slab s ≢ true = λ s slab. true≢false (sym slab ∙ blank.no_slab s) in
     record {

@@ -34,3 +34,4 @@ pub mod MovesArenas
 pub mod MovesStates
 pub mod MovesCalls
 pub mod ByCall
+pub mod Readiness

@@ -1,5 +1,6 @@
 -- A move put together: what it did, and what a crash within it leaves.
 use Rattle.std.proofs.Common.{◌≡◌, ◌+◌, ◌%◌, ℕ, List, [], Err, refl, sym, ap, subst, ◌∙◌, arith, inl}
+use Rattle.arena_core.proofs.Readiness.{ready_after}
 use Rattle.pmem_lines.specs.Events.{CrashOnly}
 use Rattle.pmem_lines.specs.Pmem.{PmemState, words_of, began, appended}
 use Rattle.pmem_lines.specs.Steps.{IsQuietStep}
@@ -51,7 +52,7 @@ carried_moved {old} {new} {was} {from} {to} range arena plan step moved =
       carried = step;
       arena = record {
         current = record {
-          ready = record { quiet = step.quiet; room = omega (arith, arena.current.ready.room, step.appends.room) };
+          ready = ready_after arena.current.ready step.appends.room step.quiet arena.current.exact.formed moved.exact.formed moved.bounds;
           exact = moved.exact;
           log = book_moved may arena.few moved was.log arena.current.log;
           index = index_moved may arena.few moved was.free arena.current.index;

@@ -1,5 +1,6 @@
 -- Words that are written into a root's block, put together: what a write did, and what a crash within it leaves.
 use Rattle.std.proofs.Common.{◌≡◌, ◌<◌, ◌≤◌, ◌+◌, ◌-◌, ◌*◌, ◌/◌, ◌%◌, ℕ, List, [], length, Ok, Err, Result, refl, sym, ap, subst, ◌∙◌, arith, inl, inr, ⊎_elim}
+use Rattle.arena_core.proofs.Readiness.{ready_after}
 use Rattle.std.proofs.lemmas.Bool.{cases_lt}
 use Rattle.pmem_lines.specs.Words.{word_at}
 use Rattle.pmem_lines.specs.Events.{CrashOnly}
@@ -138,7 +139,7 @@ module _ {old new : PmemState} {root from at : ℕ} {words : List ℕ} (image : 
     carried = step_wider either step;
     written = written;
     step = step_written image may (bounds_kept image root may.block.named off_block) written;
-    arena = λ volatile arena. IsArena-block root arena may.block.named off_block (record { quiet = step.quiet; room = omega (arith, ready.room, step.appends.room) });
+    arena = λ volatile arena. IsArena-block root arena may.block.named off_block (ready_after ready step.appends.room step.quiet image.formed (exact_kept image root may.block.named off_block).formed (bounds_kept image root may.block.named off_block));
   }
 
 -- a crash in which nothing is done

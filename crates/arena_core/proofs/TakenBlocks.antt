@@ -1,5 +1,6 @@
 -- A block of a slab came to a root, or went from it: what an arena keeps holds again.
 use Rattle.std.proofs.Common.{◌≡◌, ℕ, ◌<◌, Bool, true, false, List, length, slice_index, Some, None, refl, sym, ap, subst, ◌∙◌, arith, ◌++◌, inr}
+use Rattle.arena_core.proofs.Readiness.{ready_after}
 use Rattle.pmem_lines.specs.declared.event.Event.{Event}
 use Rattle.pmem_lines.specs.Events.{reading}
 use Rattle.pmem_lines.specs.Pmem.{PmemState, words_of}
@@ -100,7 +101,7 @@ taken_by {old} {new} was fewer lives_left {root} {start} {k} bits lives {events}
     record {
       step = step;
       untidy = record {
-        ready = record { quiet = step.quiet; room = omega (arith, current.ready.room, step.appends.room) };
+        ready = ready_after current.ready step.appends.room step.quiet current.exact.formed image.formed bounds;
         image = image;
         slab = slab;
         log = book_small change left rest bounds was.log current.log;

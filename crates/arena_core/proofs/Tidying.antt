@@ -1,5 +1,6 @@
 -- Behind a block that went its slab is dropped where it holds none, and its transition ends where no old one is left.
 use Rattle.std.proofs.Common.{◌≡◌, ◌≢◌, ◌↔◌, ◌==◌, ℕ, ◌<◌, Bool, true, false, true≢false, not, List, [], slice_index, refl, sym, ap, subst, ◌∙◌, arith, inl, ⊎_elim, Some, None, if◌then◌else◌}
+use Rattle.arena_core.proofs.Readiness.{ready_after}
 use Rattle.std.proofs.lemmas.Bool.{cases_Bool, cases_eq, cond-true, cond-false, eq-eqb, eqb-true, and_from, and_parts, false_from_ne_true}
 use Rattle.pmem_lines.specs.Pmem.{PmemState, words_of}
 use Rattle.pmem_lines.specs.Steps.{IsQuietStep}
@@ -214,7 +215,7 @@ module _ (s : PmemState) (volatile : Volatile) (start : ℕ) (untidy : IsUntidy 
           step = step_by (end_events words start) (tidy_events words start) (sym events) (step_wider (λ image left.
               let kept = left.keeps steady in
               record { steady = kept.steady; heap = inl kept.heap; words = kept.blocks; still = HasNoMove-closed (left.entry ∙ untidy.image.but.closed) }) step);
-          current = record { ready = record { quiet = step.quiet; room = omega (arith, untidy.ready.room, step.appends.room) }; exact = exact; log = book; index = index };
+          current = record { ready = ready_after untidy.ready step.appends.room step.quiet untidy.image.formed exact.formed ended.bounds; exact = exact; log = book; index = index };
           slabs = slabs_after;
           lives = lives_put words new volatile.lives next (subst (λ (n : List ℕ). AreCountsOf n new) (sym same) counts) untidy.lives start (Some (t.class start)) put calm_ended;
           bounds = ended.bounds;

@@ -97,7 +97,7 @@ pub record IsArena (device : PmemState) (volatile : Volatile) : Type 0 where
 -- with empty stacks, counts of 0 and no calm slab
 pub record IsRoom (granules : ℕ) (volatile : Volatile) : Type 0 where
   pub least : 16 ≤ granules
-  pub most : granules ≤ 1024
+  pub most : granules ≤ 4096
   pub log : IsBlank granules volatile.log
   pub index : volatile.free.granules ≡ granules
   pub each : (k : ℕ) → IsFree volatile.free k ↔ ((4 ≤ k) × (k < granules))

@@ -1,8 +1,9 @@
 -- What a call of an arena is: a step of the heap machine, and what a crash within it leaves.
 use Rattle.std.specs.Prelude.{◌≡◌, ◌⊎◌, ℕ, ◌≤◌, List}
 use Rattle.pmem_lines.specs.Events.{IsQuiet}
-use Rattle.pmem_lines.specs.Pmem.{PmemState}
-use Rattle.pool_layout.specs.Header.{IsHeaderDefect}
+use Rattle.pmem_lines.specs.Pmem.{PmemState, words_of}
+use Rattle.pool_layout.specs.Layout.{layout_of}
+use Rattle.pool_layout.specs.Header.{version_in, IsHeaderDefect}
 use Rattle.pool_layout.specs.declared.defect.Defect.TheVariants.{BadHeader}
 use Rattle.heap_model.specs.declared.call.Call.{Call}
 use Rattle.heap_model.specs.declared.call.Reply.{Reply}
@@ -11,10 +12,10 @@ use Rattle.heap_model.specs.Placement.{Stacks, IsPlacedStep}
 use Rattle.heap_check.specs.Image.{bounds_of, IsExactImage}
 use Rattle.heap_check.specs.State.{HasState}
 
--- the memory may begin a call, and has room for the events of any
+-- the memory may begin a call, and has room for the events of any in an arena of its version
 pub record IsReady (device : PmemState) : Type 0 where
   pub quiet : IsQuiet device.events
-  pub room : 2048 ≤ device.room
+  pub room : (layout_of (version_in (words_of device))).room ≤ device.room
 
 -- each state that the old words have leads, with the stacks before it, to one that the new words have, with the stacks behind
 -- it, by a step of the placement for a seat

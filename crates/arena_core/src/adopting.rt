@@ -23,8 +23,22 @@ use slab_header::class_at;
 use slab_lives::SlabLives;
 use slab_morph::{is_normal, used_blocks};
 
-/// Makes the indexes those of an exact image: all of the heap was free before, and no slab was there. `log` is the
-/// image's.
+// The granule from which on all of an index is free that nothing was taken from.
+const FIRST_FREE: u32 = 4;
+
+/// Takes the granules before the heap, which begins with the granule `first`, out of an index that nothing was taken from.
+pub(crate) fn take_front(free: &mut ExtentIndex, first: u32)
+    requires all_free { (k : ℕ) → IsFree free.old k ↔ ((4 ≤ k) × (k < free.old.granules)) }
+    requires low { 4 ≤ first }
+    requires high { first < free.old.granules }
+    ensures granules { free.new.granules ≡ free.old.granules }
+    ensures heap { (k : ℕ) → IsFree free.new k ↔ ((first ≤ k) × (k < free.old.granules)) }
+{
+    free.take(FIRST_FREE, first - FIRST_FREE);
+}
+
+/// Makes the indexes those of an exact image: nothing was taken from the index of granules before, and no slab was there.
+/// `log` is the image's.
 pub(crate) fn read_image<P: Pmem>(
     device: &P,
     log: &BookLog,
@@ -41,6 +55,7 @@ pub(crate) fn read_image<P: Pmem>(
     ensures slabs { IsSlabsOf supply.new (words_of (P.state device.now)) }
     ensures stacks { supply.new.stacks ≡ supply.old.stacks }
 {
+    take_front(free, layout_in(device).first_granule);
     let mut from = 0;
     while let Some(extent) = log.next_live(from) {
         read_extent(device, free, supply, extent);

@@ -3,7 +3,8 @@ ghost use Rattle.std.specs.Prelude.{◌≡◌, ◌*◌, ◌<◌, ◌≤◌, leng
 ghost use Rattle.pmem_lines.specs.Words.{AreZeros};
 ghost use Rattle.pmem_lines.specs.Events.{CrashOnly, IsQuiet};
 ghost use Rattle.pmem_lines.specs.Pmem.{words_of, began, appended};
-ghost use Rattle.pool_layout.specs.Header.{granules_in};
+ghost use Rattle.pool_layout.specs.Layout.{layout_of};
+ghost use Rattle.pool_layout.specs.Header.{version_in, granules_in};
 ghost use Rattle.heap_model.specs.declared.call.Call.TheVariants as calls;
 ghost use Rattle.heap_model.specs.Machine.{no_heap};
 ghost use Rattle.heap_model.specs.Placement.{no_stacks};
@@ -17,7 +18,7 @@ ghost use Rattle.arena_core.specs.Call.{IsReady, IsStepOf, IsStepOfAny, IsFormat
 ghost use Rattle.arena_core.specs.Events.{call_events, line_after, format_events};
 ghost use Rattle.arena_core.specs.Payload.{payload_events, IsWriteStep, IsWrittenBy, IsEitherWords, IsViewOf};
 
-use crate::adopting::{read_image, read_lives};
+use crate::adopting::{read_image, read_lives, take_front};
 use crate::formatting::write_header;
 use crate::moving::plan_move;
 use crate::payload::{block_of, carry_out_write, plan_write};
@@ -28,15 +29,16 @@ use crate::{
 };
 use heap_model::Block;
 use pmem_lines::Pmem;
-use pool_layout::PoolHeader;
+use pool_layout::{PoolHeader, layout_of};
 use std::marker::Model;
 
 /// The version of the layout in which an arena is formatted.
 const VERSION: u32 = 1;
 
-/// An arena over a memory of 16 to 1024 granules of 16384 bytes: 4096 roots, of which each names a block or none. A small
-/// block, of at most 16384 bytes, is one of a slab of its size class; a large one is whole granules. In contracts it is
-/// what its memory means, the write-ahead line that the next entry goes to, and the stacks of reserved blocks.
+/// An arena over a memory of granules of 16384 bytes, with roots of which each names a block or none; how many it may have
+/// of both, its version says. A small block, of at most 16384 bytes, is one of a slab of its size class; a large one is
+/// whole granules. In contracts it is what its memory means, the write-ahead line that the next entry goes to, and the
+/// stacks of reserved blocks.
 #[derive(Drop)]
 pub struct Arena<P: Pmem> {
     device: P,
@@ -54,12 +56,13 @@ impl<P: Pmem> Model for Arena<P> {
 }
 
 impl<P: Pmem> Arena<P> {
-    /// Makes an arena anew over a memory of zeros, as number `number` of a pool of `arenas`: at most 16. It begins one
-    /// call, and has five events. Afterwards no root names a block. After a crash within it the image is refused for its
+    /// Makes an arena of version 1 anew over a memory of zeros, as number `number` of a pool of `arenas`: at most 16. It
+    /// has at most the granules of that version, and the memory has its room. It begins one call, and has five events. Afterwards no root names a block. After a crash within it the image is refused for its
     /// first word, or it is exact and has no block. It takes no memory.
     pub fn format(room: ArenaRoom, mut device: P, number: u32, arenas: u32) -> Arena<P>
         requires quiet { IsQuiet (P.state device).events }
-        requires room { 2048 ≤ (P.state device).room }
+        requires room { (layout_of 1).room ≤ (P.state device).room }
+        requires most { room ≤ (layout_of 1).most_granules }
         requires size { length (words_of (P.state device)) ≡ 2048 * room }
         requires zero { AreZeros (words_of (P.state device)) }
         requires number { number < arenas }
@@ -79,17 +82,18 @@ impl<P: Pmem> Arena<P> {
             arenas,
             granules: volatile.log.granules(),
         };
+        take_front(&mut volatile.free, layout_of(VERSION).first_granule);
         device.begin();
         write_header(&mut device, &header);
         volatile.log.load(&device);
         Arena { device, volatile }
     }
 
-    /// Makes an arena over a memory whose image is exact; `room` is for as many granules as the image has. It begins no call
-    /// and has no event, and the heap is that of the image. It takes no memory.
+    /// Makes an arena over a memory whose image is exact; `room` is for as many granules as the image has, and the memory has
+    /// the room of its version. It begins no call and has no event, and the heap is that of the image. It takes no memory.
     pub fn adopt(room: ArenaRoom, device: P) -> Arena<P>
         requires quiet { IsQuiet (P.state device).events }
-        requires room { 2048 ≤ (P.state device).room }
+        requires room { (layout_of (version_in (words_of (P.state device)))).room ≤ (P.state device).room }
         requires exact { IsExactImage (words_of (P.state device)) }
         requires size { granules_in (words_of (P.state device)) ≡ room }
         ensures device { result.device ≡ P.state device }

@@ -1,8 +1,8 @@
 // What a call does, once it has begun: it changes the words and what stands beside them together.
 ghost use Rattle.std.specs.Prelude.{◌≡◌, ◌<◌, ◌≤◌, ◌*◌, ℕ, true, [], ◌++◌, Some, None, Ok, length};
-ghost use Rattle.pmem_lines.specs.Events.{reading};
+ghost use Rattle.pmem_lines.specs.Events.{reading, IsQuiet};
 ghost use Rattle.pmem_lines.specs.Steps.{IsQuietStep};
-ghost use Rattle.pmem_lines.specs.Pmem.{words_of};
+ghost use Rattle.pmem_lines.specs.Pmem.{words_of, HasRoom};
 ghost use Rattle.image_tables.specs.Tables.{tables_of};
 ghost use Rattle.heap_model.specs.declared.call.Call.TheVariants as calls;
 ghost use Rattle.heap_model.specs.declared.call.Reply.TheVariants as replies;
@@ -20,7 +20,6 @@ ghost use Rattle.extent_steps.specs.Slabs.{open_events, IsOpened};
 ghost use Rattle.attach_steps.specs.Steps.{attach_events, detach_events, detach_old_events, IsAttachable, IsDetachable, IsOldDetachable, IsAttached};
 ghost use Rattle.arena_core.specs.Answer.{malloc_reply, free_reply};
 ghost use Rattle.arena_core.specs.Arena.{IsIndexOf, IsSlabsOf, AreSlabsLess, AreSlabsBut, AreLivesOf, IsCurrent, IsArena};
-ghost use Rattle.arena_core.specs.Call.{IsReady};
 ghost use Rattle.arena_core.specs.Carried.{IsDone, IsUntidy, IsTaken, IsTidied, IsCalled};
 ghost use Rattle.arena_core.specs.Effect.{IsLastOf, slabs_but, stacks_but, IsPutBack, IsSuppliedFresh, IsSuppliedMorph};
 ghost use Rattle.arena_core.specs.Events.{place_events, take_events, fresh_events, morphed_events, unsmall_events, tidy_events, holds_none};
@@ -170,8 +169,8 @@ impl Volatile {
 
     // Gives a block of a slab to a root, which was taken out of the supply.
     fn give_small<P: Pmem>(&mut self, device: &mut P, root: u32, block: SmallBlock)
-        requires ready { IsReady (P.state device.old) }
-        requires few { length (P.state device.old).events ≤ 757 }
+        requires quiet { IsQuiet (P.state device.old).events }
+        requires room { HasRoom (P.state device.old) 11 }
         requires line { self.old.line < 8 }
         requires attachable { IsAttachable (words_of (P.state device.old)) root block }
         requires slabs { AreSlabsLess self.old.supply (words_of (P.state device.old)) block.start block.number }
@@ -195,7 +194,7 @@ impl Volatile {
         requires slabs { IsSlabsOf self.old.supply (words_of (P.state device.old)) }
         requires lives { AreLivesOf self.old.lives (words_of (P.state device.old)) }
         ensures step { IsQuietStep (P.state device.old) (P.state device.new) (open_events (words_of (P.state device.old)) start class) (IsEitherHeap (words_of (P.state device.old)) (words_of (P.state device.new))) }
-        ensures few { length (P.state device.new).events ≤ 757 }
+        ensures room { HasRoom (P.state device.new) 11 }
         ensures opened { IsOpened (words_of (P.state device.old)) start class (words_of (P.state device.new)) }
         ensures book { IsBookOf self.new.log (words_of (P.state device.new)) }
         ensures index { IsIndexOf self.new.free (words_of (P.state device.new)) }
@@ -217,7 +216,7 @@ impl Volatile {
         requires morphable { IsMorphable (tables_of (words_of (P.state device.old))) start class }
         requires class { class < 36 }
         ensures step { IsQuietStep (P.state device.old) (P.state device.new) (morph_events (tables_of (words_of (P.state device.old))) start class) (LeavesClosed (words_of (P.state device.old))) }
-        ensures few { length (P.state device.new).events ≤ 757 }
+        ensures room { HasRoom (P.state device.new) 11 }
         ensures taken { IsOfClass (words_of (P.state device.old)) start class (words_of (P.state device.new)) }
         ensures current { IsCurrent (P.state device.new) self.new }
         ensures slabs { IsSlabsOf self.new.supply (words_of (P.state device.new)) }

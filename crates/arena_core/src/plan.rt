@@ -133,7 +133,7 @@ fn large_place(free: &ExtentIndex, granules: u32) -> Option<Place>
 
 /// The block on so many granules, from one on.
 pub(crate) fn placed_large(start: u32, granules: u32) -> Placed
-    requires { start + granules ≤ 1024 }
+    requires { start + granules < 2 ^ 16 }
     ensures { result ≡ record { at = 16384 * start; size = 16384 * granules } }
 {
     Placed {
@@ -228,7 +228,7 @@ fn held_in<P: Pmem>(device: &P, slab: SlabAt, at: u32) -> Held
 
 /// The block that is held.
 pub(crate) fn freed_of(held: Held) -> Freed
-    requires { (b : Bounds) × (t : Tables) × (root : ℕ) × IsHeldBy b t root held × (b.granules ≤ 1024) }
+    requires { (b : Bounds) × (t : Tables) × (root : ℕ) × IsHeldBy b t root held × (b.granules < 2 ^ 16) }
     ensures { (result.at ≡ (range_held held).at) × (result.size ≡ (range_held held).size) }
 {
     match held {

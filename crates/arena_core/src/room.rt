@@ -29,10 +29,10 @@ impl Model for ArenaRoom {
 }
 
 impl ArenaRoom {
-    /// Room for an arena of 16 to 1024 granules.
+    /// Room for an arena of 16 to 4096 granules.
     pub fn new(alloc: Global, granules: u32) -> Result<ArenaRoom, OutOfMemory>
         requires least { 16 ≤ granules }
-        requires most { granules ≤ 1024 }
+        requires most { granules ≤ 4096 }
         ensures { IfOk result (λ room. room ≡ granules) }
     {
         let log = BookLog::new(alloc, granules)?;

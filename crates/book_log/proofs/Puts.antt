@@ -21,7 +21,7 @@ use Rattle.book_log.proofs.Places.{of_last, last_chunk-few, entry_word-within, w
 use Rattle.book_log.proofs.Appending.{IsAppend, front_of, log_word-some, extent_at-entry, log_appended}
 
 -- an entry in the heap of a small arena fits the word
-pub fits_in_heap : (first granules : ℕ) (entry : LogEntry) → granules ≤ 1024 → IsInHeap first granules entry → FitsWord entry
+pub fits_in_heap : (first granules : ℕ) (entry : LogEntry) → granules ≤ 4096 → IsInHeap first granules entry → FitsWord entry
 fits_in_heap first granules (Large start size) small valid = (omega (arith, valid.1, valid.2), omega (arith, valid.1, valid.2))
 fits_in_heap first granules (Slab start) small valid = omega (arith, valid.1)
 fits_in_heap first granules (Tomb start) small valid = omega (arith, valid.1)

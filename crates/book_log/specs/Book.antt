@@ -29,10 +29,10 @@ pub record Book : Type 0 where
 abbrev pub live_at : Book → ℕ → Option Extent
 live_at book start = extent_in book.live start
 
--- an arena has so many granules
+-- an arena of some version has so many granules
 pub record IsArenaSize (granules : ℕ) : Type 0 where
   pub least : 16 ≤ granules
-  pub most : granules ≤ 1024
+  pub most : granules ≤ 4096
 
 -- nothing is live, and there is no room
 pub record IsBlank (granules : ℕ) (book : Book) : Type 0 where
@@ -102,7 +102,7 @@ append_events book words entry = word_events (8 * next_word book words) (log_wor
 
 -- an entry may go to this place of the log
 pub record CanTake (granules : ℕ) (words : List ℕ) (place : EntryPlace) (entry : LogEntry) : Type 0 where
-  pub small : granules ≤ 1024
+  pub small : granules ≤ 4096
   pub log : HasLog granules words
   pub inside : AreWithin words
   pub next : IsNextOf words (Some place)

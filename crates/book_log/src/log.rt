@@ -43,18 +43,18 @@ impl Model for BookLog {
 }
 
 impl BookLog {
-    /// A log for an arena of 16 to 1024 granules: until `load` it has no live extent and no room. It takes all the
+    /// A log for an arena of 16 to 4096 granules: until `load` it has no live extent and no room. It takes all the
     /// memory that it will need.
     pub fn new(alloc: Global, granules: u32) -> Result<BookLog, OutOfMemory>
         requires least { 16 ≤ granules }
-        requires most { granules ≤ 1024 }
+        requires most { granules ≤ 4096 }
         ensures { IfOk result (IsBlank granules) }
     {
         let live = no_extents(alloc, granules)?;
         Ok(BookLog { live, next: None })
     }
 
-    /// How many granules the arena has: 16 to 1024.
+    /// How many granules the arena has: 16 to 4096.
     pub fn granules(&self) -> u32
         ensures granules { result ≡ self.now.granules }
         ensures size { IsArenaSize result }

@@ -5,6 +5,7 @@ use Rattle.image_tables.specs.Tables.{Tables, is_slab, state_field, tables_of}
 use Rattle.image_tables.proofs.Tables.{slab_table, kind_table, index_count_table, root_table-past}
 use Rattle.pool_layout.specs.Layout.{layout_of}
 use Rattle.pool_layout.specs.Header.{version_in}
+use Rattle.pool_layout.proofs.Layouts.{layout_rules}
 use Rattle.heap_check.specs.Sound.{IsLooseLarge, IsEmptySlab, IsMorphing, IsDoneSlab}
 use Rattle.defect_search.specs.Arena.{IsArena}
 use Rattle.defect_search.specs.Roots.{mark_in, IsNamedStart, IsNamedGranule, AreMarks}
@@ -101,8 +102,9 @@ done_by words start dead is kind clear = (
 )
 
 pub roots_inside : (words : List ℕ) → IsArena words → 2048 + (layout_of (version_in words)).roots ≤ length words
-unfolding layout_of
-roots_inside words arena = omega (arith, arena.size, arena.granules.least)
+roots_inside words arena =
+    let rules = layout_rules (version_in words) in
+    omega (arith, arena.size, arena.least, rules.roots, rules.heap, rules.some_granule)
 
 pub kind_by : (words : List ℕ) (start kind field : ℕ) → is_slab words start ≡ true → field ≡ state_field words start 0 → (IsTrue (eqb field kind) ↔ ((is_slab words start ≡ true) × ((tables_of words).kind start ≡ kind)))
 kind_by words start kind field slab is = (

@@ -4,7 +4,7 @@ use Rattle.std.proofs.lemmas.Bool.{cases_eq, cases_lt, cond-true, cond-false, eq
 use Rattle.pmem_lines.specs.Words.{word_at}
 use Rattle.pool_layout.specs.Layout.{layout_of}
 use Rattle.pool_layout.specs.Places.{fields_word, granule_word, log_word, heap_word}
-use Rattle.pool_layout.specs.Header.{version_in, granules_in}
+use Rattle.pool_layout.specs.Header.{version_field, version_in, granules_in}
 use Rattle.image_tables.specs.declared.extent.Extent.TheVariants as extent
 use Rattle.image_tables.specs.Extents.{extent_at}
 use Rattle.image_tables.specs.Tables.{Tables, AreSlabsInHeap, is_slab_of, is_slab, state_word, bitmap_word, state_field, tables_of}
@@ -85,6 +85,10 @@ module _ (words : List ℕ) (start class : ℕ) (may : IsOpenable words start) (
 
     same_fields : word_at image fields_word ≡ word_at words fields_word
     same_fields = keeps.others fields_word (inl (omega (arith, in_heap, (sizes_of words formed).first)))
+
+    -- so the numbers are those of the same version
+    pub made_version : version_in image ≡ version_in words
+    made_version = ap version_field same_fields
 
     pub made_same : IsSame words start image
     made_same = record {

@@ -3,6 +3,8 @@ ghost use Rattle.std.specs.Prelude.{◌≡◌, ◌<◌, ◌≤◌, ◌+◌, ◌*
 ghost use Rattle.pmem_lines.specs.Events.{IsQuiet};
 ghost use Rattle.pmem_lines.specs.Steps.{IsQuietStep};
 ghost use Rattle.pmem_lines.specs.Pmem.{words_of, HasRoom};
+ghost use Rattle.pool_layout.specs.Layout.{layout_of};
+ghost use Rattle.pool_layout.specs.Header.{version_in};
 ghost use Rattle.slab_header.specs.Steps.{make_events, KeepsOutside, IsMade};
 ghost use Rattle.log_steps.specs.Log.{IsBookOf};
 ghost use Rattle.heap_check.specs.State.{IsEitherHeap};
@@ -15,16 +17,16 @@ use pool_layout::granule_at;
 use slab_header::make_slab;
 
 /// Makes a slab of a class, below 36, on the four granules from `start` on, which are vacant, and puts its extent into the
-/// log, behind the events that make room for it there: at most 757 events. No block of it is given out. The heap stays as
-/// it is, also after a crash within it, and every block keeps its words.
+/// log, behind the events that make room for it there: at most the `slab_events` of the version. No block of it is given
+/// out. The heap stays as it is, also after a crash within it, and every block keeps its words.
 pub fn open_slab<P: Pmem>(p: &mut P, log: &mut BookLog, start: u32, class: u8)
     requires openable { IsOpenable (words_of (P.state p.old)) start }
     requires class { class < 36 }
     requires book { IsBookOf log.old (words_of (P.state p.old)) }
     requires quiet { IsQuiet (P.state p.old).events }
-    requires room { HasRoom (P.state p.old) 757 }
+    requires room { HasRoom (P.state p.old) (layout_of (version_in (words_of (P.state p.old)))).slab_events }
     ensures step { IsQuietStep (P.state p.old) (P.state p.new) (open_events (words_of (P.state p.old)) start class) (IsEitherHeap (words_of (P.state p.old)) (words_of (P.state p.new))) }
-    ensures few { length (P.state p.new).events ≤ length (P.state p.old).events + 757 }
+    ensures few { length (P.state p.new).events ≤ length (P.state p.old).events + (layout_of (version_in (words_of (P.state p.old)))).slab_events }
     ensures opened { IsOpened (words_of (P.state p.old)) start class (words_of (P.state p.new)) }
     ensures book { IsBookOf log.new (words_of (P.state p.new)) }
 {
@@ -47,15 +49,16 @@ fn make_header<P: Pmem>(p: &mut P, start: u32, class: u8)
 }
 
 /// Drops the slab that begins at `start`, in which no root's block lies: puts a Tomb for its extent into the log, behind
-/// the events that make room for it there, at most 682 events. No entry is open. Its granules are vacant then. The heap
-/// stays as it is, also after a crash within it, every block keeps its words, and nothing else comes to be loose.
+/// the events that make room for it there, at most the `entry_events` of the version. No entry is open. Its granules are
+/// vacant then. The heap stays as it is, also after a crash within it, every block keeps its words, and nothing else comes
+/// to be loose.
 pub fn drop_slab<P: Pmem>(p: &mut P, log: &mut BookLog, start: u32)
     requires droppable { IsDroppable (words_of (P.state p.old)) start }
     requires book { IsBookOf log.old (words_of (P.state p.old)) }
     requires quiet { IsQuiet (P.state p.old).events }
-    requires room { HasRoom (P.state p.old) 682 }
+    requires room { HasRoom (P.state p.old) (layout_of (version_in (words_of (P.state p.old)))).entry_events }
     ensures step { IsQuietStep (P.state p.old) (P.state p.new) (drop_events (words_of (P.state p.old)) start) (IsEitherHeap (words_of (P.state p.old)) (words_of (P.state p.new))) }
-    ensures few { length (P.state p.new).events ≤ length (P.state p.old).events + 682 }
+    ensures few { length (P.state p.new).events ≤ length (P.state p.old).events + (layout_of (version_in (words_of (P.state p.old)))).entry_events }
     ensures dropped { IsDropped (words_of (P.state p.old)) start (words_of (P.state p.new)) }
     ensures book { IsBookOf log.new (words_of (P.state p.new)) }
 {

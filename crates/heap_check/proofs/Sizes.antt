@@ -1,8 +1,10 @@
 -- The numbers of an arena of well-formed words, and where its words lie.
-use Rattle.std.proofs.Common.{◌≡◌, ◌*◌, ◌<◌, ◌≤◌, ℕ, List, length, refl, arith}
+use Rattle.std.proofs.Common.{◌≡◌, ◌*◌, ◌<◌, ◌≤◌, ℕ, List, length, refl, ap, arith}
 use Rattle.pool_layout.specs.Layout.{layout_of}
+use Rattle.pool_layout.proofs.Layouts.{version_by_roots}
 use Rattle.pool_layout.specs.Places.{root_word, heap_word}
 use Rattle.pool_layout.specs.Header.{version_in, granules_in}
+use Rattle.heap_model.specs.Machine.{Bounds}
 use Rattle.heap_check.specs.Image.{bounds_of, IsFormed}
 
 -- how many roots and granules there are, where the heap begins, and how many words
@@ -16,6 +18,11 @@ pub record HasSizes (words : List ℕ) : Type 0 where
 pub sizes_of : (words : List ℕ) → IsFormed words → HasSizes words
 unfolding layout_of
 sizes_of words formed = record { roots = refl; first = refl; least = formed.header.valid.least; most = formed.header.valid.greatest; size = formed.size }
+
+-- well-formed words with the same numbers have one version
+pub version_by_bounds : (words new : List ℕ) → IsFormed words → IsFormed new → bounds_of new ≡ bounds_of words → version_in new ≡ version_in words
+version_by_bounds words new formed formed_new same =
+    version_by_roots (version_in new) (version_in words) formed_new.header.valid.version formed.header.valid.version (ap (λ (b : Bounds). b.roots) same)
 
 -- the heap begins inside
 pub heap_inside : (words : List ℕ) → IsFormed words → heap_word (version_in words) ≤ length words

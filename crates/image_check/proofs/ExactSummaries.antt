@@ -2,6 +2,7 @@
 use Rattle.std.proofs.Common.{Option, None, Some, ◌≡◌, ◌≢◌, ℕ, ◌*◌, ◌<◌, Bool, true, false, eqb, List, refl, sym, ap, ◌∙◌, arith, ⊎_elim}
 use Rattle.std.proofs.lemmas.Bool.{cases_eq, cond-true, eq-eqb}
 use Rattle.pool_layout.specs.Layout.{layout_of}
+use Rattle.pool_layout.proofs.Layouts.{layout_rules}
 use Rattle.pool_layout.specs.Header.{version_in, granules_in}
 use Rattle.image_tables.specs.declared.entry.WalEntry.{WalEntry}
 use Rattle.image_tables.specs.Tables.{tables_of}
@@ -23,8 +24,7 @@ some_count : (e : Option WalEntry) → e ≡ None → entry_count e ≡ 0
 some_count e none = ap entry_count none
 
 first_some : (version : ℕ) → 0 < (layout_of version).first_granule
-unfolding layout_of
-first_some version = omega arith
+first_some version = omega (arith, (layout_rules version).first)
 
 module _ {words : List ℕ} {summary : Summary} (sound : IsSoundImage words) (is : IsSummary words summary) where
   slab_start : (start : ℕ) → (tables_of words).slab start ≡ true → (0 < start) × (start < granules_in words)

@@ -2,6 +2,7 @@
 use Rattle.std.proofs.Common.{◌≡◌, ℕ, ◌+◌, ◌^◌, ◌<◌, ◌≤◌, Bool, true, false, List, length, refl, sym, ap, subst, ◌∙◌, arith}
 use Rattle.pool_layout.specs.declared.header.PoolHeader.{PoolHeader}
 use Rattle.pool_layout.specs.Layout.{layout_of}
+use Rattle.pool_layout.proofs.Layouts.{layout_rules}
 use Rattle.pool_layout.specs.Places.{heap_word}
 use Rattle.pool_layout.specs.Header.{version_in, granules_in, fields_of, IsHeader}
 use Rattle.pool_layout.proofs.Headers.{fields_of-header_word, header_fits}
@@ -31,17 +32,18 @@ header_same words header is = sym (fields_of-header_word header (header_fits hea
     fields_in word = fields_of word
 
 pub size_of : (words : List ℕ) → IsHeader words (header_in words) → IsArenaSize (granules_in words)
-unfolding layout_of
-size_of words header = record { least = header.valid.least; most = header.valid.greatest }
+size_of words header =
+    let rules = layout_rules (version_in words) in
+    record { least = omega (arith, header.valid.least, rules.least); most = omega (arith, header.valid.greatest, rules.most) }
 
 -- roots and the log lie among the words
 pub roots_inside : (words : List ℕ) → IsHeader words (header_in words) → HasLength words → 2048 + (layout_of (version_in words)).roots ≤ length words
-unfolding layout_of
-roots_inside words header size = omega (arith, size, header.valid.least)
+roots_inside words header size =
+    let rules = layout_rules (version_in words) in
+    omega (arith, size, header.valid.least, rules.roots, rules.heap, rules.some_granule)
 
 heap_inside : (words : List ℕ) → IsHeader words (header_in words) → HasLength words → heap_word (version_in words) ≤ length words
-unfolding layout_of
-heap_inside words header size = omega (arith, size, header.valid.least)
+heap_inside words header size = omega (arith, size, header.valid.least, (layout_rules (version_in words)).some_granule)
 
 pub log_inside : (words : List ℕ) → IsHeader words (header_in words) → HasLength words → AreWithin words
 log_inside words header size = within_heap words (heap_inside words header size)
@@ -56,7 +58,7 @@ log_read book words reads same = subst (λ n. HasLog n words) same reads.log
 
 pub extents_of : (words : List ℕ) → IsHeader words (header_in words) → HasLog (granules_in words) words → HasExtents words
 extents_of words header log = record {
-  few = (size_of words header).most;
+  few = header.valid.greatest;
   inside = λ start some. (extents_lie words log start some).1;
 }
 
@@ -68,44 +70,40 @@ slabs_inside words size extents = record {
   at = λ start slab.
       let four = four_granules words start slab in
       let lies = extents.inside start (omega (arith, four)) in
-      record { slab = slab; inside = omega (arith, lies, four, size); small = omega (arith, lies, four, extents.few) };
+      record { slab = slab; inside = omega (arith, lies, four, size); small = omega (arith, lies, four, extents.few, (layout_rules (version_in words)).most) };
   below = λ start slab. let four = four_granules words start slab in omega (arith, four, extents.inside start (omega (arith, four)));
 }
 
 pub slabs_at : (words : List ℕ) → AreSlabsInside words → AreGoodSlabs words → AreSlabsAt words
 slabs_at words inside good = record { at = inside.at; good = good }
 
-first_is : (version : ℕ) → (layout_of version).first_granule ≡ 4
-unfolding layout_of
-first_is version = refl
-
-large_lies : (words : List ℕ) → HasLog (granules_in words) words → (start : ℕ) → 0 < (tables_of words).large start → (4 ≤ start) × (start + (tables_of words).large start ≤ granules_in words)
+large_lies : (words : List ℕ) → HasLog (granules_in words) words → (start : ℕ) → 0 < (tables_of words).large start → ((layout_of (version_in words)).first_granule ≤ start) × (start + (tables_of words).large start ≤ granules_in words)
 large_lies words log start some = by (t.slab start) refl
   where
     t : Tables
     t = tables_of words
 
-    by : (slab : Bool) → t.slab start ≡ slab → (4 ≤ start) × (start + t.large start ≤ granules_in words)
+    by : (slab : Bool) → t.slab start ≡ slab → ((layout_of (version_in words)).first_granule ≤ start) × (start + t.large start ≤ granules_in words)
     by true slab = absurd (omega (arith, some, large_table words start, one_kind_of (extent_at words start) (sym (slab_table words start) ∙ slab)))
     by false none =
         let is = granules_at-large t start none in
         let lies = extents_lie words log start (omega (arith, is, some)) in
-        (omega (arith, lies.0, first_is (version_in words)), omega (arith, lies.1, is))
+        (lies.0, omega (arith, lies.1, is))
 
 pub arena_of : (words : List ℕ) → IsHeader words (header_in words) → HasLength words → HasLog (granules_in words) words → AreGoodSlabs words → IsArena words
 arena_of words header size log good = record {
   version = header.valid.version;
   granules = size_of words header;
+  least = header.valid.least;
   size = size;
   large = large_lies words log;
   slab = λ start slab.
       let four = four_granules words start slab in
       let lies = extents_lie words log start (omega (arith, four)) in
-      (omega (arith, lies.0, first_is (version_in words)), omega (arith, lies.1, four));
+      (lies.0, omega (arith, lies.1, four));
   entries = λ start slab. subst (λ n. n ≤ 64) (index_count_table words start) (index_count_few (good start slab).slab);
 }
 
 -- numbers of a chunk's entries fit their type
 pub entries_small : (version entry : ℕ) → entry < (layout_of version).chunk_entries → entry < 2 ^ 16
-unfolding layout_of
-entries_small version entry below = omega (arith, below)
+entries_small version entry below = omega (arith, below, (layout_rules version).few_entries)

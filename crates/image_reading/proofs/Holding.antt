@@ -16,6 +16,8 @@ use Rattle.image_reading.specs.declared.slab.Slab.{Slab}
 use Rattle.image_reading.specs.Slabs.{IsSlabAt, IsRead}
 use Rattle.image_defects.specs.Headers.{IsGoodSlab}
 use Rattle.image_reading.specs.Held.{IsHeldBy, HasBitAt, HasOldAt, IsNumberAt, HasNoNumber, HasBack, AreSlabsAt}
+use Rattle.pool_layout.specs.Header.{version_in, granules_in}
+use Rattle.pool_layout.proofs.Layouts.{layout_rules}
 use Rattle.image_reading.specs.Extents.{HasExtents}
 use Rattle.heap_check.proofs.Geometry.{is_large-parts, granules_at-slab, granules_at-large}
 use Rattle.image_defects.proofs.SlabDefects.{has_state}
@@ -170,9 +172,10 @@ large_far words at extents far = sym (false_from_ne_true (is_large (tables_of wo
     let t = tables_of words in
     let start = at / 16384 in
     let some : 0 < t.large start = (is_large-parts t.large at is).1 in
+    let few : granules_in words ≤ 4096 = omega (arith, extents.few, (layout_rules (version_in words)).most) in
     let by : (slab : Bool) → t.slab start ≡ slab → ⊥ = λ slab. elim slab as (λ slab. t.slab start ≡ slab → ⊥) [
-      | true ↦ λ e. omega (arith, far, extents.few, granules_at-slab t start e, extents.inside start (omega (arith, granules_at-slab t start e)))
-      | false ↦ λ e. omega (arith, far, some, extents.few, granules_at-large t start e, extents.inside start (omega (arith, some, granules_at-large t start e)))
+      | true ↦ λ e. omega (arith, far, few, granules_at-slab t start e, extents.inside start (omega (arith, granules_at-slab t start e)))
+      | false ↦ λ e. omega (arith, far, some, few, granules_at-large t start e, extents.inside start (omega (arith, some, granules_at-large t start e)))
     ] in
     by (t.slab start) refl))
 

@@ -9,7 +9,7 @@ ghost use Rattle.image_defects.specs.Defects.{IsFirstDefect};
 ghost use Rattle.trace_runs.specs.Blocks.{blocks_of};
 ghost use Rattle.heap_check.specs.Image.{IsSoundImage};
 ghost use Rattle.recover.specs.Faults.{IfDefect};
-ghost use Rattle.recover.specs.Recovered.{IsRecovered};
+ghost use Rattle.recover.specs.Recovered.{HasVersionRoom, IsRecovered};
 ghost use Rattle.image_runs.specs.Checks.{IsOwnDefect};
 ghost use Rattle.image_runs.specs.Recoveries.{fault_at, heap_lines};
 
@@ -29,10 +29,11 @@ pub struct Recovered<P: Pmem + Drop> {
 }
 
 /// Recovers an arena from its device, and gives the blocks that the device's words had before. The device is quiet and has
-/// room for 2048 events. `Defect` comes exactly where its image is not sound, and yields to want of memory.
+/// the room of its version, where its header line is good. `Defect` comes exactly where its image is not sound, and yields
+/// to want of memory.
 pub fn recover_heap<P: Pmem + Drop>(alloc: Global, device: P) -> Result<Recovered<P>, RecoverFault>
     requires quiet { IsQuiet (P.state device).events }
-    requires room { 2048 ≤ (P.state device).room }
+    requires room { HasVersionRoom (P.state device) }
     ensures sound { OnOk result (IsSoundImage (words_of (P.state device))) }
     ensures recovered { IfOk result (λ done. IsRecovered (P.state device) (P.state done.device)) }
     ensures heap { IfOk result (λ done. done.blocks.items ≡ blocks_of (heap (tables_of (words_of (P.state device))))) }
@@ -52,8 +53,8 @@ pub fn recover_heap<P: Pmem + Drop>(alloc: Global, device: P) -> Result<Recovere
 }
 
 /// Recovers the arena of this number from its device, and writes its heap behind what stands in `text`: how many blocks, and
-/// each of them, as the device's words had them before. The device is quiet and has room for 2048 events. `Defect` comes
-/// exactly where its image is not sound, and yields to want of memory.
+/// each of them, as the device's words had them before. The device is quiet and has the room of its version, where its
+/// header line is good. `Defect` comes exactly where its image is not sound, and yields to want of memory.
 pub fn recover_arena<P: Pmem + Drop>(
     alloc: Global,
     device: P,
@@ -61,7 +62,7 @@ pub fn recover_arena<P: Pmem + Drop>(
     text: &mut Vec<u8>,
 ) -> Result<P, ImageFault>
     requires quiet { IsQuiet (P.state device).events }
-    requires room { 2048 ≤ (P.state device).room }
+    requires room { HasVersionRoom (P.state device) }
     ensures sound { OnOk result (IsSoundImage (words_of (P.state device))) }
     ensures recovered { IfOk result (λ exact. IsRecovered (P.state device) (P.state exact)) }
     ensures text { OnOk result (text.new.items ≡ text.old.items ++ heap_lines arena (words_of (P.state device))) }

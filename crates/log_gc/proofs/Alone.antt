@@ -4,7 +4,9 @@ use Rattle.std.proofs.Common.{◌≡◌, ◌≢◌, ◌+◌, ◌*◌, ◌<◌, �
 use Rattle.std.specs.List.{All}
 use Rattle.std.proofs.lemmas.Bool.{cases_eq, cases_lt}
 use Rattle.std.proofs.lemmas.List.Elements.{All-nil, All-cons, All-append}
+use Rattle.std.proofs.lemmas.Nat.{div_below}
 use Rattle.pool_layout.specs.Layout.{layout_of}
+use Rattle.pool_layout.proofs.Layouts.{layout_rules}
 use Rattle.image_tables.specs.declared.extent.Extent.{Extent}
 use Rattle.image_tables.specs.declared.extent.Extent.TheVariants as kinds
 use Rattle.image_tables.specs.Extents.{extent_behind}
@@ -166,6 +168,8 @@ words_few first granules extents start (suc (suc n)) live apart ends =
     (cases_some (extents start))
 
 -- so that a rewrite needs few chunks, of any row of the table
-pub rewrite_few : (version entries : ℕ) → 2 * entries ≤ 1024 → chunks_for version entries ≤ 5
-unfolding layout_of
-rewrite_few version entries few = omega arith
+pub rewrite_few : (version entries : ℕ) → 2 * entries ≤ (layout_of version).most_granules → chunks_for version entries ≤ 5
+rewrite_few version entries few =
+    let row = layout_of version in
+    let rules = layout_rules version in
+    omega (arith, div_below entries row.chunk_entries 5 rules.some_entry (omega (arith, few, rules.few_chunks)))

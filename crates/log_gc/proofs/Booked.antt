@@ -7,7 +7,9 @@ use Rattle.pmem_lines.specs.Events.{IsQuiet}
 use Rattle.pmem_lines.specs.Steps.{IsQuietStep}
 use Rattle.pmem_lines.proofs.States.{appended_none, Appends-state}
 use Rattle.pmem_lines.proofs.Steps.{step_by, step_none}
+use Rattle.std.proofs.lemmas.Nat.{mul-le}
 use Rattle.pool_layout.specs.Layout.{layout_of}
+use Rattle.pool_layout.proofs.Layouts.{layout_rules}
 use Rattle.pool_layout.specs.Places.{heap_word}
 use Rattle.pool_layout.specs.Header.{version_in}
 use Rattle.image_tables.specs.Extents.{extent_at}
@@ -17,7 +19,7 @@ use Rattle.log_gc.specs.declared.room.Rolled.TheVariants as rolled
 use Rattle.log_gc.specs.Chunks.{has_space, spare_chunks}
 use Rattle.book_log.specs.Live.{AreDisjoint, AreLive, live_words}
 use Rattle.log_gc.specs.Needless.{is_needless}
-use Rattle.log_gc.specs.Copies.{switch_count}
+use Rattle.log_gc.specs.Copies.{fill_count, switch_count}
 use Rattle.log_gc.specs.Room.{live_log, chunks_for, kept_chunks, way_of, room_events, KeepsLog}
 use Rattle.log_gc.proofs.Choices.{length-spare, length-without_one}
 use Rattle.book_log.proofs.LiveExtents.{live_extents}
@@ -27,10 +29,10 @@ use Rattle.log_gc.proofs.Ways.{IsArenaLog, first_passes, rewrite_most}
 use Rattle.log_gc.proofs.Making.{IsRoll, roll_is, rewrite_is, events_of, free_space, way_nothing}
 
 -- what the book says is live is in the heap
-pub book_live : (book : Book) (words : List ℕ) → book.granules ≤ 1024 → Reads book words → AreLive 0 book.granules (live_at book)
+pub book_live : (book : Book) (words : List ℕ) → book.granules ≤ (layout_of (version_in words)).most_granules → Reads book words → AreLive 0 book.granules (live_at book)
 book_live book words few reads = record {
   each = λ start x is.
-      let live = (live_extents book.granules words (chunks_of words) (omega arith) reads.log).each start x (sym (reads.live start) ∙ is) in
+      let live = (live_extents book.granules words (chunks_of words) (omega (arith, few, (layout_rules (version_in words)).most)) reads.log).each start x (sym (reads.live start) ∙ is) in
       record { low = omega arith; some = live.some; high = live.high; fits = live.fits };
 }
 
@@ -97,15 +99,20 @@ no_space granules words log none = ⊎_elim
     (λ full. full)
     (cases_Bool (has_space (version_in words) words (chunks_of words)))
 
--- how many events make room at most: those of a rewrite into five chunks
-pub room_most : (granules : ℕ) (words : List ℕ) → HasLog granules words → heap_word (version_in words) ≤ length words → granules ≤ 1024 → AreDisjoint (extent_at words) → length (room_events granules words) ≤ 679
-unfolding layout_of
+-- how many events so many chunks take at most
+count_most : (version chunks : ℕ) → chunks ≤ 5 → switch_count version chunks + 3 ≤ (layout_of version).entry_events
+count_most version chunks few = omega (arith, (layout_rules version).entry, mul-le (fill_count version) chunks (fill_count version) 5 (omega arith) few)
+
+-- how many events make room at most, and add an entry
+pub room_most : (granules : ℕ) (words : List ℕ) → HasLog granules words → heap_word (version_in words) ≤ length words → granules ≤ (layout_of (version_in words)).most_granules → AreDisjoint (extent_at words) →
+    length (room_events granules words) + 3 ≤ (layout_of (version_in words)).entry_events
 room_most granules words log inside few disjoint = by_way (way_of granules words) refl
   where
     arena : IsArenaLog granules words (chunks_of words)
     arena = record { log = log; inside = inside; few = few }
 
-    by_way : (way : Rolled) → way_of granules words ≡ way → length (room_events granules words) ≤ 679
-    by_way rolled.Nothing is = omega (arith, ap length (events_of granules words rolled.Nothing is))
-    by_way (rolled.Rolled dropped) is = omega (arith, roll_count granules words dropped log is)
-    by_way (rolled.Rewritten chunks) is = omega (arith, rewrite_count granules words chunks arena disjoint is, rewrite_few granules words chunks arena disjoint is)
+    by_way : (way : Rolled) → way_of granules words ≡ way → length (room_events granules words) + 3 ≤ (layout_of (version_in words)).entry_events
+    by_way rolled.Nothing is = omega (arith, ap length (events_of granules words rolled.Nothing is), count_most (version_in words) 0 (omega arith))
+    by_way (rolled.Rolled dropped) is = omega (arith, roll_count granules words dropped log is, count_most (version_in words) 1 (omega arith))
+    by_way (rolled.Rewritten chunks) is =
+        omega (arith, rewrite_count granules words chunks arena disjoint is, count_most (version_in words) chunks (rewrite_few granules words chunks arena disjoint is))

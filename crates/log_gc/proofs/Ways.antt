@@ -120,7 +120,11 @@ choice_directory active kept fresh choice = record {
 pub record IsArenaLog (granules : ℕ) (words active : List ℕ) : Type 0 where
   pub log : IsLog granules words active
   pub inside : heap_word (version_in words) ≤ length words
-  pub few : granules ≤ 1024
+  pub few : granules ≤ (layout_of (version_in words)).most_granules
+
+-- its granules are few, whatever its version
+small_arena : (granules : ℕ) (words active : List ℕ) → IsArenaLog granules words active → granules < 2 ^ 16
+small_arena granules words active arena = omega (arith, arena.few, (layout_rules (version_in words)).most)
 
 -- a roll that drops no chunk
 roll_all : (granules : ℕ) (words active : List ℕ) → IsArenaLog granules words active → length active < 8 → IsSwitch granules words active active (take 1 (spare_chunks active)) []
@@ -182,7 +186,7 @@ roll_but granules words active chunk arena needless is =
       directory = choice_directory active kept fresh choice;
       valid = All-nil (IsValid (layout_of version).first_granule granules);
       fits = omega arith;
-      extents = λ start. ap (λ xs. extent_behind xs start None) (append-nil (flat_map (chunk_log version words) kept)) ∙ needless_same granules words active chunk start (omega (arith, arena.few)) arena.log needless;
+      extents = λ start. ap (λ xs. extent_behind xs start None) (append-nil (flat_map (chunk_log version words) kept)) ∙ needless_same granules words active chunk start (small_arena granules words active arena) arena.log needless;
     }
 
 -- a roll that drops the first needless chunk, where there is one
@@ -204,7 +208,7 @@ rewrite_fits version entries =
 pub rewrite_most : (granules : ℕ) (words active : List ℕ) → IsArenaLog granules words active → AreDisjoint (extent_at words) → chunks_for (version_in words) (length (live_log granules words)) ≤ 5
 unfolding live_log
 rewrite_most granules words active arena disjoint =
-    let live = live_extents granules words active (omega (arith, arena.few)) arena.log in
+    let live = live_extents granules words active (small_arena granules words active arena) arena.log in
     rewrite_few (version_in words) (length (live_log granules words))
     (omega (arith, words_few (layout_of (version_in words)).first_granule granules (extent_at words) 0 granules live disjoint (omega arith), arena.few))
 
@@ -222,7 +226,7 @@ rewrite_switch granules words active arena disjoint =
     let directory = arena.log.directory in
     let few = rewrite_most granules words active arena disjoint in
     let size = length-spare active m (omega (arith, directory.most, few)) in
-    let live = live_extents granules words active (omega (arith, arena.few)) arena.log in
+    let live = live_extents granules words active (small_arena granules words active arena) arena.log in
     let choice : IsChoice active [] fresh = record {
       small = All-nil (λ c. c < 16);
       once = λ i j d less inside. absurd (omega arith);

@@ -18,8 +18,8 @@ use image_tables::Extent;
 use pmem_lines::Pmem;
 use pool_layout::{entry_at, layout_of};
 
-// How many starts there are at most.
-const STARTS: usize = 1024;
+// How many starts an arena of any version has at most.
+const STARTS: usize = 4096;
 // How many chunks a log has; it is the number of none.
 const CHUNKS: usize = 16;
 
@@ -42,7 +42,7 @@ pub(crate) fn first_needless<P: Pmem>(
     requires version { version ≡ version_in (words_of (P.state device.now)) }
     requires log { IsLog granules (words_of (P.state device.now)) active.now }
     requires inside { heap_word version ≤ length (words_of (P.state device.now)) }
-    requires few { granules ≤ 1024 }
+    requires few { granules ≤ 4096 }
     ensures { result ≡ first_needless granules (words_of (P.state device.now)) active.now }
 {
     let mut slots = blank_slots();

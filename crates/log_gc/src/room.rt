@@ -4,6 +4,7 @@ ghost use Rattle.std.specs.Prelude.{◌≡◌, ◌+◌, ◌*◌, ◌<◌, ◌≤
 ghost use Rattle.pmem_lines.specs.Events.{IsQuiet};
 ghost use Rattle.pmem_lines.specs.Steps.{IsQuietStep};
 ghost use Rattle.pmem_lines.specs.Pmem.{words_of, HasRoom, Appends};
+ghost use Rattle.pool_layout.specs.Layout.{layout_of};
 ghost use Rattle.pool_layout.specs.Places.{heap_word};
 ghost use Rattle.pool_layout.specs.Header.{version_in};
 ghost use Rattle.image_tables.specs.Extents.{extent_at};
@@ -40,13 +41,15 @@ pub enum Rolled {
 /// filled with zeros. Otherwise the log is rewritten: the entries of its live extents go by rising start into as few of
 /// the lowest chunks that were not active as leave room for one entry more, and these become the directory.
 ///
-/// The log has what the device has, no two of its live extents share a granule, and all of its chunks lie inside. The
-/// answer and the events are those of `way_of` and `room_events`. Afterwards, and after a crash within the events, the
-/// log is well formed with the same live extents, and every word outside the log and the directory is as before.
+/// The log has what the device has, no two of its live extents share a granule, all of its chunks lie inside, and it has
+/// at most as many granules as an arena of the version. The answer and the events are those of `way_of` and `room_events`.
+/// Afterwards, and after a crash within the events, the log is well formed with the same live extents, and every word
+/// outside the log and the directory is as before.
 pub fn make_room<P: Pmem>(log: &mut BookLog, p: &mut P) -> Rolled
     requires reads { Reads log.old (words_of (P.state p.old)) }
     requires disjoint { AreDisjoint (extent_at (words_of (P.state p.old))) }
     requires inside { heap_word (version_in (words_of (P.state p.old))) ≤ length (words_of (P.state p.old)) }
+    requires few { log.old.granules ≤ (layout_of (version_in (words_of (P.state p.old)))).most_granules }
     requires quiet { IsQuiet (P.state p.old).events }
     requires left { HasRoom (P.state p.old) (length (room_events log.old.granules (words_of (P.state p.old)))) }
     ensures answer { result ≡ way_of log.old.granules (words_of (P.state p.old)) }
@@ -71,9 +74,9 @@ fn choose_way<P: Pmem>(log: &BookLog, p: &P) -> Rolled
     requires reads { Reads log.now (words_of (P.state p.now)) }
     requires disjoint { AreDisjoint (extent_at (words_of (P.state p.now))) }
     requires inside { heap_word (version_in (words_of (P.state p.now))) ≤ length (words_of (P.state p.now)) }
+    requires few { log.now.granules ≤ (layout_of (version_in (words_of (P.state p.now)))).most_granules }
     requires full { has_space (version_in (words_of (P.state p.now))) (words_of (P.state p.now)) (chunks_of (words_of (P.state p.now))) ≡ false }
-    ensures way { result ≡ way_of log.now.granules (words_of (P.state p.now)) }
-    ensures few { log.now.granules ≤ 1024 }
+    ensures { result ≡ way_of log.now.granules (words_of (P.state p.now)) }
 {
     let version = version_of(p);
     let active = active_chunks(p.load(directory_at()));
@@ -89,7 +92,7 @@ fn choose_way<P: Pmem>(log: &BookLog, p: &P) -> Rolled
 
 // Makes room that way.
 fn take_way<P: Pmem>(log: &BookLog, p: &mut P, way: Rolled)
-    requires few { log.now.granules ≤ 1024 }
+    requires few { log.now.granules ≤ (layout_of (version_in (words_of (P.state p.old)))).most_granules }
     requires way { way ≡ way_of log.now.granules (words_of (P.state p.old)) }
     requires reads { Reads log.now (words_of (P.state p.old)) }
     requires disjoint { AreDisjoint (extent_at (words_of (P.state p.old))) }

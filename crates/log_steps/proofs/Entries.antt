@@ -1,5 +1,5 @@
 -- An entry is put into the log behind the events that make room for it.
-use Rattle.std.proofs.Common.{◌≡◌, ◌≢◌, ◌<◌, ◌≤◌, ◌*◌, ⊎_elim, inl, inr, ℕ, zero, suc, true≢false, cond, eqb, ltb, List, ◌++◌, length, refl, sym, ap, subst, ◌∙◌, arith, Option, Some, None, IsSome}
+use Rattle.std.proofs.Common.{◌≡◌, ◌≢◌, ◌<◌, ◌≤◌, ◌+◌, ◌*◌, ⊎_elim, inl, inr, ℕ, zero, suc, true≢false, cond, eqb, ltb, List, ◌++◌, length, refl, sym, ap, subst, ◌∙◌, arith, Option, Some, None, IsSome}
 use Rattle.std.proofs.lemmas.Bool.{cases_eq, cond-true, cond-false, eq-eqb, ne_eqb, lt-ltb, le-ltb}
 use Rattle.pmem_lines.specs.Words.{word_at, put_word}
 use Rattle.pmem_lines.specs.Events.{reading}
@@ -21,7 +21,7 @@ use Rattle.log_gc.proofs.Booked.{room_most}
 use Rattle.heap_check.specs.Image.{IsFormed}
 use Rattle.log_steps.specs.Events.{first_zero, next_entry_word, log_events}
 use Rattle.log_steps.specs.Log.{KeepsRest, IsLogged, IsLoggedOrNot, IsBookOf}
-use Rattle.heap_check.proofs.Sizes.{sizes_of, heap_inside}
+use Rattle.heap_check.proofs.Sizes.{heap_inside}
 
 -- where the next entry goes
 
@@ -119,7 +119,11 @@ module _ (granules : ℕ) (words made : List ℕ) (k : ℕ) (entry : LogEntry) (
 pub made_or_not : (granules : ℕ) (words : List ℕ) (entry : LogEntry) → granules ≡ granules_in words → (image : List ℕ) → KeepsLog granules words image → IsLoggedOrNot words entry image
 made_or_not granules words entry same image keeps = record { rest = rest_made granules words image same keeps; extents = inl keeps.extents }
 
--- how many events make room at most
-pub room_few : (book : Book) (words : List ℕ) → IsFormed words → IsBookOf book words → AreDisjoint (extent_at words) → length (room_events book.granules words) ≤ 679
+-- the arena has no more granules than its version allows
+pub most_granules : (book : Book) (words : List ℕ) → IsFormed words → IsBookOf book words → book.granules ≤ (layout_of (version_in words)).most_granules
+most_granules book words formed log = omega (arith, log.granules, formed.header.valid.greatest)
+
+-- how many events make room at most, and add the entry
+pub room_few : (book : Book) (words : List ℕ) → IsFormed words → IsBookOf book words → AreDisjoint (extent_at words) → length (room_events book.granules words) + 3 ≤ (layout_of (version_in words)).entry_events
 room_few book words formed log disjoint =
-    room_most book.granules words log.reads.log (heap_inside words formed) (omega (arith, log.granules, (sizes_of words formed).most)) disjoint
+    room_most book.granules words log.reads.log (heap_inside words formed) (most_granules book words formed log) disjoint

@@ -17,17 +17,17 @@ use log_gc::make_room;
 use pmem_lines::Pmem;
 
 /// Puts an entry into the log and makes it durable, behind the events that make room for it where the last active chunk
-/// is full: at most 682 events. Every word outside the log and its directory is as before, and the live extents are those
-/// with the entry done. After a crash within it they are that or as before.
+/// is full: at most the `entry_events` of the version. Every word outside the log and its directory is as before, and the
+/// live extents are those with the entry done. After a crash within it they are that or as before.
 pub fn log_entry<P: Pmem>(log: &mut BookLog, device: &mut P, entry: LogEntry)
     requires formed { IsFormed (words_of (P.state device.old)) }
     requires disjoint { AreDisjoint (extent_at (words_of (P.state device.old))) }
     requires book { IsBookOf log.old (words_of (P.state device.old)) }
     requires valid { IsInHeap (layout_of (version_in (words_of (P.state device.old)))).first_granule (granules_in (words_of (P.state device.old))) entry }
     requires quiet { IsQuiet (P.state device.old).events }
-    requires room { HasRoom (P.state device.old) 682 }
+    requires room { HasRoom (P.state device.old) (layout_of (version_in (words_of (P.state device.old)))).entry_events }
     ensures step { IsQuietStep (P.state device.old) (P.state device.new) (log_events (words_of (P.state device.old)) entry) (IsLoggedOrNot (words_of (P.state device.old)) entry) }
-    ensures few { length (P.state device.new).events ≤ length (P.state device.old).events + 682 }
+    ensures few { length (P.state device.new).events ≤ length (P.state device.old).events + (layout_of (version_in (words_of (P.state device.old)))).entry_events }
     ensures logged { IsLogged (words_of (P.state device.old)) entry (words_of (P.state device.new)) }
     ensures book { IsBookOf log.new (words_of (P.state device.new)) }
 {

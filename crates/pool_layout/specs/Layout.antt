@@ -1,5 +1,5 @@
 -- The numbers that depend on the version of a pool, one row a version.
-use Rattle.std.specs.Prelude.{◌≡◌, ℕ, ◌+◌, ◌*◌, ◌%◌, ◌<◌, ◌≤◌}
+use Rattle.std.specs.Prelude.{◌≡◌, ℕ, ◌+◌, ◌*◌, ◌/◌, ◌%◌, ◌^◌, ◌<◌, ◌≤◌}
 use Rattle.pool_layout.specs.declared.layout.Layout.{Layout}
 
 -- a pool may have this version
@@ -16,19 +16,37 @@ layout_of version = record {
   first_granule = 4;
   least_granules = 16;
   most_granules = 1024;
+  entry_events = 682;
+  slab_events = 757;
+  recovery_events = 1452;
   room = 2048;
 }
 
--- what every row keeps: the roots lie before the log, a chunk is a line and the lines of its entries, the heap begins
--- where the sixteen chunks end, and an arena has a heap
+-- What every row keeps. Of places: the roots lie before the log, a chunk is a line and the lines of its entries, the heap
+-- begins where the sixteen chunks end, and an arena has a heap. Numbers of roots and of entries have 16 bits.
+--
+-- Of events: as many extents as live at most go into five chunks, and these five are stored and flushed, named in the
+-- directory, and an entry is added to the last; the header of a slab has 75 events besides; recovery adds two entries and
+-- has 88 events besides; and all of a call fits into the room, 11 events of a block with a slab that is opened for it.
 pub record IsLayout (layout : Layout) : Type 0 where
   pub some_root : 0 < layout.roots
+  pub few_roots : layout.roots < 2 ^ 16
   pub roots : 16384 + 8 * layout.roots ≤ layout.log_at
   pub log : layout.log_at % 64 ≡ 0
   pub chunk : layout.chunk_bytes ≡ 64 + 8 * layout.chunk_entries
   pub some_entry : 0 < layout.chunk_entries
+  pub few_entries : layout.chunk_entries < 2 ^ 16
   pub lines : layout.chunk_entries % 8 ≡ 0
   pub heap : layout.log_at + 16 * layout.chunk_bytes ≡ 16384 * layout.first_granule
+  pub first : 4 ≤ layout.first_granule
   pub some_granule : layout.first_granule < layout.least_granules
+  pub least : 16 ≤ layout.least_granules
   pub range : layout.least_granules ≤ layout.most_granules
   pub most : layout.most_granules ≤ 4096
+  pub few_chunks : layout.most_granules < 10 * layout.chunk_entries
+  pub entry : 5 * (layout.chunk_entries + layout.chunk_entries / 8) + 7 ≤ layout.entry_events
+  pub slab : layout.entry_events + 75 ≤ layout.slab_events
+  pub recovery : 2 * layout.entry_events + 88 ≤ layout.recovery_events
+  pub call : layout.slab_events + 11 ≤ layout.room
+  pub recovered : layout.recovery_events ≤ layout.room
+  pub room : 2048 ≤ layout.room

@@ -20,6 +20,12 @@ pub struct Layout {
     pub least_granules: u32,
     /// The greatest number of granules of an arena.
     pub most_granules: u32,
+    /// How many events an entry that is put into the log has at most, with those that make room for it.
+    pub entry_events: u32,
+    /// How many events a slab that is opened has at most, with those of its entry.
+    pub slab_events: u32,
+    /// How many events recovery has at most.
+    pub recovery_events: u32,
     /// How many events a device must have room for.
     pub room: u32,
 }
@@ -32,6 +38,9 @@ const VERSION_1: Layout = Layout {
     first_granule: 4,
     least_granules: 16,
     most_granules: 1024,
+    entry_events: 682,
+    slab_events: 757,
+    recovery_events: 1452,
     room: 2048,
 };
 

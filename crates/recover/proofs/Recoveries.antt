@@ -1,21 +1,24 @@
 -- A device that recovery made exact, from what its steps say.
-use Rattle.std.proofs.Common.{◌≡◌, ◌≤◌, List, ℕ, length, sym, ap, subst, ◌∙◌}
+use Rattle.std.proofs.Common.{◌≡◌, ◌≤◌, ◌-◌, List, ℕ, length, sym, ap, subst, ◌∙◌}
 use Rattle.pmem_lines.specs.declared.event.Event.{Event}
 use Rattle.pmem_lines.specs.Pmem.{PmemState, words_of, began, appended, fresh}
 use Rattle.pmem_lines.specs.Events.{CrashOnly}
+use Rattle.pool_layout.specs.Layout.{layout_of}
+use Rattle.pool_layout.specs.Header.{version_in}
 use Rattle.heap_check.specs.Image.{IsExactImage, IsSteadyImage}
 use Rattle.settle_steps.specs.Settled.{KeepsHeap}
 use Rattle.transition_steps.specs.Transitions.{LeavesHeap}
 use Rattle.recovery_steps.specs.Parts.{IsPart}
 use Rattle.recovery_steps.specs.Recovery.{Recovers, RecoversSound}
-use Rattle.recover.specs.Recovered.{IsRecovered, IsRecoveredDevice}
+use Rattle.recover.specs.Recovered.{HasVersionRoom, IsRecovered, IsRecoveredDevice}
 
 -- the events of a part that begins a call are those of the call
 events_are : {Leaves : List ℕ → List ℕ → Type 0} {Stores : List ℕ → List Event → Type 0} {most : ℕ} (old new : PmemState) (part : IsPart Leaves (began old) new Stores most) → part.events ≡ new.events
 events_are old new part = sym (ap (λ (s : PmemState). s.events) part.step.appends.state)
 
 -- the whole of it, where it begins a call
-pub recovered : (old new : PmemState) → IsPart LeavesHeap (began old) new RecoversSound 1452 → (IsSteadyImage (words_of old) → IsPart KeepsHeap (began old) new Recovers 1449) →
+pub recovered : (old new : PmemState) → IsPart LeavesHeap (began old) new RecoversSound (layout_of (version_in (words_of old))).recovery_events →
+    (IsSteadyImage (words_of old) → IsPart KeepsHeap (began old) new Recovers ((layout_of (version_in (words_of old))).recovery_events - 3)) →
     IsExactImage (words_of new) → KeepsHeap (words_of old) (words_of new) → IsRecovered old new
 recovered old new part steady exact keeps =
     let same = events_are old new part in
@@ -26,7 +29,7 @@ recovered old new part steady exact keeps =
       heap = keeps.heap;
       blocks = keeps.blocks;
       stores = subst (λ (es : List Event). RecoversSound (words_of old) es) same part.stores;
-      few = subst (λ (es : List Event). length es ≤ 1452) same part.few;
+      few = subst (λ (es : List Event). length es ≤ (layout_of (version_in (words_of old))).recovery_events) same part.few;
       steady_stores = λ is. subst (λ (es : List Event). Recovers (words_of old) es) (events_are old new (steady is)) (steady is).stores;
       crash = λ is. subst (λ (es : List Event). CrashOnly (words_of old) es (KeepsHeap (words_of old))) (events_are old new (steady is)) (steady is).step.crash;
     }
@@ -41,3 +44,8 @@ recovered_device words room device is = record {
   heap = is.heap;
   blocks = is.blocks;
 }
+
+-- a device with the room of every row of the table
+pub room_of_any : (device : PmemState) → 2048 ≤ device.room → HasVersionRoom device
+unfolding layout_of
+room_of_any device few header here = few

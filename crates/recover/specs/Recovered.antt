@@ -2,7 +2,9 @@
 use Rattle.std.specs.Prelude.{◌≡◌, ◌≤◌, List, ℕ, length}
 use Rattle.pmem_lines.specs.Pmem.{PmemState, words_of, began, appended}
 use Rattle.pmem_lines.specs.Events.{IsQuiet, CrashOnly}
-use Rattle.pool_layout.specs.Header.{granules_in}
+use Rattle.pool_layout.specs.declared.header.PoolHeader.{PoolHeader}
+use Rattle.pool_layout.specs.Layout.{layout_of}
+use Rattle.pool_layout.specs.Header.{version_in, granules_in, IsHeader}
 use Rattle.heap_check.specs.Image.{IsExactImage, IsSteadyImage}
 use Rattle.heap_check.specs.State.{HaveSameHeap, KeepsBlocks}
 use Rattle.log_steps.specs.Log.{IsBookOf}
@@ -10,6 +12,10 @@ use Rattle.settle_steps.specs.Settled.{KeepsHeap}
 use Rattle.recovery_steps.specs.Names.{AreNames}
 use Rattle.recovery_steps.specs.Recovery.{Recovers, RecoversSound}
 use Rattle.recover.specs.declared.preparing.Prepared.{Prepared}
+
+-- where the header line of its words is good, the device has the room of the version that this says
+abbrev pub HasVersionRoom : PmemState → Type 0
+HasVersionRoom device = (header : PoolHeader) → IsHeader (words_of device) header → (layout_of header.version).room ≤ device.room
 
 -- the log and the names are those of an arena of these words, and the memory is for one of its size
 pub record IsPrepared (words : List ℕ) (prepared : Prepared) : Type 0 where
@@ -27,7 +33,7 @@ pub record IsRecovered (old new : PmemState) : Type 0 where
   pub blocks : KeepsBlocks (words_of old) (words_of new)
   -- what is stored
   pub stores : RecoversSound (words_of old) new.events
-  pub few : length new.events ≤ 1452
+  pub few : length new.events ≤ (layout_of (version_in (words_of old))).recovery_events
   -- from a steady image
   pub steady_stores : IsSteadyImage (words_of old) → Recovers (words_of old) new.events
   pub crash : IsSteadyImage (words_of old) → CrashOnly (words_of old) new.events (KeepsHeap (words_of old))

@@ -21,16 +21,17 @@ arena_of words image =
     let sizes = sizes_of words image.formed in
     record {
       version = image.formed.header.valid.version;
-      granules = record { least = sizes.least; most = sizes.most };
+      granules = record { least = sizes.least; most = omega (arith, sizes.most) };
+      least = image.formed.header.valid.least;
       size = sizes.size;
       large = λ start some.
           let whole = granules_at-live image.sound start some in
           let lies = image.sound.starts start (omega (arith, whole, some)) in
-          (omega (arith, lies.0, sizes.first), omega (arith, lies.1, whole));
+          (lies.0, omega (arith, lies.1, whole));
       slab = λ start slab.
           let four = granules_at-slab (tables_of words) start (slab_table words start ∙ slab) in
           let lies = image.sound.starts start (omega (arith, four)) in
-          (omega (arith, lies.0, sizes.first), omega (arith, lies.1, four));
+          (lies.0, omega (arith, lies.1, four));
       entries = few_entries words image.sound;
     }
 

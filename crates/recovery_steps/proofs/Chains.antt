@@ -46,7 +46,7 @@ either_keeps words new image same is = record {
 }
 
 -- and then another
-pub part_then : {s t u : PmemState} {First Second : List ℕ → List Event → Type 0} {m n : ℕ} (most : ℕ) → most ≡ m + n → IsPart KeepsHeap s t First m → IsPart KeepsHeap t u Second n → IsPart KeepsHeap s u (Then First Second) most
+pub part_then : {s t u : PmemState} {First Second : List ℕ → List Event → Type 0} {m n : ℕ} (most : ℕ) → m + n ≤ most → IsPart KeepsHeap s t First m → IsPart KeepsHeap t u Second n → IsPart KeepsHeap s u (Then First Second) most
 part_then {s} {t} {u} {First} {Second} {m} {n} most is first second =
     let keeps : KeepsHeap (words_of s) (words_of t) = step_end first.step in
     record {
@@ -71,7 +71,7 @@ pub takes_one : {IsLoose : ℕ → Type 0} {taken : ℕ → List Event} (start :
 takes_one start here = inr (record { start = start; here = here; is = refl })
 
 -- from a sound image: first it becomes steady
-pub part_after : {s t u : PmemState} {First Second : List ℕ → List Event → Type 0} {m n : ℕ} (most : ℕ) → most ≡ m + n → IsPart LeavesHeap s t First m → KeepsHeap (words_of s) (words_of t) → IsPart KeepsHeap t u Second n → IsPart LeavesHeap s u (Then First Second) most
+pub part_after : {s t u : PmemState} {First Second : List ℕ → List Event → Type 0} {m n : ℕ} (most : ℕ) → m + n ≤ most → IsPart LeavesHeap s t First m → KeepsHeap (words_of s) (words_of t) → IsPart KeepsHeap t u Second n → IsPart LeavesHeap s u (Then First Second) most
 part_after {s} {t} {u} {First} {Second} {m} {n} most is first keeps second = record {
   events = first.events ++ second.events;
   stores = record {
@@ -104,6 +104,7 @@ leaves_none {s} quiet stores = record {
 }
 
 -- the five parts in their order
-pub all_parts : {s t u v w x : PmemState} → IsPart KeepsHeap s t SettlesOpen 6 → IsPart KeepsHeap t u FinishesMorphing 76 → IsPart KeepsHeap u v DropsLarge 682 → IsPart KeepsHeap v w DropsSlab 682 → IsPart KeepsHeap w x EndsDone 3 →
-    IsPart KeepsHeap s x Recovers 1449
-all_parts settled finished large slab ended = part_then 1449 refl settled (part_then 1443 refl finished (part_then 1367 refl large (part_then 685 refl slab ended)))
+pub all_parts : {s t u v w x : PmemState} {m n : ℕ} (most : ℕ) → m + n + 85 ≤ most → IsPart KeepsHeap s t SettlesOpen 6 → IsPart KeepsHeap t u FinishesMorphing 76 → IsPart KeepsHeap u v DropsLarge m → IsPart KeepsHeap v w DropsSlab n →
+    IsPart KeepsHeap w x EndsDone 3 → IsPart KeepsHeap s x Recovers most
+all_parts {s} {t} {u} {v} {w} {x} {m} {n} most few settled finished large slab ended =
+    part_then most (omega (arith, few)) settled (part_then (m + n + 79) (omega arith) finished (part_then (m + n + 3) (omega arith) large (part_then (n + 3) (omega arith) slab ended)))

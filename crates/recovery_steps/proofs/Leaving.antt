@@ -8,7 +8,8 @@ use Rattle.pool_layout.specs.Layout.{layout_of}
 use Rattle.pool_layout.specs.Header.{version_in, granules_in}
 use Rattle.heap_model.specs.Machine.{Bounds}
 use Rattle.heap_check.specs.Sound.{IsLooseLarge, IsEmptySlab, IsMorphing, IsDoneSlab, IsNearlyDone, LoosensNothing}
-use Rattle.heap_check.specs.Image.{bounds_of}
+use Rattle.heap_check.specs.Image.{bounds_of, IsSteadyImage}
+use Rattle.heap_check.proofs.Sizes.{version_by_bounds}
 use Rattle.image_defects.specs.Least.{HasNone}
 use Rattle.defect_search.specs.Roots.{IsNamedStart, IsNamedGranule, AreMarks}
 use Rattle.extent_steps.specs.Large.{IsLooseExtent, IsExtentGone}
@@ -125,6 +126,10 @@ calm_still loosens none = record { none = λ start morphing. none.none start (lo
 -- one part behind another
 pub left_then : {words between new : List ℕ} → IsLeft words between → IsLeft between new → IsLeft words new
 left_then first second = record { shut = second.shut; bounds = second.bounds ∙ first.bounds; roots = second.roots ∙ first.roots }
+
+-- and of the same version
+pub left_version : {words new : List ℕ} → IsSteadyImage words → IsLeft words new → version_in new ≡ version_in words
+left_version {words} {new} image left = version_by_bounds words new image.formed left.shut.image.formed left.bounds
 
 -- names
 

@@ -3,6 +3,7 @@ use Rattle.std.proofs.Common.{◌≡◌, ◌*◌, ◌/◌, ◌<◌, ◌≤◌, �
 use Rattle.pmem_lines.specs.Words.{word_at}
 use Rattle.durable_steps.specs.Steps.{word_events}
 use Rattle.pool_layout.specs.Layout.{layout_of}
+use Rattle.pool_layout.proofs.Layouts.{layout_rules}
 use Rattle.pool_layout.specs.Places.{root_word, wal_word, granule_word, log_word}
 use Rattle.pool_layout.specs.Header.{version_in}
 use Rattle.image_tables.specs.declared.entry.WalEntry.{WalEntry}
@@ -31,8 +32,7 @@ use Rattle.recovery_steps.proofs.Books.{book_settled}
 
 -- the roots lie before the log
 root_before : (version root : ℕ) → root < (layout_of version).roots → root_word root < log_word version
-unfolding layout_of
-root_before version root few = omega (arith, few)
+root_before version root few = omega (arith, few, (layout_rules version).roots)
 
 -- no line has a word
 pub closed_in : (words : List ℕ) → AreClosedFrom words 0 → IsClosed words

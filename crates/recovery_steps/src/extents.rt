@@ -1,6 +1,8 @@
 // Extents that no root's block lies in get a Tomb.
 ghost use Rattle.pmem_lines.specs.Events.{IsQuiet};
 ghost use Rattle.pmem_lines.specs.Pmem.{words_of, HasRoom};
+ghost use Rattle.pool_layout.specs.Layout.{layout_of};
+ghost use Rattle.pool_layout.specs.Header.{version_in};
 ghost use Rattle.log_steps.specs.Log.{IsBookOf};
 ghost use Rattle.heap_check.specs.Sound.{IsLooseLarge, IsEmptySlab};
 ghost use Rattle.recovery_steps.specs.Names.{AreNames};
@@ -14,14 +16,14 @@ use book_log::BookLog;
 use extent_steps::{drop_extent, drop_slab};
 use pmem_lines::Pmem;
 
-/// Drops the large extent that no root holds, if there is one, by at most 682 events.
+/// Drops the large extent that no root holds, if there is one, by at most the `entry_events` of the version.
 pub(crate) fn drop_loose<P: Pmem>(p: &mut P, log: &mut BookLog, names: &RootNames)
     requires shut { IsShut (words_of (P.state p.old)) }
     requires names { AreNames names.now (words_of (P.state p.old)) }
     requires book { IsBookOf log.old (words_of (P.state p.old)) }
     requires quiet { IsQuiet (P.state p.old).events }
-    requires room { HasRoom (P.state p.old) 682 }
-    ensures part { IsPart KeepsHeap (P.state p.old) (P.state p.new) DropsLarge 682 }
+    requires room { HasRoom (P.state p.old) (layout_of (version_in (words_of (P.state p.old)))).entry_events }
+    ensures part { IsPart KeepsHeap (P.state p.old) (P.state p.new) DropsLarge (layout_of (version_in (words_of (P.state p.old)))).entry_events }
     ensures rids { Rids IsLooseLarge (words_of (P.state p.old)) (words_of (P.state p.new)) }
     ensures book { IsBookOf log.new (words_of (P.state p.new)) }
 {
@@ -31,14 +33,14 @@ pub(crate) fn drop_loose<P: Pmem>(p: &mut P, log: &mut BookLog, names: &RootName
     }
 }
 
-/// Drops the slab in which no root's block lies, if there is one, by at most 682 events.
+/// Drops the slab in which no root's block lies, if there is one, by at most the `entry_events` of the version.
 pub(crate) fn drop_empty<P: Pmem>(p: &mut P, log: &mut BookLog, names: &RootNames)
     requires shut { IsShut (words_of (P.state p.old)) }
     requires names { AreNames names.now (words_of (P.state p.old)) }
     requires book { IsBookOf log.old (words_of (P.state p.old)) }
     requires quiet { IsQuiet (P.state p.old).events }
-    requires room { HasRoom (P.state p.old) 682 }
-    ensures part { IsPart KeepsHeap (P.state p.old) (P.state p.new) DropsSlab 682 }
+    requires room { HasRoom (P.state p.old) (layout_of (version_in (words_of (P.state p.old)))).entry_events }
+    ensures part { IsPart KeepsHeap (P.state p.old) (P.state p.new) DropsSlab (layout_of (version_in (words_of (P.state p.old)))).entry_events }
     ensures rids { Rids IsEmptySlab (words_of (P.state p.old)) (words_of (P.state p.new)) }
     ensures book { IsBookOf log.new (words_of (P.state p.new)) }
 {

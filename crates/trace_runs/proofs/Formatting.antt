@@ -26,7 +26,7 @@ bounds-formed words granules formed size =
     ∙ ap (λ n. let b : Bounds = record { roots = (layout_of 1).roots; first = (layout_of 1).first_granule; granules = n } in b) many
 
 -- over a memory of zeros
-made_new : (header : PoolHeader) (arena : ArenaState) → arena.device ≡ appended (began (fresh (zeros (2048 * header.granules)) 2048)) (format_events header) →
+made_new : (header : PoolHeader) (arena : ArenaState) → arena.device ≡ appended (began (fresh (zeros (2048 * header.granules)) (layout_of 1).room)) (format_events header) →
     arena.line ≡ 0 → stacks_of arena.stacks ≡ no_stacks → IsReady arena.device → IsExactImage (words_of arena.device) → HasState (words_of arena.device) no_heap → IsNewArena header arena
 unfolding formatted
 made_new header arena made first stacks ready exact empty =
@@ -46,9 +46,9 @@ made_new header arena made first stacks ready exact empty =
       exact = exact;
     }
 
-pub IsNewArena-format : (header : PoolHeader) (device : PmemState) (arena : ArenaState) → IsZeroed device (256 * header.granules) 2048 → arena.device ≡ appended (began device) (format_events header) →
+pub IsNewArena-format : (header : PoolHeader) (device : PmemState) (arena : ArenaState) → IsZeroed device (256 * header.granules) (layout_of 1).room → arena.device ≡ appended (began device) (format_events header) →
     arena.line ≡ 0 → stacks_of arena.stacks ≡ no_stacks → IsReady arena.device → IsExactImage (words_of arena.device) → HasState (words_of arena.device) no_heap → IsNewArena header arena
 IsNewArena-format header device arena zeroed made line stacks ready exact empty =
     let lines : 8 * (256 * header.granules) ≡ 2048 * header.granules = omega arith in
-    let first : device ≡ fresh (zeros (2048 * header.granules)) 2048 = zeroed.state ∙ ap (λ n. fresh (zeros n) 2048) lines in
+    let first : device ≡ fresh (zeros (2048 * header.granules)) (layout_of 1).room = zeroed.state ∙ ap (λ n. fresh (zeros n) (layout_of 1).room) lines in
     made_new header arena (made ∙ ap (λ (s : PmemState). appended (began s) (format_events header)) first) line stacks ready exact empty

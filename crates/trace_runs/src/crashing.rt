@@ -24,7 +24,7 @@ use arena_core::Arena;
 use arena_journal::answer;
 use heap_model::{Call, Entry, Reply};
 use pmem_lines::{OutOfMemory, Pmem, SimPmem};
-use pool_layout::root_at;
+use pool_layout::{layout_of, root_at};
 use rand_core::SeedableRng;
 use rand_xoshiro::SplitMix64;
 use std::alloc::Global;
@@ -34,8 +34,8 @@ use trace_text::{CrashSide, PoolSize, Trace, TraceCall};
 /// The bytes of a granule, in lines.
 const GRANULE_LINES: u32 = 256;
 
-/// How many events a call may have.
-const ROOM: u32 = 2048;
+/// The version of a trace's arenas.
+const VERSION: u32 = 1;
 
 /// Why there is no report of a crash.
 #[derive(Debug, Drop, Error)]
@@ -104,7 +104,8 @@ fn format_new(alloc: Global, pool: PoolSize, arena: u32) -> Result<Arena<SimPmem
     requires inside { arena < pool.arenas }
     ensures { IfOk result (λ made. IsNewArena (header_for pool arena) made) }
 {
-    let device = SimPmem::zeroed(alloc, GRANULE_LINES * pool.granules, ROOM)?;
+    let room = layout_of(VERSION).room;
+    let device = SimPmem::zeroed(alloc, GRANULE_LINES * pool.granules, room)?;
     new_arena(alloc, device, pool, arena)
 }
 

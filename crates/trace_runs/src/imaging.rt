@@ -2,6 +2,7 @@
 ghost use Rattle.std.specs.Prelude.{◌≤◌, ◌<◌, ◌*◌, ◌^◌, length, IfOk};
 ghost use Rattle.std.specs.List.{All};
 ghost use Rattle.pmem_lines.specs.Pmem.{words_of, IsZeroed};
+ghost use Rattle.pool_layout.specs.Layout.{layout_of};
 ghost use Rattle.heap_check.specs.Image.{IsExactImage};
 ghost use Rattle.arena_core.specs.Call.{IsReady};
 ghost use Rattle.trace_text.specs.Grammar.{pool_of, IsPool, IsTraceCall};
@@ -18,7 +19,7 @@ use std::alloc::Global;
 use trace_text::{PoolSize, Trace, TraceCall};
 
 /// Makes the calls of a trace that are those of one arena, in the order of the lines, on the arena over a new device of
-/// zeros, and gives the device.
+/// zeros, which has the room of version 1, and gives the device.
 pub fn run_calls<P: Pmem + Drop>(
     alloc: Global,
     trace: &Trace,
@@ -29,7 +30,7 @@ pub fn run_calls<P: Pmem + Drop>(
     requires each { All (IsTraceCall trace.now.arenas) trace.now.calls.items }
     requires few { length trace.now.calls.items < 2 ^ 32 }
     requires inside { arena < trace.now.arenas }
-    requires zeroed { IsZeroed (P.state device) (256 * trace.now.granules) 2048 }
+    requires zeroed { IsZeroed (P.state device) (256 * trace.now.granules) (layout_of 1).room }
     ensures { IfOk result (λ left. IsRunThrough (header_for (pool_of trace.now) arena) (calls_of arena trace.now.calls.items) (P.state left)) }
 {
     let pool = PoolSize {

@@ -1,6 +1,7 @@
 // An arena of a trace's pool, made anew.
 ghost use Rattle.std.specs.Prelude.{◌≤◌, ◌<◌, ◌*◌, IfOk};
 ghost use Rattle.pmem_lines.specs.Pmem.{IsZeroed};
+ghost use Rattle.pool_layout.specs.Layout.{layout_of};
 ghost use Rattle.trace_text.specs.declared.call.PoolSize.{PoolSize};
 ghost use Rattle.trace_text.specs.Grammar.{IsPool};
 ghost use Rattle.trace_runs.specs.Arenas.{header_for, IsNewArena};
@@ -10,7 +11,7 @@ use pmem_lines::{OutOfMemory, Pmem};
 use std::alloc::Global;
 use trace_text::PoolSize;
 
-/// Formats a device of zeros as the arena of this number of a pool.
+/// Formats a device of zeros, with the room of version 1, as the arena of this number of a pool.
 pub fn new_arena<P: Pmem + Drop>(
     alloc: Global,
     device: P,
@@ -19,7 +20,7 @@ pub fn new_arena<P: Pmem + Drop>(
 ) -> Result<Arena<P>, OutOfMemory>
     requires pool { IsPool pool }
     requires inside { arena < pool.arenas }
-    requires zeroed { IsZeroed (P.state device) (256 * pool.granules) 2048 }
+    requires zeroed { IsZeroed (P.state device) (256 * pool.granules) (layout_of 1).room }
     ensures { IfOk result (λ made. IsNewArena (header_for pool arena) made) }
 {
     let room = ArenaRoom::new(alloc, pool.granules)?;

@@ -4,3 +4,4 @@ pub mod CallLines
 pub mod Lines
 pub mod OneMeaning
 pub mod Calls
+pub mod Pools

@@ -1,5 +1,6 @@
 -- A line says one thing, so a text says one trace, or has one refused line.
 use Rattle.std.proofs.Common.{◌≡◌, ◌⊎◌, ℕ, zero, suc, ◌+◌, ◌<◌, ◌≤◌, ◌^◌, List, [], ◌∷◌, ◌++◌, length, refl, sym, ◌∙◌, ap, subst, inl, inr, arith}
+use Rattle.pool_layout.proofs.Layouts.{layout_rules}
 use Rattle.std.specs.Prelude.{decimal}
 use Rattle.std.specs.Str.Parse.{AllDigits}
 use Rattle.std.proofs.lemmas.Str.Parse.{digit_from_value}
@@ -36,7 +37,7 @@ one_pool line m n p q =
     let e = sym p.text ∙ q.text in
     let words : decimal m.arenas ++ 32 ∷ decimal m.granules ≡ decimal n.arenas ++ 32 ∷ decimal n.granules = cc in
     let h = same_field (decimal n.arenas ++ 32 ∷ decimal n.granules) m.arenas n.arenas (decimal m.granules) (decimal n.granules) (omega (arith, p.valid.few)) (omega (arith, q.valid.few)) (sym words) refl in
-    let granules : m.granules ≡ n.granules = decimal_injective m.granules n.granules (omega (arith, p.valid.most)) (omega (arith, q.valid.most)) h.1 in
+    let granules : m.granules ≡ n.granules = decimal_injective m.granules n.granules (omega (arith, p.valid.most, (layout_rules 1).most)) (omega (arith, q.valid.most, (layout_rules 1).most)) h.1 in
     λ i. record { arenas = h.0 i; granules = granules i }
 
 -- texts that are the same begin with the same byte

@@ -2,6 +2,7 @@
 -- passed over.
 use Rattle.std.specs.Prelude.{◌≡◌, ◌==◌, ◌⊎◌, ℕ, zero, suc, ◌+◌, ◌<◌, ◌≤◌, ◌^◌, List, [], ◌∷◌, ◌++◌, length, decimal, codes, if◌then◌else◌}
 use Rattle.std.specs.List.{slice_split}
+use Rattle.pool_layout.specs.Layout.{layout_of}
 use Rattle.heap_model.specs.declared.call.Call.{Call}
 use Rattle.heap_model.specs.declared.call.Call.TheVariants.{Malloc, Free, Write, Read, Move}
 use Rattle.trace_text.specs.declared.call.PoolSize.{PoolSize}
@@ -30,12 +31,12 @@ IsPassedOver (byte ∷ line) = byte ≡ 35
 abbrev pub pool_of : Trace → PoolSize
 pool_of trace = record { arenas = trace.arenas; granules = trace.granules }
 
--- a pool that a trace may have: 1 to 16 arenas, of 16 to 1024 granules each
+-- a pool that a trace may have: 1 to 16 arenas of version 1, each with as many granules as that version allows
 pub record IsPool (pool : PoolSize) : Type 0 where
   pub some : 1 ≤ pool.arenas
   pub few : pool.arenas ≤ 16
-  pub least : 16 ≤ pool.granules
-  pub most : pool.granules ≤ 1024
+  pub least : (layout_of 1).least_granules ≤ pool.granules
+  pub most : pool.granules ≤ (layout_of 1).most_granules
 
 -- the line says this pool: how many arenas, and the granules of each
 pub record IsPoolLine (line : List ℕ) (pool : PoolSize) : Type 0 where

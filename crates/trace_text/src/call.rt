@@ -2,7 +2,7 @@
 
 use heap_model::Call;
 
-/// The pool of a trace: 1 to 16 arenas, and the granules of each, from 16 to 1024.
+/// The pool of a trace: 1 to 16 arenas of version 1, and the granules of each.
 #[derive(Clone, Copy, Debug, PartialEq, Eq)]
 pub struct PoolSize {
     pub arenas: u32,

@@ -9,6 +9,7 @@ ghost use Rattle.trace_text.specs.Grammar.{IsPassedOver, IsAsked, IsCallLine, Is
 use crate::number::{after, read_field, whole_number};
 use crate::{PoolSize, TraceCall};
 use heap_model::Call;
+use pool_layout::layout_of;
 
 /// The greatest thread number.
 const LAST_THREAD: u64 = 63;
@@ -22,10 +23,8 @@ const LAST_INDEX: u64 = 0xFFFF_FFFF;
 /// The most arenas of a pool.
 const MOST_ARENAS: u64 = 16;
 
-/// The fewest granules of an arena, and the most.
-const FEWEST_GRANULES: u64 = 16;
-
-const MOST_GRANULES: u64 = 1024;
+/// The version of the pool's arenas.
+const VERSION: u32 = 1;
 
 /// Whether a line is empty or begins with `#`.
 pub(crate) fn is_passed_over(line: &[u8]) -> bool
@@ -39,8 +38,9 @@ pub(crate) fn read_pool_line(line: &[u8]) -> Option<PoolSize>
     ensures { MatchOption result ((pool : PoolSize) → ¬ (IsPoolLine line.now pool)) (λ pool. IsPoolLine line.now pool) }
 {
     let (arenas, rest) = read_field(after(line, b"pool ")?, MOST_ARENAS)?;
-    let granules = whole_number(rest, MOST_GRANULES)?;
-    if arenas == 0 || granules < FEWEST_GRANULES {
+    let layout = layout_of(VERSION);
+    let granules = whole_number(rest, u64::from(layout.most_granules))?;
+    if arenas == 0 || granules < u64::from(layout.least_granules) {
         return None;
     }
     Some(PoolSize {

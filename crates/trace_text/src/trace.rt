@@ -115,8 +115,8 @@ fn read_calls(
 }
 
 /// Reads the text of a trace: lines, each ended by a line feed that the last one may lack, of which those that are empty
-/// or begin with `#` are passed over. The first of the others is `pool A G` with A from 1 to 16 arenas of G from 16 to
-/// 1024 granules, and each after it is `T B m R S` or `T B f R`: thread T, from 0 to 63, asks arena B, below A, for a
+/// or begin with `#` are passed over. The first of the others is `pool A G` with A from 1 to 16 arenas of G granules,
+/// as many as version 1 allows, and each after it is `T B m R S` or `T B f R`: thread T, from 0 to 63, asks arena B, below A, for a
 /// block of S bytes, a number of 64 bits, for root R, or to free the block of root R, a number of 32 bits. A text that is
 /// no trace is refused with the number of its first line outside this grammar, or, where it ends with no pool, with the
 /// number behind its last line.

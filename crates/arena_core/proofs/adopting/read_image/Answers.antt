@@ -1,5 +1,10 @@
-use Rattle.std.proofs.Common.{◌+◌, ◌<◌, subst, sym, refl, ◌∙◌, arith}
+use Rattle.std.proofs.Common.{◌≡◌, ◌↔◌, ◌+◌, ◌<◌, ◌≤◌, ℕ, subst, sym, ap, refl, ◌∙◌, arith}
 use Rattle.pmem_lines.specs.Pmem.{words_of}
+use Rattle.pool_layout.specs.declared.layout.Layout.{Layout}
+use Rattle.pool_layout.specs.Layout.{layout_of}
+use Rattle.pool_layout.specs.Header.{version_in}
+use Rattle.pool_layout.proofs.Layouts.{layout_rules}
+use Rattle.extent_index.specs.FreeSet.{IsFree}
 use Rattle.arena_core.specs.Adopting.{IsReadBelow}
 use Rattle.heap_check.proofs.Sizes.{sizes_of}
 use Rattle.arena_core.proofs.AdoptedExtents.{IsReadBelow-first, extent_below, index_read, slabs_read}
@@ -7,11 +12,31 @@ use Rattle.arena_core.proofs.adopting.read_image.Given as given
 use Rattle.arena_core.proofs.adopting.read_image.Goals as goal
 use Rattle.arena_core.proofs.adopting.read_image.Goals.{After-start-from}
 
+-- the granule that the heap begins with, of the image's version
+first_is : (version : ℕ) (row : Layout) → row ≡ layout_of version → (4 ≤ row.first_granule) × (row.first_granule < (layout_of version).least_granules)
+first_is version row is =
+    let rules = layout_rules version in
+    let first = ap (λ (l : Layout). l.first_granule) is in
+    (omega (arith, rules.first, first), omega (arith, rules.some_granule, first))
+
+pub take_front-requires-clause-low : goal.take_front-requires-clause-low
+take_front-requires-clause-low g c = (first_is (version_in (words_of (g.P.Pmem.state c.args.device.now))) c.layout_in.result c.layout_in.ensures).0
+
+pub take_front-requires-clause-high : goal.take_front-requires-clause-high
+take_front-requires-clause-high g c =
+    omega (arith, (first_is (version_in (words_of (g.P.Pmem.state c.args.device.now))) c.layout_in.result c.layout_in.ensures).1, c.requires.exact.formed.header.valid.least, c.requires.granules)
+
 pub loop-extent-init : goal.loop-extent-init
 loop-extent-init g c =
     let words = words_of (g.P.Pmem.state c.args.device.now) in
+    let front = c.take_front.ensures in
+    let set = c.take_front.new.free in
+    let first = ap (λ (row : Layout). row.first_granule) c.layout_in.ensures in
     record {
-      read = IsReadBelow-first words c.args.free.now c.args.supply.now (sizes_of words c.requires.exact.formed).first c.requires.granules c.requires.all_free c.requires.slab_granules c.requires.no_slab;
+      read = IsReadBelow-first words set c.args.supply.now (front.granules ∙ c.requires.granules)
+          (subst (λ n. (k : ℕ) → IsFree set k ↔ ((n ≤ k) × (k < set.granules))) first
+          (subst (λ n. (k : ℕ) → IsFree set k ↔ ((c.layout_in.result.first_granule ≤ k) × (k < n))) (sym front.granules) front.heap))
+          c.requires.slab_granules c.requires.no_slab;
       stacks = refl;
       below = omega arith;
     }

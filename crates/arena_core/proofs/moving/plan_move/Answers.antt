@@ -27,7 +27,7 @@ returns-then-at-ne0 g c =
 pub freed_of-block-requires : goal.freed_of-block-requires
 freed_of-block-requires g c =
     let words = words_of (g.P.Pmem.state c.args.device.now) in
-    (bounds_of words, tables_of words, c.args.from, c.in-Some.ensures, (sizes_of words c.requires.exact.formed).most)
+    (bounds_of words, tables_of words, c.args.from, c.in-Some.ensures, omega (arith, (sizes_of words c.requires.exact.formed).most))
 
 pub returns-else-at-ne0 : goal.returns-else-at-ne0
 returns-else-at-ne0 g c =

@@ -11,7 +11,7 @@ use Rattle.arena_core.proofs.payload.block_of.Goals as goal
 pub freed_of-block-requires : goal.freed_of-block-requires
 freed_of-block-requires g c =
     let words = words_of (g.P.Pmem.state c.args.device.now) in
-    (bounds_of words, tables_of words, c.args.root, c.in-Some.ensures, (sizes_of words c.requires.exact.formed).most)
+    (bounds_of words, tables_of words, c.args.root, c.in-Some.ensures, omega (arith, (sizes_of words c.requires.exact.formed).most))
 
 pub returns-in-Some : goal.returns-in-Some
 returns-in-Some g c =

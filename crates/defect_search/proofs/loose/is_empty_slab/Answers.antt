@@ -1,4 +1,6 @@
 use Rattle.std.proofs.Common.{◌∙◌, sym, arith, true≢false}
+use Rattle.pool_layout.specs.Header.{version_in}
+use Rattle.pool_layout.proofs.Layouts.{layout_rules}
 use Rattle.image_tables.proofs.Tables.{slab_table}
 use Rattle.defect_search.proofs.Marks.{empty_slab_by}
 use Rattle.image_reading.proofs.Holding.{refuted}
@@ -10,4 +12,4 @@ returns-then-not-is_slab c = refuted (λ empty. true≢false (sym empty.slab ∙
 pub returns : goal.returns
 returns c =
     let slab = sym (c.is_slab.ensures c.args.words.now c.requires.reads) ∙ c.if-not-is_slab.false in
-    empty_slab_by c.args.words.now c.args.met.now c.args.start c.is_unmet.result slab (omega (arith, c.requires.arena.slab c.args.start slab)) c.requires.named c.is_unmet.ensures
+    empty_slab_by c.args.words.now c.args.met.now c.args.start c.is_unmet.result slab (omega (arith, c.requires.arena.slab c.args.start slab, (layout_rules (version_in c.args.words.now)).first)) c.requires.named c.is_unmet.ensures

@@ -1,4 +1,6 @@
 use Rattle.std.proofs.Common.{arith}
+use Rattle.pool_layout.specs.Header.{version_in}
+use Rattle.pool_layout.proofs.Layouts.{layout_rules}
 use Rattle.defect_search.proofs.Marks.{loose_large_by}
 use Rattle.defect_search.proofs.loose.is_loose_large.Goals as goal
 
@@ -6,4 +8,4 @@ pub returns : goal.returns
 returns c =
     let large = c.large_at.ensures c.args.words.now c.requires.reads in
     let starts = c.requires.arena.large c.args.start (omega (arith, large)) in
-    loose_large_by c.args.words.now c.args.starts.now c.args.start c.large_at.result large (omega arith) (omega (arith, starts)) (omega arith) c.requires.named
+    loose_large_by c.args.words.now c.args.starts.now c.args.start c.large_at.result large (omega arith) (omega (arith, starts, (layout_rules (version_in c.args.words.now)).first)) (omega arith) c.requires.named

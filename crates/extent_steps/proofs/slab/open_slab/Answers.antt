@@ -1,12 +1,18 @@
-use Rattle.std.proofs.Common.{ap, arith}
+use Rattle.std.proofs.Common.{◌≡◌, ◌≤◌, ◌+◌, ℕ, List, ap, arith}
 use Rattle.pmem_lines.specs.Pmem.{words_of}
 use Rattle.pmem_lines.proofs.Steps.{step_then}
+use Rattle.pool_layout.specs.Layout.{layout_of}
+use Rattle.pool_layout.specs.Header.{version_in}
+use Rattle.pool_layout.proofs.Layouts.{layout_rules}
 use Rattle.heap_model.specs.Machine.{Bounds}
 use Rattle.heap_check.specs.State.{IsEitherHeap}
 use Rattle.book_log.specs.declared.entry.LogEntry.TheVariants.{Slab}
 use Rattle.log_steps.specs.Events.{log_events}
-use Rattle.extent_steps.proofs.Opening.{in_heap, start_high, made_same, made_book, made_disjoint, made_either, logged_either, opened}
+use Rattle.extent_steps.proofs.Opening.{in_heap, start_high, made_version, made_same, made_book, made_disjoint, made_either, logged_either, opened}
 use Rattle.extent_steps.proofs.slab.open_slab.Goals as goal
+
+pub make_header-requires-clause-room : goal.make_header-requires-clause-room
+make_header-requires-clause-room g c = omega (arith, c.requires.room, (layout_rules (version_in (words_of (g.P.Pmem.state c.args.p.now)))).slab)
 
 pub log_entry-requires-clause-formed : goal.log_entry-requires-clause-formed
 log_entry-requires-clause-formed g c =
@@ -27,6 +33,24 @@ log_entry-requires-clause-valid g c =
       omega (arith, in_heap words c.args.start c.args.class c.requires.openable c.requires.class, ap (λ (b : Bounds). b.first) same),
       omega (arith, start_high words c.args.start c.args.class c.requires.openable c.requires.class, ap (λ (b : Bounds). b.granules) same),
     )
+
+-- how many events an entry has, and a slab, of the version before the header is made
+made_events : (words image : List ℕ) → version_in image ≡ version_in words → (layout_of (version_in image)).entry_events + 75 ≤ (layout_of (version_in words)).slab_events
+made_events words image same = omega (arith, (layout_rules (version_in words)).slab, ap (λ v. (layout_of v).entry_events) same)
+
+pub log_entry-requires-clause-room : goal.log_entry-requires-clause-room
+log_entry-requires-clause-room g c =
+    let words = words_of (g.P.Pmem.state c.args.p.now) in
+    let made = words_of (g.P.Pmem.state c.make_header.new.p) in
+    let same = made_version words c.args.start c.args.class c.requires.openable c.requires.class made c.make_header.ensures.made.kept in
+    omega (arith, made_events words made same, c.requires.room, c.make_header.ensures.count, c.make_header.ensures.step.appends.room)
+
+pub returns-clause-few : goal.returns-clause-few
+returns-clause-few g c =
+    let words = words_of (g.P.Pmem.state c.args.p.now) in
+    let made = words_of (g.P.Pmem.state c.make_header.new.p) in
+    let same = made_version words c.args.start c.args.class c.requires.openable c.requires.class made c.make_header.ensures.made.kept in
+    omega (arith, made_events words made same, c.make_header.ensures.count, c.log_entry.ensures.few)
 
 pub returns-clause-step : goal.returns-clause-step
 returns-clause-step g c =

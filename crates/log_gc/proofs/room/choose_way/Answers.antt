@@ -1,4 +1,4 @@
-use Rattle.std.proofs.Common.{◌≡◌, ◌≤◌, ◌/◌, ◌∙◌, inl, inr, ap, sym, arith, length}
+use Rattle.std.proofs.Common.{◌≡◌, ◌/◌, ◌∙◌, inl, inr, ap, sym, arith, length}
 use Rattle.pmem_lines.specs.Words.{word_at}
 use Rattle.pmem_lines.specs.Pmem.{words_of}
 use Rattle.pool_layout.specs.declared.layout.Layout.{Layout}
@@ -21,8 +21,8 @@ load-requires g c =
     let inside = directory_inside _ _ c.requires.inside in
     record { aligned = omega (arith, c.directory_at.ensures); inside = omega (arith, c.directory_at.ensures, inside) }
 
-pub returns-then-len-lt-MOST_ACTIVE-clause-way : goal.returns-then-len-lt-MOST_ACTIVE-clause-way
-returns-then-len-lt-MOST_ACTIVE-clause-way g c =
+pub returns-then-len-lt-MOST_ACTIVE : goal.returns-then-len-lt-MOST_ACTIVE
+returns-then-len-lt-MOST_ACTIVE g c =
     let words = words_of (g.P.Pmem.state c.args.p.now) in
     let granules = c.args.log.now.granules in
     let items : c.active_chunks-active.result.items ≡ chunks_of words = c.active_chunks-active.ensures ∙ ap active_chunks (c.load.ensures ∙ ap (λ a. word_at words (a / 8)) c.directory_at.ensures) in
@@ -34,19 +34,18 @@ returns-then-len-lt-MOST_ACTIVE-clause-way g c =
     ]))
 
 pub count_live-requires : goal.count_live-requires
-count_live-requires g c = book_live c.args.log.now (words_of (g.P.Pmem.state c.args.p.now)) (omega (arith, c.granules.ensures.granules, c.granules.ensures.size.most)) c.requires.reads
+count_live-requires g c = book_live c.args.log.now (words_of (g.P.Pmem.state c.args.p.now)) c.requires.few c.requires.reads
 
 pub overflow_cast-result : goal.overflow_cast-result
 overflow_cast-result g c =
     let words = words_of (g.P.Pmem.state c.args.p.now) in
-    let few : c.args.log.now.granules ≤ 1024 = omega (arith, c.granules.ensures.granules, c.granules.ensures.size.most) in
     let row = ap (λ (l : Layout). l.chunk_entries) c.layout_of.ensures.row in
     let chunks = book_chunks c.args.log.now words c.version_of-version.result c.count_live.result c.layout_of.result.chunk_entries c.requires.reads c.version_of-version.ensures c.count_live.ensures row in
-    let arena : IsArenaLog c.args.log.now.granules words (chunks_of words) = record { log = c.requires.reads.log; inside = c.requires.inside; few = few } in
+    let arena : IsArenaLog c.args.log.now.granules words (chunks_of words) = record { log = c.requires.reads.log; inside = c.requires.inside; few = c.requires.few } in
     omega (arith, chunks, rewrite_most c.args.log.now.granules words (chunks_of words) arena c.requires.disjoint)
 
-pub returns-clause-way : goal.returns-clause-way
-returns-clause-way g c =
+pub returns : goal.returns
+returns g c =
     let words = words_of (g.P.Pmem.state c.args.p.now) in
     let granules = c.args.log.now.granules in
     let items : c.active_chunks-active.result.items ≡ chunks_of words = c.active_chunks-active.ensures ∙ ap active_chunks (c.load.ensures ∙ ap (λ a. word_at words (a / 8)) c.directory_at.ensures) in

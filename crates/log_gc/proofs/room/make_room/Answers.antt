@@ -29,7 +29,7 @@ load_next-requires-clause-log g c =
     let state = g.P.Pmem.state in
     let words = words_of (state c.args.p.now) in
     let granules = c.args.log.now.granules in
-    let arena : IsArenaLog granules words (chunks_of words) = record { log = c.requires.reads.log; inside = c.requires.inside; few = c.choose_way-way.ensures.few } in
+    let arena : IsArenaLog granules words (chunks_of words) = record { log = c.requires.reads.log; inside = c.requires.inside; few = c.requires.few } in
     subst (HasLog granules) (sym c.take_way.ensures.words) (made granules words arena c.requires.disjoint).keeps.log
 
 pub load_next-requires-clause-inside : goal.load_next-requires-clause-inside
@@ -37,7 +37,7 @@ load_next-requires-clause-inside g c =
     let state = g.P.Pmem.state in
     let words = words_of (state c.args.p.now) in
     let granules = c.args.log.now.granules in
-    let arena : IsArenaLog granules words (chunks_of words) = record { log = c.requires.reads.log; inside = c.requires.inside; few = c.choose_way-way.ensures.few } in
+    let arena : IsArenaLog granules words (chunks_of words) = record { log = c.requires.reads.log; inside = c.requires.inside; few = c.requires.few } in
     subst AreWithin (sym c.take_way.ensures.words) (made granules words arena c.requires.disjoint).within
 
 pub returns-clause-keeps : goal.returns-clause-keeps
@@ -45,7 +45,7 @@ returns-clause-keeps g c =
     let state = g.P.Pmem.state in
     let words = words_of (state c.args.p.now) in
     let granules = c.args.log.now.granules in
-    let arena : IsArenaLog granules words (chunks_of words) = record { log = c.requires.reads.log; inside = c.requires.inside; few = c.choose_way-way.ensures.few } in
+    let arena : IsArenaLog granules words (chunks_of words) = record { log = c.requires.reads.log; inside = c.requires.inside; few = c.requires.few } in
     subst (KeepsLog granules words) (sym c.take_way.ensures.words) (made granules words arena c.requires.disjoint).keeps
 
 pub load_next-requires-clause-live : goal.load_next-requires-clause-live
@@ -53,7 +53,7 @@ load_next-requires-clause-live g c start =
     let state = g.P.Pmem.state in
     let words = words_of (state c.args.p.now) in
     let granules = c.args.log.now.granules in
-    let arena : IsArenaLog granules words (chunks_of words) = record { log = c.requires.reads.log; inside = c.requires.inside; few = c.choose_way-way.ensures.few } in
+    let arena : IsArenaLog granules words (chunks_of words) = record { log = c.requires.reads.log; inside = c.requires.inside; few = c.requires.few } in
     c.requires.reads.live start ∙ sym ((subst (KeepsLog granules words) (sym c.take_way.ensures.words) (made granules words arena c.requires.disjoint).keeps).extents start)
 
 pub returns-clause-room : goal.returns-clause-room
@@ -61,7 +61,7 @@ returns-clause-room g c =
     let state = g.P.Pmem.state in
     let words = words_of (state c.args.p.now) in
     let granules = c.args.log.now.granules in
-    let arena : IsArenaLog granules words (chunks_of words) = record { log = c.requires.reads.log; inside = c.requires.inside; few = c.choose_way-way.ensures.few } in
+    let arena : IsArenaLog granules words (chunks_of words) = record { log = c.requires.reads.log; inside = c.requires.inside; few = c.requires.few } in
     next_some c.load_next.new.self (words_of (state c.take_way.new.p)) c.load_next.ensures.reads (subst HasFreeEntry (sym c.take_way.ensures.words) (made granules words arena c.requires.disjoint).free)
 
 pub returns-clause-version : goal.returns-clause-version
@@ -72,6 +72,6 @@ pub returns-clause-step : goal.returns-clause-step
 returns-clause-step g c =
     let words = words_of (g.P.Pmem.state c.args.p.now) in
     let granules = c.args.log.now.granules in
-    let arena : IsArenaLog granules words (chunks_of words) = record { log = c.requires.reads.log; inside = c.requires.inside; few = c.choose_way-way.ensures.few } in
+    let arena : IsArenaLog granules words (chunks_of words) = record { log = c.requires.reads.log; inside = c.requires.inside; few = c.requires.few } in
     let room = made granules words arena c.requires.disjoint in
     step_of c.take_way.ensures room.quiet c.requires.quiet room.crash

@@ -6,8 +6,11 @@ use Rattle.book_log.specs.Book.{HasLog, IsEntryOrNot, next_word, append_events}
 use Rattle.log_gc.specs.Room.{room_events}
 use Rattle.log_steps.specs.Events.{log_events}
 use Rattle.log_steps.specs.Log.{IsLogged, IsLoggedOrNot}
-use Rattle.log_steps.proofs.Entries.{events_of_entry, room_few, off_log, logged_then, made_or_not, logged_or_not}
+use Rattle.log_steps.proofs.Entries.{events_of_entry, most_granules, room_few, off_log, logged_then, made_or_not, logged_or_not}
 use Rattle.log_steps.proofs.entry.log_entry.Goals as goal
+
+pub make_room-requires-clause-few : goal.make_room-requires-clause-few
+make_room-requires-clause-few g c = most_granules c.args.log.now (words_of (g.P.Pmem.state c.args.device.now)) c.requires.formed c.requires.book
 
 pub make_room-requires-clause-left : goal.make_room-requires-clause-left
 make_room-requires-clause-left g c =

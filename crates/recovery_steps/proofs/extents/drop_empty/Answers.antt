@@ -1,6 +1,8 @@
 use Rattle.std.proofs.Common.{List, ℕ, subst, arith}
 use Rattle.pmem_lines.specs.Pmem.{words_of}
 use Rattle.pmem_lines.proofs.Steps.{step_wider}
+use Rattle.pool_layout.specs.Layout.{layout_of}
+use Rattle.pool_layout.specs.Header.{version_in}
 use Rattle.image_tables.specs.Tables.{tables_of}
 use Rattle.heap_check.specs.Sound.{IsEmptySlab}
 use Rattle.image_defects.specs.Least.{HasNone}
@@ -21,7 +23,7 @@ returns-in-Some-clause-part g c =
     let new = words_of (g.P.Pmem.state c.drop_slab.new.p) in
     let start = c.in-Some.start in
     let done = c.drop_slab.ensures in
-    part_of DropsSlab 682 (drop_events words start) (takes_one start (here_in g c)) (omega (arith, done.few, done.step.appends.count))
+    part_of DropsSlab (layout_of (version_in words)).entry_events (drop_events words start) (takes_one start (here_in g c)) (omega (arith, done.few, done.step.appends.count))
     (step_wider (λ image left. either_keeps words new image done.dropped.heap left) done.step)
 
 pub returns-in-Some-clause-rids : goal.returns-in-Some-clause-rids
@@ -31,5 +33,5 @@ returns-in-Some-clause-rids g c =
 
 pub returns-in-None-clause-part : goal.returns-in-None-clause-part
 returns-in-None-clause-part g c =
-    part_none DropsSlab 682 c.requires.quiet c.requires.shut.image
+    part_none DropsSlab (layout_of (version_in (words_of (g.P.Pmem.state c.args.p.now)))).entry_events c.requires.quiet c.requires.shut.image
     (takes_none (subst (λ (ws : List ℕ). HasNone (IsEmptySlab (tables_of ws))) c.all_words.ensures c.in-None.ensures))

@@ -1,5 +1,12 @@
-use Rattle.std.proofs.Common.{refl, ◌∙◌}
+use Rattle.std.proofs.Common.{◌-◌, ap, subst, ◌∙◌, arith}
 use Rattle.pmem_lines.specs.Pmem.{words_of}
+use Rattle.pool_layout.specs.Layout.{layout_of}
+use Rattle.pool_layout.specs.Header.{version_in}
+use Rattle.pool_layout.proofs.Layouts.{layout_rules}
+use Rattle.heap_check.proofs.Sizes.{version_by_bounds}
+use Rattle.settle_steps.specs.Settled.{KeepsHeap}
+use Rattle.recovery_steps.specs.Parts.{IsPart}
+use Rattle.recovery_steps.specs.Recovery.{Recovers}
 use Rattle.settle_steps.proofs.Keeping.{KeepsHeap-then}
 use Rattle.recovery_steps.proofs.Chains.{part_after, part_alone, none_taken}
 use Rattle.recovery_steps.proofs.Leaving.{names_same}
@@ -13,13 +20,33 @@ make_steady_exact-requires-clause-names g c =
     names_same c.args.names.now (words_of (state c.args.p.now)) (words_of (state c.make_steady.new.p)) steadied.bounds steadied.roots c.requires.names
 
 pub returns-clause-part : goal.returns-clause-part
-returns-clause-part g c = part_after 1452 refl c.make_steady.ensures.part c.make_steady.ensures.steadied.keeps c.make_steady_exact.ensures.part
+returns-clause-part g c =
+    let words = words_of (g.P.Pmem.state c.args.p.now) in
+    let steadied = c.make_steady.ensures.steadied in
+    let same = version_by_bounds words (words_of (g.P.Pmem.state c.make_steady.new.p)) c.requires.image.formed steadied.keeps.steady.formed steadied.bounds in
+    part_after (layout_of (version_in words)).recovery_events
+    (omega (arith, (layout_rules (version_in words)).recovery, ap (λ v. (layout_of v).recovery_events) same))
+    c.make_steady.ensures.part steadied.keeps c.make_steady_exact.ensures.part
+
+pub make_steady-requires-clause-room : goal.make_steady-requires-clause-room
+make_steady-requires-clause-room g c = omega (arith, c.requires.room, (layout_rules (version_in (words_of (g.P.Pmem.state c.args.p.now)))).recovery)
+
+pub make_steady_exact-requires-clause-room : goal.make_steady_exact-requires-clause-room
+make_steady_exact-requires-clause-room g c =
+    let words = words_of (g.P.Pmem.state c.args.p.now) in
+    let part = c.make_steady.ensures.part in
+    let steadied = c.make_steady.ensures.steadied in
+    let same = version_by_bounds words (words_of (g.P.Pmem.state c.make_steady.new.p)) c.requires.image.formed steadied.keeps.steady.formed steadied.bounds in
+    omega (arith, c.requires.room, (layout_rules (version_in words)).recovery, ap (λ v. (layout_of v).recovery_events) same, part.few, part.step.appends.count, part.step.appends.room)
 
 pub returns-clause-steady : goal.returns-clause-steady
 returns-clause-steady g c = λ steady.
-    part_alone c.make_steady.ensures.part
+    let words = words_of (g.P.Pmem.state c.args.p.now) in
+    let steadied = c.make_steady.ensures.steadied in
+    let same = version_by_bounds words (words_of (g.P.Pmem.state c.make_steady.new.p)) c.requires.image.formed steadied.keeps.steady.formed steadied.bounds in
+    subst (λ v. IsPart KeepsHeap (g.P.Pmem.state c.args.p.now) (g.P.Pmem.state c.make_steady_exact.new.p) Recovers ((layout_of v).recovery_events - 3)) same (part_alone c.make_steady.ensures.part
     (none_taken (none_besides (words_of (g.P.Pmem.state c.args.p.now)) steady) c.make_steady.ensures.part.stores)
-    c.make_steady_exact.ensures.part
+    c.make_steady_exact.ensures.part)
 
 pub returns-clause-heap : goal.returns-clause-heap
 returns-clause-heap g c =

@@ -22,7 +22,7 @@ returns-then-root-layout_in g c =
 pub freed_of-block-requires : goal.freed_of-block-requires
 freed_of-block-requires g c =
     let words = words_of (g.P.Pmem.state c.self.inside.device) in
-    (bounds_of words, tables_of words, c.args.root, c.in-Some.ensures, (sizes_of words c.self.invariant.current.exact.formed).most)
+    (bounds_of words, tables_of words, c.args.root, c.in-Some.ensures, omega (arith, (sizes_of words c.self.invariant.current.exact.formed).most))
 
 pub returns-in-Some : goal.returns-in-Some
 returns-in-Some g c =

@@ -1,4 +1,8 @@
-use Rattle.std.proofs.Common.{◌↔◌, ◌<◌, ◌≤◌, ℕ, ◌∙◌, sym, subst, arith}
+use Rattle.std.proofs.Common.{◌↔◌, ◌<◌, ◌≤◌, ℕ, ◌∙◌, sym, ap, subst, arith}
+use Rattle.pmem_lines.specs.Pmem.{PmemState, HasRoom}
+use Rattle.pool_layout.specs.declared.layout.Layout.{Layout}
+use Rattle.pool_layout.specs.Layout.{layout_of}
+use Rattle.pool_layout.proofs.Layouts.{layout_rules}
 use Rattle.pool_layout.specs.declared.header.PoolHeader.{PoolHeader}
 use Rattle.extent_index.specs.FreeSet.{IsFree}
 use Rattle.arena_core.proofs.Formats.{IsPoolHeader-new, IsWritten, formatted_device, formatted_crash, formatted_ready, formatted_exact, formatted_log, formatted_inside, formatted_arena}
@@ -7,7 +11,23 @@ use Rattle.arena_core.proofs.arena.Arena.format.Goals as goal
 
 pub write_header-requires-clause-header : goal.write_header-requires-clause-header
 write_header-requires-clause-header g c =
-    IsPoolHeader-new c.args.number c.args.arenas c.granules.result c.requires.number c.requires.few c.granules.ensures.size.least c.granules.ensures.size.most
+    IsPoolHeader-new c.args.number c.args.arenas c.granules.result c.requires.number c.requires.few c.granules.ensures.size.least (omega (arith, c.requires.most, c.room.view_is, c.granules.ensures.granules))
+
+pub write_header-requires-clause-room : goal.write_header-requires-clause-room
+write_header-requires-clause-room g c =
+    let old = g.P.Pmem.state c.args.device in
+    let few : 5 ≤ old.room = omega (arith, c.requires.room, (layout_rules 1).room) in
+    subst (λ (s : PmemState). HasRoom s 5) (sym c.begin.ensures.state) few
+
+pub take_front-requires-clause-all_free : goal.take_front-requires-clause-all_free
+take_front-requires-clause-all_free g c =
+    let free = c.room.inside.volatile.free in
+    subst (λ (n : ℕ). (k : ℕ) → IsFree free k ↔ ((4 ≤ k) × (k < n))) (sym c.room.invariant.index) c.room.invariant.each
+
+pub take_front-requires-clause-high : goal.take_front-requires-clause-high
+take_front-requires-clause-high g c =
+    let valid = IsPoolHeader-new c.args.number c.args.arenas c.granules.result c.requires.number c.requires.few c.granules.ensures.size.least (omega (arith, c.requires.most, c.room.view_is, c.granules.ensures.granules)) in
+    omega (arith, valid.least, (layout_rules 1).some_granule, ap (λ (row : Layout). row.first_granule) c.layout_of.ensures.row, c.room.invariant.index, c.granules.ensures.granules)
 
 -- the header line was written, before the log is loaded and behind it
 
@@ -20,7 +40,7 @@ written g c = record {
   below = c.requires.number;
   few = c.requires.few;
   least = c.granules.ensures.size.least;
-  most = c.granules.ensures.size.most;
+  most = omega (arith, c.requires.most, c.room.view_is, c.granules.ensures.granules);
   room = c.requires.room;
 }
 
@@ -33,7 +53,7 @@ left g c = record {
   below = c.requires.number;
   few = c.requires.few;
   least = c.granules.ensures.size.least;
-  most = c.granules.ensures.size.most;
+  most = omega (arith, c.requires.most, c.room.view_is, c.granules.ensures.granules);
   room = c.requires.room;
 }
 
@@ -47,8 +67,12 @@ pub invariant_of-result : goal.invariant_of-result
 invariant_of-result g c =
     let header : PoolHeader = record { version = 1; number = c.args.number; arenas = c.args.arenas; granules = c.granules.result } in
     let same = sym c.granules.ensures.granules in
-    formatted_arena (g.P.Pmem.state c.write_header.new.device) header (record c.room.inside.volatile { log = c.load.new.self }) (formatted_ready (left g c)) (formatted_device (left g c)) c.load.ensures.reads (c.load.ensures.granules ∙ same)
-    (c.room.invariant.index ∙ same) (subst (λ (n : ℕ). (k : ℕ) → IsFree c.room.inside.volatile.free k ↔ ((4 ≤ k) × (k < n))) same c.room.invariant.each)
+    let set = c.take_front.new.free in
+    let heap = c.take_front.ensures.heap in
+    formatted_arena (g.P.Pmem.state c.write_header.new.device) header (record c.room.inside.volatile { free = set; log = c.load.new.self }) (formatted_ready (left g c)) (formatted_device (left g c)) c.load.ensures.reads (c.load.ensures.granules ∙ same)
+    (c.take_front.ensures.granules ∙ c.room.invariant.index ∙ same)
+    (subst (λ (n : ℕ). (k : ℕ) → IsFree set k ↔ (((layout_of 1).first_granule ≤ k) × (k < n))) (c.room.invariant.index ∙ same)
+    (subst (λ (row : Layout). (k : ℕ) → IsFree set k ↔ ((row.first_granule ≤ k) × (k < c.room.inside.volatile.free.granules))) c.layout_of.ensures.row heap))
     (c.room.invariant.slabs ∙ same) c.room.invariant.no_slab (c.room.invariant.counts ∙ same) c.room.invariant.no_lives c.room.invariant.no_calm c.room.invariant.first
 
 pub returns-clause-ready : goal.returns-clause-ready

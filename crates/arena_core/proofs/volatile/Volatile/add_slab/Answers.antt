@@ -1,7 +1,14 @@
-use Rattle.std.proofs.Common.{arith}
+use Rattle.std.proofs.Common.{ap, arith, length}
+use Rattle.arena_core.proofs.Readiness.{slab_room}
 use Rattle.pmem_lines.specs.Pmem.{words_of}
 use Rattle.arena_core.proofs.SlabChanges.{clear_opened, lives_opened, index_opened, slabs_opened}
 use Rattle.arena_core.proofs.volatile.Volatile.add_slab.Goals as goal
+
+pub open_slab-requires-clause-room : goal.open_slab-requires-clause-room
+open_slab-requires-clause-room g c = omega (arith, ap length c.requires.fresh, slab_room c.requires.current.ready)
+
+pub returns-clause-room : goal.returns-clause-room
+returns-clause-room g c = omega (arith, ap length c.requires.fresh, c.open_slab.ensures.few, c.open_slab.ensures.step.appends.room, slab_room c.requires.current.ready)
 
 pub take-requires : goal.take-requires
 take-requires g c = record { each = λ k low high. (c.requires.current.index.each k).1 (c.requires.row.vacant k low high) }

@@ -89,7 +89,7 @@ freed_of-requires g c =
     let t = tables_of words in
     let root = c.args.root in
     let same : c.match-held.held ≡ c.args.held = elim c.match-held.branch [ in-Large w ↦ w.held-is ∙ sym w.in-Large.is | in-Small w ↦ w.held-is ∙ sym w.in-Small.is | in-Old w ↦ w.held-is ∙ sym w.in-Old.is ] in
-    (b, t, root, subst (IsHeldBy b t root) (sym same) c.requires.plan, (sizes_of words c.requires.arena.current.exact.formed).most)
+    (b, t, root, subst (IsHeldBy b t root) (sym same) c.requires.plan, omega (arith, (sizes_of words c.requires.arena.current.exact.formed).most))
 
 pub take_small-requires-clause-named : goal.take_small-requires-clause-named
 take_small-requires-clause-named g c =

@@ -1,8 +1,12 @@
-use Rattle.std.proofs.Common.{subst}
+use Rattle.std.proofs.Common.{ap, subst, arith, length}
 use Rattle.pmem_lines.specs.Pmem.{words_of}
 use Rattle.arena_core.specs.Moving.{IsMovePlan}
+use Rattle.arena_core.proofs.Readiness.{room_of}
 use Rattle.arena_core.proofs.MovesCalls.{movable, carried_moved, carried_unmoved}
 use Rattle.arena_core.proofs.volatile.Volatile.carry_out_move.Goals as goal
+
+pub move_root-requires-clause-room : goal.move_root-requires-clause-room
+move_root-requires-clause-room g c = omega (arith, ap length c.requires.fresh, room_of c.requires.arena.current.ready)
 
 pub move_root-requires-clause-movable : goal.move_root-requires-clause-movable
 move_root-requires-clause-movable g c =

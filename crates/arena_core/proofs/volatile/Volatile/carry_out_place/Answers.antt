@@ -1,4 +1,4 @@
-use Rattle.std.proofs.Common.{◌≡◌, ◌≢◌, ℕ, ◌+◌, ◌*◌, ◌%◌, ◌≤◌, Ok, refl, sym, ap, subst, ◌∙◌, arith}
+use Rattle.std.proofs.Common.{◌≡◌, ◌≢◌, ℕ, ◌+◌, ◌*◌, ◌%◌, ◌≤◌, Ok, length, refl, sym, ap, subst, ◌∙◌, arith}
 use Rattle.pmem_lines.specs.Pmem.{words_of}
 use Rattle.image_tables.specs.Tables.{tables_of}
 use Rattle.heap_model.specs.declared.call.Call.TheVariants as calls
@@ -8,6 +8,7 @@ use Rattle.heap_model.specs.Machine.{Range, slab_block}
 use Rattle.heap_model.specs.Choice.Site.{Granules, InSlab, InMorph, InNewSlab}
 use Rattle.heap_check.specs.Image.{bounds_of}
 use Rattle.heap_check.proofs.Sizes.{sizes_of}
+use Rattle.arena_core.proofs.Readiness.{room_of}
 use Rattle.arena_core.specs.declared.volatile.Volatile.{Volatile}
 use Rattle.arena_core.specs.declared.plan.Place.{Place}
 use Rattle.arena_core.specs.declared.plan.Place.TheVariants as places
@@ -158,8 +159,11 @@ give_large-requires-clause-givable g c =
     here.is.1.place_for
 
 -- a block of a slab
-pub give_small-requires-clause-ready : goal.give_small-requires-clause-ready
-give_small-requires-clause-ready g c = c.requires.planned.2.arena.current.ready
+pub give_small-requires-clause-quiet : goal.give_small-requires-clause-quiet
+give_small-requires-clause-quiet g c = c.requires.planned.2.arena.current.ready.quiet
+
+pub give_small-requires-clause-room : goal.give_small-requires-clause-room
+give_small-requires-clause-room g c = omega (arith, ap length c.requires.fresh, room_of c.requires.planned.2.arena.current.ready)
 
 pub give_small-requires-clause-line : goal.give_small-requires-clause-line
 give_small-requires-clause-line g c = omega (arith, line_same c.requires.planned.0 c.args.self.now c.requires.planned.2.rest, c.requires.planned.2.arena.few)

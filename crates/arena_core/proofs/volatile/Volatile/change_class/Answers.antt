@@ -1,4 +1,5 @@
 use Rattle.std.proofs.Common.{◌≡◌, ◌/◌, length, ap, ◌∙◌, arith}
+use Rattle.arena_core.proofs.Readiness.{ready_after, room_of}
 use Rattle.pmem_lines.specs.Pmem.{words_of}
 use Rattle.image_tables.specs.Tables.{tables_of}
 use Rattle.heap_model.proofs.Maps.{with_key-here}
@@ -14,7 +15,7 @@ take_class-requires-clause-ready g c = ready_for (words_of (g.P.Pmem.state c.arg
 pub take_class-requires-clause-room : goal.take_class-requires-clause-room
 take_class-requires-clause-room g c =
     let few = few_changes (tables_of (words_of (g.P.Pmem.state c.args.device.now))) c.args.start c.args.class c.requires.morphable in
-    omega (arith, few, ap length c.requires.fresh, c.requires.arena.current.ready.room)
+    omega (arith, few, ap length c.requires.fresh, room_of c.requires.arena.current.ready)
 
 pub remove-requires : goal.remove-requires
 remove-requires g c = is_slab c.args.start c.requires.arena.slabs c.requires.morphable.slab
@@ -58,10 +59,10 @@ returns g c =
     let more = came_back words start class may new taken (c.granule_at.result / 16384) at c.add_used.ensures c.used_blocks-used.ensures.unused in
     record {
       step = step;
-      few = omega (arith, few, ap length c.requires.fresh, c.take_class.ensures.count);
+      room = omega (arith, few, ap length c.requires.fresh, c.take_class.ensures.count, step.appends.room, room_of arena.current.ready);
       taken = taken;
       current = record {
-        ready = record { quiet = step.quiet; room = omega (arith, arena.current.ready.room, step.appends.room) };
+        ready = ready_after arena.current.ready step.appends.room step.quiet image.formed taken.exact.formed taken.bounds;
         exact = taken.exact;
         log = book_changed words start class may new taken image c.args.self.now.log arena.current.log;
         index = index_changed words start class may new taken c.args.self.now.free arena.current.index;

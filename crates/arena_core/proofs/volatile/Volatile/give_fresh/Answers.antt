@@ -1,4 +1,5 @@
 use Rattle.std.proofs.Common.{◌≡◌, ◌+◌, ◌*◌, ◌<◌, true, ◌++◌, sym, ap, subst, ◌∙◌, arith, inl, Some}
+use Rattle.arena_core.proofs.Readiness.{ready_after}
 use Rattle.pmem_lines.specs.Events.{reading}
 use Rattle.pmem_lines.specs.Pmem.{words_of}
 use Rattle.pmem_lines.proofs.Steps.{step_by}
@@ -57,7 +58,7 @@ returns-clause-done g c =
       step = step_by (open_events words start class ++ attach_events (reading words (open_events words start class)) line root first) (fresh_events words c.args.self.now.line root start class) events
           (steps_then words mid new (inl opened.heap) (λ ws. attach_events ws line root first) kept_words add.step give.step);
       current = subst (IsCurrent (state c.give_small.new.device)) (sym give.rest) (record {
-        ready = record { quiet = give.step.quiet; room = omega (arith, arena.current.ready.room, add.step.appends.room, give.step.appends.room) };
+        ready = ready_after arena.current.ready (give.step.appends.room ∙ add.step.appends.room) give.step.quiet exact.formed attached.exact.formed (attached.bounds ∙ opened.bounds);
         exact = attached.exact;
         log = book_small change new attached.rest attached.bounds c.add_slab.new.self.log add.book;
         index = index_small mid (bits_with t start 0) (lives_as t) root true c.blocks_at.result new attached.bounds attached.tables c.add_slab.new.self.free add.index;

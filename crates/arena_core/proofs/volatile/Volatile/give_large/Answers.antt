@@ -1,4 +1,5 @@
 use Rattle.std.proofs.Common.{◌≡◌, ◌<◌, ◌*◌, ℕ, List, length, refl, sym, ap, subst, ◌∙◌, arith, inr}
+use Rattle.arena_core.proofs.Readiness.{ready_after, entry_room}
 use Rattle.pmem_lines.specs.Words.{put_word}
 use Rattle.pmem_lines.specs.Pmem.{words_of}
 use Rattle.pmem_lines.specs.Steps.{IsQuietStep}
@@ -26,6 +27,9 @@ log_entry-requires-clause-disjoint g c =
     let arena = c.requires.arena.current in
     disjoint_of (words_of (g.P.Pmem.state c.args.device.now)) arena.exact.formed arena.exact.exact.sound
 
+pub log_entry-requires-clause-room : goal.log_entry-requires-clause-room
+log_entry-requires-clause-room g c = omega (arith, ap length c.requires.fresh, entry_room c.requires.arena.current.ready)
+
 pub put_root-requires-clause-root : goal.put_root-requires-clause-root
 put_root-requires-clause-root g c = omega (arith, c.requires.givable.below, (sizes_of (words_of (g.P.Pmem.state c.args.device.now)) c.requires.arena.current.exact.formed).roots)
 
@@ -35,7 +39,7 @@ put_root-requires-clause-inside g c =
 
 pub put_root-requires-clause-room : goal.put_root-requires-clause-room
 put_root-requires-clause-room g c =
-    omega (arith, ap length c.requires.fresh, c.log_entry.ensures.few, c.log_entry.ensures.step.appends.room, c.requires.arena.current.ready.room)
+    omega (arith, ap length c.requires.fresh, c.log_entry.ensures.few, c.log_entry.ensures.step.appends.room, entry_room c.requires.arena.current.ready)
 
 pub take-requires : goal.take-requires
 take-requires g c = record { each = λ k low high. (c.requires.arena.current.index.each k).1 (c.requires.givable.row.vacant k low high) }
@@ -66,7 +70,7 @@ returns-clause-done g c =
     (give_step words root start count exact c.requires.givable new done made middle logged.step
     (subst (λ (a : ℕ). IsQuietStep (state c.log_entry.new.device) left (root_events root a) (PutsRootOrNot made root a)) at_is put.step))
     (record {
-      ready = record { quiet = put.step.quiet; room = omega (arith, arena.ready.room, logged.step.appends.room, put.step.appends.room) };
+      ready = ready_after arena.ready (put.step.appends.room ∙ logged.step.appends.room) put.step.quiet exact.formed done.formed done.bounds;
       exact = exact_stage exact place count (16384 * start) new (record { is = inr (refl, refl) }) done;
       log = subst (λ (ws : List ℕ). IsBookOf c.log_entry.new.log ws) (sym is) (book_root c.log_entry.new.log made root (16384 * start) among logged.book);
       index = index_stage c.take.new.self done (c.take.ensures.granules ∙ arena.index.granules)

@@ -1,4 +1,5 @@
 use Rattle.std.proofs.Common.{◌≡◌, ◌+◌, ◌*◌, ◌<◌, true, Some, refl, sym, ap, subst, ◌∙◌, ◌++◌, arith, inl}
+use Rattle.arena_core.proofs.Readiness.{ready_after}
 use Rattle.size_classes.specs.Classes.{class_size}
 use Rattle.pmem_lines.specs.Events.{reading}
 use Rattle.pmem_lines.specs.Pmem.{words_of}
@@ -104,7 +105,7 @@ returns-clause-done g c =
       step = step_by (morph ++ attach_events (reading words morph) line root block) (morphed_events words c.args.self.now.line root block class) events
           (steps_then words mid new (inl kept.heap) (λ ws. attach_events ws line root block) kept.blocks (step_wider (either_kept words start class morphable mid taken) change.step) give.step);
       current = subst (IsCurrent (state c.give_small.new.device)) (sym give.rest) (record {
-        ready = record { quiet = give.step.quiet; room = omega (arith, arena.current.ready.room, change.step.appends.room, give.step.appends.room) };
+        ready = ready_after change.current.ready give.step.appends.room give.step.quiet taken.exact.formed attached.exact.formed attached.bounds;
         exact = attached.exact;
         log = book_small bits new attached.rest attached.bounds c.change_class.new.self.log change.current.log;
         index = index_small mid (bits_with t start number) (lives_as t) root true at new attached.bounds attached.tables c.change_class.new.self.free change.current.index;

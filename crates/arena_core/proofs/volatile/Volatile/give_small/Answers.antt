@@ -12,9 +12,6 @@ use Rattle.arena_core.proofs.SmallCalls.{slabs_less, slabs_used, used_given}
 use Rattle.arena_core.proofs.TakenBlocks.{counted, more_given}
 use Rattle.arena_core.proofs.volatile.Volatile.give_small.Goals as goal
 
-pub attach-requires-clause-room : goal.attach-requires-clause-room
-attach-requires-clause-room g c = omega (arith, c.requires.few, c.requires.ready.room)
-
 pub raise-requires-clause-inside : goal.raise-requires-clause-inside
 raise-requires-clause-inside g c =
     let block_in = c.requires.attachable.block_in in

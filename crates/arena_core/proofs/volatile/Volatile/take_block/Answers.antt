@@ -1,4 +1,5 @@
 use Rattle.std.proofs.Common.{ℕ, false, sym, ap, subst, ◌∙◌, arith, Some, None, length}
+use Rattle.arena_core.proofs.Readiness.{room_of}
 use Rattle.std.proofs.lemmas.Bool.{cond-true}
 use Rattle.pmem_lines.specs.Pmem.{words_of}
 use Rattle.image_tables.specs.Tables.{Tables, tables_of}
@@ -13,7 +14,7 @@ use Rattle.arena_core.proofs.TakenBlocks.{counted, class_more, taken_by}
 use Rattle.arena_core.proofs.volatile.Volatile.take_block.Goals as goal
 
 pub detach-requires-clause-room : goal.detach-requires-clause-room
-detach-requires-clause-room g c = omega (arith, ap length c.requires.fresh, c.requires.arena.current.ready.room)
+detach-requires-clause-room g c = omega (arith, ap length c.requires.fresh, room_of c.requires.arena.current.ready)
 
 -- the block is one of the supply, which is not open
 pub put_back-requires-clause-block : goal.put_back-requires-clause-block

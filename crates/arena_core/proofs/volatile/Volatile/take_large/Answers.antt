@@ -1,10 +1,12 @@
-use Rattle.std.proofs.Common.{ℕ, List, refl, sym, subst, ◌∙◌, arith, inl}
+use Rattle.std.proofs.Common.{ℕ, List, length, refl, sym, ap, subst, ◌∙◌, arith, inl}
+use Rattle.arena_core.proofs.Readiness.{ready_after, room_of, entry_room}
 use Rattle.pmem_lines.specs.Pmem.{words_of}
 use Rattle.image_tables.specs.Tables.{tables_of}
 use Rattle.heap_check.specs.Image.{bounds_of}
 use Rattle.heap_check.proofs.Large.{with_large}
 use Rattle.heap_check.proofs.LargeHeaps.{IsVacant-freed}
-use Rattle.heap_check.proofs.Sizes.{sizes_of, root_inside}
+use Rattle.pool_layout.specs.Layout.{layout_of}
+use Rattle.heap_check.proofs.Sizes.{sizes_of, root_inside, version_by_bounds}
 use Rattle.log_steps.specs.Log.{IsBookOf}
 use Rattle.extent_steps.specs.Large.{IsLooseExtent}
 use Rattle.arena_core.proofs.Arenas.{book_root, slabs_stage, index_stage, index_more}
@@ -23,6 +25,20 @@ pub drop_extent-requires-clause-loose : goal.drop_extent-requires-clause-loose
 drop_extent-requires-clause-loose g c =
     subst (λ (ws : List ℕ). IsLooseExtent ws c.args.start) (sym c.put_root.ensures.words)
     (taken_loose (words_of (g.P.Pmem.state c.args.device.now)) c.args.root c.args.start c.args.granules c.requires.arena.current.exact c.requires.takable)
+
+pub put_root-requires-clause-room : goal.put_root-requires-clause-room
+put_root-requires-clause-room g c = omega (arith, ap length c.requires.fresh, room_of c.requires.arena.current.ready)
+
+pub drop_extent-requires-clause-room : goal.drop_extent-requires-clause-room
+drop_extent-requires-clause-room g c =
+    let words = words_of (g.P.Pmem.state c.args.device.now) in
+    let made = words_of (g.P.Pmem.state c.put_root.new.p) in
+    let exact = c.requires.arena.current.exact in
+    let put = c.put_root.ensures in
+    let stage : IsStageOf words c.args.root c.args.start c.args.granules 0 made =
+    subst (λ (ws : List ℕ). IsStageOf words c.args.root c.args.start c.args.granules 0 ws) (sym put.words) (taken_root words c.args.root c.args.start c.args.granules exact c.requires.takable) in
+    let same = version_by_bounds words made exact.formed stage.formed stage.bounds in
+    omega (arith, ap length c.requires.fresh, put.step.appends.count, put.step.appends.room, entry_room c.requires.arena.current.ready, ap (λ v. (layout_of v).entry_events) same)
 
 pub drop_extent-requires-clause-book : goal.drop_extent-requires-clause-book
 drop_extent-requires-clause-book g c =
@@ -60,7 +76,7 @@ returns-clause-done g c =
     IsDone-large c.requires.arena refl refl (live_taken_large words new root start count exact c.requires.takable (gives_none exact place 0 new done) (slabs_stage done))
     (take_step words root start count exact c.requires.takable new put.words drop.gone.heap put.step drop.step)
     (record {
-      ready = record { quiet = drop.step.quiet; room = omega (arith, arena.ready.room, drop.step.appends.room, put.step.appends.room) };
+      ready = ready_after arena.ready (drop.step.appends.room ∙ put.step.appends.room) drop.step.quiet exact.formed done.formed done.bounds;
       exact = exact_stage exact place 0 0 new (record { is = inl (refl, refl) }) done;
       log = drop.book;
       index = index_stage c.give.new.self done (c.give.ensures.granules ∙ arena.index.granules)

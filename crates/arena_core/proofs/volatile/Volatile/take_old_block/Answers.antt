@@ -1,4 +1,5 @@
 use Rattle.std.proofs.Common.{ap, ◌∙◌, arith, length}
+use Rattle.arena_core.proofs.Readiness.{room_of}
 use Rattle.pmem_lines.specs.Pmem.{words_of}
 use Rattle.image_tables.specs.Tables.{Tables, tables_of}
 use Rattle.arena_core.proofs.BlockChanges.{change_index}
@@ -11,7 +12,7 @@ use Rattle.arena_core.proofs.TakenBlocks.{counted, old_more, taken_by}
 use Rattle.arena_core.proofs.volatile.Volatile.take_old_block.Goals as goal
 
 pub detach_old-requires-clause-room : goal.detach_old-requires-clause-room
-detach_old-requires-clause-room g c = omega (arith, ap length c.requires.fresh, c.requires.arena.current.ready.room)
+detach_old-requires-clause-room g c = omega (arith, ap length c.requires.fresh, room_of c.requires.arena.current.ready)
 
 pub open_covered-requires-clause-slab : goal.open_covered-requires-clause-slab
 open_covered-requires-clause-slab g c = ap (λ (x : Tables). x.slab c.args.block.start) c.detach_old.ensures.detached.tables ∙ c.requires.detachable.slab

@@ -1,4 +1,5 @@
 use Rattle.std.proofs.Common.{◌≡◌, ◌≢◌, ◌↔◌, ◌/◌, ℕ, Some, slice_index, IsTrue, true≢false, sym, ap, subst, ◌∙◌, arith}
+use Rattle.arena_core.proofs.Readiness.{ready_after, room_of, entry_room}
 use Rattle.std.proofs.lemmas.Bool.{cond-true}
 use Rattle.pmem_lines.specs.Pmem.{words_of}
 use Rattle.pmem_lines.proofs.Steps.{step_by}
@@ -31,6 +32,12 @@ drop_slab-requires-clause-droppable g c =
       empty = empty_by_tests c.args.start image.but c.requires.untidy.slab (none_by_count old c.args.self.now c.args.start c.requires.untidy (sym c.at.ensures ∙ c.if-at-eq0.true));
     }
 
+pub drop_slab-requires-clause-room : goal.drop_slab-requires-clause-room
+drop_slab-requires-clause-room g c = omega (arith, c.requires.few, entry_room c.requires.untidy.ready)
+
+pub end_transition-requires-clause-room : goal.end_transition-requires-clause-room
+end_transition-requires-clause-room g c = omega (arith, c.requires.few, room_of c.requires.untidy.ready)
+
 pub give-requires : goal.give-requires
 give-requires g c = held_row (words_of (g.P.Pmem.state c.args.device.now)) c.args.self.now.free c.args.start c.requires.untidy.image c.requires.untidy.slab c.requires.untidy.index
 
@@ -62,7 +69,7 @@ returns-then-at-eq0-clause-tidied g c =
     record {
       step = step_by (drop_events words start) (tidy_events words start) (sym events) drop.step;
       current = record {
-        ready = record { quiet = drop.step.quiet; room = omega (arith, c.requires.untidy.ready.room, drop.step.appends.room) };
+        ready = ready_after c.requires.untidy.ready drop.step.appends.room drop.step.quiet image.formed (dropped.exact image.but).formed dropped.bounds;
         exact = dropped.exact image.but;
         log = drop.book;
         index = index_dropped words start image empty new dropped c.args.self.now.free c.give.new.self c.give.ensures.granules c.give.ensures.free c.requires.untidy.index;
