@@ -13,6 +13,7 @@ use arena_core::Arena;
 use arena_journal::answer;
 use heap_model::Entry;
 use pmem_lines::{OutOfMemory, SimPmem};
+use pool_layout::layout_of;
 use std::alloc::{AllocError, Global};
 use std::io::Read;
 use std::process::ExitCode;
@@ -27,7 +28,8 @@ use trace_workers::{OpenGate, make_calls};
 
 const GRANULE_LINES: u32 = 256;
 
-const ROOM: u32 = 2048;
+/// The version of a trace's arenas.
+const VERSION: u32 = 1;
 
 const LONGEST: usize = 67_108_864;
 
@@ -102,6 +104,7 @@ fn trace_of<S: Read + Drop>(mut input: S, alloc: Global) -> Result<Trace, Fault>
 }
 
 /// The arenas of a trace's pool, over simulated devices.
+#[tactic(auto, using(trace_text::proofs::Pools::pool_least, trace_text::proofs::Pools::pool_most))]
 fn arenas_for(alloc: Global, trace: &Trace) -> Result<Vec<Arena<SimPmem>>, OutOfMemory>
     requires { IsPool (pool_of trace.now) }
     ensures { IfOk result (λ arenas. length arenas.items ≡ trace.now.arenas) }
@@ -110,9 +113,10 @@ fn arenas_for(alloc: Global, trace: &Trace) -> Result<Vec<Arena<SimPmem>>, OutOf
         arenas: trace.arenas,
         granules: trace.granules,
     };
+    let room = layout_of(VERSION).room;
     let mut arenas = Vec::new(alloc);
     for number in 0..pool.arenas {
-        let device = SimPmem::zeroed(alloc, GRANULE_LINES * pool.granules, ROOM)?;
+        let device = SimPmem::zeroed(alloc, GRANULE_LINES * pool.granules, room)?;
         arenas.push(new_arena(alloc, device, pool, number)?)?;
     }
     Ok(arenas)

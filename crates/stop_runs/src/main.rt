@@ -6,7 +6,7 @@
 // The words are `brief` or `whole`, and a script's name or none, which is for all. `scripts` has the scripts, of which
 // `full_arena` draws one, `stopping` makes their calls and stops these, and `heaps` has what is compared. That each image is
 // recovered to one of the two heaps is proved of every call (`IsEitherHeap`); here the definitions meet what runs.
-#![tactic(auto)]
+#![tactic(auto, using(recover::proofs::Recoveries::room_of_any, arena_core::proofs::Readiness::first_room, arena_core::proofs::Readiness::first_most))]
 
 mod full_arena;
 mod heaps;

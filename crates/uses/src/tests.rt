@@ -1,4 +1,6 @@
 // A stack's calls, and a push that is stopped at every event.
+#![tactic(auto, using(recover::proofs::Recoveries::room_of_any, arena_core::proofs::Readiness::first_room, arena_core::proofs::Readiness::first_most))]
+
 use crate::{PopRefusal, PushRefusal, Record, RecordStack, ReopenFault, reopen};
 use arena_core::{Arena, ArenaRoom};
 use pmem_lines::{OutOfMemory, Pmem, SimPmem};
