@@ -4,7 +4,7 @@
 //
 // `stops` makes the calls of a script and stops, `scripts` has the scripts. The crate has no code. What it tests is proved, of
 // every call and every crash image (`IsEitherHeap`); here the definitions meet what runs.
-#![tactic(auto)]
+#![tactic(auto, using(recover::proofs::Recoveries::room_of_any, arena_core::proofs::Readiness::first_room, arena_core::proofs::Readiness::first_most))]
 
 #[cfg(test)]
 mod scripts;
