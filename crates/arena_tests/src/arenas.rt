@@ -9,6 +9,7 @@ use pmem_lines::{Event, OutOfMemory, SimPmem};
 use std::alloc::Global;
 
 /// A new arena of 16 granules, on a memory of zeros with room for 2048 events.
+#[tactic(auto, using(arena_core::proofs::Readiness::first_room, arena_core::proofs::Readiness::first_most))]
 pub(crate) fn new_arena(alloc: Global) -> Result<Arena<SimPmem>, OutOfMemory> {
     let room = ArenaRoom::new(alloc, 16)?;
     let device = SimPmem::zeroed(alloc, 4096, 2048)?;

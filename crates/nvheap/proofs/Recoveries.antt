@@ -5,11 +5,14 @@ use Rattle.pmem_lines.specs.Pmem.{PmemState, fresh}
 use Rattle.pool_layout.specs.declared.header.PoolHeader.{PoolHeader}
 use Rattle.pool_layout.specs.declared.defect.Defect.{Defect as Found}
 use Rattle.pool_layout.specs.declared.image.ImageFault.{ImageFault}
-use Rattle.pool_layout.specs.Image.{part_of, IsFirstHeader, IsImageOf, IfDefect}
+use Rattle.pool_layout.specs.Image.{part_of, header_of_arena, IsFirstHeader, IsPoolImage, IsImageOf, IfDefect}
 use Rattle.pool_layout.specs.Layout.{layout_of}
+use Rattle.pool_layout.specs.Header.{fields_of}
+use Rattle.pool_layout.proofs.Layouts.{layout_rules}
+use Rattle.pool_layout.proofs.Headers.{fields_of-header_word, header_fits}
 use Rattle.heap_check.specs.Image.{IsSoundImage}
 use Rattle.image_defects.specs.Defects.{IsFirstDefect}
-use Rattle.recover.specs.Recovered.{IsRecovered}
+use Rattle.recover.specs.Recovered.{HasVersionRoom, IsRecovered}
 use Rattle.recover.proofs.Recoveries.{recovered_device}
 use Rattle.image_runs.specs.Checks.{IsOwnDefect, IsPoolDefect}
 use Rattle.image_runs.specs.Recoveries.{heap_lines, heaps_from}
@@ -88,9 +91,17 @@ unsound_of_pool bytes words image fault =
     }))
 
 -- an arena of a pool has so many granules at most
-pub few_granules : (header : PoolHeader) → IsFirstHeader header → header.granules ≤ 1024
-unfolding layout_of
-few_granules header first = first.valid.greatest
+pub few_granules : (header : PoolHeader) → IsFirstHeader header → header.granules ≤ 4096
+few_granules header first = omega (arith, first.valid.greatest, (layout_rules header.version).most)
+
+-- a device that has the words of one of them, and the room of the pool's version
+pub pool_room : (words : List ℕ) (header : PoolHeader) (arena room : ℕ) → IsPoolImage words header → arena < header.arenas → room ≡ (layout_of header.version).room → HasVersionRoom (fresh (part_of words header.granules arena) room)
+pool_room words header arena room pool below is found here =
+    let line = pool.each arena below in
+    let own = header_of_arena header arena in
+    let same : found ≡ own =
+    sym (fields_of-header_word found (header_fits found here.valid)) ∙ ap (λ word. fields_of word) (sym here.word ∙ line.word) ∙ fields_of-header_word own (header_fits own line.valid) in
+    omega (arith, is, ap (λ (h : PoolHeader). (layout_of h.version).room) same)
 
 -- all arenas of a pool
 pub answers_by : (bytes words empty text : List ℕ) (image : IsImageOf bytes words) (old new : Option (List (Option PmemState))) → empty ≡ [] →

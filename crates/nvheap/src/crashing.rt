@@ -15,12 +15,14 @@ use crate::cause::Cause;
 use crate::shelf::Shelf;
 use image_runs::recover_heap;
 use pmem_lines::OutOfMemory;
+use pool_layout::layout_of;
 use recover::RecoverFault;
 use std::alloc::Global;
 use trace_runs::{CrashFault, Crashed, crash};
 use trace_text::{Refusal, TraceFault, read_trace, write_crash};
 
-const ROOM: u32 = 2048;
+// The version of a trace's arenas.
+const VERSION: u32 = 1;
 
 /// The report of what a crash leaves after an event of the calls of an arena of a trace. The image is recovered on a device
 /// of the shelf, which is put into the place of the arena's number; its heap is reported.
@@ -77,7 +79,7 @@ fn recovered_report<H: Shelf>(
     ensures images { OnOk result (H.images shelf.new ≡ risen (H.images shelf.old) 1) }
     ensures kept { OnErr result (H.places shelf.new ≡ H.places shelf.old) }
 {
-    let device = shelf.take_image(alloc, &crashed.image, ROOM)?;
+    let device = shelf.take_image(alloc, &crashed.image, layout_of(VERSION).room)?;
     let recovered = match recover_heap(alloc, device) {
         Ok(recovered) => recovered,
         Err(RecoverFault::Memory(fault)) => return Err(fault),

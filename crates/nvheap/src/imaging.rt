@@ -12,14 +12,15 @@ use crate::answers::{Answer, fault_line};
 use crate::cause::Cause;
 use crate::shelf::{Shelf, put_all};
 use pmem_lines::{OutOfMemory, Pmem};
-use pool_layout::{GRANULE_BYTES, image_bytes};
+use pool_layout::{GRANULE_BYTES, image_bytes, layout_of};
 use std::alloc::Global;
 use trace_runs::run_calls;
 use trace_text::{Refusal, Trace, TraceFault, read_trace};
 
 const GRANULE_LINES: u32 = 256;
 
-const ROOM: u32 = 2048;
+// The version of a trace's arenas.
+const VERSION: u32 = 1;
 
 // How many bytes are made of words at once, and of how many words.
 const PIECE: usize = 4096;
@@ -77,7 +78,8 @@ fn run_arenas<H: Shelf>(
     let mut piece = new_piece(alloc)?;
     let mut devices = Vec::new(alloc);
     for arena in 0..trace.arenas {
-        let device = shelf.take(alloc, GRANULE_LINES * trace.granules, ROOM)?;
+        let room = layout_of(VERSION).room;
+        let device = shelf.take(alloc, GRANULE_LINES * trace.granules, room)?;
         let device = run_calls(alloc, trace, arena, device)?;
         add_words(&mut bytes, device.words(0, device.size_words()), &mut piece)?;
         devices.push(device)?;

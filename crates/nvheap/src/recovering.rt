@@ -13,10 +13,8 @@ use crate::cause::Cause;
 use crate::shelf::Shelf;
 use image_runs::recover_arena;
 use pmem_lines::OutOfMemory;
-use pool_layout::{ImageFault, PoolHeader, parts, pool_header};
+use pool_layout::{ImageFault, PoolHeader, layout_of, parts, pool_header};
 use std::alloc::Global;
-
-const ROOM: u32 = 2048;
 
 /// The heap of each arena of a pool's image. Each is recovered on a device of the shelf, which is put into the place of the
 /// arena's number once all are.
@@ -89,7 +87,11 @@ fn recover_from<H: Shelf>(
     if arena == header.arenas {
         return Ok(());
     }
-    let device = match shelf.take_image(alloc, parts(header, words, arena), ROOM) {
+    let device = match shelf.take_image(
+        alloc,
+        parts(header, words, arena),
+        layout_of(header.version).room,
+    ) {
         Ok(device) => device,
         Err(error) => return Err(ImageFault::Memory(error)),
     };

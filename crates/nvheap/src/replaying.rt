@@ -10,6 +10,7 @@ use crate::cause::Cause;
 use crate::shelf::{Shelf, put_all};
 use arena_core::Arena;
 use pmem_lines::OutOfMemory;
+use pool_layout::layout_of;
 use std::alloc::Global;
 use std::sync::Wait;
 use std::thread::Threads;
@@ -19,7 +20,8 @@ use trace_workers::{Gate, replay};
 
 const GRANULE_LINES: u32 = 256;
 
-const ROOM: u32 = 2048;
+// The version of a trace's arenas.
+const VERSION: u32 = 1;
 
 /// The report of a trace, whose calls are made by a worker for each thread. Each arena's device comes from the shelf, and is
 /// put into the place of the arena's number once all calls are made.
@@ -67,7 +69,8 @@ pub(crate) fn take_arenas<H: Shelf>(
     };
     let mut arenas = Vec::new(alloc);
     for number in 0..pool.arenas {
-        let device = shelf.take(alloc, GRANULE_LINES * pool.granules, ROOM)?;
+        let room = layout_of(VERSION).room;
+        let device = shelf.take(alloc, GRANULE_LINES * pool.granules, room)?;
         arenas.push(new_arena(alloc, device, pool, number)?)?;
     }
     Ok(arenas)

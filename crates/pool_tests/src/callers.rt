@@ -36,6 +36,7 @@ pub struct Word {
 }
 
 /// An arena of 16 granules over new memory, as number `number` of so many.
+#[tactic(auto, using(arena_core::proofs::Readiness::first_room, arena_core::proofs::Readiness::first_most))]
 pub fn empty_arena(alloc: Global, number: u32, arenas: u32) -> Result<Arena<SimPmem>, OutOfMemory>
     requires { (number < arenas) × (arenas ≤ 16) }
 {

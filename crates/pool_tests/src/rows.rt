@@ -196,6 +196,7 @@ fn two_threads_one_root(rt: HostRuntime) -> Result<(), OutOfMemory> {
     Ok(())
 }
 
+#[tactic(auto, using(arena_core::proofs::Readiness::first_room, arena_core::proofs::Readiness::first_most))]
 fn watched_arena(
     alloc: Global,
     number: u32,

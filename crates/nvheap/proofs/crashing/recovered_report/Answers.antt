@@ -1,5 +1,7 @@
 use Rattle.std.proofs.Common.{arith, subst, sym, ap, ◌∙◌, ◌≡◌, length}
 use Rattle.pmem_lines.specs.Pmem.{PmemState, words_of}
+use Rattle.pool_layout.specs.declared.layout.Layout.{Layout}
+use Rattle.pool_layout.specs.Layout.{layout_of}
 use Rattle.heap_check.specs.Image.{IsSoundImage}
 use Rattle.image_defects.proofs.Faultless.{faultless_of}
 use Rattle.image_defects.proofs.Order.{no_defect}
@@ -23,6 +25,13 @@ take_image-requires-clause-whole g c =
     let same = ap length c.deref.ensures.value in
     let whole = (few_words c.args.crashed.now.image.items c.requires.sound).2 in
     omega (arith, same, whole)
+
+-- its version is the one of traces
+pub recover_heap-requires-clause-room : goal.recover_heap-requires-clause-room
+recover_heap-requires-clause-room g c = λ header here.
+    let device = ap (λ (s : PmemState). s.room) c.in_ok-device.ensures.device in
+    let row = ap (λ (l : Layout). l.room) c.layout_of.ensures.row in
+    omega (arith, device, row, ap (λ v. (layout_of v).room) here.valid.version)
 
 pub unreachable-requires : goal.unreachable-requires
 unreachable-requires g c =

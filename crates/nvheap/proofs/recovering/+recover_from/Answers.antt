@@ -1,13 +1,15 @@
 use Rattle.std.proofs.Common.{◌≡◌, ◌*◌, ◌-◌, ◌+◌, ◌<◌, ◌++◌, ◌∙◌, List, ℕ, Option, length, ap, sym, subst, arith, append_assoc}
 use Rattle.pmem_lines.specs.Pmem.{PmemState, words_of, fresh}
+use Rattle.pool_layout.specs.declared.layout.Layout.{Layout}
+use Rattle.pool_layout.specs.Layout.{layout_of}
 use Rattle.pool_layout.specs.Image.{part_of, IfDefect}
 use Rattle.pool_layout.proofs.Images.{length-part_of}
 use Rattle.heap_check.specs.Image.{IsSoundImage}
-use Rattle.recover.specs.Recovered.{IsRecovered}
+use Rattle.recover.specs.Recovered.{HasVersionRoom, IsRecovered}
 use Rattle.image_runs.specs.Checks.{IsOwnDefect}
 use Rattle.image_runs.specs.Recoveries.{heap_lines, heaps_from}
 use Rattle.nvheap.specs.Answers.{HasRecovered}
-use Rattle.nvheap.proofs.Recoveries.{few_granules, heaps_more, recovered_more, unsound_here, unsound_later}
+use Rattle.nvheap.proofs.Recoveries.{few_granules, pool_room, heaps_more, recovered_more, unsound_here, unsound_later}
 use Rattle.nvheap.proofs.recovering.+recover_from.Goals as goal
 
 pub take_image-requires-clause-whole : goal.take_image-requires-clause-whole
@@ -23,6 +25,15 @@ take_image-requires-clause-few g t c =
     let below : c.args.arena < header.arenas = omega (arith, c.if-arena-header.false, c.requires.inside) in
     let size : length c.parts.result.now ≡ 2048 * header.granules = ap length c.parts.ensures ∙ length-part_of c.args.words.now header.granules header.arenas c.args.arena c.requires.pool.size below in
     omega (arith, size, few_granules header c.requires.pool.first)
+
+pub recover_arena-requires-clause-room : goal.recover_arena-requires-clause-room
+recover_arena-requires-clause-room g t c =
+    let header = c.args.header.now in
+    let below : c.args.arena < header.arenas = omega (arith, c.if-arena-header.false, c.requires.inside) in
+    let room = c.layout_of.result.room in
+    let is : room ≡ (layout_of header.version).room = ap (λ (row : Layout). row.room) c.layout_of.ensures.row in
+    subst HasVersionRoom (sym (c.in-Ok.ensures.device ∙ ap (λ (ws : List ℕ). fresh ws room) c.parts.ensures))
+    (pool_room c.args.words.now header c.args.arena room c.requires.pool below is)
 
 pub returns-in-Err-recover_arena-clause-unsound : goal.returns-in-Err-recover_arena-clause-unsound
 returns-in-Err-recover_arena-clause-unsound g t c =
@@ -61,8 +72,8 @@ returns-clause-recovered g t c =
     let rest = g.H.Shelf.places c.recover_from.new.shelf in
     let below : k < header.arenas = omega (arith, c.if-arena-header.false, c.requires.inside) in
     let same = ap (λ (s : PmemState). words_of s) c.in-Ok.ensures.device ∙ c.parts.ensures in
-    recovered_more words header.granules k header.arenas 2048 device old rest (g.H.Shelf.places c.put.new.self) below
+    recovered_more words header.granules k header.arenas c.layout_of.result.room device old rest (g.H.Shelf.places c.put.new.self) below
     (subst (λ (ws : List ℕ). IsSoundImage ws) same c.in-Ok-recover_arena.ensures.sound)
-    (subst (λ (s : PmemState). IsRecovered s device) (c.in-Ok.ensures.device ∙ ap (λ (ws : List ℕ). fresh ws 2048) c.parts.ensures) c.in-Ok-recover_arena.ensures.recovered)
+    (subst (λ (s : PmemState). IsRecovered s device) (c.in-Ok.ensures.device ∙ ap (λ (ws : List ℕ). fresh ws c.layout_of.result.room) c.parts.ensures) c.in-Ok-recover_arena.ensures.recovered)
     (subst (λ (p : Option (List (Option PmemState))). HasRecovered words header.granules (k + 1) (header.arenas - (k + 1)) p rest) c.take_image.ensures.places c.in-Ok-recover_from.ensures.recovered)
     c.put.ensures.places

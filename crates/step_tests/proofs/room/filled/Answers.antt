@@ -47,13 +47,17 @@ pub make_room-made-requires-clause-inside : goal.make_room-made-requires-clause-
 unfolding layout_of
 make_room-made-requires-clause-inside c = omega (arith, c.begin.ensures.size, c.loop-i.invariant.size)
 
+pub make_room-made-requires-clause-few : goal.make_room-made-requires-clause-few
+unfolding layout_of
+make_room-made-requires-clause-few c = omega (arith, c.loop-i.invariant.granules)
+
 pub make_room-made-requires-clause-left : goal.make_room-made-requires-clause-left
 unfolding layout_of
 make_room-made-requires-clause-left c =
     let old = words_of c.loop-i.device in
     let granules = c.loop-i.log.granules in
     let same : words_of c.begin.new.self ≡ old = ap (λ (s : PmemState). words_of s) c.begin.ensures.state in
-    let most : length (room_events granules (words_of c.begin.new.self)) ≤ 679 = subst (λ (ws : List ℕ). length (room_events granules ws) ≤ 679) (sym same) (room_most granules old c.loop-i.invariant.reads.log (omega (arith, c.loop-i.invariant.size)) (omega (arith, c.loop-i.invariant.granules)) (even_disjoint (extent_at old) c.loop-i.invariant.even)) in
+    let most : length (room_events granules (words_of c.begin.new.self)) ≤ 679 = subst (λ (ws : List ℕ). length (room_events granules ws) ≤ 679) (sym same) (omega (arith, room_most granules old c.loop-i.invariant.reads.log (omega (arith, c.loop-i.invariant.size)) (omega (arith, c.loop-i.invariant.granules)) (even_disjoint (extent_at old) c.loop-i.invariant.even))) in
     let none : length c.begin.new.self.events ≡ 0 = ap (λ (s : PmemState). length s.events) c.begin.ensures.state in
     let room : c.begin.new.self.room ≡ 700 = ap (λ (s : PmemState). s.room) c.begin.ensures.state ∙ c.loop-i.invariant.room in
     omega (arith, most, none, room)
@@ -68,7 +72,7 @@ append-requires-clause-left c =
     let old = words_of c.loop-i.device in
     let granules = c.loop-i.log.granules in
     let same : words_of c.begin.new.self ≡ old = ap (λ (s : PmemState). words_of s) c.begin.ensures.state in
-    let most : length (room_events granules (words_of c.begin.new.self)) ≤ 679 = subst (λ (ws : List ℕ). length (room_events granules ws) ≤ 679) (sym same) (room_most granules old c.loop-i.invariant.reads.log (omega (arith, c.loop-i.invariant.size)) (omega (arith, c.loop-i.invariant.granules)) (even_disjoint (extent_at old) c.loop-i.invariant.even)) in
+    let most : length (room_events granules (words_of c.begin.new.self)) ≤ 679 = subst (λ (ws : List ℕ). length (room_events granules ws) ≤ 679) (sym same) (omega (arith, room_most granules old c.loop-i.invariant.reads.log (omega (arith, c.loop-i.invariant.size)) (omega (arith, c.loop-i.invariant.granules)) (even_disjoint (extent_at old) c.loop-i.invariant.even))) in
     let none : length c.begin.new.self.events ≡ 0 = ap (λ (s : PmemState). length s.events) c.begin.ensures.state in
     let room : c.begin.new.self.room ≡ 700 = ap (λ (s : PmemState). s.room) c.begin.ensures.state ∙ c.loop-i.invariant.room in
     omega (arith, most, none, room, c.make_room-made.ensures.step.appends.count, c.make_room-made.ensures.step.appends.room)
