@@ -1,10 +1,13 @@
-use Rattle.std.proofs.Common.{arith, subst, sym, ap, ◌∙◌, ◌≡◌, length}
-use Rattle.pmem_lines.specs.Pmem.{PmemState, words_of}
+use Rattle.std.proofs.Common.{arith, subst, sym, ap, ◌∙◌, ◌≡◌, ℕ, List, Option, length}
+use Rattle.pmem_lines.specs.Pmem.{PmemState, words_of, fresh}
 use Rattle.pool_layout.specs.declared.layout.Layout.{Layout}
 use Rattle.pool_layout.specs.Layout.{layout_of}
 use Rattle.heap_check.specs.Image.{IsSoundImage}
 use Rattle.image_defects.proofs.Faultless.{faultless_of}
 use Rattle.image_defects.proofs.Order.{no_defect}
+use Rattle.recover.specs.Recovered.{IsRecovered}
+use Rattle.recover.proofs.Recoveries.{recovered_device}
+use Rattle.nvheap.specs.Outside.{put_device}
 use Rattle.nvheap.proofs.Devices.{few_words}
 use Rattle.nvheap.proofs.crashing.recovered_report.Goals as goal
 
@@ -38,3 +41,14 @@ unreachable-requires g c =
     let words = words_of (g.H.Device.Pmem.state c.in_ok-device.device) in
     let same : words ≡ c.args.crashed.now.image.items = ap (λ (s : PmemState). words_of s) c.in_ok-device.ensures.device ∙ c.deref.ensures.value in
     no_defect words c.in-Err-Defect.field-0-0 (faultless_of words (subst IsSoundImage (sym same) c.requires.sound)) (rw c.in-Err-Defect.field-0-is at c.in-Err-Defect.ensures.defect)
+
+pub returns-clause-put : goal.returns-clause-put
+returns-clause-put g c =
+    let image = c.args.crashed.now.image.items in
+    let room = c.layout_of.result.room in
+    let device : PmemState = g.H.Device.Pmem.state c.in-Ok.recovered.device in
+    record {
+      device = device;
+      recovered = recovered_device image room device (subst (λ (s : PmemState). IsRecovered s device) (c.in_ok-device.ensures.device ∙ ap (λ (ws : List ℕ). fresh ws room) c.deref.ensures.value) c.in-Ok.ensures.recovered);
+      put = c.put.ensures.places ∙ ap (λ (places : Option (List (Option PmemState))). put_device places c.args.arena device) c.in_ok-device.ensures.places;
+    }
