@@ -6,6 +6,7 @@ ghost use Rattle.trace_text.specs.Lines.{IsBehindPool, IsRefusedCall};
 
 use crate::line::{is_passed_over, read_call_line, read_pool_line};
 use crate::{PoolSize, TraceCall};
+use memchr::memchr;
 use pmem_lines::OutOfMemory;
 use std::alloc::Global;
 use thiserror::Error;
@@ -43,12 +44,10 @@ fn next_line(text: &[u8]) -> (&[u8], &[u8])
     ensures lines { lines_of text.now ≡ result.0.now ∷ lines_of result.1.now }
     ensures shorter { length result.1.now < length text.now }
 {
-    for (i, byte) in text.iter().enumerate() {
-        if *byte == b'\n' {
-            return (&text[..i], &text[i + 1..]);
-        }
+    match memchr(b'\n', text) {
+        Some(end) => (&text[..end], &text[end + 1..]),
+        None => (text, &text[text.len()..]),
     }
-    (text, &text[text.len()..])
 }
 
 /// The pool that a text begins with, behind lines that are passed over; the number of the line that says none where

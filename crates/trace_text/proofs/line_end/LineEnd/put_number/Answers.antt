@@ -1,4 +1,4 @@
-use Rattle.std.proofs.Common.{◌≡◌, ◌+◌, ◌≤◌, ◌<◌, ◌^◌, ◌++◌, ℕ, List, decimal, drop, length, ap, ◌∙◌, arith, length-append, length-drop, lit≤}
+use Rattle.std.proofs.Common.{◌≤◌, ◌<◌, ◌^◌, ℕ, decimal, drop, length, ap, arith, length-append, length-drop, lit≤}
 use Rattle.std.proofs.lemmas.Fmt.{length-decimal-le}
 use Rattle.trace_text.proofs.line_end.LineEnd.put_number.Goals as goal
 
