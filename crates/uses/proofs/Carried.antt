@@ -1,5 +1,5 @@
 -- What the steps of a call of a stack did, from what the arena says of its calls.
-use Rattle.std.proofs.Common.{◌≡◌, ◌≢◌, ◌⊎◌, ℕ, ◌<◌, ◌≤◌, List, length, Some, Result, Ok, Err, IsOk, refl, sym, ap, ◌∙◌, subst}
+use Rattle.std.proofs.Common.{◌≡◌, ◌≢◌, ℕ, ◌<◌, ◌≤◌, List, length, Some, Result, Ok, Err, IsOk, refl, ap, ◌∙◌, subst}
 use Rattle.pmem_lines.specs.declared.event.Event.{Event}
 use Rattle.pmem_lines.specs.Events.{CrashOnly}
 use Rattle.pmem_lines.specs.Pmem.{PmemState, words_of, began, appended}
@@ -7,12 +7,10 @@ use Rattle.heap_model.specs.declared.call.Call.TheVariants as calls
 use Rattle.heap_model.specs.declared.call.Call.{Call}
 use Rattle.heap_model.specs.declared.call.Reply.{Reply}
 use Rattle.heap_model.specs.declared.call.Reply.TheVariants as replies
-use Rattle.heap_model.specs.Machine.{Range}
 use Rattle.heap_model.specs.Placement.{Stacks}
 use Rattle.heap_check.specs.Image.{IsExactImage}
 use Rattle.heap_check.specs.State.{KeepsBlocks, IsEitherHeap}
 use Rattle.move_steps.specs.Moves.{IsEitherMoved}
-use Rattle.arena_core.specs.declared.answer.Placed.{Placed}
 use Rattle.arena_core.specs.declared.answer.Freed.{Freed}
 use Rattle.arena_core.specs.declared.answer.Moved.{Moved}
 use Rattle.arena_core.specs.declared.answer.MallocRefusal.{MallocRefusal}

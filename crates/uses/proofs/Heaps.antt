@@ -1,5 +1,5 @@
 -- What the calls of the arena leave of the heap, read off their steps of the machine.
-use Rattle.std.proofs.Common.{◌≡◌, ◌≢◌, ◌⊎◌, ◌==◌, ℕ, ◌-◌, ◌*◌, ◌/◌, ◌<◌, ◌≤◌, List, [], length, Bool, true, false, if◌then◌else◌, Option, Some, None, Result, Ok, Err, IsOk, inl, inr, refl, sym, ap, ◌∙◌, subst, arith, ⊎_elim}
+use Rattle.std.proofs.Common.{◌≡◌, ◌≢◌, ◌⊎◌, ℕ, ◌-◌, ◌*◌, ◌<◌, ◌≤◌, List, [], length, Option, Some, None, refl, sym, ap, ◌∙◌, arith, ⊎_elim}
 use Rattle.size_classes.specs.Classes.{sizes, class_size, IsClassOf}
 use Rattle.size_classes.proofs.Least.{low_class}
 use Rattle.pool_layout.specs.Layout.{layout_of, IsLayout}
@@ -14,18 +14,18 @@ use Rattle.heap_model.specs.Placement.{Stacks}
 use Rattle.heap_model.specs.Slabs.{view_of}
 use Rattle.heap_model.specs.Choice.{View, Site, range_of, IsSite, HasNoSite}
 use Rattle.heap_model.specs.Choice.Site.{Granules, InSlab, InMorph, InNewSlab}
-use Rattle.heap_model.specs.Step.{IsRefused, IsGrant, IsMalloc, IsFreeCall, IsMove, with_block, without_block, with_moved}
+use Rattle.heap_model.specs.Step.{IsRefused, IsGrant, IsMalloc}
 use Rattle.heap_model.proofs.Maps.{with_key-here, with_key-other}
 use Rattle.heap_model.proofs.Sites.{class_once, site_apart}
 use Rattle.heap_check.specs.Heap.{heap, slabs}
 use Rattle.heap_check.specs.Image.{bounds_of, IsExactImage}
-use Rattle.heap_check.specs.State.{HasState, KeepsBlocks}
+use Rattle.heap_check.specs.State.{HasState}
 use Rattle.move_steps.specs.Moves.{MovesOne}
 use Rattle.arena_core.specs.Call.{IsStepOf, IsStepOfAny}
-use Rattle.arena_core.specs.Payload.{IsWriteOf, IsWriteStep}
+use Rattle.arena_core.specs.Payload.{IsWriteStep}
 use Rattle.uses.specs.Stack.{stage, HasNone}
 use Rattle.uses.specs.Calls.{HasNoPlace}
-use Rattle.uses.specs.Steps.{HasRecordBlock, HasSome, KeepsBut}
+use Rattle.uses.specs.Steps.{HasRecordBlock, HasSome}
 
 -- the stage is a root of an exact image, and its heap has 64 bytes
 pub stage_rooted : (words : List ℕ) → IsExactImage words → stage < (bounds_of words).roots

@@ -1,29 +1,28 @@
 -- A push: the stage takes a block, its words are written, and it moves to the root behind the last record.
-use Rattle.std.proofs.Common.{◌≡◌, ◌≢◌, ◌⊎◌, ◌==◌, ℕ, ◌+◌, ◌*◌, ◌/◌, ◌<◌, ◌≤◌, Bool, true, false, if◌then◌else◌, List, [], ◌∷◌, ◌++◌, length, slice_index, Option, Some, None, Err, inl, inr, refl, sym, ap, ◌∙◌, subst, arith, ⊎_elim}
+use Rattle.std.proofs.Common.{◌≡◌, ◌==◌, ℕ, ◌+◌, ◌/◌, ◌<◌, ◌≤◌, Bool, true, false, if◌then◌else◌, List, [], ◌∷◌, ◌++◌, length, Some, None, Err, inl, inr, refl, sym, ap, ◌∙◌, subst, arith, ⊎_elim}
 use Rattle.std.proofs.lemmas.List.{length_push}
 use Rattle.pmem_lines.specs.declared.event.Event.{Event}
 use Rattle.pmem_lines.specs.Words.{word_at}
-use Rattle.pmem_lines.specs.Events.{CrashOnly}
 use Rattle.pmem_lines.specs.Pmem.{PmemState, words_of}
 use Rattle.image_tables.specs.Tables.{tables_of}
-use Rattle.heap_model.specs.Machine.{Range, Machine, AreApart}
+use Rattle.heap_model.specs.Machine.{Range, AreApart}
 use Rattle.heap_model.specs.declared.call.Call.TheVariants as calls
 use Rattle.heap_model.specs.declared.call.Reply.TheVariants as replies
 use Rattle.heap_check.specs.Heap.{heap, slabs, size_at}
-use Rattle.heap_check.specs.Image.{bounds_of, IsExactImage, IsSteadyImage}
-use Rattle.heap_check.specs.State.{IsWordOf, HasState, HaveSameHeap, KeepsBlocks, IsEitherHeap}
+use Rattle.heap_check.specs.Image.{bounds_of, IsExactImage}
+use Rattle.heap_check.specs.State.{IsWordOf, HasState, HaveSameHeap, IsEitherHeap}
 use Rattle.heap_check.proofs.Blank.{law_of_steady}
 use Rattle.heap_check.proofs.ExactStates.{law_of_exact_state}
 use Rattle.move_steps.specs.Moves.{MovesOne, IsEitherMoved}
 use Rattle.arena_core.specs.Arena.{ArenaState}
 use Rattle.arena_core.specs.Events.{call_events, line_after}
 use Rattle.arena_core.specs.Payload.{HasWritten, IsNamedWord, IsEitherWords}
-use Rattle.uses.specs.Stack.{stage, record_at, HasNone, HasRecord, IsStack, IsSteadyStack, StackState, IsKept, records_in}
+use Rattle.uses.specs.Stack.{stage, HasNone, HasRecord, IsStack, IsSteadyStack, StackState, IsKept, records_in}
 use Rattle.uses.specs.Calls.{IsEitherStack, IsOneCall, HasPushed, IsRefused, IsPushedBy}
 use Rattle.uses.specs.declared.refusal.PushRefusal.{PushRefusal}
 use Rattle.uses.specs.declared.refusal.PushRefusal.TheVariants.{Full, NoSpace}
 use Rattle.uses.specs.Steps.{HasRecordBlock, KeepsBut, IsTaken, IsUntaken, IsTakenBy, IsFilled, IsShown}
-use Rattle.uses.proofs.Stacks.{word_within, KeepsBelow, keeps_below, stack_kept, stack_more}
+use Rattle.uses.proofs.Stacks.{KeepsBelow, keeps_below, stack_kept, stack_more}
 use Rattle.uses.proofs.Counted.{length-records_in, counted_same}
 
 -- crashes

@@ -1,8 +1,8 @@
 -- A block goes: that of the last record, or that of the stage.
-use Rattle.std.proofs.Common.{◌≡◌, ◌≢◌, ◌⊎◌, ℕ, ◌+◌, ◌-◌, ◌/◌, ◌<◌, ◌≤◌, List, [], ◌∷◌, ◌++◌, length, take, get_or, Some, None, Err, ext_get_or, inl, inr, refl, sym, ap, ◌∙◌, subst, arith, ⊎_elim, length-take-le}
+use Rattle.std.proofs.Common.{◌≡◌, ◌≢◌, ℕ, ◌+◌, ◌-◌, ◌/◌, ◌<◌, List, [], ◌∷◌, ◌++◌, length, take, get_or, Some, Err, ext_get_or, inl, inr, refl, sym, ap, ◌∙◌, subst, arith, ⊎_elim, length-take-le}
 use Rattle.pmem_lines.specs.declared.event.Event.{Event}
 use Rattle.pmem_lines.specs.Words.{word_at}
-use Rattle.pmem_lines.specs.Pmem.{PmemState, words_of}
+use Rattle.pmem_lines.specs.Pmem.{words_of}
 use Rattle.pmem_lines.proofs.Words.{get_or-words_at}
 use Rattle.image_tables.specs.Tables.{tables_of}
 use Rattle.heap_model.specs.Machine.{Range}
@@ -17,7 +17,7 @@ use Rattle.arena_core.specs.Payload.{AreWordsOf, IsViewOf}
 use Rattle.arena_core.specs.Events.{call_events}
 use Rattle.uses.specs.Stack.{stage, record_at, HasNone, HasRecord, IsStack, IsSteadyStack, IsKept, records_in}
 use Rattle.uses.specs.Calls.{IsEitherStack, IsOneCall, HasPopped, IsLast}
-use Rattle.uses.specs.Opening.{IsCleared, IsOpened}
+use Rattle.uses.specs.Opening.{IsOpened}
 use Rattle.uses.specs.Steps.{HasSome, IsWhole, IsReleased, IsTidied, AreLeading, AreNone}
 use Rattle.uses.proofs.Stacks.{keeps_below, stack_kept, stack_less, records_less}
 use Rattle.uses.proofs.Heaps.{stage_rooted}

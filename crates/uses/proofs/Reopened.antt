@@ -1,12 +1,11 @@
 -- A stack behind a power cut: recovery leaves it, and so does a crash within recovery.
-use Rattle.std.proofs.Common.{◌≡◌, ◌<◌, ◌∙◌, ℕ, List, sym}
+use Rattle.std.proofs.Common.{◌∙◌, ℕ, List, sym}
 use Rattle.pmem_lines.specs.Pmem.{PmemState, words_of}
-use Rattle.heap_check.specs.Image.{IsSteadyImage}
 use Rattle.heap_check.specs.State.{HaveSameHeap, KeepsBlocks}
 use Rattle.settle_steps.specs.Settled.{KeepsHeap}
 use Rattle.arena_core.specs.Arena.{ArenaState}
 use Rattle.recover.specs.Recovered.{IsRecovered}
-use Rattle.uses.specs.Stack.{stage, IsStack, HoldsStack, IsSteadyStack, StackState}
+use Rattle.uses.specs.Stack.{IsStack, HoldsStack, IsSteadyStack, StackState}
 use Rattle.uses.specs.Opening.{IsOpened}
 use Rattle.uses.specs.Reopening.{IsReopened}
 use Rattle.uses.proofs.Stacks.{KeepsBelow, keeps_below, stack_kept}
