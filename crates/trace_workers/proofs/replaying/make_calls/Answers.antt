@@ -1,6 +1,4 @@
-use Rattle.std.proofs.Common.{List, subst, arith, sym}
-use Rattle.heap_model.specs.declared.call.Entry.{Entry}
-use Rattle.arena_core.specs.Arena.{ArenaState}
+use Rattle.std.proofs.Common.{subst, sym}
 use Rattle.trace_workers.specs.Workers.{AllBy}
 use Rattle.trace_workers.proofs.Replays.{AllIn-trace, AllBy-trace}
 use Rattle.trace_workers.proofs.replaying.make_calls.Goals as goal
