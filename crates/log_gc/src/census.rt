@@ -18,8 +18,11 @@ use image_tables::Extent;
 use pmem_lines::Pmem;
 use pool_layout::{entry_at, layout_of};
 
-// How many starts an arena of any version has at most.
+// How many starts most arenas have at most, and how many an arena of any version.
+const FEW_STARTS: usize = 1024;
+
 const STARTS: usize = 4096;
+
 // How many chunks a log has; it is the number of none.
 const CHUNKS: usize = 16;
 
@@ -45,10 +48,68 @@ pub(crate) fn first_needless<P: Pmem>(
     requires few { granules ≤ 4096 }
     ensures { result ≡ first_needless granules (words_of (P.state device.now)) active.now }
 {
+    if granules <= FEW_STARTS as u32 {
+        needless_of_few(device, version, granules, active)
+    } else {
+        needless_of_many(device, version, granules, active)
+    }
+}
+
+// The same in an arena of few granules, where less is to be made blank.
+#[inline(never)]
+fn needless_of_few<P: Pmem>(device: &P, version: u32, granules: u32, active: &[u32]) -> Option<u8>
+    requires version { version ≡ version_in (words_of (P.state device.now)) }
+    requires log { IsLog granules (words_of (P.state device.now)) active.now }
+    requires inside { heap_word version ≤ length (words_of (P.state device.now)) }
+    requires few { granules ≤ 1024 }
+    ensures { result ≡ first_needless granules (words_of (P.state device.now)) active.now }
+{
+    let mut slots = few_slots();
+    first_noted(&mut slots, device, version, granules, active)
+}
+
+// The same in an arena of any version.
+#[inline(never)]
+fn needless_of_many<P: Pmem>(device: &P, version: u32, granules: u32, active: &[u32]) -> Option<u8>
+    requires version { version ≡ version_in (words_of (P.state device.now)) }
+    requires log { IsLog granules (words_of (P.state device.now)) active.now }
+    requires inside { heap_word version ≤ length (words_of (P.state device.now)) }
+    requires few { granules ≤ 4096 }
+    ensures { result ≡ first_needless granules (words_of (P.state device.now)) active.now }
+{
     let mut slots = blank_slots();
-    note_log(&mut slots, device, version, granules, active);
-    let needed = needed_chunks(&slots, granules);
+    first_noted(&mut slots, device, version, granules, active)
+}
+
+// The same by slots in which nothing is noted, one for each granule at least.
+fn first_noted<P: Pmem>(
+    slots: &mut [Slot],
+    device: &P,
+    version: u32,
+    granules: u32,
+    active: &[u32],
+) -> Option<u8>
+    requires version { version ≡ version_in (words_of (P.state device.now)) }
+    requires log { IsLog granules (words_of (P.state device.now)) active.now }
+    requires inside { heap_word version ≤ length (words_of (P.state device.now)) }
+    requires starts { granules ≤ length slots.old }
+    requires blank { (start : ℕ) → slot_at slots.old start ≡ blank_slot }
+    ensures { result ≡ first_needless granules (words_of (P.state device.now)) active.now }
+{
+    note_log(slots, device, version, granules, active);
+    let needed = needed_chunks(slots, granules);
     first_spare(active, &needed)
+}
+
+// Slots in which nothing is noted, for few granules.
+fn few_slots() -> [Slot; FEW_STARTS]
+    ensures { (start : ℕ) → slot_at result start ≡ blank_slot }
+{
+    [Slot {
+        last: None,
+        other: None,
+        owner: 16,
+    }; FEW_STARTS]
 }
 
 // Slots in which nothing is noted.
