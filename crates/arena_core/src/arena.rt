@@ -57,8 +57,9 @@ impl<P: Pmem> Model for Arena<P> {
 
 impl<P: Pmem> Arena<P> {
     /// Makes an arena of version 1 anew over a memory of zeros, as number `number` of a pool of `arenas`: at most 16. It
-    /// has at most the granules of that version, and the memory has its room. It begins one call, and has five events. Afterwards no root names a block. After a crash within it the image is refused for its
-    /// first word, or it is exact and has no block. It takes no memory.
+    /// has at most the granules of that version, and the memory has its room. It begins one call, and has five events.
+    /// Afterwards no root names a block. After a crash within it the image is refused for its first word, or it is exact
+    /// and has no block. It takes no memory.
     pub fn format(room: ArenaRoom, mut device: P, number: u32, arenas: u32) -> Arena<P>
         requires quiet { IsQuiet (P.state device).events }
         requires room { (layout_of 1).room ≤ (P.state device).room }

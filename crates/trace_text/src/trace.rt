@@ -115,10 +115,11 @@ fn read_calls(
 
 /// Reads the text of a trace: lines, each ended by a line feed that the last one may lack, of which those that are empty
 /// or begin with `#` are passed over. The first of the others is `pool A G` with A from 1 to 16 arenas of G granules,
-/// as many as version 1 allows, and each after it is `T B m R S` or `T B f R`: thread T, from 0 to 63, asks arena B, below A, for a
-/// block of S bytes, a number of 64 bits, for root R, or to free the block of root R, a number of 32 bits. A text that is
-/// no trace is refused with the number of its first line outside this grammar, or, where it ends with no pool, with the
-/// number behind its last line.
+/// as many as version 1 allows. Each after it is a call of thread T, from 0 to 63, in arena B, below A: `T B m R S` asks
+/// for a block of S bytes for root R, `T B f R` to free the block of root R, `T B w R I X` to write X to word I of that
+/// block, `T B r R I` to read that word, and `T B v R Q` to move the block of root R to root Q. S and X are numbers of 64
+/// bits, the roots and I of 32. A text that is no trace is refused with the number of its first line outside this grammar,
+/// or, where it ends with no pool, with the number behind its last line.
 pub fn read_trace(alloc: Global, bytes: &[u8]) -> Result<Trace, TraceFault>
     ensures trace { IfOk result (λ trace. IsTrace bytes.now (pool_of trace) trace.calls.items) }
     ensures pool { IfOk result (λ trace. IsPool (pool_of trace)) }
