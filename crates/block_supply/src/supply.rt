@@ -8,7 +8,7 @@ ghost use Rattle.thread_cache.specs.Stacks.{stacks_of};
 ghost use Rattle.block_supply.specs.Supply.{IsOpen, IsInSlabOf, IsInNoSlabOf, IsClearOf, HasSlabMore, HasSlabLess, IsWith, TookBlock, HadNoOpen, CameBack};
 ghost use Rattle.block_supply.specs.Kept.{HadNoTop, TookTop, HadNoAvailable, TookLowest, HadNoStack, TookFirst};
 
-use crate::place::{address_of, block_at, slab_with};
+use crate::place::{address_of, block_at, note_slab, slab_with};
 use crate::{SlabAt, SlabBlock};
 use arrayvec::ArrayVec;
 use pmem_lines::OutOfMemory;
@@ -27,6 +27,8 @@ const REFILL: u32 = 8;
 #[derive(Drop)]
 pub struct BlockSupply {
     slabs: SlabIndex,
+    // For each granule of a slab how many granules before it the slab begins. Nothing is known of the others.
+    notes: Vec<u8>,
     caches: ThreadCaches,
 }
 
@@ -43,7 +45,7 @@ impl Model for BlockSupply {
 }
 
 impl BlockSupply {
-    /// The supply of an arena of 16 to 4096 granules, in which no slab begins, and all stacks are empty. It takes 522 bytes
+    /// The supply of an arena of 16 to 4096 granules, in which no slab begins, and all stacks are empty. It takes 523 bytes
     /// for each granule and some 111,000 beside, and refuses where there is no memory for them; no later call takes any.
     pub fn new(alloc: Global, granules: u32) -> Result<BlockSupply, OutOfMemory>
         requires least { 16 ≤ granules }
@@ -53,8 +55,13 @@ impl BlockSupply {
         ensures stacks { IfOk result (λ supply. stacks_of supply.stacks ≡ no_stacks) }
     {
         let slabs = SlabIndex::new(alloc, granules)?;
+        let notes = vec![in alloc; 0; granules as usize]?;
         let caches = ThreadCaches::new(alloc)?;
-        Ok(BlockSupply { slabs, caches })
+        Ok(BlockSupply {
+            slabs,
+            notes,
+            caches,
+        })
     }
 
     /// The class of the slab that begins at a granule. `None` exactly where none does, and so past the arena's end.
@@ -70,7 +77,7 @@ impl BlockSupply {
     pub fn slab_with(&self, granule: u32) -> Option<SlabAt>
         ensures { MatchOption result (IsInNoSlabOf (class_in self.now.slabs) granule) (λ slab. IsInSlabOf (class_in self.now.slabs) granule slab.start slab.class) }
     {
-        slab_with(&self.slabs, granule)
+        slab_with(&self.slabs, &self.notes, granule)
     }
 
     /// Whether a block of a slab is open: available, or in a stack.
@@ -140,6 +147,7 @@ impl BlockSupply {
         ensures { HasSlabMore self.old self.new start class (λ i. i < class_capacity class) }
     {
         self.slabs.add(start, class);
+        note_slab(&mut self.notes, start);
     }
 
     /// Adds a slab of the class on four granules that no other has, of which the blocks are available that a set of 4096
@@ -154,6 +162,7 @@ impl BlockSupply {
     {
         self.slabs.add(start, class);
         self.slabs.take_all(start, used);
+        note_slab(&mut self.notes, start);
     }
 
     /// Takes the slab that begins at a granule out, with all of its blocks, from all stacks too. All else stays.
@@ -172,7 +181,7 @@ impl BlockSupply {
         ensures { MatchOption result (HadNoTop self.old seat class self.new) (λ block. TookTop self.old seat class block self.new) }
     {
         match self.caches.pop(seat, class) {
-            Some(at) => Some(block_at(&self.slabs, class, at)),
+            Some(at) => Some(block_at(&self.slabs, &self.notes, class, at)),
             None => None,
         }
     }
@@ -202,7 +211,7 @@ impl BlockSupply {
         ensures { MatchOption result (HadNoStack self.old class self.new) (λ block. TookFirst self.old class block self.new) }
     {
         match self.caches.steal(class) {
-            Some(at) => Some(block_at(&self.slabs, class, at)),
+            Some(at) => Some(block_at(&self.slabs, &self.notes, class, at)),
             None => None,
         }
     }

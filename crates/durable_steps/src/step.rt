@@ -10,6 +10,7 @@ use pmem_lines::Pmem;
 
 /// Stores a word and makes it durable, in three events: store, flush, fence. After a crash within them the word is old
 /// or new, and every other word is as before.
+#[inline(always)]
 pub fn write_word<P: Pmem>(device: &mut P, at: u32, value: u64)
     requires place { IsPlace (P.state device.old) at }
     requires quiet { IsQuiet (P.state device.old).events }

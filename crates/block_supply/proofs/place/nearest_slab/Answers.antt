@@ -1,8 +1,8 @@
 use Rattle.std.proofs.Common.{◌≡◌, ◌-◌, ◌<◌, ◌≤◌, sym, ap, ◌∙◌, arith, ⊎_elim}
 use Rattle.std.proofs.lemmas.Bool.{cases_lt}
 use Rattle.slab_index.specs.SlabSet.{class_in}
-use Rattle.block_supply.proofs.place.slab_with.Goals as goal
-use Rattle.block_supply.proofs.place.slab_with.Goals.{then-back-granule+in_default, else-back-granule}
+use Rattle.block_supply.proofs.place.nearest_slab.Goals as goal
+use Rattle.block_supply.proofs.place.nearest_slab.Goals.{then-back-granule+in_default, else-back-granule}
 
 pub loop-back-init : goal.loop-back-init
 loop-back-init c = λ before less within. absurd (omega (arith, less))

@@ -1,6 +1,6 @@
 use Rattle.std.proofs.Common.{◌≡◌, ◌<◌, ◌≤◌, ◌-◌, ℕ, None}
 use Rattle.slab_index.specs.SlabSet.{class_in}
-use Rattle.block_supply.proofs.place.slab_with.Given as goal
+use Rattle.block_supply.proofs.place.nearest_slab.Given as goal
 
 -- no slab begins at the granules that were asked for
 abbrev pub invariant-loop-back : goal.invariant-loop-back
