@@ -1,9 +1,10 @@
 -- What is read of the old blocks of a slab.
-use Rattle.std.proofs.Common.{◌≡◌, ◌↔◌, IsTrue, ◌<◌, ◌/◌, ℕ, Bool, true, false, true≢false, not, List, sym, ap, subst, ◌∙◌, ⊎_elim, arith}
+use Rattle.std.proofs.Common.{◌≡◌, ◌↔◌, IsTrue, ◌<◌, ◌/◌, ◌%◌, ◌^◌, ℕ, Bool, true, false, true≢false, not, List, sym, ap, subst, ◌∙◌, ⊎_elim, arith}
 use Rattle.std.proofs.lemmas.Bool.{cases_Bool, false_from_ne_true}
 use Rattle.size_classes.specs.Classes.{class_capacity}
 use Rattle.image_tables.specs.Forms.{normal_kind, morphed_kind}
-use Rattle.image_tables.specs.Tables.{Tables, tables_of}
+use Rattle.pmem_lines.specs.Words.{word_at}
+use Rattle.image_tables.specs.Tables.{Tables, state_word, tables_of}
 use Rattle.image_tables.proofs.Tables.{slab_table}
 use Rattle.slab_header.specs.declared.state.SlabState.{SlabState}
 use Rattle.slab_header.specs.declared.state.SlabState.TheVariants.{Normal, Morphing, Morphed}
@@ -21,11 +22,6 @@ not_true true is = absurd (true≢false (sym is))
 not_true false is = λ i. false
 
 -- only one kind of state has a code
-pub normal_of : (state : SlabState) → kind_of state ≡ normal_kind → (class : ℕ) × (state ≡ Normal class)
-normal_of (Normal class) is = (class, λ i. Normal class)
-normal_of (Morphing class old entries) is = absurd (omega (arith, is))
-normal_of (Morphed class old entries) is = absurd (omega (arith, is))
-
 pub morphed_of : (state : SlabState) → kind_of state ≡ morphed_kind → (class : ℕ) × (old : ℕ) × (entries : ℕ) × (state ≡ Morphed class old entries)
 morphed_of (Normal class) is = absurd (omega (arith, is))
 morphed_of (Morphing class old entries) is = absurd (omega (arith, is))
@@ -43,6 +39,19 @@ module _ (words : List ℕ) (slab : ℕ) (here : IsSlabHere words slab) where
 
   same : h ≡ record { kind = t.kind start; class = t.class start; old = t.old start; index_count = t.index_count start; bit = t.bit start; live = t.live start; number = t.number start }
   same = sym (header_of-slab words start here.there)
+
+  -- the kind of the state, as it is read
+  pub kind_read : (word : ℕ) → word ≡ word_at words (state_word (slab / 16384)) → word % 256 ≡ (tables_of words).kind (slab / 16384)
+  unfolding header_at
+  kind_read word is =
+      let byte : word % 256 ≡ word / 2 ^ 0 % 2 ^ 8 = omega arith in
+      byte ∙ ap (λ w. w / 2 ^ 0 % 2 ^ 8) is ∙ ap (λ (h : SlabHeader). h.kind) same
+
+  -- a normal slab has no old block
+  pub no_old_in_normal : (at : ℕ) → (tables_of words).kind (slab / 16384) ≡ normal_kind → is_old (tables_of words) (slab / 16384) at ≡ false
+  no_old_in_normal at normal = false_from_ne_true (is_old t start at) (λ is.
+      let seen = old_seen t start at is in
+      absurd (omega (arith, seen.1, (here.valid.state.none normal).1)))
 
   pub live_is : (place : ℕ) → (header_at words (slab / 16384)).live place ≡ (tables_of words).live (slab / 16384) place
   live_is place = ap (λ (h : SlabHeader). h.live place) same

@@ -13,9 +13,12 @@ ghost use Rattle.slab_morph.specs.SlabHeaders.{header_at, IsSlabHere, IsOldAt};
 use crate::held::{fields_of, has_live, live_at, number_at, state_at};
 use crate::overlap::overlaps;
 use pmem_lines::Pmem;
-use pool_layout::blocks_at;
+use pool_layout::{blocks_at, slab_header_at};
 use size_classes::size_of_class;
 use slab_header::SlabState;
+
+// The kind of a state word that says Normal, in its lowest eight bits.
+const NORMAL: u64 = 1;
 
 /// The place in its index table of the live old block that begins at byte `at` of the arena, in the slab that begins at
 /// byte `slab`. `None` exactly where no old block that begins there lives.
@@ -23,6 +26,10 @@ pub fn old_place<P: Pmem>(p: &P, slab: u32, at: u32) -> Option<u32>
     requires here { IsSlabHere (words_of (P.state p.now)) slab }
     ensures { let t = tables_of (words_of (P.state p.now)) in MatchOption result (is_old t (slab / 16384) at ≡ false) (IsOldAt t (slab / 16384) at) }
 {
+    // Nearly all slabs are normal.
+    if is_normal(p, slab) {
+        return None;
+    }
     let state = fields_of(state_at(p, slab));
     for place in 0..state.entries {
         if is_old_at(p, slab, state.old, place, at) {
@@ -59,10 +66,7 @@ pub fn is_normal<P: Pmem>(p: &P, slab: u32) -> bool
     requires here { IsSlabHere (words_of (P.state p.now)) slab }
     ensures { IsTrue result ↔ ((tables_of (words_of (P.state p.now))).kind (slab / 16384) ≡ normal_kind) }
 {
-    match state_at(p, slab) {
-        SlabState::Normal { .. } => true,
-        _ => false,
-    }
+    p.load(slab_header_at(slab, 0, 0)) % 256 == NORMAL
 }
 
 /// Whether the slab that begins at byte `slab` took its class, and no old block lives in it.
@@ -70,6 +74,9 @@ pub fn is_done<P: Pmem>(p: &P, slab: u32) -> bool
     requires here { IsSlabHere (words_of (P.state p.now)) slab }
     ensures { IsTrue result ↔ IsDoneSlab (tables_of (words_of (P.state p.now))) (slab / 16384) }
 {
+    if is_normal(p, slab) {
+        return false;
+    }
     match state_at(p, slab) {
         SlabState::Morphed { entries, .. } => !has_live(p, slab, u32::from(entries)),
         _ => false,

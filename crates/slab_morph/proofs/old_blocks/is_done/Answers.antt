@@ -1,8 +1,14 @@
-use Rattle.std.proofs.Common.{sym, ap, ◌∙◌, true≢false}
+use Rattle.std.proofs.Common.{sym, ap, ◌∙◌, true≢false, arith}
 use Rattle.pmem_lines.specs.Pmem.{words_of}
 use Rattle.slab_header.specs.State.{kind_of, entries_of}
 use Rattle.slab_morph.proofs.OldBlocks.{morphed_of, kind_is, entries_is, done_by}
 use Rattle.slab_morph.proofs.old_blocks.is_done.Goals as goal
+
+pub returns-then-is_normal : goal.returns-then-is_normal
+returns-then-is_normal g c = (
+  λ is. absurd (true≢false (sym is)),
+  λ done. absurd (omega (arith, c.is_normal.ensures.0 c.if-is_normal.true, done.kind)),
+)
 
 pub returns-in-Morphed : goal.returns-in-Morphed
 returns-in-Morphed g c =

@@ -1,19 +1,15 @@
-use Rattle.std.proofs.Common.{◌≡◌, refl, sym, ap, ◌∙◌, true≢false}
+use Rattle.std.proofs.Common.{◌≡◌, ◌/◌, ap, sym, ◌∙◌, arith}
+use Rattle.std.proofs.lemmas.Bool.{eqb-true, eq-eqb}
+use Rattle.pmem_lines.specs.Words.{word_at}
 use Rattle.pmem_lines.specs.Pmem.{words_of}
-use Rattle.slab_header.specs.State.{kind_of}
-use Rattle.slab_morph.proofs.OldBlocks.{normal_of, kind_is}
+use Rattle.image_tables.specs.Forms.{normal_kind}
+use Rattle.image_tables.specs.Tables.{state_word}
+use Rattle.slab_morph.proofs.OldBlocks.{kind_read}
 use Rattle.slab_morph.proofs.old_blocks.is_normal.Goals as goal
 
-pub returns-in-Normal : goal.returns-in-Normal
-returns-in-Normal g c =
+pub returns : goal.returns
+returns g c =
     let words = words_of (g.P.Pmem.state c.args.p.now) in
-    (λ is. sym (kind_is words c.args.slab c.requires.here c.state_at.result c.state_at.ensures.says) ∙ ap kind_of c.in-Normal.is, λ kind. refl)
-
-pub returns-in_default : goal.returns-in_default
-returns-in_default g c =
-    let words = words_of (g.P.Pmem.state c.args.p.now) in (
-      λ is. absurd (true≢false (sym is)),
-      λ kind.
-          let is = normal_of c.state_at.result (kind_is words c.args.slab c.requires.here c.state_at.result c.state_at.ensures.says ∙ kind) in
-          absurd (c.in_default.not-Normal is.0 is.1),
-    )
+    let here : c.slab_header_at.result / 8 ≡ state_word (c.args.slab / 16384) = omega (arith, c.slab_header_at.ensures) in
+    let read = kind_read words c.args.slab c.requires.here c.load.result (c.load.ensures ∙ ap (word_at words) here) in
+    (λ is. sym read ∙ eqb-true _ normal_kind is, λ normal. eq-eqb _ normal_kind (read ∙ normal))

@@ -3,7 +3,7 @@ use Rattle.std.proofs.lemmas.Bool.{cases_lt}
 use Rattle.pmem_lines.specs.Pmem.{words_of}
 use Rattle.heap_model.specs.Machine.{slab_block}
 use Rattle.slab_morph.specs.SlabHeaders.{header_at}
-use Rattle.slab_morph.proofs.OldBlocks.{old_is, entries_is, small_is, found_old, no_old}
+use Rattle.slab_morph.proofs.OldBlocks.{old_is, entries_is, small_is, found_old, no_old, no_old_in_normal}
 use Rattle.slab_morph.proofs.old_blocks.old_place.Goals as goal
 
 pub loop-place-init : goal.loop-place-init
@@ -13,6 +13,9 @@ pub is_old_at-requires-clause-number : goal.is_old_at-requires-clause-number
 is_old_at-requires-clause-number g c =
     small_is (words_of (g.P.Pmem.state c.args.p.now)) c.args.slab c.requires.here c.state_at.result c.state_at.ensures.says c.fields_of-state.result.old c.loop-place.place c.fields_of-state.ensures.old
     (subst (λ n. c.loop-place.place < n) c.fields_of-state.ensures.entries c.loop-place-test.true)
+
+pub returns-then-is_normal : goal.returns-then-is_normal
+returns-then-is_normal g c = no_old_in_normal (words_of (g.P.Pmem.state c.args.p.now)) c.args.slab c.requires.here c.args.at (c.is_normal.ensures.0 c.if-is_normal.true)
 
 pub returns-then-is_old_at : goal.returns-then-is_old_at
 returns-then-is_old_at g c =
