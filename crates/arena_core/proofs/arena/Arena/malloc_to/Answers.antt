@@ -1,3 +1,4 @@
+use Rattle.std.proofs.Common.{rules}
 use Rattle.heap_model.specs.declared.call.Call.TheVariants as calls
 use Rattle.arena_core.specs.Answer.{malloc_reply}
 use Rattle.arena_core.proofs.PlannedCalls.{planned_begun}
@@ -19,23 +20,5 @@ answered g c =
 pub invariant_of-self : goal.invariant_of-self
 invariant_of-self g c = (answered g c).arena
 
-pub returns-clause-step : goal.returns-clause-step
-returns-clause-step g c = (answered g c).step
-
-pub returns-clause-device : goal.returns-clause-device
-returns-clause-device g c = (answered g c).device
-
-pub returns-clause-line : goal.returns-clause-line
-returns-clause-line g c = (answered g c).line_is
-
-pub returns-clause-keeps : goal.returns-clause-keeps
-returns-clause-keeps g c = (answered g c).keeps
-
-pub returns-clause-exact : goal.returns-clause-exact
-returns-clause-exact g c = (answered g c).arena.current.exact
-
-pub returns-clause-ready : goal.returns-clause-ready
-returns-clause-ready g c = (answered g c).arena.current.ready
-
-pub returns-clause-crash : goal.returns-clause-crash
-returns-clause-crash g c = (answered g c).crash
+pub returns : goal.returns
+returns g c = let all = answered g c in record { step = all.step; device = all.device; line = all.line_is; keeps = all.keeps; was_exact = search rules; exact = all.arena.current.exact; ready = all.arena.current.ready; crash = all.crash }

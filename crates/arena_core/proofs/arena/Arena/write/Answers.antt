@@ -1,4 +1,4 @@
-use Rattle.std.proofs.Common.{length, sym, subst}
+use Rattle.std.proofs.Common.{length, sym, subst, rules}
 use Rattle.pmem_lines.specs.Pmem.{PmemState, words_of}
 use Rattle.arena_core.specs.Payload.{IsWritePlan}
 use Rattle.arena_core.proofs.CallEvents.{meant}
@@ -25,17 +25,5 @@ answered g c =
 pub invariant_of-self : goal.invariant_of-self
 invariant_of-self g c = (answered g c).arena
 
-pub returns-clause-step : goal.returns-clause-step
-returns-clause-step g c = (answered g c).step
-
-pub returns-clause-written : goal.returns-clause-written
-returns-clause-written g c = (answered g c).written
-
-pub returns-clause-exact : goal.returns-clause-exact
-returns-clause-exact g c = (answered g c).arena.current.exact
-
-pub returns-clause-ready : goal.returns-clause-ready
-returns-clause-ready g c = (answered g c).arena.current.ready
-
-pub returns-clause-crash : goal.returns-clause-crash
-returns-clause-crash g c = (answered g c).crash
+pub returns : goal.returns
+returns g c = let all = answered g c in record { step = all.step; device = search rules; line = search rules; stacks = search rules; written = all.written; was_exact = search rules; exact = all.arena.current.exact; ready = all.arena.current.ready; crash = all.crash }
