@@ -21,6 +21,10 @@ use Rattle.arena_core.specs.Plan.{IsPlacing, IsSuppliedAt, IsSuppliedFor, IsPlan
 use Rattle.arena_core.proofs.PayloadCalls.{IsArena-began}
 use Rattle.arena_core.proofs.SmallCalls.{slabs_without}
 
+-- the plan names the place that was found
+pub planned_at : {device : PmemState} {was now : Volatile} {seat root size : ℕ} {place named : Place} → place ≡ named → IsPlanned device was now seat root size (Ok place) → IsPlanned device was now seat root size (Ok named)
+planned_at {device} {was} {now} {seat} {root} {size} is planned = subst (λ (p : Place). IsPlanned device was now seat root size (Ok p)) is planned
+
 -- what is found takes of the supply what the plan says
 pub supplied_by : (old new now : Supply) (seat : ℕ) (found place : Option Place) → now ≡ new → found ≡ place → IsSuppliedFor old new seat found → IsSuppliedFor old now seat place
 supplied_by old new now seat found place same is supplied = subst (λ (p : Option Place). IsSuppliedFor old now seat p) is (subst (λ (s : Supply). IsSuppliedFor old s seat found) (sym same) supplied)

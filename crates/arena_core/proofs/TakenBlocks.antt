@@ -21,7 +21,7 @@ use Rattle.arena_core.specs.declared.volatile.Volatile.{Volatile}
 use Rattle.slab_lives.specs.Lives.{Lives}
 use Rattle.arena_core.specs.Arena.{IsSlabsOf, IsCurrent, live_in, AreLivesOf, old_range}
 use Rattle.arena_core.specs.Carried.{IsDone, IsTaken, IsTidied}
-use Rattle.arena_core.specs.Effect.{slabs_but}
+use Rattle.arena_core.specs.Effect.{IsLastOf, slabs_but}
 use Rattle.arena_core.specs.Events.{holds_none, tidy_events}
 use Rattle.arena_core.proofs.BlockChanges.{IsBlockChange, book_small, keeps_small}
 use Rattle.arena_core.proofs.HeapSteps.{keeps_both, steps_then}
@@ -119,6 +119,10 @@ taken_by {old} {new} was fewer lives_left {root} {start} {k} bits lives {events}
       };
       line = refl;
     }
+
+-- whether it was the last of its slab, by the words that its events leave
+pub last_taken : {old mid : PmemState} {was part : Volatile} {root start : ℕ} {events : List Event} → IsTaken old mid was part root start events → IsLastOf (tables_of (words_of old)) root start (holds_none (tables_of (reading (words_of old) events)) start)
+last_taken {old} {mid} {was} {part} {root} {start} {events} taken = subst (λ (ws : List ℕ). IsLastOf (tables_of (words_of old)) root start (holds_none (tables_of ws) start)) taken.step.appends.words taken.last
 
 -- and its slab was tidied
 pub done_taken : {old mid new : PmemState} {was part left : Volatile} {root start : ℕ} {events : List Event} → IsTaken old mid was part root start events → IsTidied mid new left start →

@@ -10,7 +10,6 @@ use Rattle.heap_check.specs.Image.{bounds_of}
 use Rattle.heap_check.proofs.Sizes.{sizes_of}
 use Rattle.arena_core.proofs.Readiness.{room_of}
 use Rattle.arena_core.specs.declared.volatile.Volatile.{Volatile}
-use Rattle.arena_core.specs.declared.plan.Place.{Place}
 use Rattle.arena_core.specs.declared.plan.Place.TheVariants as places
 use Rattle.pmem_lines.specs.Steps.{IsQuietStep}
 use Rattle.heap_check.specs.State.{IsEitherHeap}
@@ -19,7 +18,7 @@ use Rattle.attach_steps.specs.Steps.{attach_events, IsAttached}
 use Rattle.arena_core.specs.Effect.{IsSuppliedFresh, IsSuppliedMorph}
 use Rattle.arena_core.specs.Events.{start_at, fresh_events, morphed_events, placed_events}
 use Rattle.arena_core.specs.Plan.{IsPlanned, number_of}
-use Rattle.arena_core.proofs.PlannedCalls.{arena_same, line_same, rest_then, planned_less, planned_lives, none_open_now, answered_placed, answered_small}
+use Rattle.arena_core.proofs.PlannedCalls.{planned_at, arena_same, line_same, rest_then, planned_less, planned_lives, none_open_now, answered_placed, answered_small}
 use Rattle.arena_core.proofs.CallEvents.{IsCalled-done, IsDone-small, placed_large, line_placed, placed_there, placed_morph, placed_fresh, start_is, line_small, small_attachable}
 use Rattle.arena_core.proofs.MachineSteps.{placed_step}
 use Rattle.arena_core.proofs.Plans.{slab_parts}
@@ -37,7 +36,7 @@ returns-in-Large g c was size planned =
     let count = c.in-Large.granules in
     let range : Range = record { at = 16384 * start; size = 16384 * count } in
     let new = words_of (g.P.Pmem.state c.give_large.new.device) in
-    let here : IsPlanned old was now c.args.seat root size (Ok (places.Large start count)) = subst (λ (p : Place). IsPlanned old was now c.args.seat root size (Ok p)) c.in-Large.is planned in
+    let here : IsPlanned old was now c.args.seat root size (Ok (places.Large start count)) = planned_at c.in-Large.is planned in
     let arena = here.arena in
     let placing = here.is.1 in
     let many = placing.place_for.many in
@@ -62,7 +61,7 @@ returns-in-Small g c was size planned =
     let class = c.in-Small.class in
     let range : Range = slab_block block.start class block.number in
     let new = words_of (state c.give_small.new.device) in
-    let here : IsPlanned old was now c.args.seat root size (Ok (places.Small block class)) = subst (λ (p : Place). IsPlanned old was now c.args.seat root size (Ok p)) c.in-Small.is planned in
+    let here : IsPlanned old was now c.args.seat root size (Ok (places.Small block class)) = planned_at c.in-Small.is planned in
     let arena = here.arena in
     let exact = arena.current.exact in
     let placing = here.is.1 in
@@ -95,7 +94,7 @@ returns-in-Morph g c was size planned =
     let block = c.give_morphed-block.result in
     let range : Range = slab_block start class block.number in
     let new = words_of (g.P.Pmem.state c.give_morphed-block.new.device) in
-    let here : IsPlanned old was now c.args.seat root size (Ok (places.Morph start class)) = subst (λ (p : Place). IsPlanned old was now c.args.seat root size (Ok p)) c.in-Morph.is planned in
+    let here : IsPlanned old was now c.args.seat root size (Ok (places.Morph start class)) = planned_at c.in-Morph.is planned in
     let arena = here.arena in
     let exact = arena.current.exact in
     let placing = here.is.1 in
@@ -131,7 +130,7 @@ returns-in-Fresh g c was size planned =
     let class = c.in-Fresh.class in
     let range : Range = slab_block start class 0 in
     let new = words_of (g.P.Pmem.state c.give_fresh-block.new.device) in
-    let here : IsPlanned old was now c.args.seat root size (Ok (places.Fresh start class)) = subst (λ (p : Place). IsPlanned old was now c.args.seat root size (Ok p)) c.in-Fresh.is planned in
+    let here : IsPlanned old was now c.args.seat root size (Ok (places.Fresh start class)) = planned_at c.in-Fresh.is planned in
     let arena = here.arena in
     let exact = arena.current.exact in
     let placing = here.is.1 in
@@ -150,12 +149,12 @@ returns-in-Fresh g c was size planned =
 pub give_large-requires-clause-arena : goal.give_large-requires-clause-arena
 give_large-requires-clause-arena g c =
     let planned = c.requires.planned.2 in
-    let here = subst (λ (p : Place). IsPlanned (g.P.Pmem.state c.args.device.now) c.requires.planned.0 c.args.self.now c.args.seat c.args.root c.requires.planned.1 (Ok p)) c.in-Large.is planned in
+    let here = planned_at c.in-Large.is planned in
     arena_same c.requires.planned.0 c.args.self.now here.arena here.rest here.supplied
 
 pub give_large-requires-clause-givable : goal.give_large-requires-clause-givable
 give_large-requires-clause-givable g c =
-    let here = subst (λ (p : Place). IsPlanned (g.P.Pmem.state c.args.device.now) c.requires.planned.0 c.args.self.now c.args.seat c.args.root c.requires.planned.1 (Ok p)) c.in-Large.is c.requires.planned.2 in
+    let here = planned_at c.in-Large.is c.requires.planned.2 in
     here.is.1.place_for
 
 -- a block of a slab
@@ -171,21 +170,21 @@ give_small-requires-clause-line g c = omega (arith, line_same c.requires.planned
 pub give_small-requires-clause-attachable : goal.give_small-requires-clause-attachable
 give_small-requires-clause-attachable g c =
     let words = words_of (g.P.Pmem.state c.args.device.now) in
-    let here = subst (λ (p : Place). IsPlanned (g.P.Pmem.state c.args.device.now) c.requires.planned.0 c.args.self.now c.args.seat c.args.root c.requires.planned.1 (Ok p)) c.in-Small.is c.requires.planned.2 in
+    let here = planned_at c.in-Small.is c.requires.planned.2 in
     small_attachable words c.args.root c.requires.planned.1 c.in-Small.block c.in-Small.class here.arena.current.exact here.is.0 here.is.1.place_for
 
 pub give_small-requires-clause-slabs : goal.give_small-requires-clause-slabs
 give_small-requires-clause-slabs g c =
-    planned_less (subst (λ (p : Place). IsPlanned (g.P.Pmem.state c.args.device.now) c.requires.planned.0 c.args.self.now c.args.seat c.args.root c.requires.planned.1 (Ok p)) c.in-Small.is c.requires.planned.2)
+    planned_less (planned_at c.in-Small.is c.requires.planned.2)
 
 pub give_small-requires-clause-lives : goal.give_small-requires-clause-lives
 give_small-requires-clause-lives g c =
-    planned_lives (subst (λ (p : Place). IsPlanned (g.P.Pmem.state c.args.device.now) c.requires.planned.0 c.args.self.now c.args.seat c.args.root c.requires.planned.1 (Ok p)) c.in-Small.is c.requires.planned.2)
+    planned_lives (planned_at c.in-Small.is c.requires.planned.2)
 
 -- a new slab
 pub give_fresh-block-requires-clause-arena : goal.give_fresh-block-requires-clause-arena
 give_fresh-block-requires-clause-arena g c =
-    let here = subst (λ (p : Place). IsPlanned (g.P.Pmem.state c.args.device.now) c.requires.planned.0 c.args.self.now c.args.seat c.args.root c.requires.planned.1 (Ok p)) c.in-Fresh.is c.requires.planned.2 in
+    let here = planned_at c.in-Fresh.is c.requires.planned.2 in
     arena_same c.requires.planned.0 c.args.self.now here.arena here.rest here.supplied.same
 
 pub give_fresh-block-requires-clause-asked : goal.give_fresh-block-requires-clause-asked
@@ -193,23 +192,23 @@ give_fresh-block-requires-clause-asked g c = (c.requires.planned.1, c.requires.p
 
 pub give_fresh-block-requires-clause-row : goal.give_fresh-block-requires-clause-row
 give_fresh-block-requires-clause-row g c =
-    let here = subst (λ (p : Place). IsPlanned (g.P.Pmem.state c.args.device.now) c.requires.planned.0 c.args.self.now c.args.seat c.args.root c.requires.planned.1 (Ok p)) c.in-Fresh.is c.requires.planned.2 in
+    let here = planned_at c.in-Fresh.is c.requires.planned.2 in
     here.is.1.place_for
 
 pub give_fresh-block-requires-clause-class : goal.give_fresh-block-requires-clause-class
 give_fresh-block-requires-clause-class g c =
-    let here = subst (λ (p : Place). IsPlanned (g.P.Pmem.state c.args.device.now) c.requires.planned.0 c.args.self.now c.args.seat c.args.root c.requires.planned.1 (Ok p)) c.in-Fresh.is c.requires.planned.2 in
+    let here = planned_at c.in-Fresh.is c.requires.planned.2 in
     here.is.1.site.least.is_class
 
 pub give_fresh-block-requires-clause-none : goal.give_fresh-block-requires-clause-none
 give_fresh-block-requires-clause-none g c =
-    let here = subst (λ (p : Place). IsPlanned (g.P.Pmem.state c.args.device.now) c.requires.planned.0 c.args.self.now c.args.seat c.args.root c.requires.planned.1 (Ok p)) c.in-Fresh.is c.requires.planned.2 in
+    let here = planned_at c.in-Fresh.is c.requires.planned.2 in
     none_open_now c.requires.planned.0.supply c.args.self.now.supply c.in-Fresh.class here.supplied
 
 -- a slab that takes the class
 pub give_morphed-block-requires-clause-arena : goal.give_morphed-block-requires-clause-arena
 give_morphed-block-requires-clause-arena g c =
-    let here = subst (λ (p : Place). IsPlanned (g.P.Pmem.state c.args.device.now) c.requires.planned.0 c.args.self.now c.args.seat c.args.root c.requires.planned.1 (Ok p)) c.in-Morph.is c.requires.planned.2 in
+    let here = planned_at c.in-Morph.is c.requires.planned.2 in
     arena_same c.requires.planned.0 c.args.self.now here.arena here.rest here.supplied.same
 
 pub give_morphed-block-requires-clause-asked : goal.give_morphed-block-requires-clause-asked
@@ -217,36 +216,36 @@ give_morphed-block-requires-clause-asked g c = (c.requires.planned.1, c.requires
 
 pub give_morphed-block-requires-clause-morphable : goal.give_morphed-block-requires-clause-morphable
 give_morphed-block-requires-clause-morphable g c =
-    let here = subst (λ (p : Place). IsPlanned (g.P.Pmem.state c.args.device.now) c.requires.planned.0 c.args.self.now c.args.seat c.args.root c.requires.planned.1 (Ok p)) c.in-Morph.is c.requires.planned.2 in
+    let here = planned_at c.in-Morph.is c.requires.planned.2 in
     here.is.1.place_for
 
 pub give_morphed-block-requires-clause-class : goal.give_morphed-block-requires-clause-class
 give_morphed-block-requires-clause-class g c =
-    let here = subst (λ (p : Place). IsPlanned (g.P.Pmem.state c.args.device.now) c.requires.planned.0 c.args.self.now c.args.seat c.args.root c.requires.planned.1 (Ok p)) c.in-Morph.is c.requires.planned.2 in
+    let here = planned_at c.in-Morph.is c.requires.planned.2 in
     here.is.1.site.least.is_class
 
 pub give_morphed-block-requires-clause-none : goal.give_morphed-block-requires-clause-none
 give_morphed-block-requires-clause-none g c =
-    let here = subst (λ (p : Place). IsPlanned (g.P.Pmem.state c.args.device.now) c.requires.planned.0 c.args.self.now c.args.seat c.args.root c.requires.planned.1 (Ok p)) c.in-Morph.is c.requires.planned.2 in
+    let here = planned_at c.in-Morph.is c.requires.planned.2 in
     none_open_now c.requires.planned.0.supply c.args.self.now.supply c.in-Morph.class here.supplied
 
 pub placed_large-requires : goal.placed_large-requires
 placed_large-requires g c =
     let words = words_of (g.P.Pmem.state c.args.device.now) in
-    let here = subst (λ (p : Place). IsPlanned (g.P.Pmem.state c.args.device.now) c.requires.planned.0 c.args.self.now c.args.seat c.args.root c.requires.planned.1 (Ok p)) c.in-Large.is c.requires.planned.2 in
+    let here = planned_at c.in-Large.is c.requires.planned.2 in
     omega (arith, here.is.1.place_for.row.high, (sizes_of words here.arena.current.exact.formed).most)
 
 pub placed_small-requires : goal.placed_small-requires
 placed_small-requires g c =
-    let here = subst (λ (p : Place). IsPlanned (g.P.Pmem.state c.args.device.now) c.requires.planned.0 c.args.self.now c.args.seat c.args.root c.requires.planned.1 (Ok p)) c.in-Small.is c.requires.planned.2 in
+    let here = planned_at c.in-Small.is c.requires.planned.2 in
     here.is.1.site.least.is_class
 
 pub placed_small-requires-in-Morph : goal.placed_small-requires-in-Morph
 placed_small-requires-in-Morph g c =
-    let here = subst (λ (p : Place). IsPlanned (g.P.Pmem.state c.args.device.now) c.requires.planned.0 c.args.self.now c.args.seat c.args.root c.requires.planned.1 (Ok p)) c.in-Morph.is c.requires.planned.2 in
+    let here = planned_at c.in-Morph.is c.requires.planned.2 in
     here.is.1.site.least.is_class
 
 pub placed_small-requires-in-Fresh : goal.placed_small-requires-in-Fresh
 placed_small-requires-in-Fresh g c =
-    let here = subst (λ (p : Place). IsPlanned (g.P.Pmem.state c.args.device.now) c.requires.planned.0 c.args.self.now c.args.seat c.args.root c.requires.planned.1 (Ok p)) c.in-Fresh.is c.requires.planned.2 in
+    let here = planned_at c.in-Fresh.is c.requires.planned.2 in
     here.is.1.site.least.is_class

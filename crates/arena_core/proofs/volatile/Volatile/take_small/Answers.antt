@@ -1,11 +1,10 @@
 use Rattle.std.proofs.Common.{◌≡◌, List, ℕ, subst, ap, ◌∙◌, arith, length}
-use Rattle.pmem_lines.specs.Pmem.{words_of}
 use Rattle.image_tables.specs.Tables.{tables_of}
 use Rattle.thread_cache.specs.Stacks.{stacks_of}
-use Rattle.arena_core.specs.Effect.{IsLastOf, stacks_but}
+use Rattle.arena_core.specs.Effect.{stacks_but}
 use Rattle.arena_core.specs.Events.{holds_none}
 use Rattle.arena_core.proofs.HeldBlocks.{class_detachable}
-use Rattle.arena_core.proofs.TakenBlocks.{done_taken}
+use Rattle.arena_core.proofs.TakenBlocks.{last_taken, done_taken}
 use Rattle.arena_core.proofs.volatile.Volatile.take_small.Goals as goal
 
 pub take_block-requires-clause-detachable : goal.take_block-requires-clause-detachable
@@ -15,10 +14,7 @@ pub tidy-requires-clause-few : goal.tidy-requires-clause-few
 tidy-requires-clause-few g c = omega (arith, ap length c.requires.fresh, c.take_block.ensures.taken.step.appends.size)
 
 pub returns-clause-last : goal.returns-clause-last
-returns-clause-last g c =
-    let words = words_of (g.P.Pmem.state c.args.device.now) in
-    let taken = c.take_block.ensures.taken in
-    subst (λ (ws : List ℕ). IsLastOf (tables_of words) c.args.root c.args.block.start (holds_none (tables_of ws) c.args.block.start)) taken.step.appends.words taken.last
+returns-clause-last g c = last_taken c.take_block.ensures.taken
 
 pub returns-clause-done : goal.returns-clause-done
 returns-clause-done g c = done_taken c.take_block.ensures.taken c.tidy.ensures.tidied
