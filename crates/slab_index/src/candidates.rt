@@ -100,14 +100,28 @@ impl Candidates {
         ensures size { length self.new ≡ length self.old }
         ensures calm { (s : ℕ) → calm_in self.new s ≡ with_key (calm_in self.old) start (Some (record { class = class; live = live })) s }
     {
-        let slab = CalmSlab { class, live };
-        match self.calm_at(start) {
-            Some(was) if was.class == class => self.recount(start, was, slab),
-            _ => {
-                self.remove(start);
-                self.insert(start, slab);
-            }
-        }
+        self.remove(start);
+        self.insert(start, CalmSlab { class, live });
+    }
+
+    /// The calm slab at a granule, which is `was`, has so many live blocks now. The other slabs stay as they are. It changes
+    /// two words at most of four each, and none where neither number is so small that the slab may take another class.
+    pub fn recount(&mut self, start: u32, was: CalmSlab, live: u32)
+        requires inside { start < length self.old }
+        requires class { was.class < 36 }
+        requires was { calm_in self.old start ≡ Some was }
+        ensures size { length self.new ≡ length self.old }
+        ensures calm { (s : ℕ) → calm_in self.new s ≡ with_key (calm_in self.old) start (Some (record { class = was.class; live = live })) s }
+    {
+        let class = was.class;
+        self.calm[start as usize] = Some(CalmSlab { class, live });
+        mark_anew(
+            &mut self.starts,
+            &mut self.some,
+            start,
+            was,
+            CalmSlab { class, live },
+        );
     }
 
     /// The slab at a granule is not calm, or there is none; whether it was calm before makes no difference. The other slabs
@@ -166,19 +180,6 @@ impl Candidates {
             }
         }
         None
-    }
-
-    // The calm slab at a granule has so many live blocks now. The set of its class has it already.
-    fn recount(&mut self, start: u32, was: CalmSlab, slab: CalmSlab)
-        requires was { calm_in self.old start ≡ Some was }
-        requires class { slab.class ≡ was.class }
-        requires known { slab.class < 36 }
-        requires inside { start < length self.old }
-        ensures size { length self.new ≡ length self.old }
-        ensures calm { (s : ℕ) → calm_in self.new s ≡ with_key (calm_in self.old) start (Some slab) s }
-    {
-        self.calm[start as usize] = Some(slab);
-        mark_anew(&mut self.starts, &mut self.some, start, was, slab);
     }
 
     // A calm slab begins at a granule where none did.

@@ -117,6 +117,6 @@ fn recount(calm: &mut Candidates, start: u32, live: u32)
     ensures { IsRecounted calm.old start live calm.new }
 {
     if let Some(slab) = calm.calm_at(start) {
-        calm.put(start, slab.class, live);
+        calm.recount(start, slab, live);
     }
 }

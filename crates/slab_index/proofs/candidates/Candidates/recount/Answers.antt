@@ -1,4 +1,4 @@
-use Rattle.std.proofs.Common.{◌≡◌, ◌<◌, ℕ, List, Option, Some, length, set, ◌∙◌, subst, arith}
+use Rattle.std.proofs.Common.{◌≡◌, ◌<◌, ℕ, List, Option, Some, length, set, refl, ◌∙◌, subst, arith}
 use Rattle.std.specs.Vec.{with_items}
 use Rattle.std.proofs.lemmas.List.{with_items_is}
 use Rattle.heap_model.specs.Machine.{with_key}
@@ -16,10 +16,10 @@ invariant_of-self c =
     let starts_are : (with_items s.starts c.mark_anew.new.starts).items ≡ c.mark_anew.new.starts = with_items_is s.starts c.mark_anew.new.starts (omega (arith, marked.back.size, marked.out.size, s.starts.ok.0)) in
     let some_are : (with_items s.some c.mark_anew.new.some).items ≡ c.mark_anew.new.some = with_items_is s.some c.mark_anew.new.some (omega (arith, c.mark_anew.ensures.some_size, c.self.invariant.some_size, s.some.ok.0)) in
     rw (starts_are, some_are)
-    (AreKept-recounted c.mark_anew.new.starts c.mark_anew.new.some start c.args.was c.args.slab c.self.invariant inside
+    (AreKept-recounted c.mark_anew.new.starts c.mark_anew.new.some start c.args.was (record { class = c.args.was.class; live = c.args.live }) c.self.invariant inside
     (calm_of_list c.self.view_is start ∙ c.requires.was)
+    refl
     c.requires.class
-    c.requires.known
     marked
     c.mark_anew.ensures.some_size
     c.mark_anew.ensures.summary)
@@ -28,5 +28,5 @@ pub returns-clause-calm : goal.returns-clause-calm
 returns-clause-calm c =
     let s = c.self.inside in
     let start = c.args.start in
-    let slab : Option CalmSlab = Some c.args.slab in
+    let slab : Option CalmSlab = Some (record { class = c.args.was.class; live = c.args.live }) in
     subst (λ (was : List (Option CalmSlab)). (k : ℕ) → calm_in (set s.calm.items start slab) k ≡ with_key (calm_in was) start slab k) c.self.view_is (calm_after s.calm.items start slab (rw c.self.view_is c.requires.inside))
