@@ -1,5 +1,5 @@
 -- When a block of its class in a slab is unused, by its bit and by the live old blocks.
-use Rattle.std.proofs.Common.{◌≡◌, ◌≢◌, ◌↔◌, IsTrue, Bool, List, ◌<◌, ◌≤◌, ℕ, true, false, true≢false, refl, sym, ap, subst, ◌∙◌, arith, inl, inr, ⊎_elim}
+use Rattle.std.proofs.Common.{◌≡◌, ◌≢◌, ◌↔◌, IsTrue, Bool, List, ◌/◌, ◌<◌, ◌≤◌, ℕ, true, false, true≢false, refl, sym, ap, subst, ◌∙◌, arith, inl, inr, ⊎_elim}
 use Rattle.std.proofs.lemmas.Bool.{cases_lt, false_from_ne_true}
 use Rattle.size_classes.specs.Classes.{class_size, class_capacity}
 use Rattle.size_classes.proofs.Spacing.{class_size-least}
@@ -13,7 +13,7 @@ use Rattle.heap_check.specs.Heap.{HoldsBit, HoldsOld, IsUnusedIn}
 use Rattle.heap_check.specs.Sound.{IsValidSlab}
 use Rattle.heap_check.proofs.Small.{blocks_apart}
 use Rattle.slab_morph.specs.Overlaps.{IsCoveredRange}
-use Rattle.slab_morph.specs.SlabHeaders.{SlabHeader, header_at, HasState}
+use Rattle.slab_morph.specs.SlabHeaders.{SlabHeader, header_at, HasState, IsSlabHere}
 use Rattle.slab_morph.proofs.HeaderTables.{header_of-slab}
 
 module _ (t : Tables) (start number : ℕ) (slab : t.slab start ≡ true) (valid : IsValidSlab t start) (below : number < class_capacity (t.class start)) where
@@ -59,10 +59,11 @@ pub record IsRead (words : List ℕ) (start class old entries : ℕ) (reads : Bo
   pub number_is : (place : ℕ) → (header_at words start).number place ≡ (tables_of words).number start place
   pub reads_is : IsTrue reads ↔ ((tables_of words).kind start ≢ morphing_kind)
 
-pub IsRead_by : (words : List ℕ) (start class old entries : ℕ) (reads : Bool) (state : SlabState) → is_slab words start ≡ true → HasState (header_at words start) state → class ≡ class_of state → old ≡ old_of state → entries ≡ entries_of state →
-    IsTrue reads ↔ (kind_of state ≢ morphing_kind) → IsRead words start class old entries reads
-IsRead_by words start class old entries reads state there says class_is old_is entries_is reads_is =
-    let same = sym (header_of-slab words start there) in
+pub IsRead_by : {words : List ℕ} {slab class old entries : ℕ} {reads : Bool} {state : SlabState} → IsSlabHere words slab → HasState (header_at words (slab / 16384)) state → class ≡ class_of state → old ≡ old_of state → entries ≡ entries_of state →
+    IsTrue reads ↔ (kind_of state ≢ morphing_kind) → IsRead words (slab / 16384) class old entries reads
+IsRead_by {words} {slab} {class} {old} {entries} {reads} {state} here says class_is old_is entries_is reads_is =
+    let start = slab / 16384 in
+    let same = sym (header_of-slab words start here.there) in
     let kind : kind_of state ≡ (tables_of words).kind start = sym says.kind ∙ ap (λ (h : SlabHeader). h.kind) same in
     record {
       class_is = class_is ∙ sym says.class ∙ ap (λ (h : SlabHeader). h.class) same;
@@ -75,7 +76,7 @@ IsRead_by words start class old entries reads state there says class_is old_is e
     }
 
 -- the answer: neither marked nor covered
-module _ (words : List ℕ) (start class old entries number : ℕ) (reads : Bool) (read : IsRead words start class old entries reads) (there : is_slab words start ≡ true) (valid : IsValidSlab (tables_of words) start)
+module _ {words : List ℕ} {start class old entries : ℕ} {reads : Bool} (read : IsRead words start class old entries reads) (there : is_slab words start ≡ true) (valid : IsValidSlab (tables_of words) start) (number : ℕ)
     (below : number < class_capacity ((tables_of words).class start)) where
   abbrev t : Tables
   t = tables_of words

@@ -66,11 +66,11 @@ pub used_all : (words : List ℕ) (start class old entries n : ℕ) (reads : Boo
     AreUsed (header_at words start) start old class reads n set → (i : ℕ) → i < class_capacity ((tables_of words).class start) → (has set i ≡ false) ↔ IsUnusedIn (tables_of words) start ((tables_of words).class start) i
 used_all words start class old entries n reads set read there valid all used i below =
     let within : i < class_capacity class = subst (λ c. i < class_capacity c) (sym read.class_is) below in (
-      λ none. unused_read words start class old entries i reads read there valid below (used.unmarked i within none) (λ place under. used.apart i within none place (omega (arith, all, under))),
+      λ none. unused_read read there valid i below (used.unmarked i within none) (λ place under. used.apart i within none place (omega (arith, all, under))),
       λ unused. ⊎_elim
           (λ is. absurd (⊎_elim
-          (λ marked. used_marked words start class old entries i reads read there valid below marked unused)
-          (λ (covered : IsCovered (header_at words start) start old class n i). used_covered words start class old entries i reads read there valid below covered.place (omega (arith, all, covered.below)) covered.live covered.overlap unused)
+          (λ marked. used_marked read there valid i below marked unused)
+          (λ (covered : IsCovered (header_at words start) start old class n i). used_covered read there valid i below covered.place (omega (arith, all, covered.below)) covered.live covered.overlap unused)
           (used.some i within is)))
           (λ none. none)
           (cases_Bool (has set i)),
