@@ -21,6 +21,16 @@ pub record IsRenaming (b : Bounds) (t : Tables) (from to : ℕ) (word name : ℕ
   pub back : (r : ℕ) → name (name r) ≡ r
   pub is : (entry ≡ None) ⊎ ((entry ≡ Some (Move from to)) × IsOpenMove b (renamed t word name entry) from to)
 
+-- a slab holds the same where the roots and the entry are others
+holds_rewritten : (t : Tables) (word root : ℕ → ℕ) (entry : Option WalEntry) (start : ℕ) (range : Range) → Holds t start range → Holds (record t { word = word; root = root; open_entry = entry }) start range
+holds_rewritten t word root entry start range holds = record {
+  slab = holds.slab;
+  block = ⊎_elim
+      (λ (bit : HoldsBit t start range). inl (record { number = bit.number; below = bit.below; read = bit.read; set = bit.set; is = bit.is }))
+      (λ (old : HoldsOld t start range). inr (record { place = old.place; below = old.below; live = old.live; is = old.is }))
+      holds.block;
+}
+
 module _ {b : Bounds} {t : Tables} (steady : IsSteady b t) (unnamed : (r : ℕ) → entry_at t.open_entry r ≡ 0) (calm : (start : ℕ) → ¬ (IsMorphing t start)) (from to : ℕ) (word name : ℕ → ℕ) (entry : Option WalEntry) (renaming : IsRenaming b t from to word name entry) where
   abbrev new : Tables
   new = renamed t word name entry
@@ -50,38 +60,18 @@ module _ {b : Bounds} {t : Tables} (steady : IsSteady b t) (unnamed : (r : ℕ) 
   apart_names : (one other : ℕ) → one ≢ other → name one ≢ name other
   apart_names one other differ same = differ (sym (renaming.back one) ∙ ap name same ∙ renaming.back other)
 
-  -- slabs hold the same
-
-  holds_forth : (s : ℕ) (range : Range) → Holds t s range → Holds new s range
-  holds_forth s range holds = record {
-    slab = holds.slab;
-    block = ⊎_elim
-        (λ (bit : HoldsBit t s range). inl (record { number = bit.number; below = bit.below; read = bit.read; set = bit.set; is = bit.is }))
-        (λ (old : HoldsOld t s range). inr (record { place = old.place; below = old.below; live = old.live; is = old.is }))
-        holds.block;
-  }
-
-  holds_back : (s : ℕ) (range : Range) → Holds new s range → Holds t s range
-  holds_back s range holds = record {
-    slab = holds.slab;
-    block = ⊎_elim
-        (λ (bit : HoldsBit new s range). inl (record { number = bit.number; below = bit.below; read = bit.read; set = bit.set; is = bit.is }))
-        (λ (old : HoldsOld new s range). inr (record { place = old.place; below = old.below; live = old.live; is = old.is }))
-        holds.block;
-  }
-
   stands : (r : ℕ) → new.root r ≢ 0 → IsStanding new r (new.root r)
   stands r some = ⊎_elim
       (λ large. inl large)
       (λ rest. ⊎_elim
-      (λ (held : IsHeld t (t.root (name r))). inr (inl (record { start = held.start; range = held.range; holds = holds_forth held.start held.range held.holds; here = held.here })))
+      (λ (held : IsHeld t (t.root (name r))). inr (inl (record { start = held.start; range = held.range; holds = holds_rewritten t word new.root entry held.start held.range held.holds; here = held.here })))
       (λ by_entry. absurd (some (sym by_entry ∙ unnamed (name r))))
       rest)
       (sound.rooted (name r) some)
 
   owned : (start : ℕ) (range : Range) → Holds new start range → (root : ℕ) × IsClaim new root range
   owned start range holds =
-      let owner = sound.claimed start range (holds_back start range holds) in
+      let owner = sound.claimed start range (holds_rewritten new t.word t.root t.open_entry start range holds) in
       (name owner.0, forth (name owner.0) range (subst (λ r. IsClaim t r range) (sym (renaming.back owner.0)) owner.1))
 
   covers_back : (start k : ℕ) → Covers new start k → Covers t start k
