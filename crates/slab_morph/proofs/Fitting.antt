@@ -187,11 +187,11 @@ module _ {h : SlabHeader} {own entries : ℕ} {told : Bool} (read : IsRead h own
           (subst (λ (d : ℕ). 5 * length (numbers_below h.bit (class_capacity d)) ≤ class_capacity d) read.class sparse)
           (subst (λ (d : ℕ). IsClearOfBits h start d class j) read.class clear)
 
-      pub told_few : IsFitHeader h start class → length (numbers_below h.bit (class_capacity own)) ≤ 64
-      told_few fit = subst (λ (d : ℕ). length (numbers_below h.bit (class_capacity d)) ≤ 64) (sym read.class) (fit_few h start none_live class read_bits fit)
-
-      pub told_sparse : IsFitHeader h start class → 5 * length (numbers_below h.bit (class_capacity own)) ≤ class_capacity own
-      told_sparse fit = subst (λ (d : ℕ). 5 * length (numbers_below h.bit (class_capacity d)) ≤ class_capacity d) (sym read.class) (fit_sparse h start none_live class read_bits fit)
+      pub told_counts : IsFitHeader h start class → (length (numbers_below h.bit (class_capacity own)) ≤ 64) × (5 * length (numbers_below h.bit (class_capacity own)) ≤ class_capacity own)
+      told_counts fit = (
+        subst (λ (d : ℕ). length (numbers_below h.bit (class_capacity d)) ≤ 64) (sym read.class) (fit_few h start none_live class read_bits fit),
+        subst (λ (d : ℕ). 5 * length (numbers_below h.bit (class_capacity d)) ≤ class_capacity d) (sym read.class) (fit_sparse h start none_live class read_bits fit),
+      )
 
       pub told_clear : (fit : IsFitHeader h start class) → IsClearOfBits h start own class fit.number
       told_clear fit = subst (λ (d : ℕ). IsClearOfBits h start d class fit.number) (sym read.class) (fit_clear h start none_live class read_bits fit)

@@ -3,7 +3,7 @@ use Rattle.std.proofs.lemmas.Bool.{cases_Bool}
 use Rattle.pmem_lines.specs.Pmem.{words_of}
 use Rattle.slab_morph.specs.SlabHeaders.{header_at}
 use Rattle.slab_morph.specs.Fitness.{IsFitHeader}
-use Rattle.slab_morph.proofs.Fitting.{read_by, none_same, none_old, fits_untold, fits_told, told_few, told_sparse, told_clear}
+use Rattle.slab_morph.proofs.Fitting.{read_by, none_same, none_old, fits_untold, fits_told, told_counts, told_clear}
 use Rattle.slab_morph.proofs.TableFits.{fit_of_slab}
 use Rattle.slab_morph.proofs.fitness.fit.Goals as goal
 use Rattle.slab_morph.proofs.fitness.fit.Goals.{then-state-class-via-then-state-class, then-state-class-via-else-state-class+then-has_live}
@@ -52,16 +52,11 @@ returns-then-is_sparse-clause-fit g c =
 
 pub returns-else-is_sparse-clause-fit : goal.returns-else-is_sparse-clause-fit
 returns-else-is_sparse-clause-fit g c =
-    let start = c.args.slab / 16384 in
     let fields = c.fields_of-state.ensures in
     let read = read_by c.state_at.ensures.says c.state_at.ensures.valid fields.class fields.entries fields.reads_bits in
-    let tells = not_false c.fields_of-state.result.reads_bits c.if-not-state.false in
-    let none = c.if-has_live.ensures.none refl in (
+    let tells = not_false c.fields_of-state.result.reads_bits c.if-not-state.false in (
       λ is. absurd (true≢false (sym is ∙ c.if-is_sparse.false)),
-      λ fit. c.is_sparse.ensures.1 (
-        told_few read start c.args.class c.requires.class c.if-state-class.false none tells fit,
-        told_sparse read start c.args.class c.requires.class c.if-state-class.false none tells fit,
-      ),
+      λ fit. c.is_sparse.ensures.1 (told_counts read (c.args.slab / 16384) c.args.class c.requires.class c.if-state-class.false (c.if-has_live.ensures.none refl) tells fit),
     )
 
 pub returns-then-state-class-clause-table : goal.returns-then-state-class-clause-table

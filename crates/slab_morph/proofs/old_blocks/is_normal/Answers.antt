@@ -1,4 +1,4 @@
-use Rattle.std.proofs.Common.{◌≡◌, refl, sym, ap, ◌∙◌, true≢false}
+use Rattle.std.proofs.Common.{refl, sym, ap, ◌∙◌, true≢false}
 use Rattle.pmem_lines.specs.Pmem.{words_of}
 use Rattle.slab_header.specs.State.{kind_of}
 use Rattle.slab_morph.proofs.OldBlocks.{normal_of, kind_is}

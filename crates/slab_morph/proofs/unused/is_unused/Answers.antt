@@ -23,19 +23,19 @@ is_covered-requires-clause-number g c =
 pub is_covered-requires-clause-numbers : goal.is_covered-requires-clause-numbers
 is_covered-requires-clause-numbers g c =
     let fields = c.fields_of-state.ensures in
-    small_numbers (IsRead_by c.requires.here c.state_at.ensures.says fields.class fields.old fields.entries fields.reads_bits) c.requires.here.there c.requires.here.valid c.args.number c.requires.number
+    let read = IsRead_by c.requires.here c.state_at.ensures.says fields.class fields.old fields.entries fields.reads_bits in
+    small_numbers c.requires.here read c.args.number c.requires.number
 
 pub returns-then-not-is_marked : goal.returns-then-not-is_marked
 returns-then-not-is_marked g c =
     let fields = c.fields_of-state.ensures in
-    let here = c.requires.here in
-    let read = IsRead_by here c.state_at.ensures.says fields.class fields.old fields.entries fields.reads_bits in
+    let read = IsRead_by c.requires.here c.state_at.ensures.says fields.class fields.old fields.entries fields.reads_bits in
     let unmarked = c.if-not-is_marked.true in (
-      λ is. unused_read read here.there here.valid c.args.number c.requires.number (λ both. true≢false (sym (c.is_marked.ensures.1 both) ∙ unmarked)) (c.is_covered.ensures.none (not_true c.is_covered.result is)),
+      λ is. unused_read c.requires.here read c.args.number c.requires.number (λ both. true≢false (sym (c.is_marked.ensures.1 both) ∙ unmarked)) (c.is_covered.ensures.none (not_true c.is_covered.result is)),
       λ unused. ⊎_elim
           (λ (covered : c.is_covered.result ≡ true).
           let found = c.is_covered.ensures.some covered in
-          absurd (used_covered read here.there here.valid c.args.number c.requires.number found.0 found.1 found.2 found.3 unused))
+          absurd (used_covered c.requires.here read c.args.number c.requires.number found.0 found.1 found.2 found.3 unused))
           (λ (free : c.is_covered.result ≡ false). ap not free)
           (cases_Bool c.is_covered.result),
     )
@@ -43,9 +43,8 @@ returns-then-not-is_marked g c =
 pub returns-else-not-is_marked : goal.returns-else-not-is_marked
 returns-else-not-is_marked g c =
     let fields = c.fields_of-state.ensures in
-    let here = c.requires.here in
-    let read = IsRead_by here c.state_at.ensures.says fields.class fields.old fields.entries fields.reads_bits in
+    let read = IsRead_by c.requires.here c.state_at.ensures.says fields.class fields.old fields.entries fields.reads_bits in
     let marked = c.if-not-is_marked.false in (
       λ is. absurd (true≢false (sym is ∙ ap not marked)),
-      λ unused. absurd (used_marked read here.there here.valid c.args.number c.requires.number (c.is_marked.ensures.0 marked) unused),
+      λ unused. absurd (used_marked c.requires.here read c.args.number c.requires.number (c.is_marked.ensures.0 marked) unused),
     )
