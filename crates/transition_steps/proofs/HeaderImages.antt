@@ -32,15 +32,15 @@ pub granule_is : {at start : ℕ} → at ≡ 8 * granule_word start → at / 163
 granule_is is = omega (arith, is)
 
 -- a step on the header of the slab at a byte, by the slab's granule and by what the tables say of the header
-pub step_here : {s t : PmemState} (words : List ℕ) (events : ℕ → SlabHeader → List Event) (Stage : SlabHeader → SlabHeader → Type 0) {at start : ℕ} {h : SlabHeader} → at ≡ start → h ≡ header_at words start →
+pub step_here : {s t : PmemState} {words : List ℕ} (events : ℕ → SlabHeader → List Event) (Stage : SlabHeader → SlabHeader → Type 0) {at start : ℕ} {h : SlabHeader} → at ≡ start → h ≡ header_at words start →
     IsQuietStep s t (events at (header_at words at)) (KeepsHeld words at (Stage (header_at words at))) → IsQuietStep s t (events start h) (KeepsHeld words start (Stage (header_at words start)))
-step_here {s} {t} words events Stage {at} {start} {h} there here step =
+step_here {s} {t} {words} events Stage {at} {start} {h} there here step =
     subst (λ (g : SlabHeader). IsQuietStep s t (events start g) (KeepsHeld words start (Stage (header_at words start)))) (sym here)
     (subst (λ a. IsQuietStep s t (events a (header_at words a)) (KeepsHeld words a (Stage (header_at words a)))) there step)
 
 -- and what it leaves
-pub kept_here : (words new : List ℕ) (Stage : SlabHeader → SlabHeader → Type 0) {at start : ℕ} → at ≡ start → KeepsHeld words at (Stage (header_at words at)) new → KeepsHeld words start (Stage (header_at words start)) new
-kept_here words new Stage there kept = subst (λ a. KeepsHeld words a (Stage (header_at words a)) new) there kept
+pub kept_here : {words new : List ℕ} (Stage : SlabHeader → SlabHeader → Type 0) {at start : ℕ} → at ≡ start → KeepsHeld words at (Stage (header_at words at)) new → KeepsHeld words start (Stage (header_at words start)) new
+kept_here {words} {new} Stage there kept = subst (λ a. KeepsHeld words a (Stage (header_at words a)) new) there kept
 
 -- the header of a slab of well-formed words, whose tables are valid, is
 valid_here : (words : List ℕ) (start : ℕ) → is_slab words start ≡ true → HasSlabHeader words start → IsValidSlab (tables_of words) start → IsValidHeader words start

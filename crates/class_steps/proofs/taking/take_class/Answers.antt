@@ -25,7 +25,7 @@ returns-clause-step g c =
     let words = words_of (g.P.Pmem.state c.args.p.now) in
     let class = c.args.class in
     step_wider (leaves_closed words c.args.start class c.requires.ready)
-    (step_here words (λ start (h : SlabHeader). morph_events (alone h) start class) (λ (h : SlabHeader). IsMorphStage h class) (granule_is c.granule_at.ensures) (header_is words c.args.start class c.requires.ready) c.morph.ensures.step)
+    (step_here (λ start (h : SlabHeader). morph_events (alone h) start class) (λ (h : SlabHeader). IsMorphStage h class) (granule_is c.granule_at.ensures) (header_is words c.args.start class c.requires.ready) c.morph.ensures.step)
 
 pub returns-clause-count : goal.returns-clause-count
 returns-clause-count g c =
@@ -37,5 +37,5 @@ pub returns-clause-taken : goal.returns-clause-taken
 returns-clause-taken g c =
     let words = words_of (g.P.Pmem.state c.args.p.now) in
     let new = words_of (g.P.Pmem.state c.morph.new.p) in
-    let kept = kept_here words new (λ (h g : SlabHeader). g ≡ morphed h c.args.class) (granule_is c.granule_at.ensures) c.morph.ensures.kept in
+    let kept = kept_here (λ (h g : SlabHeader). g ≡ morphed h c.args.class) (granule_is c.granule_at.ensures) c.morph.ensures.kept in
     of_class words c.args.start c.args.class c.requires.ready new (keeps_wider (λ h is. inr (inr is)) kept) kept.left.header
