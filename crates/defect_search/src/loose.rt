@@ -199,8 +199,8 @@ pub fn is_done(words: &[u64], log: &BookLog, start: u32) -> bool
     is_all_dead(words, start)
 }
 
-// A count, with one more where there is one.
-fn counted(count: u32, more: bool) -> u32
+/// A count, with one more where there is one.
+pub fn counted(count: u32, more: bool) -> u32
     requires { count < 2 ^ 32 - 1 }
     ensures { result ≡ (if more then count + 1 else count) }
 {
