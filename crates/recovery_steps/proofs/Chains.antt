@@ -35,8 +35,8 @@ part_none {s} Stores most quiet image stores = record {
 }
 
 -- a step that keeps the heap
-pub part_of : {s t : PmemState} (Stores : List ℕ → List Event → Type 0) (most : ℕ) (events : List Event) → Stores (words_of s) events → length events ≤ most → IsQuietStep s t events (KeepsHeap (words_of s)) → IsPart KeepsHeap s t Stores most
-part_of Stores most events stores few step = record { events = events; stores = stores; few = few; step = step }
+pub part_of : {s t : PmemState} (Stores : List ℕ → List Event → Type 0) {most : ℕ} {events : List Event} → Stores (words_of s) events → IsQuietStep s t events (KeepsHeap (words_of s)) → length events ≤ most → IsPart KeepsHeap s t Stores most
+part_of Stores {most} {events} stores step few = record { events = events; stores = stores; few = few; step = step }
 
 -- the heap is kept where it is the one of before or of afterwards, and both are the same
 pub either_keeps : (words new image : List ℕ) → HaveSameHeap words new → IsEitherHeap words new image → KeepsHeap words image

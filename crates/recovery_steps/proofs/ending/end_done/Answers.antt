@@ -18,11 +18,8 @@ here_in g c = subst (λ (ws : List ℕ). IsDoneSlab (tables_of ws) c.in-Some.sta
 
 pub returns-in-Some-clause-part : goal.returns-in-Some-clause-part
 returns-in-Some-clause-part g c =
-    let words = words_of (g.P.Pmem.state c.args.p.now) in
-    let start = c.in-Some.start in
     let done = c.end_transition.ensures in
-    part_of EndsDone 3 (end_events words start) (takes_one start (here_in g c)) (omega (arith, done.count, done.step.appends.count))
-    (step_wider (λ image leaves. leaves.keeps c.requires.shut.image) done.step)
+    part_of EndsDone (takes_one c.in-Some.start (here_in g c)) (step_wider (λ image leaves. leaves.keeps c.requires.shut.image) done.step) (omega (arith, done.count, done.step.appends.count))
 
 pub returns-in-Some-clause-rids : goal.returns-in-Some-clause-rids
 returns-in-Some-clause-rids g c =

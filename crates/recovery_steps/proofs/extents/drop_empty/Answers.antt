@@ -18,11 +18,9 @@ here_in g c = subst (λ (ws : List ℕ). IsEmptySlab (tables_of ws) c.in-Some.st
 
 pub returns-in-Some-clause-part : goal.returns-in-Some-clause-part
 returns-in-Some-clause-part g c =
-    let words = words_of (g.P.Pmem.state c.args.p.now) in
-    let start = c.in-Some.start in
     let done = c.drop_slab.ensures in
-    part_of DropsSlab (layout_of (version_in words)).entry_events (drop_events words start) (takes_one start (here_in g c)) (omega (arith, done.few, done.step.appends.count))
-    (step_wider (λ image left. either_keeps words (words_of (g.P.Pmem.state c.drop_slab.new.p)) image done.dropped.heap left) done.step)
+    part_of DropsSlab (takes_one c.in-Some.start (here_in g c))
+    (step_wider (λ image left. either_keeps (words_of (g.P.Pmem.state c.args.p.now)) (words_of (g.P.Pmem.state c.drop_slab.new.p)) image done.dropped.heap left) done.step) (omega (arith, done.few, done.step.appends.count))
 
 pub returns-in-Some-clause-rids : goal.returns-in-Some-clause-rids
 returns-in-Some-clause-rids g c =

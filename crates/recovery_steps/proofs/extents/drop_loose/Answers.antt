@@ -19,11 +19,9 @@ here_in g c = subst (λ (ws : List ℕ). IsLooseLarge (tables_of ws) c.in-Some.s
 
 pub returns-in-Some-clause-part : goal.returns-in-Some-clause-part
 returns-in-Some-clause-part g c =
-    let words = words_of (g.P.Pmem.state c.args.p.now) in
-    let start = c.in-Some.start in
     let done = c.drop_extent.ensures in
-    part_of DropsLarge (layout_of (version_in words)).entry_events (log_events words (Tomb start)) (takes_one start (here_in g c)) (omega (arith, done.few, done.step.appends.count))
-    (step_wider (λ image left. either_keeps words (words_of (g.P.Pmem.state c.drop_extent.new.p)) image done.gone.heap left) done.step)
+    part_of DropsLarge (takes_one c.in-Some.start (here_in g c))
+    (step_wider (λ image left. either_keeps (words_of (g.P.Pmem.state c.args.p.now)) (words_of (g.P.Pmem.state c.drop_extent.new.p)) image done.gone.heap left) done.step) (omega (arith, done.few, done.step.appends.count))
 
 pub returns-in-Some-clause-rids : goal.returns-in-Some-clause-rids
 returns-in-Some-clause-rids g c =

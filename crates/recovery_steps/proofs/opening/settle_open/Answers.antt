@@ -1,7 +1,7 @@
 use Rattle.std.proofs.Common.{ℕ, List, inl, inr, refl, subst}
 use Rattle.pmem_lines.specs.Pmem.{words_of}
 use Rattle.image_tables.specs.Tables.{tables_of}
-use Rattle.settle_steps.specs.Entries.{settle_events, LiesInSlab}
+use Rattle.settle_steps.specs.Entries.{LiesInSlab}
 use Rattle.settle_steps.proofs.Images.{entry_is}
 use Rattle.recovery_steps.specs.Opening.{IsClosed, IsFoundOpen}
 use Rattle.recovery_steps.specs.Recovery.{SettlesOpen}
@@ -36,7 +36,7 @@ returns-in-Some-clause-part g c =
     let entry = c.in-Some.found.entry in
     let start = c.slab_with-start.result in
     let found = found_in g c in
-    part_of SettlesOpen 6 (settle_events words line start entry) (inr (settling words line start entry found.line found.open_in (lies_in g c))) (few_settling words line start entry) c.settle_entry.ensures.step
+    part_of SettlesOpen (inr (settling words line start entry found.line found.open_in (lies_in g c))) c.settle_entry.ensures.step (few_settling words line start entry)
 
 pub returns-in-Some-clause-left : goal.returns-in-Some-clause-left
 returns-in-Some-clause-left g c =
