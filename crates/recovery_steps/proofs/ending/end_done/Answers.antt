@@ -28,7 +28,7 @@ returns-in-Some-clause-rids g c =
 pub returns-in-Some-clause-book : goal.returns-in-Some-clause-book
 returns-in-Some-clause-book g c =
     let ended = c.end_transition.ensures.ended in
-    book_off_header c.in-Some.start (sound_of (words_of (g.P.Pmem.state c.args.p.now)) c.requires.shut.image) (here_in g c).slab ended.off ended.bounds c.requires.book
+    book_off_header c.in-Some.start (sound_of (words_of (g.P.Pmem.state c.args.p.now)) c.requires.shut.image) (here_in g c).slab ended.off ended.bounds c.requires.begins.book
 
 pub returns-in-None-clause-part : goal.returns-in-None-clause-part
-returns-in-None-clause-part g c = part_idle IsDoneSlab end_events 3 c.requires.quiet c.requires.shut.image c.all_words.ensures c.in-None.ensures
+returns-in-None-clause-part g c = part_idle IsDoneSlab end_events 3 c.requires.begins.quiet c.requires.shut.image c.all_words.ensures c.in-None.ensures

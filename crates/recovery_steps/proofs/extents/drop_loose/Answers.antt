@@ -29,4 +29,4 @@ returns-in-Some-clause-rids g c =
 
 pub returns-in-None-clause-part : goal.returns-in-None-clause-part
 returns-in-None-clause-part g c =
-    part_idle IsLooseLarge (λ words start. log_events words (Tomb start)) (layout_of (version_in (words_of (g.P.Pmem.state c.args.p.now)))).entry_events c.requires.quiet c.requires.shut.image c.all_words.ensures c.in-None.ensures
+    part_idle IsLooseLarge (λ words start. log_events words (Tomb start)) (layout_of (version_in (words_of (g.P.Pmem.state c.args.p.now)))).entry_events c.requires.begins.quiet c.requires.shut.image c.all_words.ensures c.in-None.ensures

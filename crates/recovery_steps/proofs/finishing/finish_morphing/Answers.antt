@@ -13,7 +13,7 @@ returns-in-Some-clause-book g c =
     let words = words_of (g.P.Pmem.state c.args.p.now) in
     let done = c.finish_transition.ensures.finished in
     let here = subst (λ (ws : List ℕ). IsMorphing (tables_of ws) c.in-Some.start) c.all_words.ensures c.in-Some.ensures in
-    book_off_header c.in-Some.start (sound_of words c.requires.shut.image) here.slab done.off done.bounds c.requires.book
+    book_off_header c.in-Some.start (sound_of words c.requires.shut.image) here.slab done.off done.bounds c.requires.begins.book
 
 pub returns-in-None-clause-part : goal.returns-in-None-clause-part
-returns-in-None-clause-part g c = part_idle IsMorphing finish_events 76 c.requires.quiet c.requires.shut.image c.all_words.ensures c.in-None.ensures
+returns-in-None-clause-part g c = part_idle IsMorphing finish_events 76 c.requires.begins.quiet c.requires.shut.image c.all_words.ensures c.in-None.ensures

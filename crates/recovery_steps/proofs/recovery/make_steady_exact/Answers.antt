@@ -22,32 +22,32 @@ entries_few : {words one two : List ℕ} → IsSteadyImage words → IsLeft word
 entries_few {words} image first second =
     omega (arith, (layout_rules (version_in words)).recovery, ap (λ v. (layout_of v).entry_events) (left_version image first), ap (λ v. (layout_of v).entry_events) (left_version image second))
 
-pub settle_open-requires-clause-room : goal.settle_open-requires-clause-room
-settle_open-requires-clause-room g c = omega (arith, c.requires.room, (layout_rules (version_in (words_of (g.P.Pmem.state c.args.p.now)))).recovery)
+pub settle_open-requires-clause-begins : goal.settle_open-requires-clause-begins
+settle_open-requires-clause-begins g c = record { book = c.requires.begins.book; quiet = c.requires.begins.quiet; room = omega (arith, c.requires.begins.room, (layout_rules (version_in (words_of (g.P.Pmem.state c.args.p.now)))).recovery) }
 
-pub finish_morphing-requires-clause-room : goal.finish_morphing-requires-clause-room
-finish_morphing-requires-clause-room g c =
-    omega (arith, c.requires.room, (layout_rules (version_in (words_of (g.P.Pmem.state c.args.p.now)))).recovery, adds_few c.settle_open.ensures.part)
+pub finish_morphing-requires-clause-begins : goal.finish_morphing-requires-clause-begins
+finish_morphing-requires-clause-begins g c =
+    record { book = c.settle_open.ensures.book; quiet = c.settle_open.ensures.part.step.quiet; room = omega (arith, c.requires.begins.room, (layout_rules (version_in (words_of (g.P.Pmem.state c.args.p.now)))).recovery, adds_few c.settle_open.ensures.part) }
 
-pub drop_loose-requires-clause-room : goal.drop_loose-requires-clause-room
-drop_loose-requires-clause-room g c =
+pub drop_loose-requires-clause-begins : goal.drop_loose-requires-clause-begins
+drop_loose-requires-clause-begins g c =
     let settled = c.settle_open.ensures in
     let finished = c.finish_morphing.ensures in
     let before = left_then settled.left finished.calms.left in
-    omega (arith, c.requires.room, entries_few c.requires.image before before, adds_few settled.part, adds_few finished.part)
+    record { book = c.finish_morphing.ensures.book; quiet = c.finish_morphing.ensures.part.step.quiet; room = omega (arith, c.requires.begins.room, entries_few c.requires.image before before, adds_few settled.part, adds_few finished.part) }
 
-pub drop_empty-requires-clause-room : goal.drop_empty-requires-clause-room
-drop_empty-requires-clause-room g c =
+pub drop_empty-requires-clause-begins : goal.drop_empty-requires-clause-begins
+drop_empty-requires-clause-begins g c =
     let settled = c.settle_open.ensures in
     let finished = c.finish_morphing.ensures in
     let large = c.drop_loose.ensures in
     let before = left_then settled.left finished.calms.left in
-    omega (arith, c.requires.room, entries_few c.requires.image before (left_then before large.rids.left), adds_few settled.part, adds_few finished.part, adds_few large.part)
+    record { book = c.drop_loose.ensures.book; quiet = c.drop_loose.ensures.part.step.quiet; room = omega (arith, c.requires.begins.room, entries_few c.requires.image before (left_then before large.rids.left), adds_few settled.part, adds_few finished.part, adds_few large.part) }
 
-pub end_done-requires-clause-room : goal.end_done-requires-clause-room
-end_done-requires-clause-room g c =
+pub end_done-requires-clause-begins : goal.end_done-requires-clause-begins
+end_done-requires-clause-begins g c =
     let before = left_then c.settle_open.ensures.left c.finish_morphing.ensures.calms.left in
-    omega (arith, c.requires.room, entries_few c.requires.image before (left_then before c.drop_loose.ensures.rids.left), adds_few c.settle_open.ensures.part, adds_few c.finish_morphing.ensures.part, adds_few c.drop_loose.ensures.part, adds_few c.drop_empty.ensures.part)
+    record { book = c.drop_empty.ensures.book; quiet = c.drop_empty.ensures.part.step.quiet; room = omega (arith, c.requires.begins.room, entries_few c.requires.image before (left_then before c.drop_loose.ensures.rids.left), adds_few c.settle_open.ensures.part, adds_few c.finish_morphing.ensures.part, adds_few c.drop_loose.ensures.part, adds_few c.drop_empty.ensures.part) }
 
 pub returns-clause-part : goal.returns-clause-part
 returns-clause-part g c =

@@ -37,11 +37,11 @@ returns-in-Some-clause-steadied g c =
 pub returns-in-Some-clause-book : goal.returns-in-Some-clause-book
 returns-in-Some-clause-book g c =
     let ended = c.end_transition.ensures.ended in
-    book_off_header c.in-Some.start c.requires.image (here_in g c).done.slab ended.off ended.bounds c.requires.book
+    book_off_header c.in-Some.start c.requires.image (here_in g c).done.slab ended.off ended.bounds c.requires.begins.book
 
 pub returns-in-None-clause-part : goal.returns-in-None-clause-part
 returns-in-None-clause-part g c =
-    leaves_none c.requires.quiet (takes_none (subst (λ (ws : List ℕ). HasNone (IsDoneBesides (tables_of ws))) c.all_words.ensures c.in-None.ensures))
+    leaves_none c.requires.begins.quiet (takes_none (subst (λ (ws : List ℕ). HasNone (IsDoneBesides (tables_of ws))) c.all_words.ensures c.in-None.ensures))
 
 pub returns-in-None-clause-steadied : goal.returns-in-None-clause-steadied
 returns-in-None-clause-steadied g c =
