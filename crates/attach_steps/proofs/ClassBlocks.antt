@@ -93,7 +93,7 @@ module _ (words : List ℕ) (root : ℕ) (block : SmallBlock) (block_in : IsBloc
     }
 
 -- a block comes to its root
-module _ (words : List ℕ) (line root : ℕ) (block : SmallBlock) (may : IsAttachable words root block) (line_below : line < 8) where
+module _ {words : List ℕ} {line root : ℕ} {block : SmallBlock} (may : IsAttachable words root block) (line_below : line < 8) where
   abbrev block_in : IsBlockIn words root block
   block_in = may.block_in
 
@@ -112,7 +112,7 @@ module _ (words : List ℕ) (line root : ℕ) (block : SmallBlock) (may : IsAtta
   begins : IsStageOf words line root site false 0 None words
   begins = stage_begin words line root site coming line_below false 0 (ap (put_in (tables_of words).bit block.start block.number) (sym clear) ∙ put_in-own (tables_of words).bit block.start block.number) refl may.none
 
-  module _ (made left new : List ℕ) (opens : Opens words line (entry_for root block) made) (over : PutsBitOver made block.start block.number true) (left_is : left ≡ reading made (mark_events made root block))
+  module _ {made left new : List ℕ} (opens : Opens words line (entry_for root block) made) (over : PutsBitOver made block.start block.number true) (left_is : left ≡ reading made (mark_events made root block))
       (closes : Closes left line new) where
     opened : IsStageOf words line root site false 0 (Some (entry_for root block)) made
     opened = stage_open words line root site coming line_below false 0 None words begins made refl opens
@@ -161,7 +161,7 @@ module _ (words : List ℕ) (line root : ℕ) (block : SmallBlock) (may : IsAtta
         (mark_under words line root site coming line_below made (bit_put made block true) (record { on = false; word = 0; either = inl refl; stage = opened }) puts) opening putting closing)
 
 -- a block goes from its root
-module _ (words : List ℕ) (line root : ℕ) (block : SmallBlock) (may : IsDetachable words root block) (line_below : line < 8) where
+module _ {words : List ℕ} {line root : ℕ} {block : SmallBlock} (may : IsDetachable words root block) (line_below : line < 8) where
   abbrev going_in : IsBlockIn words root block
   going_in = may.block_in
 
@@ -176,7 +176,7 @@ module _ (words : List ℕ) (line root : ℕ) (block : SmallBlock) (may : IsDeta
   going_begins =
       stage_begin words line root place going line_below true block.at (ap (put_in (tables_of words).bit block.start block.number) (sym may.set) ∙ put_in-own (tables_of words).bit block.start block.number) refl may.named
 
-  module _ (made left new : List ℕ) (opens : Opens words line (entry_for root block) made) (over : PutsBitOver made block.start block.number false) (left_is : left ≡ reading made (unmark_events made root block))
+  module _ {made left new : List ℕ} (opens : Opens words line (entry_for root block) made) (over : PutsBitOver made block.start block.number false) (left_is : left ≡ reading made (unmark_events made root block))
       (closes : Closes left line new) where
     going_opened : IsStageOf words line root place true block.at (Some (entry_for root block)) made
     going_opened = stage_open words line root place going line_below true block.at None words going_begins made refl opens

@@ -44,7 +44,7 @@ old_site t root block = record {
   block = record { at = block.at; size = class_size (t.old block.start) };
 }
 
-module _ (words : List ℕ) (line root : ℕ) (block : OldBlock) (may : IsOldDetachable words root block) (line_below : line < 8) where
+module _ {words : List ℕ} {line root : ℕ} {block : OldBlock} (may : IsOldDetachable words root block) (line_below : line < 8) where
   abbrev t : Tables
   t = tables_of words
 
@@ -105,7 +105,7 @@ module _ (words : List ℕ) (line root : ℕ) (block : OldBlock) (may : IsOldDet
   begins : IsStageOf words line root site true block.at None words
   begins = stage_begin words line root site IsSite-old line_below true block.at refl (ap (put_in t.live block.start block.place) (sym may.live) ∙ put_in-own t.live block.start block.place) may.named
 
-  module _ (made left new : List ℕ) (opens : Opens words line (old_entry_for root block.at block.place) made) (long : length made ≡ length words)
+  module _ {made left new : List ℕ} (opens : Opens words line (old_entry_for root block.at block.place) made) (long : length made ≡ length words)
       (over : PutsIndexOver made block.start block.place (record { live = false; number = (tables_of words).number block.start block.place }))
       (left_is : left ≡ reading made (bury_events (tables_of words) root block.start block.place)) (closes : Closes left line new) where
     opened : IsStageOf words line root site true block.at (Some own) made

@@ -8,7 +8,7 @@ use Rattle.image_tables.proofs.Updates.{put_at-same, put_at-other}
 use Rattle.heap_model.specs.Machine.{Bounds}
 use Rattle.heap_check.specs.Heap.{heap}
 use Rattle.heap_check.specs.Sound.{IsValidSlab, AtMostOne, IsMorphing, IsDoneSlab, IsNearlyDone, IsSound, IsSteady, IsExact}
-use Rattle.slab_morph.specs.SlabHeaders.{SlabHeader, put_header, alone}
+use Rattle.slab_morph.specs.SlabHeaders.{SlabHeader, header_of, put_header, alone}
 use Rattle.slab_morph.specs.Stages.{AllHoldSame}
 use Rattle.class_steps.proofs.DressedTables.{heap-dressed, IsSound-dressed}
 
@@ -17,34 +17,20 @@ module _ {b : Bounds} {t : Tables} (exact : IsExact b t) (start : ℕ) (slab : t
   new = put_header t start g
 
   -- the slab has this header
-  kind_here : new.kind start ≡ g.kind
-  kind_here = put_at-same t.kind start g.kind
-
-  count_here : new.index_count start ≡ g.index_count
-  count_here = put_at-same t.index_count start g.index_count
-
-  live_here : new.live start ≡ g.live
-  live_here = put_at-same t.live start g.live
-
-  number_here : new.number start ≡ g.number
-  number_here = put_at-same t.number start g.number
-
-  class_here : new.class start ≡ g.class
-  class_here = put_at-same t.class start g.class
-
-  old_here : new.old start ≡ g.old
-  old_here = put_at-same t.old start g.old
+  here : header_of new start ≡ g
+  here i = record {
+    kind = put_at-same t.kind start g.kind i;
+    class = put_at-same t.class start g.class i;
+    old = put_at-same t.old start g.old i;
+    index_count = put_at-same t.index_count start g.index_count i;
+    bit = put_at-same t.bit start g.bit i;
+    live = put_at-same t.live start g.live i;
+    number = put_at-same t.number start g.number i;
+  }
 
   -- so it is valid
   valid_here : IsValidSlab new start
-  valid_here = record {
-    state = subst (λ k. IsState k (new.class start) (new.old start) (new.index_count start)) (sym kind_here)
-        (subst (λ c. IsState g.kind c (new.old start) (new.index_count start)) (sym class_here)
-        (subst (λ o. IsState g.kind g.class o (new.index_count start)) (sym old_here)
-        (subst (λ n. IsState g.kind g.class g.old n) (sym count_here) valid.state)));
-    small = λ place below. omega (arith, valid.small place (omega (arith, below, count_here)), ap (λ (f : ℕ → ℕ). f place) number_here, ap class_capacity old_here);
-    once = λ place other below among same. valid.once place other (omega (arith, below, count_here)) (omega (arith, among, count_here)) (omega (arith, same, ap (λ (f : ℕ → ℕ). f place) number_here, ap (λ (f : ℕ → ℕ). f other) number_here));
-  }
+  valid_here = let own = subst (λ (h : SlabHeader). IsValidSlab (alone h) start) (sym here) valid in record { state = own.state; small = own.small; once = own.once }
 
   -- every other slab has its own
   valid_there : (s : ℕ) → s ≢ start → t.slab s ≡ true → IsValidSlab new s
@@ -123,8 +109,8 @@ module _ {b : Bounds} {t : Tables} (exact : IsExact b t) (start : ℕ) (slab : t
     closed = exact.closed;
     all_named = exact.all_named;
     all_live = λ s lives. let rooted = exact.all_live s lives in (rooted.0, rooted.1, record { slab = rooted.2.slab; low = rooted.2.low; high = rooted.2.high });
-    calm = λ s is. let same = only_morphing s is in omega (arith, is.kind, ap new.kind same, kind_here, there);
+    calm = λ s is. let same = only_morphing s is in omega (arith, is.kind, ap new.kind same, ap (λ (h : SlabHeader). h.kind) here, there);
     none_done = λ s done.
         let same = only_nearly s (done_nearly s done) in
-        true≢false (sym (ap (λ (f : ℕ → Bool). f place) live_here ∙ live) ∙ subst (λ k. new.live k place ≡ false) same (done.none place (omega (arith, below, count_here, ap new.index_count same))));
+        true≢false (sym (ap (λ (h : SlabHeader). h.live place) here ∙ live) ∙ subst (λ k. new.live k place ≡ false) same (done.none place (omega (arith, below, ap (λ (h : SlabHeader). h.index_count) here, ap new.index_count same))));
   }

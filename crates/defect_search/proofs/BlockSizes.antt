@@ -1,6 +1,6 @@
 -- Sizes of blocks by their addresses.
-use Rattle.std.proofs.Common.{◌≡◌, ◌≢◌, ◌↔◌, ◌&&◌, ◌||◌, ◌==◌, ℕ, zero, suc, ◌-◌, ◌*◌, ◌/◌, ◌<◌, ◌≤◌, Bool, true, false, cond, ltb, List, refl, sym, ap, subst, ◌∙◌, arith, ⊎_elim, IsTrue}
-use Rattle.std.proofs.lemmas.Bool.{cases_eq, false≢true, cond-true, cond-false, eq-eqb, eqb-true, ne_eqb, lt-ltb, and_parts, and_from, false_from_ne_true}
+use Rattle.std.proofs.Common.{◌≡◌, ◌≢◌, ◌↔◌, ◌&&◌, ◌==◌, ℕ, ◌-◌, ◌*◌, ◌/◌, ◌≤◌, Bool, true, false, cond, ltb, List, refl, sym, ap, subst, ◌∙◌, arith, IsTrue}
+use Rattle.std.proofs.lemmas.Bool.{false≢true, cond-true, cond-false, eq-eqb, eqb-true, ne_eqb, lt-ltb, and_parts, and_from, false_from_ne_true}
 use Rattle.size_classes.specs.Classes.{class_size}
 use Rattle.image_tables.specs.Tables.{Tables, is_slab, state_field, tables_of}
 use Rattle.image_tables.proofs.Tables.{slab_table, class_table, old_table, index_count_table}

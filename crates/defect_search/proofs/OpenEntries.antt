@@ -46,20 +46,20 @@ new_none words at n slabs all none new =
     let t = tables_of words in
     let is : IsValidSlab t new.start = (slabs.good new.start (sym (slab_table words new.start) ∙ new.slab)).slab in
     let near = near_block new.start (t.class new.start) new.number at is.state.is_class new.below new.is in
-    none (at / 16384 - new.start) (omega (arith, near.0, near.1)) (record { start = new.start; is = omega (arith, near.0); block = record { slab = new.slab; number = new.number; below = new.below; is = new.is } })
+    none (at / 16384 - new.start) (omega (arith, near.0, near.1)) (record { start = new.start; is = omega (arith, near.0); has = record { slab = new.slab; number = new.number; below = new.below; is = new.is } })
 
 pub new_some : (t : Tables) (last back at : ℕ) → HasNewBlock t last back at → IsNewEntry t at
-new_some t last back at has = record { start = has.start; number = has.block.number; slab = has.block.slab; below = has.block.below; is = has.block.is }
+new_some t last back at has = record { start = has.start; number = has.has.number; slab = has.has.slab; below = has.has.below; is = has.has.is }
 
 pub old_none : (words : List ℕ) (at place n : ℕ) → AreSlabsAt words → 4 ≤ n → ((d : ℕ) → d < n → ¬ (HasOldBlock (tables_of words) (at / 16384) d at place)) → ¬ (IsOldEntry (tables_of words) at place)
 old_none words at place n slabs all none old =
     let t = tables_of words in
     let is : IsValidSlab t old.start = (slabs.good old.start (sym (slab_table words old.start) ∙ old.slab)).slab in
     let near = near_block old.start (t.old old.start) (t.number old.start place) at is.state.is_old_class (is.small place old.below) old.is in
-    none (at / 16384 - old.start) (omega (arith, near.0, near.1)) (record { start = old.start; is = omega (arith, near.0); block = record { slab = old.slab; kind = old.kind; below = old.below; is = old.is } })
+    none (at / 16384 - old.start) (omega (arith, near.0, near.1)) (record { start = old.start; is = omega (arith, near.0); has = record { slab = old.slab; kind = old.kind; below = old.below; is = old.is } })
 
 pub old_some : (t : Tables) (last back at place : ℕ) → HasOldBlock t last back at place → IsOldEntry t at place
-old_some t last back at place has = record { start = has.start; slab = has.block.slab; kind = has.block.kind; below = has.block.below; is = has.block.is }
+old_some t last back at place has = record { start = has.start; slab = has.has.slab; kind = has.has.kind; below = has.has.below; is = has.has.is }
 
 -- slabs that take another class
 

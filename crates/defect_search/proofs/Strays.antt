@@ -18,7 +18,9 @@ use Rattle.defect_search.specs.Claims.{AreBlocks}
 use Rattle.defect_search.specs.declared.claim.Claim.{Claim}
 use Rattle.image_defects.specs.Blocks.{AreRooted}
 use Rattle.defect_search.proofs.Blocks.{rooted_or}
-use Rattle.image_reading.specs.Slabs.{slab_in, AreSlabs}
+use Rattle.slab_header.specs.declared.state.SlabState.TheVariants.{Normal, Morphing, Morphed}
+use Rattle.slab_header.specs.State.{kind_of, entries_of}
+use Rattle.image_reading.specs.Slabs.{slab_in, AreSlabs, IsRead}
 use Rattle.image_defects.specs.Blocks.{IsStray, IsStrayAddress}
 use Rattle.defect_search.specs.Stray.{word_of, number_in, IsStrayBlock, IsStrayInWord, IsStrayInWords, IsStrayBit, IsStrayPlace, IsStrayOld}
 use Rattle.defect_search.proofs.LeastOf.{least_either, least_same}
@@ -104,15 +106,15 @@ none_in_word t start word none = record {
 pub none_in_words : (t : Tables) (start : ℕ) → HasNone (IsStrayInWords t start 0)
 none_in_words t start = record { none = λ at s. absurd (omega (arith, s.word_below)) }
 
-pub words_more : (t : Tables) (start n : ℕ) (a b : Option ℕ) → IsLeastOf (IsStrayInWords t start n) a → IsLeastOf (IsStrayInWord t start n) b → IsLeastOf (IsStrayInWords t start (n + 1)) (lesser a b)
-words_more t start n a b before here = least_either (IsStrayInWords t start n) (IsStrayInWord t start n) (IsStrayInWords t start (n + 1)) a b
+pub words_more : (t : Tables) (start n : ℕ) (a b : Option ℕ) {c : Option ℕ} → IsLeastOf (IsStrayInWords t start n) a → IsLeastOf (IsStrayInWord t start n) b → c ≡ lesser a b → IsLeastOf (IsStrayInWords t start (n + 1)) c
+words_more t start n a b before here is = least_either (IsStrayInWords t start n) (IsStrayInWord t start n) (IsStrayInWords t start (n + 1)) a b
     (λ at s. record { number = s.number; block = s.block; word_below = omega (arith, s.word_below); is = s.is })
     (λ at s. record { number = s.number; block = s.block; word_below = omega (arith, s.word_is); is = s.is })
     (λ at s. ⊎_elim
     (λ (same : word_of s.number ≡ n). inr (record { number = s.number; block = s.block; word_is = same; is = s.is }))
     (λ (other : word_of s.number ≢ n). inl (record { number = s.number; block = s.block; word_below = omega (arith, s.word_below); is = s.is }))
     (cases_eq (word_of s.number) n))
-    before here
+    before here is
 
 pub all_words : (t : Tables) (start class n : ℕ) (a : Option ℕ) → t.class start ≡ class → class < 36 → 64 ≤ n → IsLeastOf (IsStrayInWords t start n) a → IsLeastOf (IsStrayBit t start) a
 all_words t start class n a is is_class all least = least_same (IsStrayInWords t start n) (IsStrayBit t start) a
@@ -135,15 +137,15 @@ one_place t start place old number at is of live none here =
 pub none_old : (t : Tables) (start : ℕ) → HasNone (IsStrayOld t start 0)
 none_old t start = record { none = λ n s. absurd (omega (arith, s.below)) }
 
-pub old_more : (t : Tables) (start n : ℕ) (a b : Option ℕ) → IsLeastOf (IsStrayOld t start n) a → IsLeastOf (IsStrayPlace t start n) b → IsLeastOf (IsStrayOld t start (n + 1)) (lesser a b)
-old_more t start n a b before here = least_either (IsStrayOld t start n) (IsStrayPlace t start n) (IsStrayOld t start (n + 1)) a b
+pub old_more : (t : Tables) (start n : ℕ) (a b : Option ℕ) {c : Option ℕ} → IsLeastOf (IsStrayOld t start n) a → IsLeastOf (IsStrayPlace t start n) b → c ≡ lesser a b → IsLeastOf (IsStrayOld t start (n + 1)) c
+old_more t start n a b before here is = least_either (IsStrayOld t start n) (IsStrayPlace t start n) (IsStrayOld t start (n + 1)) a b
     (λ at s. record { place = s.place; below = omega (arith, s.below); stray = s.stray })
     (λ at s. record { place = n; below = omega arith; stray = s })
     (λ at s. ⊎_elim
     (λ (same : s.place ≡ n). inr (subst (λ p. IsStrayPlace t start p at) same s.stray))
     (λ (other : s.place ≢ n). inl (record { place = s.place; below = omega (arith, s.below); stray = s.stray }))
     (cases_eq s.place n))
-    before here
+    before here is
 
 -- a slab
 
@@ -184,21 +186,40 @@ stray_parts t start at s = ⊎_elim
     }))
     s.holds.block
 
-module _ (t : Tables) (start : ℕ) (slab : t.slab start ≡ true) where
-  pub stray_normal : (a : Option ℕ) → t.kind start ≡ 1 → t.index_count start ≡ 0 → IsLeastOf (IsStrayBit t start) a → IsLeastOf (IsStray t start) a
-  stray_normal a kind none = least_same (IsStrayBit t start) (IsStray t start) a
-      (λ at s. stray_of_bit t start at slab (λ two. omega (arith, kind, two)) s)
+module _ {words : List ℕ} {slab : Slab} (read : IsRead words slab) where
+  abbrev t : Tables
+  t = tables_of words
+
+  abbrev start : ℕ
+  start = slab.start
+
+  there : t.slab start ≡ true
+  there = slab_table words start ∙ read.at.slab
+
+  pub stray_normal : {class : ℕ} (a : Option ℕ) → slab.state ≡ Normal class → IsLeastOf (IsStrayBit (tables_of words) slab.start) a → IsLeastOf (IsStray (tables_of words) slab.start) a
+  stray_normal a is =
+      let kind = read.of.kind ∙ ap kind_of is in
+      let none = read.of.entries ∙ ap entries_of is in
+      least_same (IsStrayBit t start) (IsStray t start) a
+      (λ at s. stray_of_bit t start at there (λ two. omega (arith, kind, two)) s)
       (λ at s. ⊎_elim (λ b. b.1) (λ o. absurd (omega (arith, o.below, none))) (stray_parts t start at s))
 
-  pub stray_morphing : (n : ℕ) (a : Option ℕ) → t.kind start ≡ 2 → t.index_count start ≡ n → IsLeastOf (IsStrayOld t start n) a → IsLeastOf (IsStray t start) a
-  stray_morphing n a kind entries = least_same (IsStrayOld t start n) (IsStray t start) a
-      (λ at s. stray_of_old t start at slab (subst (λ m. IsStrayOld t start m at) (sym entries) s))
+  pub stray_morphing : {class old n : ℕ} (a : Option ℕ) → slab.state ≡ Morphing class old n → IsLeastOf (IsStrayOld (tables_of words) slab.start n) a → IsLeastOf (IsStray (tables_of words) slab.start) a
+  stray_morphing {class} {old} {n} a is =
+      let kind = read.of.kind ∙ ap kind_of is in
+      let entries = read.of.entries ∙ ap entries_of is in
+      least_same (IsStrayOld t start n) (IsStray t start) a
+      (λ at s. stray_of_old t start at there (subst (λ m. IsStrayOld t start m at) (sym entries) s))
       (λ at s. ⊎_elim (λ b. absurd (b.0 kind)) (λ o. subst (λ m. IsStrayOld t start m at) entries o) (stray_parts t start at s))
 
-  pub stray_morphed : (n : ℕ) (a b : Option ℕ) → t.kind start ≡ 3 → t.index_count start ≡ n → IsLeastOf (IsStrayBit t start) a → IsLeastOf (IsStrayOld t start n) b → IsLeastOf (IsStray t start) (lesser a b)
-  stray_morphed n a b kind entries = least_either (IsStrayBit t start) (IsStrayOld t start n) (IsStray t start) a b
-      (λ at s. stray_of_bit t start at slab (λ two. omega (arith, kind, two)) s)
-      (λ at s. stray_of_old t start at slab (subst (λ m. IsStrayOld t start m at) (sym entries) s))
+  pub stray_morphed : {class old n : ℕ} (a b : Option ℕ) {c : Option ℕ} → slab.state ≡ Morphed class old n → IsLeastOf (IsStrayBit (tables_of words) slab.start) a → IsLeastOf (IsStrayOld (tables_of words) slab.start n) b → c ≡ lesser a b →
+      IsLeastOf (IsStray (tables_of words) slab.start) c
+  stray_morphed {class} {old} {n} a b is =
+      let kind = read.of.kind ∙ ap kind_of is in
+      let entries = read.of.entries ∙ ap entries_of is in
+      least_either (IsStrayBit t start) (IsStrayOld t start n) (IsStray t start) a b
+      (λ at s. stray_of_bit t start at there (λ two. omega (arith, kind, two)) s)
+      (λ at s. stray_of_old t start at there (subst (λ m. IsStrayOld t start m at) (sym entries) s))
       (λ at s. ⊎_elim (λ h. inl h.1) (λ o. inr (subst (λ m. IsStrayOld t start m at) entries o)) (stray_parts t start at s))
 
 -- all slabs
@@ -212,15 +233,15 @@ pub record IsStrayAmong (t : Tables) (slabs : List Slab) (n at : ℕ) : Type 0 w
 pub none_among : (t : Tables) (slabs : List Slab) → HasNone (IsStrayAmong t slabs 0)
 none_among t slabs = record { none = λ n s. absurd (omega (arith, s.below)) }
 
-pub among_more : (t : Tables) (slabs : List Slab) (n : ℕ) (a b : Option ℕ) → IsLeastOf (IsStrayAmong t slabs n) a → IsLeastOf (IsStray t (slab_in slabs n).start) b → IsLeastOf (IsStrayAmong t slabs (n + 1)) (lesser a b)
-among_more t slabs n a b before here = least_either (IsStrayAmong t slabs n) (IsStray t (slab_in slabs n).start) (IsStrayAmong t slabs (n + 1)) a b
+pub among_more : (t : Tables) (slabs : List Slab) (n : ℕ) (a b : Option ℕ) {c : Option ℕ} → IsLeastOf (IsStrayAmong t slabs n) a → IsLeastOf (IsStray t (slab_in slabs n).start) b → c ≡ lesser a b → IsLeastOf (IsStrayAmong t slabs (n + 1)) c
+among_more t slabs n a b before here is = least_either (IsStrayAmong t slabs n) (IsStray t (slab_in slabs n).start) (IsStrayAmong t slabs (n + 1)) a b
     (λ at s. record { place = s.place; below = omega (arith, s.below); stray = s.stray })
     (λ at s. record { place = n; below = omega arith; stray = s })
     (λ at s. ⊎_elim
     (λ (same : s.place ≡ n). inr (subst (λ p. IsStray t (slab_in slabs p).start at) same s.stray))
     (λ (other : s.place ≢ n). inl (record { place = s.place; below = omega (arith, s.below); stray = s.stray }))
     (cases_eq s.place n))
-    before here
+    before here is
 
 among_same : (words : List ℕ) (slabs : List Slab) (a : Option ℕ) → AreSlabs words slabs → IsLeastOf (IsStrayAmong (tables_of words) slabs (length slabs)) a → IsLeastOf (IsStrayAddress (tables_of words)) a
 among_same words slabs a are = least_same (IsStrayAmong (tables_of words) slabs (length slabs)) (IsStrayAddress (tables_of words)) a

@@ -1,11 +1,12 @@
 -- Blocks that an open entry may name, slab by slab, and the lines that have an entry.
-use Rattle.std.specs.Prelude.{◌≡◌, ◌≢◌, ◌⊎◌, ℕ, ◌+◌, ◌<◌, ◌≤◌, true, List}
+use Rattle.std.specs.Prelude.{◌≡◌, ◌≢◌, ◌⊎◌, ℕ, ◌<◌, ◌≤◌, true, List}
 use Rattle.size_classes.specs.Classes.{class_capacity}
 use Rattle.pmem_lines.specs.Words.{word_at}
 use Rattle.pool_layout.specs.Places.{wal_word}
 use Rattle.image_tables.specs.Forms.{morphing_kind, morphed_kind}
 use Rattle.image_tables.specs.Tables.{Tables, wal_lines}
 use Rattle.heap_model.specs.Machine.{slab_block}
+use Rattle.image_reading.specs.Held.{IsBack}
 
 -- a block of its class stands at the address, in the slab at a granule
 pub record IsNewBlock (t : Tables) (start at : ℕ) : Type 0 where
@@ -23,15 +24,11 @@ pub record IsOldBlock (t : Tables) (start at place : ℕ) : Type 0 where
 
 -- the same of the slab that begins so many granules before another
 
-pub record HasNewBlock (t : Tables) (last back at : ℕ) : Type 0 where
-  pub start : ℕ
-  pub is : start + back ≡ last
-  pub block : IsNewBlock t start at
+abbrev pub HasNewBlock : Tables → ℕ → ℕ → ℕ → Type 0
+HasNewBlock t last back at = IsBack (λ start. IsNewBlock t start at) last back
 
-pub record HasOldBlock (t : Tables) (last back at place : ℕ) : Type 0 where
-  pub start : ℕ
-  pub is : start + back ≡ last
-  pub block : IsOldBlock t start at place
+abbrev pub HasOldBlock : Tables → ℕ → ℕ → ℕ → ℕ → Type 0
+HasOldBlock t last back at place = IsBack (λ start. IsOldBlock t start at place) last back
 
 -- no slab takes another class
 pub record IsCalm (t : Tables) : Type 0 where

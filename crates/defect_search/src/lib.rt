@@ -32,8 +32,8 @@ pub use header::{bad_slab, slabs_of};
 pub use lines::{bad_line, next_line, open_entry};
 pub use log::bad_entry;
 pub use loose::{
-    is_done, is_empty_slab, is_loose_large, is_morphing, is_too_many, loose_things, named_granules,
-    named_starts,
+    counted, is_done, is_empty_slab, is_loose_large, is_morphing, is_too_many, loose_things,
+    named_granules, named_starts,
 };
 pub use overlap::first_overlap;
 pub use root::stray_root;

@@ -1,11 +1,10 @@
 // The loose things that are counted.
-ghost use Rattle.std.specs.Prelude.{◌≡◌, ◌≢◌, ◌↔◌, ◌⊎◌, ◌+◌, ◌*◌, ◌/◌, ◌<◌, ◌≤◌, ◌^◌, ℕ, true, false, List, length, IsTrue, IfOk};
+ghost use Rattle.std.specs.Prelude.{◌≡◌, ◌≢◌, ◌↔◌, ◌⊎◌, ◌+◌, ◌-◌, ◌*◌, ◌/◌, ◌<◌, ◌≤◌, ◌^◌, ℕ, true, false, List, length, IsTrue, IfOk, if◌then◌else◌};
 ghost use Rattle.image_tables.specs.Tables.{is_slab, state_field, tables_of};
 ghost use Rattle.pool_layout.specs.Layout.{layout_of};
 ghost use Rattle.pool_layout.specs.Header.{version_in, granules_in};
 ghost use Rattle.book_log.specs.Book.{Reads};
 ghost use Rattle.heap_check.specs.Sound.{IsLooseLarge, IsEmptySlab, IsMorphing, IsDoneSlab};
-ghost use Rattle.image_defects.specs.Count.{IsCount};
 ghost use Rattle.defect_search.specs.Roots.{mark_in, IsNamedStart, IsNamedGranule, AreMarks};
 ghost use Rattle.image_reading.specs.Slabs.{IsSlabAt};
 ghost use Rattle.image_defects.specs.Loose.{AreLoose, IsTooMany, AreFewLoose};
@@ -200,68 +199,38 @@ pub fn is_done(words: &[u64], log: &BookLog, start: u32) -> bool
     is_all_dead(words, start)
 }
 
-fn count_large(words: &[u64], log: &BookLog, starts: &[bool], granules: u32) -> u32
-    requires arena { IsArena words.now }
-    requires reads { Reads log.now words.now }
-    requires size { length starts.now ≡ granules_in words.now }
-    requires named { AreMarks (IsNamedStart (tables_of words.now) (layout_of (version_in words.now)).roots) starts.now }
-    requires inside { granules ≡ granules_in words.now }
-    ensures { IsCount (IsLooseLarge (tables_of words.now)) granules result }
+/// A count, with one more where there is one.
+pub fn counted(count: u32, more: bool) -> u32
+    requires { count < 2 ^ 32 - 1 }
+    ensures { result ≡ (if more then count + 1 else count) }
 {
-    let mut count = 0;
-    for start in 0..granules {
-        if is_loose_large(words, log, starts, start) {
-            count += 1;
-        }
-    }
-    count
+    if more { count + 1 } else { count }
 }
 
-fn count_empty(words: &[u64], log: &BookLog, met: &[bool], granules: u32) -> u32
+// Counts the loose things of the four kinds, granule by granule.
+fn count_loose(words: &[u64], log: &BookLog, starts: &[bool], met: &[bool]) -> Loose
     requires arena { IsArena words.now }
     requires reads { Reads log.now words.now }
-    requires size { length met.now ≡ granules_in words.now }
-    requires named { AreMarks (IsNamedGranule (tables_of words.now) (layout_of (version_in words.now)).roots) met.now }
-    requires inside { granules ≡ granules_in words.now }
-    ensures { IsCount (IsEmptySlab (tables_of words.now)) granules result }
+    requires granules { log.now.granules ≡ granules_in words.now }
+    requires starts_size { length starts.now ≡ granules_in words.now }
+    requires starts { AreMarks (IsNamedStart (tables_of words.now) (layout_of (version_in words.now)).roots) starts.now }
+    requires met_size { length met.now ≡ granules_in words.now }
+    requires met { AreMarks (IsNamedGranule (tables_of words.now) (layout_of (version_in words.now)).roots) met.now }
+    ensures { AreLoose (tables_of words.now) (granules_in words.now) result }
 {
-    let mut count = 0;
-    for start in 0..granules {
-        if is_empty_slab(words, log, met, start) {
-            count += 1;
-        }
+    let mut loose = Loose {
+        large: 0,
+        empty: 0,
+        morphing: 0,
+        done: 0,
+    };
+    for start in 0..log.granules() {
+        loose.large = counted(loose.large, is_loose_large(words, log, starts, start));
+        loose.empty = counted(loose.empty, is_empty_slab(words, log, met, start));
+        loose.morphing = counted(loose.morphing, is_morphing(words, log, start));
+        loose.done = counted(loose.done, is_done(words, log, start));
     }
-    count
-}
-
-fn count_morphing(words: &[u64], log: &BookLog, granules: u32) -> u32
-    requires arena { IsArena words.now }
-    requires reads { Reads log.now words.now }
-    requires inside { granules ≡ granules_in words.now }
-    ensures { IsCount (IsMorphing (tables_of words.now)) granules result }
-{
-    let mut count = 0;
-    for start in 0..granules {
-        if is_morphing(words, log, start) {
-            count += 1;
-        }
-    }
-    count
-}
-
-fn count_done(words: &[u64], log: &BookLog, granules: u32) -> u32
-    requires arena { IsArena words.now }
-    requires reads { Reads log.now words.now }
-    requires inside { granules ≡ granules_in words.now }
-    ensures { IsCount (IsDoneSlab (tables_of words.now)) granules result }
-{
-    let mut count = 0;
-    for start in 0..granules {
-        if is_done(words, log, start) {
-            count += 1;
-        }
-    }
-    count
+    loose
 }
 
 /// Counts the loose things of the four kinds.
@@ -280,10 +249,5 @@ pub fn loose_things(
     let granules = log.granules();
     let starts = named_starts(alloc, words, entry, granules)?;
     let met = named_granules(alloc, words, entry, granules)?;
-    Ok(Loose {
-        large: count_large(words, log, &starts, granules),
-        empty: count_empty(words, log, &met, granules),
-        morphing: count_morphing(words, log, granules),
-        done: count_done(words, log, granules),
-    })
+    Ok(count_loose(words, log, &starts, &met))
 }

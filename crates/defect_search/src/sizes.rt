@@ -43,45 +43,21 @@ pub fn slab_of(log: &BookLog, granule: u32) -> u32
     granule.saturating_sub(3)
 }
 
-// The class of the slab that starts at a granule, 0 where none does.
-fn class_at(words: &[u64], log: &BookLog, start: u32) -> u8
-    requires reads { Reads log.now words.now }
-    requires slabs { AreSlabsAt words.now }
-    ensures class { (tables_of words.now).class start ≡ result }
-    ensures is_class { result < 36 }
-{
-    if !is_slab(log, start) {
-        return 0;
-    }
-    let slab = read_slab(words, start);
-    class_of(slab.state)
-}
-
-// The class that the slab that starts at a granule had before, 0 where none starts there or it had none.
-fn old_at(words: &[u64], log: &BookLog, start: u32) -> u8
-    requires reads { Reads log.now words.now }
-    requires slabs { AreSlabsAt words.now }
-    ensures old { (tables_of words.now).old start ≡ result }
-    ensures is_class { result < 36 }
-{
-    if !is_slab(log, start) {
-        return 0;
-    }
-    let slab = read_slab(words, start);
-    old_of(slab.state)
-}
-
-// The one or the other.
+// The class of the slab that starts at a granule, or that which it had before; 0 where none does, or it had none.
 fn class_by(words: &[u64], log: &BookLog, start: u32, of_old: bool) -> u8
     requires reads { Reads log.now words.now }
     requires slabs { AreSlabsAt words.now }
     ensures class { (if of_old then (tables_of words.now).old start else (tables_of words.now).class start) ≡ result }
     ensures is_class { result < 36 }
 {
+    if !is_slab(log, start) {
+        return 0;
+    }
+    let slab = read_slab(words, start);
     if of_old {
-        old_at(words, log, start)
+        old_of(slab.state)
     } else {
-        class_at(words, log, start)
+        class_of(slab.state)
     }
 }
 

@@ -35,7 +35,7 @@ slab_extent None is = absurd (true≢false (sym is))
 slab_extent (Some (extent.Large granules)) is = absurd (true≢false (sym is))
 slab_extent (Some extent.Slab) is = refl
 
-module _ (words : List ℕ) (start : ℕ) (may : IsDroppable words start) where
+module _ {words : List ℕ} {start : ℕ} (may : IsDroppable words start) where
   abbrev t : Tables
   t = tables_of words
 
@@ -71,7 +71,7 @@ module _ (words : List ℕ) (start : ℕ) (may : IsDroppable words start) where
 
   -- the slab is gone
 
-  module _ (image : List ℕ) (logged : IsLogged words (Tomb start) image) where
+  module _ {image : List ℕ} (logged : IsLogged words (Tomb start) image) where
     off_words : IsSameOffLog words image
     off_words = off_log words image logged.rest
 
@@ -130,5 +130,5 @@ module _ (words : List ℕ) (start : ℕ) (may : IsDroppable words start) where
   pub dropped_or_not : (new image : List ℕ) → IsLoggedOrNot words (Tomb start) image → IsEitherHeap words new image
   dropped_or_not new image left = ⊎_elim
       (λ same. still_either words start new image may.image may.closed left.rest same)
-      (λ less. drop_either image (record { rest = left.rest; extents = less }) new)
+      (λ less. drop_either {image = image} (record { rest = left.rest; extents = less }) new)
       left.extents

@@ -31,7 +31,7 @@ root_behind : (words : List ℕ) → (tables_of words).word (layout_of (version_
 unfolding tables_of
 root_behind words = cond-false _ _ 0 (le-ltb (layout_of (version_in words)).roots (layout_of (version_in words)).roots (omega arith))
 
-module _ (words : List ℕ) (start : ℕ) (may : IsLooseExtent words start) where
+module _ {words : List ℕ} {start : ℕ} (may : IsLooseExtent words start) where
   abbrev t : Tables
   t = tables_of words
 
@@ -59,7 +59,7 @@ module _ (words : List ℕ) (start : ℕ) (may : IsLooseExtent words start) wher
   no_root : t.root spare ≡ 0
   no_root = ap (λ (row : ℕ → ℕ). row spare) (roots_plain words (HasNoMove-closed may.closed)) ∙ no_word
 
-  module _ (image : List ℕ) (logged : IsLogged words (Tomb start) image) where
+  module _ {image : List ℕ} (logged : IsLogged words (Tomb start) image) where
     off_words : IsSameOffLog words image
     off_words = off_log words image logged.rest
 
@@ -109,5 +109,5 @@ module _ (words : List ℕ) (start : ℕ) (may : IsLooseExtent words start) wher
   pub gone_or_not : (new image : List ℕ) → IsLoggedOrNot words (Tomb start) image → IsEitherHeap words new image
   gone_or_not new image left = ⊎_elim
       (λ same. still_either words start new image may.image may.closed left.rest same)
-      (λ less. gone_either image (record { rest = left.rest; extents = less }) new)
+      (λ less. gone_either {image = image} (record { rest = left.rest; extents = less }) new)
       left.extents

@@ -18,6 +18,16 @@ behind_header t start range holds = ⊎_elim
     (λ (old : HoldsOld t start range). omega (arith, ap (λ (x : Range). x.at) old.is))
     holds.block
 
+-- a word that is not among some lies before or behind them
+outside_by : (k from end : ℕ) → ¬ ((from ≤ k) × (k < end)) → (k < from) ⊎ (end ≤ k)
+outside_by k from end none = ⊎_elim
+    (λ (before : k < from). inl before)
+    (λ (low : from ≤ k). ⊎_elim
+    (λ (high : k < end). absurd (none (low, high)))
+    (λ (behind : end ≤ k). inr behind)
+    (cases_lt k end))
+    (cases_lt k from)
+
 module _ {b : Bounds} {t : Tables} (sound : IsSound b t) (closed : t.open_entry ≡ None) (root : ℕ) (range : Range) (named : heap t root ≡ Some range) (k : ℕ) (word : IsWordOf range k) where
   unnamed : entry_at t.open_entry root ≡ 0
   unnamed = ap (λ e. entry_at e root) closed
@@ -35,35 +45,21 @@ module _ {b : Bounds} {t : Tables} (sound : IsSound b t) (closed : t.open_entry 
       omega (arith, low, within.low, word.low)
 
   pub block_word-header : (start : ℕ) → t.slab start ≡ true → (k < 2048 * start) ⊎ (2048 * start + 256 ≤ k)
-  block_word-header start slab =
+  block_word-header start slab = outside_by k (2048 * start) (2048 * start + 256) (λ among.
       let within = there.1 in
       ⊎_elim
-      (λ (before : k < 2048 * start). inl before)
-      (λ (from : 2048 * start ≤ k). ⊎_elim
-      (λ (inside : k < 2048 * start + 256).
-      absurd (⊎_elim
       (λ (same : there.0 ≡ start).
       let here : IsWithin t start range = subst (λ s. IsWithin t s range) same within in
       let slab_here : IsInSlab t start range.at = record { slab = slab; low = here.low; high = omega (arith, here.high, here.some, granules_at-slab t start slab) } in
-      omega (arith, behind_header t start range (Holds-claim sound root start range unnamed claim slab_here), word.low, inside))
+      omega (arith, behind_header t start range (Holds-claim sound root start range unnamed claim slab_here), word.low, among.1))
       (λ (differ : there.0 ≢ start).
       differ (sound.disjoint there.0 start start
-      (record { low = omega (arith, within.low, word.low, inside); high = omega (arith, within.high, word.high, from) })
+      (record { low = omega (arith, within.low, word.low, among.1); high = omega (arith, within.high, word.high, among.0) })
       (Covers-slab t start start slab (omega arith) (omega arith))))
-      (cases_eq there.0 start)))
-      (λ (behind : 2048 * start + 256 ≤ k). inr behind)
-      (cases_lt k (2048 * start + 256)))
-      (cases_lt k (2048 * start))
+      (cases_eq there.0 start))
 
   -- nor in a vacant granule
   pub block_word-vacant : (other : ℕ) → IsVacant b t other → (k < 2048 * other) ⊎ (2048 * other + 2048 ≤ k)
-  block_word-vacant other vacant =
+  block_word-vacant other vacant = outside_by k (2048 * other) (2048 * other + 2048) (λ among.
       let within = there.1 in
-      ⊎_elim
-      (λ (before : k < 2048 * other). inl before)
-      (λ (from : 2048 * other ≤ k). ⊎_elim
-      (λ (inside : k < 2048 * other + 2048).
-      absurd (vacant.none there.0 (record { low = omega (arith, within.low, word.low, inside); high = omega (arith, within.high, word.high, from) })))
-      (λ (behind : 2048 * other + 2048 ≤ k). inr behind)
-      (cases_lt k (2048 * other + 2048)))
-      (cases_lt k (2048 * other))
+      vacant.none there.0 (record { low = omega (arith, within.low, word.low, among.1); high = omega (arith, within.high, word.high, among.0) }))

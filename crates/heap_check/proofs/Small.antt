@@ -12,7 +12,7 @@ use Rattle.heap_model.proofs.Slabbing.{LiesIn-block}
 use Rattle.heap_model.proofs.Below.{any_below-true}
 use Rattle.heap_check.specs.Heap.{slab_of, is_old_of, is_old, size_at, entry_at, IsClaim, Holds, HoldsBit, HoldsOld}
 use Rattle.heap_check.specs.Sound.{IsInSlab, IsOpen, IsSound, IsExactBut}
-use Rattle.image_tables.specs.Updates.{put_in, with_small}
+use Rattle.image_tables.specs.Updates.{put_at, put_in, with_small}
 use Rattle.image_tables.proofs.Updates.{put_at-same, put_in-same, put_in-other}
 use Rattle.heap_check.proofs.Claims.{NamesOnly-some, plain_size}
 use Rattle.heap_check.proofs.Geometry.{Covers-slab, is_large-slab, slab_of-here}
@@ -76,30 +76,30 @@ is_old-held t start at range old here =
     any_below-true _ (t.index_count start) old.place old.below
     (and_from (t.live start old.place) _ old.live (eq-eqb _ at (sym (ap (λ (x : Range). x.at) old.is) ∙ here)))
 
--- what no place is asked for: the blocks that slabs hold are the same but for this one
+-- What no place is asked for: the blocks that slabs hold are the same but for this one, whatever the roots and the entry come
+-- to be.
 
-module _ (t : Tables) (start number : ℕ) (on : Bool) (root word : ℕ) (entry : Option WalEntry) where
+module _ (t : Tables) (start number : ℕ) (on : Bool) (word root : ℕ → ℕ) (entry : Option WalEntry) where
   abbrev new : Tables
-  new = with_small t start number on root word entry
+  new = record t { bit = put_in t.bit start number on; word = word; root = root; open_entry = entry }
 
   same_block : (s i : ℕ) → s ≡ start → i ≡ number → block_in t s i ≡ block_in t start number
   same_block s i same too = ap (λ s. slab_block s (t.class s) i) same ∙ ap (λ i. block_in t start i) too
 
-  pub Holds-back : (s : ℕ) (range : Range) → Holds (with_small t start number on root word entry) s range → Holds t s range ⊎ (range ≡ block_in t start number)
-  Holds-back s range holds = ⊎_elim
-      (λ (bit : HoldsBit (with_small t start number on root word entry) s range). ⊎_elim
+  pub Holds-unbit : (s : ℕ) (range : Range) → Holds (record t { bit = put_in t.bit start number on; word = word; root = root; open_entry = entry }) s range → Holds t s range ⊎ (range ≡ block_in t start number)
+  Holds-unbit s range holds = ⊎_elim
+      (λ (bit : HoldsBit new s range). ⊎_elim
       (λ here. inr (bit.is ∙ same_block s bit.number here.0 here.1))
       (λ elsewhere. inl (record {
         slab = holds.slab;
         block = inl (record { number = bit.number; below = bit.below; read = bit.read; set = sym (put_in-other t.bit start number on s bit.number elsewhere) ∙ bit.set; is = bit.is });
       }))
       (cases_bit start number s bit.number))
-      (λ (old : HoldsOld (with_small t start number on root word entry) s range).
-      inl (record { slab = holds.slab; block = inr (record { place = old.place; below = old.below; live = old.live; is = old.is }) }))
+      (λ (old : HoldsOld new s range). inl (record { slab = holds.slab; block = inr (record { place = old.place; below = old.below; live = old.live; is = old.is }) }))
       holds.block
 
-  pub Holds-forth : (s : ℕ) (range : Range) → Holds t s range → Holds (with_small t start number on root word entry) s range ⊎ (range ≡ block_in t start number)
-  Holds-forth s range holds = ⊎_elim
+  pub Holds-bit : (s : ℕ) (range : Range) → Holds t s range → Holds (record t { bit = put_in t.bit start number on; word = word; root = root; open_entry = entry }) s range ⊎ (range ≡ block_in t start number)
+  Holds-bit s range holds = ⊎_elim
       (λ (bit : HoldsBit t s range). ⊎_elim
       (λ here. inr (bit.is ∙ same_block s bit.number here.0 here.1))
       (λ elsewhere. inl (record {
@@ -109,6 +109,14 @@ module _ (t : Tables) (start number : ℕ) (on : Bool) (root word : ℕ) (entry 
       (cases_bit start number s bit.number))
       (λ (old : HoldsOld t s range). inl (record { slab = holds.slab; block = inr (record { place = old.place; below = old.below; live = old.live; is = old.is }) }))
       holds.block
+
+-- and where one root gets a word
+module _ (t : Tables) (start number : ℕ) (on : Bool) (root word : ℕ) (entry : Option WalEntry) where
+  pub Holds-back : (s : ℕ) (range : Range) → Holds (with_small t start number on root word entry) s range → Holds t s range ⊎ (range ≡ block_in t start number)
+  Holds-back = Holds-unbit t start number on (put_at t.word root word) (put_at t.root root word) entry
+
+  pub Holds-forth : (s : ℕ) (range : Range) → Holds t s range → Holds (with_small t start number on root word entry) s range ⊎ (range ≡ block_in t start number)
+  Holds-forth = Holds-bit t start number on (put_at t.word root word) (put_at t.root root word) entry
 
 module _ {b : Bounds} {t : Tables} {root start number : ℕ} (place : IsSmallPlace b t root start number) where
   abbrev block : Range

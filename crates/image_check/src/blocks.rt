@@ -1,17 +1,10 @@
 // The last three classes of defects, one after another.
-ghost use Rattle.std.specs.Prelude.{◌≡◌, ◌+◌, ◌≤◌, length, OnOk, IfOk, IfErr};
-ghost use Rattle.pool_layout.specs.Layout.{layout_of};
-ghost use Rattle.pool_layout.specs.Header.{version_in, granules_in};
+ghost use Rattle.std.specs.Prelude.{◌≡◌, OnOk, IfOk, IfErr};
 ghost use Rattle.image_tables.specs.Tables.{tables_of};
-ghost use Rattle.book_log.specs.Book.{Reads};
 ghost use Rattle.image_defects.specs.Defects.{FromShared};
 ghost use Rattle.image_defects.specs.Summaries.{IsSummary};
-ghost use Rattle.image_reading.specs.Extents.{HasExtents};
-ghost use Rattle.image_reading.specs.Slabs.{AreSlabs};
-ghost use Rattle.image_reading.specs.Held.{AreSlabsAt};
-ghost use Rattle.defect_search.specs.Arena.{IsArena};
 ghost use Rattle.defect_search.specs.Claims.{AreClaims};
-ghost use Rattle.image_check.specs.Faults.{IfDefect, HasGoodBlocks};
+ghost use Rattle.image_check.specs.Faults.{AreSlabsRead, IfDefect, HasGoodBlocks};
 
 use crate::CheckFault;
 use crate::summing::summary_of;
@@ -32,13 +25,7 @@ pub(crate) fn check_blocks(
     slabs: &[Slab],
     claims: &[Claim],
 ) -> Result<Summary, CheckFault>
-    requires arena { IsArena words.now }
-    requires reads { Reads log.now words.now }
-    requires granules { log.now.granules ≡ granules_in words.now }
-    requires extents { HasExtents words.now }
-    requires inside { 2048 + (layout_of (version_in words.now)).roots ≤ length words.now }
-    requires good { AreSlabsAt words.now }
-    requires slabs { AreSlabs words.now slabs.now }
+    requires known { AreSlabsRead words.now log.now slabs.now }
     requires entry { (tables_of words.now).open_entry ≡ entry }
     requires claims { AreClaims (tables_of words.now) claims.now }
     ensures good { OnOk result (HasGoodBlocks words.now) }

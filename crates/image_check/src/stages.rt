@@ -1,16 +1,11 @@
 // The classes of defects before the last three, stage by stage.
-ghost use Rattle.std.specs.Prelude.{◌≡◌, ◌+◌, ◌≤◌, length, OnOk, IfOk, IfErr};
-ghost use Rattle.pool_layout.specs.Layout.{layout_of};
+ghost use Rattle.std.specs.Prelude.{◌≡◌, OnOk, IfOk, IfErr};
 ghost use Rattle.pool_layout.specs.Header.{version_in, granules_in, IsHeader};
 ghost use Rattle.book_log.specs.Book.{Reads, HasLog};
 ghost use Rattle.heap_check.specs.Image.{header_in};
 ghost use Rattle.image_defects.specs.Defects.{HasLength, FromDirectory, FromExtents, FromWal};
 ghost use Rattle.image_defects.specs.Summaries.{IsSummary};
-ghost use Rattle.image_reading.specs.Extents.{HasExtents};
-ghost use Rattle.image_reading.specs.Slabs.{AreSlabs};
-ghost use Rattle.image_reading.specs.Held.{AreSlabsAt};
-ghost use Rattle.defect_search.specs.Arena.{IsArena};
-ghost use Rattle.image_check.specs.Faults.{IfDefect, HasGoodRoots, HasGoodExtents, HasGoodLog};
+ghost use Rattle.image_check.specs.Faults.{AreSlabsRead, IfDefect, HasGoodRoots, HasGoodExtents, HasGoodLog};
 
 use crate::CheckFault;
 use crate::blocks::check_blocks;
@@ -31,13 +26,7 @@ fn check_roots(
     log: &BookLog,
     slabs: &[Slab],
 ) -> Result<Summary, CheckFault>
-    requires arena { IsArena words.now }
-    requires reads { Reads log.now words.now }
-    requires granules { log.now.granules ≡ granules_in words.now }
-    requires extents { HasExtents words.now }
-    requires inside { 2048 + (layout_of (version_in words.now)).roots ≤ length words.now }
-    requires good { AreSlabsAt words.now }
-    requires slabs { AreSlabs words.now slabs.now }
+    requires known { AreSlabsRead words.now log.now slabs.now }
     ensures good { OnOk result (HasGoodRoots words.now) }
     ensures summary { IfOk result (IsSummary words.now) }
     ensures defect { IfErr result (λ fault. IfDefect fault (FromWal words.now)) }

@@ -13,6 +13,7 @@ ghost use Rattle.image_check.specs.Faults.{HasGoodBlocks};
 ghost use Rattle.image_check.specs.Totals.{IsLooseAt, IsLooseEntry, HasLooseEntry};
 
 use book_log::BookLog;
+use defect_search::counted;
 use image_defects::{Loose, Summary};
 use image_reading::{held_root, is_held, is_slab, large_at, roots_of};
 use image_tables::WalEntry;
@@ -33,30 +34,24 @@ fn has_slab(words: &[u64], log: &BookLog, start: u32) -> bool
     is_slab(log, start)
 }
 
-fn count_large(words: &[u64], log: &BookLog, granules: u32) -> u32
-    requires { Reads log.now words.now }
-    ensures { IsCount (HasLarge (tables_of words.now)) granules result }
-{
-    let mut count = 0;
-    for start in 0..granules {
-        if has_large(words, log, start) {
-            count += 1;
-        }
-    }
-    count
+// How many large extents are live, and how many slabs.
+#[derive(Clone, Copy)]
+struct ExtentCounts {
+    large: u32,
+    slabs: u32,
 }
 
-fn count_slabs(words: &[u64], log: &BookLog, granules: u32) -> u32
+fn count_extents(words: &[u64], log: &BookLog, granules: u32) -> ExtentCounts
     requires { Reads log.now words.now }
-    ensures { IsCount (HasSlab (tables_of words.now)) granules result }
+    ensures large { IsCount (HasLarge (tables_of words.now)) granules result.large }
+    ensures slabs { IsCount (HasSlab (tables_of words.now)) granules result.slabs }
 {
-    let mut count = 0;
+    let mut counts = ExtentCounts { large: 0, slabs: 0 };
     for start in 0..granules {
-        if has_slab(words, log, start) {
-            count += 1;
-        }
+        counts.large = counted(counts.large, has_large(words, log, start));
+        counts.slabs = counted(counts.slabs, has_slab(words, log, start));
     }
-    count
+    counts
 }
 
 // A root holds a block.
@@ -75,9 +70,7 @@ fn count_roots(words: &[u64], entry: Option<WalEntry>) -> u32
 {
     let mut count = 0;
     for root in 0..roots_of(words) {
-        if has_root(words, entry, root) {
-            count += 1;
-        }
+        count = counted(count, has_root(words, entry, root));
     }
     count
 }
@@ -170,11 +163,11 @@ pub(crate) fn summary_of(
     requires loose { AreLoose (tables_of words.now) (granules_in words.now) loose.now }
     ensures { IsSummary words.now result }
 {
-    let granules = log.granules();
+    let extents = count_extents(words, log, log.granules());
     let open = count_entries(entry) + count_blocks(words, log, entry);
     Summary {
-        large: count_large(words, log, granules),
-        slabs: count_slabs(words, log, granules),
+        large: extents.large,
+        slabs: extents.slabs,
         blocks: count_roots(words, entry),
         loose: open + loose.large + loose.empty + loose.morphing + loose.done,
     }

@@ -15,7 +15,7 @@ use Rattle.slab_header.specs.State.{IsWordOfState, IsNoStateWord, SaysOfState}
 use Rattle.image_reading.specs.declared.slab.Slab.{Slab}
 use Rattle.image_reading.specs.Slabs.{IsSlabAt, IsRead}
 use Rattle.image_defects.specs.Headers.{IsGoodSlab}
-use Rattle.image_reading.specs.Held.{IsHeldBy, HasBitAt, HasOldAt, IsNumberAt, HasNoNumber, HasBack, AreSlabsAt}
+use Rattle.image_reading.specs.Held.{IsHeldBy, HasBitAt, HasOldAt, IsNumberAt, HasNoNumber, IsBack, HasBack, AreSlabsAt}
 use Rattle.pool_layout.specs.Header.{version_in, granules_in}
 use Rattle.pool_layout.proofs.Layouts.{layout_rules}
 use Rattle.image_reading.specs.Extents.{HasExtents}
@@ -25,6 +25,13 @@ use Rattle.image_defects.proofs.SlabDefects.{has_state}
 -- what does not hold
 pub refuted : {A : Type 0} → ¬ A → ((false ≡ true) ↔ A)
 refuted none = (λ e. absurd (false≢true e), λ a. absurd (none a))
+
+-- what begins so many granules before another granule, found
+pub back_found : (Has : ℕ → Type 0) {last back start : ℕ} {found : Bool} → start + back ≡ last → ((found ≡ true) ↔ Has start) → ((found ≡ true) ↔ IsBack Has last back)
+back_found Has {last} {back} {start} is found = (
+  λ e. record { start = start; is = is; has = found.0 e },
+  λ back. found.1 (subst Has (omega (arith, back.is, is)) back.has),
+)
 
 -- a state word that was read says what the tables do
 pub read_of : (words : List ℕ) (slab : Slab) → IsSlabAt words slab.start → IsGoodSlab words slab.start → IsWordOfState (word_at words (state_word slab.start)) slab.state → SaysOfState (word_at words (state_word slab.start)) slab.state → IsRead words slab
@@ -149,7 +156,7 @@ pub unheld : (words : List ℕ) (at last n : ℕ) → AreSlabsAt words → at / 
 unheld words at last n slabs granule all none held =
     let h : IsHeldBy (tables_of words) held.start at = record { range = held.range; holds = held.holds; here = held.here } in
     let near = held_near words at slabs.good held.start h in
-    none (last - held.start) (omega (arith, near, granule)) (record { start = held.start; is = omega (arith, near, granule); held = h })
+    none (last - held.start) (omega (arith, near, granule)) (record { start = held.start; is = omega (arith, near, granule); has = h })
 
 pub unheld_far : (words : List ℕ) (at : ℕ) → AreSlabsAt words → 65536 ≤ at / 16384 → ¬ (IsHeld (tables_of words) at)
 unheld_far words at slabs far held =

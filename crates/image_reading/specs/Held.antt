@@ -39,8 +39,12 @@ pub record AreSlabsAt (words : List ℕ) : Type 0 where
   pub at : (start : ℕ) → is_slab words start ≡ true → IsSlabAt words start
   pub good : (start : ℕ) → is_slab words start ≡ true → IsGoodSlab words start
 
--- the slab that begins so many granules before another holds a block there
-pub record HasBack (t : Tables) (last back at : ℕ) : Type 0 where
+-- what begins so many granules before another granule has the property
+pub record IsBack (Has : ℕ → Type 0) (last back : ℕ) : Type 0 where
   pub start : ℕ
   pub is : start + back ≡ last
-  pub held : IsHeldBy t start at
+  pub has : Has start
+
+-- the slab that begins there holds a block at the address
+abbrev pub HasBack : Tables → ℕ → ℕ → ℕ → Type 0
+HasBack t last back at = IsBack (λ start. IsHeldBy t start at) last back

@@ -260,8 +260,8 @@ unfolding room_events
 events_of granules words way is = ap (events_among granules words (chunks_of words)) is
 
 -- room is made, whatever the way
-pub made : (granules : ℕ) (words : List ℕ) → IsArenaLog granules words (chunks_of words) → AreDisjoint (extent_at words) → IsMade granules words
-made granules words arena disjoint = by_way (way_of granules words) refl
+pub made : {granules : ℕ} {words : List ℕ} → IsArenaLog granules words (chunks_of words) → AreDisjoint (extent_at words) → IsMade granules words
+made {granules} {words} arena disjoint = by_way (way_of granules words) refl
   where
     by_way : (way : Rolled) → way_of granules words ≡ way → IsMade granules words
     by_way rolled.Nothing is =

@@ -1,15 +1,15 @@
 -- Loops of stores.
-use Rattle.std.proofs.Common.{◌≡◌, ◌+◌, ◌-◌, ◌*◌, ◌<◌, ◌≤◌, ℕ, zero, suc, List, [], ◌∷◌, ◌++◌, drop, get_or, slice_index, refl, sym, ap, ◌∙◌, arith}
+use Rattle.std.proofs.Common.{◌≡◌, ◌+◌, ◌-◌, ◌*◌, ◌<◌, ◌≤◌, ℕ, zero, suc, List, [], ◌∷◌, ◌++◌, length, drop, get_or, slice_index, refl, sym, ap, ◌∙◌, arith}
 use Rattle.std.proofs.lemmas.List.{get_or-drop, drop-drop}
 use Rattle.pmem_lines.specs.declared.event.Event.{Event}
 use Rattle.pmem_lines.specs.declared.event.Event.TheVariants.{Store}
-use Rattle.pmem_lines.specs.Pmem.{PmemState, appended, Appends}
+use Rattle.pmem_lines.specs.Pmem.{PmemState, words_of, appended, Appends}
 use Rattle.pmem_lines.proofs.States.{appended_none, appended_append, Appends-state}
 use Rattle.pool_layout.specs.Places.{entry_word}
 use Rattle.log_gc.specs.Copies.{entry_stores}
 
 -- one store more
-pub store_more : (s t : PmemState) (at here value stored : ℕ) (first rest : List Event) (whole : PmemState) → Appends s t (Store at value ∷ []) → at ≡ here → value ≡ stored → first ≡ Store here stored ∷ rest → appended s first ≡ whole →
+store_more : (s t : PmemState) (at here value stored : ℕ) (first rest : List Event) (whole : PmemState) → Appends s t (Store at value ∷ []) → at ≡ here → value ≡ stored → first ≡ Store here stored ∷ rest → appended s first ≡ whole →
     appended t rest ≡ whole
 store_more s t at here value stored first rest whole step place same is all =
     ap (λ (p : PmemState). appended p rest) step.state
@@ -20,17 +20,37 @@ store_more s t at here value stored first rest whole step place same is all =
     ∙ all
 
 -- the stores of entries, of which one more is done
-pub entries_more : (version chunk : ℕ) (value : ℕ → ℕ) (entry n : ℕ) → entry < n → entry_stores version chunk value entry (n - entry) ≡ Store (8 * entry_word version chunk entry) (value entry) ∷ entry_stores version chunk value (entry + 1) (n - (entry + 1))
+entries_more : (version chunk : ℕ) (value : ℕ → ℕ) (entry n : ℕ) → entry < n → entry_stores version chunk value entry (n - entry) ≡ Store (8 * entry_word version chunk entry) (value entry) ∷ entry_stores version chunk value (entry + 1) (n - (entry + 1))
 entries_more version chunk value entry n less =
     let one : n - entry ≡ suc (n - (entry + 1)) = omega arith in
     ap (entry_stores version chunk value entry) one
 
 -- all of them are done
-pub entries_done : (s t : PmemState) (version chunk : ℕ) (value : ℕ → ℕ) (entry n : ℕ) → n ≤ entry → appended t (entry_stores version chunk value entry (n - entry)) ≡ appended s (entry_stores version chunk value 0 n) →
+entries_done : (s t : PmemState) (version chunk : ℕ) (value : ℕ → ℕ) (entry n : ℕ) → n ≤ entry → appended t (entry_stores version chunk value entry (n - entry)) ≡ appended s (entry_stores version chunk value 0 n) →
     Appends s t (entry_stores version chunk value 0 n)
 entries_done s t version chunk value entry n past whole =
     let none : n - entry ≡ 0 = omega arith in
     Appends-state s t (entry_stores version chunk value 0 n) (sym (appended_none t) ∙ ap (λ k. appended t (entry_stores version chunk value entry k)) (sym none) ∙ whole)
+
+-- the entries of a chunk are stored, up to one: the stores that are left lead where all of them would from the begin
+pub record IsStoring (s t : PmemState) (version chunk : ℕ) (value : ℕ → ℕ) (entry n : ℕ) : Type 0 where
+  pub whole : appended t (entry_stores version chunk value entry (n - entry)) ≡ appended s (entry_stores version chunk value 0 n)
+  pub size : length (words_of t) ≡ length (words_of s)
+  pub room : t.room ≡ s.room
+  pub count : length t.events ≡ length s.events + entry
+
+pub storing_more : {s t u : PmemState} {version chunk : ℕ} {value : ℕ → ℕ} {entry n at word : ℕ} → IsStoring s t version chunk value entry n → entry < n → Appends t u (Store at word ∷ []) → at ≡ 8 * entry_word version chunk entry → word ≡ value entry →
+    IsStoring s u version chunk value (entry + 1) n
+storing_more {s} {t} {u} {version} {chunk} {value} {entry} {n} {at} {word} so_far less step place same = record {
+  whole = store_more t u at (8 * entry_word version chunk entry) word (value entry) (entry_stores version chunk value entry (n - entry)) (entry_stores version chunk value (entry + 1) (n - (entry + 1))) (appended s (entry_stores version chunk value 0 n))
+      step place same (entries_more version chunk value entry n less) so_far.whole;
+  size = step.size ∙ so_far.size;
+  room = step.room ∙ so_far.room;
+  count = omega (arith, step.count, so_far.count);
+}
+
+pub storing_done : {s t : PmemState} {version chunk : ℕ} {value : ℕ → ℕ} {entry n : ℕ} → IsStoring s t version chunk value entry n → n ≤ entry → Appends s t (entry_stores version chunk value 0 n)
+storing_done {s} {t} {version} {chunk} {value} {entry} {n} all past = entries_done s t version chunk value entry n past all.whole
 
 -- one step more of a list of events
 pub events_more : (s t : PmemState) (step first rest : List Event) (whole : PmemState) → Appends s t step → first ≡ step ++ rest → appended s first ≡ whole → appended t rest ≡ whole

@@ -14,6 +14,7 @@ use Rattle.image_tables.specs.declared.extent.Extent.TheVariants.{Large, Slab}
 use Rattle.image_tables.specs.Log.{chunk_log}
 use Rattle.image_tables.specs.Extents.{extent_behind, extent_at}
 use Rattle.book_log.specs.Log.{directory_of, IsDirectory, IsChunk, IsLog}
+use Rattle.book_log.specs.Book.{HasLog, chunks_of}
 use Rattle.log_gc.specs.Chunks.{without, spare_chunks}
 use Rattle.log_gc.specs.Needless.{extent_over, same_extent, same_extents, is_needless, first_of, first_needless}
 use Rattle.log_gc.specs.Room.{live_log, chunks_for, kept_chunks}
@@ -122,38 +123,46 @@ pub record IsArenaLog (granules : ℕ) (words active : List ℕ) : Type 0 where
   pub inside : heap_word (version_in words) ≤ length words
   pub few : granules ≤ (layout_of (version_in words)).most_granules
 
+-- what is known of the log of these words
+pub arena_log : {granules : ℕ} {words : List ℕ} → HasLog granules words → heap_word (version_in words) ≤ length words → granules ≤ (layout_of (version_in words)).most_granules → IsArenaLog granules words (chunks_of words)
+arena_log log inside few = record { log = log; inside = inside; few = few }
+
 -- its granules are few, whatever its version
 small_arena : (granules : ℕ) (words active : List ℕ) → IsArenaLog granules words active → granules < 2 ^ 16
 small_arena granules words active arena = omega (arith, arena.few, (layout_rules (version_in words)).most)
+
+-- a switch to a choice of its chunks
+switch_by : {granules : ℕ} {words active kept fresh entries : List ℕ} → IsArenaLog granules words active → IsChoice active kept fresh → All (IsValid (layout_of (version_in words)).first_granule granules) entries →
+    length entries ≤ (layout_of (version_in words)).chunk_entries * length fresh → ((start : ℕ) → extent_behind (flat_map (chunk_log (version_in words) words) kept ++ entries) start None ≡ extent_at words start) → IsSwitch granules words active kept fresh entries
+switch_by {granules} {words} {active} {kept} {fresh} arena choice valid fits extents = record {
+  log = arena.log;
+  inside = arena.inside;
+  small = choice.spare.small;
+  once = choice.spare.once;
+  apart = choice.spare.apart;
+  among = choice.among;
+  directory = choice_directory active kept fresh choice;
+  valid = valid;
+  fits = fits;
+  extents = extents;
+}
 
 -- a roll that drops no chunk
 roll_all : (granules : ℕ) (words active : List ℕ) → IsArenaLog granules words active → length active < 8 → IsSwitch granules words active active (take 1 (spare_chunks active)) []
 roll_all granules words active arena room =
     let version = version_in words in
-    let fresh = take 1 (spare_chunks active) in
-    let spare = spare_taken active 1 in
     let one = length-spare active 1 (omega arith) in
     let directory = arena.log.directory in
-    let choice : IsChoice active active fresh = record {
+    let choice : IsChoice active active (take 1 (spare_chunks active)) = record {
       small = directory.small;
       once = directory.once;
       among = All-contains_itself active;
-      spare = spare;
+      spare = spare_taken active 1;
       some = omega (arith, one);
       most = omega (arith, one);
     } in
-    record {
-      log = arena.log;
-      inside = arena.inside;
-      small = spare.small;
-      once = spare.once;
-      apart = spare.apart;
-      among = choice.among;
-      directory = choice_directory active active fresh choice;
-      valid = All-nil (IsValid (layout_of version).first_granule granules);
-      fits = omega arith;
-      extents = λ start. ap (λ xs. extent_behind xs start None) (append-nil (flat_map (chunk_log version words) active)) ∙ sym (extent_at-active granules words active start arena.log);
-    }
+    switch_by arena choice (All-nil (IsValid (layout_of version).first_granule granules)) (omega arith)
+    (λ start. ap (λ xs. extent_behind xs start None) (append-nil (flat_map (chunk_log version words) active)) ∙ sym (extent_at-active granules words active start arena.log))
 
 -- a roll that drops a needless chunk
 roll_but : (granules : ℕ) (words active : List ℕ) (chunk : ℕ) → IsArenaLog granules words active → is_needless granules words active chunk ≡ true → Contains active chunk →
@@ -162,32 +171,20 @@ unfolding extent_over
 roll_but granules words active chunk arena needless is =
     let version = version_in words in
     let kept = without chunk active in
-    let fresh = take 1 (spare_chunks active) in
-    let spare = spare_taken active 1 in
     let directory = arena.log.directory in
     let one = length-spare active 1 (omega (arith, directory.most)) in
     let less = length-without_one chunk active is in
     let test : ℕ → Bool = λ c. not (eqb c chunk) in
-    let choice : IsChoice active kept fresh = record {
+    let choice : IsChoice active kept (take 1 (spare_chunks active)) = record {
       small = All-filter test (λ c. c < 16) active directory.small;
       once = AllPairs-filter (λ c d. c ≢ d) test active directory.once;
       among = All-filter test (Contains active) active (All-contains_itself active);
-      spare = spare;
+      spare = spare_taken active 1;
       some = omega (arith, one);
       most = omega (arith, one, less, directory.most);
     } in
-    record {
-      log = arena.log;
-      inside = arena.inside;
-      small = spare.small;
-      once = spare.once;
-      apart = spare.apart;
-      among = choice.among;
-      directory = choice_directory active kept fresh choice;
-      valid = All-nil (IsValid (layout_of version).first_granule granules);
-      fits = omega arith;
-      extents = λ start. ap (λ xs. extent_behind xs start None) (append-nil (flat_map (chunk_log version words) kept)) ∙ needless_same granules words active chunk start (small_arena granules words active arena) arena.log needless;
-    }
+    switch_by arena choice (All-nil (IsValid (layout_of version).first_granule granules)) (omega arith)
+    (λ start. ap (λ xs. extent_behind xs start None) (append-nil (flat_map (chunk_log version words) kept)) ∙ needless_same granules words active chunk start (small_arena granules words active arena) arena.log needless)
 
 -- a roll that drops the first needless chunk, where there is one
 pub roll_switch : (granules : ℕ) (words active : List ℕ) (dropped : Option ℕ) → IsArenaLog granules words active → first_needless granules words active ≡ dropped → (dropped ≡ None → length active < 8) →
@@ -221,29 +218,17 @@ rewrite_switch granules words active arena disjoint =
     let first = (layout_of version).first_granule in
     let entries = live_log granules words in
     let m = chunks_for version (length entries) in
-    let fresh = take m (spare_chunks active) in
-    let spare = spare_taken active m in
-    let directory = arena.log.directory in
     let few = rewrite_most granules words active arena disjoint in
-    let size = length-spare active m (omega (arith, directory.most, few)) in
+    let size = length-spare active m (omega (arith, arena.log.directory.most, few)) in
     let live = live_extents granules words active (small_arena granules words active arena) arena.log in
-    let choice : IsChoice active [] fresh = record {
+    let choice : IsChoice active [] (take m (spare_chunks active)) = record {
       small = All-nil (λ c. c < 16);
       once = λ i j d less inside. absurd (omega arith);
       among = All-nil (Contains active);
-      spare = spare;
+      spare = spare_taken active m;
       some = omega (arith, size);
       most = omega (arith, size, few);
     } in
-    record {
-      log = arena.log;
-      inside = arena.inside;
-      small = spare.small;
-      once = spare.once;
-      apart = spare.apart;
-      among = choice.among;
-      directory = choice_directory active [] fresh choice;
-      valid = words_valid first granules (extent_at words) 0 granules live;
-      fits = subst (λ k. length entries ≤ (layout_of version).chunk_entries * k) (sym size) (omega (arith, rewrite_fits version (length entries)));
-      extents = λ start. words_say first granules (extent_at words) start live;
-    }
+    switch_by arena choice (words_valid first granules (extent_at words) 0 granules live)
+    (subst (λ k. length entries ≤ (layout_of version).chunk_entries * k) (sym size) (omega (arith, rewrite_fits version (length entries))))
+    (λ start. words_say first granules (extent_at words) start live)

@@ -49,35 +49,28 @@ pub(crate) fn first_needless<P: Pmem>(
     ensures { result ≡ first_needless granules (words_of (P.state device.now)) active.now }
 {
     if granules <= FEW_STARTS as u32 {
-        needless_of_few(device, version, granules, active)
+        needless_among::<P, FEW_STARTS>(device, version, granules, active)
     } else {
-        needless_of_many(device, version, granules, active)
+        needless_among::<P, STARTS>(device, version, granules, active)
     }
 }
 
-// The same in an arena of few granules, where less is to be made blank.
+// The same by a table of so many starts: a smaller one takes less to be made blank.
 #[inline(never)]
-fn needless_of_few<P: Pmem>(device: &P, version: u32, granules: u32, active: &[u32]) -> Option<u8>
+fn needless_among<P: Pmem, const N: usize>(
+    device: &P,
+    version: u32,
+    granules: u32,
+    active: &[u32],
+) -> Option<u8>
     requires version { version ≡ version_in (words_of (P.state device.now)) }
     requires log { IsLog granules (words_of (P.state device.now)) active.now }
     requires inside { heap_word version ≤ length (words_of (P.state device.now)) }
-    requires few { granules ≤ 1024 }
+    requires few { granules ≤ N }
+    requires small { N ≤ 4096 }
     ensures { result ≡ first_needless granules (words_of (P.state device.now)) active.now }
 {
-    let mut slots = few_slots();
-    first_noted(&mut slots, device, version, granules, active)
-}
-
-// The same in an arena of any version.
-#[inline(never)]
-fn needless_of_many<P: Pmem>(device: &P, version: u32, granules: u32, active: &[u32]) -> Option<u8>
-    requires version { version ≡ version_in (words_of (P.state device.now)) }
-    requires log { IsLog granules (words_of (P.state device.now)) active.now }
-    requires inside { heap_word version ≤ length (words_of (P.state device.now)) }
-    requires few { granules ≤ 4096 }
-    ensures { result ≡ first_needless granules (words_of (P.state device.now)) active.now }
-{
-    let mut slots = blank_slots();
+    let mut slots = blank_slots::<N>();
     first_noted(&mut slots, device, version, granules, active)
 }
 
@@ -101,26 +94,15 @@ fn first_noted<P: Pmem>(
     first_spare(active, &needed)
 }
 
-// Slots in which nothing is noted, for few granules.
-fn few_slots() -> [Slot; FEW_STARTS]
-    ensures { (start : ℕ) → slot_at result start ≡ blank_slot }
-{
-    [Slot {
-        last: None,
-        other: None,
-        owner: 16,
-    }; FEW_STARTS]
-}
-
 // Slots in which nothing is noted.
-fn blank_slots() -> [Slot; STARTS]
+fn blank_slots<const N: usize>() -> [Slot; N]
     ensures { (start : ℕ) → slot_at result start ≡ blank_slot }
 {
     [Slot {
         last: None,
         other: None,
         owner: 16,
-    }; STARTS]
+    }; N]
 }
 
 // Notes the entries of the active chunks, in the order of the directory.

@@ -16,6 +16,7 @@ ghost use Rattle.log_gc.specs.Room.{way_of, room_events, KeepsLog};
 use crate::census::first_needless;
 use crate::copying::count_live;
 use crate::switching::{rewrite, roll};
+use arrayvec::ArrayVec;
 use book_log::{BookLog, active_chunks};
 use pmem_lines::Pmem;
 use pool_layout::{directory_at, fields_at, layout_of};
@@ -79,7 +80,7 @@ fn choose_way<P: Pmem>(log: &BookLog, p: &P) -> Rolled
     ensures { result ≡ way_of log.now.granules (words_of (P.state p.now)) }
 {
     let version = version_of(p);
-    let active = active_chunks(p.load(directory_at()));
+    let active = active_of(p);
     let dropped = first_needless(p, version, log.granules(), active.as_slice());
     if active.len() < MOST_ACTIVE || dropped.is_some() {
         return Rolled::Rolled { dropped };
@@ -102,7 +103,7 @@ fn take_way<P: Pmem>(log: &BookLog, p: &mut P, way: Rolled)
     ensures { Appends (P.state p.old) (P.state p.new) (room_events log.now.granules (words_of (P.state p.old))) }
 {
     let version = version_of(p);
-    let active = active_chunks(p.load(directory_at()));
+    let active = active_of(p);
     match way {
         Rolled::Nothing => {}
         Rolled::Rolled { dropped } => roll(p, version, active.as_slice(), dropped),
@@ -110,6 +111,14 @@ fn take_way<P: Pmem>(log: &BookLog, p: &mut P, way: Rolled)
             rewrite(p, log, version, active.as_slice(), u32::from(chunks));
         }
     }
+}
+
+// The active chunks, in the order of the directory.
+fn active_of<P: Pmem>(p: &P) -> ArrayVec<u32, 8>
+    requires { 2 < length (words_of (P.state p.now)) }
+    ensures { result.items ≡ chunks_of (words_of (P.state p.now)) }
+{
+    active_chunks(p.load(directory_at()))
 }
 
 // The version of the arena's layout.

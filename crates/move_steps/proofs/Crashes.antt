@@ -22,11 +22,12 @@ use Rattle.heap_check.proofs.BlockWords.{block_word-heap}
 use Rattle.heap_check.proofs.Heaps.{heap-none}
 use Rattle.heap_check.proofs.Sizes.{sizes_of}
 use Rattle.move_steps.specs.Moves.{IsMovable, IsMoved, IsEitherMoved}
-use Rattle.move_steps.proofs.Renamed.{IsRenaming, IsSteady-renamed, IsExact-renamed, heap-renamed}
+use Rattle.settle_steps.proofs.Renamed.{IsRenaming}
+use Rattle.move_steps.proofs.Renamed.{IsSteady-renamed, IsExact-renamed, heap-renamed}
 use Rattle.move_steps.proofs.HeldRoots.{swapped, swapped_from, swapped_to, swapped_other, swapped_back}
 use Rattle.move_steps.proofs.Stages.{IsStageOf, same_name, differ, plain_roots, both_words, new_words, as_moved, stage_begin, stage_open, stage_to, stage_from, stage_close, begins, opened, both_open, new_open, new_closed, held_before, held_with_both, held_new}
 
-module _ (words : List ℕ) (line from to at : ℕ) (may : IsMovable words from to at) (line_below : line < 8) where
+module _ {words : List ℕ} {line from to at : ℕ} (may : IsMovable words from to at) (line_below : line < 8) where
   abbrev t : Tables
   t = tables_of words
 
@@ -127,7 +128,7 @@ module _ (words : List ℕ) (line from to at : ℕ) (may : IsMovable words from 
         }
 
   -- the whole sequence: the words behind each of its steps, and what a crash within each leaves
-  module _ (made both left new : List ℕ) (opens : Opens words line (Move from to) made) (both_is : both ≡ put_word made (root_word to) at) (left_is : left ≡ put_word both (root_word from) 0) (closes : Closes left line new) where
+  module _ {made both left new : List ℕ} (opens : Opens words line (Move from to) made) (both_is : both ≡ put_word made (root_word to) at) (left_is : left ≡ put_word both (root_word from) 0) (closes : Closes left line new) where
     made_stage : IsStageOf words line from to t.word same_name (Some own) made
     made_stage = stage_open words line from to at may line_below made opens
 

@@ -1,169 +1,31 @@
 -- Each root holds what another held, by a renaming of the roots that is its own inverse, and a move entry is open or none:
--- the image stays steady, and exact where none is, and its heap is the old one by the new names.
-use Rattle.std.proofs.Common.{◌≡◌, ◌≢◌, ◌⊎◌, ℕ, true, refl, sym, ap, subst, ◌∙◌, arith, inl, inr, ⊎_elim, Option, Some, None}
-use Rattle.std.proofs.lemmas.Bool.{cases_eq}
+-- an exact image stays steady, and exact where none is.
+use Rattle.std.proofs.Common.{◌≡◌, ℕ, refl, sym, ap, ◌∙◌, arith, inl, Option, None}
 use Rattle.image_tables.specs.declared.entry.WalEntry.{WalEntry}
-use Rattle.image_tables.specs.declared.entry.WalEntry.TheVariants.{Move}
 use Rattle.image_tables.specs.Tables.{Tables}
-use Rattle.heap_model.specs.Machine.{Bounds, Range}
-use Rattle.heap_check.specs.Heap.{entry_at, heap, IsClaim, Holds, HoldsBit, HoldsOld}
-use Rattle.heap_check.specs.Sound.{Covers, IsValidSlab, IsOpen, IsOpenMove, IsHeld, IsStanding, IsLooseLarge, IsEmptySlab, IsMorphing, IsDoneSlab, IsNearlyDone, IsSound, IsExact, IsSteady}
-use Rattle.heap_check.proofs.Claims.{IsNamed-claim, IsClaim-named}
-use Rattle.heap_check.proofs.Heaps.{heap-none, heap-some}
-use Rattle.heap_check.proofs.Loose.{AtMostOne-fewer}
+use Rattle.heap_model.specs.Machine.{Bounds}
+use Rattle.heap_check.specs.Heap.{entry_at, heap}
+use Rattle.heap_check.specs.Sound.{IsExact, IsSteady}
 use Rattle.heap_check.proofs.Blank.{law_of_steady}
+use Rattle.settle_steps.proofs.Renamed as renaming
+use Rattle.settle_steps.proofs.Renamed.{renamed, IsRenaming}
 
--- other root words and another entry; each root holds what the one that it is renamed to held
-abbrev pub renamed : Tables → (ℕ → ℕ) → (ℕ → ℕ) → Option WalEntry → Tables
-renamed t word name entry = record t { word = word; root = λ r. t.root (name r); open_entry = entry }
-
--- the renaming is its own inverse, and no entry is open, or a move entry that these words allow
-pub record IsRenaming (b : Bounds) (t : Tables) (from to : ℕ) (word name : ℕ → ℕ) (entry : Option WalEntry) : Type 0 where
-  pub back : (r : ℕ) → name (name r) ≡ r
-  pub is : (entry ≡ None) ⊎ ((entry ≡ Some (Move from to)) × IsOpenMove b (renamed t word name entry) from to)
-
-module _ {b : Bounds} {t : Tables} (exact : IsExact b t) (from to : ℕ) (word name : ℕ → ℕ) (entry : Option WalEntry) (renaming : IsRenaming b t from to word name entry) where
-  abbrev new : Tables
-  new = renamed t word name entry
-
-  sound : IsSound b t
-  sound = exact.sound
-
+module _ {b : Bounds} {t : Tables} (exact : IsExact b t) (from to : ℕ) (word name : ℕ → ℕ) (entry : Option WalEntry) (is : IsRenaming b t from to word name entry) where
   unnamed : (r : ℕ) → entry_at t.open_entry r ≡ 0
   unnamed r = ap (λ e. entry_at e r) exact.closed
 
-  new_unnamed : (r : ℕ) → entry_at entry r ≡ 0
-  new_unnamed r = ⊎_elim (λ shut. ap (λ e. entry_at e r) shut) (λ still. ap (λ e. entry_at e r) still.0) renaming.is
-
-  -- the root that has the old name of another is that one
-  root_back : (r : ℕ) → new.root (name r) ≡ t.root r
-  root_back r = ap t.root (renaming.back r)
-
-  -- claims go by the names
-
-  forth : (r : ℕ) (range : Range) → IsClaim t (name r) range → IsClaim new r range
-  forth r range claim =
-      let named = IsNamed-claim t (name r) range (unnamed (name r)) claim in
-      IsClaim-named new r range (new_unnamed r) (record { some = named.some; word = named.word; wide = named.wide })
-
-  back : (r : ℕ) (range : Range) → IsClaim new r range → IsClaim t (name r) range
-  back r range claim =
-      let named = IsNamed-claim new r range (new_unnamed r) claim in
-      IsClaim-named t (name r) range (unnamed (name r)) (record { some = named.some; word = named.word; wide = named.wide })
-
-  apart_names : (one other : ℕ) → one ≢ other → name one ≢ name other
-  apart_names one other differ same = differ (sym (renaming.back one) ∙ ap name same ∙ renaming.back other)
-
-  -- slabs hold the same
-
-  holds_forth : (s : ℕ) (range : Range) → Holds t s range → Holds new s range
-  holds_forth s range holds = record {
-    slab = holds.slab;
-    block = ⊎_elim
-        (λ (bit : HoldsBit t s range). inl (record { number = bit.number; below = bit.below; read = bit.read; set = bit.set; is = bit.is }))
-        (λ (old : HoldsOld t s range). inr (record { place = old.place; below = old.below; live = old.live; is = old.is }))
-        holds.block;
-  }
-
-  holds_back : (s : ℕ) (range : Range) → Holds new s range → Holds t s range
-  holds_back s range holds = record {
-    slab = holds.slab;
-    block = ⊎_elim
-        (λ (bit : HoldsBit new s range). inl (record { number = bit.number; below = bit.below; read = bit.read; set = bit.set; is = bit.is }))
-        (λ (old : HoldsOld new s range). inr (record { place = old.place; below = old.below; live = old.live; is = old.is }))
-        holds.block;
-  }
-
-  stands : (r : ℕ) → new.root r ≢ 0 → IsStanding new r (new.root r)
-  stands r some = ⊎_elim
-      (λ large. inl large)
-      (λ rest. ⊎_elim
-      (λ (held : IsHeld t (t.root (name r))). inr (inl (record { start = held.start; range = held.range; holds = holds_forth held.start held.range held.holds; here = held.here })))
-      (λ by_entry. absurd (some (sym by_entry ∙ unnamed (name r))))
-      rest)
-      (sound.rooted (name r) some)
-
-  owned : (start : ℕ) (range : Range) → Holds new start range → (root : ℕ) × IsClaim new root range
-  owned start range holds =
-      let owner = sound.claimed start range (holds_back start range holds) in
-      (name owner.0, forth (name owner.0) range (subst (λ r. IsClaim t r range) (sym (renaming.back owner.0)) owner.1))
-
-  covers_back : (start k : ℕ) → Covers new start k → Covers t start k
-  covers_back start k covers = record { low = covers.low; high = covers.high }
-
-  slabs : (start : ℕ) → t.slab start ≡ true → IsValidSlab new start
-  slabs start slab = let was = sound.slabs start slab in record { state = was.state; small = was.small; once = was.once }
-
-  open_entry : (e : WalEntry) → entry ≡ Some e → IsOpen b new e
-  open_entry e is = ⊎_elim
-      (λ shut. absurd (cc))
-      (λ still.
-      let own = still.0 in
-      let same : Move from to ≡ e = cc in
-      subst (IsOpen b new) same (record { entry = still.1; calm = λ start slab kind. exact.calm start (record { slab = slab; kind = kind }) }))
-      renaming.is
-
-  -- nothing comes to be loose
-
-  large_back : (start : ℕ) → IsLooseLarge new start → IsLooseLarge t start
-  large_back start loose = record { live = loose.live; unnamed = λ r at. loose.unnamed (name r) (root_back r ∙ at) }
-
-  empty_back : (start : ℕ) → IsEmptySlab new start → IsEmptySlab t start
-  empty_back start empty = record {
-    slab = empty.slab;
-    none = λ r some inside.
-        let here = root_back r in
-        empty.none (name r) (λ none. some (sym here ∙ none)) (record { slab = inside.slab; low = omega (arith, inside.low, here); high = omega (arith, inside.high, here) });
-  }
-
-  morphing_back : (start : ℕ) → IsMorphing new start → IsMorphing t start
-  morphing_back start morphing = record { slab = morphing.slab; kind = morphing.kind }
-
-  done_back : (start : ℕ) → IsDoneSlab new start → IsDoneSlab t start
-  done_back start done = record { slab = done.slab; kind = done.kind; none = done.none }
-
-  nearly_back : (start : ℕ) → IsNearlyDone new start → IsNearlyDone t start
-  nearly_back start done = record {
-    slab = done.slab;
-    kind = done.kind;
-    none = λ place below live.
-        let by_entry = done.none place below live in
-        let is = by_entry.entry in
-        absurd (⊎_elim (λ shut. cc) (λ still. let own = still.0 in cc) renaming.is);
-  }
-
-  pub IsSound-renamed : IsSound b (renamed t word name entry)
-  IsSound-renamed = record {
-    disjoint = λ one other k first second. sound.disjoint one other k (covers_back one k first) (covers_back other k second);
-    starts = λ start some. sound.starts start some;
-    one_kind = λ start slab. sound.one_kind start slab;
-    slabs = slabs;
-    open_entry = open_entry;
-    rooted = stands;
-    apart = λ one other range another differ first second. sound.apart (name one) (name other) range another (apart_names one other differ) (back one range first) (back other another second);
-    claimed = owned;
-    loose_large = AtMostOne-fewer large_back sound.loose_large;
-    empty_slab = AtMostOne-fewer empty_back sound.empty_slab;
-    morphing = AtMostOne-fewer morphing_back sound.morphing;
-    done = AtMostOne-fewer done_back sound.done;
-  }
-
   pub IsSteady-renamed : IsSteady b (renamed t word name entry)
-  IsSteady-renamed = record { sound = IsSound-renamed; one_done = AtMostOne-fewer nearly_back (law_of_steady b t exact).one_done }
+  IsSteady-renamed = renaming.IsSteady-renamed (law_of_steady b t exact) unnamed exact.calm from to word name entry is
 
-  -- the heap, by the names
   pub heap-renamed : (r : ℕ) → heap (renamed t word name entry) r ≡ heap t (name r)
-  heap-renamed r = ⊎_elim
-      (λ (none : t.root (name r) ≡ 0). heap-none new r none ∙ sym (heap-none t (name r) none))
-      (λ (some : t.root (name r) ≢ 0). heap-some new r (new_unnamed r) some ∙ sym (heap-some t (name r) (unnamed (name r)) some))
-      (cases_eq (t.root (name r)) 0)
+  heap-renamed = renaming.heap-renamed (law_of_steady b t exact) unnamed exact.calm from to word name entry is
 
 -- where no entry is open it is exact
 pub IsExact-renamed : {b : Bounds} {t : Tables} (exact : IsExact b t) (from to : ℕ) (word name : ℕ → ℕ) (back : (r : ℕ) → name (name r) ≡ r) → IsExact b (renamed t word name None)
 IsExact-renamed {b} {t} exact from to word name back =
     let is : IsRenaming b t from to word name None = record { back = back; is = inl refl } in
     record {
-      sound = IsSound-renamed exact from to word name None is;
+      sound = (IsSteady-renamed exact from to word name None is).sound;
       closed = refl;
       all_named = λ start live. let named = exact.all_named start live in (name named.0, ap t.root (back named.0) ∙ named.1);
       all_live = λ start slab.

@@ -1,5 +1,5 @@
 -- A block moves from a root to another: the image at each of the stores.
-use Rattle.std.proofs.Common.{◌≡◌, ◌≢◌, ◌⊎◌, ℕ, ◌^◌, ◌<◌, ◌≤◌, List, length, refl, sym, ap, subst, ◌∙◌, arith, inl, inr, ⊎_elim, Option, Some, None}
+use Rattle.std.proofs.Common.{◌≡◌, ◌≢◌, ◌⊎◌, ℕ, ◌<◌, ◌≤◌, List, length, refl, sym, ap, subst, ◌∙◌, arith, inl, inr, ⊎_elim, Option, Some, None}
 use Rattle.pmem_lines.specs.Words.{put_word}
 use Rattle.pmem_lines.proofs.Words.{word_at-put_other, length-put_word}
 use Rattle.pool_layout.specs.Layout.{layout_of}
@@ -22,7 +22,8 @@ use Rattle.heap_check.specs.Image.{bounds_of, IsFormed}
 use Rattle.heap_check.proofs.Forms.{AreSlabsInHeap-sound, bounds_of-put_word, IsFormed-put_root, IsFormed-put_wal}
 use Rattle.heap_check.proofs.Sizes.{sizes_of, root_inside}
 use Rattle.move_steps.specs.Moves.{IsMovable, KeepsOthers}
-use Rattle.move_steps.proofs.Renamed.{renamed, IsRenaming}
+use Rattle.settle_steps.proofs.Images.{IsRootPlace, root_place}
+use Rattle.settle_steps.proofs.Renamed.{renamed, IsRenaming}
 use Rattle.move_steps.proofs.HeldRoots.{swapped, swapped_to, swapped_back, held_opened, held_both, held_moved, held_released_moved}
 
 -- the image is as the words are, but that the root words and the open entry are these, and that each root holds what the one
@@ -59,20 +60,14 @@ module _ (words : List ℕ) (line from to at : ℕ) (may : IsMovable words from 
   pub wal_inside : wal_word line < length words
   wal_inside = let sizes = sizes_of words may.image.formed in omega (arith, sizes.size, sizes.least, line_below)
 
-  pub from_low : from < 2 ^ 16
-  from_low = let sizes = sizes_of words may.image.formed in omega (arith, sizes.roots, may.from_rooted)
+  pub from_place : IsRootPlace words from
+  from_place = root_place words from may.image.formed may.from_rooted
 
-  pub to_low : to < 2 ^ 16
-  to_low = let sizes = sizes_of words may.image.formed in omega (arith, sizes.roots, may.to_rooted)
-
-  pub from_inside : root_word from < length words
-  from_inside = root_inside words from may.image.formed may.from_rooted
-
-  pub to_inside : root_word to < length words
-  to_inside = root_inside words to may.image.formed may.to_rooted
+  pub to_place : IsRootPlace words to
+  to_place = root_place words to may.image.formed may.to_rooted
 
   pub fits : FitsWord (Move from to)
-  fits = (from_low, to_low)
+  fits = (from_place.low, to_place.low)
 
   pub differ : from ≢ to
   differ same = may.some (sym may.named ∙ ap t.root same ∙ may.none)

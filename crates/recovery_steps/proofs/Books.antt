@@ -1,11 +1,11 @@
 -- What a log reads stays where a part of recovery stores outside the log.
-use Rattle.std.proofs.Common.{◌≡◌, ◌<◌, ◌≤◌, ℕ, List, length, sym, ap, ◌∙◌, arith, ⊎_elim}
+use Rattle.std.proofs.Common.{◌≡◌, ◌<◌, ℕ, true, List, length, sym, ap, ◌∙◌, arith, ⊎_elim}
 use Rattle.std.proofs.lemmas.List.Elements.{All-weaker}
 use Rattle.pmem_lines.specs.Words.{word_at}
-use Rattle.pool_layout.specs.Layout.{layout_of}
 use Rattle.pool_layout.specs.Places.{fields_word, directory_word, entry_word}
 use Rattle.pool_layout.specs.Header.{version_in}
 use Rattle.image_tables.specs.Log.{active_chunks}
+use Rattle.image_tables.specs.Tables.{tables_of}
 use Rattle.image_tables.proofs.Chunks.{few_chunks}
 use Rattle.image_tables.proofs.Headers.{SameLog-off_header}
 use Rattle.image_tables.proofs.Logs.{IsOffLog, SameLog, SameChunk}
@@ -13,10 +13,11 @@ use Rattle.image_tables.proofs.Places.{log_word-low, entry_word-low, entry_word-
 use Rattle.book_log.specs.Book.{Book}
 use Rattle.book_log.proofs.Books.{Reads-same}
 use Rattle.heap_model.specs.Machine.{Bounds}
-use Rattle.heap_check.specs.Image.{bounds_of}
+use Rattle.heap_check.specs.Image.{bounds_of, IsSoundImage}
 use Rattle.log_steps.specs.Log.{IsBookOf}
 use Rattle.slab_morph.specs.Stages.{IsOffHeader}
 use Rattle.settle_steps.specs.Settled.{KeepsOthers}
+use Rattle.recovery_steps.proofs.Arenas.{slab_low}
 
 -- the log of these words is that of the new ones, where both say the same of it
 book_same : (book : Book) (words new : List ℕ) → SameLog words new → length new ≡ length words → bounds_of new ≡ bounds_of words → IsBookOf book words → IsBookOf book new
@@ -48,6 +49,6 @@ pub book_settled : (book : Book) (words : List ℕ) (line k : ℕ) (new : List �
 book_settled book words line k new below off rest bounds is = book_same book words new (same_but words line k new below off rest) rest.same_length bounds is
 
 -- words of the header of a slab change
-pub book_off_header : (book : Book) (words : List ℕ) (start : ℕ) (new : List ℕ) → (layout_of (version_in words)).first_granule ≤ start → IsOffHeader words start new → bounds_of new ≡ bounds_of words → IsBookOf book words → IsBookOf book new
-book_off_header book words start new low off bounds is =
-    book_same book words new (SameLog-off_header words new start (record { in_heap = low; others = off.others })) off.same_length bounds is
+pub book_off_header : {book : Book} {words new : List ℕ} (start : ℕ) → IsSoundImage words → (tables_of words).slab start ≡ true → IsOffHeader words start new → bounds_of new ≡ bounds_of words → IsBookOf book words → IsBookOf book new
+book_off_header {book} {words} {new} start image slab off bounds is =
+    book_same book words new (SameLog-off_header words new start (record { in_heap = slab_low words image start slab; others = off.others })) off.same_length bounds is

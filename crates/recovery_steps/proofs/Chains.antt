@@ -7,6 +7,7 @@ use Rattle.pmem_lines.specs.Events.{reading, IsQuiet, IsImage}
 use Rattle.pmem_lines.specs.Steps.{IsQuietStep}
 use Rattle.pmem_lines.proofs.Images.{quiet_image}
 use Rattle.pmem_lines.proofs.Steps.{quiet_events, step_none, step_then}
+use Rattle.image_tables.specs.Tables.{Tables, tables_of}
 use Rattle.heap_check.specs.Image.{IsSteadyImage}
 use Rattle.heap_check.specs.State.{HaveSameHeap, IsEitherHeap}
 use Rattle.image_defects.specs.Least.{HasNone}
@@ -34,8 +35,8 @@ part_none {s} Stores most quiet image stores = record {
 }
 
 -- a step that keeps the heap
-pub part_of : {s t : PmemState} (Stores : List ℕ → List Event → Type 0) (most : ℕ) (events : List Event) → Stores (words_of s) events → length events ≤ most → IsQuietStep s t events (KeepsHeap (words_of s)) → IsPart KeepsHeap s t Stores most
-part_of Stores most events stores few step = record { events = events; stores = stores; few = few; step = step }
+pub part_of : {s t : PmemState} (Stores : List ℕ → List Event → Type 0) {most : ℕ} {events : List Event} → Stores (words_of s) events → IsQuietStep s t events (KeepsHeap (words_of s)) → length events ≤ most → IsPart KeepsHeap s t Stores most
+part_of Stores {most} {events} stores step few = record { events = events; stores = stores; few = few; step = step }
 
 -- the heap is kept where it is the one of before or of afterwards, and both are the same
 pub either_keeps : (words new image : List ℕ) → HaveSameHeap words new → IsEitherHeap words new image → KeepsHeap words image
@@ -45,34 +46,10 @@ either_keeps words new image same is = record {
   blocks = is.words;
 }
 
--- and then another
-pub part_then : {s t u : PmemState} {First Second : List ℕ → List Event → Type 0} {m n : ℕ} (most : ℕ) → m + n ≤ most → IsPart KeepsHeap s t First m → IsPart KeepsHeap t u Second n → IsPart KeepsHeap s u (Then First Second) most
-part_then {s} {t} {u} {First} {Second} {m} {n} most is first second =
-    let keeps : KeepsHeap (words_of s) (words_of t) = step_end first.step in
-    record {
-      events = first.events ++ second.events;
-      stores = record {
-        front = first.events;
-        back = second.events;
-        is = refl;
-        first = first.stores;
-        second = subst (λ (ws : List ℕ). Second ws second.events) first.step.appends.words second.stores;
-      };
-      few = omega (arith, is, first.few, second.few, length-append first.events second.events);
-      step = step_then (KeepsHeap (words_of s)) (λ ws. second.events) first.step second.step (λ image kept. kept) (λ image kept. KeepsHeap-then (words_of s) (words_of t) image keeps kept);
-    }
-
--- what a part takes: nothing, or one thing
-
-pub takes_none : {IsLoose : ℕ → Type 0} {taken : ℕ → List Event} → HasNone IsLoose → TakesOne IsLoose taken []
-takes_none none = inl (none, refl)
-
-pub takes_one : {IsLoose : ℕ → Type 0} {taken : ℕ → List Event} (start : ℕ) → IsLoose start → TakesOne IsLoose taken (taken start)
-takes_one start here = inr (record { start = start; here = here; is = refl })
-
--- from a sound image: first it becomes steady
-pub part_after : {s t u : PmemState} {First Second : List ℕ → List Event → Type 0} {m n : ℕ} (most : ℕ) → m + n ≤ most → IsPart LeavesHeap s t First m → KeepsHeap (words_of s) (words_of t) → IsPart KeepsHeap t u Second n → IsPart LeavesHeap s u (Then First Second) most
-part_after {s} {t} {u} {First} {Second} {m} {n} most is first keeps second = record {
+-- two parts, where of the whole is said what follows from what is said of each of them
+both_parts : {s t u : PmemState} {Front Back : List ℕ → List ℕ → Type 0} {First Second : List ℕ → List Event → Type 0} {m n : ℕ} (Leaves : List ℕ → List ℕ → Type 0) (most : ℕ) → m + n ≤ most →
+    IsPart Front s t First m → IsPart Back t u Second n → ((image : List ℕ) → Front (words_of s) image → Leaves (words_of s) image) → ((image : List ℕ) → Back (words_of t) image → Leaves (words_of s) image) → IsPart Leaves s u (Then First Second) most
+both_parts {s} {t} {u} {Front} {Back} {First} {Second} {m} {n} Leaves most is first second before behind = record {
   events = first.events ++ second.events;
   stores = record {
     front = first.events;
@@ -82,8 +59,37 @@ part_after {s} {t} {u} {First} {Second} {m} {n} most is first keeps second = rec
     second = subst (λ (ws : List ℕ). Second ws second.events) first.step.appends.words second.stores;
   };
   few = omega (arith, is, first.few, second.few, length-append first.events second.events);
-  step = step_then (LeavesHeap (words_of s)) (λ ws. second.events) first.step second.step (λ image left. left) (λ image kept. λ steady. KeepsHeap-then (words_of s) (words_of t) image keeps kept);
+  step = step_then (Leaves (words_of s)) (λ ws. second.events) first.step second.step before behind;
 }
+
+-- and then another
+pub part_then : {s t u : PmemState} {First Second : List ℕ → List Event → Type 0} {m n : ℕ} (most : ℕ) → m + n ≤ most → IsPart KeepsHeap s t First m → IsPart KeepsHeap t u Second n → IsPart KeepsHeap s u (Then First Second) most
+part_then {s} {t} most is first second =
+    both_parts KeepsHeap most is first second (λ image kept. kept) (λ image kept. KeepsHeap-then (words_of s) (words_of t) image (step_end first.step) kept)
+
+-- how many events a part adds, and that the room is the same
+pub adds_few : {s t : PmemState} {Leaves : List ℕ → List ℕ → Type 0} {Stores : List ℕ → List Event → Type 0} {m : ℕ} → IsPart Leaves s t Stores m → (length t.events ≤ length s.events + m) × (t.room ≡ s.room)
+adds_few part = (omega (arith, part.few, part.step.appends.count), part.step.appends.room)
+
+-- what a part takes: nothing, or one thing
+
+pub takes_none : {IsLoose : ℕ → Type 0} {taken : ℕ → List Event} → HasNone IsLoose → TakesOne IsLoose taken []
+takes_none none = inl (none, refl)
+
+pub takes_one : {IsLoose : ℕ → Type 0} {taken : ℕ → List Event} (start : ℕ) → IsLoose start → TakesOne IsLoose taken (taken start)
+takes_one start here = inr (record { start = start; here = here; is = refl })
+
+-- nothing is stored where there is no such thing
+pub part_idle : {s : PmemState} {found : List ℕ} (IsLoose : Tables → ℕ → Type 0) (taken : List ℕ → ℕ → List Event) (most : ℕ) → IsQuiet s.events → IsSteadyImage (words_of s) → found ≡ words_of s → HasNone (IsLoose (tables_of found)) →
+    IsPart KeepsHeap s s (λ words events. TakesOne (IsLoose (tables_of words)) (taken words) events) most
+part_idle {s} IsLoose taken most quiet image same none =
+    part_none (λ words events. TakesOne (IsLoose (tables_of words)) (taken words) events) most quiet image
+    (takes_none (subst (λ (ws : List ℕ). HasNone (IsLoose (tables_of ws))) same none))
+
+-- from a sound image: first it becomes steady
+pub part_after : {s t u : PmemState} {First Second : List ℕ → List Event → Type 0} {m n : ℕ} (most : ℕ) → m + n ≤ most → IsPart LeavesHeap s t First m → KeepsHeap (words_of s) (words_of t) → IsPart KeepsHeap t u Second n → IsPart LeavesHeap s u (Then First Second) most
+part_after {s} {t} most is first keeps second =
+    both_parts LeavesHeap most is first second (λ image left. left) (λ image kept. λ steady. KeepsHeap-then (words_of s) (words_of t) image keeps kept)
 
 -- where the first part stores nothing, all is done by the second
 pub part_alone : {s t u : PmemState} {Leaves : List ℕ → List ℕ → Type 0} {First Second : List ℕ → List Event → Type 0} {m n : ℕ} (first : IsPart Leaves s t First m) → first.events ≡ [] → IsPart KeepsHeap t u Second n → IsPart KeepsHeap s u Second n

@@ -56,8 +56,8 @@ calms_finished words start new done = record {
 }
 
 -- a large extent goes
-pub rids_large : (words : List ℕ) (start : ℕ) (new : List ℕ) → IsLooseExtent words start → IsExtentGone words start new → Rids IsLooseLarge words new
-rids_large words start new may gone = record {
+pub rids_large : {words : List ℕ} {start : ℕ} {new : List ℕ} → IsLooseExtent words start → IsExtentGone words start new → Rids IsLooseLarge words new
+rids_large {words} {start} {new} may gone = record {
   left = record {
     shut = record { image = gone.image; closed = ap (λ (t : Tables). t.open_entry) gone.tables ∙ may.closed };
     bounds = gone.bounds;
@@ -73,8 +73,8 @@ rids_large words start new may gone = record {
 }
 
 -- a slab goes
-pub rids_empty : (words : List ℕ) (start : ℕ) (new : List ℕ) → IsDroppable words start → IsDropped words start new → Rids IsEmptySlab words new
-rids_empty words start new may dropped = record {
+pub rids_empty : {words : List ℕ} {start : ℕ} {new : List ℕ} → IsDroppable words start → IsDropped words start new → Rids IsEmptySlab words new
+rids_empty {words} {start} {new} may dropped = record {
   left = record {
     shut = record { image = dropped.image; closed = sym dropped.slab.entry ∙ may.closed };
     bounds = dropped.bounds;
@@ -97,8 +97,8 @@ nearly_of t start done = record {
   none = λ place below live. absurd (true≢false (sym live ∙ done.none place below));
 }
 
-pub rids_done : (words : List ℕ) (start : ℕ) (new : List ℕ) → IsShut words → IsDoneSlab (tables_of words) start → IsEnded words start new → Rids IsDoneSlab words new
-rids_done words start new shut here ended = record {
+pub rids_done : {words : List ℕ} {start : ℕ} {new : List ℕ} → IsShut words → IsDoneSlab (tables_of words) start → IsEnded words start new → Rids IsDoneSlab words new
+rids_done {words} {start} {new} shut here ended = record {
   left = record {
     shut = record { image = ended.steady shut.image; closed = ap (λ (t : Tables). t.open_entry) ended.tables ∙ shut.closed };
     bounds = ended.bounds;

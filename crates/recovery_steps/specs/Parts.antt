@@ -1,14 +1,24 @@
 -- A part of recovery: what it stores, what a crash within it leaves, and what it leaves; and parts one after another.
 use Rattle.std.specs.Prelude.{◌≡◌, ℕ, ◌≤◌, List, ◌++◌, length, None}
 use Rattle.pmem_lines.specs.declared.event.Event.{Event}
-use Rattle.pmem_lines.specs.Pmem.{PmemState, words_of}
-use Rattle.pmem_lines.specs.Events.{reading}
+use Rattle.pmem_lines.specs.Pmem.{PmemState, words_of, HasRoom}
+use Rattle.pmem_lines.specs.Events.{reading, IsQuiet}
 use Rattle.pmem_lines.specs.Steps.{IsQuietStep}
 use Rattle.image_tables.specs.Tables.{Tables, tables_of}
+use Rattle.book_log.specs.Book.{Book}
 use Rattle.heap_check.specs.Sound.{LoosensNothing, IsMorphing}
 use Rattle.heap_check.specs.Image.{bounds_of, IsSteadyImage}
 use Rattle.image_defects.specs.Least.{HasNone}
+use Rattle.log_steps.specs.Log.{IsBookOf}
 use Rattle.settle_steps.specs.Settled.{KeepsHeap}
+
+-- when
+
+-- a part may begin: the log is that of the words, nothing is under way, and there is room for so many events
+pub record MayBegin (log : Book) (s : PmemState) (most : ℕ) : Type 0 where
+  pub book : IsBookOf log (words_of s)
+  pub quiet : IsQuiet s.events
+  pub room : HasRoom s most
 
 -- events
 

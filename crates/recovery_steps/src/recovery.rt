@@ -9,7 +9,7 @@ ghost use Rattle.log_steps.specs.Log.{IsBookOf};
 ghost use Rattle.settle_steps.specs.Settled.{KeepsHeap};
 ghost use Rattle.transition_steps.specs.Transitions.{LeavesHeap};
 ghost use Rattle.recovery_steps.specs.Names.{AreNames};
-ghost use Rattle.recovery_steps.specs.Parts.{IsPart, IsLeft};
+ghost use Rattle.recovery_steps.specs.Parts.{MayBegin, IsPart, IsLeft};
 ghost use Rattle.recovery_steps.specs.Recovery.{Recovers, RecoversSound};
 
 use crate::RootNames;
@@ -46,9 +46,7 @@ pub fn make_exact<P: Pmem>(p: &mut P, log: &mut BookLog, names: &RootNames)
 fn make_steady_exact<P: Pmem>(p: &mut P, log: &mut BookLog, names: &RootNames)
     requires image { IsSteadyImage (words_of (P.state p.old)) }
     requires names { AreNames names.now (words_of (P.state p.old)) }
-    requires book { IsBookOf log.old (words_of (P.state p.old)) }
-    requires quiet { IsQuiet (P.state p.old).events }
-    requires room { HasRoom (P.state p.old) ((layout_of (version_in (words_of (P.state p.old)))).recovery_events - 3) }
+    requires begins { MayBegin log.old (P.state p.old) ((layout_of (version_in (words_of (P.state p.old)))).recovery_events - 3) }
     ensures part { IsPart KeepsHeap (P.state p.old) (P.state p.new) Recovers ((layout_of (version_in (words_of (P.state p.old)))).recovery_events - 3) }
     ensures exact { IsExactImage (words_of (P.state p.new)) }
     ensures heap { KeepsHeap (words_of (P.state p.old)) (words_of (P.state p.new)) }

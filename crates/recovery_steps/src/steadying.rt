@@ -1,10 +1,9 @@
 // A sound image becomes steady.
-ghost use Rattle.pmem_lines.specs.Events.{IsQuiet};
-ghost use Rattle.pmem_lines.specs.Pmem.{words_of, HasRoom};
+ghost use Rattle.pmem_lines.specs.Pmem.{words_of};
 ghost use Rattle.heap_check.specs.Image.{IsSoundImage};
 ghost use Rattle.log_steps.specs.Log.{IsBookOf};
 ghost use Rattle.transition_steps.specs.Transitions.{LeavesHeap};
-ghost use Rattle.recovery_steps.specs.Parts.{IsPart, IsSteadied};
+ghost use Rattle.recovery_steps.specs.Parts.{MayBegin, IsPart, IsSteadied};
 ghost use Rattle.recovery_steps.specs.Recovery.{EndsBesides};
 
 use crate::nearly::done_besides;
@@ -17,9 +16,7 @@ use transition_steps::end_transition;
 /// image there is none.
 pub(crate) fn make_steady<P: Pmem>(p: &mut P, log: &BookLog)
     requires image { IsSoundImage (words_of (P.state p.old)) }
-    requires book { IsBookOf log.now (words_of (P.state p.old)) }
-    requires quiet { IsQuiet (P.state p.old).events }
-    requires room { HasRoom (P.state p.old) 3 }
+    requires begins { MayBegin log.now (P.state p.old) 3 }
     ensures part { IsPart LeavesHeap (P.state p.old) (P.state p.new) EndsBesides 3 }
     ensures steadied { IsSteadied (words_of (P.state p.old)) (words_of (P.state p.new)) }
     ensures book { IsBookOf log.now (words_of (P.state p.new)) }

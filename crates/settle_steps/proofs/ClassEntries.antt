@@ -13,13 +13,13 @@ use Rattle.heap_check.specs.Image.{bounds_of}
 use Rattle.heap_check.proofs.Geometry.{one_slab}
 use Rattle.settle_steps.specs.Settled.{IsOpenIn}
 use Rattle.settle_steps.specs.ClassBlocks.{IsOpenForBlock}
-use Rattle.settle_steps.specs.Entries.{number_at, class_block}
+use Rattle.settle_steps.specs.Entries.{number_at, class_block, LiesInSlab}
 use Rattle.settle_steps.proofs.EntrySlabs.{in_slab_new}
 use Rattle.settle_steps.proofs.Images.{entry_is}
 
 -- an entry by what its flag is
-pub flag_is : (entry : WalEntry) (root at place : ℕ) (old flag : Bool) → entry ≡ Place root at old place → old ≡ flag → entry ≡ Place root at flag place
-flag_is entry root at place old flag is same = is ∙ ap (λ o. Place root at o place) same
+pub flag_is : {entry : WalEntry} {root at place : ℕ} {old flag : Bool} → entry ≡ Place root at old place → old ≡ flag → entry ≡ Place root at flag place
+flag_is {entry} {root} {at} {place} is same = is ∙ ap (λ o. Place root at o place) same
 
 -- the block of the class that stands at the address, in the slab that has it
 record IsBlockThere (t : Tables) (start at : ℕ) : Type 0 where
@@ -31,9 +31,15 @@ block_there : {b : Bounds} {t : Tables} → IsSound b t → (start at : ℕ) →
 block_there {b} {t} sound start at entry inside =
     subst (λ s. IsBlockThere t s at) (one_slab sound entry.start start at (in_slab_new sound at entry) inside) (record { number = entry.number; below = entry.below; is = entry.is })
 
-module _ (words : List ℕ) (line root at place start : ℕ) (line_below : line < 8) (open_in : IsOpenIn words line (Place root at false place)) (inside : IsInSlab (tables_of words) start at) where
+module _ {words : List ℕ} {line root at place : ℕ} {entry : WalEntry} (start : ℕ) (line_below : line < 8) (is : entry ≡ Place root at false place) (opened : IsOpenIn words line entry) (lies : LiesInSlab (tables_of words) start entry) where
   abbrev t : Tables
   t = tables_of words
+
+  open_in : IsOpenIn words line (Place root at false place)
+  open_in = subst (λ (e : WalEntry). IsOpenIn words line e) is opened
+
+  inside : IsInSlab (tables_of words) start at
+  inside = subst (λ (e : WalEntry). LiesInSlab (tables_of words) start e) is lies
 
   sound : IsSound (bounds_of words) t
   sound = open_in.image.steady.sound

@@ -1,5 +1,5 @@
 -- The bit of the open entry's block becomes what the root says, and then the entry is closed: the images.
-use Rattle.std.proofs.Common.{◌≡◌, ◌≢◌, ◌==◌, ℕ, ◌*◌, ◌/◌, ◌^◌, ◌<◌, Bool, List, length, refl, sym, ap, subst, ◌∙◌, arith, inl, inr, ⊎_elim, Some, None}
+use Rattle.std.proofs.Common.{◌≡◌, ◌≢◌, ◌==◌, ℕ, ◌*◌, ◌<◌, Bool, List, refl, sym, ap, subst, ◌∙◌, arith, inl, inr, Some, None}
 use Rattle.pmem_lines.specs.Words.{word_at, put_word}
 use Rattle.pmem_lines.specs.Pmem.{PmemState}
 use Rattle.pmem_lines.specs.Steps.{IsQuietStep}
@@ -21,15 +21,15 @@ use Rattle.heap_check.specs.State.{IsWordOf}
 use Rattle.heap_check.proofs.BlockWords.{block_word-header}
 use Rattle.heap_check.proofs.Forms.{AreSlabsInHeap-sound, IsFormed-put_bitmap}
 use Rattle.heap_check.proofs.Geometry.{number_few}
-use Rattle.heap_check.proofs.Sizes.{sizes_of, root_inside}
+use Rattle.heap_check.proofs.Sizes.{sizes_of}
 use Rattle.heap_check.proofs.Small.{small_entry, block_in}
 use Rattle.attach_steps.specs.declared.block.SmallBlock.{SmallBlock}
 use Rattle.attach_steps.specs.Steps.{entry_for, bit_word, bit_put}
-use Rattle.settle_steps.specs.Settled.{KeepsHeap, LoosensLeft}
+use Rattle.settle_steps.specs.Settled.{KeepsHeap}
 use Rattle.settle_steps.specs.ClassBlocks.{is_named, class_block_events, IsOpenForBlock, IsClassBlockSettled}
 use Rattle.settle_steps.proofs.OneRoot.{changed, IsSettling, IsSteady-settling, heap-settling, loosens_left, loosens_nothing}
 use Rattle.settle_steps.proofs.ClassTables.{IsSettling-bit}
-use Rattle.settle_steps.proofs.Images.{IsNear, entry_is, LiesInWords, slab_lies, few_entries, near_put, near_close, keeps_begin, keeps_near, settle_step}
+use Rattle.settle_steps.proofs.Images.{IsNear, IsShutIn, IsRootPlace, root_place, entry_is, LiesInWords, slab_lies, few_entries, near_put, near_close, keeps_as, word_keeps, settled_as, settle_step}
 
 module _ (words : List ℕ) (line root : ℕ) (block : SmallBlock) (line_below : line < 8) (may : IsOpenForBlock words line root block) where
   abbrev t : Tables
@@ -76,11 +76,8 @@ module _ (words : List ℕ) (line root : ℕ) (block : SmallBlock) (line_below :
   rooted : root < (bounds_of words).roots
   rooted = (sound.open_entry own entry_open).entry.rooted
 
-  pub root_low : root < 2 ^ 16
-  root_low = let sizes = sizes_of words may.open_in.image.formed in omega (arith, sizes.roots, rooted)
-
-  pub root_in_words : root_word root < length words
-  root_in_words = root_inside words root may.open_in.image.formed rooted
+  pub root_there : IsRootPlace words root
+  root_there = root_place words root may.open_in.image.formed rooted
 
   -- what is read of the root is what it holds
   pub reads_named : (word_at words (root_word root) == block.at) ≡ is_named words root block.at
@@ -100,9 +97,8 @@ module _ (words : List ℕ) (line root : ℕ) (block : SmallBlock) (line_below :
   off : (r : ℕ) (other : Range) (j : ℕ) → heap settled r ≡ Some other → IsWordOf other j → j ≢ bit_word block
   off r other j is word e = omega (arith, e, block_word-header (IsSteady-settling shut).sound refl r other is j word start may.slab, number_low)
 
-  keeps : (image : List ℕ) → IsNear words line (bit_word block) image → IsSteady (bounds_of words) (tables_of image) → ((r : ℕ) → heap (tables_of image) r ≡ heap t r) → KeepsHeap words image
-  keeps image near image_steady heaps =
-      keeps_near words line line_below own may.open_in (bit_word block) image settled (IsSteady-settling shut).sound refl (heap-settling shut) off near image_steady heaps
+  shut_in : IsShutIn words (bit_word block) settled
+  shut_in = record { steady = IsSteady-settling shut; closed = refl; same = heap-settling shut; off = off }
 
   module _ (over : PutsBitOver words block.start block.number (is_named words root block.at)) where
     abbrev made : List ℕ
@@ -122,14 +118,7 @@ module _ (words : List ℕ) (line root : ℕ) (block : SmallBlock) (line_below :
     made_tables = (over.each words refl refl).tables slabs lies.here
 
     made_keeps : KeepsHeap words made
-    made_keeps = keeps made made_near (subst (IsSteady (bounds_of words)) (sym made_tables) (IsSteady-settling still)) (λ r. ap (λ (x : Tables). heap x r) made_tables ∙ heap-settling still r)
-
-    bit_keeps : (image : List ℕ) → IsOldOrNewWord words (8 * bit_word block) (bit_put words block named) image → KeepsHeap words image
-    bit_keeps image left = ⊎_elim
-        (λ (same : image ≡ words). subst (KeepsHeap words) (sym same) (keeps_begin words line line_below own may.open_in))
-        (λ (put : image ≡ put_word words (8 * bit_word block / 8) (bit_put words block named)).
-        subst (KeepsHeap words) (sym (put ∙ ap (λ i. put_word words i (bit_put words block named)) (omega arith))) made_keeps)
-        left.is
+    made_keeps = keeps_as words line line_below own may.open_in (bit_word block) made settled (changed t (put_in t.bit start block.number named) t.live t.open_entry) shut_in made_near made_tables (IsSteady-settling still) (heap-settling still)
 
     module _ (new : List ℕ) (closes : Closes made line new) where
       new_near : IsNear words line (bit_word block) new
@@ -141,18 +130,9 @@ module _ (words : List ℕ) (line root : ℕ) (block : SmallBlock) (line_below :
           ∙ ap (λ (x : Tables). with_open_entry x None) made_tables
           ∙ (λ i. record (put_bit t start block.number named) { root = sym (roots_plain words plain) i; open_entry = None })
 
-      new_keeps : KeepsHeap words new
-      new_keeps = keeps new new_near (subst (IsSteady (bounds_of words)) (sym new_tables) (IsSteady-settling shut)) (λ r. ap (λ (x : Tables). heap x r) new_tables ∙ heap-settling shut r)
-
       pub class_block_settled : IsClassBlockSettled words line root block new
       class_block_settled = record {
-        settled = record {
-          keeps = new_keeps;
-          rest = new_near.rest;
-          closed = ap (λ (x : Tables). x.open_entry) new_tables;
-          bounds = new_near.bounds;
-          loose = subst (λ (x : Tables). LoosensLeft t x) (sym new_tables) (loosens_left shut);
-        };
+        settled = settled_as words line line_below own may.open_in (bit_word block) new settled shut_in new_near new_tables (loosens_left shut);
         tables = new_tables;
         loose = subst (λ (x : Tables). LoosensNothing t x) (sym new_tables) (loosens_nothing shut (λ s place. refl));
       }
@@ -160,4 +140,4 @@ module _ (words : List ℕ) (line root : ℕ) (block : SmallBlock) (line_below :
     pub class_block_step : {s u v : PmemState} → IsQuietStep s u (word_events (8 * bit_word block) (bit_put words block (is_named words root block.at))) (IsOldOrNewWord words (8 * bit_word block) (bit_put words block (is_named words root block.at))) →
         IsQuietStep u v (word_events (8 * wal_word line) 0) (ClosesOrNot (put_word words (bit_word block) (bit_put words block (is_named words root block.at))) line) → IsQuietStep s v (class_block_events words line root block) (KeepsHeap words)
     class_block_step putting closing =
-        settle_step words line line_below own may.open_in (word_events (8 * bit_word block) (bit_put words block named)) made putting closing bit_keeps made_keeps new_keeps
+        settle_step words line line_below own may.open_in (word_events (8 * bit_word block) (bit_put words block named)) made putting closing (word_keeps words line line_below own may.open_in (bit_word block) (bit_put words block named) made_keeps) made_keeps (λ image closes. (class_block_settled image closes).settled.keeps)

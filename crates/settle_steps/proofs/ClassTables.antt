@@ -8,7 +8,7 @@ use Rattle.image_tables.specs.declared.entry.WalEntry.{WalEntry}
 use Rattle.image_tables.specs.declared.entry.WalEntry.TheVariants.{Place}
 use Rattle.image_tables.specs.Tables.{Tables}
 use Rattle.image_tables.specs.Updates.{put_in}
-use Rattle.image_tables.proofs.Updates.{put_in-same, put_in-other}
+use Rattle.image_tables.proofs.Updates.{put_in-same}
 use Rattle.heap_model.specs.Machine.{Bounds, Range, LiesIn, slab_block}
 use Rattle.heap_model.proofs.Slabbing.{LiesIn-block}
 use Rattle.heap_check.specs.Heap.{slab_of, is_large, is_old, entry_at, IsClaim, Holds, HoldsBit, HoldsOld}
@@ -16,7 +16,7 @@ use Rattle.heap_check.specs.Sound.{IsInSlab, IsOpen, IsOpenPlace, IsStanding, Is
 use Rattle.heap_check.proofs.Claims.{NamesOnly, NamesOnly-none, NamesOnly-some, plain_size, IsClaim-named}
 use Rattle.heap_check.proofs.Geometry.{is_large-slab, slab_of-here}
 use Rattle.heap_check.proofs.Geometry.{one_slab}
-use Rattle.heap_check.proofs.Small.{cases_bit, small_entry, block_in, entry_at-own, one_number, is_old-held}
+use Rattle.heap_check.proofs.Small.{Holds-unbit, Holds-bit, small_entry, block_in, entry_at-own, one_number, is_old-held}
 use Rattle.settle_steps.proofs.OneRoot.{changed, claim_by_entry, IsSettling}
 use Rattle.heap_check.proofs.LiveBlocks.{old_seen, one_class}
 
@@ -81,32 +81,11 @@ module _ {b : Bounds} {t : Tables} (root start number : ℕ) (steady : IsSteady 
     abbrev new : Tables
     new = changed t (put_in t.bit start number on) t.live entry
 
-    same_block : (s i : ℕ) → s ≡ start → i ≡ number → block_in t s i ≡ block
-    same_block s i same too = ap (λ s. slab_block s (t.class s) i) same ∙ ap (λ i. block_in t start i) too
-
     back : (s : ℕ) (range : Range) → Holds new s range → Holds t s range ⊎ (range ≡ block)
-    back s range holds = ⊎_elim
-        (λ (bit : HoldsBit new s range). ⊎_elim
-        (λ at. inr (bit.is ∙ same_block s bit.number at.0 at.1))
-        (λ elsewhere. inl (record {
-          slab = holds.slab;
-          block = inl (record { number = bit.number; below = bit.below; read = bit.read; set = sym (put_in-other t.bit start number on s bit.number elsewhere) ∙ bit.set; is = bit.is });
-        }))
-        (cases_bit start number s bit.number))
-        (λ (old : HoldsOld new s range). inl (record { slab = holds.slab; block = inr (record { place = old.place; below = old.below; live = old.live; is = old.is }) }))
-        holds.block
+    back = Holds-unbit t start number on t.word t.root entry
 
     forth : (s : ℕ) (range : Range) → Holds t s range → Holds new s range ⊎ (range ≡ block)
-    forth s range holds = ⊎_elim
-        (λ (bit : HoldsBit t s range). ⊎_elim
-        (λ at. inr (bit.is ∙ same_block s bit.number at.0 at.1))
-        (λ elsewhere. inl (record {
-          slab = holds.slab;
-          block = inl (record { number = bit.number; below = bit.below; read = bit.read; set = put_in-other t.bit start number on s bit.number elsewhere ∙ bit.set; is = bit.is });
-        }))
-        (cases_bit start number s bit.number))
-        (λ (old : HoldsOld t s range). inl (record { slab = holds.slab; block = inr (record { place = old.place; below = old.below; live = old.live; is = old.is }) }))
-        holds.block
+    forth = Holds-bit t start number on t.word t.root entry
 
     -- where the bit is clear no slab holds the block
     unheld : on ≡ false → (other : ℕ) → ¬ (Holds new other block)

@@ -1,5 +1,5 @@
 -- Images while an open entry is settled: all is as in the words but for one word and that of the entry's line.
-use Rattle.std.proofs.Common.{◌≡◌, ◌≢◌, ◌==◌, ℕ, zero, suc, ◌+◌, ◌*◌, ◌^◌, ◌<◌, ◌≤◌, true, List, ◌++◌, length, refl, sym, ap, subst, ◌∙◌, arith, ⊎_elim, Some, None}
+use Rattle.std.proofs.Common.{◌≡◌, ◌≢◌, ◌==◌, ℕ, zero, suc, ◌+◌, ◌*◌, ◌/◌, ◌^◌, ◌<◌, ◌≤◌, true, List, ◌++◌, length, refl, sym, ap, subst, ◌∙◌, arith, ⊎_elim, Some, None}
 use Rattle.std.proofs.lemmas.Bool.{cases_eq, cond-true, cond-false, eq-eqb, ne_eqb}
 use Rattle.pmem_lines.specs.Words.{word_at, put_word}
 use Rattle.pmem_lines.proofs.Words.{word_at-put_other, length-put_word}
@@ -7,9 +7,9 @@ use Rattle.pmem_lines.specs.declared.event.Event.{Event}
 use Rattle.pmem_lines.specs.Pmem.{PmemState}
 use Rattle.pmem_lines.specs.Steps.{IsQuietStep}
 use Rattle.pmem_lines.proofs.Steps.{step_then}
-use Rattle.durable_steps.specs.Steps.{word_events}
+use Rattle.durable_steps.specs.Steps.{word_events, IsOldOrNewWord}
 use Rattle.pool_layout.specs.Layout.{layout_of}
-use Rattle.pool_layout.specs.Places.{fields_word, wal_word}
+use Rattle.pool_layout.specs.Places.{fields_word, root_word, wal_word}
 use Rattle.pool_layout.specs.Header.{version_in}
 use Rattle.image_tables.specs.declared.entry.WalEntry.{WalEntry}
 use Rattle.image_tables.specs.Forms.{IsWalWord}
@@ -25,9 +25,9 @@ use Rattle.heap_check.specs.Image.{bounds_of, IsFormed}
 use Rattle.heap_check.specs.State.{IsWordOf}
 use Rattle.heap_check.proofs.Forms.{AreSlabsInHeap-sound, bounds_of-put_word, IsFormed-put_wal}
 use Rattle.heap_check.proofs.Geometry.{granules_at-slab, index_count_few}
-use Rattle.heap_check.proofs.Sizes.{sizes_of}
+use Rattle.heap_check.proofs.Sizes.{sizes_of, root_inside}
 use Rattle.heap_check.proofs.BlockWords.{block_word-heap}
-use Rattle.settle_steps.specs.Settled.{IsOpenIn, KeepsHeap, KeepsOthers}
+use Rattle.settle_steps.specs.Settled.{IsOpenIn, KeepsHeap, KeepsOthers, LoosensLeft, IsSettled}
 
 -- the image is well formed, has the same numbers, no entry in another line, and the same words but for those two
 pub record IsNear (words : List ℕ) (line k : ℕ) (image : List ℕ) : Type 0 where
@@ -36,6 +36,22 @@ pub record IsNear (words : List ℕ) (line k : ℕ) (image : List ℕ) : Type 0 
   pub slabs : AreSlabsInHeap image
   pub alone : HasNoOther image line
   pub rest : KeepsOthers words line k image
+
+-- Tables in which the entry is settled and none is open: they are steady, with the same heap, in which no block has the word
+-- at k.
+pub record IsShutIn (words : List ℕ) (k : ℕ) (shut : Tables) : Type 0 where
+  pub steady : IsSteady (bounds_of words) shut
+  pub closed : shut.open_entry ≡ None
+  pub same : (root : ℕ) → heap shut root ≡ heap (tables_of words) root
+  pub off : (root : ℕ) (range : Range) (j : ℕ) → heap shut root ≡ Some range → IsWordOf range j → j ≢ k
+
+-- where the word of a root lies
+pub record IsRootPlace (words : List ℕ) (root : ℕ) : Type 0 where
+  pub low : root < 2 ^ 16
+  pub inside : root_word root < length words
+
+pub root_place : (words : List ℕ) (root : ℕ) → IsFormed words → root < (bounds_of words).roots → IsRootPlace words root
+root_place words root formed rooted = let sizes = sizes_of words formed in record { low = omega (arith, sizes.roots, rooted); inside = root_inside words root formed rooted }
 
 -- where a slab lies in the words
 pub record LiesInWords (words : List ℕ) (start : ℕ) : Type 0 where
@@ -136,21 +152,36 @@ module _ (words : List ℕ) (line : ℕ) (line_below : line < 8) (entry : WalEnt
         rest = record { same_length = length-put_word left at 0 ∙ near.rest.same_length; others = λ j wal one. word_at-put_other left at j 0 wal ∙ near.rest.others j wal one };
       })
 
-  -- Blocks keep their words, where the one word is none of theirs. Where they lie is read off tables with the same heap in
-  -- which no entry is open.
-  pub keeps_near : (k : ℕ) (image : List ℕ) (shut : Tables) → IsSound (bounds_of words) shut → shut.open_entry ≡ None → ((root : ℕ) → heap shut root ≡ heap (tables_of words) root) →
-      ((root : ℕ) (range : Range) (j : ℕ) → heap shut root ≡ Some range → IsWordOf range j → j ≢ k) → IsNear words line k image → IsSteady (bounds_of words) (tables_of image) →
-      ((root : ℕ) → heap (tables_of image) root ≡ heap (tables_of words) root) → KeepsHeap words image
-  keeps_near k image shut sound closed same off near steady heaps = record {
-    steady = record { formed = near.formed; steady = subst (λ (b : Bounds). IsSteady b (tables_of image)) (sym near.bounds) steady };
-    heap = record { each = heaps };
+  -- An image whose tables these are. Blocks keep their words, since the one word is none of theirs; where they lie is read
+  -- off the tables in which no entry is open.
+  pub keeps_as : (k : ℕ) (image : List ℕ) (shut now : Tables) → IsShutIn words k shut → IsNear words line k image → tables_of image ≡ now → IsSteady (bounds_of words) now → ((root : ℕ) → heap now root ≡ heap (tables_of words) root) → KeepsHeap words image
+  keeps_as k image shut now is near says steady heaps = record {
+    steady = record { formed = near.formed; steady = subst (λ (b : Bounds). IsSteady b (tables_of image)) (sym near.bounds) (subst (IsSteady (bounds_of words)) (sym says) steady) };
+    heap = record { each = λ root. ap (λ (x : Tables). heap x root) says ∙ heaps root };
     blocks = record {
-      each = λ root other range j was is word.
-          let named = same root ∙ was in
-          let high = block_word-heap sound closed root range named j word in
+      each = λ root other range j was also word.
+          let named = is.same root ∙ was in
+          let high = block_word-heap is.steady.sound is.closed root range named j word in
           let sizes = sizes_of words open_in.image.formed in
-          near.rest.others j (λ e. omega (arith, e, high, sizes.first, line_below)) (off root range j named word);
+          near.rest.others j (λ e. omega (arith, e, high, sizes.first, line_below)) (is.off root range j named word);
     };
+  }
+
+  -- the one word is the old or the new one
+  pub word_keeps : (k value : ℕ) → KeepsHeap words (put_word words k value) → (image : List ℕ) → IsOldOrNewWord words (8 * k) value image → KeepsHeap words image
+  word_keeps k value kept image left = ⊎_elim
+      (λ (same : image ≡ words). subst (KeepsHeap words) (sym same) keeps_begin)
+      (λ (put : image ≡ put_word words (8 * k / 8) value). subst (KeepsHeap words) (sym (put ∙ ap (λ i. put_word words i value) (omega arith))) kept)
+      left.is
+
+  -- an image in which the entry is settled and closed
+  pub settled_as : (k : ℕ) (new : List ℕ) (shut : Tables) → IsShutIn words k shut → IsNear words line k new → tables_of new ≡ shut → LoosensLeft (tables_of words) shut → IsSettled words line k new
+  settled_as k new shut is near says loose = record {
+    keeps = keeps_as k new shut shut is near says is.steady is.same;
+    rest = near.rest;
+    closed = ap (λ (x : Tables). x.open_entry) says ∙ is.closed;
+    bounds = near.bounds;
+    loose = subst (λ (x : Tables). LoosensLeft (tables_of words) x) (sym says) loose;
   }
 
   -- the one word is put, and then the entry is closed

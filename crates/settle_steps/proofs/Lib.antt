@@ -1,6 +1,7 @@
 pub mod OneRoot
 pub mod ClassTables
 pub mod OldTables
+pub mod Renamed
 pub mod MoveTables
 pub mod EntrySlabs
 pub mod Images

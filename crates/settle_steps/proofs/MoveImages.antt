@@ -1,5 +1,5 @@
 -- An open move entry is settled: the images.
-use Rattle.std.proofs.Common.{◌≡◌, ◌≢◌, ◌&&◌, ℕ, ◌*◌, ◌^◌, ◌<◌, Bool, true, false, cond, ltb, List, length, refl, sym, ap, subst, ◌∙◌, arith, inl, inr, ⊎_elim, Some, None}
+use Rattle.std.proofs.Common.{◌≡◌, ◌≢◌, ◌&&◌, ℕ, ◌*◌, ◌<◌, Bool, true, false, cond, ltb, List, refl, sym, ap, subst, ◌∙◌, arith, inl, inr, ⊎_elim, Some, None}
 use Rattle.std.proofs.lemmas.Bool.{and_parts, ltb-true}
 use Rattle.pmem_lines.specs.Words.{word_at}
 use Rattle.pmem_lines.specs.Pmem.{PmemState}
@@ -21,11 +21,11 @@ use Rattle.heap_check.specs.Image.{bounds_of}
 use Rattle.heap_check.specs.State.{IsWordOf}
 use Rattle.heap_check.proofs.BlockWords.{block_word-heap}
 use Rattle.heap_check.proofs.Forms.{AreSlabsInHeap-sound, IsFormed-put_root}
-use Rattle.heap_check.proofs.Sizes.{sizes_of, root_inside}
-use Rattle.settle_steps.specs.Settled.{KeepsHeap, LoosensLeft}
+use Rattle.heap_check.proofs.Sizes.{sizes_of}
+use Rattle.settle_steps.specs.Settled.{KeepsHeap}
 use Rattle.settle_steps.specs.Moves.{both_named, release_events, move_events, released, ReleasesOrNot, IsOpenForMove, IsMoveSettled}
 use Rattle.settle_steps.proofs.MoveTables.{reworded, IsMoveStage, IsSteady-reworded, heap-reworded, loosens_left, loosens_nothing, held_released, held_settled}
-use Rattle.settle_steps.proofs.Images.{IsNear, entry_is, near_begin, near_put, near_close, keeps_begin, keeps_near, settle_step}
+use Rattle.settle_steps.proofs.Images.{IsNear, IsShutIn, IsRootPlace, root_place, entry_is, near_begin, near_put, near_close, keeps_begin, keeps_as, settled_as, settle_step}
 
 -- what roots hold is read off their words by the open entry
 held_table : (words : List ℕ) → (tables_of words).root ≡ held_of (tables_of words).open_entry (tables_of words).word
@@ -58,17 +58,11 @@ module _ (words : List ℕ) (line from to : ℕ) (line_below : line < 8) (may : 
   opened : IsOpenMove (bounds_of words) t from to
   opened = (steady.sound.open_entry own entry_open).entry
 
-  pub from_low : from < 2 ^ 16
-  from_low = let sizes = sizes_of words may.image.formed in omega (arith, sizes.roots, opened.low)
+  pub from_place : IsRootPlace words from
+  from_place = root_place words from may.image.formed opened.low
 
-  pub to_low : to < 2 ^ 16
-  to_low = let sizes = sizes_of words may.image.formed in omega (arith, sizes.roots, opened.high)
-
-  pub from_inside : root_word from < length words
-  from_inside = root_inside words from may.image.formed opened.low
-
-  pub to_inside : root_word to < length words
-  to_inside = root_inside words to may.image.formed opened.high
+  pub to_place : IsRootPlace words to
+  to_place = root_place words to may.image.formed opened.high
 
   -- what is read of the two is what the tables say
   pub reads_both : (ltb 0 (word_at words (root_word from)) && ltb 0 (word_at words (root_word to))) ≡ both_named words from to
@@ -121,8 +115,8 @@ module _ (words : List ℕ) (line from to : ℕ) (line_below : line < 8) (may : 
       let sizes = sizes_of words may.image.formed in
       omega (arith, e, block_word-heap shut_steady.sound refl r range is j word, sizes.first, sizes.roots, opened.low)
 
-  keeps : (image : List ℕ) → IsNear words line (root_word from) image → IsSteady (bounds_of words) (tables_of image) → ((r : ℕ) → heap (tables_of image) r ≡ heap t r) → KeepsHeap words image
-  keeps image near image_steady heaps = keeps_near words line line_below own may (root_word from) image (reworded t behind None) shut_steady.sound refl shut_heap off near image_steady heaps
+  shut_in : IsShutIn words (root_word from) (reworded t behind None)
+  shut_in = record { steady = shut_steady; closed = refl; same = shut_heap; off = off }
 
   -- the root's word is stored, or nothing
 
@@ -130,7 +124,7 @@ module _ (words : List ℕ) (line from to : ℕ) (line_below : line < 8) (may : 
   near_by true =
       let sizes = sizes_of words may.image.formed in
       near_put words line line_below own may (root_word from) 0
-      (IsFormed-put_root words from 0 may.image.formed opened.low from_inside slabs)
+      (IsFormed-put_root words from 0 may.image.formed opened.low from_place.inside slabs)
       (λ other. ap is_slab_of (extent_at-put_root words from 0 other opened.low))
       (λ e. omega (arith, e))
       (λ other below e. omega (arith, e, few_lines, below))
@@ -141,7 +135,7 @@ module _ (words : List ℕ) (line from to : ℕ) (line_below : line < 8) (may : 
       let word = put_at t.word from 0 in
       let holds : held_of t.open_entry word ≡ t.root =
       ap (λ e. held_of e word) entry_open ∙ (λ i r. held_released word from to r (put_at-same t.word from 0) i) ∙ ap (λ b. cond b word t.word) (sym is) ∙ held_all in
-      tables_store_root words from 0 opened.low from_inside slabs ∙ (λ i. record t { word = word; root = holds i })
+      tables_store_root words from 0 opened.low from_place.inside slabs ∙ (λ i. record t { word = word; root = holds i })
   tables_by false is = refl
 
   abbrev made : List ℕ
@@ -154,8 +148,9 @@ module _ (words : List ℕ) (line from to : ℕ) (line_below : line < 8) (may : 
   made_tables = tables_by both refl
 
   made_keeps : KeepsHeap words made
-  made_keeps = keeps made made_near (subst (IsSteady (bounds_of words)) (sym made_tables) (IsSteady-reworded from to steady entry_open behind t.open_entry still))
-      (λ r. ap (λ (x : Tables). heap x r) made_tables ∙ heap-reworded from to steady entry_open behind t.open_entry still r)
+  made_keeps =
+      keeps_as words line line_below own may (root_word from) made (reworded t behind None) (reworded t behind t.open_entry) shut_in made_near made_tables
+      (IsSteady-reworded from to steady entry_open behind t.open_entry still) (heap-reworded from to steady entry_open behind t.open_entry still)
 
   release_keeps : (image : List ℕ) → ReleasesOrNot words from both image → KeepsHeap words image
   release_keeps image left = ⊎_elim
@@ -173,22 +168,13 @@ module _ (words : List ℕ) (line from to : ℕ) (line_below : line < 8) (may : 
         ∙ ap (λ (x : Tables). with_open_entry x None) made_tables
         ∙ (λ i. record t { word = behind; root = held_all i; open_entry = None })
 
-    new_keeps : KeepsHeap words new
-    new_keeps = keeps new new_near (subst (IsSteady (bounds_of words)) (sym new_tables) shut_steady) (λ r. ap (λ (x : Tables). heap x r) new_tables ∙ shut_heap r)
-
     pub move_settled : IsMoveSettled words line from to new
     move_settled = record {
-      settled = record {
-        keeps = new_keeps;
-        rest = new_near.rest;
-        closed = ap (λ (x : Tables). x.open_entry) new_tables;
-        bounds = new_near.bounds;
-        loose = subst (λ (x : Tables). LoosensLeft t x) (sym new_tables) (loosens_left from to steady entry_open behind None shut);
-      };
+      settled = settled_as words line line_below own may (root_word from) new (reworded t behind None) shut_in new_near new_tables (loosens_left from to steady entry_open behind None shut);
       tables = new_tables;
       loose = subst (λ (x : Tables). LoosensNothing t x) (sym new_tables) (loosens_nothing from to steady entry_open behind None shut);
     }
 
   pub move_step : {s u v : PmemState} → IsQuietStep s u (release_events from (both_named words from to)) (ReleasesOrNot words from (both_named words from to)) →
       IsQuietStep u v (word_events (8 * wal_word line) 0) (ClosesOrNot (released words from (both_named words from to)) line) → IsQuietStep s v (move_events words line from to) (KeepsHeap words)
-  move_step putting closing = settle_step words line line_below own may (release_events from both) made putting closing release_keeps made_keeps new_keeps
+  move_step putting closing = settle_step words line line_below own may (release_events from both) made putting closing release_keeps made_keeps (λ image closes. (move_settled image closes).settled.keeps)

@@ -25,10 +25,10 @@ use Rattle.heap_check.specs.State.{IsWordOf}
 use Rattle.heap_check.proofs.BlockWords.{block_word-header}
 use Rattle.heap_check.proofs.Forms.{AreSlabsInHeap-sound}
 use Rattle.heap_check.proofs.Geometry.{index_count_few}
-use Rattle.heap_check.proofs.Sizes.{sizes_of, root_inside}
+use Rattle.heap_check.proofs.Sizes.{sizes_of}
 use Rattle.heap_check.proofs.Geometry.{one_slab}
 use Rattle.attach_steps.specs.declared.block.OldBlock.{OldBlock}
-use Rattle.settle_steps.specs.Settled.{KeepsHeap, LoosensLeft}
+use Rattle.settle_steps.specs.Settled.{KeepsHeap}
 use Rattle.settle_steps.specs.ClassBlocks.{is_named}
 use Rattle.settle_steps.specs.OldBlocks.{entry_put, live_put, old_block_events, IsOpenForOldBlock, IsOldBlockSettled}
 use Rattle.settle_steps.proofs.OneRoot.{changed, IsSettling, IsSteady-settling, heap-settling, loosens_left}
@@ -36,7 +36,7 @@ use Rattle.heap_check.proofs.IndexForms.{IsFormed-put_index}
 use Rattle.settle_steps.proofs.OldTables.{IsSettling-live}
 use Rattle.heap_check.proofs.OldBlock.{old_in}
 use Rattle.settle_steps.proofs.EntrySlabs.{in_slab_old}
-use Rattle.settle_steps.proofs.Images.{IsNear, entry_is, LiesInWords, slab_lies, near_put, near_close, keeps_begin, keeps_near, settle_step}
+use Rattle.settle_steps.proofs.Images.{IsNear, IsShutIn, IsRootPlace, root_place, entry_is, LiesInWords, slab_lies, near_put, near_close, keeps_as, word_keeps, settled_as, settle_step}
 
 -- The old block that an open entry names, in the slab that has its address.
 record IsOldThere (t : Tables) (start at place : ℕ) : Type 0 where
@@ -96,11 +96,8 @@ module _ (words : List ℕ) (line root : ℕ) (block : OldBlock) (line_below : l
   pub place_low : block.place < 64
   place_low = omega (arith, there.below, index_count_few (sound.slabs start may.inside.slab))
 
-  pub old_root_low : root < 2 ^ 16
-  old_root_low = let sizes = sizes_of words may.open_in.image.formed in omega (arith, sizes.roots, placed.rooted)
-
-  pub old_root_inside : root_word root < length words
-  old_root_inside = root_inside words root may.open_in.image.formed placed.rooted
+  pub old_root_there : IsRootPlace words root
+  old_root_there = root_place words root may.open_in.image.formed placed.rooted
 
   -- what is read of the root is what it holds
   pub reads_named_old : (word_at words (root_word root) == block.at) ≡ is_named words root block.at
@@ -132,9 +129,8 @@ module _ (words : List ℕ) (line root : ℕ) (block : OldBlock) (line_below : l
   off : (r : ℕ) (other : Range) (j : ℕ) → heap settled r ≡ Some other → IsWordOf other j → j ≢ index_word block.start block.place
   off r other j is word e = omega (arith, e, block_word-header (IsSteady-settling shut).sound refl r other is j word start may.inside.slab, place_low)
 
-  keeps : (image : List ℕ) → IsNear words line (index_word block.start block.place) image → IsSteady (bounds_of words) (tables_of image) → ((r : ℕ) → heap (tables_of image) r ≡ heap t r) → KeepsHeap words image
-  keeps image near image_steady heaps =
-      keeps_near words line line_below own may.open_in (index_word block.start block.place) image settled (IsSteady-settling shut).sound refl (heap-settling shut) off near image_steady heaps
+  shut_in : IsShutIn words (index_word block.start block.place) settled
+  shut_in = record { steady = IsSteady-settling shut; closed = refl; same = heap-settling shut; off = off }
 
   module _ (over : PutsIndexOver words block.start block.place (entry_put words block (is_named words root block.at))) where
     abbrev k : ℕ
@@ -165,13 +161,7 @@ module _ (words : List ℕ) (line root : ℕ) (block : OldBlock) (line_below : l
     made_tables = (over.each words refl).tables slabs lies.here ∙ (λ i. record t { live = lives; number = put_in-own t.number start block.place i })
 
     made_keeps : KeepsHeap words made
-    made_keeps = keeps made made_near (subst (IsSteady (bounds_of words)) (sym made_tables) (IsSteady-settling still)) (λ r. ap (λ (x : Tables). heap x r) made_tables ∙ heap-settling still r)
-
-    live_keeps : (image : List ℕ) → IsOldOrNewWord words (8 * k) value image → KeepsHeap words image
-    live_keeps image left = ⊎_elim
-        (λ (same : image ≡ words). subst (KeepsHeap words) (sym same) (keeps_begin words line line_below own may.open_in))
-        (λ (put : image ≡ put_word words (8 * k / 8) value). subst (KeepsHeap words) (sym (put ∙ ap (λ i. put_word words i value) (omega arith))) made_keeps)
-        left.is
+    made_keeps = keeps_as words line line_below own may.open_in k made settled (changed t t.bit lives t.open_entry) shut_in made_near made_tables (IsSteady-settling still) (heap-settling still)
 
     module _ (new : List ℕ) (closes : Closes made line new) where
       new_near : IsNear words line k new
@@ -183,18 +173,9 @@ module _ (words : List ℕ) (line root : ℕ) (block : OldBlock) (line_below : l
           ∙ ap (λ (x : Tables). with_open_entry x None) made_tables
           ∙ (λ i. record t { live = lives; root = sym (roots_plain words plain) i; open_entry = None })
 
-      new_keeps : KeepsHeap words new
-      new_keeps = keeps new new_near (subst (IsSteady (bounds_of words)) (sym new_tables) (IsSteady-settling shut)) (λ r. ap (λ (x : Tables). heap x r) new_tables ∙ heap-settling shut r)
-
       pub old_block_settled : IsOldBlockSettled words line root block new
       old_block_settled = record {
-        settled = record {
-          keeps = new_keeps;
-          rest = new_near.rest;
-          closed = ap (λ (x : Tables). x.open_entry) new_tables;
-          bounds = new_near.bounds;
-          loose = subst (λ (x : Tables). LoosensLeft t x) (sym new_tables) (loosens_left shut);
-        };
+        settled = settled_as words line line_below own may.open_in k new settled shut_in new_near new_tables (loosens_left shut);
         tables = new_tables;
       }
 
@@ -202,4 +183,4 @@ module _ (words : List ℕ) (line root : ℕ) (block : OldBlock) (line_below : l
         (IsOldOrNewWord words (8 * index_word block.start block.place) (live_put words block (is_named words root block.at))) →
         IsQuietStep u v (word_events (8 * wal_word line) 0) (ClosesOrNot (put_word words (index_word block.start block.place) (live_put words block (is_named words root block.at))) line) →
         IsQuietStep s v (old_block_events words line root block) (KeepsHeap words)
-    old_block_step putting closing = settle_step words line line_below own may.open_in (word_events (8 * k) value) made putting closing live_keeps made_keeps new_keeps
+    old_block_step putting closing = settle_step words line line_below own may.open_in (word_events (8 * k) value) made putting closing (word_keeps words line line_below own may.open_in k value made_keeps) made_keeps (λ image closes. (old_block_settled image closes).settled.keeps)

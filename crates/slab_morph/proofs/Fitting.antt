@@ -144,16 +144,16 @@ pub record IsRead (h : SlabHeader) (own entries : ℕ) (told : Bool) : Type 0 wh
   pub told_is : IsTrue told ↔ (h.kind ≢ morphing_kind)
   pub valid : IsState h.kind h.class h.old h.index_count
 
-pub read_by : (h : SlabHeader) (state : SlabState) (own entries : ℕ) (told : Bool) → HasState h state → IsValidState state → own ≡ class_of state → entries ≡ entries_of state →
+pub read_by : {h : SlabHeader} {state : SlabState} {own entries : ℕ} {told : Bool} → HasState h state → IsValidState state → own ≡ class_of state → entries ≡ entries_of state →
     IsTrue told ↔ (kind_of state ≢ morphing_kind) → IsRead h own entries told
-read_by h state own entries told is valid class count tells = record {
+read_by {h} {state} {own} {entries} {told} is valid class count tells = record {
   class = class ∙ sym is.class;
   entries_is = count ∙ sym is.entries;
   told_is = subst (λ (k : ℕ). IsTrue told ↔ (k ≢ morphing_kind)) (sym is.kind) tells;
   valid = valid_header h state is valid;
 }
 
-module _ (h : SlabHeader) (start class own entries : ℕ) (told : Bool) (read : IsRead h own entries told) (below : class < 36) where
+module _ {h : SlabHeader} {own entries : ℕ} {told : Bool} (read : IsRead h own entries told) (start class : ℕ) (below : class < 36) where
   -- it has the class already, or an old block lives
   pub none_same : own ≡ class → ¬ (IsFitHeader h start class)
   none_same same fit = fit_differs h start class fit (sym read.class ∙ same)
@@ -187,11 +187,11 @@ module _ (h : SlabHeader) (start class own entries : ℕ) (told : Bool) (read : 
           (subst (λ (d : ℕ). 5 * length (numbers_below h.bit (class_capacity d)) ≤ class_capacity d) read.class sparse)
           (subst (λ (d : ℕ). IsClearOfBits h start d class j) read.class clear)
 
-      pub told_few : IsFitHeader h start class → length (numbers_below h.bit (class_capacity own)) ≤ 64
-      told_few fit = subst (λ (d : ℕ). length (numbers_below h.bit (class_capacity d)) ≤ 64) (sym read.class) (fit_few h start none_live class read_bits fit)
-
-      pub told_sparse : IsFitHeader h start class → 5 * length (numbers_below h.bit (class_capacity own)) ≤ class_capacity own
-      told_sparse fit = subst (λ (d : ℕ). 5 * length (numbers_below h.bit (class_capacity d)) ≤ class_capacity d) (sym read.class) (fit_sparse h start none_live class read_bits fit)
+      pub told_counts : IsFitHeader h start class → (length (numbers_below h.bit (class_capacity own)) ≤ 64) × (5 * length (numbers_below h.bit (class_capacity own)) ≤ class_capacity own)
+      told_counts fit = (
+        subst (λ (d : ℕ). length (numbers_below h.bit (class_capacity d)) ≤ 64) (sym read.class) (fit_few h start none_live class read_bits fit),
+        subst (λ (d : ℕ). 5 * length (numbers_below h.bit (class_capacity d)) ≤ class_capacity d) (sym read.class) (fit_sparse h start none_live class read_bits fit),
+      )
 
       pub told_clear : (fit : IsFitHeader h start class) → IsClearOfBits h start own class fit.number
       told_clear fit = subst (λ (d : ℕ). IsClearOfBits h start d class fit.number) (sym read.class) (fit_clear h start none_live class read_bits fit)

@@ -8,7 +8,7 @@ use Rattle.slab_morph.specs.SlabHeaders.{SlabHeader, header_at, HasState}
 use Rattle.slab_morph.specs.Stages.{numbers_of, set_numbers, IsMorphable}
 use Rattle.slab_morph.proofs.Fitting.{fit_few, fit_differs, valid_header}
 
-module _ (words : List ℕ) (start class own : ℕ) (state : SlabState) (may : IsMorphable words start class) (is : HasState (header_at words start) state) (valid : IsValidState state) (own_class : own ≡ class_of state) where
+module _ {words : List ℕ} {start class own : ℕ} {state : SlabState} (may : IsMorphable words start class) (is : HasState (header_at words start) state) (valid : IsValidState state) (own_class : own ≡ class_of state) where
   abbrev h : SlabHeader
   h = header_at words start
 

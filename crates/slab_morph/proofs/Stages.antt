@@ -7,7 +7,7 @@ use Rattle.pmem_lines.proofs.Images.{then, weaker}
 use Rattle.image_tables.specs.Forms.{normal_kind, morphing_kind, morphed_kind, IsState, IsStateWord, IsIndexWord}
 use Rattle.image_tables.specs.Tables.{state_word, index_word}
 use Rattle.slab_morph.specs.SlabHeaders.{SlabHeader, header_at}
-use Rattle.slab_morph.specs.Stages.{set_numbers, with_no_bit, morphing, finished, settled, IsSameButBits, IsFinishStage, IsMorphStage, IsSettleStage, IsOffHeader, IsOffState, IsOffBitmap, IsOffIndex, HoldSame, IsValidHeader, KeepsHeld}
+use Rattle.slab_morph.specs.Stages.{set_numbers, with_no_bit, morphing, finished, settled, IsSameButBits, IsFinishStage, IsMorphStage, IsSettleStage, IsOffHeader, IsOffState, IsOffBitmap, IsOffIndex, HoldSame, IsValidHeader, KeepsHeld, Changes}
 use Rattle.slab_morph.proofs.HeaderTables.{leaves_by, off_then, off_none}
 use Rattle.slab_morph.proofs.HeaderWords.{header_off_index, header_off_bitmap, off_index, off_bitmap, off_state}
 use Rattle.slab_morph.proofs.Holding.{same_none, same_then, same_index, same_bits, same_finished, same_settled, same_morphing}
@@ -21,6 +21,20 @@ OneOf old new image = (image ≡ old) ⊎ (image ≡ new)
 pub keeps_by : (words image : List ℕ) (start : ℕ) (Stage : SlabHeader → Type 0) → IsOffHeader words start image → Stage (header_at image start) → HoldSame start (header_at words start) (header_at image start) →
     (IsValidHeader words start → IsValidHeader image start) → KeepsHeld words start Stage image
 keeps_by words image start Stage off stage held valid = record { left = leaves_by words image start Stage off stage; held = held; valid = valid; all_held = all_hold_same words image start off held }
+
+-- where the header changes in this way
+pub keeps_changed : {words image : List ℕ} {start : ℕ} {change : SlabHeader → SlabHeader} → Changes words image start change → HoldSame start (header_at words start) (header_at image start) → (IsValidHeader words start → IsValidHeader image start) →
+    KeepsHeld words start (λ (g : SlabHeader). g ≡ change (header_at words start)) image
+keeps_changed {words} {image} {start} {change} done held valid = keeps_by words image start (λ (g : SlabHeader). g ≡ change (header_at words start)) done.off done.header held valid
+
+-- what is said of the header, said more widely
+pub keeps_wider : {words : List ℕ} {start : ℕ} {Stage Wider : SlabHeader → Type 0} {image : List ℕ} → ((h : SlabHeader) → Stage h → Wider h) → KeepsHeld words start Stage image → KeepsHeld words start Wider image
+keeps_wider {words} {start} {Stage} {Wider} {image} implies kept = record {
+  left = record { off = kept.left.off; header = implies (header_at image start) kept.left.header; tables = kept.left.tables };
+  held = kept.held;
+  valid = kept.valid;
+  all_held = kept.all_held;
+}
 
 -- a header that is this one
 keeps_is : (words image : List ℕ) (start : ℕ) (Stage : SlabHeader → Type 0) (g : SlabHeader) → IsOffHeader words start image → header_at image start ≡ g → Stage g → HoldSame start (header_at words start) g →

@@ -1,10 +1,10 @@
 -- When a block of its class in a slab is unused, by its bit and by the live old blocks.
-use Rattle.std.proofs.Common.{◌≡◌, ◌≢◌, ◌↔◌, IsTrue, Bool, List, ◌<◌, ◌≤◌, ℕ, true, false, true≢false, refl, sym, ap, subst, ◌∙◌, arith, inl, inr, ⊎_elim}
+use Rattle.std.proofs.Common.{◌≡◌, ◌≢◌, ◌↔◌, IsTrue, Bool, List, ◌/◌, ◌<◌, ◌≤◌, ℕ, true, false, true≢false, refl, sym, ap, subst, ◌∙◌, arith, inl, inr, ⊎_elim}
 use Rattle.std.proofs.lemmas.Bool.{cases_lt, false_from_ne_true}
 use Rattle.size_classes.specs.Classes.{class_size, class_capacity}
 use Rattle.size_classes.proofs.Spacing.{class_size-least}
 use Rattle.image_tables.specs.Forms.{morphing_kind}
-use Rattle.image_tables.specs.Tables.{Tables, is_slab, tables_of}
+use Rattle.image_tables.specs.Tables.{Tables, tables_of}
 use Rattle.image_tables.proofs.Tables.{slab_table}
 use Rattle.slab_header.specs.declared.state.SlabState.{SlabState}
 use Rattle.slab_header.specs.State.{kind_of, class_of, old_of, entries_of}
@@ -13,7 +13,7 @@ use Rattle.heap_check.specs.Heap.{HoldsBit, HoldsOld, IsUnusedIn}
 use Rattle.heap_check.specs.Sound.{IsValidSlab}
 use Rattle.heap_check.proofs.Small.{blocks_apart}
 use Rattle.slab_morph.specs.Overlaps.{IsCoveredRange}
-use Rattle.slab_morph.specs.SlabHeaders.{SlabHeader, header_at, HasState}
+use Rattle.slab_morph.specs.SlabHeaders.{SlabHeader, header_at, HasState, IsSlabHere}
 use Rattle.slab_morph.proofs.HeaderTables.{header_of-slab}
 
 module _ (t : Tables) (start number : ℕ) (slab : t.slab start ≡ true) (valid : IsValidSlab t start) (below : number < class_capacity (t.class start)) where
@@ -59,10 +59,11 @@ pub record IsRead (words : List ℕ) (start class old entries : ℕ) (reads : Bo
   pub number_is : (place : ℕ) → (header_at words start).number place ≡ (tables_of words).number start place
   pub reads_is : IsTrue reads ↔ ((tables_of words).kind start ≢ morphing_kind)
 
-pub IsRead_by : (words : List ℕ) (start class old entries : ℕ) (reads : Bool) (state : SlabState) → is_slab words start ≡ true → HasState (header_at words start) state → class ≡ class_of state → old ≡ old_of state → entries ≡ entries_of state →
-    IsTrue reads ↔ (kind_of state ≢ morphing_kind) → IsRead words start class old entries reads
-IsRead_by words start class old entries reads state there says class_is old_is entries_is reads_is =
-    let same = sym (header_of-slab words start there) in
+pub IsRead_by : {words : List ℕ} {slab class old entries : ℕ} {reads : Bool} {state : SlabState} → IsSlabHere words slab → HasState (header_at words (slab / 16384)) state → class ≡ class_of state → old ≡ old_of state → entries ≡ entries_of state →
+    IsTrue reads ↔ (kind_of state ≢ morphing_kind) → IsRead words (slab / 16384) class old entries reads
+IsRead_by {words} {slab} {class} {old} {entries} {reads} {state} here says class_is old_is entries_is reads_is =
+    let start = slab / 16384 in
+    let same = sym (header_of-slab words start here.there) in
     let kind : kind_of state ≡ (tables_of words).kind start = sym says.kind ∙ ap (λ (h : SlabHeader). h.kind) same in
     record {
       class_is = class_is ∙ sym says.class ∙ ap (λ (h : SlabHeader). h.class) same;
@@ -75,32 +76,37 @@ IsRead_by words start class old entries reads state there says class_is old_is e
     }
 
 -- the answer: neither marked nor covered
-module _ (words : List ℕ) (start class old entries number : ℕ) (reads : Bool) (read : IsRead words start class old entries reads) (there : is_slab words start ≡ true) (valid : IsValidSlab (tables_of words) start)
-    (below : number < class_capacity ((tables_of words).class start)) where
+module _ {words : List ℕ} {slab class old entries : ℕ} {reads : Bool} (here : IsSlabHere words slab) (read : IsRead words (slab / 16384) class old entries reads) (number : ℕ) (below : number < class_capacity ((tables_of words).class (slab / 16384))) where
   abbrev t : Tables
   t = tables_of words
 
-  slab : t.slab start ≡ true
-  slab = slab_table words start ∙ there
+  abbrev start : ℕ
+  start = slab / 16384
+
+  valid : IsValidSlab (tables_of words) (slab / 16384)
+  valid = here.valid
+
+  there : t.slab start ≡ true
+  there = slab_table words start ∙ here.there
 
   -- a range of the slab, by what is read and by its tables
   ranges : (place : ℕ) → AreApart (slab_block start old ((header_at words start).number place)) (slab_block start class number) ≡ AreApart (slab_block start (t.old start) (t.number start place)) (slab_block start (t.class start) number)
   ranges place = λ i. AreApart (slab_block start (read.old_is i) (read.number_is place i)) (slab_block start (read.class_is i) number)
 
-  pub small_numbers : (place : ℕ) → place < entries → (header_at words start).number place < class_capacity old
+  pub small_numbers : (place : ℕ) → place < entries → (header_at words (slab / 16384)).number place < class_capacity old
   small_numbers place under =
       subst (λ n. n < class_capacity old) (sym (read.number_is place)) (subst (λ c. t.number start place < class_capacity c) (sym read.old_is) (valid.small place (subst (λ n. place < n) read.entries_is under)))
 
-  pub unused_read : ¬ (IsTrue reads × ((header_at words start).bit number ≡ true)) →
-      ((place : ℕ) → place < entries → (header_at words start).live place ≡ true → AreApart (slab_block start old ((header_at words start).number place)) (slab_block start class number)) → IsUnusedIn (tables_of words) start ((tables_of words).class start) number
-  unused_read unmarked apart = unused_by t start number slab valid below
+  pub unused_read : ¬ (IsTrue reads × ((header_at words (slab / 16384)).bit number ≡ true)) →
+      ((place : ℕ) → place < entries → (header_at words (slab / 16384)).live place ≡ true → AreApart (slab_block (slab / 16384) old ((header_at words (slab / 16384)).number place)) (slab_block (slab / 16384) class number)) → IsUnusedIn (tables_of words) (slab / 16384) ((tables_of words).class (slab / 16384)) number
+  unused_read unmarked apart = unused_by t start number there valid below
       (λ calm. false_from_ne_true (t.bit start number) (λ set. unmarked (read.reads_is.1 calm, read.bit_is number ∙ set)))
       (λ place under live. subst (λ (T : Type 0). T) (ranges place) (apart place (subst (λ n. place < n) (sym read.entries_is) under) (read.live_is place ∙ live)))
 
-  pub used_marked : IsTrue reads × ((header_at words start).bit number ≡ true) → ¬ (IsUnusedIn (tables_of words) start ((tables_of words).class start) number)
-  used_marked both = used_by_bit t start number slab valid below (read.reads_is.0 both.0) (sym (read.bit_is number) ∙ both.1)
+  pub used_marked : IsTrue reads × ((header_at words (slab / 16384)).bit number ≡ true) → ¬ (IsUnusedIn (tables_of words) (slab / 16384) ((tables_of words).class (slab / 16384)) number)
+  used_marked both = used_by_bit t start number there valid below (read.reads_is.0 both.0) (sym (read.bit_is number) ∙ both.1)
 
-  pub used_covered : (place : ℕ) → place < entries → (header_at words start).live place ≡ true → ¬ (AreApart (slab_block start old ((header_at words start).number place)) (slab_block start class number)) →
-      ¬ (IsUnusedIn (tables_of words) start ((tables_of words).class start) number)
-  used_covered place under live overlap = used_by_old t start number slab valid below place (subst (λ n. place < n) read.entries_is under) (sym (read.live_is place) ∙ live)
+  pub used_covered : (place : ℕ) → place < entries → (header_at words (slab / 16384)).live place ≡ true → ¬ (AreApart (slab_block (slab / 16384) old ((header_at words (slab / 16384)).number place)) (slab_block (slab / 16384) class number)) →
+      ¬ (IsUnusedIn (tables_of words) (slab / 16384) ((tables_of words).class (slab / 16384)) number)
+  used_covered place under live overlap = used_by_old t start number there valid below place (subst (λ n. place < n) read.entries_is under) (sym (read.live_is place) ∙ live)
       (λ apart. overlap (subst (λ (T : Type 0). T) (sym (ranges place)) apart))

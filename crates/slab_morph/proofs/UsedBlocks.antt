@@ -1,14 +1,13 @@
 -- The set of the blocks of a slab that are not unused, and what is read of the slab's header.
-use Rattle.std.proofs.Common.{◌≡◌, ◌⊎◌, ◌↔◌, IsTrue, Bool, List, ◌+◌, ◌<◌, ◌≤◌, ℕ, true, false, true≢false, sym, subst, ◌∙◌, arith, inl, inr, ⊎_elim}
+use Rattle.std.proofs.Common.{◌≡◌, ◌⊎◌, ◌↔◌, IsTrue, Bool, List, ◌+◌, ◌/◌, ◌<◌, ◌≤◌, ℕ, true, false, true≢false, sym, subst, ◌∙◌, arith, inl, inr, ⊎_elim}
 use Rattle.std.proofs.lemmas.Bool.{cases_lt, cases_Bool}
 use Rattle.size_classes.specs.Classes.{class_capacity}
 use Rattle.bit_words.specs.Numbers.{has}
-use Rattle.image_tables.specs.Tables.{is_slab, tables_of}
+use Rattle.image_tables.specs.Tables.{tables_of}
 use Rattle.heap_model.specs.Machine.{AreApart, slab_block}
 use Rattle.heap_check.specs.Heap.{IsUnusedIn}
-use Rattle.heap_check.specs.Sound.{IsValidSlab}
 use Rattle.slab_morph.specs.Overlaps.{IsCoveredRange}
-use Rattle.slab_morph.specs.SlabHeaders.{SlabHeader, header_at}
+use Rattle.slab_morph.specs.SlabHeaders.{SlabHeader, header_at, IsSlabHere}
 use Rattle.slab_morph.proofs.UnusedBlocks.{IsRead, unused_read, used_marked, used_covered}
 
 -- a live old block at one of the first n places overlaps the block
@@ -62,15 +61,15 @@ used_next {h} {start} {old} {class} {n} {from} {end} {reads} {set} {new} range i
     out_of i none = ⊎_elim (λ in_range. absurd (true≢false (sym (inside i in_range.0 in_range.1) ∙ none))) (λ out. out) (cases_range i)
 
 -- at all places that are read
-pub used_all : (words : List ℕ) (start class old entries n : ℕ) (reads : Bool) (set : List ℕ) → IsRead words start class old entries reads → is_slab words start ≡ true → IsValidSlab (tables_of words) start → n ≡ entries →
-    AreUsed (header_at words start) start old class reads n set → (i : ℕ) → i < class_capacity ((tables_of words).class start) → (has set i ≡ false) ↔ IsUnusedIn (tables_of words) start ((tables_of words).class start) i
-used_all words start class old entries n reads set read there valid all used i below =
+pub used_all : {words : List ℕ} {slab class old entries : ℕ} {reads : Bool} (n : ℕ) (set : List ℕ) → IsSlabHere words slab → IsRead words (slab / 16384) class old entries reads → n ≡ entries →
+    AreUsed (header_at words (slab / 16384)) (slab / 16384) old class reads n set → (i : ℕ) → i < class_capacity ((tables_of words).class (slab / 16384)) → (has set i ≡ false) ↔ IsUnusedIn (tables_of words) (slab / 16384) ((tables_of words).class (slab / 16384)) i
+used_all {words} {slab} {class} {old} n set here read all used i below =
     let within : i < class_capacity class = subst (λ c. i < class_capacity c) (sym read.class_is) below in (
-      λ none. unused_read words start class old entries i reads read there valid below (used.unmarked i within none) (λ place under. used.apart i within none place (omega (arith, all, under))),
+      λ none. unused_read here read i below (used.unmarked i within none) (λ place under. used.apart i within none place (omega (arith, all, under))),
       λ unused. ⊎_elim
           (λ is. absurd (⊎_elim
-          (λ marked. used_marked words start class old entries i reads read there valid below marked unused)
-          (λ (covered : IsCovered (header_at words start) start old class n i). used_covered words start class old entries i reads read there valid below covered.place (omega (arith, all, covered.below)) covered.live covered.overlap unused)
+          (λ marked. used_marked here read i below marked unused)
+          (λ (covered : IsCovered (header_at words (slab / 16384)) (slab / 16384) old class n i). used_covered here read i below covered.place (omega (arith, all, covered.below)) covered.live covered.overlap unused)
           (used.some i within is)))
           (λ none. none)
           (cases_Bool (has set i)),

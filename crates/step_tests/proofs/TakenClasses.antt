@@ -45,4 +45,4 @@ module _ (words : List ℕ) (start word : ℕ) (state : SlabState) (here : word 
         record { valid = valid; normal = has.kind ∙ ap kind_of normal; some = omega (arith, among.below); fit = fit }
 
     pub takes_few : morph_count (header_at words start) ≤ 152
-    takes_few = omega (arith, few_set words start class own state may_take has form.valid (sym (ap class_of normal)))
+    takes_few = omega (arith, few_set may_take has form.valid (sym (ap class_of normal)))

@@ -38,14 +38,14 @@ put_own t start i = record t {
   number = put_at-own t.number start i;
 }
 
-module _ (words : List ℕ) (start : ℕ) (may : IsEndable words start) where
+module _ {words : List ℕ} {start : ℕ} (may : IsEndable words start) where
   abbrev t : Tables
   t = tables_of words
 
   sound : IsSound (bounds_of words) t
   sound = may.image.sound
 
-  header_is : header_of t start ≡ header_at words start
+  pub header_is : header_of (tables_of words) start ≡ header_at words start
   header_is = header_here words start may.image.formed sound may.here.slab
 
   slabs : AreSlabsInHeap words

@@ -42,14 +42,14 @@ put_same t start g same i = record t {
   number = (ap (put_at t.number start) same.number ∙ put_at-own t.number start) i;
 }
 
-module _ (words : List ℕ) (start : ℕ) (may : IsInMorphing words start) where
+module _ {words : List ℕ} {start : ℕ} (may : IsInMorphing words start) where
   abbrev t : Tables
   t = tables_of words
 
   sound : IsSound (bounds_of words) t
   sound = may.image.steady.sound
 
-  header_is : header_of t start ≡ header_at words start
+  pub header_is : header_of (tables_of words) start ≡ header_at words start
   header_is = header_here words start may.image.formed sound may.here.slab
 
   pub on_its_way : IsOnItsWay words start

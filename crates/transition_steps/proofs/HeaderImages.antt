@@ -1,7 +1,11 @@
--- Words of one slab's header differ: the form of the words, the numbers of the arena, and the words of blocks.
-use Rattle.std.proofs.Common.{◌≡◌, ◌≢◌, ◌+◌, ◌*◌, ◌<◌, ◌≤◌, ℕ, true, List, sym, ap, subst, ◌∙◌, arith, inl, inr, ⊎_elim}
+-- Words of one slab's header differ: the form of the words, the numbers of the arena, and the words of blocks. And a step on
+-- the header, by the granule at which the slab begins.
+use Rattle.std.proofs.Common.{◌≡◌, ◌≢◌, ◌+◌, ◌*◌, ◌/◌, ◌<◌, ◌≤◌, ℕ, true, List, sym, ap, subst, ◌∙◌, arith, inl, inr, ⊎_elim}
 use Rattle.std.proofs.lemmas.Bool.{cases_eq, cases_lt}
 use Rattle.pmem_lines.specs.Words.{word_at}
+use Rattle.pmem_lines.specs.declared.event.Event.{Event}
+use Rattle.pmem_lines.specs.Pmem.{PmemState}
+use Rattle.pmem_lines.specs.Steps.{IsQuietStep}
 use Rattle.pool_layout.specs.Places.{text_word, fields_word, wal_word, granule_word, blocks_place}
 use Rattle.pool_layout.specs.Header.{granules_field, version_in, granules_in}
 use Rattle.image_tables.specs.Forms.{IsIndexWord}
@@ -18,10 +22,25 @@ use Rattle.heap_check.specs.State.{KeepsBlocks}
 use Rattle.heap_check.proofs.Forms.{AreSlabsInHeap-sound, IsHeader-same, HasWal-same, bounds_of-same}
 use Rattle.heap_check.proofs.StateWords.{IsStateWord-valid}
 use Rattle.slab_morph.specs.SlabHeaders.{SlabHeader, header_at, header_of, alone}
-use Rattle.slab_morph.specs.Stages.{IsOffHeader, IsValidHeader}
+use Rattle.slab_morph.specs.Stages.{IsOffHeader, IsValidHeader, KeepsHeld}
 use Rattle.slab_morph.proofs.HeaderTables.{header_of-slab}
 use Rattle.settle_steps.proofs.Images.{LiesInWords, slab_lies, few_entries}
 use Rattle.transition_steps.proofs.BlockPlaces.{word_off_header}
+
+-- the granule of a slab's first byte
+pub granule_is : {at start : ℕ} → at ≡ 8 * granule_word start → at / 16384 ≡ start
+granule_is is = omega (arith, is)
+
+-- a step on the header of the slab at a byte, by the slab's granule and by what the tables say of the header
+pub step_here : {s t : PmemState} {words : List ℕ} (events : ℕ → SlabHeader → List Event) (Stage : SlabHeader → SlabHeader → Type 0) {at start : ℕ} {h : SlabHeader} → at ≡ start → h ≡ header_at words start →
+    IsQuietStep s t (events at (header_at words at)) (KeepsHeld words at (Stage (header_at words at))) → IsQuietStep s t (events start h) (KeepsHeld words start (Stage (header_at words start)))
+step_here {s} {t} {words} events Stage {at} {start} {h} there here step =
+    subst (λ (g : SlabHeader). IsQuietStep s t (events start g) (KeepsHeld words start (Stage (header_at words start)))) (sym here)
+    (subst (λ a. IsQuietStep s t (events a (header_at words a)) (KeepsHeld words a (Stage (header_at words a)))) there step)
+
+-- and what it leaves
+pub kept_here : {words new : List ℕ} (Stage : SlabHeader → SlabHeader → Type 0) {at start : ℕ} → at ≡ start → KeepsHeld words at (Stage (header_at words at)) new → KeepsHeld words start (Stage (header_at words start)) new
+kept_here {words} {new} Stage there kept = subst (λ a. KeepsHeld words a (Stage (header_at words a)) new) there kept
 
 -- the header of a slab of well-formed words, whose tables are valid, is
 valid_here : (words : List ℕ) (start : ℕ) → is_slab words start ≡ true → HasSlabHeader words start → IsValidSlab (tables_of words) start → IsValidHeader words start

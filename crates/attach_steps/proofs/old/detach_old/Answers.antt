@@ -8,31 +8,25 @@ use Rattle.image_tables.proofs.Tables.{slab_table, number_table}
 use Rattle.slab_header.specs.Index.{word_of_index}
 use Rattle.slab_header.specs.Steps.{PutsIndexOver}
 use Rattle.attach_steps.proofs.Stages.{root_low, inside}
-use Rattle.attach_steps.proofs.OldBlocks.{old_site, place_low, IsSite-old, detached_old, detach_old_step}
+use Rattle.attach_steps.proofs.OldBlocks.{place_low, IsSite-old, detached_old, detach_old_step}
 use Rattle.attach_steps.proofs.old.detach_old.Given as given
 use Rattle.attach_steps.proofs.old.detach_old.Goals as goal
 
 pub write_entry-requires-clause-entry : goal.write_entry-requires-clause-entry
 write_entry-requires-clause-entry g c =
-    let words = words_of (g.P.Pmem.state c.args.p.now) in
-    let root = c.args.root in
-    let block = c.args.block in
-    let is = IsSite-old words c.args.line root block c.requires.detachable c.requires.line in
-    (omega (arith, root_low words c.args.line root (old_site (tables_of words) root block) is c.requires.line), place_low words c.args.line root block c.requires.detachable c.requires.line, λ never. absurd (cc))
+    let low = root_low _ _ _ _ (IsSite-old c.requires.detachable c.requires.line) c.requires.line in
+    (omega (arith, low), place_low c.requires.detachable c.requires.line, λ never. absurd (cc))
 
 pub bury-requires-clause-inside : goal.bury-requires-clause-inside
 bury-requires-clause-inside g c =
-    let state = g.P.Pmem.state in
-    let words = words_of (state c.args.p.now) in
-    let is = IsSite-old words c.args.line c.args.root c.args.block c.requires.detachable c.requires.line in
-    inside words c.args.line c.args.root (old_site (tables_of words) c.args.root c.args.block) is c.requires.line (words_of (state c.write_entry.new.device)) c.write_entry.ensures.step.appends.size
+    inside _ _ _ _ (IsSite-old c.requires.detachable c.requires.line) c.requires.line (words_of (g.P.Pmem.state c.write_entry.new.device)) c.write_entry.ensures.step.appends.size
 
 -- what is read of the entry is its number
 number : (g : given.Over) (c : goal.After-close_entry g) → c.old_number-number.result ≡ (tables_of (words_of (g.P.Pmem.state c.args.p.now))).number c.args.block.start c.args.block.place
 number g c =
     let words = words_of (g.P.Pmem.state c.args.p.now) in
     let slab = sym (slab_table words c.args.block.start) ∙ c.requires.detachable.slab in
-    c.old_number-number.ensures ∙ sym (number_table words c.args.block.start c.args.block.place slab (place_low words c.args.line c.args.root c.args.block c.requires.detachable c.requires.line))
+    c.old_number-number.ensures ∙ sym (number_table words c.args.block.start c.args.block.place slab (place_low c.requires.detachable c.requires.line))
 
 over : (g : given.Over) (c : goal.After-close_entry g) →
     PutsIndexOver (words_of (g.P.Pmem.state c.write_entry.new.device)) c.args.block.start c.args.block.place (record { live = false; number = (tables_of (words_of (g.P.Pmem.state c.args.p.now))).number c.args.block.start c.args.block.place })
@@ -54,15 +48,9 @@ putting g c =
 
 pub returns-clause-detached : goal.returns-clause-detached
 returns-clause-detached g c =
-    let state = g.P.Pmem.state in
-    detached_old (words_of (state c.args.p.now)) c.args.line c.args.root c.args.block c.requires.detachable c.requires.line
-    (words_of (state c.write_entry.new.device)) (words_of (state c.bury.new.p)) (words_of (state c.close_entry.new.device))
-    c.write_entry.ensures.opens c.write_entry.ensures.step.appends.size (over g c) (putting g c).appends.words c.close_entry.ensures.closes
+    detached_old c.requires.detachable c.requires.line c.write_entry.ensures.opens c.write_entry.ensures.step.appends.size (over g c) (putting g c).appends.words c.close_entry.ensures.closes
 
 pub returns-clause-step : goal.returns-clause-step
 returns-clause-step g c =
-    let state = g.P.Pmem.state in
-    detach_old_step (words_of (state c.args.p.now)) c.args.line c.args.root c.args.block c.requires.detachable c.requires.line
-    (words_of (state c.write_entry.new.device)) (words_of (state c.bury.new.p)) (words_of (state c.close_entry.new.device))
-    c.write_entry.ensures.opens c.write_entry.ensures.step.appends.size (over g c) (putting g c).appends.words c.close_entry.ensures.closes
+    detach_old_step c.requires.detachable c.requires.line c.write_entry.ensures.opens c.write_entry.ensures.step.appends.size (over g c) (putting g c).appends.words c.close_entry.ensures.closes
     c.write_entry.ensures.step (putting g c) c.close_entry.ensures.step

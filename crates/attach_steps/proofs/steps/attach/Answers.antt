@@ -4,30 +4,25 @@ use Rattle.pmem_lines.specs.Steps.{IsQuietStep}
 use Rattle.durable_steps.specs.Steps.{word_events}
 use Rattle.pool_layout.specs.Places.{wal_word}
 use Rattle.image_tables.specs.declared.entry.WalEntry.{WalEntry}
-use Rattle.image_tables.specs.Tables.{tables_of}
 use Rattle.attach_wal.specs.Entry.{entry_word, FitsWord}
 use Rattle.attach_wal.specs.Wal.{Opens, OpensOrNot}
 use Rattle.attach_steps.specs.Steps.{entry_for}
 use Rattle.attach_steps.proofs.Stages.{root_low, inside}
-use Rattle.attach_steps.proofs.ClassBlocks.{class_site, number_low, coming, attached, attach_step}
+use Rattle.attach_steps.proofs.ClassBlocks.{number_low, coming, attached, attach_step}
 use Rattle.attach_steps.proofs.steps.attach.Given as given
 use Rattle.attach_steps.proofs.steps.attach.Goals as goal
 
 pub write_entry-requires-clause-entry : goal.write_entry-requires-clause-entry
 write_entry-requires-clause-entry g c =
-    let words = words_of (g.P.Pmem.state c.args.p.now) in
-    let low = root_low words c.args.line c.args.root (class_site (tables_of words) c.args.root c.args.block) (coming words c.args.line c.args.root c.args.block c.requires.attachable c.requires.line) c.requires.line in
+    let low = root_low _ _ _ _ (coming c.requires.attachable c.requires.line) c.requires.line in
     subst FitsWord (sym c.entry_for.ensures) (omega (arith, low), omega arith, λ new. refl)
 
 pub mark-requires-clause-inside : goal.mark-requires-clause-inside
 mark-requires-clause-inside g c =
-    let state = g.P.Pmem.state in
-    let words = words_of (state c.args.p.now) in
-    inside words c.args.line c.args.root (class_site (tables_of words) c.args.root c.args.block) (coming words c.args.line c.args.root c.args.block c.requires.attachable c.requires.line) c.requires.line
-    (words_of (state c.write_entry.new.device)) c.write_entry.ensures.step.appends.size
+    inside _ _ _ _ (coming c.requires.attachable c.requires.line) c.requires.line (words_of (g.P.Pmem.state c.write_entry.new.device)) c.write_entry.ensures.step.appends.size
 
 pub mark-requires-clause-number : goal.mark-requires-clause-number
-mark-requires-clause-number g c = number_low (words_of (g.P.Pmem.state c.args.p.now)) c.args.root c.args.block c.requires.attachable.block_in
+mark-requires-clause-number g c = number_low _ _ _ c.requires.attachable.block_in
 
 -- the entry is open
 opens : (g : given.Over) (c : goal.After-close_entry g) → Opens (words_of (g.P.Pmem.state c.args.p.now)) c.args.line (entry_for c.args.root c.args.block) (words_of (g.P.Pmem.state c.write_entry.new.device))
@@ -35,18 +30,11 @@ opens g c =
     subst (λ (e : WalEntry). Opens (words_of (g.P.Pmem.state c.args.p.now)) c.args.line e (words_of (g.P.Pmem.state c.write_entry.new.device))) c.entry_for.ensures c.write_entry.ensures.opens
 
 pub returns-clause-attached : goal.returns-clause-attached
-returns-clause-attached g c =
-    let state = g.P.Pmem.state in
-    attached (words_of (state c.args.p.now)) c.args.line c.args.root c.args.block c.requires.attachable c.requires.line
-    (words_of (state c.write_entry.new.device)) (words_of (state c.mark.new.p)) (words_of (state c.close_entry.new.device))
-    (opens g c) c.mark.ensures.over c.mark.ensures.step.appends.words c.close_entry.ensures.closes
+returns-clause-attached g c = attached c.requires.attachable c.requires.line (opens g c) c.mark.ensures.over c.mark.ensures.step.appends.words c.close_entry.ensures.closes
 
 pub returns-clause-step : goal.returns-clause-step
 returns-clause-step g c =
     let state = g.P.Pmem.state in
-    let words = words_of (state c.args.p.now) in
-    attach_step words c.args.line c.args.root c.args.block c.requires.attachable c.requires.line
-    (words_of (state c.write_entry.new.device)) (words_of (state c.mark.new.p)) (words_of (state c.close_entry.new.device))
-    (opens g c) c.mark.ensures.over c.mark.ensures.step.appends.words c.close_entry.ensures.closes
-    (subst (λ (e : WalEntry). IsQuietStep (state c.args.p.now) (state c.write_entry.new.device) (word_events (8 * wal_word c.args.line) (entry_word e)) (OpensOrNot words c.args.line e)) c.entry_for.ensures c.write_entry.ensures.step)
-    c.mark.ensures.step c.close_entry.ensures.step
+    let opening = λ (e : WalEntry). IsQuietStep (state c.args.p.now) (state c.write_entry.new.device) (word_events (8 * wal_word c.args.line) (entry_word e)) (OpensOrNot (words_of (state c.args.p.now)) c.args.line e) in
+    attach_step c.requires.attachable c.requires.line (opens g c) c.mark.ensures.over c.mark.ensures.step.appends.words c.close_entry.ensures.closes
+    (subst opening c.entry_for.ensures c.write_entry.ensures.step) c.mark.ensures.step c.close_entry.ensures.step

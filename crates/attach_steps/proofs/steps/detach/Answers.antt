@@ -4,30 +4,25 @@ use Rattle.pmem_lines.specs.Steps.{IsQuietStep}
 use Rattle.durable_steps.specs.Steps.{word_events}
 use Rattle.pool_layout.specs.Places.{wal_word}
 use Rattle.image_tables.specs.declared.entry.WalEntry.{WalEntry}
-use Rattle.image_tables.specs.Tables.{tables_of}
 use Rattle.attach_wal.specs.Entry.{entry_word, FitsWord}
 use Rattle.attach_wal.specs.Wal.{Opens, OpensOrNot}
 use Rattle.attach_steps.specs.Steps.{entry_for}
 use Rattle.attach_steps.proofs.Stages.{root_low, inside}
-use Rattle.attach_steps.proofs.ClassBlocks.{class_site, number_low, going, detached, detach_step}
+use Rattle.attach_steps.proofs.ClassBlocks.{number_low, going, detached, detach_step}
 use Rattle.attach_steps.proofs.steps.detach.Given as given
 use Rattle.attach_steps.proofs.steps.detach.Goals as goal
 
 pub write_entry-requires-clause-entry : goal.write_entry-requires-clause-entry
 write_entry-requires-clause-entry g c =
-    let words = words_of (g.P.Pmem.state c.args.p.now) in
-    let low = root_low words c.args.line c.args.root (class_site (tables_of words) c.args.root c.args.block) (going words c.args.line c.args.root c.args.block c.requires.detachable c.requires.line) c.requires.line in
+    let low = root_low _ _ _ _ (going c.requires.detachable c.requires.line) c.requires.line in
     subst FitsWord (sym c.entry_for.ensures) (omega (arith, low), omega arith, λ new. refl)
 
 pub unmark-requires-clause-inside : goal.unmark-requires-clause-inside
 unmark-requires-clause-inside g c =
-    let state = g.P.Pmem.state in
-    let words = words_of (state c.args.p.now) in
-    inside words c.args.line c.args.root (class_site (tables_of words) c.args.root c.args.block) (going words c.args.line c.args.root c.args.block c.requires.detachable c.requires.line) c.requires.line
-    (words_of (state c.write_entry.new.device)) c.write_entry.ensures.step.appends.size
+    inside _ _ _ _ (going c.requires.detachable c.requires.line) c.requires.line (words_of (g.P.Pmem.state c.write_entry.new.device)) c.write_entry.ensures.step.appends.size
 
 pub unmark-requires-clause-number : goal.unmark-requires-clause-number
-unmark-requires-clause-number g c = number_low (words_of (g.P.Pmem.state c.args.p.now)) c.args.root c.args.block c.requires.detachable.block_in
+unmark-requires-clause-number g c = number_low _ _ _ c.requires.detachable.block_in
 
 -- the entry is open
 opens : (g : given.Over) (c : goal.After-close_entry g) → Opens (words_of (g.P.Pmem.state c.args.p.now)) c.args.line (entry_for c.args.root c.args.block) (words_of (g.P.Pmem.state c.write_entry.new.device))
@@ -35,18 +30,11 @@ opens g c =
     subst (λ (e : WalEntry). Opens (words_of (g.P.Pmem.state c.args.p.now)) c.args.line e (words_of (g.P.Pmem.state c.write_entry.new.device))) c.entry_for.ensures c.write_entry.ensures.opens
 
 pub returns-clause-detached : goal.returns-clause-detached
-returns-clause-detached g c =
-    let state = g.P.Pmem.state in
-    detached (words_of (state c.args.p.now)) c.args.line c.args.root c.args.block c.requires.detachable c.requires.line
-    (words_of (state c.write_entry.new.device)) (words_of (state c.unmark.new.p)) (words_of (state c.close_entry.new.device))
-    (opens g c) c.unmark.ensures.over c.unmark.ensures.step.appends.words c.close_entry.ensures.closes
+returns-clause-detached g c = detached c.requires.detachable c.requires.line (opens g c) c.unmark.ensures.over c.unmark.ensures.step.appends.words c.close_entry.ensures.closes
 
 pub returns-clause-step : goal.returns-clause-step
 returns-clause-step g c =
     let state = g.P.Pmem.state in
-    let words = words_of (state c.args.p.now) in
-    detach_step words c.args.line c.args.root c.args.block c.requires.detachable c.requires.line
-    (words_of (state c.write_entry.new.device)) (words_of (state c.unmark.new.p)) (words_of (state c.close_entry.new.device))
-    (opens g c) c.unmark.ensures.over c.unmark.ensures.step.appends.words c.close_entry.ensures.closes
-    (subst (λ (e : WalEntry). IsQuietStep (state c.args.p.now) (state c.write_entry.new.device) (word_events (8 * wal_word c.args.line) (entry_word e)) (OpensOrNot words c.args.line e)) c.entry_for.ensures c.write_entry.ensures.step)
-    c.unmark.ensures.step c.close_entry.ensures.step
+    let opening = λ (e : WalEntry). IsQuietStep (state c.args.p.now) (state c.write_entry.new.device) (word_events (8 * wal_word c.args.line) (entry_word e)) (OpensOrNot (words_of (state c.args.p.now)) c.args.line e) in
+    detach_step c.requires.detachable c.requires.line (opens g c) c.unmark.ensures.over c.unmark.ensures.step.appends.words c.close_entry.ensures.closes
+    (subst opening c.entry_for.ensures c.write_entry.ensures.step) c.unmark.ensures.step c.close_entry.ensures.step

@@ -1,6 +1,6 @@
-use Rattle.std.proofs.Common.{◌-◌, subst, arith}
+use Rattle.std.proofs.Common.{arith}
 use Rattle.image_tables.specs.Tables.{tables_of}
-use Rattle.image_reading.proofs.Holding.{refuted}
+use Rattle.image_reading.proofs.Holding.{refuted, back_found}
 use Rattle.defect_search.specs.Opening.{IsNewBlock}
 use Rattle.defect_search.proofs.opening.has_new_back.Goals as goal
 
@@ -8,8 +8,4 @@ pub returns-then-last-back : goal.returns-then-last-back
 returns-then-last-back c = refuted (λ h. omega (arith, h.is))
 
 pub returns : goal.returns
-returns c =
-    let start = c.args.last - c.args.back in (
-      λ e. record { start = start; is = omega arith; block = c.has_new_at.ensures.0 e },
-      λ h. c.has_new_at.ensures.1 (subst (λ s. IsNewBlock (tables_of c.args.words.now) s c.args.at) (omega (arith, h.is)) h.block),
-    )
+returns c = back_found (λ start. IsNewBlock (tables_of c.args.words.now) start c.args.at) (omega arith) c.has_new_at.ensures

@@ -1,14 +1,11 @@
-use Rattle.std.proofs.Common.{◌≡◌, ◌+◌, length, sym, subst, arith}
+use Rattle.std.proofs.Common.{◌≡◌, length, subst, arith}
 use Rattle.image_tables.specs.Tables.{tables_of}
 use Rattle.image_defects.specs.Least.{IsLeastOf}
 use Rattle.defect_search.proofs.Strays.{IsStrayAmong, among_more, among_all}
 use Rattle.defect_search.proofs.stray.stray_bit.Goals as goal
 
 pub loop-i-preserved : goal.loop-i-preserved
-loop-i-preserved c =
-    let t = tables_of c.args.words.now in
-    subst (IsLeastOf (IsStrayAmong t c.args.slabs.now (c.loop-i.i + 1))) (sym c.lesser-least.ensures)
-    (among_more t c.args.slabs.now c.loop-i.i c.loop-i.least c.stray_in_slab-here.result c.loop-i.invariant c.stray_in_slab-here.ensures)
+loop-i-preserved c = among_more (tables_of c.args.words.now) c.args.slabs.now c.loop-i.i c.loop-i.least c.stray_in_slab-here.result c.loop-i.invariant c.stray_in_slab-here.ensures c.lesser-least.ensures
 
 pub returns : goal.returns
 returns c =

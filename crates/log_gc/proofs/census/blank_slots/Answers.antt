@@ -2,4 +2,4 @@ use Rattle.log_gc.proofs.Telling.{blank_at}
 use Rattle.log_gc.proofs.census.blank_slots.Goals as goal
 
 pub returns : goal.returns
-returns c = blank_at 4096
+returns g c = blank_at g.row.N

@@ -1,13 +1,10 @@
-use Rattle.std.proofs.Common.{◌≡◌, ◌<◌, ◌*◌, ◌+◌, ◌-◌, ◌∙◌, ap, arith, slice_index, drop}
-use Rattle.pmem_lines.specs.Pmem.{appended}
+use Rattle.std.proofs.Common.{◌≡◌, ◌<◌, ◌-◌, ◌∙◌, ap, arith, drop}
 use Rattle.pool_layout.specs.declared.layout.Layout.{Layout}
 use Rattle.pool_layout.specs.Layout.{layout_of}
-use Rattle.pool_layout.specs.Places.{entry_word}
 use Rattle.image_tables.proofs.Places.{entry_word-high}
 use Rattle.book_log.specs.Book.{live_at}
 use Rattle.book_log.specs.Live.{live_words}
-use Rattle.log_gc.specs.Copies.{entry_stores}
-use Rattle.log_gc.proofs.Storing.{store_more, entries_more, entries_done, next_value, next_rest}
+use Rattle.log_gc.proofs.Storing.{storing_more, storing_done, next_value, next_rest}
 use Rattle.log_gc.proofs.copying.copy_entries.Goals as goal
 
 pub store-requires-clause-place : goal.store-requires-clause-place
@@ -15,39 +12,24 @@ store-requires-clause-place g c =
     let below : c.loop-entry.entry < (layout_of c.args.version).chunk_entries = omega (arith, c.loop-entry-test.true, ap (λ (l : Layout). l.chunk_entries) c.layout_of-entry-end.ensures.row) in
     record {
       aligned = omega (arith, c.entry_at.ensures);
-      inside = omega (arith, c.entry_at.ensures, entry_word-high c.args.version c.args.chunk c.loop-entry.entry c.requires.chunk below, c.requires.inside, c.loop-entry.invariant.size);
+      inside = omega (arith, c.entry_at.ensures, entry_word-high c.args.version c.args.chunk c.loop-entry.entry c.requires.chunk below, c.requires.inside, c.loop-entry.invariant.storing.size);
     }
 
 pub loop-entry-preserved : goal.loop-entry-preserved
 loop-entry-preserved g c =
-    let state = g.P.Pmem.state in
-    let version = c.args.version in
-    let chunk = c.args.chunk in
     let entry = c.loop-entry.entry in
-    let n = (layout_of version).chunk_entries in
     let extents = live_at c.args.log.now in
     let granules = c.args.log.now.granules in
     let live = live_words extents c.args.from (granules - c.args.from) in
     let now = live_words extents c.loop-entry.behind (granules - c.loop-entry.behind) in
+    let less : entry < (layout_of c.args.version).chunk_entries = omega (arith, c.loop-entry-test.true, ap (λ (l : Layout). l.chunk_entries) c.layout_of-entry-end.ensures.row) in
     record {
-      whole = store_more (state c.loop-entry.device) (state c.store.new.self) c.entry_at.result (8 * entry_word version chunk entry) c.next_entry-copied.result.word (slice_index live entry)
-          (entry_stores version chunk (slice_index live) entry (n - entry)) (entry_stores version chunk (slice_index live) (entry + 1) (n - (entry + 1)))
-          (appended (state c.args.device.now) (entry_stores version chunk (slice_index live) 0 n)) c.store.ensures c.entry_at.ensures
-          (next_value live now entry c.next_entry-copied.result.word c.loop-entry.invariant.rest c.next_entry-copied.ensures.word)
-          (entries_more version chunk (slice_index live) entry n (omega (arith, c.loop-entry-test.true, ap (λ (l : Layout). l.chunk_entries) c.layout_of-entry-end.ensures.row))) c.loop-entry.invariant.whole;
+      storing = storing_more c.loop-entry.invariant.storing less c.store.ensures c.entry_at.ensures (next_value live now entry c.next_entry-copied.result.word c.loop-entry.invariant.rest c.next_entry-copied.ensures.word);
       rest = next_rest live now (live_words extents c.next_entry-copied.result.behind (granules - c.next_entry-copied.result.behind)) entry c.loop-entry.invariant.rest c.next_entry-copied.ensures.rest;
-      size = c.store.ensures.size ∙ c.loop-entry.invariant.size;
-      room = c.store.ensures.room ∙ c.loop-entry.invariant.room;
-      count = omega (arith, c.store.ensures.count, c.loop-entry.invariant.count);
     }
 
 pub returns-clause-appends : goal.returns-clause-appends
-returns-clause-appends g c =
-    let state = g.P.Pmem.state in
-    let version = c.args.version in
-    let live = live_words (live_at c.args.log.now) c.args.from (c.args.log.now.granules - c.args.from) in
-    entries_done (state c.args.device.now) (state c.loop-entry.device) version c.args.chunk (slice_index live) c.loop-entry.entry (layout_of version).chunk_entries
-    (omega (arith, c.loop-entry-test.false, ap (λ (l : Layout). l.chunk_entries) c.layout_of-entry-end.ensures.row)) c.loop-entry.invariant.whole
+returns-clause-appends g c = storing_done c.loop-entry.invariant.storing (omega (arith, c.loop-entry-test.false, ap (λ (l : Layout). l.chunk_entries) c.layout_of-entry-end.ensures.row))
 
 pub returns-clause-rest : goal.returns-clause-rest
 returns-clause-rest g c =

@@ -1,16 +1,7 @@
-use Rattle.std.proofs.Common.{◌≡◌, ◌+◌, ◌-◌, [], length, slice_index}
-use Rattle.pmem_lines.specs.Pmem.{words_of, appended}
+use Rattle.std.proofs.Common.{[], slice_index}
 use Rattle.pool_layout.specs.Layout.{layout_of}
-use Rattle.log_gc.specs.Copies.{entry_stores}
+use Rattle.log_gc.proofs.Storing.{IsStoring}
 use Rattle.log_gc.proofs.filling.zero_entries.Given as goal
 
 abbrev pub invariant-loop-entry : goal.invariant-loop-entry
-invariant-loop-entry g l =
-    let state = g.P.Pmem.state in
-    let n = (layout_of l.version).chunk_entries in
-    record {
-      whole : appended (state l.device) (entry_stores l.version l.chunk (slice_index []) l.entry (n - l.entry)) ≡ appended (state l.fn.device) (entry_stores l.version l.chunk (slice_index []) 0 n);
-      size : length (words_of (state l.device)) ≡ length (words_of (state l.fn.device));
-      room : (state l.device).room ≡ (state l.fn.device).room;
-      count : length (state l.device).events ≡ length (state l.fn.device).events + l.entry;
-    }
+invariant-loop-entry g l = IsStoring (g.P.Pmem.state l.fn.device) (g.P.Pmem.state l.device) l.version l.chunk (slice_index []) l.entry (layout_of l.version).chunk_entries

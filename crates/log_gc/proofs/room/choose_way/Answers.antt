@@ -1,13 +1,11 @@
-use Rattle.std.proofs.Common.{◌≡◌, ◌/◌, ◌∙◌, inl, inr, ap, sym, arith, length}
-use Rattle.pmem_lines.specs.Words.{word_at}
+use Rattle.std.proofs.Common.{◌∙◌, inl, inr, ap, sym, arith, length}
 use Rattle.pmem_lines.specs.Pmem.{words_of}
 use Rattle.pool_layout.specs.declared.layout.Layout.{Layout}
-use Rattle.image_tables.specs.Log.{active_chunks}
 use Rattle.book_log.specs.Book.{chunks_of}
 use Rattle.log_gc.specs.declared.room.Rolled.TheVariants as rolled
 use Rattle.log_gc.specs.Needless.{first_needless}
 use Rattle.log_gc.proofs.Flushes.{directory_inside}
-use Rattle.log_gc.proofs.Ways.{IsArenaLog, rewrite_most}
+use Rattle.log_gc.proofs.Ways.{arena_log, rewrite_most}
 use Rattle.log_gc.proofs.Making.{way_roll, way_rewrite}
 use Rattle.log_gc.proofs.Booked.{book_live, book_chunks}
 use Rattle.log_gc.proofs.room.choose_way.Goals as goal
@@ -16,20 +14,17 @@ use Rattle.log_gc.proofs.room.choose_way.Goals.{then-len-lt-MOST_ACTIVE-via-then
 pub version_of-version-requires : goal.version_of-version-requires
 version_of-version-requires g c = directory_inside _ _ c.requires.inside
 
-pub load-requires : goal.load-requires
-load-requires g c =
-    let inside = directory_inside _ _ c.requires.inside in
-    record { aligned = omega (arith, c.directory_at.ensures); inside = omega (arith, c.directory_at.ensures, inside) }
+pub active_of-active-requires : goal.active_of-active-requires
+active_of-active-requires g c = directory_inside _ _ c.requires.inside
 
 pub returns-then-len-lt-MOST_ACTIVE : goal.returns-then-len-lt-MOST_ACTIVE
 returns-then-len-lt-MOST_ACTIVE g c =
     let words = words_of (g.P.Pmem.state c.args.p.now) in
     let granules = c.args.log.now.granules in
-    let items : c.active_chunks-active.result.items ≡ chunks_of words = c.active_chunks-active.ensures ∙ ap active_chunks (c.load.ensures ∙ ap (λ a. word_at words (a / 8)) c.directory_at.ensures) in
-    let first = c.first_needless-dropped.ensures ∙ ap (λ n. first_needless n words c.as_slice.result.now) c.granules.ensures.granules ∙ ap (first_needless granules words) (c.as_slice.ensures.value ∙ items) in
+    let first = c.first_needless-dropped.ensures ∙ ap (λ n. first_needless n words c.as_slice.result.now) c.granules.ensures.granules ∙ ap (first_needless granules words) (c.as_slice.ensures.value ∙ c.active_of-active.ensures) in
     sym (way_roll granules words c.first_needless-dropped.result c.requires.full first
     (elim c.then-len-lt-MOST_ACTIVE.branch [
-      | then-len-lt-MOST_ACTIVE-via-then-len-lt-MOST_ACTIVE w ↦ inl (omega (arith, w.if-len-lt-MOST_ACTIVE.true, c.len.ensures.value, ap length items))
+      | then-len-lt-MOST_ACTIVE-via-then-len-lt-MOST_ACTIVE w ↦ inl (omega (arith, w.if-len-lt-MOST_ACTIVE.true, c.len.ensures.value, ap length c.active_of-active.ensures))
       | then-len-lt-MOST_ACTIVE-via-else-len-lt-MOST_ACTIVE+then-is_some w ↦ inr (sym w.is_some.ensures ∙ w.if-is_some.true)
     ]))
 
@@ -41,16 +36,15 @@ overflow_cast-result g c =
     let words = words_of (g.P.Pmem.state c.args.p.now) in
     let row = ap (λ (l : Layout). l.chunk_entries) c.layout_of.ensures.row in
     let chunks = book_chunks c.args.log.now words c.version_of-version.result c.count_live.result c.layout_of.result.chunk_entries c.requires.reads c.version_of-version.ensures c.count_live.ensures row in
-    let arena : IsArenaLog c.args.log.now.granules words (chunks_of words) = record { log = c.requires.reads.log; inside = c.requires.inside; few = c.requires.few } in
+    let arena = arena_log c.requires.reads.log c.requires.inside c.requires.few in
     omega (arith, chunks, rewrite_most c.args.log.now.granules words (chunks_of words) arena c.requires.disjoint)
 
 pub returns : goal.returns
 returns g c =
     let words = words_of (g.P.Pmem.state c.args.p.now) in
     let granules = c.args.log.now.granules in
-    let items : c.active_chunks-active.result.items ≡ chunks_of words = c.active_chunks-active.ensures ∙ ap active_chunks (c.load.ensures ∙ ap (λ a. word_at words (a / 8)) c.directory_at.ensures) in
-    let first = c.first_needless-dropped.ensures ∙ ap (λ n. first_needless n words c.as_slice.result.now) c.granules.ensures.granules ∙ ap (first_needless granules words) (c.as_slice.ensures.value ∙ items) in
+    let first = c.first_needless-dropped.ensures ∙ ap (λ n. first_needless n words c.as_slice.result.now) c.granules.ensures.granules ∙ ap (first_needless granules words) (c.as_slice.ensures.value ∙ c.active_of-active.ensures) in
     let row = ap (λ (l : Layout). l.chunk_entries) c.layout_of.ensures.row in
     let chunks = book_chunks c.args.log.now words c.version_of-version.result c.count_live.result c.layout_of.result.chunk_entries c.requires.reads c.version_of-version.ensures c.count_live.ensures row in
     ap rolled.Rewritten chunks
-    ∙ sym (way_rewrite granules words c.first_needless-dropped.result c.requires.full first (omega (arith, c.if-len-lt-MOST_ACTIVE.false, c.len.ensures.value, ap length items)) (sym c.is_some.ensures ∙ c.if-is_some.false))
+    ∙ sym (way_rewrite granules words c.first_needless-dropped.result c.requires.full first (omega (arith, c.if-len-lt-MOST_ACTIVE.false, c.len.ensures.value, ap length c.active_of-active.ensures)) (sym c.is_some.ensures ∙ c.if-is_some.false))

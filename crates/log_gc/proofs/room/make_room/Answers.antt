@@ -1,9 +1,9 @@
 use Rattle.std.proofs.Common.{sym, subst, refl, ◌∙◌}
 use Rattle.pmem_lines.specs.Pmem.{words_of}
 use Rattle.pmem_lines.proofs.Steps.{step_of}
-use Rattle.book_log.specs.Book.{HasLog, HasFreeEntry, AreWithin, chunks_of}
+use Rattle.book_log.specs.Book.{HasLog, HasFreeEntry, AreWithin}
 use Rattle.log_gc.specs.Room.{KeepsLog}
-use Rattle.log_gc.proofs.Ways.{IsArenaLog}
+use Rattle.log_gc.proofs.Ways.{arena_log}
 use Rattle.log_gc.proofs.Making.{same_version, made, space_free, next_some, way_nothing}
 use Rattle.log_gc.proofs.Booked.{none_step, no_space}
 use Rattle.log_gc.proofs.room.make_room.Goals as goal
@@ -26,43 +26,28 @@ choose_way-way-requires-clause-full g c =
 
 pub load_next-requires-clause-log : goal.load_next-requires-clause-log
 load_next-requires-clause-log g c =
-    let state = g.P.Pmem.state in
-    let words = words_of (state c.args.p.now) in
-    let granules = c.args.log.now.granules in
-    let arena : IsArenaLog granules words (chunks_of words) = record { log = c.requires.reads.log; inside = c.requires.inside; few = c.requires.few } in
-    subst (HasLog granules) (sym c.take_way.ensures.words) (made granules words arena c.requires.disjoint).keeps.log
+    let room = made (arena_log c.requires.reads.log c.requires.inside c.requires.few) c.requires.disjoint in
+    subst (HasLog c.args.log.now.granules) (sym c.take_way.ensures.words) room.keeps.log
 
 pub load_next-requires-clause-inside : goal.load_next-requires-clause-inside
 load_next-requires-clause-inside g c =
-    let state = g.P.Pmem.state in
-    let words = words_of (state c.args.p.now) in
-    let granules = c.args.log.now.granules in
-    let arena : IsArenaLog granules words (chunks_of words) = record { log = c.requires.reads.log; inside = c.requires.inside; few = c.requires.few } in
-    subst AreWithin (sym c.take_way.ensures.words) (made granules words arena c.requires.disjoint).within
+    let room = made (arena_log c.requires.reads.log c.requires.inside c.requires.few) c.requires.disjoint in
+    subst AreWithin (sym c.take_way.ensures.words) room.within
 
 pub returns-clause-keeps : goal.returns-clause-keeps
 returns-clause-keeps g c =
-    let state = g.P.Pmem.state in
-    let words = words_of (state c.args.p.now) in
-    let granules = c.args.log.now.granules in
-    let arena : IsArenaLog granules words (chunks_of words) = record { log = c.requires.reads.log; inside = c.requires.inside; few = c.requires.few } in
-    subst (KeepsLog granules words) (sym c.take_way.ensures.words) (made granules words arena c.requires.disjoint).keeps
+    let room = made (arena_log c.requires.reads.log c.requires.inside c.requires.few) c.requires.disjoint in
+    subst (KeepsLog c.args.log.now.granules (words_of (g.P.Pmem.state c.args.p.now))) (sym c.take_way.ensures.words) room.keeps
 
 pub load_next-requires-clause-live : goal.load_next-requires-clause-live
 load_next-requires-clause-live g c start =
-    let state = g.P.Pmem.state in
-    let words = words_of (state c.args.p.now) in
-    let granules = c.args.log.now.granules in
-    let arena : IsArenaLog granules words (chunks_of words) = record { log = c.requires.reads.log; inside = c.requires.inside; few = c.requires.few } in
-    c.requires.reads.live start ∙ sym ((subst (KeepsLog granules words) (sym c.take_way.ensures.words) (made granules words arena c.requires.disjoint).keeps).extents start)
+    let room = made (arena_log c.requires.reads.log c.requires.inside c.requires.few) c.requires.disjoint in
+    c.requires.reads.live start ∙ sym ((subst (KeepsLog c.args.log.now.granules (words_of (g.P.Pmem.state c.args.p.now))) (sym c.take_way.ensures.words) room.keeps).extents start)
 
 pub returns-clause-room : goal.returns-clause-room
 returns-clause-room g c =
-    let state = g.P.Pmem.state in
-    let words = words_of (state c.args.p.now) in
-    let granules = c.args.log.now.granules in
-    let arena : IsArenaLog granules words (chunks_of words) = record { log = c.requires.reads.log; inside = c.requires.inside; few = c.requires.few } in
-    next_some c.load_next.new.self (words_of (state c.take_way.new.p)) c.load_next.ensures.reads (subst HasFreeEntry (sym c.take_way.ensures.words) (made granules words arena c.requires.disjoint).free)
+    let room = made (arena_log c.requires.reads.log c.requires.inside c.requires.few) c.requires.disjoint in
+    next_some c.load_next.new.self (words_of (g.P.Pmem.state c.take_way.new.p)) c.load_next.ensures.reads (subst HasFreeEntry (sym c.take_way.ensures.words) room.free)
 
 pub returns-clause-version : goal.returns-clause-version
 returns-clause-version g c =
@@ -70,8 +55,5 @@ returns-clause-version g c =
 
 pub returns-clause-step : goal.returns-clause-step
 returns-clause-step g c =
-    let words = words_of (g.P.Pmem.state c.args.p.now) in
-    let granules = c.args.log.now.granules in
-    let arena : IsArenaLog granules words (chunks_of words) = record { log = c.requires.reads.log; inside = c.requires.inside; few = c.requires.few } in
-    let room = made granules words arena c.requires.disjoint in
+    let room = made (arena_log c.requires.reads.log c.requires.inside c.requires.few) c.requires.disjoint in
     step_of c.take_way.ensures room.quiet c.requires.quiet room.crash

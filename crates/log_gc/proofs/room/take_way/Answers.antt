@@ -1,17 +1,15 @@
-use Rattle.std.proofs.Common.{◌≡◌, ◌<◌, ◌/◌, ◌∙◌, ◌++◌, [], ap, sym, subst, arith, length, take, List, ℕ}
+use Rattle.std.proofs.Common.{◌<◌, ◌∙◌, ◌++◌, [], ap, sym, subst, arith, length, take, List, ℕ}
 use Rattle.pmem_lines.specs.declared.event.Event.{Event}
-use Rattle.pmem_lines.specs.Words.{word_at}
 use Rattle.pmem_lines.specs.Pmem.{words_of, HasRoom, Appends}
 use Rattle.pool_layout.specs.Header.{version_in}
-use Rattle.image_tables.specs.Log.{active_chunks}
-use Rattle.book_log.specs.Book.{chunks_of, live_at}
+use Rattle.book_log.specs.Book.{live_at}
 use Rattle.log_gc.specs.declared.room.Rolled.TheVariants as rolled
 use Rattle.log_gc.specs.Chunks.{spare_chunks}
 use Rattle.book_log.specs.Live.{live_words}
 use Rattle.log_gc.specs.Copies.{switch_count, switch_events}
 use Rattle.log_gc.specs.Room.{kept_chunks, live_log, room_events}
 use Rattle.log_gc.proofs.Flushes.{directory_inside}
-use Rattle.log_gc.proofs.Ways.{IsArenaLog}
+use Rattle.log_gc.proofs.Ways.{arena_log}
 use Rattle.log_gc.proofs.Making.{events_of}
 use Rattle.log_gc.proofs.Booked.{book_live, book_words, roll_kept, roll_count, rewrite_few, rewrite_count, none_appends}
 use Rattle.log_gc.proofs.room.take_way.Goals as goal
@@ -19,15 +17,13 @@ use Rattle.log_gc.proofs.room.take_way.Goals as goal
 pub version_of-version-requires : goal.version_of-version-requires
 version_of-version-requires g c = directory_inside _ _ c.requires.inside
 
-pub load-requires : goal.load-requires
-load-requires g c =
-    let inside = directory_inside _ _ c.requires.inside in
-    record { aligned = omega (arith, c.directory_at.ensures); inside = omega (arith, c.directory_at.ensures, inside) }
+pub active_of-active-requires : goal.active_of-active-requires
+active_of-active-requires g c = directory_inside _ _ c.requires.inside
 
 pub roll-requires-clause-kept : goal.roll-requires-clause-kept
 roll-requires-clause-kept g c =
     let words = words_of (g.P.Pmem.state c.args.p.now) in
-    let named : c.as_slice.result.now ≡ chunks_of words = c.as_slice.ensures.value ∙ c.active_chunks-active.ensures ∙ ap active_chunks (c.load.ensures ∙ ap (λ a. word_at words (a / 8)) c.directory_at.ensures) in
+    let named = c.as_slice.ensures.value ∙ c.active_of-active.ensures in
     subst (λ (cs : List ℕ). length (kept_chunks c.in-Rolled.dropped cs) < 8) (sym named)
     (roll_kept c.args.log.now.granules words c.in-Rolled.dropped c.requires.reads.log (sym c.requires.way ∙ c.in-Rolled.is))
 
@@ -40,14 +36,14 @@ roll-requires-clause-room g c =
 pub rewrite-requires-clause-most : goal.rewrite-requires-clause-most
 rewrite-requires-clause-most g c =
     let words = words_of (g.P.Pmem.state c.args.p.now) in
-    let arena : IsArenaLog c.args.log.now.granules words (chunks_of words) = record { log = c.requires.reads.log; inside = c.requires.inside; few = c.requires.few } in
+    let arena = arena_log c.requires.reads.log c.requires.inside c.requires.few in
     omega (arith, c.from.ensures, rewrite_few c.args.log.now.granules words c.in-Rewritten.chunks arena c.requires.disjoint (sym c.requires.way ∙ c.in-Rewritten.is))
 
 pub rewrite-requires-clause-enough : goal.rewrite-requires-clause-enough
 rewrite-requires-clause-enough g c =
     let words = words_of (g.P.Pmem.state c.args.p.now) in
-    let arena : IsArenaLog c.args.log.now.granules words (chunks_of words) = record { log = c.requires.reads.log; inside = c.requires.inside; few = c.requires.few } in
-    let named : c.as_slice-in-Rewritten.result.now ≡ chunks_of words = c.as_slice-in-Rewritten.ensures.value ∙ c.active_chunks-active.ensures ∙ ap active_chunks (c.load.ensures ∙ ap (λ a. word_at words (a / 8)) c.directory_at.ensures) in
+    let arena = arena_log c.requires.reads.log c.requires.inside c.requires.few in
+    let named = c.as_slice-in-Rewritten.ensures.value ∙ c.active_of-active.ensures in
     omega (arith, c.from.ensures, rewrite_few c.args.log.now.granules words c.in-Rewritten.chunks arena c.requires.disjoint (sym c.requires.way ∙ c.in-Rewritten.is), ap length named, c.requires.reads.log.directory.most)
 
 pub rewrite-requires-clause-live : goal.rewrite-requires-clause-live
@@ -56,7 +52,7 @@ rewrite-requires-clause-live g c = book_live c.args.log.now (words_of (g.P.Pmem.
 pub rewrite-requires-clause-room : goal.rewrite-requires-clause-room
 rewrite-requires-clause-room g c =
     let words = words_of (g.P.Pmem.state c.args.p.now) in
-    let arena : IsArenaLog c.args.log.now.granules words (chunks_of words) = record { log = c.requires.reads.log; inside = c.requires.inside; few = c.requires.few } in
+    let arena = arena_log c.requires.reads.log c.requires.inside c.requires.few in
     subst (λ n. HasRoom (g.P.Pmem.state c.args.p.now) n)
     (rewrite_count c.args.log.now.granules words c.in-Rewritten.chunks arena c.requires.disjoint (sym c.requires.way ∙ c.in-Rewritten.is)
     ∙ ap (λ v. switch_count v c.in-Rewritten.chunks) (sym c.version_of-version.ensures) ∙ ap (switch_count c.version_of-version.result) (sym c.from.ensures)) c.requires.left
@@ -71,7 +67,7 @@ returns-in-Rolled g c =
     let state = g.P.Pmem.state in
     let words = words_of (state c.args.p.now) in
     let dropped = c.in-Rolled.dropped in
-    let named : c.as_slice.result.now ≡ chunks_of words = c.as_slice.ensures.value ∙ c.active_chunks-active.ensures ∙ ap active_chunks (c.load.ensures ∙ ap (λ a. word_at words (a / 8)) c.directory_at.ensures) in
+    let named = c.as_slice.ensures.value ∙ c.active_of-active.ensures in
     let same = λ (v : ℕ) (cs : List ℕ). switch_events v (take 1 (spare_chunks cs)) [] (kept_chunks dropped cs ++ take 1 (spare_chunks cs)) in
     subst (λ (es : List Event). Appends (state c.args.p.now) (state c.roll.new.device) es)
     (ap (λ v. same v c.as_slice.result.now) c.version_of-version.ensures ∙ ap (same (version_in words)) named
@@ -83,7 +79,7 @@ returns-in-Rewritten g c =
     let words = words_of (state c.args.p.now) in
     let chunks = c.in-Rewritten.chunks in
     let granules = c.args.log.now.granules in
-    let named : c.as_slice-in-Rewritten.result.now ≡ chunks_of words = c.as_slice-in-Rewritten.ensures.value ∙ c.active_chunks-active.ensures ∙ ap active_chunks (c.load.ensures ∙ ap (λ a. word_at words (a / 8)) c.directory_at.ensures) in
+    let named = c.as_slice-in-Rewritten.ensures.value ∙ c.active_of-active.ensures in
     let same = λ (v : ℕ) (m : ℕ) (live : List ℕ) (cs : List ℕ). switch_events v (take m (spare_chunks cs)) live (take m (spare_chunks cs)) in
     let live = live_words (live_at c.args.log.now) 0 granules in
     subst (λ (es : List Event). Appends (state c.args.p.now) (state c.rewrite.new.device) es)

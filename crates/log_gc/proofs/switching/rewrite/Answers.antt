@@ -26,9 +26,8 @@ switch_directory-requires-clause-flushed g c =
 
 pub returns : goal.returns
 returns g c =
-    let state = g.P.Pmem.state in
-    let s = state c.args.device.now in
-    let u = state c.switch_directory.new.device in
+    let s = g.P.Pmem.state c.args.device.now in
+    let u = g.P.Pmem.state c.switch_directory.new.device in
     let version = c.args.version in
     let live = live_words (live_at c.args.log.now) 0 c.args.log.now.granules in
     let fresh = take c.args.count (spare_chunks c.args.active.now) in

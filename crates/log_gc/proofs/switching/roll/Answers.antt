@@ -38,14 +38,13 @@ switch_directory-requires-clause-flushed g c =
 
 pub returns : goal.returns
 returns g c =
-    let state = g.P.Pmem.state in
-    let s = state c.args.device.now in
-    let u = state c.switch_directory.new.device in
+    let s = g.P.Pmem.state c.args.device.now in
+    let u = g.P.Pmem.state c.switch_directory.new.device in
     let version = c.args.version in
     let chunk = get_or c.as_slice.result.now 0 0 in
     let one = take 1 (spare_chunks c.args.active.now) in
     let fresh = fresh_one c.args.active.now c.as_slice.result.now (c.as_slice.ensures.value ∙ c.spare_chunks-fresh.ensures) c.requires.most in
     let chunks : c.as_slice-2.result.now ≡ kept_chunks c.args.dropped c.args.active.now ++ one =
     c.as_slice-2.ensures.value ∙ c.push.ensures.items ∙ ap (λ (cs : List ℕ). cs ++ chunk ∷ []) c.kept_chunks-chunks.ensures ∙ ap (λ (cs : List ℕ). kept_chunks c.args.dropped c.args.active.now ++ cs) (sym fresh.is) in
-    let first = subst (λ (es : List Event). Appends s (state c.zero_chunk.new.device) es) (copy_one version chunk one fresh.is) c.zero_chunk.ensures.appends in
+    let first = subst (λ (es : List Event). Appends s (g.P.Pmem.state c.zero_chunk.new.device) es) (copy_one version chunk one fresh.is) c.zero_chunk.ensures.appends in
     subst (λ (cs : List ℕ). Appends s u (copy_events version one [] ++ directory_events cs)) chunks (then_step first c.switch_directory.ensures)

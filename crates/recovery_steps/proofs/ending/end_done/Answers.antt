@@ -3,12 +3,11 @@ use Rattle.pmem_lines.specs.Pmem.{words_of}
 use Rattle.pmem_lines.proofs.Steps.{step_wider}
 use Rattle.image_tables.specs.Tables.{tables_of}
 use Rattle.heap_check.specs.Sound.{IsDoneSlab}
-use Rattle.image_defects.specs.Least.{HasNone}
 use Rattle.transition_steps.specs.Transitions.{end_events}
 use Rattle.recovery_steps.specs.Recovery.{EndsDone}
-use Rattle.recovery_steps.proofs.Arenas.{sound_of, slab_low}
+use Rattle.recovery_steps.proofs.Arenas.{sound_of}
 use Rattle.recovery_steps.proofs.Books.{book_off_header}
-use Rattle.recovery_steps.proofs.Chains.{part_none, part_of, takes_none, takes_one}
+use Rattle.recovery_steps.proofs.Chains.{part_idle, part_of, takes_one}
 use Rattle.recovery_steps.proofs.Leaving.{rids_done}
 use Rattle.recovery_steps.proofs.ending.end_done.Given as given
 use Rattle.recovery_steps.proofs.ending.end_done.Goals as goal
@@ -19,24 +18,17 @@ here_in g c = subst (λ (ws : List ℕ). IsDoneSlab (tables_of ws) c.in-Some.sta
 
 pub returns-in-Some-clause-part : goal.returns-in-Some-clause-part
 returns-in-Some-clause-part g c =
-    let words = words_of (g.P.Pmem.state c.args.p.now) in
-    let start = c.in-Some.start in
     let done = c.end_transition.ensures in
-    part_of EndsDone 3 (end_events words start) (takes_one start (here_in g c)) (omega (arith, done.count, done.step.appends.count))
-    (step_wider (λ image leaves. leaves.keeps c.requires.shut.image) done.step)
+    part_of EndsDone (takes_one c.in-Some.start (here_in g c)) (step_wider (λ image leaves. leaves.keeps c.requires.shut.image) done.step) (omega (arith, done.count, done.step.appends.count))
 
 pub returns-in-Some-clause-rids : goal.returns-in-Some-clause-rids
 returns-in-Some-clause-rids g c =
-    rids_done (words_of (g.P.Pmem.state c.args.p.now)) c.in-Some.start (words_of (g.P.Pmem.state c.end_transition.new.p)) c.requires.shut (here_in g c) c.end_transition.ensures.ended
+    rids_done c.requires.shut (here_in g c) c.end_transition.ensures.ended
 
 pub returns-in-Some-clause-book : goal.returns-in-Some-clause-book
 returns-in-Some-clause-book g c =
-    let words = words_of (g.P.Pmem.state c.args.p.now) in
-    let start = c.in-Some.start in
     let ended = c.end_transition.ensures.ended in
-    book_off_header c.args.log.now words start (words_of (g.P.Pmem.state c.end_transition.new.p)) (slab_low words (sound_of words c.requires.shut.image) start (here_in g c).slab) ended.off ended.bounds c.requires.book
+    book_off_header c.in-Some.start (sound_of (words_of (g.P.Pmem.state c.args.p.now)) c.requires.shut.image) (here_in g c).slab ended.off ended.bounds c.requires.begins.book
 
 pub returns-in-None-clause-part : goal.returns-in-None-clause-part
-returns-in-None-clause-part g c =
-    part_none EndsDone 3 c.requires.quiet c.requires.shut.image
-    (takes_none (subst (λ (ws : List ℕ). HasNone (IsDoneSlab (tables_of ws))) c.all_words.ensures c.in-None.ensures))
+returns-in-None-clause-part g c = part_idle IsDoneSlab end_events 3 c.requires.begins.quiet c.requires.shut.image c.all_words.ensures c.in-None.ensures

@@ -5,10 +5,9 @@ use Rattle.pool_layout.specs.Layout.{layout_of}
 use Rattle.pool_layout.specs.Header.{version_in}
 use Rattle.image_tables.specs.Tables.{tables_of}
 use Rattle.heap_check.specs.Sound.{IsEmptySlab}
-use Rattle.image_defects.specs.Least.{HasNone}
 use Rattle.extent_steps.specs.Slabs.{drop_events}
 use Rattle.recovery_steps.specs.Recovery.{DropsSlab}
-use Rattle.recovery_steps.proofs.Chains.{either_keeps, part_none, part_of, takes_none, takes_one}
+use Rattle.recovery_steps.proofs.Chains.{either_keeps, part_idle, part_of, takes_one}
 use Rattle.recovery_steps.proofs.Leaving.{rids_empty}
 use Rattle.recovery_steps.proofs.extents.drop_empty.Given as given
 use Rattle.recovery_steps.proofs.extents.drop_empty.Goals as goal
@@ -19,19 +18,14 @@ here_in g c = subst (λ (ws : List ℕ). IsEmptySlab (tables_of ws) c.in-Some.st
 
 pub returns-in-Some-clause-part : goal.returns-in-Some-clause-part
 returns-in-Some-clause-part g c =
-    let words = words_of (g.P.Pmem.state c.args.p.now) in
-    let new = words_of (g.P.Pmem.state c.drop_slab.new.p) in
-    let start = c.in-Some.start in
     let done = c.drop_slab.ensures in
-    part_of DropsSlab (layout_of (version_in words)).entry_events (drop_events words start) (takes_one start (here_in g c)) (omega (arith, done.few, done.step.appends.count))
-    (step_wider (λ image left. either_keeps words new image done.dropped.heap left) done.step)
+    part_of DropsSlab (takes_one c.in-Some.start (here_in g c))
+    (step_wider (λ image left. either_keeps (words_of (g.P.Pmem.state c.args.p.now)) (words_of (g.P.Pmem.state c.drop_slab.new.p)) image done.dropped.heap left) done.step) (omega (arith, done.few, done.step.appends.count))
 
 pub returns-in-Some-clause-rids : goal.returns-in-Some-clause-rids
 returns-in-Some-clause-rids g c =
-    rids_empty (words_of (g.P.Pmem.state c.args.p.now)) c.in-Some.start (words_of (g.P.Pmem.state c.drop_slab.new.p))
-    (record { image = c.requires.shut.image; closed = c.requires.shut.closed; empty = here_in g c }) c.drop_slab.ensures.dropped
+    rids_empty (record { image = c.requires.shut.image; closed = c.requires.shut.closed; empty = here_in g c }) c.drop_slab.ensures.dropped
 
 pub returns-in-None-clause-part : goal.returns-in-None-clause-part
 returns-in-None-clause-part g c =
-    part_none DropsSlab (layout_of (version_in (words_of (g.P.Pmem.state c.args.p.now)))).entry_events c.requires.quiet c.requires.shut.image
-    (takes_none (subst (λ (ws : List ℕ). HasNone (IsEmptySlab (tables_of ws))) c.all_words.ensures c.in-None.ensures))
+    part_idle IsEmptySlab drop_events (layout_of (version_in (words_of (g.P.Pmem.state c.args.p.now)))).entry_events c.requires.begins.quiet c.requires.shut.image c.all_words.ensures c.in-None.ensures

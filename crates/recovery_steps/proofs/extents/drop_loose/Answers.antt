@@ -6,10 +6,9 @@ use Rattle.pool_layout.specs.Header.{version_in}
 use Rattle.image_tables.specs.Tables.{tables_of}
 use Rattle.book_log.specs.declared.entry.LogEntry.TheVariants.{Tomb}
 use Rattle.heap_check.specs.Sound.{IsLooseLarge}
-use Rattle.image_defects.specs.Least.{HasNone}
 use Rattle.log_steps.specs.Events.{log_events}
 use Rattle.recovery_steps.specs.Recovery.{DropsLarge}
-use Rattle.recovery_steps.proofs.Chains.{either_keeps, part_none, part_of, takes_none, takes_one}
+use Rattle.recovery_steps.proofs.Chains.{either_keeps, part_idle, part_of, takes_one}
 use Rattle.recovery_steps.proofs.Leaving.{rids_large}
 use Rattle.recovery_steps.proofs.extents.drop_loose.Given as given
 use Rattle.recovery_steps.proofs.extents.drop_loose.Goals as goal
@@ -20,19 +19,14 @@ here_in g c = subst (λ (ws : List ℕ). IsLooseLarge (tables_of ws) c.in-Some.s
 
 pub returns-in-Some-clause-part : goal.returns-in-Some-clause-part
 returns-in-Some-clause-part g c =
-    let words = words_of (g.P.Pmem.state c.args.p.now) in
-    let new = words_of (g.P.Pmem.state c.drop_extent.new.p) in
-    let start = c.in-Some.start in
     let done = c.drop_extent.ensures in
-    part_of DropsLarge (layout_of (version_in words)).entry_events (log_events words (Tomb start)) (takes_one start (here_in g c)) (omega (arith, done.few, done.step.appends.count))
-    (step_wider (λ image left. either_keeps words new image done.gone.heap left) done.step)
+    part_of DropsLarge (takes_one c.in-Some.start (here_in g c))
+    (step_wider (λ image left. either_keeps (words_of (g.P.Pmem.state c.args.p.now)) (words_of (g.P.Pmem.state c.drop_extent.new.p)) image done.gone.heap left) done.step) (omega (arith, done.few, done.step.appends.count))
 
 pub returns-in-Some-clause-rids : goal.returns-in-Some-clause-rids
 returns-in-Some-clause-rids g c =
-    rids_large (words_of (g.P.Pmem.state c.args.p.now)) c.in-Some.start (words_of (g.P.Pmem.state c.drop_extent.new.p))
-    (record { image = c.requires.shut.image; closed = c.requires.shut.closed; loose = here_in g c }) c.drop_extent.ensures.gone
+    rids_large (record { image = c.requires.shut.image; closed = c.requires.shut.closed; loose = here_in g c }) c.drop_extent.ensures.gone
 
 pub returns-in-None-clause-part : goal.returns-in-None-clause-part
 returns-in-None-clause-part g c =
-    part_none DropsLarge (layout_of (version_in (words_of (g.P.Pmem.state c.args.p.now)))).entry_events c.requires.quiet c.requires.shut.image
-    (takes_none (subst (λ (ws : List ℕ). HasNone (IsLooseLarge (tables_of ws))) c.all_words.ensures c.in-None.ensures))
+    part_idle IsLooseLarge (λ words start. log_events words (Tomb start)) (layout_of (version_in (words_of (g.P.Pmem.state c.args.p.now)))).entry_events c.requires.begins.quiet c.requires.shut.image c.all_words.ensures c.in-None.ensures

@@ -28,16 +28,16 @@ returns-clause-part g c =
     (omega (arith, (layout_rules (version_in words)).recovery, ap (λ v. (layout_of v).recovery_events) same))
     c.make_steady.ensures.part steadied.keeps c.make_steady_exact.ensures.part
 
-pub make_steady-requires-clause-room : goal.make_steady-requires-clause-room
-make_steady-requires-clause-room g c = omega (arith, c.requires.room, (layout_rules (version_in (words_of (g.P.Pmem.state c.args.p.now)))).recovery)
+pub make_steady-requires-clause-begins : goal.make_steady-requires-clause-begins
+make_steady-requires-clause-begins g c = record { book = c.requires.book; quiet = c.requires.quiet; room = omega (arith, c.requires.room, (layout_rules (version_in (words_of (g.P.Pmem.state c.args.p.now)))).recovery) }
 
-pub make_steady_exact-requires-clause-room : goal.make_steady_exact-requires-clause-room
-make_steady_exact-requires-clause-room g c =
+pub make_steady_exact-requires-clause-begins : goal.make_steady_exact-requires-clause-begins
+make_steady_exact-requires-clause-begins g c =
     let words = words_of (g.P.Pmem.state c.args.p.now) in
     let part = c.make_steady.ensures.part in
     let steadied = c.make_steady.ensures.steadied in
     let same = version_by_bounds words (words_of (g.P.Pmem.state c.make_steady.new.p)) c.requires.image.formed steadied.keeps.steady.formed steadied.bounds in
-    omega (arith, c.requires.room, (layout_rules (version_in words)).recovery, ap (λ v. (layout_of v).recovery_events) same, part.few, part.step.appends.count, part.step.appends.room)
+    record { book = c.make_steady.ensures.book; quiet = c.make_steady.ensures.part.step.quiet; room = omega (arith, c.requires.room, (layout_rules (version_in words)).recovery, ap (λ v. (layout_of v).recovery_events) same, part.few, part.step.appends.count, part.step.appends.room) }
 
 pub returns-clause-steady : goal.returns-clause-steady
 returns-clause-steady g c = λ steady.

@@ -5,7 +5,6 @@ use Rattle.image_tables.specs.Tables.{tables_of}
 use Rattle.image_defects.specs.Least.{HasNone}
 use Rattle.transition_steps.specs.Transitions.{end_events}
 use Rattle.recovery_steps.specs.Nearly.{IsDoneBesides}
-use Rattle.recovery_steps.proofs.Arenas.{slab_low}
 use Rattle.recovery_steps.proofs.Books.{book_off_header}
 use Rattle.recovery_steps.proofs.Chains.{takes_none, takes_one, leaves_none}
 use Rattle.recovery_steps.proofs.NearlyDone.{endable_of, steady_of, steadied_of, steadied_self}
@@ -37,14 +36,12 @@ returns-in-Some-clause-steadied g c =
 
 pub returns-in-Some-clause-book : goal.returns-in-Some-clause-book
 returns-in-Some-clause-book g c =
-    let words = words_of (g.P.Pmem.state c.args.p.now) in
-    let start = c.in-Some.start in
     let ended = c.end_transition.ensures.ended in
-    book_off_header c.args.log.now words start (words_of (g.P.Pmem.state c.end_transition.new.p)) (slab_low words c.requires.image start (here_in g c).done.slab) ended.off ended.bounds c.requires.book
+    book_off_header c.in-Some.start c.requires.image (here_in g c).done.slab ended.off ended.bounds c.requires.begins.book
 
 pub returns-in-None-clause-part : goal.returns-in-None-clause-part
 returns-in-None-clause-part g c =
-    leaves_none c.requires.quiet (takes_none (subst (λ (ws : List ℕ). HasNone (IsDoneBesides (tables_of ws))) c.all_words.ensures c.in-None.ensures))
+    leaves_none c.requires.begins.quiet (takes_none (subst (λ (ws : List ℕ). HasNone (IsDoneBesides (tables_of ws))) c.all_words.ensures c.in-None.ensures))
 
 pub returns-in-None-clause-steadied : goal.returns-in-None-clause-steadied
 returns-in-None-clause-steadied g c =

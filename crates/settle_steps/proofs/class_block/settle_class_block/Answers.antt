@@ -8,15 +8,14 @@ use Rattle.slab_header.specs.Steps.{PutsBitOver}
 use Rattle.attach_wal.specs.Wal.{Closes, ClosesOrNot}
 use Rattle.attach_steps.specs.Steps.{bit_word, bit_put}
 use Rattle.settle_steps.specs.ClassBlocks.{is_named}
-use Rattle.settle_steps.proofs.ClassImages.{number_low, root_low, root_in_words, reads_named, class_block_settled, class_block_step}
+use Rattle.settle_steps.proofs.ClassImages.{number_low, root_there, reads_named, class_block_settled, class_block_step}
 use Rattle.settle_steps.proofs.class_block.settle_class_block.Given as given
 use Rattle.settle_steps.proofs.class_block.settle_class_block.Goals as goal
 
-pub names-named-requires-clause-root : goal.names-named-requires-clause-root
-names-named-requires-clause-root g c = root_low (words_of (g.P.Pmem.state c.args.p.now)) c.args.line c.args.root c.args.block c.requires.line c.requires.open_entry
-
-pub names-named-requires-clause-inside : goal.names-named-requires-clause-inside
-names-named-requires-clause-inside g c = root_in_words (words_of (g.P.Pmem.state c.args.p.now)) c.args.line c.args.root c.args.block c.requires.line c.requires.open_entry
+pub names-named-requires : goal.names-named-requires
+names-named-requires g c =
+    let there = root_there (words_of (g.P.Pmem.state c.args.p.now)) c.args.line c.args.root c.args.block c.requires.line c.requires.open_entry in
+    record { root = there.low; inside = there.inside }
 
 pub mark_as-requires-clause-number : goal.mark_as-requires-clause-number
 mark_as-requires-clause-number g c = number_low (words_of (g.P.Pmem.state c.args.p.now)) c.args.line c.args.root c.args.block c.requires.line c.requires.open_entry

@@ -5,27 +5,21 @@ use Rattle.durable_steps.specs.Steps.{word_events}
 use Rattle.pool_layout.specs.Places.{wal_word}
 use Rattle.attach_wal.specs.Wal.{Closes, ClosesOrNot}
 use Rattle.settle_steps.specs.Moves.{both_named, release_events, released, ReleasesOrNot}
-use Rattle.settle_steps.proofs.MoveImages.{from_low, to_low, from_inside, to_inside, reads_both, move_settled, move_step}
+use Rattle.settle_steps.proofs.MoveImages.{from_place, to_place, reads_both, move_settled, move_step}
 use Rattle.settle_steps.proofs.move_entry.settle_move.Given as given
 use Rattle.settle_steps.proofs.move_entry.settle_move.Goals as goal
 
-pub have_words-both-requires-clause-from : goal.have_words-both-requires-clause-from
-have_words-both-requires-clause-from g c = from_low (words_of (g.P.Pmem.state c.args.p.now)) c.args.line c.args.from c.args.to c.requires.line c.requires.open_entry
-
-pub have_words-both-requires-clause-to : goal.have_words-both-requires-clause-to
-have_words-both-requires-clause-to g c = to_low (words_of (g.P.Pmem.state c.args.p.now)) c.args.line c.args.from c.args.to c.requires.line c.requires.open_entry
-
-pub have_words-both-requires-clause-from_inside : goal.have_words-both-requires-clause-from_inside
-have_words-both-requires-clause-from_inside g c = from_inside (words_of (g.P.Pmem.state c.args.p.now)) c.args.line c.args.from c.args.to c.requires.line c.requires.open_entry
-
-pub have_words-both-requires-clause-to_inside : goal.have_words-both-requires-clause-to_inside
-have_words-both-requires-clause-to_inside g c = to_inside (words_of (g.P.Pmem.state c.args.p.now)) c.args.line c.args.from c.args.to c.requires.line c.requires.open_entry
+pub have_words-both-requires : goal.have_words-both-requires
+have_words-both-requires g c =
+    let there = from_place (words_of (g.P.Pmem.state c.args.p.now)) c.args.line c.args.from c.args.to c.requires.line c.requires.open_entry in
+    let also = to_place (words_of (g.P.Pmem.state c.args.p.now)) c.args.line c.args.from c.args.to c.requires.line c.requires.open_entry in
+    record { from = there.low; to = also.low; from_inside = there.inside; to_inside = also.inside }
 
 pub release-requires-clause-root : goal.release-requires-clause-root
-release-requires-clause-root g c = from_low (words_of (g.P.Pmem.state c.args.p.now)) c.args.line c.args.from c.args.to c.requires.line c.requires.open_entry
+release-requires-clause-root g c = (from_place (words_of (g.P.Pmem.state c.args.p.now)) c.args.line c.args.from c.args.to c.requires.line c.requires.open_entry).low
 
 pub release-requires-clause-inside : goal.release-requires-clause-inside
-release-requires-clause-inside g c = from_inside (words_of (g.P.Pmem.state c.args.p.now)) c.args.line c.args.from c.args.to c.requires.line c.requires.open_entry
+release-requires-clause-inside g c = (from_place (words_of (g.P.Pmem.state c.args.p.now)) c.args.line c.args.from c.args.to c.requires.line c.requires.open_entry).inside
 
 -- the test is what the tables say
 both : (g : given.Over) (c : goal.After-close_entry g) → c.have_words-both.result ≡ both_named (words_of (g.P.Pmem.state c.args.p.now)) c.args.from c.args.to

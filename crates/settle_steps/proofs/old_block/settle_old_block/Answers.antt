@@ -11,15 +11,14 @@ use Rattle.slab_header.specs.Steps.{PutsIndexOver}
 use Rattle.attach_wal.specs.Wal.{Closes, ClosesOrNot}
 use Rattle.settle_steps.specs.ClassBlocks.{is_named}
 use Rattle.settle_steps.specs.OldBlocks.{entry_put, live_put}
-use Rattle.settle_steps.proofs.OldImages.{place_low, old_root_low, old_root_inside, reads_named_old, reads_number, old_block_settled, old_block_step}
+use Rattle.settle_steps.proofs.OldImages.{place_low, old_root_there, reads_named_old, reads_number, old_block_settled, old_block_step}
 use Rattle.settle_steps.proofs.old_block.settle_old_block.Given as given
 use Rattle.settle_steps.proofs.old_block.settle_old_block.Goals as goal
 
-pub names-live-requires-clause-root : goal.names-live-requires-clause-root
-names-live-requires-clause-root g c = old_root_low (words_of (g.P.Pmem.state c.args.p.now)) c.args.line c.args.root c.args.block c.requires.line c.requires.open_entry
-
-pub names-live-requires-clause-inside : goal.names-live-requires-clause-inside
-names-live-requires-clause-inside g c = old_root_inside (words_of (g.P.Pmem.state c.args.p.now)) c.args.line c.args.root c.args.block c.requires.line c.requires.open_entry
+pub names-live-requires : goal.names-live-requires
+names-live-requires g c =
+    let there = old_root_there (words_of (g.P.Pmem.state c.args.p.now)) c.args.line c.args.root c.args.block c.requires.line c.requires.open_entry in
+    record { root = there.low; inside = there.inside }
 
 pub old_number-number-requires-clause-place : goal.old_number-number-requires-clause-place
 old_number-number-requires-clause-place g c = place_low (words_of (g.P.Pmem.state c.args.p.now)) c.args.line c.args.root c.args.block c.requires.line c.requires.open_entry

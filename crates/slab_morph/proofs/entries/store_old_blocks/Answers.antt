@@ -1,8 +1,8 @@
-use Rattle.std.proofs.Common.{◌≡◌, ◌*◌, ◌/◌, ◌<◌, ◌≤◌, ◌∙◌, ℕ, true, false, length, sym, ap, arith, subst}
+use Rattle.std.proofs.Common.{◌≡◌, ◌+◌, ◌*◌, ◌/◌, ◌<◌, ◌≤◌, ◌∙◌, ℕ, true, false, length, sym, ap, arith, subst}
 use Rattle.pmem_lines.specs.Pmem.{PmemState, words_of, appended}
 use Rattle.pmem_lines.proofs.States.{Appends-state}
 use Rattle.size_classes.specs.Classes.{class_capacity}
-use Rattle.image_tables.specs.Tables.{index_word}
+use Rattle.image_tables.specs.Tables.{index_word, slab_bit}
 use Rattle.slab_header.specs.Morph.{numbers_below, index_stores}
 use Rattle.slab_morph.specs.SlabHeaders.{header_at}
 use Rattle.slab_morph.proofs.Numbers.{count_more}
@@ -14,31 +14,29 @@ use Rattle.slab_morph.proofs.entries.store_old_blocks.Goals.{then-bit_at, else-b
 few_by : (s : PmemState) (start end capacity : ℕ) → end ≡ capacity → length (numbers_below (header_at (words_of s) start).bit capacity) ≤ 64 → length (numbers_below (header_at (words_of s) start).bit end) ≤ 64
 few_by s start end capacity is few = subst (λ (n : ℕ). length (numbers_below (header_at (words_of s) start).bit n) ≤ 64) (sym is) few
 
+-- there is a place for a block whose bit is set
+room_for : (s t : PmemState) (start n end : ℕ) {capacity : ℕ} → end ≡ capacity → n < end → end ≤ 4096 → length (numbers_below (header_at (words_of s) start).bit capacity) ≤ 64 →
+    t ≡ appended s (index_stores start 0 (numbers_below (header_at (words_of s) start).bit n)) → true ≡ slab_bit (words_of t) start n →
+    (length (numbers_below (header_at (words_of s) start).bit n) + 1 ≤ length (numbers_below (header_at (words_of s) start).bit capacity)) × (length (numbers_below (header_at (words_of s) start).bit n) < 64)
+room_for s t start n end {capacity} is below most few whole read =
+    let few_there = few_by s start end capacity is few in
+    let room = place_below s t start n end below most few_there whole read in
+    (subst (λ (m : ℕ). length (numbers_below (header_at (words_of s) start).bit n) + 1 ≤ length (numbers_below (header_at (words_of s) start).bit m)) is room, omega (arith, room, few_there))
+
 pub index_at-requires-clause-place : goal.index_at-requires-clause-place
 index_at-requires-clause-place g c =
-    let s = g.P.Pmem.state c.args.p.now in
-    let start = c.args.slab / 16384 in
-    let few = few_by s start c.capacity-number-end.result _ c.capacity-number-end.ensures.count c.requires.few in
-    let room = place_below s (g.P.Pmem.state c.loop-number.p) start c.loop-number.number c.capacity-number-end.result c.loop-number-test.true (omega arith) few c.loop-number.invariant.whole c.if-bit_at.ensures.bit in
-    omega (arith, room, few, c.loop-number.invariant.place)
+    let so_far = c.loop-number.invariant in
+    let room = room_for (g.P.Pmem.state c.args.p.now) (g.P.Pmem.state c.loop-number.p) (c.args.slab / 16384) c.loop-number.number c.capacity-number-end.result c.capacity-number-end.ensures.count c.loop-number-test.true (omega arith) c.requires.few so_far.whole c.if-bit_at.ensures.bit in
+    omega (arith, room.1, so_far.place)
 
-pub store-requires-clause-place : goal.store-requires-clause-place
-store-requires-clause-place g c =
-    let s = g.P.Pmem.state c.args.p.now in
-    let start = c.args.slab / 16384 in
-    let few = few_by s start c.capacity-number-end.result _ c.capacity-number-end.ensures.count c.requires.few in
-    let room = place_below s (g.P.Pmem.state c.loop-number.p) start c.loop-number.number c.capacity-number-end.result c.loop-number-test.true (omega arith) few c.loop-number.invariant.whole c.if-bit_at.ensures.bit in
-    let below : c.loop-number.place < 64 = omega (arith, room, few, c.loop-number.invariant.place) in
-    record { aligned = omega (arith, c.index_at.ensures); inside = omega (arith, c.index_at.ensures, below, c.loop-number.invariant.size) }
-
-pub store-requires-clause-room : goal.store-requires-clause-room
-store-requires-clause-room g c =
-    let s = g.P.Pmem.state c.args.p.now in
-    let start = c.args.slab / 16384 in
-    let few = few_by s start c.capacity-number-end.result _ c.capacity-number-end.ensures.count c.requires.few in
-    let room = place_below s (g.P.Pmem.state c.loop-number.p) start c.loop-number.number c.capacity-number-end.result c.loop-number-test.true (omega arith) few c.loop-number.invariant.whole c.if-bit_at.ensures.bit in
-    let all = ap (λ n. length (numbers_below (header_at (words_of s) start).bit n)) c.capacity-number-end.ensures.count in
-    omega (arith, room, all, c.requires.room, c.loop-number.invariant.place, c.loop-number.invariant.count, c.loop-number.invariant.room)
+pub store-requires : goal.store-requires
+store-requires g c =
+    let so_far = c.loop-number.invariant in
+    let room = room_for (g.P.Pmem.state c.args.p.now) (g.P.Pmem.state c.loop-number.p) (c.args.slab / 16384) c.loop-number.number c.capacity-number-end.result c.capacity-number-end.ensures.count c.loop-number-test.true (omega arith) c.requires.few so_far.whole c.if-bit_at.ensures.bit in
+    record {
+      place = record { aligned = omega (arith, c.index_at.ensures); inside = omega (arith, c.index_at.ensures, room.1, so_far.place, so_far.size) };
+      room = omega (arith, room.0, c.requires.room, so_far.place, so_far.count, so_far.room);
+    }
 
 pub loop-number-preserved : goal.loop-number-preserved
 loop-number-preserved g c =

@@ -3,7 +3,7 @@ use Rattle.std.proofs.lemmas.Bool.{cases_Bool}
 use Rattle.pmem_lines.specs.Pmem.{words_of}
 use Rattle.slab_morph.specs.SlabHeaders.{header_at}
 use Rattle.slab_morph.specs.Fitness.{IsFitHeader}
-use Rattle.slab_morph.proofs.Fitting.{read_by, none_same, none_old, fits_untold, fits_told, told_few, told_sparse, told_clear}
+use Rattle.slab_morph.proofs.Fitting.{read_by, none_same, none_old, fits_untold, fits_told, told_counts, told_clear}
 use Rattle.slab_morph.proofs.TableFits.{fit_of_slab}
 use Rattle.slab_morph.proofs.fitness.fit.Goals as goal
 use Rattle.slab_morph.proofs.fitness.fit.Goals.{then-state-class-via-then-state-class, then-state-class-via-else-state-class+then-has_live}
@@ -19,58 +19,44 @@ not_false false is = absurd (true≢false is)
 pub returns-then-state-class-clause-fit : goal.returns-then-state-class-clause-fit
 returns-then-state-class-clause-fit g c =
     let start = c.args.slab / 16384 in
-    let h = header_at (words_of (g.P.Pmem.state c.args.p.now)) start in
-    let fields = c.fields_of-state in
-    let read = read_by h c.state_at.result fields.result.class fields.result.entries fields.result.reads_bits c.state_at.ensures.says c.state_at.ensures.valid fields.ensures.class fields.ensures.entries fields.ensures.reads_bits in
-    let none : ¬ (IsFitHeader h start c.args.class) = elim c.then-state-class.branch [
-      | then-state-class-via-then-state-class w ↦ none_same h start c.args.class fields.result.class fields.result.entries fields.result.reads_bits read c.requires.class w.if-state-class.true
-      | then-state-class-via-else-state-class+then-has_live w ↦
-          let old = w.if-has_live.ensures.some refl in
-          none_old h start c.args.class fields.result.class fields.result.entries fields.result.reads_bits read c.requires.class old.0 old.1 old.2
+    let fields = c.fields_of-state.ensures in
+    let read = read_by c.state_at.ensures.says c.state_at.ensures.valid fields.class fields.entries fields.reads_bits in
+    let none : ¬ (IsFitHeader (header_at (words_of (g.P.Pmem.state c.args.p.now)) start) start c.args.class) = elim c.then-state-class.branch [
+      | then-state-class-via-then-state-class w ↦ none_same read start c.args.class c.requires.class w.if-state-class.true
+      | then-state-class-via-else-state-class+then-has_live w ↦ let old = w.if-has_live.ensures.some refl in none_old read start c.args.class c.requires.class old.0 old.1 old.2
     ] in
     (λ wrong. absurd (true≢false (sym wrong)), λ fit. absurd (none fit))
 
 pub returns-then-not-state-clause-fit : goal.returns-then-not-state-clause-fit
 returns-then-not-state-clause-fit g c =
-    let start = c.args.slab / 16384 in
-    let h = header_at (words_of (g.P.Pmem.state c.args.p.now)) start in
-    let fields = c.fields_of-state in
-    let read = read_by h c.state_at.result fields.result.class fields.result.entries fields.result.reads_bits c.state_at.ensures.says c.state_at.ensures.valid fields.ensures.class fields.ensures.entries fields.ensures.reads_bits in (
-      λ is. fits_untold h start c.args.class fields.result.class fields.result.entries fields.result.reads_bits read c.requires.class c.if-state-class.false (c.if-has_live.ensures.none refl) (not_true fields.result.reads_bits c.if-not-state.true),
+    let fields = c.fields_of-state.ensures in
+    let read = read_by c.state_at.ensures.says c.state_at.ensures.valid fields.class fields.entries fields.reads_bits in (
+      λ is. fits_untold read (c.args.slab / 16384) c.args.class c.requires.class c.if-state-class.false (c.if-has_live.ensures.none refl) (not_true c.fields_of-state.result.reads_bits c.if-not-state.true),
       λ fit. c.if-not-state.true,
     )
 
 pub returns-then-is_sparse-clause-fit : goal.returns-then-is_sparse-clause-fit
 returns-then-is_sparse-clause-fit g c =
     let start = c.args.slab / 16384 in
-    let h = header_at (words_of (g.P.Pmem.state c.args.p.now)) start in
-    let fields = c.fields_of-state in
-    let read = read_by h c.state_at.result fields.result.class fields.result.entries fields.result.reads_bits c.state_at.ensures.says c.state_at.ensures.valid fields.ensures.class fields.ensures.entries fields.ensures.reads_bits in
-    let tells = not_false fields.result.reads_bits c.if-not-state.false in
+    let fields = c.fields_of-state.ensures in
+    let read = read_by c.state_at.ensures.says c.state_at.ensures.valid fields.class fields.entries fields.reads_bits in
+    let tells = not_false c.fields_of-state.result.reads_bits c.if-not-state.false in
+    let none = c.if-has_live.ensures.none refl in
     let sparse = c.is_sparse.ensures.0 c.if-is_sparse.true in (
-      λ is.
-          let found = c.has_room.ensures.some is in
-          fits_told h start c.args.class fields.result.class fields.result.entries fields.result.reads_bits read c.requires.class c.if-state-class.false (c.if-has_live.ensures.none refl) tells found.0 sparse.0 sparse.1 found.1,
+      λ is. let found = c.has_room.ensures.some is in fits_told read start c.args.class c.requires.class c.if-state-class.false none tells found.0 sparse.0 sparse.1 found.1,
       λ fit. ⊎_elim
           (λ (is : c.has_room.result ≡ true). is)
-          (λ (is : c.has_room.result ≡ false).
-          absurd (c.has_room.ensures.none is fit.number (told_clear h start c.args.class fields.result.class fields.result.entries fields.result.reads_bits read c.requires.class c.if-state-class.false (c.if-has_live.ensures.none refl) tells fit)))
+          (λ (is : c.has_room.result ≡ false). absurd (c.has_room.ensures.none is fit.number (told_clear read start c.args.class c.requires.class c.if-state-class.false none tells fit)))
           (cases_Bool c.has_room.result),
     )
 
 pub returns-else-is_sparse-clause-fit : goal.returns-else-is_sparse-clause-fit
 returns-else-is_sparse-clause-fit g c =
-    let start = c.args.slab / 16384 in
-    let h = header_at (words_of (g.P.Pmem.state c.args.p.now)) start in
-    let fields = c.fields_of-state in
-    let read = read_by h c.state_at.result fields.result.class fields.result.entries fields.result.reads_bits c.state_at.ensures.says c.state_at.ensures.valid fields.ensures.class fields.ensures.entries fields.ensures.reads_bits in
-    let tells = not_false fields.result.reads_bits c.if-not-state.false in
-    let none = c.if-has_live.ensures.none refl in (
+    let fields = c.fields_of-state.ensures in
+    let read = read_by c.state_at.ensures.says c.state_at.ensures.valid fields.class fields.entries fields.reads_bits in
+    let tells = not_false c.fields_of-state.result.reads_bits c.if-not-state.false in (
       λ is. absurd (true≢false (sym is ∙ c.if-is_sparse.false)),
-      λ fit.
-          let few = told_few h start c.args.class fields.result.class fields.result.entries fields.result.reads_bits read c.requires.class c.if-state-class.false none tells fit in
-          let sparse = told_sparse h start c.args.class fields.result.class fields.result.entries fields.result.reads_bits read c.requires.class c.if-state-class.false none tells fit in
-          c.is_sparse.ensures.1 (few, sparse),
+      λ fit. c.is_sparse.ensures.1 (told_counts read (c.args.slab / 16384) c.args.class c.requires.class c.if-state-class.false (c.if-has_live.ensures.none refl) tells fit),
     )
 
 pub returns-then-state-class-clause-table : goal.returns-then-state-class-clause-table

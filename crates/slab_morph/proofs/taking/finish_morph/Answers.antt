@@ -10,7 +10,7 @@ use Rattle.slab_morph.specs.SlabHeaders.{SlabHeader, header_at, HasState}
 use Rattle.slab_morph.specs.Stages.{with_state, finished, KeepsHeld, IsFinishStage}
 use Rattle.slab_morph.proofs.BitmapEvents.{IsQuiet-clear}
 use Rattle.slab_morph.proofs.HeaderTables.{changes_by, off_then}
-use Rattle.slab_morph.proofs.Stages.{keeps_by, finishing, finish_crash}
+use Rattle.slab_morph.proofs.Stages.{keeps_changed, finishing, finish_crash}
 use Rattle.slab_morph.proofs.taking.finish_morph.Goals as goal
 
 -- the state at the end, by what the header says
@@ -29,13 +29,11 @@ returns-clause-finished g c =
 pub returns-clause-kept : goal.returns-clause-kept
 returns-clause-kept g c =
     let state = g.P.Pmem.state in
-    let words = words_of (state c.args.p.now) in
-    let new = words_of (state c.put_state.new.p) in
-    let start = c.args.slab / 16384 in
-    let h = header_at words start in
+    let cleared = c.clear_bitmap.ensures in
+    let told = c.put_state.ensures in
     let done = returns-clause-finished g c in
-    let last = finishing words start c.requires.morphing.kind (words_of (state c.clear_bitmap.new.p)) new c.clear_bitmap.ensures.others c.clear_bitmap.ensures.cleared.header c.put_state.ensures.others c.put_state.ensures.valid done.header in
-    keeps_by words new start (λ (g : SlabHeader). g ≡ finished h) done.off done.header last.held last.valid
+    let last = finishing (words_of (state c.args.p.now)) (c.args.slab / 16384) c.requires.morphing.kind (words_of (state c.clear_bitmap.new.p)) (words_of (state c.put_state.new.p)) cleared.others cleared.cleared.header told.others told.valid done.header in
+    keeps_changed done last.held last.valid
 
 pub returns-clause-step : goal.returns-clause-step
 returns-clause-step g c = record {

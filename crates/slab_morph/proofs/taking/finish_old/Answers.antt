@@ -8,7 +8,7 @@ use Rattle.slab_header.specs.Morph.{state_events}
 use Rattle.slab_morph.specs.SlabHeaders.{SlabHeader, header_at, HasState}
 use Rattle.slab_morph.specs.Stages.{with_state, settled, KeepsHeld, IsSettleStage}
 use Rattle.slab_morph.proofs.HeaderTables.{changes_by}
-use Rattle.slab_morph.proofs.Stages.{keeps_by, settling, settle_crash}
+use Rattle.slab_morph.proofs.Stages.{keeps_changed, settling, settle_crash}
 use Rattle.slab_morph.proofs.taking.finish_old.Goals as goal
 
 -- the state that is put, by what the header says
@@ -24,12 +24,9 @@ returns-clause-settled g c =
 pub returns-clause-kept : goal.returns-clause-kept
 returns-clause-kept g c =
     let state = g.P.Pmem.state in
-    let words = words_of (state c.args.p.now) in
-    let new = words_of (state c.put_state.new.p) in
-    let start = c.args.slab / 16384 in
     let done = returns-clause-settled g c in
-    let last = settling words new start c.requires.done.kind c.requires.done.none c.put_state.ensures.others c.put_state.ensures.valid done.header in
-    keeps_by words new start (λ (g : SlabHeader). g ≡ settled (header_at words start)) done.off done.header last.held last.valid
+    let last = settling (words_of (state c.args.p.now)) (words_of (state c.put_state.new.p)) (c.args.slab / 16384) c.requires.done.kind c.requires.done.none c.put_state.ensures.others c.put_state.ensures.valid done.header in
+    keeps_changed done last.held last.valid
 
 pub returns-clause-step : goal.returns-clause-step
 returns-clause-step g c = record {

@@ -15,42 +15,38 @@ use Rattle.slab_morph.proofs.HeaderTables.{changes_by, off_then}
 use Rattle.slab_morph.proofs.Holding.{same_then, same_morphing}
 use Rattle.slab_morph.proofs.IndexEvents.{length-index_events, IsQuiet-index}
 use Rattle.slab_morph.proofs.Morphable.{valid_morphing, no_entries, numbers_are, few_numbers, on_its_way, valid_on_its_way}
-use Rattle.slab_morph.proofs.Stages.{keeps_by, told_valid, morph_crash}
+use Rattle.slab_morph.proofs.Stages.{keeps_changed, told_valid, morph_crash}
 use Rattle.slab_morph.proofs.taking.morph.Given as given
 use Rattle.slab_morph.proofs.taking.morph.Goals as goal
 
 pub index_old_blocks-entries-requires-clause-few : goal.index_old_blocks-entries-requires-clause-few
 index_old_blocks-entries-requires-clause-few g c =
-    few_numbers (words_of (g.P.Pmem.state c.args.p.now)) (c.args.slab / 16384) c.args.class c.fields_of-old.result.class c.state_at.result c.requires.morphable c.state_at.ensures.says c.state_at.ensures.valid c.fields_of-old.ensures.class
+    few_numbers c.requires.morphable c.state_at.ensures.says c.state_at.ensures.valid c.fields_of-old.ensures.class
 
 pub index_old_blocks-entries-requires-clause-room : goal.index_old_blocks-entries-requires-clause-room
 index_old_blocks-entries-requires-clause-room g c =
-    let numbers = numbers_are (words_of (g.P.Pmem.state c.args.p.now)) (c.args.slab / 16384) c.args.class c.fields_of-old.result.class c.state_at.result c.requires.morphable c.state_at.ensures.says c.state_at.ensures.valid c.fields_of-old.ensures.class in
+    let numbers = numbers_are c.requires.morphable c.state_at.ensures.says c.state_at.ensures.valid c.fields_of-old.ensures.class in
     omega (arith, c.requires.room, ap length numbers)
 
 pub put_state-requires-clause-valid : goal.put_state-requires-clause-valid
 put_state-requires-clause-valid g c =
-    valid_on_its_way (words_of (g.P.Pmem.state c.args.p.now)) (c.args.slab / 16384) c.args.class c.fields_of-old.result.class c.state_at.result c.requires.morphable c.state_at.ensures.says c.state_at.ensures.valid c.fields_of-old.ensures.class
+    valid_on_its_way c.requires.morphable c.state_at.ensures.says c.state_at.ensures.valid c.fields_of-old.ensures.class
     c.index_old_blocks-entries.result c.requires.class c.index_old_blocks-entries.ensures.count
 
 pub put_state-requires-clause-room : goal.put_state-requires-clause-room
 put_state-requires-clause-room g c =
-    let words = words_of (g.P.Pmem.state c.args.p.now) in
-    let start = c.args.slab / 16384 in
-    let own = c.fields_of-old.result.class in
-    let numbers = numbers_are words start c.args.class own c.state_at.result c.requires.morphable c.state_at.ensures.says c.state_at.ensures.valid c.fields_of-old.ensures.class in
-    let indexed = c.index_old_blocks-entries.ensures in
-    omega (arith, c.requires.room, ap length numbers, indexed.step.appends.room, indexed.step.appends.count, length-index_events start (numbers_of (header_at words start) own))
+    let numbers = numbers_are c.requires.morphable c.state_at.ensures.says c.state_at.ensures.valid c.fields_of-old.ensures.class in
+    let indexed = c.index_old_blocks-entries.ensures.step.appends in
+    let index_count = length-index_events (c.args.slab / 16384) (numbers_of (header_at (words_of (g.P.Pmem.state c.args.p.now)) (c.args.slab / 16384)) c.fields_of-old.result.class) in
+    omega (arith, c.requires.room, ap length numbers, indexed.room, indexed.count, index_count)
 
 pub finish_morph-requires-clause-room : goal.finish_morph-requires-clause-room
 finish_morph-requires-clause-room g c =
-    let words = words_of (g.P.Pmem.state c.args.p.now) in
-    let start = c.args.slab / 16384 in
-    let own = c.fields_of-old.result.class in
-    let numbers = numbers_are words start c.args.class own c.state_at.result c.requires.morphable c.state_at.ensures.says c.state_at.ensures.valid c.fields_of-old.ensures.class in
-    let indexed = c.index_old_blocks-entries.ensures in
     let told = c.put_state.ensures.step.appends in
-    omega (arith, c.requires.room, ap length numbers, indexed.step.appends.room, indexed.step.appends.count, told.room, told.count, length-index_events start (numbers_of (header_at words start) own))
+    let numbers = numbers_are c.requires.morphable c.state_at.ensures.says c.state_at.ensures.valid c.fields_of-old.ensures.class in
+    let indexed = c.index_old_blocks-entries.ensures.step.appends in
+    let index_count = length-index_events (c.args.slab / 16384) (numbers_of (header_at (words_of (g.P.Pmem.state c.args.p.now)) (c.args.slab / 16384)) c.fields_of-old.result.class) in
+    omega (arith, c.requires.room, ap length numbers, indexed.room, indexed.count, told.room, told.count, index_count)
 
 -- where the slab is on its way
 
@@ -60,12 +56,12 @@ index_is g c =
     let words = words_of (g.P.Pmem.state c.args.p.now) in
     let start = c.args.slab / 16384 in
     c.index_old_blocks-entries.ensures.indexed.header
-    ∙ ap (with_index (header_at words start)) (numbers_are words start c.args.class c.fields_of-old.result.class c.state_at.result c.requires.morphable c.state_at.ensures.says c.state_at.ensures.valid c.fields_of-old.ensures.class)
+    ∙ ap (with_index (header_at words start)) (numbers_are c.requires.morphable c.state_at.ensures.says c.state_at.ensures.valid c.fields_of-old.ensures.class)
 
 way_is : (g : given.Over) (c : goal.After-finish_morph g) → Morphing c.args.class c.fields_of-old.result.class c.index_old_blocks-entries.result ≡
     Morphing c.args.class (header_at (words_of (g.P.Pmem.state c.args.p.now)) (c.args.slab / 16384)).class (length (set_numbers (header_at (words_of (g.P.Pmem.state c.args.p.now)) (c.args.slab / 16384))))
 way_is g c =
-    on_its_way (words_of (g.P.Pmem.state c.args.p.now)) (c.args.slab / 16384) c.args.class c.fields_of-old.result.class c.state_at.result c.requires.morphable c.state_at.ensures.says c.state_at.ensures.valid c.fields_of-old.ensures.class
+    on_its_way c.requires.morphable c.state_at.ensures.says c.state_at.ensures.valid c.fields_of-old.ensures.class
     c.index_old_blocks-entries.result c.requires.class c.index_old_blocks-entries.ensures.count
 
 on_way : (g : given.Over) (c : goal.After-finish_morph g) → header_at (words_of (g.P.Pmem.state c.put_state.new.p)) (c.args.slab / 16384) ≡ morphing (header_at (words_of (g.P.Pmem.state c.args.p.now)) (c.args.slab / 16384)) c.args.class
@@ -83,7 +79,7 @@ events_are : (g : given.Over) (c : goal.After-finish_morph g) →
     ≡ morph_events (alone (header_at (words_of (g.P.Pmem.state c.args.p.now)) (c.args.slab / 16384))) (c.args.slab / 16384) c.args.class
 events_are g c =
     let start = c.args.slab / 16384 in
-    let numbers = numbers_are (words_of (g.P.Pmem.state c.args.p.now)) start c.args.class c.fields_of-old.result.class c.state_at.result c.requires.morphable c.state_at.ensures.says c.state_at.ensures.valid c.fields_of-old.ensures.class in
+    let numbers = numbers_are c.requires.morphable c.state_at.ensures.says c.state_at.ensures.valid c.fields_of-old.ensures.class in
     λ i. index_events start (numbers i) ++ state_events start (way_is g c i) ++ finish_morph_events start (on_way g c i).class (on_way g c i).old (on_way g c i).index_count
 
 pub returns-clause-count : goal.returns-clause-count
@@ -91,7 +87,7 @@ returns-clause-count g c =
     let words = words_of (g.P.Pmem.state c.args.p.now) in
     let start = c.args.slab / 16384 in
     let own = c.fields_of-old.result.class in
-    let numbers = numbers_are words start c.args.class own c.state_at.result c.requires.morphable c.state_at.ensures.says c.state_at.ensures.valid c.fields_of-old.ensures.class in
+    let numbers = numbers_are c.requires.morphable c.state_at.ensures.says c.state_at.ensures.valid c.fields_of-old.ensures.class in
     omega (arith, ap length numbers, c.index_old_blocks-entries.ensures.step.appends.count, c.put_state.ensures.step.appends.count, c.finish_morph.ensures.count, length-index_events start (numbers_of (header_at words start) own))
 
 pub returns-clause-morphed : goal.returns-clause-morphed
@@ -114,11 +110,11 @@ returns-clause-kept g c =
     let h = header_at words start in
     let own = c.fields_of-old.result.class in
     let done = returns-clause-morphed g c in
-    let none = no_entries words start c.args.class own c.state_at.result c.requires.morphable c.state_at.ensures.says c.state_at.ensures.valid c.fields_of-old.ensures.class in
-    let fields = valid_morphing words start c.args.class own c.state_at.result c.requires.morphable c.state_at.ensures.says c.state_at.ensures.valid c.fields_of-old.ensures.class c.requires.class in
-    let numbers = numbers_are words start c.args.class own c.state_at.result c.requires.morphable c.state_at.ensures.says c.state_at.ensures.valid c.fields_of-old.ensures.class in
+    let none = no_entries c.requires.morphable c.state_at.ensures.says c.state_at.ensures.valid c.fields_of-old.ensures.class in
+    let fields = valid_morphing c.requires.morphable c.state_at.ensures.says c.state_at.ensures.valid c.fields_of-old.ensures.class c.requires.class in
+    let numbers = numbers_are c.requires.morphable c.state_at.ensures.says c.state_at.ensures.valid c.fields_of-old.ensures.class in
     let last = c.finish_morph.ensures.kept in
-    keeps_by words new start (λ (g : SlabHeader). g ≡ morphed h c.args.class) done.off done.header
+    keeps_changed done
     (same_then start h (morphing h c.args.class) (header_at new start) (same_morphing start c.args.class h c.requires.morphable.normal none)
     (subst (λ (g : SlabHeader). HoldSame start g (header_at new start)) (on_way g c) last.held))
     (λ _. last.valid
@@ -145,12 +141,12 @@ returns-clause-step g c = record {
       let first = index_events start (numbers_of h own) in
       let second = state_events start way in
       let there = header_at told start in
-      let none = no_entries words start c.args.class own c.state_at.result c.requires.morphable c.state_at.ensures.says c.state_at.ensures.valid c.fields_of-old.ensures.class in
-      let few = few_numbers words start c.args.class own c.state_at.result c.requires.morphable c.state_at.ensures.says c.state_at.ensures.valid c.fields_of-old.ensures.class in
+      let none = no_entries c.requires.morphable c.state_at.ensures.says c.state_at.ensures.valid c.fields_of-old.ensures.class in
+      let few = few_numbers c.requires.morphable c.state_at.ensures.says c.state_at.ensures.valid c.fields_of-old.ensures.class in
       let quiet = IsQuiet-index start (numbers_of h own) few in
       let step = then_step c.index_old_blocks-entries.ensures.step.appends c.put_state.ensures.step.appends in
-      let fields = valid_morphing words start c.args.class own c.state_at.result c.requires.morphable c.state_at.ensures.says c.state_at.ensures.valid c.fields_of-old.ensures.class c.requires.class in
-      let numbers = numbers_are words start c.args.class own c.state_at.result c.requires.morphable c.state_at.ensures.says c.state_at.ensures.valid c.fields_of-old.ensures.class in
+      let fields = valid_morphing c.requires.morphable c.state_at.ensures.says c.state_at.ensures.valid c.fields_of-old.ensures.class c.requires.class in
+      let numbers = numbers_are c.requires.morphable c.state_at.ensures.says c.state_at.ensures.valid c.fields_of-old.ensures.class in
       subst (λ (es : List Event). CrashOnly words es (KeepsHeld words start (IsMorphStage h c.args.class))) (events_are g c)
       (morph_crash words start c.args.class c.requires.morphable.normal none indexed told c.index_old_blocks-entries.ensures.others
       (λ place below. c.index_old_blocks-entries.ensures.entries place (omega (arith, below, c.index_old_blocks-entries.ensures.count, ap length numbers)))

@@ -16,48 +16,35 @@ is_marked-requires-clause-number g c = number_few ((tables_of (words_of (g.P.Pme
 
 pub is_covered-requires-clause-number : goal.is_covered-requires-clause-number
 is_covered-requires-clause-number g c =
-    let words = words_of (g.P.Pmem.state c.args.p.now) in
-    let start = c.args.slab / 16384 in
-    let fields = c.fields_of-state in
-    let f = fields.result in
-    let read = IsRead_by words start f.class f.old f.entries f.reads_bits c.state_at.result c.requires.here.there c.state_at.ensures.says fields.ensures.class fields.ensures.old fields.ensures.entries fields.ensures.reads_bits in
+    let fields = c.fields_of-state.ensures in
+    let read = IsRead_by c.requires.here c.state_at.ensures.says fields.class fields.old fields.entries fields.reads_bits in
     subst (λ n. c.args.number < class_capacity n) (sym read.class_is) c.requires.number
 
 pub is_covered-requires-clause-numbers : goal.is_covered-requires-clause-numbers
 is_covered-requires-clause-numbers g c =
-    let words = words_of (g.P.Pmem.state c.args.p.now) in
-    let start = c.args.slab / 16384 in
-    let fields = c.fields_of-state in
-    let f = fields.result in
-    let read = IsRead_by words start f.class f.old f.entries f.reads_bits c.state_at.result c.requires.here.there c.state_at.ensures.says fields.ensures.class fields.ensures.old fields.ensures.entries fields.ensures.reads_bits in
-    small_numbers words start f.class f.old f.entries c.args.number f.reads_bits read c.requires.here.there c.requires.here.valid c.requires.number
+    let fields = c.fields_of-state.ensures in
+    let read = IsRead_by c.requires.here c.state_at.ensures.says fields.class fields.old fields.entries fields.reads_bits in
+    small_numbers c.requires.here read c.args.number c.requires.number
 
 pub returns-then-not-is_marked : goal.returns-then-not-is_marked
 returns-then-not-is_marked g c =
-    let words = words_of (g.P.Pmem.state c.args.p.now) in
-    let start = c.args.slab / 16384 in
-    let fields = c.fields_of-state in
-    let f = fields.result in
-    let read = IsRead_by words start f.class f.old f.entries f.reads_bits c.state_at.result c.requires.here.there c.state_at.ensures.says fields.ensures.class fields.ensures.old fields.ensures.entries fields.ensures.reads_bits in
+    let fields = c.fields_of-state.ensures in
+    let read = IsRead_by c.requires.here c.state_at.ensures.says fields.class fields.old fields.entries fields.reads_bits in
     let unmarked = c.if-not-is_marked.true in (
-      λ is. unused_read words start f.class f.old f.entries c.args.number f.reads_bits read c.requires.here.there c.requires.here.valid c.requires.number
-          (λ both. true≢false (sym (c.is_marked.ensures.1 both) ∙ unmarked)) (c.is_covered.ensures.none (not_true c.is_covered.result is)),
+      λ is. unused_read c.requires.here read c.args.number c.requires.number (λ both. true≢false (sym (c.is_marked.ensures.1 both) ∙ unmarked)) (c.is_covered.ensures.none (not_true c.is_covered.result is)),
       λ unused. ⊎_elim
           (λ (covered : c.is_covered.result ≡ true).
           let found = c.is_covered.ensures.some covered in
-          absurd (used_covered words start f.class f.old f.entries c.args.number f.reads_bits read c.requires.here.there c.requires.here.valid c.requires.number found.0 found.1 found.2 found.3 unused))
+          absurd (used_covered c.requires.here read c.args.number c.requires.number found.0 found.1 found.2 found.3 unused))
           (λ (free : c.is_covered.result ≡ false). ap not free)
           (cases_Bool c.is_covered.result),
     )
 
 pub returns-else-not-is_marked : goal.returns-else-not-is_marked
 returns-else-not-is_marked g c =
-    let words = words_of (g.P.Pmem.state c.args.p.now) in
-    let start = c.args.slab / 16384 in
-    let fields = c.fields_of-state in
-    let f = fields.result in
-    let read = IsRead_by words start f.class f.old f.entries f.reads_bits c.state_at.result c.requires.here.there c.state_at.ensures.says fields.ensures.class fields.ensures.old fields.ensures.entries fields.ensures.reads_bits in
+    let fields = c.fields_of-state.ensures in
+    let read = IsRead_by c.requires.here c.state_at.ensures.says fields.class fields.old fields.entries fields.reads_bits in
     let marked = c.if-not-is_marked.false in (
       λ is. absurd (true≢false (sym is ∙ ap not marked)),
-      λ unused. absurd (used_marked words start f.class f.old f.entries c.args.number f.reads_bits read c.requires.here.there c.requires.here.valid c.requires.number (c.is_marked.ensures.0 marked) unused),
+      λ unused. absurd (used_marked c.requires.here read c.args.number c.requires.number (c.is_marked.ensures.0 marked) unused),
     )

@@ -38,9 +38,6 @@ loop-place-preserved g c = record {
 
 pub returns-clause-unused : goal.returns-clause-unused
 returns-clause-unused g c =
-    let words = words_of (g.P.Pmem.state c.args.p.now) in
-    let start = c.args.slab / 16384 in
-    let fields = c.fields_of-state in
-    let f = fields.result in
-    let read = IsRead_by words start f.class f.old f.entries f.reads_bits c.state_at.result c.requires.there c.state_at.ensures.says fields.ensures.class fields.ensures.old fields.ensures.entries fields.ensures.reads_bits in
-    used_all words start f.class f.old f.entries c.loop-place.place f.reads_bits c.loop-place.used read c.requires.there c.requires.valid (omega (arith, c.loop-place-test.false, c.loop-place.auto.place-end)) c.loop-place.invariant.gone
+    let fields = c.fields_of-state.ensures in
+    let read = IsRead_by c.requires c.state_at.ensures.says fields.class fields.old fields.entries fields.reads_bits in
+    used_all c.loop-place.place c.loop-place.used c.requires read (omega (arith, c.loop-place-test.false, c.loop-place.auto.place-end)) c.loop-place.invariant.gone

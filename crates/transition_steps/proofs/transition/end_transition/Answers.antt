@@ -1,48 +1,22 @@
-use Rattle.std.proofs.Common.{◌≡◌, ℕ, ◌/◌, List, inr, sym, subst, arith}
+use Rattle.std.proofs.Common.{◌≡◌, inr, sym, subst}
 use Rattle.pmem_lines.specs.Pmem.{words_of}
-use Rattle.pmem_lines.specs.Steps.{IsQuietStep}
 use Rattle.pmem_lines.proofs.Steps.{step_wider}
 use Rattle.slab_header.specs.Morph.{finish_old_events}
-use Rattle.slab_morph.specs.SlabHeaders.{SlabHeader, header_at}
-use Rattle.slab_morph.specs.Stages.{settled, IsSettleStage, IsDone, KeepsHeld}
-use Rattle.transition_steps.proofs.HeaderImages.{header_here}
-use Rattle.transition_steps.proofs.EndImages.{done_there, end_keeps, end_done}
-use Rattle.transition_steps.proofs.transition.end_transition.Given as given
+use Rattle.slab_morph.specs.SlabHeaders.{SlabHeader}
+use Rattle.slab_morph.specs.Stages.{settled, IsSettleStage, IsDone}
+use Rattle.slab_morph.proofs.Stages.{keeps_wider}
+use Rattle.transition_steps.proofs.HeaderImages.{granule_is, step_here, kept_here}
+use Rattle.transition_steps.proofs.EndImages.{header_is, done_there, end_keeps, end_done}
 use Rattle.transition_steps.proofs.transition.end_transition.Goals as goal
 
--- the end is a stage
-wider : (words : List ℕ) (start : ℕ) (new : List ℕ) → KeepsHeld words start (λ (h : SlabHeader). h ≡ settled (header_at words start)) new → KeepsHeld words start (IsSettleStage (header_at words start)) new
-wider words start new kept = record {
-  left = record { off = kept.left.off; header = inr kept.left.header; tables = kept.left.tables };
-  held = kept.held;
-  valid = kept.valid;
-  all_held = kept.all_held;
-}
-
 pub finish_old-requires-clause-done : goal.finish_old-requires-clause-done
-finish_old-requires-clause-done g c =
-    let start : c.granule_at.result / 16384 ≡ c.args.start = omega (arith, c.granule_at.ensures) in
-    subst (IsDone (words_of (g.P.Pmem.state c.args.p.now))) (sym start) (done_there (words_of (g.P.Pmem.state c.args.p.now)) c.args.start c.requires.endable)
-
--- the granule of the slab's first byte
-start_is : (g : given.Over) (c : goal.After-finish_old g) → c.granule_at.result / 16384 ≡ c.args.start
-start_is g c = omega (arith, c.granule_at.ensures)
+finish_old-requires-clause-done g c = subst (IsDone (words_of (g.P.Pmem.state c.args.p.now))) (sym (granule_is c.granule_at.ensures)) (done_there c.requires.endable)
 
 pub returns-clause-step : goal.returns-clause-step
 returns-clause-step g c =
-    let state = g.P.Pmem.state in
-    let words = words_of (state c.args.p.now) in
-    let start = c.args.start in
-    let step = subst (λ s. IsQuietStep (state c.args.p.now) (state c.finish_old.new.p) (finish_old_events s (header_at words s).class) (KeepsHeld words s (IsSettleStage (header_at words s))))
-    (start_is g c) c.finish_old.ensures.step in
-    step_wider (end_keeps words start c.requires.endable)
-    (subst (λ (h : SlabHeader). IsQuietStep (state c.args.p.now) (state c.finish_old.new.p) (finish_old_events start h.class) (KeepsHeld words start (IsSettleStage (header_at words start))))
-    (sym (header_here words start c.requires.endable.image.formed c.requires.endable.image.sound c.requires.endable.here.slab)) step)
+    step_wider (end_keeps c.requires.endable) (step_here (λ start (h : SlabHeader). finish_old_events start h.class) IsSettleStage (granule_is c.granule_at.ensures) (header_is c.requires.endable) c.finish_old.ensures.step)
 
 pub returns-clause-ended : goal.returns-clause-ended
 returns-clause-ended g c =
-    let state = g.P.Pmem.state in
-    let words = words_of (state c.args.p.now) in
-    let new = words_of (state c.finish_old.new.p) in
-    let kept = subst (λ s. KeepsHeld words s (λ (h : SlabHeader). h ≡ settled (header_at words s)) new) (start_is g c) c.finish_old.ensures.kept in
-    end_done words c.args.start c.requires.endable new (wider words c.args.start new kept) kept.left.header
+    let kept = kept_here (λ (h g : SlabHeader). g ≡ settled h) (granule_is c.granule_at.ensures) c.finish_old.ensures.kept in
+    end_done c.requires.endable (words_of (g.P.Pmem.state c.finish_old.new.p)) (keeps_wider (λ h is. inr is) kept) kept.left.header

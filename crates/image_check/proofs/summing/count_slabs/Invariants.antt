@@ -1,8 +1,0 @@
-use Rattle.std.proofs.Common.{◌≤◌}
-use Rattle.image_tables.specs.Tables.{tables_of}
-use Rattle.image_defects.specs.Count.{IsCount}
-use Rattle.image_defects.specs.Summaries.{HasSlab}
-use Rattle.image_check.proofs.summing.count_slabs.Given as goal
-
-abbrev pub invariant-loop-start : goal.invariant-loop-start
-invariant-loop-start l = record { count : IsCount (HasSlab (tables_of l.words)) l.start l.count; few : l.count ≤ l.start }

@@ -1,0 +1,11 @@
+use Rattle.std.proofs.Common.{◌/◌, ◌∙◌, ap, arith}
+use Rattle.pmem_lines.specs.Words.{word_at}
+use Rattle.pmem_lines.specs.Pmem.{words_of}
+use Rattle.image_tables.specs.Log.{active_chunks}
+use Rattle.log_gc.proofs.room.active_of.Goals as goal
+
+pub load-requires : goal.load-requires
+load-requires g c = record { aligned = omega (arith, c.directory_at.ensures); inside = omega (arith, c.directory_at.ensures, c.requires) }
+
+pub returns : goal.returns
+returns g c = c.active_chunks.ensures ∙ ap active_chunks (c.load.ensures ∙ ap (λ a. word_at (words_of (g.P.Pmem.state c.args.p.now)) (a / 8)) c.directory_at.ensures)
