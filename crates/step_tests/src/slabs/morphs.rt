@@ -3,6 +3,7 @@ ghost use Rattle.std.specs.Prelude.{◌≡◌, ◌*◌, ◌≤◌, length};
 ghost use Rattle.pmem_lines.specs.Events.{IsQuiet};
 ghost use Rattle.pmem_lines.specs.Pmem.{words_of};
 
+use crate::steps::events::{flush, has_events, store};
 use durable_steps::write_word;
 use pmem_lines::{Event, OutOfMemory, Pmem, SimPmem};
 use rand_core::SeedableRng;
@@ -177,56 +178,22 @@ fn class_3_takes_class_19(rt: HostRuntime) -> Result<(), Fail> {
     assert!(rt; take_class(&mut device, 19, 0));
     assert_eq!(rt; device.event_count(), 82);
     let events = [
-        (
-            0,
-            Event::Store {
-                at: ENTRY,
-                value: 1,
-            },
-        ),
-        (1, Event::Flush { line: 1033 }),
+        (0, store(ENTRY, 1)),
+        (1, flush(1033)),
         (2, Event::Fence),
-        (
-            3,
-            Event::Store {
-                at: SLAB,
-                value: 0x0103_1302,
-            },
-        ),
-        (4, Event::Flush { line: 1024 }),
+        (3, store(SLAB, 0x0103_1302)),
+        (4, flush(1024)),
         (5, Event::Fence),
-        (
-            6,
-            Event::Store {
-                at: 65600,
-                value: 0,
-            },
-        ),
-        (
-            69,
-            Event::Store {
-                at: 66104,
-                value: 0,
-            },
-        ),
-        (70, Event::Flush { line: 1025 }),
-        (77, Event::Flush { line: 1032 }),
+        (6, store(65600, 0)),
+        (69, store(66104, 0)),
+        (70, flush(1025)),
+        (77, flush(1032)),
         (78, Event::Fence),
-        (
-            79,
-            Event::Store {
-                at: SLAB,
-                value: 0x0103_1303,
-            },
-        ),
-        (80, Event::Flush { line: 1024 }),
+        (79, store(SLAB, 0x0103_1303)),
+        (80, flush(1024)),
         (81, Event::Fence),
     ];
-    for (i, event) in events {
-        if i < device.event_count() {
-            assert_eq!(rt; device.event(i), event, "event {i}");
-        }
-    }
+    has_events(&rt, &device, &events);
     for seed in 0..8u64 {
         if device.event_count() >= 4 {
             let mut picks = SplitMix64::from_seed(seed.to_le_bytes());

@@ -1,16 +1,25 @@
 use Rattle.std.proofs.Common.{◌≡◌, ◌≤◌, ◌/◌, ℕ, List, sym, ap, subst, ◌∙◌, arith, length}
 use Rattle.pmem_lines.specs.Words.{put_word}
-use Rattle.pmem_lines.specs.Pmem.{PmemState, words_of}
+use Rattle.pmem_lines.specs.Pmem.{PmemState, words_of, began}
 use Rattle.pool_layout.specs.Layout.{layout_of}
 use Rattle.pool_layout.specs.Places.{fields_word, directory_word}
 use Rattle.image_tables.specs.Extents.{extent_at}
+use Rattle.book_log.specs.Book.{HasLog}
 use Rattle.book_log.proofs.Places.{within_heap}
 use Rattle.book_log.proofs.Fresh.{HasLog-fresh, IsFresh}
 use Rattle.log_gc.specs.Room.{room_events}
 use Rattle.log_gc.proofs.Booked.{room_most}
-use Rattle.step_tests.proofs.Evens.{even_disjoint, even_none, even_more, even_same}
+use Rattle.step_tests.proofs.Evens.{AreEven, even_disjoint, even_none, even_more, even_same}
 use Rattle.step_tests.proofs.Fresh.{IsFresh-zeros, fresh_none}
-use Rattle.step_tests.proofs.room.filled.Goals as goal
+use Rattle.step_tests.proofs.log.room.filled.Goals as goal
+
+-- once a call has begun, few events make room, and there is room for them
+begun_few : (granules : ℕ) (old begun : PmemState) → begun ≡ began old → old.room ≡ 700 → HasLog granules (words_of old) → length (words_of old) ≡ 8192 → granules ≡ 512 → AreEven (extent_at (words_of old)) →
+    (length (room_events granules (words_of begun)) ≤ 679) × (length begun.events ≡ 0) × (begun.room ≡ 700)
+unfolding layout_of
+begun_few granules old begun is room log size some even =
+    let few : length (room_events granules (words_of old)) ≤ 679 = omega (arith, room_most granules (words_of old) log (omega (arith, size)) (omega (arith, some)) (even_disjoint (extent_at (words_of old)) even)) in
+    (subst (λ (s : PmemState). length (room_events granules (words_of s)) ≤ 679) (sym is) few, ap (λ (s : PmemState). length s.events) is, ap (λ (s : PmemState). s.room) is ∙ room)
 
 pub load-requires-clause-log : goal.load-requires-clause-log
 load-requires-clause-log c =
@@ -54,13 +63,8 @@ make_room-made-requires-clause-few c = omega (arith, c.loop-i.invariant.granules
 pub make_room-made-requires-clause-left : goal.make_room-made-requires-clause-left
 unfolding layout_of
 make_room-made-requires-clause-left c =
-    let old = words_of c.loop-i.device in
-    let granules = c.loop-i.log.granules in
-    let same : words_of c.begin.new.self ≡ old = ap (λ (s : PmemState). words_of s) c.begin.ensures.state in
-    let most : length (room_events granules (words_of c.begin.new.self)) ≤ 679 = subst (λ (ws : List ℕ). length (room_events granules ws) ≤ 679) (sym same) (omega (arith, room_most granules old c.loop-i.invariant.reads.log (omega (arith, c.loop-i.invariant.size)) (omega (arith, c.loop-i.invariant.granules)) (even_disjoint (extent_at old) c.loop-i.invariant.even))) in
-    let none : length c.begin.new.self.events ≡ 0 = ap (λ (s : PmemState). length s.events) c.begin.ensures.state in
-    let room : c.begin.new.self.room ≡ 700 = ap (λ (s : PmemState). s.room) c.begin.ensures.state ∙ c.loop-i.invariant.room in
-    omega (arith, most, none, room)
+    let few = begun_few c.loop-i.log.granules c.loop-i.device c.begin.new.self c.begin.ensures.state c.loop-i.invariant.room c.loop-i.invariant.reads.log c.loop-i.invariant.size c.loop-i.invariant.granules c.loop-i.invariant.even in
+    omega (arith, few.0, few.1, few.2)
 
 pub append-requires-clause-valid : goal.append-requires-clause-valid
 unfolding layout_of
@@ -69,13 +73,8 @@ append-requires-clause-valid c = (c.start.ensures.low, omega arith, omega (arith
 pub append-requires-clause-left : goal.append-requires-clause-left
 unfolding layout_of
 append-requires-clause-left c =
-    let old = words_of c.loop-i.device in
-    let granules = c.loop-i.log.granules in
-    let same : words_of c.begin.new.self ≡ old = ap (λ (s : PmemState). words_of s) c.begin.ensures.state in
-    let most : length (room_events granules (words_of c.begin.new.self)) ≤ 679 = subst (λ (ws : List ℕ). length (room_events granules ws) ≤ 679) (sym same) (omega (arith, room_most granules old c.loop-i.invariant.reads.log (omega (arith, c.loop-i.invariant.size)) (omega (arith, c.loop-i.invariant.granules)) (even_disjoint (extent_at old) c.loop-i.invariant.even))) in
-    let none : length c.begin.new.self.events ≡ 0 = ap (λ (s : PmemState). length s.events) c.begin.ensures.state in
-    let room : c.begin.new.self.room ≡ 700 = ap (λ (s : PmemState). s.room) c.begin.ensures.state ∙ c.loop-i.invariant.room in
-    omega (arith, most, none, room, c.make_room-made.ensures.step.appends.count, c.make_room-made.ensures.step.appends.room)
+    let few = begun_few c.loop-i.log.granules c.loop-i.device c.begin.new.self c.begin.ensures.state c.loop-i.invariant.room c.loop-i.invariant.reads.log c.loop-i.invariant.size c.loop-i.invariant.granules c.loop-i.invariant.even in
+    omega (arith, few.0, few.1, few.2, c.make_room-made.ensures.step.appends.count, c.make_room-made.ensures.step.appends.room)
 
 pub loop-i-preserved : goal.loop-i-preserved
 loop-i-preserved c =

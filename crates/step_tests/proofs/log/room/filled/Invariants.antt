@@ -4,7 +4,7 @@ use Rattle.pmem_lines.specs.Pmem.{words_of}
 use Rattle.image_tables.specs.Extents.{extent_at}
 use Rattle.book_log.specs.Book.{Reads}
 use Rattle.step_tests.proofs.Evens.{AreEven}
-use Rattle.step_tests.proofs.room.filled.Given as goal
+use Rattle.step_tests.proofs.log.room.filled.Given as goal
 
 abbrev pub invariant-loop-i : goal.invariant-loop-i
 invariant-loop-i l = record {

@@ -1,6 +1,6 @@
 use Rattle.std.proofs.Common.{◌<◌, ◌%◌, arith}
 use Rattle.std.proofs.lemmas.Nat.{mod_below}
-use Rattle.step_tests.proofs.room.start.Goals as goal
+use Rattle.step_tests.proofs.log.room.start.Goals as goal
 
 pub overflow_add-result : goal.overflow_add-result
 overflow_add-result c =

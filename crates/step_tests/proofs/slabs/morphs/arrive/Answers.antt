@@ -1,6 +1,6 @@
 use Rattle.pmem_lines.specs.Pmem.{words_of}
 use Rattle.step_tests.proofs.TakenClasses.{on_its_way}
-use Rattle.step_tests.proofs.morphs.arrive.Goals as goal
+use Rattle.step_tests.proofs.slabs.morphs.arrive.Goals as goal
 
 pub finish_morph-requires-clause-morphing : goal.finish_morph-requires-clause-morphing
 finish_morph-requires-clause-morphing g c =

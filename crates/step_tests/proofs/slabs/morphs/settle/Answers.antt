@@ -1,6 +1,6 @@
 use Rattle.pmem_lines.specs.Pmem.{words_of}
 use Rattle.step_tests.proofs.TakenClasses.{none_left}
-use Rattle.step_tests.proofs.morphs.settle.Goals as goal
+use Rattle.step_tests.proofs.slabs.morphs.settle.Goals as goal
 
 pub finish_old-requires-clause-done : goal.finish_old-requires-clause-done
 finish_old-requires-clause-done g c =

@@ -2,7 +2,7 @@ use Rattle.std.proofs.Common.{◌<◌, arith}
 use Rattle.size_classes.specs.Classes.{class_capacity}
 use Rattle.pmem_lines.specs.Pmem.{words_of}
 use Rattle.step_tests.proofs.TakenClasses.{may_take, takes_few}
-use Rattle.step_tests.proofs.morphs.take_class.Goals as goal
+use Rattle.step_tests.proofs.slabs.morphs.take_class.Goals as goal
 
 pub morph-requires-clause-morphable : goal.morph-requires-clause-morphable
 morph-requires-clause-morphable g c =
