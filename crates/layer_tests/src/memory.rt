@@ -1,9 +1,12 @@
 // Images of a short list of events, by hand and by counting.
+ghost use Rattle.std.specs.Prelude.{◌≡◌, IfOk, length};
+ghost use Rattle.pmem_lines.specs.Pmem.{words_of};
 
-use pmem_lines::{Event, Pmem, SimPmem};
+use pmem_lines::{Event, OutOfMemory, Pmem, SimPmem};
 use rand_core::SeedableRng;
 use rand_core::utils::NextWord;
 use rand_xoshiro::SplitMix64;
+use std::alloc::Global;
 use std::test::Fail;
 
 // A line's stores: how many there are, and how many stand before the last flush of it that a fence follows.
@@ -47,11 +50,13 @@ fn store_first(words: &mut [u64], events: &[Event], line: u32, mut kept: u64) {
     }
 }
 
-// For each number of events: words 0 and 1 of line 0, and word 8 of line 1. From seed 0 the first word that is drawn
-// leaves 1 at a division by 2 and by 3, and the second leaves 0 by 2.
-#[test]
-fn images_by_hand(rt: HostRuntime) -> Result<(), Fail> {
-    let mut device = SimPmem::zeroed(rt.alloc(), 3, 6)?;
+// A memory of three lines, with room for twelve events, of which six are done.
+fn six_events(alloc: Global, base: &[u64; 24]) -> Result<SimPmem, OutOfMemory>
+    ensures size { IfOk result (λ device. length (words_of device) ≡ 24) }
+    ensures count { IfOk result (λ device. length device.events ≡ 6) }
+    ensures room { IfOk result (λ device. device.room ≡ 12) }
+{
+    let mut device = SimPmem::from_image(alloc, base, 12)?;
     device.begin();
     device.store(0, 1);
     device.store(8, 2);
@@ -59,6 +64,14 @@ fn images_by_hand(rt: HostRuntime) -> Result<(), Fail> {
     device.store(64, 3);
     device.fence();
     device.store(0, 4);
+    Ok(device)
+}
+
+// For each number of events: words 0 and 1 of line 0, and word 8 of line 1. From seed 0 the first word that is drawn
+// leaves 1 at a division by 2 and by 3, and the second leaves 0 by 2.
+#[test]
+fn images_by_hand(rt: HostRuntime) -> Result<(), Fail> {
+    let device = six_events(rt.alloc(), &[0; 24])?;
     assert_eq!(rt;
         (device.load(0), device.load(8), device.load(64)),
         (4, 2, 3)
@@ -88,13 +101,7 @@ fn images_by_hand(rt: HostRuntime) -> Result<(), Fail> {
 #[test]
 fn images_by_counting(rt: HostRuntime) -> Result<(), Fail> {
     let base = [9u64; 24];
-    let mut device = SimPmem::from_image(rt.alloc(), &base, 12)?;
-    device.store(0, 1);
-    device.store(8, 2);
-    device.flush(0);
-    device.store(64, 3);
-    device.fence();
-    device.store(0, 4);
+    let mut device = six_events(rt.alloc(), &base)?;
     device.flush(1);
     device.store(64, 5);
     device.store(128, 6);

@@ -7,19 +7,23 @@ ghost use Rattle.lock_tests.specs.Tally.{refusal};
 
 use crate::jobs::Ask;
 use crate::tally::Tally;
-use arena_lock::{ArenaLock, LockSeat};
+use arena_lock::{ArenaLock, LockSeat, Logged};
 use pmem_lines::OutOfMemory;
 use std::alloc::Global;
 use std::sync::Wait;
 use std::thread::{Threads, join};
 
-/// A lock over an empty tally, and its two seats.
-pub fn lock_of_two(alloc: Global) -> Result<(ArenaLock<Tally>, LockSeat, LockSeat), OutOfMemory>
-    ensures lock { IfOk result (λ t. (t.0.opening ≡ no_opening) × (t.0.start ≡ []) × (t.0.seats ≡ 2)) }
-    ensures one { IfOk result (λ t. t.1 ≡ seat_at t.0.id no_opening [] (0 ∷ []) 0 (2 ^ 57)) }
-    ensures two { IfOk result (λ t. t.2 ≡ seat_at t.0.id no_opening [] (1 ∷ []) 0 (2 ^ 57)) }
+/// A lock over a value, and its two seats, of the numbers 0 and 1.
+pub fn lock_over<T: Logged + Drop>(
+    alloc: Global,
+    value: T,
+) -> Result<(ArenaLock<T>, LockSeat, LockSeat), OutOfMemory>
+    requires { IsLegal (T.opening value) (T.journal value) }
+    ensures lock { IfOk result (λ t. (t.0.opening ≡ T.opening value) × (t.0.start ≡ T.journal value) × (t.0.seats ≡ 2)) }
+    ensures one { IfOk result (λ t. t.1 ≡ seat_at t.0.id (T.opening value) (T.journal value) (0 ∷ []) 0 (2 ^ 57)) }
+    ensures two { IfOk result (λ t. t.2 ≡ seat_at t.0.id (T.opening value) (T.journal value) (1 ∷ []) 0 (2 ^ 57)) }
 {
-    let Ok((lock, mut seats)) = ArenaLock::new(alloc, Tally::new(alloc), 2) else {
+    let Ok((lock, mut seats)) = ArenaLock::new(alloc, value, 2) else {
         return Err(OutOfMemory);
     };
     let Some(two) = seats.pop() else {
@@ -29,6 +33,15 @@ pub fn lock_of_two(alloc: Global) -> Result<(ArenaLock<Tally>, LockSeat, LockSea
         unreachable!()
     };
     Ok((lock, one, two))
+}
+
+/// A lock over an empty tally, and its two seats.
+pub fn lock_of_two(alloc: Global) -> Result<(ArenaLock<Tally>, LockSeat, LockSeat), OutOfMemory>
+    ensures lock { IfOk result (λ t. (t.0.opening ≡ no_opening) × (t.0.start ≡ []) × (t.0.seats ≡ 2)) }
+    ensures one { IfOk result (λ t. t.1 ≡ seat_at t.0.id no_opening [] (0 ∷ []) 0 (2 ^ 57)) }
+    ensures two { IfOk result (λ t. t.2 ≡ seat_at t.0.id no_opening [] (1 ∷ []) 0 (2 ^ 57)) }
+{
+    lock_over(alloc, Tally::new(alloc))
 }
 
 /// Asks for each of these sizes in turn, by a seat of one number that has made no entry.

@@ -6,6 +6,8 @@ ghost use Rattle.pool_tests.specs.CallsLeft.{CallerState, CanCall};
 
 use arena_core::{Arena, ArenaRoom};
 use arena_lock::{ArenaLock, LockSeat};
+use heap_model::Call;
+use lock_tests::lock_over;
 use pmem_lines::{OutOfMemory, Pmem, SimPmem};
 use shared_pool::{ClosedArena, Pass, PoolArena, Receipt, SharedPool, Started, TryRefusal};
 use std::alloc::Global;
@@ -27,12 +29,11 @@ impl Model for Caller {
     ghost view = { λ c. record { pass = c.pass; left = c.left } };
 }
 
-/// A word for the block of a root, at an index.
+/// A call that may be tried.
 #[derive(Clone, Copy)]
-pub struct Word {
-    pub root: u32,
-    pub index: u32,
-    pub value: u64,
+pub enum TriedCall {
+    Malloc { root: u32, size: u64 },
+    Free { root: u32 },
 }
 
 /// An arena of 16 granules over new memory, as number `number` of so many.
@@ -52,17 +53,7 @@ pub fn arena_lock_of_two(
     ensures one { IfOk result (λ t. t.1 ≡ seat_at t.0.id t.0.opening [] (0 ∷ []) 0 (2 ^ 57)) }
     ensures two { IfOk result (λ t. t.2 ≡ seat_at t.0.id t.0.opening [] (1 ∷ []) 0 (2 ^ 57)) }
 {
-    let value = PoolArena::open(alloc, empty_arena(alloc, 0, 1)?);
-    let Ok((lock, mut seats)) = ArenaLock::new(alloc, value, 2) else {
-        return Err(OutOfMemory);
-    };
-    let Some(two) = seats.pop() else {
-        unreachable!()
-    };
-    let Some(one) = seats.pop() else {
-        unreachable!()
-    };
-    Ok((lock, one, two))
+    lock_over(alloc, PoolArena::open(alloc, empty_arena(alloc, 0, 1)?))
 }
 
 /// A pool over these arenas, and its two passes.
@@ -147,15 +138,14 @@ impl Caller {
         self.pass.seen(arena)
     }
 
-    /// `malloc_to` by this pass.
-    pub fn malloc<R: Wait, P: Pmem>(
+    /// A call at an arena by this pass, in its turn.
+    pub fn call<R: Wait, P: Pmem>(
         &mut self,
         rt: &R,
         alloc: Global,
         pool: &SharedPool<P>,
         arena: u32,
-        root: u32,
-        size: u64,
+        call: Call,
     ) -> Result<Receipt, OutOfMemory>
         requires can { CanCall pool.now self.old }
         requires arena { arena < length pool.now.locks }
@@ -166,17 +156,30 @@ impl Caller {
             return Err(OutOfMemory);
         }
         self.left -= 1;
-        pool.malloc_to(rt, alloc, &mut self.pass, arena, root, size)
+        let pass = &mut self.pass;
+        // Each arm returns, since what is known of its call would be lost where the arms meet.
+        match call {
+            Call::Malloc { root, size } => {
+                return pool.malloc_to(rt, alloc, pass, arena, root, size);
+            }
+            Call::Free { root } => return pool.free_from(rt, alloc, pass, arena, root),
+            Call::Write { root, index, value } => {
+                return pool.write(rt, alloc, pass, arena, root, index, value);
+            }
+            Call::Read { root, index } => {
+                return pool.read(rt, alloc, pass, arena, root, index);
+            }
+            Call::Move { from, to } => return pool.move_to(rt, alloc, pass, arena, from, to),
+        }
     }
 
-    /// `try_malloc_to` by this pass.
-    pub fn try_malloc<P: Pmem>(
+    /// A call at an arena by this pass, if nobody else has the turn.
+    pub fn try_call<P: Pmem>(
         &mut self,
         alloc: Global,
         pool: &SharedPool<P>,
         arena: u32,
-        root: u32,
-        size: u64,
+        call: TriedCall,
     ) -> Result<Receipt, TryRefusal>
         requires can { CanCall pool.now self.old }
         requires arena { arena < length pool.now.locks }
@@ -187,92 +190,11 @@ impl Caller {
             return Err(TryRefusal::Memory(OutOfMemory));
         }
         self.left -= 1;
-        pool.try_malloc_to(alloc, &mut self.pass, arena, root, size)
-    }
-
-    /// `free_from` by this pass.
-    pub fn free<R: Wait, P: Pmem>(
-        &mut self,
-        rt: &R,
-        alloc: Global,
-        pool: &SharedPool<P>,
-        arena: u32,
-        root: u32,
-    ) -> Result<Receipt, OutOfMemory>
-        requires can { CanCall pool.now self.old }
-        requires arena { arena < length pool.now.locks }
-        ensures can { CanCall pool.now self.new }
-        ensures number { self.new.pass.number ≡ self.old.pass.number }
-    {
-        if self.left == 0 {
-            return Err(OutOfMemory);
+        let pass = &mut self.pass;
+        match call {
+            TriedCall::Malloc { root, size } => pool.try_malloc_to(alloc, pass, arena, root, size),
+            TriedCall::Free { root } => pool.try_free_from(alloc, pass, arena, root),
         }
-        self.left -= 1;
-        pool.free_from(rt, alloc, &mut self.pass, arena, root)
-    }
-
-    /// `write` by this pass.
-    pub fn write<R: Wait, P: Pmem>(
-        &mut self,
-        rt: &R,
-        alloc: Global,
-        pool: &SharedPool<P>,
-        arena: u32,
-        word: Word,
-    ) -> Result<Receipt, OutOfMemory>
-        requires can { CanCall pool.now self.old }
-        requires arena { arena < length pool.now.locks }
-        ensures can { CanCall pool.now self.new }
-        ensures number { self.new.pass.number ≡ self.old.pass.number }
-    {
-        if self.left == 0 {
-            return Err(OutOfMemory);
-        }
-        self.left -= 1;
-        let Word { root, index, value } = word;
-        pool.write(rt, alloc, &mut self.pass, arena, root, index, value)
-    }
-
-    /// `read` by this pass.
-    pub fn read<R: Wait, P: Pmem>(
-        &mut self,
-        rt: &R,
-        alloc: Global,
-        pool: &SharedPool<P>,
-        arena: u32,
-        root: u32,
-        index: u32,
-    ) -> Result<Receipt, OutOfMemory>
-        requires can { CanCall pool.now self.old }
-        requires arena { arena < length pool.now.locks }
-        ensures can { CanCall pool.now self.new }
-        ensures number { self.new.pass.number ≡ self.old.pass.number }
-    {
-        if self.left == 0 {
-            return Err(OutOfMemory);
-        }
-        self.left -= 1;
-        pool.read(rt, alloc, &mut self.pass, arena, root, index)
-    }
-
-    /// `try_free_from` by this pass.
-    pub fn try_free<P: Pmem>(
-        &mut self,
-        alloc: Global,
-        pool: &SharedPool<P>,
-        arena: u32,
-        root: u32,
-    ) -> Result<Receipt, TryRefusal>
-        requires can { CanCall pool.now self.old }
-        requires arena { arena < length pool.now.locks }
-        ensures can { CanCall pool.now self.new }
-        ensures number { self.new.pass.number ≡ self.old.pass.number }
-    {
-        if self.left == 0 {
-            return Err(TryRefusal::Memory(OutOfMemory));
-        }
-        self.left -= 1;
-        pool.try_free_from(alloc, &mut self.pass, arena, root)
     }
 
     /// `published` by this pass.

@@ -1,24 +1,45 @@
 // Journals, receipts and lengths of a pool, on one thread and on two.
 ghost use Rattle.std.specs.Prelude.{◌<◌};
 
-use crate::callers::{Word, arena_lock_of_two, close, empty_arena, pool_of, start_and_close};
+use crate::callers::{TriedCall, arena_lock_of_two, close, empty_arena, pool_of, start_and_close};
 use crate::threads::{malloc_on_two_threads, try_beside_a_store};
 use crate::watched::{Flags, Watched};
 use arena_core::{Arena, ArenaRoom};
 use heap_model::{Call, Reply};
 use lock_tests::LookBeside;
 use pmem_lines::{OutOfMemory, SimPmem};
-use shared_pool::{PoolJob, TryRefusal};
+use shared_pool::{PoolJob, Receipt, TryRefusal};
 use std::alloc::Global;
+use std::process::Abort;
 use std::sync::Arc;
 
-// The first block of 112 bytes of an empty arena.
-const FIRST: u32 = 67584;
+// Replies of the first block of 112 bytes of an empty arena.
+const PLACED: Reply = Reply::Placed {
+    at: 67584,
+    size: 112,
+};
 
-fn want_of_memory(refusal: TryRefusal) -> Option<OutOfMemory> {
-    match refusal {
-        TryRefusal::Memory(error) => Some(error),
-        TryRefusal::Busy => None,
+const OCCUPIED: Reply = Reply::Occupied { at: 67584 };
+
+const FREED: Reply = Reply::Freed {
+    at: 67584,
+    size: 112,
+};
+
+fn malloc(root: u32, size: u64) -> Call {
+    Call::Malloc { root, size }
+}
+
+fn write(root: u32, index: u32, value: u64) -> Call {
+    Call::Write { root, index, value }
+}
+
+// The receipt of a try, which was not busy.
+fn made<R: Abort>(rt: &R, tried: Result<Receipt, TryRefusal>) -> Result<Receipt, OutOfMemory> {
+    match tried {
+        Ok(receipt) => Ok(receipt),
+        Err(TryRefusal::Memory(error)) => Err(error),
+        Err(TryRefusal::Busy) => panic!(rt; "busy"),
     }
 }
 
@@ -28,30 +49,18 @@ fn one_root_for_two_passes(rt: HostRuntime) -> Result<(), OutOfMemory> {
     let alloc = rt.alloc();
     let arenas = vec![in alloc; empty_arena(alloc, 0, 1)?]?;
     let (pool, mut zero, mut one) = pool_of(alloc, arenas)?;
-    let first = zero.malloc(&rt, alloc, &pool, 0, 5, 100)?;
-    let second = one.malloc(&rt, alloc, &pool, 0, 5, 100)?;
+    let first = zero.call(&rt, alloc, &pool, 0, malloc(5, 100))?;
+    let second = one.call(&rt, alloc, &pool, 0, malloc(5, 100))?;
     assert_eq!(&rt; first.place, 0);
-    assert_eq!(&rt;
-        first.entry.reply,
-        Reply::Placed {
-            at: FIRST,
-            size: 112
-        }
-    );
+    assert_eq!(&rt; first.entry.reply, PLACED);
     assert_eq!(&rt; second.place, 1);
     assert_eq!(&rt; second.entry.seat, 1);
-    assert_eq!(&rt; second.entry.reply, Reply::Occupied { at: FIRST });
+    assert_eq!(&rt; second.entry.reply, OCCUPIED);
     assert_eq!(&rt; zero.seen(&pool, 0), 1);
     assert_eq!(&rt; one.seen(&pool, 0), 2);
-    let third = zero.free(&rt, alloc, &pool, 0, 5)?;
+    let third = zero.call(&rt, alloc, &pool, 0, Call::Free { root: 5 })?;
     assert_eq!(&rt; third.place, 2);
-    assert_eq!(&rt;
-        third.entry.reply,
-        Reply::Freed {
-            at: FIRST,
-            size: 112
-        }
-    );
+    assert_eq!(&rt; third.entry.reply, FREED);
     Ok(())
 }
 
@@ -61,8 +70,8 @@ fn lengths_of_a_journal(rt: HostRuntime) -> Result<(), OutOfMemory> {
     let alloc = rt.alloc();
     let arenas = vec![in alloc; empty_arena(alloc, 0, 1)?]?;
     let (pool, mut zero, mut one) = pool_of(alloc, arenas)?;
-    zero.malloc(&rt, alloc, &pool, 0, 1, 64)?;
-    zero.malloc(&rt, alloc, &pool, 0, 2, 64)?;
+    zero.call(&rt, alloc, &pool, 0, malloc(1, 64))?;
+    zero.call(&rt, alloc, &pool, 0, malloc(2, 64))?;
     assert_eq!(&rt; zero.published(&pool, 0), 2);
     assert_eq!(&rt; one.published(&pool, 0), 2);
     assert_eq!(&rt; one.seen(&pool, 0), 0);
@@ -93,36 +102,14 @@ fn tries_on_one_thread(rt: HostRuntime) -> Result<(), OutOfMemory> {
     let alloc = rt.alloc();
     let arenas = vec![in alloc; empty_arena(alloc, 0, 1)?]?;
     let (pool, mut zero, one) = pool_of(alloc, arenas)?;
-    let placed = match zero.try_malloc(alloc, &pool, 0, 5, 100) {
-        Ok(receipt) => receipt,
-        Err(refusal) => {
-            assert!(&rt; want_of_memory(refusal).is_some());
-            return Err(OutOfMemory);
-        }
-    };
-    let freed = match zero.try_free(alloc, &pool, 0, 5) {
-        Ok(receipt) => receipt,
-        Err(refusal) => {
-            assert!(&rt; want_of_memory(refusal).is_some());
-            return Err(OutOfMemory);
-        }
-    };
+    let tried = zero.try_call(alloc, &pool, 0, TriedCall::Malloc { root: 5, size: 100 });
+    let placed = made(&rt, tried)?;
+    let tried = zero.try_call(alloc, &pool, 0, TriedCall::Free { root: 5 });
+    let freed = made(&rt, tried)?;
     assert_eq!(&rt; placed.place, 0);
-    assert_eq!(&rt;
-        placed.entry.reply,
-        Reply::Placed {
-            at: FIRST,
-            size: 112
-        }
-    );
+    assert_eq!(&rt; placed.entry.reply, PLACED);
     assert_eq!(&rt; freed.place, 1);
-    assert_eq!(&rt;
-        freed.entry.reply,
-        Reply::Freed {
-            at: FIRST,
-            size: 112
-        }
-    );
+    assert_eq!(&rt; freed.entry.reply, FREED);
     let closed = close(alloc, pool, zero, one)?;
     assert_eq!(&rt; closed.len(), 1);
     for arena in &closed {
@@ -141,16 +128,11 @@ fn a_word_for_two_passes(rt: HostRuntime) -> Result<(), OutOfMemory> {
     let alloc = rt.alloc();
     let arenas = vec![in alloc; empty_arena(alloc, 0, 1)?]?;
     let (pool, mut zero, mut one) = pool_of(alloc, arenas)?;
-    zero.malloc(&rt, alloc, &pool, 0, 5, 100)?;
-    let word = Word {
-        root: 5,
-        index: 13,
-        value: 77,
-    };
-    let none = one.write(&rt, alloc, &pool, 0, Word { root: 6, ..word })?;
-    let wrote = zero.write(&rt, alloc, &pool, 0, word)?;
-    let read = one.read(&rt, alloc, &pool, 0, 5, 13)?;
-    let past = one.read(&rt, alloc, &pool, 0, 5, 14)?;
+    zero.call(&rt, alloc, &pool, 0, malloc(5, 100))?;
+    let none = one.call(&rt, alloc, &pool, 0, write(6, 13, 77))?;
+    let wrote = zero.call(&rt, alloc, &pool, 0, write(5, 13, 77))?;
+    let read = one.call(&rt, alloc, &pool, 0, Call::Read { root: 5, index: 13 })?;
+    let past = one.call(&rt, alloc, &pool, 0, Call::Read { root: 5, index: 14 })?;
     assert_eq!(&rt; (none.place, none.entry.reply), (1, Reply::Empty));
     assert_eq!(&rt; (wrote.place, wrote.entry.reply), (2, Reply::Wrote));
     assert_eq!(&rt;
@@ -177,18 +159,13 @@ fn two_threads_one_root(rt: HostRuntime) -> Result<(), OutOfMemory> {
     let by_one = by_one?;
     let closed = close(alloc, pool, zero, one)?;
     assert_eq!(&rt; closed.len(), 1);
-    let placed = Reply::Placed {
-        at: FIRST,
-        size: 112,
-    };
-    let occupied = Reply::Occupied { at: FIRST };
     let (first, second) = if by_zero.place == 0 {
         (by_zero.entry, by_one.entry)
     } else {
         (by_one.entry, by_zero.entry)
     };
-    assert_eq!(&rt; first.reply, placed);
-    assert_eq!(&rt; second.reply, occupied);
+    assert_eq!(&rt; first.reply, PLACED);
+    assert_eq!(&rt; second.reply, OCCUPIED);
     for arena in &closed {
         assert_eq!(&rt; arena.journal.as_slice(), [first, second].as_slice());
         assert!(&rt; arena.arena.block(5).is_some());
@@ -220,23 +197,8 @@ fn two_arenas_have_two_locks(rt: HostRuntime) -> Result<(), OutOfMemory> {
     let (pool, mut zero, mut one) = pool_of(alloc, vec![in alloc; one, two]?)?;
     flags.arm();
     let (called, tried) = try_beside_a_store(&rt, alloc, &pool, &mut zero, &mut one, &flags);
-    assert_eq!(&rt;
-        called?.entry.reply,
-        Reply::Placed {
-            at: FIRST,
-            size: 112
-        }
-    );
-    match tried {
-        Ok(receipt) => assert_eq!(&rt;
-            receipt.entry.reply,
-            Reply::Placed {
-                at: FIRST,
-                size: 112
-            }
-        ),
-        Err(refusal) => assert!(&rt; want_of_memory(refusal).is_some()),
-    }
+    assert_eq!(&rt; called?.entry.reply, PLACED);
+    assert_eq!(&rt; made(&rt, tried)?.entry.reply, PLACED);
     assert!(&rt; flags.all_met());
     Ok(())
 }

@@ -2,8 +2,9 @@
 ghost use Rattle.std.specs.Prelude.{◌≡◌, ◌<◌, length};
 ghost use Rattle.pool_tests.specs.CallsLeft.{CanCall};
 
-use crate::callers::Caller;
+use crate::callers::{Caller, TriedCall};
 use crate::watched::Flags;
+use heap_model::Call;
 use pmem_lines::{OutOfMemory, Pmem};
 use shared_pool::{Receipt, SharedPool, TryRefusal};
 use std::alloc::Global;
@@ -29,11 +30,11 @@ pub fn malloc_on_two_threads<R: Threads + Wait + Sync, P: Pmem + Drop + Send>(
         &mut || -> Result<Receipt, OutOfMemory>
             requires { CanCall pool.now zero.now × (0 < length pool.now.locks) }
             ensures { CanCall pool.entry.now zero.exit.now × (zero.exit.now.pass.number ≡ zero.entry.now.pass.number) }
-        { zero.malloc(rt, alloc, pool, 0, 5, 100) },
+        { zero.call(rt, alloc, pool, 0, Call::Malloc { root: 5, size: 100 }) },
         &mut || -> Result<Receipt, OutOfMemory>
             requires { CanCall pool.now one.now × (0 < length pool.now.locks) }
             ensures { CanCall pool.entry.now one.exit.now × (one.exit.now.pass.number ≡ one.entry.now.pass.number) }
-        { one.malloc(rt, alloc, pool, 0, 5, 100) },
+        { one.call(rt, alloc, pool, 0, Call::Malloc { root: 5, size: 100 }) },
     )
 }
 
@@ -55,12 +56,12 @@ pub fn try_beside_a_store<R: Threads + Wait + Sync, P: Pmem + Drop + Send>(
         rt,
         &mut || -> Result<Receipt, OutOfMemory>
             requires { CanCall pool.now zero.now × (1 < length pool.now.locks) }
-        { zero.malloc(rt, alloc, pool, 0, 5, 100) },
+        { zero.call(rt, alloc, pool, 0, Call::Malloc { root: 5, size: 100 }) },
         &mut || -> Result<Receipt, TryRefusal>
             requires { CanCall pool.now one.now × (1 < length pool.now.locks) }
         {
             flags.await_stop();
-            let answer = one.try_malloc(alloc, pool, 1, 5, 100);
+            let answer = one.try_call(alloc, pool, 1, TriedCall::Malloc { root: 5, size: 100 });
             flags.let_go();
             answer
         },

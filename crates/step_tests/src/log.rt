@@ -1,4 +1,7 @@
-// A log of one chunk on a simulated memory of four granules: three entries that name one start, and one beside.
+// A log of one chunk on a simulated memory of four granules: three entries that name one start, and one beside. `room` tests how
+// room is made in a log that is full.
+mod room;
+
 use book_log::{BookLog, LogEntry, active_chunks};
 use durable_steps::write_word;
 use pmem_lines::{Pmem, SimPmem};

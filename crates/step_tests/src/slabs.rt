@@ -1,4 +1,8 @@
-// Words of a slab's header, and a slab that is made on a simulated memory of 16 granules.
+// Words of a slab's header, and a slab that is made on a simulated memory of 16 granules. `morphs` has slabs that take another
+// class.
+mod morphs;
+
+use crate::steps::events::{flush, has_events, store};
 use durable_steps::write_word;
 use pmem_lines::{Event, Pmem, SimPmem};
 use slab_header::{
@@ -71,36 +75,14 @@ fn slab_of_class_6(rt: HostRuntime) -> Result<(), Fail> {
     make_slab(&mut device, 65536, 6);
     assert_eq!(rt; device.event_count(), 75);
     let events = [
-        (
-            0,
-            Event::Store {
-                at: 65600,
-                value: 0,
-            },
-        ),
-        (
-            63,
-            Event::Store {
-                at: 66104,
-                value: 0,
-            },
-        ),
-        (
-            64,
-            Event::Store {
-                at: 65536,
-                value: 0x0601,
-            },
-        ),
-        (65, Event::Flush { line: 1024 }),
-        (73, Event::Flush { line: 1032 }),
+        (0, store(65600, 0)),
+        (63, store(66104, 0)),
+        (64, store(65536, 0x0601)),
+        (65, flush(1024)),
+        (73, flush(1032)),
         (74, Event::Fence),
     ];
-    for (i, event) in events {
-        if i < device.event_count() {
-            assert_eq!(rt; device.event(i), event, "event {i}");
-        }
-    }
+    has_events(&rt, &device, &events);
     assert_eq!(rt; (device.load(65536), device.load(65664)), (0x0601, 0));
     Ok(())
 }

@@ -1,9 +1,12 @@
 // A small block that comes to a root and goes from it, in an arena of 16 granules: block 9 of a slab of class 6 at
-// granule 4, root 5, write-ahead line 3.
+// granule 4, root 5, write-ahead line 3. `entries` tests the write-ahead entries under which it does.
+mod entries;
+
+use crate::steps::events::{Fenced, events_of, has_exactly};
 use attach_steps::{SmallBlock, attach, detach};
 use book_log::{BookLog, LogEntry};
 use durable_steps::write_word;
-use pmem_lines::{Event, Pmem, SimPmem};
+use pmem_lines::{Pmem, SimPmem};
 use pool_layout::{directory_at, fields_at, header_text, text_at};
 use slab_header::make_slab;
 use std::test::Fail;
@@ -18,47 +21,15 @@ const BLOCK: SmallBlock = SmallBlock {
 
 const ENTRY: u64 = 0x0001_0bf0_0005_0001;
 
-const EVENTS: [Event; 22] = [
-    Event::Store {
-        at: 704,
-        value: ENTRY,
-    },
-    Event::Flush { line: 11 },
-    Event::Fence,
-    Event::Store {
-        at: 65664,
-        value: 2,
-    },
-    Event::Flush { line: 1026 },
-    Event::Store {
-        at: 16424,
-        value: 68592,
-    },
-    Event::Flush { line: 256 },
-    Event::Fence,
-    Event::Store { at: 704, value: 0 },
-    Event::Flush { line: 11 },
-    Event::Fence,
-    Event::Store {
-        at: 704,
-        value: ENTRY,
-    },
-    Event::Flush { line: 11 },
-    Event::Fence,
-    Event::Store {
-        at: 16424,
-        value: 0,
-    },
-    Event::Flush { line: 256 },
-    Event::Store {
-        at: 65664,
-        value: 0,
-    },
-    Event::Flush { line: 1026 },
-    Event::Fence,
-    Event::Store { at: 704, value: 0 },
-    Event::Flush { line: 11 },
-    Event::Fence,
+// The entry is opened, the bit and the root's word are set, and the entry is closed; then it is opened again, the root's word
+// is cleared and then the bit, and it is closed.
+const PARTS: [Fenced; 6] = [
+    &[(704, ENTRY, 11)],
+    &[(65664, 2, 1026), (16424, 68592, 256)],
+    &[(704, 0, 11)],
+    &[(704, ENTRY, 11)],
+    &[(16424, 0, 256), (65664, 0, 1026)],
+    &[(704, 0, 11)],
 ];
 
 #[test]
@@ -83,13 +54,7 @@ fn comes_and_goes(rt: HostRuntime) -> Result<(), Fail> {
         (device.load(16424), device.load(65664), device.load(704)),
         (0, 0, 0)
     );
-    assert_eq!(rt; device.event_count(), 22);
-    for i in 0..device.event_count() {
-        assert_eq!(rt;
-            EVENTS.get(i as usize).copied(),
-            Some(device.event(i)),
-            "event {i} of both"
-        );
-    }
+    let events = events_of(rt.alloc(), &PARTS)?;
+    has_exactly(&rt, &device, &events);
     Ok(())
 }

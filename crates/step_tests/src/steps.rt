@@ -1,5 +1,8 @@
 // The steps on a simulated memory of two lines: a word, a pair over both lines, and a row from the last word of the
-// first line into the second.
+// first line into the second. `events` has how events are written and compared, here and in the other modules.
+pub(crate) mod events;
+
+use crate::steps::events::{flush, has_exactly, store};
 use durable_steps::{write_pair, write_row, write_word};
 use pmem_lines::{Event, Pmem, SimPmem};
 use std::test::Fail;
@@ -11,28 +14,22 @@ fn exact_events(rt: HostRuntime) -> Result<(), Fail> {
     write_pair(&mut device, 8, 1, 64, 2);
     write_row(&mut device, 56, &[3, 4, 5]);
     let events = [
-        Event::Store { at: 0, value: 7 },
-        Event::Flush { line: 0 },
+        store(0, 7),
+        flush(0),
         Event::Fence,
-        Event::Store { at: 8, value: 1 },
-        Event::Flush { line: 0 },
-        Event::Store { at: 64, value: 2 },
-        Event::Flush { line: 1 },
+        store(8, 1),
+        flush(0),
+        store(64, 2),
+        flush(1),
         Event::Fence,
-        Event::Store { at: 56, value: 3 },
-        Event::Store { at: 64, value: 4 },
-        Event::Store { at: 72, value: 5 },
-        Event::Flush { line: 0 },
-        Event::Flush { line: 1 },
+        store(56, 3),
+        store(64, 4),
+        store(72, 5),
+        flush(0),
+        flush(1),
         Event::Fence,
     ];
-    for i in 0..device.event_count() {
-        assert_eq!(rt;
-            events.get(i as usize).copied(),
-            Some(device.event(i)),
-            "event {i}"
-        );
-    }
+    has_exactly(&rt, &device, &events);
     assert_eq!(rt; (device.left(), device.load(0), device.load(8)), (0, 7, 1));
     assert_eq!(rt; device.words(56, 3), [3, 4, 5].as_slice());
     Ok(())

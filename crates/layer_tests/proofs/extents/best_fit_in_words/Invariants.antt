@@ -1,4 +1,0 @@
-use Rattle.layer_tests.proofs.extents.best_fit_in_words.Given as goal
-
-abbrev pub ghosts-counted : goal.ghosts-counted
-ghosts-counted g a = record { name = a.blank.name; parts = a.blank.parts }

@@ -1,0 +1,4 @@
+// What is counted and found: `classes` tests `size_classes`, `bits` `interleaved_bitmap`, and `extents` `extent_index`.
+mod bits;
+mod classes;
+mod extents;
