@@ -1,7 +1,7 @@
 -- What an arena keeps behind the plan of a malloc: all but the supply is as it was.
-use Rattle.std.proofs.Common.{◌≡◌, ℕ, ◌<◌, Option, Result, Ok, sym, ap, ◌∙◌, subst}
+use Rattle.std.proofs.Common.{◌≡◌, ℕ, ◌<◌, Option, Some, None, Result, Ok, refl, sym, ap, ◌∙◌, subst}
 use Rattle.pmem_lines.specs.Pmem.{PmemState, words_of, began}
-use Rattle.image_tables.specs.Tables.{Tables}
+use Rattle.image_tables.specs.Tables.{Tables, tables_of}
 use Rattle.size_classes.specs.Classes.{class_size}
 use Rattle.heap_model.specs.declared.call.Call.{Call}
 use Rattle.heap_model.specs.declared.call.Reply.TheVariants as replies
@@ -11,13 +11,16 @@ use Rattle.block_supply.specs.Supply.{Supply, HasNoOpen, HadNoOpen}
 use Rattle.arena_core.specs.declared.volatile.Volatile.{Volatile}
 use Rattle.arena_core.specs.declared.plan.Place.{Place}
 use Rattle.arena_core.specs.declared.plan.Place.TheVariants.{Large, Small, Morph, Fresh}
+use Rattle.std.specs.Option.{ok_or}
+use Rattle.heap_check.specs.Image.{bounds_of}
 use Rattle.arena_core.specs.declared.answer.MallocRefusal.{MallocRefusal}
+use Rattle.arena_core.specs.declared.answer.MallocRefusal.TheVariants.{NoSpace}
 use Rattle.arena_core.specs.declared.answer.Placed.{Placed}
 use Rattle.arena_core.specs.Carried.{IsCalled}
 use Rattle.attach_steps.specs.declared.block.SmallBlock.{SmallBlock}
 use Rattle.slab_lives.specs.Lives.{Lives}
 use Rattle.arena_core.specs.Arena.{IsArena, AreSlabsLess, AreLivesOf}
-use Rattle.arena_core.specs.Plan.{IsPlacing, IsSuppliedAt, IsSuppliedFor, IsPlanned}
+use Rattle.arena_core.specs.Plan.{IsAskedOf, IsPlacing, IsFound, IsSuppliedAt, IsSuppliedFor, IsPlanned}
 use Rattle.arena_core.proofs.PayloadCalls.{IsArena-began}
 use Rattle.arena_core.proofs.SmallCalls.{slabs_without}
 
@@ -25,9 +28,11 @@ use Rattle.arena_core.proofs.SmallCalls.{slabs_without}
 pub planned_at : {device : PmemState} {was now : Volatile} {seat root size : ℕ} {place named : Place} → place ≡ named → IsPlanned device was now seat root size (Ok place) → IsPlanned device was now seat root size (Ok named)
 planned_at {device} {was} {now} {seat} {root} {size} is planned = subst (λ (p : Place). IsPlanned device was now seat root size (Ok p)) is planned
 
--- what is found takes of the supply what the plan says
-pub supplied_by : (old new now : Supply) (seat : ℕ) (found place : Option Place) → now ≡ new → found ≡ place → IsSuppliedFor old new seat found → IsSuppliedFor old now seat place
-supplied_by old new now seat found place same is supplied = subst (λ (p : Option Place). IsSuppliedFor old now seat p) is (subst (λ (s : Supply). IsSuppliedFor old s seat found) (sym same) supplied)
+-- what is found is a plan, and none where the heap has no place
+pub planned_found : {device : PmemState} {was now : Volatile} {seat root size : ℕ} (place : Option Place) → IsArena device was → IsAskedOf (bounds_of (words_of device)) (tables_of (words_of device)) root size → IsSuppliedFor was.supply now.supply seat place → now ≡ record was { supply = now.supply } →
+    IsFound (bounds_of (words_of device)) (tables_of (words_of device)) root size place → IsPlanned device was now seat root size (ok_or place NoSpace)
+planned_found (Some place) arena asked supplied rest found = record { arena = arena; supplied = supplied; rest = rest; is = (asked, found) }
+planned_found None arena asked supplied rest found = record { arena = arena; supplied = supplied; rest = rest; is = (asked, found) }
 
 -- whole granules take nothing of it
 pub supplied_large : (b : Bounds) (t : Tables) (root size : ℕ) (old now : Supply) (seat : ℕ) (place : Place) → 16384 < size → IsPlacing b t root size place → now ≡ old → IsSuppliedAt old now seat place
@@ -36,8 +41,10 @@ supplied_large b t root size old now seat (Small block class) large placing same
 supplied_large b t root size old now seat (Morph start class) large placing same = absurd (class_small size class placing.site.least large)
 supplied_large b t root size old now seat (Fresh start class) large placing same = absurd (class_small size class placing.site.least large)
 
-pub rest_by : (was now : Volatile) (supply : Supply) → now ≡ record was { supply = supply } → now ≡ record was { supply = now.supply }
-rest_by was now supply is = is ∙ ap (λ (s : Supply). record was { supply = s }) (sym (ap (λ (v : Volatile). v.supply) is))
+-- nor does what is found for them
+pub supplied_found : (b : Bounds) (t : Tables) (root size : ℕ) (old : Supply) (seat : ℕ) (found : Option Place) → 16384 < size → IsFound b t root size found → IsSuppliedFor old old seat found
+supplied_found b t root size old seat (Some place) large placing = supplied_large b t root size old old seat place large placing refl
+supplied_found b t root size old seat None large none = refl
 
 -- where the supply stays, all does
 pub all_same : (was now : Volatile) → now ≡ record was { supply = now.supply } → now.supply ≡ was.supply → now ≡ was

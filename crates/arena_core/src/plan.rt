@@ -1,5 +1,5 @@
 // What a call decides before its first store. It stores nothing; a malloc takes its block out of the supply.
-ghost use Rattle.std.specs.Prelude.{◌≡◌, ◌<◌, ◌≤◌, ◌+◌, ◌*◌, ◌^◌, ℕ, List, MatchOption, None, Some};
+ghost use Rattle.std.specs.Prelude.{◌≡◌, ◌≢◌, ◌<◌, ◌≤◌, ◌+◌, ◌*◌, ◌^◌, ℕ, List, MatchOption, None, Some};
 ghost use Rattle.pmem_lines.specs.Pmem.{words_of};
 ghost use Rattle.pool_layout.specs.Layout.{layout_of};
 ghost use Rattle.pool_layout.specs.Header.{version_in};
@@ -9,7 +9,6 @@ ghost use Rattle.heap_model.specs.Machine.{Bounds, slab_block};
 ghost use Rattle.heap_model.specs.Runs.{IsBestFit, HasNoFit};
 ghost use Rattle.heap_check.specs.Sound.{IsVacant};
 ghost use Rattle.heap_check.specs.Image.{bounds_of, IsFormed, IsExactImage};
-ghost use Rattle.slab_index.specs.SlabSet.{class_in};
 ghost use Rattle.log_steps.specs.Log.{IsBookOf};
 ghost use Rattle.arena_core.specs.Arena.{IsIndexOf, IsSlabsOf, IsArena};
 ghost use Rattle.arena_core.specs.Plan.{IsPlanned, IsFreePlan, IsHeldBy, IsSlabAt, IsRootIn, IsAskedOf, IsFound, IsSuppliedFor, range_held};
@@ -81,13 +80,23 @@ impl Volatile {
         if size > u64::from(heap * GRANULE_BYTES) {
             return Err(MallocRefusal::TooLarge);
         }
-        let place = match class_of(size) {
+        self.place_for(device, seat, size)
+            .ok_or(MallocRefusal::NoSpace)
+    }
+
+    // The place for a request that has bytes, fewer than 2^32, where the heap has one.
+    fn place_for<P: Pmem>(&mut self, device: &P, seat: u32, size: u64) -> Option<Place>
+        requires arena { IsArena (P.state device.now) self.old }
+        requires seat { seat < 64 }
+        requires some { size ≢ 0 }
+        requires few { size < 2 ^ 32 }
+        ensures found { (root : ℕ) → IsAskedOf (bounds_of (words_of (P.state device.now))) (tables_of (words_of (P.state device.now))) root size → IsFound (bounds_of (words_of (P.state device.now))) (tables_of (words_of (P.state device.now))) root size result }
+        ensures supplied { (root : ℕ) → IsAskedOf (bounds_of (words_of (P.state device.now))) (tables_of (words_of (P.state device.now))) root size → IsSuppliedFor self.old.supply self.new.supply seat result }
+        ensures rest { self.new ≡ record self.old { supply = self.new.supply } }
+    {
+        match class_of(size) {
             Some(class) => self.small_place(device, seat, class),
             None => large_place(&self.free, granules(size) as u32),
-        };
-        match place {
-            Some(place) => Ok(place),
-            None => Err(MallocRefusal::NoSpace),
         }
     }
 
