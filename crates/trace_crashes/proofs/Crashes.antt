@@ -1,99 +1,67 @@
 -- What a crash within the call that a device went through last leaves.
-use Rattle.std.proofs.Common.{◌≡◌, ◌≢◌, ◌↔◌, ◌⊎◌, ⊎_elim, inl, inr, ℕ, zero, suc, ◌/◌, ◌<◌, ◌≤◌, Bool, IsTrue, List, [], ◌∷◌, ◌++◌, length, take, sym, ap, ◌∙◌, refl, arith, subst}
+use Rattle.std.proofs.Common.{◌≡◌, ◌≢◌, ◌↔◌, ℕ, zero, suc, ◌/◌, ◌<◌, ◌≤◌, Bool, IsTrue, List, [], ◌∷◌, ◌++◌, length, take, is_some, sym, ap, ◌∙◌, refl, arith, subst}
 use Rattle.std.proofs.lemmas.List.{take_all}
 use Rattle.pmem_lines.specs.Words.{word_at, words_at}
 use Rattle.pmem_lines.specs.Events.{IsImage}
 use Rattle.pmem_lines.specs.Pmem.{PmemState, words_of}
 use Rattle.pmem_lines.specs.declared.event.Event.{Event}
 use Rattle.pool_layout.specs.declared.header.PoolHeader.{PoolHeader}
+use Rattle.pool_layout.specs.Header.{version_in}
+use Rattle.pool_layout.specs.Layout.{layout_of}
 use Rattle.pool_layout.specs.Places.{root_word}
-use Rattle.heap_model.specs.declared.call.Call.{Call}
-use Rattle.heap_model.specs.declared.call.Call.TheVariants.{Malloc, Free, Write, Read, Move}
+use Rattle.image_tables.specs.Tables.{tables_of}
 use Rattle.heap_model.specs.declared.call.Entry.{Entry}
-use Rattle.heap_model.specs.declared.call.Reply.{Reply}
-use Rattle.heap_model.specs.declared.call.Reply.TheVariants.{Placed, Freed, Wrote, Value, Moved, NoRoot, Occupied, Empty, ZeroSize, TooLarge, OutOfRange, NoSpace}
 use Rattle.heap_model.specs.Step.{root_of}
-use Rattle.arena_core.specs.Arena.{ArenaState}
-use Rattle.arena_core.specs.Events.{call_events}
+use Rattle.heap_check.specs.Heap.{heap}
+use Rattle.heap_check.specs.Image.{bounds_of, IsFormed}
 use Rattle.arena_core.specs.ByCall.{IsSteadyLeft}
 use Rattle.arena_core.proofs.ByCall.{law_of_crashes}
 use Rattle.trace_text.specs.declared.call.CrashSide.{CrashSide}
-use Rattle.trace_text.specs.declared.call.CrashSide.TheVariants.{Same}
-use Rattle.pool_layout.specs.Layout.{layout_of}
-use Rattle.arena_core.specs.Call.{IsStepOf}
 use Rattle.trace_text.specs.declared.call.TraceCall.{TraceCall}
-use Rattle.trace_runs.specs.Arenas.{IsNewArena}
-use Rattle.trace_runs.specs.Crash.{calls_up_to, CrashLeft, IsCrashOf, IsLeftWithin, IsSide, crash_image}
+use Rattle.trace_runs.specs.Arenas.{formatted}
 use Rattle.trace_runs.specs.Runs.{Stage, IsRunOf}
-use Rattle.trace_runs.specs.Blocks.{ChangesHeap, gives_block, side_of, side_by}
-use Rattle.trace_runs.specs.Seek.{last_stage, IsBehindEntry, IsBehindSought, IsBehindAll}
-use Rattle.trace_runs.proofs.Changes.{IsChange, IsChange-step, IsWriting, IsWriting-step, IsSide-told, IsSide-same, heap-some, heap-zero, zero_or}
+use Rattle.trace_runs.proofs.Versions.{version_of-formed}
+use Rattle.trace_crashes.specs.Crash.{calls_up_to, CrashLeft, IsCrashOf, IsLeftWithin, IsLeftIdle, IsSide, crash_image}
+use Rattle.trace_crashes.specs.Seek.{last_stage, IsBehindEntry, IsBehindSought, IsBehindAll}
+use Rattle.trace_crashes.specs.Sides.{side_by}
+use Rattle.trace_crashes.proofs.Changes.{machine_of, HasState-machine_of, HasEffect, has_effect}
+use Rattle.trace_crashes.proofs.Changes.Effect.{Changed, Kept}
+use Rattle.trace_crashes.proofs.Sides.{is_some-told, IsSide-changed, IsSide-same}
 
--- calls that have events give a block, take one, move one, or write a word
-changes_by : (words : List ℕ) (line : ℕ) (call : Call) (reply : Reply) (events : List Event) → 0 < length events → events ≡ call_events words line call reply → ChangesHeap reply ⊎ (reply ≡ Wrote)
-changes_by words line (Malloc root size) (Placed at given) events some is = inl tt
-changes_by words line (Malloc root size) (Freed at given) events some is = inl tt
-changes_by words line (Malloc root size) reply events some is = absurd (omega (arith, some, ap length is))
-changes_by words line (Free root) (Placed at given) events some is = inl tt
-changes_by words line (Free root) (Freed at given) events some is = inl tt
-changes_by words line (Free root) reply events some is = absurd (omega (arith, some, ap length is))
-changes_by words line (Write root index word) Wrote events some is = inr refl
-changes_by words line (Write root index word) reply events some is = absurd (omega (arith, some, ap length is))
-changes_by words line (Read root index) reply events some is = absurd (omega (arith, some, ap length is))
-changes_by words line (Move from to) (Moved at given) events some is = inl tt
-changes_by words line (Move from to) reply events some is = absurd (omega (arith, some, ap length is))
-
--- the call changed the heap at its root, or wrote a word and left the heap
-abbrev ChangedOrWrote : PmemState → Entry → Type 0
-ChangedOrWrote device entry =
-    (ChangesHeap entry.reply × IsChange device.base (words_of device) (root_of entry.call) (gives_block entry.reply)) ⊎ ((entry.reply ≡ Wrote) × IsWriting device.base (words_of device) (root_of entry.call))
-
-changed_or_wrote : (device : PmemState) (entry : Entry) → IsBehindEntry device entry → ChangedOrWrote device entry
-changed_or_wrote device entry behind = ⊎_elim
-    (λ (changes : ChangesHeap entry.reply). inl (changes, IsChange-step entry.seat device.base (words_of device) behind.was behind.after entry.call entry.reply behind.exact behind.step changes))
-    (λ (wrote : entry.reply ≡ Wrote). inr (wrote, IsWriting-step entry.seat device.base (words_of device) behind.was behind.after entry.call behind.exact (subst (λ (r : Reply). IsStepOf entry.seat device.base behind.was (words_of device) behind.after entry.call r) wrote behind.step)))
-    (changes_by device.base behind.line entry.call entry.reply device.events behind.some behind.events)
-
--- its root is one of the arena's
-pub below_behind : (device : PmemState) (entry : Entry) → IsBehindEntry device entry → root_of entry.call < (layout_of 1).roots
-below_behind device entry behind = ⊎_elim (λ changed. changed.1.below) (λ wrote. wrote.1.below) (changed_or_wrote device entry behind)
+-- the call changed the heap at its root, which is one of the arena's, or left it
+pub effect_behind : (device : PmemState) (entry : Entry) → IsBehindEntry device entry → HasEffect device.base (words_of device) (bounds_of device.base).roots (root_of entry.call) entry.reply
+effect_behind device entry behind =
+    let m = machine_of device.base in
+    let next = behind.step.each m (HasState-machine_of device.base) in
+    has_effect (bounds_of device.base) device.base (words_of device) m next.0 (HasState-machine_of device.base) next.2 behind.line entry.call entry.reply next.1.step
+    (subst (λ (es : List Event). 0 < length es) behind.events behind.some)
 
 -- an image that a crash within it leaves has the heap before it or after it, and its root holds its word
 pub left_behind : (device : PmemState) (entry : Entry) (done : ℕ) (image : List ℕ) → IsBehindEntry device entry → IsImage device.base (take done device.events) image → IsSteadyLeft (root_of entry.call) device.base (words_of device) image
 left_behind device entry done image behind one = law_of_crashes entry.call device.base (words_of device) image (behind.crash.each done image one)
 
--- the side of a call that changed the heap
-side_changed : (reply : Reply) (has : Bool) → ChangesHeap reply → side_of has (gives_block reply) ≡ side_by reply has
-side_changed (Placed at size) has changes = refl
-side_changed (Freed at size) has changes = refl
-side_changed Wrote has changes = absurd changes
-side_changed (Value word) has changes = absurd changes
-side_changed (Moved at size) has changes = refl
-side_changed NoRoot has changes = absurd changes
-side_changed (Occupied at) has changes = absurd changes
-side_changed Empty has changes = absurd changes
-side_changed ZeroSize has changes = absurd changes
-side_changed TooLarge has changes = absurd changes
-side_changed OutOfRange has changes = absurd changes
-side_changed NoSpace has changes = absurd changes
+-- its root is one of the image's
+pub below_left : (device : PmemState) (entry : Entry) (image : List ℕ) → IsBehindEntry device entry → IsFormed image → root_of entry.call < (layout_of (version_in image)).roots
+below_left device entry image behind formed =
+    let below = effect_behind device entry behind in
+    subst (λ v. root_of entry.call < (layout_of v).roots) (version_of-formed device.base image behind.exact.formed formed) below.below
 
 -- what is left, by the reply, and by whether the call's root has a block in the image
 pub IsLeftWithin-told : (device : PmemState) (entry : Entry) (number done seed : ℕ) (image : List ℕ) (has : Bool) → IsBehindEntry device entry → IsSteadyLeft (root_of entry.call) device.base (words_of device) image → image ≡ crash_image (last_stage device) done seed →
     (IsTrue has ↔ (word_at image (root_word (root_of entry.call)) ≢ 0)) → IsLeftWithin (last_stage device) number done seed (record { call = number; side = side_by entry.reply has; image = image })
 IsLeftWithin-told device entry number done seed image has behind left is reads =
     let root = root_of entry.call in
-    let formed = left.steady.formed in
+    let did = effect_behind device entry behind in
+    let told : is_some (heap (tables_of image) root) ≡ has = is_some-told image root has left.held (below_left device entry image behind left.steady.formed) reads in
+    let Side : CrashSide → Type 0 = IsSide device.base (words_of device) image in
     record {
       call = refl;
       image = is;
       steady = left.steady;
-      side = ⊎_elim
-          (λ changed. subst (λ (side : CrashSide). IsSide device.base (words_of device) image side) (side_changed entry.reply has changed.0)
-          (IsSide-told device.base (words_of device) image root (gives_block entry.reply) has changed.1 left.heap
-          (λ some. heap-some image root formed left.held changed.1.below (reads.0 some))
-          (λ none. heap-zero image root formed left.held changed.1.below (zero_or has (word_at image (root_word root)) none reads.1))))
-          (λ wrote. subst (λ (reply : Reply). IsSide device.base (words_of device) image (side_by reply has)) (sym wrote.0) (IsSide-same device.base (words_of device) image wrote.1.same left.heap))
-          (changed_or_wrote device entry behind);
+      side = elim did.effect [
+        | Changed given change side ↦ subst Side (side has) (IsSide-changed device.base (words_of device) image root given has change left.heap told)
+        | Kept same side ↦ subst Side (side has) (IsSide-same device.base (words_of device) image same left.heap)
+      ];
     }
 
 -- the calls up to and with one that has a number
@@ -114,13 +82,12 @@ IsCrashOf-within header calls event seed device number done left sought within =
     }
 
 -- with no call under way it is the formatted arena
-pub IsCrashOf-idle : (header : PoolHeader) (calls : List TraceCall) (event seed : ℕ) (arena : ArenaState) (events : ℕ) → IsNewArena header arena → IsBehindAll header calls event events → event ≤ events →
-    IsCrashOf header calls event seed (record { call = 0; side = Same; image = words_of arena.device })
-IsCrashOf-idle header calls event seed arena events new behind few = record {
+pub IsCrashOf-idle : (header : PoolHeader) (calls : List TraceCall) (event seed events : ℕ) (left : CrashLeft) → IsBehindAll header calls event events → event ≤ events → IsLeftIdle (formatted header) 0 left → IsCrashOf header calls event seed left
+IsCrashOf-idle header calls event seed events left behind few idle = record {
   stages = behind.stages;
-  run = behind.run;
+  run = subst (λ (n : ℕ). IsRunOf header (calls_up_to n calls) behind.stages) (sym idle.no_call) behind.run;
   within = omega (arith, behind.total, few);
-  leaves = behind.leaves few seed _ (record { done = refl; no_call = refl; no_side = refl; image = new.words });
+  leaves = behind.leaves few seed left idle;
 }
 
 -- all words of a memory

@@ -4,30 +4,20 @@ use Rattle.std.proofs.lemmas.Bool.{cases_lt, lt-ltb, le-ltb, le-leb, lt-leb, and
 use Rattle.std.proofs.lemmas.List.{append-nil, take_all}
 use Rattle.std.proofs.Math.Seq.{take-append_seam}
 use Rattle.std.specs.Bool.{MatchBool}
-use Rattle.pmem_lines.specs.Events.{CrashOnly}
-use Rattle.pmem_lines.specs.Pmem.{PmemState, words_of}
-use Rattle.heap_model.specs.declared.call.Call.{Call}
-use Rattle.heap_model.specs.declared.call.Reply.{Reply}
-use Rattle.heap_model.specs.declared.call.Entry.{Entry}
+use Rattle.pmem_lines.specs.Pmem.{words_of}
 use Rattle.heap_model.specs.Machine.{Machine, no_heap}
 use Rattle.heap_model.specs.Placement.{bare}
-use Rattle.thread_cache.specs.Stacks.{stacks_of}
-use Rattle.heap_check.specs.Image.{IsExactImage}
 use Rattle.arena_core.specs.Arena.{ArenaState}
-use Rattle.arena_core.specs.Events.{call_events}
-use Rattle.arena_core.specs.ByCall.{IsLeftBy}
-use Rattle.arena_core.specs.Call.{IsStepOf}
 use Rattle.trace_text.specs.declared.call.TraceCall.{TraceCall}
 use Rattle.pool_layout.specs.declared.header.PoolHeader.{PoolHeader}
 use Rattle.trace_runs.specs.Arenas.{bounds_for, formatted, IsNewArena}
 use Rattle.trace_runs.specs.Calls.{calls_of}
-use Rattle.trace_runs.specs.Crash.{CrashLeft, IsLeft, IsLeftWithin, IsLeftIdle, is_under_way}
+use Rattle.trace_crashes.specs.Crash.{CrashLeft, IsLeft, IsLeftWithin, IsLeftIdle, is_under_way}
 use Rattle.trace_runs.specs.Runs.{Stage, IsRun, total_events, IsRunTo}
-use Rattle.arena_journal.specs.Journals.{HasBegun, HasDone, HasAnswered}
-use Rattle.arena_journal.proofs.Journals.{begun_done}
-use Rattle.trace_runs.specs.Seek.{last_stage, IsBehindEntry, IsBehindSought, IsBehindAll}
+use Rattle.trace_crashes.specs.Seek.{IsBehindSought, IsBehindAll}
 use Rattle.trace_runs.proofs.Answers.{calls_of-append, calls_of-here, calls_of-other}
-use Rattle.trace_runs.proofs.Runs.{stage_of, stage_begun, begins_some, IsRunTo-none, IsRunTo-call, IsRun-to}
+use Rattle.trace_runs.proofs.Runs.{IsRunTo-none, IsRun-to}
+use Rattle.trace_crashes.proofs.Stages.{IsNextStage}
 
 -- the arena's calls among the first i calls of a trace are so many, they have these many events, and the event lies so many
 -- behind them
@@ -79,38 +69,36 @@ Seeking-other header number calls event arena i many left events d seeking here 
     }
 
 -- one call of the arena more was answered
-module _ (header : PoolHeader) (number : ℕ) (calls : List TraceCall) (event : ℕ) (old new : ArenaState) (i many left events : ℕ) (d : TraceCall) (reply : Reply)
+module _ (header : PoolHeader) (number : ℕ) (calls : List TraceCall) (event : ℕ) (old new : ArenaState) (i many left events n : ℕ) (d : TraceCall)
     (seeking : Seeking header number calls event old i many left events) (here : i < length calls) (mine : (get_or calls i d).arena ≡ number)
-    (answered : HasAnswered (get_or calls i d).thread old new (get_or calls i d).call reply) where
-  abbrev stage : Stage
-  stage = stage_of old (get_or calls i d).call reply
-
+    (next : IsNextStage header (calls_of number (take i calls)) seeking.stages (get_or calls i d) new n) where
   more : calls_of number (take i calls) ++ get_or calls i d ∷ [] ≡ calls_of number (take (i + 1) calls)
   more = sym (calls_of-here number calls i d here mine)
 
-  next : (machine : Machine) × IsRunTo (bounds_for header.granules) (formatted header) (bare no_heap) (calls_of number (take (i + 1) calls)) new machine (seeking.stages ++ stage ∷ [])
-  next =
-      subst (λ (cs : List TraceCall). (machine : Machine) × IsRunTo (bounds_for header.granules) (formatted header) (bare no_heap) cs new machine (seeking.stages ++ stage ∷ [])) more
-      (IsRunTo-call (bounds_for header.granules) (formatted header) (bare no_heap) (calls_of number (take i calls)) old new seeking.machine (get_or calls i d) reply seeking.stages seeking.to answered)
+  to : IsRunTo (bounds_for header.granules) (formatted header) (bare no_heap) (calls_of number (take (i + 1) calls)) new next.machine (seeking.stages ++ next.stage ∷ [])
+  to = subst (λ (cs : List TraceCall). IsRunTo (bounds_for header.granules) (formatted header) (bare no_heap) cs new next.machine (seeking.stages ++ next.stage ∷ [])) more next.to
 
   count : many + 1 ≡ length (calls_of number (take (i + 1) calls))
   count = ap (λ n. n + 1) seeking.count ∙ sym (length-append (calls_of number (take i calls)) (get_or calls i d ∷ [])) ∙ ap length more
 
+  total : total_events (seeking.stages ++ next.stage ∷ []) ≡ events + n
+  total = let both = total_events-append seeking.stages (next.stage ∷ []) in omega (arith, both, seeking.total, next.count)
+
   -- where it is not under way
-  pub Seeking-here : (0 < length stage.events → length stage.events < left) → Seeking header number calls event new (i + 1) (many + 1) (left - length stage.events) (events + length stage.events)
+  pub Seeking-here : (0 < n → n < left) → Seeking header number calls event new (i + 1) (many + 1) (left - n) (events + n)
   Seeking-here few =
-      let apart : is_under_way stage.events left ≡ false = not_under_way (length stage.events) left few in
+      let apart : is_under_way next.stage.events left ≡ false = not_under_way (length next.stage.events) left (subst (λ m. 0 < m → m < left) (sym next.count) few) in
       record {
-        stages = seeking.stages ++ stage ∷ [];
-        machine = next.0;
+        stages = seeking.stages ++ next.stage ∷ [];
+        machine = next.machine;
         count = count;
-        to = next.1;
+        to = to;
         leaves = λ further seed found is.
-            let Within : Type 0 = IsLeftWithin stage (many + 1) left seed found in
-            let Later : Type 0 = IsLeft (formatted header) (many + 1) further (left - length stage.events) seed found in
-            subst (λ (ss : List Stage). IsLeft (formatted header) 0 ss event seed found) (sym (append_assoc seeking.stages (stage ∷ []) further))
-            (seeking.leaves (stage ∷ further) seed found (subst (λ b. MatchBool b Within Later) (sym apart) is));
-        total = total_events-append seeking.stages (stage ∷ []) ∙ omega (arith, seeking.total);
+            let Within : Type 0 = IsLeftWithin next.stage (many + 1) left seed found in
+            let Later : ℕ → Type 0 = λ m. IsLeft (formatted header) (many + 1) further (left - m) seed found in
+            subst (λ (ss : List Stage). IsLeft (formatted header) 0 ss event seed found) (sym (append_assoc seeking.stages (next.stage ∷ []) further))
+            (seeking.leaves (next.stage ∷ further) seed found (subst (λ b. MatchBool b Within (Later (length next.stage.events))) (sym apart) (subst Later (sym next.count) is)));
+        total = total;
       }
 
   -- the arena's calls up to and with this one
@@ -121,57 +109,27 @@ module _ (header : PoolHeader) (number : ℕ) (calls : List TraceCall) (event : 
       ∙ ap (λ (cs : List TraceCall). take (length (calls_of number (take (i + 1) calls))) cs) (ap (calls_of number) whole ∙ calls_of-append number (take (i + 1) calls) (drop (i + 1) calls))
       ∙ take-append_seam (calls_of number (take (i + 1) calls)) (calls_of number (drop (i + 1) calls))
 
-  -- where it has events, the device went through it last
-  last : 0 < length stage.events → stage ≡ last_stage new.device
-  last some = sym (stage_begun old new (get_or calls i d).call reply (begun_done old new (get_or calls i d).call reply (begins_some (words_of old.device) old.line (get_or calls i d).call reply some) answered.done))
-
   -- where it is the one under way
-  pub IsBehindSought-here : 0 < length stage.events → left ≤ length stage.events → events + left ≡ event → IsBehindSought header (calls_of number calls) event new.device (many + 1) left
+  pub IsBehindSought-here : 0 < n → left ≤ n → events + left ≡ event → IsBehindSought header (calls_of number calls) event new.device (many + 1) left
   IsBehindSought-here some within sum =
       let b = bounds_for header.granules in
-      let test : is_under_way stage.events left ≡ true = and_from (ltb 0 (length stage.events)) (leb left (length stage.events)) (lt-ltb 0 (length stage.events) some) (le-leb left (length stage.events) within) in
-      let run : IsRun b (formatted header) 0 (bare no_heap) (take (many + 1) (calls_of number calls)) (seeking.stages ++ stage ∷ []) =
-      subst (λ (cs : List TraceCall). IsRun b (formatted header) 0 (bare no_heap) cs (seeking.stages ++ stage ∷ [])) (sym front)
-      (IsRun-to b (formatted header) (bare no_heap) (calls_of number (take (i + 1) calls)) new next.0 (seeking.stages ++ stage ∷ []) next.1) in
-      let leaves : (seed : ℕ) (found : CrashLeft) → IsLeftWithin stage (many + 1) left seed found → IsLeft (formatted header) 0 (seeking.stages ++ stage ∷ []) event seed found =
+      let under : (m : ℕ) → m ≡ n → (ltb 0 m && leb left m) ≡ true = λ m is. and_from (ltb 0 m) (leb left m) (lt-ltb 0 m (omega (arith, is, some))) (le-leb left m (omega (arith, is, within))) in
+      let run : IsRun b (formatted header) 0 (bare no_heap) (take (many + 1) (calls_of number calls)) (seeking.stages ++ next.stage ∷ []) =
+      subst (λ (cs : List TraceCall). IsRun b (formatted header) 0 (bare no_heap) cs (seeking.stages ++ next.stage ∷ [])) (sym front)
+      (IsRun-to b (formatted header) (bare no_heap) (calls_of number (take (i + 1) calls)) new next.machine (seeking.stages ++ next.stage ∷ []) to) in
+      let leaves : (seed : ℕ) (found : CrashLeft) → IsLeftWithin next.stage (many + 1) left seed found → IsLeft (formatted header) 0 (seeking.stages ++ next.stage ∷ []) event seed found =
       λ seed found is.
-      let Within : Type 0 = IsLeftWithin stage (many + 1) left seed found in
-      let Later : Type 0 = IsLeft (formatted header) (many + 1) [] (left - length stage.events) seed found in
-      seeking.leaves (stage ∷ []) seed found (subst (λ b. MatchBool b Within Later) (sym test) is) in
-      let total : event ≤ total_events (seeking.stages ++ stage ∷ []) = omega (arith, total_events-append seeking.stages (stage ∷ []), seeking.total, sum, within) in
+      let Within : Type 0 = IsLeftWithin next.stage (many + 1) left seed found in
+      let Later : Type 0 = IsLeft (formatted header) (many + 1) [] (left - length next.stage.events) seed found in
+      seeking.leaves (next.stage ∷ []) seed found (subst (λ b. MatchBool b Within Later) (sym (under (length next.stage.events) next.count)) is) in
+      let enough : event ≤ total_events (seeking.stages ++ next.stage ∷ []) = omega (arith, total, sum, within) in
       record {
         some = omega arith;
         before = seeking.stages;
-        run = subst (λ (s : Stage). IsRun b (formatted header) 0 (bare no_heap) (take (many + 1) (calls_of number calls)) (seeking.stages ++ s ∷ [])) (last some) run;
-        leaves = subst (λ (s : Stage). (seed : ℕ) (found : CrashLeft) → IsLeftWithin s (many + 1) left seed found → IsLeft (formatted header) 0 (seeking.stages ++ s ∷ []) event seed found) (last some) leaves;
-        within = subst (λ (s : Stage). event ≤ total_events (seeking.stages ++ s ∷ [])) (last some) total;
+        run = subst (λ (s : Stage). IsRun b (formatted header) 0 (bare no_heap) (take (many + 1) (calls_of number calls)) (seeking.stages ++ s ∷ [])) (next.last some) run;
+        leaves = subst (λ (s : Stage). (seed : ℕ) (found : CrashLeft) → IsLeftWithin s (many + 1) left seed found → IsLeft (formatted header) 0 (seeking.stages ++ s ∷ []) event seed found) (next.last some) leaves;
+        within = subst (λ (s : Stage). event ≤ total_events (seeking.stages ++ s ∷ [])) (next.last some) enough;
       }
-
--- what the arena was asked last, where that has events
-pub IsBehindEntry-answered : (old new : ArenaState) (thread : ℕ) (call : Call) (entry : Entry) → entry.seat ≡ thread → entry.call ≡ call → HasAnswered thread old new call entry.reply → 0 < length (stage_of old call entry.reply).events →
-    IsBehindEntry new.device entry
-IsBehindEntry-answered old new thread call entry is_seat is_call answered some =
-    let did : HasBegun old new call entry.reply = begun_done old new call entry.reply (begins_some (words_of old.device) old.line call entry.reply some) answered.done in
-    let base : words_of old.device ≡ new.device.base = sym (ap (λ (s : PmemState). s.base) did.device) in
-    let events : new.device.events ≡ call_events (words_of old.device) old.line call entry.reply = ap (λ (s : PmemState). s.events) did.device in
-    record {
-      exact = subst IsExactImage base answered.was_exact;
-      was = stacks_of old.stacks;
-      after = stacks_of new.stacks;
-      step =
-          let Step : ℕ → List ℕ → Call → Type 0 = λ seat words c. IsStepOf seat words (stacks_of old.stacks) (words_of new.device) (stacks_of new.stacks) c entry.reply in
-          subst (λ (c : Call). Step entry.seat new.device.base c) (sym is_call) (subst (λ (t : ℕ). Step t new.device.base call) (sym is_seat) (subst (λ (words : List ℕ). Step thread words call) base answered.step));
-      line = old.line;
-      events = subst (λ (c : Call). new.device.events ≡ call_events new.device.base old.line c entry.reply) (sym is_call) (subst (λ (words : List ℕ). new.device.events ≡ call_events words old.line call entry.reply) base events);
-      some = subst (λ (n : ℕ). 0 < n) (sym (ap length events)) some;
-      crash = subst (λ (c : Call). CrashOnly new.device.base new.device.events (IsLeftBy c new.device.base (words_of new.device))) (sym is_call) (subst (λ (words : List ℕ). CrashOnly new.device.base new.device.events (IsLeftBy call words (words_of new.device))) base did.crash);
-    }
-
--- so many of a device's events are done, where that is so of the call
-pub within_done : (old new : ArenaState) (call : Call) (reply : Reply) (done : ℕ) → HasDone old new call reply → 0 < length (stage_of old call reply).events → done ≤ length (stage_of old call reply).events → done ≤ length new.device.events
-within_done old new call reply done did some within =
-    let stage : last_stage new.device ≡ stage_of old call reply = stage_begun old new call reply (begun_done old new call reply (begins_some (words_of old.device) old.line call reply some) did) in
-    subst (λ (n : ℕ). done ≤ n) (sym (ap (λ (s : Stage). length s.events) stage)) within
 
 -- no call is under way
 pub IsBehindAll-none : (header : PoolHeader) (number : ℕ) (calls : List TraceCall) (event : ℕ) (arena : ArenaState) (i many left events : ℕ) → Seeking header number calls event arena i many left events → length calls ≤ i →

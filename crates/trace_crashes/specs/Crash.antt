@@ -9,9 +9,9 @@ use Rattle.heap_check.specs.State.{HaveSameHeap}
 use Rattle.trace_text.specs.declared.call.CrashSide.{CrashSide}
 use Rattle.trace_text.specs.declared.call.CrashSide.TheVariants.{Same, Before, After}
 use Rattle.trace_text.specs.declared.call.TraceCall.{TraceCall}
-use Rattle.trace_runs.specs.declared.crashing.CrashFault.{CrashFault}
-use Rattle.trace_runs.specs.declared.crashing.CrashFault.TheVariants.{Memory, NoEvent}
-use Rattle.trace_runs.specs.declared.crashing.Crashed.{Crashed}
+use Rattle.trace_crashes.specs.declared.crashing.CrashFault.{CrashFault}
+use Rattle.trace_crashes.specs.declared.crashing.CrashFault.TheVariants.{Memory, NoEvent}
+use Rattle.trace_crashes.specs.declared.leaving.Crashed.{Crashed}
 use Rattle.trace_runs.specs.Arenas.{formatted}
 use Rattle.trace_runs.specs.Runs.{Stage, words_after, total_events, IsRunOf}
 

@@ -9,11 +9,11 @@ use Rattle.arena_core.specs.ByCall.{IsLeftBy}
 use Rattle.arena_core.specs.Call.{IsStepOf}
 use Rattle.arena_core.specs.Events.{call_events}
 use Rattle.trace_text.specs.declared.call.TraceCall.{TraceCall}
-use Rattle.trace_runs.specs.declared.crashing.Sought.{Sought}
-use Rattle.trace_runs.specs.declared.crashing.Sought.TheVariants.{UnderWay, Past}
+use Rattle.trace_crashes.specs.declared.seeking.Sought.{Sought}
+use Rattle.trace_crashes.specs.declared.seeking.Sought.TheVariants.{UnderWay, Past}
 use Rattle.pool_layout.specs.declared.header.PoolHeader.{PoolHeader}
 use Rattle.trace_runs.specs.Arenas.{formatted}
-use Rattle.trace_runs.specs.Crash.{CrashLeft, IsLeft, IsLeftWithin, IsLeftIdle}
+use Rattle.trace_crashes.specs.Crash.{CrashLeft, IsLeft, IsLeftWithin, IsLeftIdle}
 use Rattle.trace_runs.specs.Runs.{Stage, IsRunOf, total_events}
 
 -- the call that a device went through last

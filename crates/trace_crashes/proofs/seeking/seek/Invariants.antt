@@ -1,8 +1,8 @@
 use Rattle.std.proofs.Common.{◌≡◌, ◌+◌, ◌≤◌}
 use Rattle.pool_layout.specs.declared.header.PoolHeader.{PoolHeader}
 use Rattle.trace_runs.specs.Arenas.{IsNewArena}
-use Rattle.trace_runs.proofs.Seeking.{Seeking}
-use Rattle.trace_runs.proofs.crashing.seek.Given as goal
+use Rattle.trace_crashes.proofs.UnderWay.{Seeking}
+use Rattle.trace_crashes.proofs.seeking.seek.Given as goal
 
 abbrev pub invariant-loop-call : goal.invariant-loop-call
 invariant-loop-call l = record {
