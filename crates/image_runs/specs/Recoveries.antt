@@ -3,10 +3,8 @@ use Rattle.std.specs.Prelude.{ℕ, zero, suc, ◌+◌, List, [], ◌++◌}
 use Rattle.pool_layout.specs.Image.{part_of}
 use Rattle.pool_layout.specs.declared.image.ImageFault.{ImageFault}
 use Rattle.pool_layout.specs.declared.image.ImageFault.TheVariants as images
-use Rattle.image_tables.specs.Tables.{tables_of}
-use Rattle.heap_check.specs.Heap.{heap}
 use Rattle.trace_text.specs.ImageReport.{recovered_text}
-use Rattle.trace_runs.specs.Blocks.{blocks_of}
+use Rattle.trace_runs.specs.Blocks.{blocks_in}
 use Rattle.recover.specs.declared.fault.RecoverFault.{RecoverFault}
 use Rattle.recover.specs.declared.fault.RecoverFault.TheVariants as faults
 
@@ -17,7 +15,7 @@ fault_at arena (faults.Defect defect) = images.Defect arena defect
 
 -- the lines of an arena of these words: its heap, block by block
 abbrev pub heap_lines : ℕ → List ℕ → List ℕ
-heap_lines arena words = recovered_text arena (blocks_of (heap (tables_of words)))
+heap_lines arena words = recovered_text arena (blocks_in words)
 
 -- the lines of n arenas from one on, of a pool whose arenas have so many granules
 abbrev pub heaps_from : List ℕ → ℕ → ℕ → ℕ → List ℕ

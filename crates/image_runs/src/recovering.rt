@@ -3,11 +3,9 @@ ghost use Rattle.std.specs.Prelude.{◌≡◌, ◌≤◌, ◌++◌, IfOk, IfErr,
 ghost use Rattle.pmem_lines.specs.Events.{IsQuiet};
 ghost use Rattle.pmem_lines.specs.Pmem.{words_of};
 ghost use Rattle.pool_layout.specs.Image.{IfDefect as IfPoolDefect};
-ghost use Rattle.image_tables.specs.Tables.{tables_of};
-ghost use Rattle.heap_check.specs.Heap.{heap};
 ghost use Rattle.image_defects.specs.Defects.{IsFirstDefect};
-ghost use Rattle.trace_runs.specs.Blocks.{blocks_of};
 ghost use Rattle.heap_check.specs.Image.{IsSoundImage};
+ghost use Rattle.trace_runs.specs.Blocks.{blocks_in};
 ghost use Rattle.recover.specs.Faults.{IfDefect};
 ghost use Rattle.recover.specs.Recovered.{HasVersionRoom, IsRecovered};
 ghost use Rattle.image_runs.specs.Checks.{IsOwnDefect};
@@ -36,7 +34,7 @@ pub fn recover_heap<P: Pmem + Drop>(alloc: Global, device: P) -> Result<Recovere
     requires room { HasVersionRoom (P.state device) }
     ensures sound { OnOk result (IsSoundImage (words_of (P.state device))) }
     ensures recovered { IfOk result (λ done. IsRecovered (P.state device) (P.state done.device)) }
-    ensures heap { IfOk result (λ done. done.blocks.items ≡ blocks_of (heap (tables_of (words_of (P.state device))))) }
+    ensures heap { IfOk result (λ done. done.blocks.items ≡ blocks_in (words_of (P.state device))) }
     ensures defect { IfErr result (λ fault. IfDefect fault (IsFirstDefect (words_of (P.state device)))) }
 {
     let arena = match recover(alloc, device) {

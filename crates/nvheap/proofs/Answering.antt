@@ -18,3 +18,7 @@ pub IsAnswer-refused : (command : Command) (input : List ℕ) (places : Option (
     Refuses command input why → IsFaultLine why answer → IsAnswer command input places places answer
 IsAnswer-refused command input places why (Output text) cause line = absurd line
 IsAnswer-refused command input places why (FaultLine text) cause line = record { why = why; cause = cause; line = line; aside = refl }
+
+-- a call that makes that line has the answer
+pub refused : {E : Type 0} (command : Command) (input : List ℕ) (places : Option (List (Option PmemState))) (why : Cause) (result : Result Answer E) → Refuses command input why → IfOk result (IsFaultLine why) → IfOk result (IsAnswer command input places places)
+refused command input places why result cause line = IfOk-more result (IsFaultLine why) (IsAnswer command input places places) (λ answer. IsAnswer-refused command input places why answer cause) line

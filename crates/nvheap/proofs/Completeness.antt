@@ -22,7 +22,7 @@ use Rattle.trace_text.specs.declared.call.TraceCall.{TraceCall}
 use Rattle.trace_runs.specs.Arenas.{header_for}
 use Rattle.trace_runs.specs.Calls.{calls_of}
 use Rattle.trace_text.proofs.OneMeaning.{law_of_one_trace, law_of_no_refusal}
-use Rattle.trace_runs.specs.Crash.{HasFewer}
+use Rattle.trace_crashes.specs.Crash.{HasFewer}
 use Rattle.nvheap.specs.declared.command.Command.{Command}
 use Rattle.nvheap.specs.declared.command.Command.TheVariants.{Replay, Image, Check, Recover, Crash, Gen}
 use Rattle.nvheap.specs.declared.cause.Cause.{Cause}

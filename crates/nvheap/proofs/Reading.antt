@@ -1,5 +1,5 @@
 -- An input, as the bytes of a source come into it.
-use Rattle.std.proofs.Common.{◌≡◌, ℕ, ◌+◌, ◌%◌, ◌≤◌, List, [], ◌++◌, length, take, drop, Option, refl, sym, ap, ◌∙◌, arith, length-append, inl, inr}
+use Rattle.std.proofs.Common.{◌≡◌, ℕ, ◌+◌, ◌%◌, ◌≤◌, List, [], ◌++◌, length, take, drop, Option, refl, sym, ap, ◌∙◌, subst, arith, length-append, inl, inr}
 use Rattle.std.proofs.lemmas.List.{take-take, take-append-le, length-take-le, length-drop}
 use Rattle.std.proofs.lemmas.Slice.{take-put_mid}
 use Rattle.std.proofs.Math.Seq.{take-append-add}
@@ -14,7 +14,7 @@ pub come_none : (left : Option (List ℕ)) (input : Input) → HasBytes input []
 come_none left input has = record { bytes = []; has = has; count = refl; gives = Gives-none left }
 
 -- a piece more has come
-pub come_more : (a b c : Option (List ℕ)) (old new : Input) (size n : ℕ) (piece : List ℕ) → HasCome a b old size → size % 8 ≡ 0 → Gives b c piece → length piece ≡ n →
+come_more : (a b c : Option (List ℕ)) (old new : Input) (size n : ℕ) (piece : List ℕ) → HasCome a b old size → size % 8 ≡ 0 → Gives b c piece → length piece ≡ n →
     ((bytes : List ℕ) → length bytes % 8 ≡ 0 → HasBytes old bytes → HasBytes new (bytes ++ piece)) → HasCome a c new (size + n)
 come_more a b c old new size n piece come whole gives count adds = record {
   bytes = come.bytes ++ piece;
@@ -22,6 +22,17 @@ come_more a b c old new size n piece come whole gives count adds = record {
   count = omega (arith, length-append come.bytes piece, come.count, count);
   gives = Gives-then a b c come.bytes piece come.gives gives;
 }
+
+-- the front of a buffer that lies in a longer one
+front_of : (piece items : List ℕ) (size n : ℕ) → n ≤ size → n ≤ length piece → take n (take size (piece ++ drop (length piece) items)) ≡ take n piece
+front_of piece items size n below inside = take-take n size (piece ++ drop (length piece) items) below ∙ take-append-le n piece (drop (length piece) items) inside
+
+-- the front of a buffer, which a source filled
+pub come_filled : (a b c : Option (List ℕ)) (old new : Input) (size n len : ℕ) (piece items lent : List ℕ) → HasCome a b old size → size % 8 ≡ 0 → lent ≡ take len (piece ++ drop (length piece) items) → n ≤ len → n ≤ length piece →
+    Gives b c (take n piece) → ((bytes : List ℕ) → length bytes % 8 ≡ 0 → HasBytes old bytes → HasBytes new (bytes ++ take n lent)) → HasCome a c new (size + n)
+come_filled a b c old new size n len piece items lent come whole is below inside gives adds =
+    let front : take n lent ≡ take n piece = ap (take n) is ∙ front_of piece items len n below inside in
+    come_more a b c old new size n (take n lent) come whole (subst (λ (bytes : List ℕ). Gives b c bytes) (sym front) gives) (ap length front ∙ length-take-le n piece inside) adds
 
 -- all has come
 pub come_all : (old new : Option (List ℕ)) (input : Input) (size limit : ℕ) → HasCome old new input size → size ≤ limit → IsAtEnd new → HasAllCome old new input limit
@@ -66,7 +77,3 @@ two_reads piece into done rest n inside size few =
     ∙ ap (take (done + n)) whole
     ∙ ap (λ m. take (m + n) (take done piece ++ into)) (sym long)
     ∙ take-append-add (take done piece) into n
-
--- the front of a buffer that lies in a longer one
-pub front_of : (piece items : List ℕ) (size n : ℕ) → n ≤ size → n ≤ length piece → take n (take size (piece ++ drop (length piece) items)) ≡ take n piece
-front_of piece items size n below inside = take-take n size (piece ++ drop (length piece) items) below ∙ take-append-le n piece (drop (length piece) items) inside

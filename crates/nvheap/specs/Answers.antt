@@ -5,8 +5,6 @@ use Rattle.pool_layout.specs.declared.header.PoolHeader.{PoolHeader}
 use Rattle.pool_layout.specs.declared.defect.Defect.{Defect}
 use Rattle.pool_layout.specs.Bytes.{bytes_of_words}
 use Rattle.pool_layout.specs.Image.{part_of, IsImageOf}
-use Rattle.image_tables.specs.Tables.{tables_of}
-use Rattle.heap_check.specs.Heap.{heap}
 use Rattle.heap_check.specs.Image.{IsSoundImage}
 use Rattle.image_defects.specs.Defects.{IsFirstDefect}
 use Rattle.recover.specs.Recovered.{IsRecoveredDevice}
@@ -16,10 +14,10 @@ use Rattle.trace_text.specs.declared.call.TraceCall.{TraceCall}
 use Rattle.trace_text.specs.Grammar.{IsTrace}
 use Rattle.trace_text.specs.Report.{crash_text}
 use Rattle.trace_runs.specs.Arenas.{header_for}
-use Rattle.trace_runs.specs.Blocks.{blocks_of}
+use Rattle.trace_runs.specs.Blocks.{blocks_in}
 use Rattle.trace_runs.specs.Calls.{calls_of}
 use Rattle.trace_runs.specs.Journals.{IsRunThrough}
-use Rattle.trace_runs.specs.Crash.{CrashLeft, IsCrashOf, HasFewer}
+use Rattle.trace_crashes.specs.Crash.{CrashLeft, IsCrashOf, HasFewer}
 use Rattle.trace_workers.specs.Reports.{IsReplayed}
 use Rattle.trace_workers.specs.Summaries.{IsSummed}
 use Rattle.trace_gen.specs.Draws.{the_pool, generated}
@@ -102,7 +100,7 @@ pub record AnswersCrash (input output : List ℕ) (arena event seed : ℕ) (old 
   pub inside : arena < pool.arenas
   pub left : CrashLeft
   pub leaves : IsCrashOf (header_for pool arena) (calls_of arena calls) event seed left
-  pub is : output ≡ crash_text left.call left.side (blocks_of (heap (tables_of left.image)))
+  pub is : output ≡ crash_text left.call left.side (blocks_in left.image)
   pub shelf : PutsRecovered left.image arena old new
 
 -- the trace has so many arenas, and not the one that is asked for

@@ -1,5 +1,6 @@
 -- What a command reads, and how much of it.
-use Rattle.std.specs.Prelude.{◌≡◌, ◌<◌, ◌≤◌, ◌^◌, ℕ, List, [], length, Option, Some, None}
+use Rattle.std.specs.Prelude.{◌≡◌, ◌*◌, ◌<◌, ◌≤◌, ◌^◌, ℕ, List, [], length, Option, Some, None}
+use Rattle.pool_layout.specs.Layout.{layout_of}
 use Rattle.pool_layout.specs.Image.{AreWordsOf}
 use Rattle.nvheap.specs.declared.command.Command.{Command}
 use Rattle.nvheap.specs.declared.command.Command.TheVariants.{Replay, Image, Check, Recover, Crash, Gen}
@@ -20,9 +21,13 @@ IsPool (Pool words size) = Unit {0}
 unfoldable pub longest_trace : ℕ
 longest_trace = 67108864
 
+-- the most bytes that the image of a pool of a version may have: those of 16 arenas, each of the most granules
+abbrev pub greatest_image : ℕ → ℕ
+greatest_image version = 16 * (16384 * (layout_of version).most_granules)
+
 -- the most bytes that an image may have
 unfoldable pub longest_image : ℕ
-longest_image = 268435456
+longest_image = greatest_image 1
 
 -- the most bytes that a command's input may have; a command that reads no input has no such limit
 abbrev pub limit_of : Command → Option ℕ

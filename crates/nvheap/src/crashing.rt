@@ -1,11 +1,9 @@
 // What `crash` has to say of its input, and the device that it leaves.
 ghost use Rattle.std.specs.Prelude.{◌≡◌, ◌<◌, IfOk, OnOk, OnErr};
 ghost use Rattle.pmem_lines.specs.Pmem.{risen};
-ghost use Rattle.image_tables.specs.Tables.{tables_of};
-ghost use Rattle.heap_check.specs.Heap.{heap};
 ghost use Rattle.heap_check.specs.Image.{IsSoundImage};
 ghost use Rattle.trace_text.specs.Report.{crash_text};
-ghost use Rattle.trace_runs.specs.Blocks.{blocks_of};
+ghost use Rattle.trace_runs.specs.Blocks.{blocks_in};
 ghost use Rattle.nvheap.specs.declared.command.Command.TheVariants as commands;
 ghost use Rattle.nvheap.specs.Answers.{PutsRecovered};
 ghost use Rattle.nvheap.specs.Ends.{IsAnswer, CountsImages};
@@ -18,7 +16,7 @@ use pmem_lines::OutOfMemory;
 use pool_layout::layout_of;
 use recover::RecoverFault;
 use std::alloc::Global;
-use trace_runs::{CrashFault, Crashed, crash};
+use trace_crashes::{CrashFault, Crashed, crash};
 use trace_text::{Refusal, TraceFault, read_trace, write_crash};
 
 // The version of a trace's arenas.
@@ -74,7 +72,7 @@ fn recovered_report<H: Shelf>(
 ) -> Result<Vec<u8>, OutOfMemory>
     requires sound { IsSoundImage crashed.now.image.items }
     requires arena { arena < 16 }
-    ensures text { IfOk result (λ text. text.items ≡ crash_text crashed.now.call crashed.now.side (blocks_of (heap (tables_of crashed.now.image.items)))) }
+    ensures text { IfOk result (λ text. text.items ≡ crash_text crashed.now.call crashed.now.side (blocks_in crashed.now.image.items)) }
     ensures put { IfOk result (λ _. PutsRecovered crashed.now.image.items arena (H.places shelf.old) (H.places shelf.new)) }
     ensures images { OnOk result (H.images shelf.new ≡ risen (H.images shelf.old) 1) }
     ensures kept { OnErr result (H.places shelf.new ≡ H.places shelf.old) }

@@ -2,20 +2,23 @@
 ghost use Rattle.std.specs.Prelude.{◌≡◌, ◌-◌, ◌<◌, ◌≤◌, ◌%◌, ◌^◌, ◌++◌, ℕ, List, [], length, take, IfOk, IfErr, OnOk, OnErr, Err};
 ghost use Rattle.nvheap.specs.Outside.{Rose, Gives, GivesFew, GivesMore, IsAtEnd};
 ghost use Rattle.nvheap.specs.Command.{ReadsNone};
-ghost use Rattle.nvheap.specs.Inputs.{limit_of, HasBytes, IsInput, Fits, IsRead, HasCome, HasAllCome, GivesLess};
+ghost use Rattle.nvheap.specs.Inputs.{limit_of, longest_image, HasBytes, IsInput, Fits, IsRead, HasCome, HasAllCome, GivesLess};
 ghost use Rattle.nvheap.specs.Ends.{IsUnread};
 
 use crate::command::Command;
 use crate::source::{Failed, Source};
 use crate::status::Status;
 use pmem_lines::OutOfMemory;
-use pool_layout::add_words;
+use pool_layout::{GRANULE_BYTES, add_words, layout_of};
 use std::alloc::{AllocError, Global};
 
-// The most bytes that a trace may have, and an image.
+// The most bytes that a trace may have.
 const LONGEST_TRACE: usize = 67_108_864;
 
-const LONGEST_IMAGE: usize = 268_435_456;
+// The most arenas of a pool, and the version whose pools are the greatest.
+const MOST_ARENAS: usize = 16;
+
+const VERSION: u32 = 1;
 
 // How many bytes are read before they are put behind the others: whole words.
 const PIECE: usize = 65536;
@@ -88,7 +91,7 @@ pub(crate) fn read_input<S: Source>(
 }
 
 // The most bytes that a command's input may have.
-#[tactic(auto, unfolding(crate::specs::Inputs::longest_trace, crate::specs::Inputs::longest_image))]
+#[tactic(auto, unfolding(crate::specs::Inputs::longest_trace))]
 fn longest_of(command: Command) -> usize
     requires { ¬ (ReadsNone command) }
     ensures longest { limit_of command ≡ Some result }
@@ -96,9 +99,18 @@ fn longest_of(command: Command) -> usize
 {
     match command {
         Command::Replay | Command::Image | Command::Crash { .. } => LONGEST_TRACE,
-        Command::Check | Command::Recover => LONGEST_IMAGE,
+        Command::Check | Command::Recover => longest_image(),
         Command::Gen { .. } => unreachable!(),
     }
+}
+
+// The most bytes that an image may have.
+#[tactic(auto, unfolding(crate::specs::Inputs::longest_image))]
+fn longest_image() -> usize
+    ensures longest { result ≡ longest_image }
+    ensures few { result < 2 ^ 32 - 65536 }
+{
+    MOST_ARENAS * GRANULE_BYTES as usize * layout_of(VERSION).most_granules as usize
 }
 
 // An input of a command, of which no byte has come.

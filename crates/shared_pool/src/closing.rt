@@ -1,5 +1,5 @@
 // The end of a pool: its locks are ended one by one, with the seats of all passes.
-ghost use Rattle.std.specs.Prelude.{◌≡◌, ◌≤◌, ◌<◌, ◌+◌, ◌++◌, ◌∷◌, [], List, map, length, IfOk, vec_len};
+ghost use Rattle.std.specs.Prelude.{◌≡◌, ◌≤◌, ◌<◌, ◌+◌, ◌++◌, ◌∷◌, [], List, map, length, vec_len};
 ghost use Rattle.std.specs.Vec.{vec_capacity};
 ghost use Rattle.crossbeam_utils.specs.Padded.{padded_value};
 ghost use Rattle.atomic_table.specs.Seated.{TableId};
@@ -13,29 +13,13 @@ use arena_core::Arena;
 use arena_lock::{ArenaLock, LockSeat};
 use crossbeam_utils::CachePadded;
 use heap_model::Entry;
-use pmem_lines::{OutOfMemory, Pmem};
-use std::alloc::Global;
+use pmem_lines::Pmem;
 
 /// An arena after its pool, and the journal of all calls that it had there.
 #[derive(Drop)]
 pub struct ClosedArena<P: Pmem> {
     pub journal: Vec<Entry>,
     pub arena: Arena<P>,
-}
-
-/// Room for so many seats in each of so many rows.
-pub(crate) fn rooms(
-    alloc: Global,
-    rows: usize,
-    seats: usize,
-) -> Result<Vec<Vec<LockSeat>>, OutOfMemory>
-    ensures { IfOk result (λ v. (length v.items ≡ rows) × AllRoom seats (each_of v.items (λ r. (vec_len r, vec_capacity r)))) }
-{
-    let mut made = Vec::new(alloc);
-    for _ in 0..rows {
-        made.push(Vec::with_capacity(alloc, seats)?)?;
-    }
-    Ok(made)
 }
 
 // The first seat of each pass.

@@ -1,5 +1,5 @@
 // The seats of the locks, dealt out to passes.
-ghost use Rattle.std.specs.Prelude.{◌≡◌, ℕ, ◌≤◌, ◌+◌, ◌++◌, List, map, length, IfOk, vec_len};
+ghost use Rattle.std.specs.Prelude.{◌≡◌, ℕ, ◌≤◌, ◌+◌, ◌++◌, List, map, length, vec_len};
 ghost use Rattle.std.specs.Vec.{vec_capacity};
 ghost use Rattle.crossbeam_utils.specs.Padded.{padded_value};
 ghost use Rattle.arena_lock.specs.Known.{Lock};
@@ -13,23 +13,7 @@ use crate::starting::Begun;
 use crate::value::PoolArena;
 use arena_lock::{ArenaLock, LockSeat};
 use crossbeam_utils::CachePadded;
-use pmem_lines::{OutOfMemory, Pmem};
-use std::alloc::Global;
-
-/// Room for so many seats in each of so many rows.
-pub(crate) fn spot_rooms(
-    alloc: Global,
-    rows: usize,
-    spots: usize,
-) -> Result<Vec<Vec<Spot>>, OutOfMemory>
-    ensures { IfOk result (λ v. (length v.items ≡ rows) × AllRoom spots (each_of v.items (λ r. (vec_len r, vec_capacity r)))) }
-{
-    let mut made = Vec::new(alloc);
-    for _ in 0..rows {
-        made.push(Vec::with_capacity(alloc, spots)?)?;
-    }
-    Ok(made)
-}
+use pmem_lines::Pmem;
 
 /// The locks, and the seats of each.
 pub(crate) fn split_all<P: Pmem>(

@@ -16,6 +16,7 @@ mod dealing;
 mod job;
 mod pass;
 mod pool;
+mod room;
 mod starting;
 mod value;
 

@@ -8,10 +8,11 @@ ghost use Rattle.shared_pool.specs.Passes.{PassState, IsPassOf, part_at, with_pa
 ghost use Rattle.shared_pool.specs.Closed.{AllFitLocks, HasAll, AllClosed};
 ghost use Rattle.shared_pool.specs.Rows.{each_of, SameAnswer};
 
-use crate::closing::{ClosedArena, close_all, rooms};
-use crate::dealing::{deal_out, split_all, spot_rooms};
+use crate::closing::{ClosedArena, close_all};
+use crate::dealing::{deal_out, split_all};
 use crate::job::{Counted, PoolJob, Receipt};
 use crate::pass::Pass;
+use crate::room::rooms;
 use crate::starting::begin_all;
 use crate::value::PoolArena;
 use arena_core::Arena;
@@ -75,7 +76,7 @@ impl<P: Pmem> SharedPool<P> {
         ensures handed_back { IfErr result (λ r. r.1.items ≡ arenas.items) }
     {
         let count = arenas.len();
-        let Ok(rows) = spot_rooms(alloc, seats as usize, count) else {
+        let Ok(rows) = rooms(alloc, seats as usize, count) else {
             return Err((OutOfMemory, arenas));
         };
         let Ok(passes) = Vec::with_capacity(alloc, seats as usize) else {

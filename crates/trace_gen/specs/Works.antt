@@ -3,7 +3,7 @@ use Rattle.std.specs.Prelude.{ℕ, Bool, true, false, List, length, count_by, su
 use Rattle.heap_model.specs.declared.block.Block.{Block}
 use Rattle.heap_model.specs.declared.call.Entry.{Entry}
 use Rattle.heap_model.specs.declared.call.Reply.{Reply}
-use Rattle.heap_model.specs.declared.call.Reply.TheVariants.{Placed, Freed, Wrote, Value, Moved, NoRoot, Occupied, Empty, ZeroSize, TooLarge, OutOfRange, NoSpace}
+use Rattle.heap_model.specs.declared.call.Reply.TheVariants.{Placed, Freed, Wrote, Value}
 use Rattle.trace_text.specs.declared.work_report.Work.{Work}
 use Rattle.trace_text.specs.WorkReport.{work_line}
 
@@ -12,32 +12,12 @@ use Rattle.trace_text.specs.WorkReport.{work_line}
 -- the call placed a block
 abbrev pub is_placed : Reply → Bool
 is_placed (Placed at size) = true
-is_placed (Freed at size) = false
-is_placed Wrote = false
-is_placed (Value word) = false
-is_placed (Moved at size) = false
-is_placed NoRoot = false
-is_placed (Occupied at) = false
-is_placed Empty = false
-is_placed ZeroSize = false
-is_placed TooLarge = false
-is_placed OutOfRange = false
-is_placed NoSpace = false
+is_placed reply = false
 
 -- the call freed a block
 abbrev pub is_freed : Reply → Bool
-is_freed (Placed at size) = false
 is_freed (Freed at size) = true
-is_freed Wrote = false
-is_freed (Value word) = false
-is_freed (Moved at size) = false
-is_freed NoRoot = false
-is_freed (Occupied at) = false
-is_freed Empty = false
-is_freed ZeroSize = false
-is_freed TooLarge = false
-is_freed OutOfRange = false
-is_freed NoSpace = false
+is_freed reply = false
 
 -- the call was refused: every reply but Placed, Freed, Wrote and Value; generated work moves no block
 abbrev pub is_refused : Reply → Bool
@@ -45,14 +25,7 @@ is_refused (Placed at size) = false
 is_refused (Freed at size) = false
 is_refused Wrote = false
 is_refused (Value word) = false
-is_refused (Moved at size) = true
-is_refused NoRoot = true
-is_refused (Occupied at) = true
-is_refused Empty = true
-is_refused ZeroSize = true
-is_refused TooLarge = true
-is_refused OutOfRange = true
-is_refused NoSpace = true
+is_refused reply = true
 
 -- journals
 

@@ -16,7 +16,7 @@ use Rattle.arena_core.specs.Events.{format_events}
 use Rattle.pool_layout.specs.declared.header.PoolHeader.{PoolHeader}
 use Rattle.arena_core.specs.Call.{IsReady}
 use Rattle.trace_runs.specs.Arenas.{bounds_for, formatted, IsNewArena}
-use Rattle.trace_runs.proofs.Changes.{version-formed}
+use Rattle.trace_runs.proofs.Versions.{version-formed}
 
 -- the numbers of formed words of so many granules
 bounds-formed : (words : List ℕ) (granules : ℕ) → IsFormed words → length words ≡ 2048 * granules → bounds_of words ≡ bounds_for granules

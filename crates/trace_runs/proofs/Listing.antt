@@ -6,8 +6,11 @@ use Rattle.image_tables.specs.Tables.{tables_of}
 use Rattle.heap_model.specs.declared.block.Block.{Block}
 use Rattle.heap_model.specs.Machine.{Range}
 use Rattle.heap_check.specs.Heap.{heap}
+use Rattle.heap_check.specs.Image.{bounds_of, IsFormed}
+use Rattle.heap_check.specs.State.{HaveSameHeap}
 use Rattle.arena_core.specs.Arena.{IsBlockOfRoot}
-use Rattle.trace_runs.specs.Blocks.{listed, blocks_from, blocks_of}
+use Rattle.trace_runs.specs.Blocks.{listed, blocks_from, blocks_of, blocks_in}
+use Rattle.trace_runs.proofs.Versions.{version_of-formed}
 
 -- the blocks of m roots, and of n roots behind them
 blocks_from-split : (h : ℕ → Option Range) (i m n : ℕ) → blocks_from h i (m + n) ≡ blocks_from h i m ++ blocks_from h (i + m) n
@@ -39,8 +42,14 @@ blocks_from-same h g i (suc n) same =
     ∙ ap (λ (bs : List Block). listed i (g i) ++ bs) (blocks_from-same h g (i + 1) n (λ root low high. same root (omega arith) (omega arith)))
 
 -- two heaps with the same blocks
-pub blocks_of-same : (h g : ℕ → Option Range) → ((root : ℕ) → h root ≡ g root) → blocks_of h ≡ blocks_of g
-blocks_of-same h g same = blocks_from-same h g 0 (layout_of 1).roots (λ root low high. same root)
+pub blocks_of-same : (words : List ℕ) (h g : ℕ → Option Range) → ((root : ℕ) → h root ≡ g root) → blocks_of words h ≡ blocks_of words g
+blocks_of-same words h g same = blocks_from-same h g 0 (bounds_of words).roots (λ root low high. same root)
+
+-- and in two images, of which both are formed
+pub blocks_in-same : (words image : List ℕ) → IsFormed words → IsFormed image → HaveSameHeap words image → blocks_in image ≡ blocks_in words
+blocks_in-same words image formed formed_image same =
+    blocks_of-same image (heap (tables_of image)) (heap (tables_of words)) same.each
+    ∙ ap (λ v. blocks_from (heap (tables_of words)) 0 (layout_of v).roots) (sym (version_of-formed words image formed formed_image))
 
 -- the blocks up to a root, and then its own, where it has one
 pub blocks_from-some : (words : List ℕ) (from root : ℕ) (before items : List Block) (block : Block) → from ≤ root → items ≡ before ++ blocks_from (heap (tables_of words)) from (root - from) →

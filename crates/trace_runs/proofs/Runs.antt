@@ -15,7 +15,6 @@ use Rattle.arena_journal.specs.Journals.{begins_call, HasBegun, HasDone, HasAnsw
 use Rattle.arena_core.specs.Events.{call_events}
 use Rattle.heap_model.specs.declared.call.Call.{Call}
 use Rattle.heap_model.specs.declared.call.Call.TheVariants.{Malloc, Free, Write, Read, Move}
-use Rattle.trace_runs.specs.Seek.{last_stage}
 
 words_behind-last : (start : List ℕ) (stages : List Stage) (last : Stage) → words_behind start (stages ++ last ∷ []) ≡ words_after last
 words_behind-last start [] last = refl
@@ -50,26 +49,6 @@ words_done old new (Free root) reply done = ap (λ (s : PmemState). words_of s) 
 words_done old new (Write root index word) reply done = ap (λ (s : PmemState). words_of s) done.device
 words_done old new (Read root index) reply done = ap (λ (a : ArenaState). words_of a.device) done.same
 words_done old new (Move from to) reply done = ap (λ (s : PmemState). words_of s) done.device
-
--- the device went through it last, where it began a call
-pub stage_begun : (old new : ArenaState) (call : Call) (reply : Reply) → HasBegun old new call reply → last_stage new.device ≡ stage_of old call reply
-stage_begun old new call reply did = ap last_stage did.device
-
--- its events are those of the device where the call begins one, and none where it is a Read
-pub events_done : (old new : ArenaState) (call : Call) (reply : Reply) → HasDone old new call reply → length (stage_of old call reply).events ≡ (if begins_call call then length new.device.events else 0)
-events_done old new (Malloc root size) reply done = sym (ap (λ (s : PmemState). length s.events) done.device)
-events_done old new (Free root) reply done = sym (ap (λ (s : PmemState). length s.events) done.device)
-events_done old new (Write root index word) reply done = sym (ap (λ (s : PmemState). length s.events) done.device)
-events_done old new (Read root index) reply done = refl
-events_done old new (Move from to) reply done = sym (ap (λ (s : PmemState). length s.events) done.device)
-
--- a call that has events begins one
-pub begins_some : (words : List ℕ) (line : ℕ) (call : Call) (reply : Reply) → 0 < length (call_events words line call reply) → begins_call call ≡ true
-begins_some words line (Malloc root size) reply some = refl
-begins_some words line (Free root) reply some = refl
-begins_some words line (Write root index word) reply some = refl
-begins_some words line (Read root index) reply some = absurd (omega (arith, some))
-begins_some words line (Move from to) reply some = refl
 
 -- a call that was answered is a stage
 IsStage-answered : (b : Bounds) (old new : ArenaState) (machine next : Machine) (call : TraceCall) (reply : Reply) → HasAnswered call.thread old new call.call reply →

@@ -3,6 +3,4 @@ pub mod Blocks
 pub mod Calls
 pub mod Runs
 pub mod Journals
-pub mod Crash
-pub mod Seek
 pub mod Laws

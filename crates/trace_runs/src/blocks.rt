@@ -3,21 +3,31 @@ ghost use Rattle.std.specs.Prelude.{◌≡◌, ◌≤◌, ◌++◌, ◌-◌, IfO
 ghost use Rattle.pmem_lines.specs.Pmem.{words_of};
 ghost use Rattle.image_tables.specs.Tables.{tables_of};
 ghost use Rattle.heap_check.specs.Heap.{heap};
-ghost use Rattle.trace_runs.specs.Blocks.{blocks_from, blocks_of};
+ghost use Rattle.heap_check.specs.Image.{bounds_of};
+ghost use Rattle.trace_runs.specs.Blocks.{blocks_from, blocks_in};
 
 use arena_core::Arena;
 use heap_model::Block;
 use pmem_lines::{OutOfMemory, Pmem};
-use pool_layout::layout_of;
+use pool_layout::{fields_at, layout_of};
 use std::alloc::Global;
 
-/// The blocks of an arena, by rising root. It takes the memory of the list.
+/// The blocks of an arena, by rising root: of as many roots as the version has that its words say. It takes the memory of
+/// the list.
 pub fn blocks_of<P: Pmem>(alloc: Global, arena: &Arena<P>) -> Result<Vec<Block>, OutOfMemory>
-    ensures { IfOk result (λ blocks. blocks.items ≡ blocks_of (heap (tables_of (words_of arena.now.device)))) }
+    ensures { IfOk result (λ blocks. blocks.items ≡ blocks_in (words_of arena.now.device)) }
 {
     let mut blocks = Vec::new(alloc);
-    add_blocks(&mut blocks, arena, 0, layout_of(1).roots)?;
+    add_blocks(&mut blocks, arena, 0, roots_of(arena))?;
     Ok(blocks)
+}
+
+// How many roots an arena has.
+fn roots_of<P: Pmem>(arena: &Arena<P>) -> u32
+    ensures { result ≡ (bounds_of (words_of arena.now.device)).roots }
+{
+    let version = arena.pmem().load(fields_at()) % 65536;
+    layout_of(version as u32).roots
 }
 
 // Adds the blocks of the roots from one on and below another.

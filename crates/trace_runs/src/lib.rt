@@ -1,24 +1,21 @@
-// The calls of a trace that are one arena's, made on it by one caller in the order of the lines: the device that they leave,
-// and what a crash at a chosen event leaves.
+// The calls of a trace that are one arena's, made on it by one caller in the order of the lines, and the device that they
+// leave.
 //
 // `new_arena` formats an arena of the trace's pool, and `blocks_of` lists the blocks of one. `run_calls` makes all calls of
-// an arena and gives the device that went through them; `crash` makes those up to the one under way at an event, and gives
-// the image that a seed picks. What they promise stands in `specs/Journals.antt` (`HasRun`, `IsRunThrough`) and
-// `specs/Crash.antt` (`IsCrashOf`, `HasFewer`), in the words of the heap machine and of images: each call is a step of the
-// placement for its thread (`IsPlacedStep`). The calls settle the run that a crash is said over (`law_of_one_run`), and, where
-// they read and write no word, the journal (`law_of_one_journal`). The rest of `specs/` is for the functions below them.
+// an arena and gives the device that went through them. What it promises stands in `specs/Journals.antt` (`HasRun`,
+// `IsRunThrough`), in the words of the heap machine and of images: each call is a step of the placement for its thread
+// (`IsPlacedStep`). The calls settle the run that `trace_crashes` says over what a crash leaves (`law_of_one_run`), and,
+// where they read and write no word, the journal (`law_of_one_journal`). The rest of `specs/` is for the functions below them.
 //
 // The layer above has a parsed trace and knows where devices come from and where bytes go.
 #![tactic(auto)]
 
 mod blocks;
-mod crashing;
 mod imaging;
 mod laws;
 mod opening;
 
 pub use blocks::blocks_of;
-pub use crashing::{CrashFault, Crashed, crash};
 pub use imaging::run_calls;
 pub use laws::{law_of_one_journal, law_of_one_run};
 pub use opening::new_arena;

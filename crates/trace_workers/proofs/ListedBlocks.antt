@@ -1,9 +1,13 @@
 -- A heap has no more blocks than there are roots.
 use Rattle.std.proofs.Common.{◌≡◌, ℕ, zero, suc, ◌+◌, ◌≤◌, ◌<◌, ◌^◌, List, length, Option, Some, None, ap, arith, length-append}
-use Rattle.pool_layout.specs.Layout.{layout_of}
+use Rattle.pool_layout.specs.Header.{version_in}
+use Rattle.pool_layout.specs.Layout.{layout_of, IsLayout}
+use Rattle.pool_layout.proofs.Layouts.{layout_rules}
+use Rattle.image_tables.specs.Tables.{tables_of}
 use Rattle.heap_model.specs.declared.block.Block.{Block}
 use Rattle.heap_model.specs.Machine.{Range}
-use Rattle.trace_runs.specs.Blocks.{listed, blocks_from, blocks_of}
+use Rattle.heap_check.specs.Heap.{heap}
+use Rattle.trace_runs.specs.Blocks.{listed, blocks_from, blocks_in}
 
 few_listed : (root : ℕ) (range : Option Range) → length (listed root range) ≤ 1
 few_listed root None = omega arith
@@ -17,13 +21,10 @@ few_blocks h root (suc n) =
     let both = length-append (listed root (h root)) (blocks_from h (root + 1) n) in
     omega (arith, rest, one, both)
 
-few_roots : (layout_of 1).roots < 2 ^ 32
-unfolding layout_of
-few_roots = omega arith
-
-pub blocks_of-few : (h : ℕ → Option Range) (blocks : List Block) → blocks ≡ blocks_of h → length blocks < 2 ^ 32
-blocks_of-few h blocks is =
+pub blocks_in-few : (words : List ℕ) (blocks : List Block) → blocks ≡ blocks_in words → length blocks < 2 ^ 32
+blocks_in-few words blocks is =
+    let version = version_in words in
+    let rules : IsLayout (layout_of version) = layout_rules version in
     let many = ap length is in
-    let few = few_blocks h 0 (layout_of 1).roots in
-    let roots = few_roots in
-    omega (arith, many, few, roots)
+    let few = few_blocks (heap (tables_of words)) 0 (layout_of version).roots in
+    omega (arith, many, few, rules.few_roots)

@@ -16,7 +16,7 @@ use Rattle.trace_text.specs.declared.call.PoolSize.{PoolSize}
 use Rattle.trace_text.specs.declared.call.TraceCall.{TraceCall}
 use Rattle.trace_text.specs.Grammar.{IsTraceCall}
 use Rattle.trace_runs.specs.Arenas.{header_for}
-use Rattle.trace_runs.specs.Blocks.{blocks_of}
+use Rattle.trace_runs.specs.Blocks.{blocks_of, blocks_in}
 use Rattle.trace_runs.proofs.Journals.{HasRun-behind}
 use Rattle.trace_runs.proofs.Listing.{blocks_of-same}
 use Rattle.trace_workers.specs.Answers.{AllAnswer}
@@ -73,12 +73,13 @@ runs_from tell pool calls arena (n ∷ ns) (c ∷ cs) few new h =
     let machine = h.0.behind.machine in
     let one : ArenaRun = record { journal = c.0; machine = machine; device = c.1.device } in
     let run = HasRun-behind (header_for pool arena) n c.1 c.0 new.0 (omega (arith, h.0.few, few)) h.0.behind in
-    let listed : blocks_of (heap (tables_of (words_of c.1.device))) ≡ blocks_of machine.block = blocks_of-same (heap (tables_of (words_of c.1.device))) machine.block run.state.blocks in
+    let words = words_of c.1.device in
+    let listed : blocks_in words ≡ blocks_of words machine.block = blocks_of-same words (heap (tables_of words)) machine.block run.state.blocks in
     record {
       runs = one ∷ rest.runs;
       each = (record { run = run; threads = h.0.threads }, rest.each);
       all = ap suc rest.all;
-      told = ap (λ (bs : List Block). tell arena c.0 bs ++ closed_texts tell (suc arena) cs) listed ∙ ap (λ (t : List ℕ). tell arena c.0 (blocks_of machine.block) ++ t) rest.told;
+      told = ap (λ (bs : List Block). tell arena c.0 bs ++ closed_texts tell (suc arena) cs) listed ∙ ap (λ (t : List ℕ). tell arena c.0 (blocks_of words machine.block) ++ t) rest.told;
       devices = ap (λ (ds : List PmemState). c.1.device ∷ ds) rest.devices;
     }
 

@@ -1,18 +1,16 @@
 -- What is told of a trace that threads carried out, as its report, and the devices that went through its journals.
 use Rattle.std.specs.Prelude.{◌≡◌, ℕ, suc, List, [], ◌∷◌, ◌++◌, length, map}
 use Rattle.pmem_lines.specs.Pmem.{PmemState, words_of}
-use Rattle.image_tables.specs.Tables.{tables_of}
 use Rattle.heap_model.specs.declared.block.Block.{Block}
 use Rattle.heap_model.specs.declared.call.Entry.{Entry}
 use Rattle.heap_model.specs.Machine.{Machine}
-use Rattle.heap_check.specs.Heap.{heap}
 use Rattle.arena_core.specs.Arena.{ArenaState}
 use Rattle.arena_lock.specs.Journal.{calls_by}
 use Rattle.trace_text.specs.declared.call.PoolSize.{PoolSize}
 use Rattle.trace_text.specs.declared.call.TraceCall.{TraceCall}
 use Rattle.trace_text.specs.Report.{arena_text}
 use Rattle.trace_runs.specs.Arenas.{header_for, IsNewArena}
-use Rattle.trace_runs.specs.Blocks.{blocks_of}
+use Rattle.trace_runs.specs.Blocks.{blocks_of, blocks_in}
 use Rattle.trace_runs.specs.Journals.{HasRun}
 use Rattle.trace_workers.specs.Answers.{asked, calls_in}
 
@@ -40,7 +38,7 @@ Telling = ℕ → List Entry → List Block → List ℕ
 -- what is told of each arena, from this number on
 abbrev pub told_from : Telling → ℕ → List ArenaRun → List ℕ
 told_from tell arena [] = []
-told_from tell arena (r ∷ rs) = tell arena r.journal (blocks_of r.machine.block) ++ told_from tell (suc arena) rs
+told_from tell arena (r ∷ rs) = tell arena r.journal (blocks_of (words_of r.device) r.machine.block) ++ told_from tell (suc arena) rs
 
 -- their devices
 abbrev pub devices_of : List ArenaRun → List PmemState
@@ -67,7 +65,7 @@ AreNew pool arena (a ∷ rest) = IsNewArena (header_for pool arena) a × AreNew 
 
 -- what is told of an arena as it is, and of its journal
 abbrev pub closed_text : Telling → ℕ → List Entry × ArenaState → List ℕ
-closed_text tell arena closed = tell arena closed.0 (blocks_of (heap (tables_of (words_of closed.1.device))))
+closed_text tell arena closed = tell arena closed.0 (blocks_in (words_of closed.1.device))
 
 -- of each, from this number on
 abbrev pub closed_texts : Telling → ℕ → List (List Entry × ArenaState) → List ℕ

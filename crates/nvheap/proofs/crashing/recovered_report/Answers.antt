@@ -11,23 +11,11 @@ use Rattle.nvheap.specs.Outside.{put_device}
 use Rattle.nvheap.proofs.Devices.{few_words}
 use Rattle.nvheap.proofs.crashing.recovered_report.Goals as goal
 
-pub take_image-requires-clause-few : goal.take_image-requires-clause-few
-take_image-requires-clause-few g c =
+pub take_image-requires : goal.take_image-requires
+take_image-requires g c =
     let same = ap length c.deref.ensures.value in
-    let few = (few_words c.args.crashed.now.image.items c.requires.sound).0 in
-    omega (arith, same, few)
-
-pub take_image-requires-clause-some : goal.take_image-requires-clause-some
-take_image-requires-clause-some g c =
-    let same = ap length c.deref.ensures.value in
-    let some = (few_words c.args.crashed.now.image.items c.requires.sound).1 in
-    omega (arith, same, some)
-
-pub take_image-requires-clause-whole : goal.take_image-requires-clause-whole
-take_image-requires-clause-whole g c =
-    let same = ap length c.deref.ensures.value in
-    let whole = (few_words c.args.crashed.now.image.items c.requires.sound).2 in
-    omega (arith, same, whole)
+    let fits = few_words c.args.crashed.now.image.items c.requires.sound in
+    record { whole = omega (arith, same, fits.2); some = omega (arith, same, fits.1); few = omega (arith, same, fits.0) }
 
 -- its version is the one of traces
 pub recover_heap-requires-clause-room : goal.recover_heap-requires-clause-room

@@ -1,8 +1,5 @@
-use Rattle.std.proofs.Common.{◌≡◌, ◌+◌, ◌≤◌, ◌∙◌, ℕ, List, length, take, refl, sym, ap, arith, subst}
-use Rattle.std.proofs.lemmas.List.{length-take-le}
-use Rattle.nvheap.specs.Outside.{Gives}
-use Rattle.nvheap.specs.Inputs.{HasCome}
-use Rattle.nvheap.proofs.Reading.{come_none, come_more, come_all, come_too_much, come_few, Rose-before, front_of}
+use Rattle.std.proofs.Common.{◌+◌, refl, arith}
+use Rattle.nvheap.proofs.Reading.{come_none, come_filled, come_all, come_too_much, come_few, Rose-before}
 use Rattle.nvheap.proofs.input.read_all.Goals as goal
 
 pub loop-size-init : goal.loop-size-init
@@ -33,21 +30,12 @@ returns-in_err-add-clause-fits g c command fits = c.in_err-add.ensures.fits comm
 pub returns-then-n-most-clause-all : goal.returns-then-n-most-clause-all
 returns-then-n-most-clause-all g c =
     let left = g.S.Source.left in
-    let n = c.in_ok-n.n in
-    let size = c.loop-size.size in
-    let piece = c.fill.new.piece in
     let buffer = c.loop-size.invariant.buffer in
     let count = c.in_ok-n.ensures.count in
     let most = c.min-most.ensures in
-    let lent = c.in_ok-n.ensures.size in
-    let long = c.deref_mut.ensures.len in
-    let inside : n ≤ length piece = omega (arith, buffer, count, most, lent, long) in
-    let front : take n c.deref.result.now ≡ take n piece = ap (take n) c.deref.ensures.value ∙ front_of piece c.loop-size.piece.items c.loop-size.piece.len n (omega (arith, buffer, count, most)) inside in
-    let gives : Gives (left c.loop-size.source) (left c.fill.new.source) (take n c.deref.result.now) = subst (λ (bytes : List ℕ). Gives (left c.loop-size.source) (left c.fill.new.source) bytes) (sym front) c.in_ok-n.ensures.gives in
-    let come : HasCome (left c.args.source.now) (left c.fill.new.source) c.add.new.self (size + n) =
-    come_more (left c.args.source.now) (left c.loop-size.source) (left c.fill.new.source) c.loop-size.input c.add.new.self size n (take n c.deref.result.now) c.loop-size.invariant.come (c.loop-size.invariant.whole c.loop-size-test.true)
-    gives (ap length front ∙ length-take-le n piece inside) c.in_ok-add.ensures.bytes in
-    come_all (left c.args.source.now) (left c.fill.new.source) c.add.new.self (size + n) c.args.limit come (omega (arith, most, c.if-n-most.true, c.loop-size-test.true)) (c.in_ok-n.ensures.end c.if-n-most.true)
+    let come = come_filled (left c.args.source.now) (left c.loop-size.source) (left c.fill.new.source) c.loop-size.input c.add.new.self c.loop-size.size c.in_ok-n.n c.loop-size.piece.len c.fill.new.piece c.loop-size.piece.items c.deref.result.now
+    c.loop-size.invariant.come (c.loop-size.invariant.whole c.loop-size-test.true) c.deref.ensures.value (omega (arith, buffer, count, most)) (omega (arith, buffer, count, most, c.in_ok-n.ensures.size, c.deref_mut.ensures.len)) c.in_ok-n.ensures.gives c.in_ok-add.ensures.bytes in
+    come_all (left c.args.source.now) (left c.fill.new.source) c.add.new.self (c.loop-size.size + c.in_ok-n.n) c.args.limit come (omega (arith, most, c.if-n-most.true, c.loop-size-test.true)) (c.in_ok-n.ensures.end c.if-n-most.true)
 
 pub returns-then-n-most-clause-fits : goal.returns-then-n-most-clause-fits
 returns-then-n-most-clause-fits g c command fits = c.in_ok-add.ensures.fits command (c.loop-size.invariant.fits command fits)
@@ -55,20 +43,11 @@ returns-then-n-most-clause-fits g c command fits = c.in_ok-add.ensures.fits comm
 pub loop-size-preserved : goal.loop-size-preserved
 loop-size-preserved g c =
     let left = g.S.Source.left in
-    let n = c.in_ok-n.n in
-    let size = c.loop-size.size in
-    let piece = c.fill.new.piece in
     let buffer = c.loop-size.invariant.buffer in
     let count = c.in_ok-n.ensures.count in
     let most = c.min-most.ensures in
-    let lent = c.in_ok-n.ensures.size in
-    let long = c.deref_mut.ensures.len in
-    let inside : n ≤ length piece = omega (arith, buffer, count, most, lent, long) in
-    let front : take n c.deref.result.now ≡ take n piece = ap (take n) c.deref.ensures.value ∙ front_of piece c.loop-size.piece.items c.loop-size.piece.len n (omega (arith, buffer, count, most)) inside in
-    let gives : Gives (left c.loop-size.source) (left c.fill.new.source) (take n c.deref.result.now) = subst (λ (bytes : List ℕ). Gives (left c.loop-size.source) (left c.fill.new.source) bytes) (sym front) c.in_ok-n.ensures.gives in
-    let come : HasCome (left c.args.source.now) (left c.fill.new.source) c.add.new.self (size + n) =
-    come_more (left c.args.source.now) (left c.loop-size.source) (left c.fill.new.source) c.loop-size.input c.add.new.self size n (take n c.deref.result.now) c.loop-size.invariant.come (c.loop-size.invariant.whole c.loop-size-test.true)
-    gives (ap length front ∙ length-take-le n piece inside) c.in_ok-add.ensures.bytes in
+    let come = come_filled (left c.args.source.now) (left c.loop-size.source) (left c.fill.new.source) c.loop-size.input c.add.new.self c.loop-size.size c.in_ok-n.n c.loop-size.piece.len c.fill.new.piece c.loop-size.piece.items c.deref.result.now
+    c.loop-size.invariant.come (c.loop-size.invariant.whole c.loop-size-test.true) c.deref.ensures.value (omega (arith, buffer, count, most)) (omega (arith, buffer, count, most, c.in_ok-n.ensures.size, c.deref_mut.ensures.len)) c.in_ok-n.ensures.gives c.in_ok-add.ensures.bytes in
     let whole = c.loop-size.invariant.whole c.loop-size-test.true in
     let later = c.loop-size.invariant.later in
     record {

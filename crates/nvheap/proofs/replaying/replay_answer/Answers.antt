@@ -1,12 +1,9 @@
 use Rattle.trace_text.specs.declared.call.Refusal.TheVariants.{BadLine}
 use Rattle.nvheap.specs.declared.cause.Cause.TheVariants.{Trace}
 use Rattle.nvheap.specs.declared.command.Command.TheVariants.{Replay}
-use Rattle.nvheap.specs.Ends.{IsAnswer, IsFaultLine}
-use Rattle.nvheap.proofs.Answering.{IfOk-more, IsAnswer-refused}
+use Rattle.nvheap.proofs.Answering.{refused}
 use Rattle.nvheap.proofs.replaying.replay_answer.Goals as goal
 
 pub returns-in-Err-BadLine-clause-answer : goal.returns-in-Err-BadLine-clause-answer
 returns-in-Err-BadLine-clause-answer g c =
-    let places = g.H.Shelf.places c.args.shelf.now in
-    IfOk-more c.fault_line.result (IsFaultLine (Trace (BadLine c.in-Err-BadLine.line))) (IsAnswer Replay c.args.input.now places places)
-    (λ answer line. IsAnswer-refused Replay c.args.input.now places (Trace (BadLine c.in-Err-BadLine.line)) answer (rw c.in-Err-BadLine.field-0-is at c.in-Err-BadLine.ensures.refused) line) c.fault_line.ensures
+    refused Replay c.args.input.now (g.H.Shelf.places c.args.shelf.now) (Trace (BadLine c.in-Err-BadLine.line)) c.fault_line.result (rw c.in-Err-BadLine.field-0-is at c.in-Err-BadLine.ensures.refused) c.fault_line.ensures

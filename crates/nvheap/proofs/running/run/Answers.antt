@@ -3,10 +3,12 @@ use Rattle.std.specs.String.{string_bytes}
 use Rattle.nvheap.specs.declared.command.Command.{Command}
 use Rattle.nvheap.specs.declared.command.Command.TheVariants.{Replay, Check, Gen}
 use Rattle.nvheap.specs.declared.status.Status.{Status}
-use Rattle.nvheap.specs.Outside.{told_by, Rose}
+use Rattle.nvheap.specs.declared.status.Status.TheVariants.{Done, Usage, Refused, ReadFault, WriteFault, TooLong}
+use Rattle.nvheap.specs.Outside.{Outside, told_by, Rose}
 use Rattle.nvheap.specs.Command.{IsCommand}
 use Rattle.nvheap.specs.Ends.{Ends}
 use Rattle.nvheap.proofs.Completeness.{completes, one_command}
+use Rattle.nvheap.proofs.running.run.Given as given
 use Rattle.nvheap.proofs.running.run.Goals as goal
 
 pub returns-in-Replay-clause-complete : goal.returns-in-Replay-clause-complete
@@ -35,83 +37,51 @@ pub returns-in_default-command-clause-idle : goal.returns-in_default-command-cla
 returns-in_default-command-clause-idle g c check =
     c.run_returning.ensures.idle (one_command (map string_bytes c.args.words.now) c.in-Some.command Check c.in-Some.ensures check)
 
+-- generated work
+
+abbrev gen : (g : given.Over) → goal.After-run_gen g → Command
+gen g c = Gen c.in-Gen.count c.in-Gen.seed
+
+-- what the outside tells before it and behind it; its source is left alone
+abbrev before : (g : given.Over) → goal.After-run_gen g → Outside
+before g c = told_by g.S.Source.left g.K.Sink.taken g.H.Shelf.places g.H.Shelf.images c.args.source.now c.args.sink.now c.args.shelf.now
+
+abbrev behind : (g : given.Over) → goal.After-run_gen g → Outside
+behind g c = told_by g.S.Source.left g.K.Sink.taken g.H.Shelf.places g.H.Shelf.images c.args.source.now c.run_gen.new.sink c.run_gen.new.shelf
+
+gen_said : (g : given.Over) (c : goal.After-run_gen g) → IsCommand (map string_bytes c.args.words.now) (gen g c)
+gen_said g c = subst (λ (command : Command). IsCommand (map string_bytes c.args.words.now) command) c.in-Gen.is c.in-Some.ensures
+
+-- how it ends, by its status
+gen_ends : (g : given.Over) (c : goal.After-run_gen g) (status : Status) → c.run_gen.result ≡ status → Ends (gen g c) (before g c) (behind g c) status
+gen_ends g c status is = subst (λ (s : Status). Ends (gen g c) (before g c) (behind g c) s) is (c.run_gen.ensures.ends (g.S.Source.left c.args.source.now))
+
 pub returns-in-Gen-clause-usage : goal.returns-in-Gen-clause-usage
-returns-in-Gen-clause-usage g c =
-    let told = told_by g.S.Source.left g.K.Sink.taken g.H.Shelf.places g.H.Shelf.images in
-    let old = told c.args.source.now c.args.sink.now c.args.shelf.now in
-    let new = told c.args.source.now c.run_gen.new.sink c.run_gen.new.shelf in
-    let command = Gen c.in-Gen.count c.in-Gen.seed in
-    let said : IsCommand (map string_bytes c.args.words.now) command = subst (λ (command : Command). IsCommand (map string_bytes c.args.words.now) command) c.in-Gen.is c.in-Some.ensures in
-    ((λ is. absurd (subst (λ (s : Status). Ends command old new s) is (c.run_gen.ensures.ends (g.S.Source.left c.args.source.now)))), (λ none. absurd (none command said)))
+returns-in-Gen-clause-usage g c = ((λ is. absurd (gen_ends g c Usage is)), (λ none. absurd (none (gen g c) (gen_said g c))))
 
 pub returns-in-Gen-clause-untouched : goal.returns-in-Gen-clause-untouched
-returns-in-Gen-clause-untouched g c is =
-    let told = told_by g.S.Source.left g.K.Sink.taken g.H.Shelf.places g.H.Shelf.images in
-    let old = told c.args.source.now c.args.sink.now c.args.shelf.now in
-    let new = told c.args.source.now c.run_gen.new.sink c.run_gen.new.shelf in
-    let command = Gen c.in-Gen.count c.in-Gen.seed in
-    absurd (subst (λ (s : Status). Ends command old new s) is (c.run_gen.ensures.ends (g.S.Source.left c.args.source.now)))
+returns-in-Gen-clause-untouched g c is = absurd (gen_ends g c Usage is)
 
 pub returns-in-Gen-clause-read_fault : goal.returns-in-Gen-clause-read_fault
-returns-in-Gen-clause-read_fault g c is =
-    let told = told_by g.S.Source.left g.K.Sink.taken g.H.Shelf.places g.H.Shelf.images in
-    let old = told c.args.source.now c.args.sink.now c.args.shelf.now in
-    let new = told c.args.source.now c.run_gen.new.sink c.run_gen.new.shelf in
-    let command = Gen c.in-Gen.count c.in-Gen.seed in
-    absurd (subst (λ (s : Status). Ends command old new s) is (c.run_gen.ensures.ends (g.S.Source.left c.args.source.now)))
+returns-in-Gen-clause-read_fault g c is = absurd (gen_ends g c ReadFault is)
 
 pub returns-in-Gen-clause-done : goal.returns-in-Gen-clause-done
-returns-in-Gen-clause-done g c is =
-    let told = told_by g.S.Source.left g.K.Sink.taken g.H.Shelf.places g.H.Shelf.images in
-    let old = told c.args.source.now c.args.sink.now c.args.shelf.now in
-    let new = told c.args.source.now c.run_gen.new.sink c.run_gen.new.shelf in
-    let command = Gen c.in-Gen.count c.in-Gen.seed in
-    let said : IsCommand (map string_bytes c.args.words.now) command = subst (λ (command : Command). IsCommand (map string_bytes c.args.words.now) command) c.in-Gen.is c.in-Some.ensures in
-    record { command = command; said = said; holds = (subst (λ (s : Status). Ends command old new s) is (c.run_gen.ensures.ends (g.S.Source.left c.args.source.now))) }
+returns-in-Gen-clause-done g c is = record { command = gen g c; said = gen_said g c; holds = gen_ends g c Done is }
 
 pub returns-in-Gen-clause-refused : goal.returns-in-Gen-clause-refused
-returns-in-Gen-clause-refused g c is =
-    let told = told_by g.S.Source.left g.K.Sink.taken g.H.Shelf.places g.H.Shelf.images in
-    let old = told c.args.source.now c.args.sink.now c.args.shelf.now in
-    let new = told c.args.source.now c.run_gen.new.sink c.run_gen.new.shelf in
-    let command = Gen c.in-Gen.count c.in-Gen.seed in
-    let said : IsCommand (map string_bytes c.args.words.now) command = subst (λ (command : Command). IsCommand (map string_bytes c.args.words.now) command) c.in-Gen.is c.in-Some.ensures in
-    record { command = command; said = said; holds = (subst (λ (s : Status). Ends command old new s) is (c.run_gen.ensures.ends (g.S.Source.left c.args.source.now))) }
+returns-in-Gen-clause-refused g c is = record { command = gen g c; said = gen_said g c; holds = gen_ends g c Refused is }
 
 pub returns-in-Gen-clause-within_limit : goal.returns-in-Gen-clause-within_limit
-returns-in-Gen-clause-within_limit g c is =
-    let told = told_by g.S.Source.left g.K.Sink.taken g.H.Shelf.places g.H.Shelf.images in
-    let old = told c.args.source.now c.args.sink.now c.args.shelf.now in
-    let new = told c.args.source.now c.run_gen.new.sink c.run_gen.new.shelf in
-    let command = Gen c.in-Gen.count c.in-Gen.seed in
-    let said : IsCommand (map string_bytes c.args.words.now) command = subst (λ (command : Command). IsCommand (map string_bytes c.args.words.now) command) c.in-Gen.is c.in-Some.ensures in
-    record { command = command; said = said; holds = (subst (λ (s : Status). Ends command old new s) is (c.run_gen.ensures.ends (g.S.Source.left c.args.source.now))) }
+returns-in-Gen-clause-within_limit g c is = record { command = gen g c; said = gen_said g c; holds = gen_ends g c ReadFault is }
 
 pub returns-in-Gen-clause-cut_short : goal.returns-in-Gen-clause-cut_short
-returns-in-Gen-clause-cut_short g c is =
-    let told = told_by g.S.Source.left g.K.Sink.taken g.H.Shelf.places g.H.Shelf.images in
-    let old = told c.args.source.now c.args.sink.now c.args.shelf.now in
-    let new = told c.args.source.now c.run_gen.new.sink c.run_gen.new.shelf in
-    let command = Gen c.in-Gen.count c.in-Gen.seed in
-    let said : IsCommand (map string_bytes c.args.words.now) command = subst (λ (command : Command). IsCommand (map string_bytes c.args.words.now) command) c.in-Gen.is c.in-Some.ensures in
-    record { command = command; said = said; holds = (subst (λ (s : Status). Ends command old new s) is (c.run_gen.ensures.ends (g.S.Source.left c.args.source.now))) }
+returns-in-Gen-clause-cut_short g c is = record { command = gen g c; said = gen_said g c; holds = gen_ends g c WriteFault is }
 
 pub returns-in-Gen-clause-too_long : goal.returns-in-Gen-clause-too_long
-returns-in-Gen-clause-too_long g c is =
-    let told = told_by g.S.Source.left g.K.Sink.taken g.H.Shelf.places g.H.Shelf.images in
-    let old = told c.args.source.now c.args.sink.now c.args.shelf.now in
-    let new = told c.args.source.now c.run_gen.new.sink c.run_gen.new.shelf in
-    let command = Gen c.in-Gen.count c.in-Gen.seed in
-    let said : IsCommand (map string_bytes c.args.words.now) command = subst (λ (command : Command). IsCommand (map string_bytes c.args.words.now) command) c.in-Gen.is c.in-Some.ensures in
-    record { command = command; said = said; holds = (subst (λ (s : Status). Ends command old new s) is (c.run_gen.ensures.ends (g.S.Source.left c.args.source.now))) }
+returns-in-Gen-clause-too_long g c is = record { command = gen g c; said = gen_said g c; holds = gen_ends g c TooLong is }
 
 pub returns-in-Gen-clause-complete : goal.returns-in-Gen-clause-complete
 returns-in-Gen-clause-complete g c =
-    let told = told_by g.S.Source.left g.K.Sink.taken g.H.Shelf.places g.H.Shelf.images in
-    let old = told c.args.source.now c.args.sink.now c.args.shelf.now in
-    let new = told c.args.source.now c.run_gen.new.sink c.run_gen.new.shelf in
-    let command = Gen c.in-Gen.count c.in-Gen.seed in
-    let said : IsCommand (map string_bytes c.args.words.now) command = subst (λ (command : Command). IsCommand (map string_bytes c.args.words.now) command) c.in-Gen.is c.in-Some.ensures in
-    completes (map string_bytes c.args.words.now) command old new c.run_gen.result
+    completes (map string_bytes c.args.words.now) (gen g c) (before g c) (behind g c) c.run_gen.result
     (Rose (g.S.Source.faults c.args.source.now) (g.S.Source.faults c.args.source.now)) (Rose (g.K.Sink.faults c.args.sink.now) (g.K.Sink.faults c.run_gen.new.sink))
-    said (c.run_gen.ensures.ends (g.S.Source.left c.args.source.now)) (λ is. absurd (subst (λ (s : Status). Ends command old new s) is (c.run_gen.ensures.ends (g.S.Source.left c.args.source.now)))) c.run_gen.ensures.write_fault
+    (gen_said g c) (c.run_gen.ensures.ends (g.S.Source.left c.args.source.now)) (λ is. absurd (gen_ends g c ReadFault is)) c.run_gen.ensures.write_fault

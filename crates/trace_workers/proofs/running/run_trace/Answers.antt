@@ -1,5 +1,7 @@
 use Rattle.std.proofs.Common.{rules, ◌≡◌, ℕ, ◌∙◌, ap, sym, subst, map, length, drop, List, arith}
 use Rattle.std.proofs.lemmas.List.{length-map}
+use Rattle.heap_model.specs.declared.call.Entry.{Entry}
+use Rattle.arena_core.specs.Arena.{ArenaState}
 use Rattle.arena_lock.specs.declared.opening.Opening.{Opening}
 use Rattle.arena_lock.specs.Known.{Lock}
 use Rattle.shared_pool.specs.Closed.{AllFitLocks, HasAll, AllClosed}
@@ -7,9 +9,11 @@ use Rattle.arena_journal.specs.Journals.{opened}
 use Rattle.shared_pool.specs.Passes.{PassState, fresh_passes}
 use Rattle.shared_pool.specs.Rows.{each_of}
 use Rattle.shared_pool.proofs.AllPasses.{has_fresh}
+use Rattle.trace_workers.specs.Answers.{AllAnswer}
 use Rattle.trace_workers.specs.Workers.{AllReady}
 use Rattle.trace_workers.proofs.ClosedJournals.{answers, ready_fresh, length_fresh, fits_of, take_front}
 use Rattle.trace_workers.proofs.PublishedLengths.{order_fresh, lengths_are}
+use Rattle.trace_workers.proofs.running.run_trace.Given as given
 use Rattle.trace_workers.proofs.running.run_trace.Goals as goal
 
 pub work_counted-requires-clause-ready : goal.work_counted-requires-clause-ready
@@ -43,38 +47,40 @@ close-requires-clause-all g c =
     let numbers : map number new ≡ map number fresh = c.work_counted.ensures.numbers ∙ ap (map number) (c.as_mut_slice.ensures.value ∙ c.in-Ok.ensures.passes) in
     subst (λ (z : ℕ × List ℕ). HasAll z.0 z.1) (λ i. (sym c.in-Ok.ensures.seats i, (sym numbers ∙ ap (map number) (sym (take_front new (drop (length new) c.in-Ok.started.passes.items) c.in-Ok.started.passes.len (search rules)))) i)) (has_fresh pool.locks c.args.seats)
 
-pub returns-in-Ok-close-clause-answers : goal.returns-in-Ok-close-clause-answers
-returns-in-Ok-close-clause-answers g c =
-    let pool = c.in-Ok.started.pool in
-    let new = c.work_counted.new.passes in
+-- the end
+
+-- the passes once all calls were made, and what the pool left
+abbrev passes : (g : given.Over) → goal.In-Ok-close g → List PassState
+passes g c = c.work_counted.new.passes
+
+abbrev openings : (g : given.Over) → goal.In-Ok-close g → List Opening
+openings g c = each_of c.args.arenas.items (λ a. opened a)
+
+abbrev closed : (g : given.Over) → goal.In-Ok-close g → List (List Entry × ArenaState)
+closed g c = each_of c.in-Ok-close.closed.items (λ e. (e.journal.items, e.arena))
+
+all : (g : given.Over) (c : goal.In-Ok-close g) → HasAll c.args.seats (map (λ (p : PassState). p.number) (passes g c))
+all g c =
     let number = λ (p : PassState). p.number in
-    let fresh = fresh_passes pool.locks 0 c.args.seats in
-    let numbers : map number new ≡ map number fresh = c.work_counted.ensures.numbers ∙ ap (map number) (c.as_mut_slice.ensures.value ∙ c.in-Ok.ensures.passes) in
-    let all : HasAll c.args.seats (map number new) = subst (λ ns. HasAll c.args.seats ns) (sym numbers) (has_fresh pool.locks c.args.seats) in
-    let calls = c.args.calls.now in
-    let openings = each_of c.args.arenas.items (λ a. opened a) in
-    let closed = each_of c.in-Ok-close.closed.items (λ e. (e.journal.items, e.arena)) in
-    answers calls c.args.seats new openings closed all c.requires.threads c.in_ok-lengths.ensures.done
-    (subst (λ (z : ℕ × List PassState × List Opening). AllClosed z.0 z.1 z.2 closed)
-    (λ i. (c.in-Ok.ensures.seats i, take_front new (drop (length new) c.in-Ok.started.passes.items) c.in-Ok.started.passes.len (search rules) i, c.in-Ok.ensures.openings i))
-    c.in-Ok-close.ensures.closed)
+    let pool = c.in-Ok.started.pool in
+    let numbers : map number (passes g c) ≡ map number (fresh_passes pool.locks 0 c.args.seats) = c.work_counted.ensures.numbers ∙ ap (map number) (c.as_mut_slice.ensures.value ∙ c.in-Ok.ensures.passes) in
+    subst (λ ns. HasAll c.args.seats ns) (sym numbers) (has_fresh pool.locks c.args.seats)
+
+ended : (g : given.Over) (c : goal.In-Ok-close g) → AllClosed c.args.seats (passes g c) (openings g c) (closed g c)
+ended g c =
+    subst (λ (z : ℕ × List PassState × List Opening). AllClosed z.0 z.1 z.2 (closed g c))
+    (λ i. (c.in-Ok.ensures.seats i, take_front (passes g c) (drop (length (passes g c)) c.in-Ok.started.passes.items) c.in-Ok.started.passes.len (search rules) i, c.in-Ok.ensures.openings i))
+    c.in-Ok-close.ensures.closed
+
+told : (g : given.Over) (c : goal.In-Ok-close g) → AllAnswer c.args.calls.now 0 (openings g c) (closed g c)
+told g c = answers c.args.calls.now c.args.seats (passes g c) (openings g c) (closed g c) (all g c) c.requires.threads c.in_ok-lengths.ensures.done (ended g c)
+
+pub returns-in-Ok-close-clause-answers : goal.returns-in-Ok-close-clause-answers
+returns-in-Ok-close-clause-answers g c = told g c
 
 pub returns-in-Ok-close-clause-lengths : goal.returns-in-Ok-close-clause-lengths
 returns-in-Ok-close-clause-lengths g c own =
-    let pool = c.in-Ok.started.pool in
-    let new = c.work_counted.new.passes in
-    let number = λ (p : PassState). p.number in
-    let fresh = fresh_passes pool.locks 0 c.args.seats in
-    let numbers : map number new ≡ map number fresh = c.work_counted.ensures.numbers ∙ ap (map number) (c.as_mut_slice.ensures.value ∙ c.in-Ok.ensures.passes) in
-    let all : HasAll c.args.seats (map number new) = subst (λ ns. HasAll c.args.seats ns) (sym numbers) (has_fresh pool.locks c.args.seats) in
-    let calls = c.args.calls.now in
-    let openings = each_of c.args.arenas.items (λ a. opened a) in
-    let closed = each_of c.in-Ok-close.closed.items (λ e. (e.journal.items, e.arena)) in
-    let ended : AllClosed c.args.seats new openings closed = subst (λ (z : ℕ × List PassState × List Opening). AllClosed z.0 z.1 z.2 closed)
-    (λ i. (c.in-Ok.ensures.seats i, take_front new (drop (length new) c.in-Ok.started.passes.items) c.in-Ok.started.passes.len (search rules) i, c.in-Ok.ensures.openings i))
-    c.in-Ok-close.ensures.closed in
     let many = length-map {B = Opening} c.args.arenas.items (λ a. opened a) in
     let arenas = c.len-many.ensures in
     let counts = c.in_ok-lengths.ensures.all in
-    lengths_are calls c.args.seats new openings closed c.in_ok-lengths.lengths.items own all ended
-    (answers calls c.args.seats new openings closed all c.requires.threads c.in_ok-lengths.ensures.done ended) c.in_ok-lengths.ensures.counted (omega (arith, many, arenas, counts))
+    lengths_are c.args.calls.now c.args.seats (passes g c) (openings g c) (closed g c) c.in_ok-lengths.lengths.items own (all g c) (ended g c) (told g c) c.in_ok-lengths.ensures.counted (omega (arith, many, arenas, counts))

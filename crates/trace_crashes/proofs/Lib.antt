@@ -1,0 +1,6 @@
+mod Changes
+mod Crashes
+mod Roots
+mod UnderWay
+mod Sides
+mod Stages

@@ -1,0 +1,3 @@
+pub mod Sides
+pub mod Crash
+pub mod Seek

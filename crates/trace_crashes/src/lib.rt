@@ -1,0 +1,17 @@
+// What a crash leaves after a chosen event of the calls of a trace that are one arena's.
+//
+// `crash` makes the calls in the order of the lines on a simulated device, up to the one under way at the event, and gives the
+// image that a seed picks, with the side of that call on which its heap stands. What it promises stands in
+// `specs/Crash.antt` (`IsCrashOf`, `HasFewer`), over the run that the calls make (`IsRunOf` of `trace_runs`), which they settle.
+// The rest of `specs/` is for the functions below it.
+//
+// The layer above has a parsed trace, recovers the image, and knows where bytes go.
+#![tactic(auto)]
+
+mod crashing;
+mod leaving;
+mod opening;
+mod seeking;
+
+pub use crashing::{CrashFault, crash};
+pub use leaving::Crashed;
