@@ -1,10 +1,10 @@
 // Tests of the checker of `image_check`: images that were worked by hand, with what the checker must say of each.
 //
 // An image is given by its words that are not 0. `small` has an arena with one slab and one block, and what is found
-// where one thing of it is changed, defect by defect; `moving` its open entries of both kinds; `morphing` an arena with
-// a slab that took another class, and one that is taking it; `hard` the largest arena, as full as it may be. The crate
-// has no code of its own beside `images`, which makes the images, here and for the tests of recovery. It stands apart
-// from `image_check`, since a crate with tests is proved twice.
+// where one thing of it is changed, defect by defect, or an entry is open; `morphing` an arena with a slab that took
+// another class, and one that is taking it; `hard` the largest arena, as full as it may be. The crate has no code of its
+// own beside `images`, which makes the images, here and for the tests of recovery. It stands apart from `image_check`,
+// since a crate with tests is proved twice.
 #![tactic(auto)]
 
 #[cfg(test)]
@@ -14,8 +14,6 @@ mod hard;
 mod images;
 #[cfg(test)]
 mod morphing;
-#[cfg(test)]
-mod moving;
 #[cfg(test)]
 mod small;
 

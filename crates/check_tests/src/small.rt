@@ -1,4 +1,6 @@
-// Defects of an arena with one block, one by one.
+// Defects of an arena with one block, one by one. `moving` has its open entries of both kinds.
+mod moving;
+
 use crate::answers::{answer, answer_of, counts};
 use crate::images::{ONE_BLOCK, Put, blank, image, put};
 use pool_layout::Defect;

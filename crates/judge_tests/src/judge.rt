@@ -1,5 +1,10 @@
 // The judge: replays a report line by line, beside the trace and the machine.
-use crate::calls::{Asked, calls_at, numbered, pool_of};
+//
+// `known` has reports that were worked by hand and are right, and `changed` reports that were changed by hand and are refused.
+mod changed;
+mod known;
+
+use crate::machine::calls::{Asked, calls_at, numbered, pool_of};
 use crate::machine::{Counts, Machine};
 use std::alloc::{AllocError, Global};
 

@@ -1,6 +1,13 @@
 // The heap machine of one arena, as a plain body: lists that are searched from end to end.
-use crate::blocks::{FIRST, GRANULE, Range, Slab, least_size};
-use crate::calls::Call;
+//
+// Here are its state and its calls. `blocks` has ranges of bytes and the sizes of small blocks, `placement` which block a malloc
+// gets, and `calls` the calls of a trace.
+pub(crate) mod blocks;
+pub(crate) mod calls;
+mod placement;
+
+use crate::machine::blocks::{FIRST, GRANULE, Range, Slab, least_size};
+use crate::machine::calls::Call;
 use std::alloc::{AllocError, Global};
 
 // How many roots an arena has.

@@ -1,10 +1,13 @@
 // Traces of four threads whose reports are judged. A gate keeps the threads together, so that their calls come in turns.
+// `generated` makes the traces.
+mod generated;
+
 ghost use Rattle.std.specs.Prelude.{◌<◌, length, IfSome};
 
-use crate::calls::{calls_at, pool_of};
-use crate::generated::{Made, of_seed, on_one_thread, trace};
 use crate::judge::judge;
+use crate::machine::calls::{calls_at, pool_of};
 use crate::machine::{Counts, Machine};
+use crate::threads::generated::{Made, of_seed, on_one_thread, trace};
 use nvheap::{Gate, KeptShelf, MemSink, Status, SureSource, run};
 use shared_pool::Pass;
 use std::alloc::{AllocError, Global};
@@ -124,6 +127,14 @@ fn as_many_old_blocks_as_may_be(rt: HostRuntime) -> Result<(), Fail> {
     Ok(())
 }
 
+// Each way of a malloc that one seat has came often, and each kind of call that follows it.
+fn came_often<R: Abort>(rt: &R, counts: Counts) {
+    assert!(rt; counts.own > 100 && counts.large > 10, "{counts:?}");
+    assert!(rt; counts.taken > 100 && counts.opened > 100, "{counts:?}");
+    assert!(rt; counts.none > 100 && counts.left > 100, "{counts:?}");
+    assert!(rt; counts.old > 100 && counts.moved > 100, "{counts:?}");
+}
+
 // The same calls on one thread, which takes from no other seat.
 #[test]
 fn reports_of_one_thread(rt: HostRuntime) -> Result<(), Fail> {
@@ -133,13 +144,8 @@ fn reports_of_one_thread(rt: HostRuntime) -> Result<(), Fail> {
         let single = on_one_thread(rt.alloc(), &text)?;
         counts = counts.with(replayed(&rt, rt.alloc(), &single, 0)?);
     }
-    assert!(rt; counts.own > 100 && counts.refilled > 10, "{counts:?}");
-    assert!(rt; counts.taken > 100 && counts.opened > 100, "{counts:?}");
-    assert!(rt; counts.large > 10 && counts.none > 100, "{counts:?}");
-    assert!(rt;
-        counts.left > 100 && counts.old > 100 && counts.moved > 100,
-        "{counts:?}"
-    );
+    assert!(rt; counts.refilled > 10, "{counts:?}");
+    came_often(&rt, counts);
     Ok(())
 }
 
@@ -196,13 +202,7 @@ fn heaps_of_four_seats(rt: HostRuntime) -> Result<(), Fail> {
         let text = trace(rt.alloc(), whole)?;
         counts = counts.with(recovered(&rt, rt.alloc(), &text)?);
     }
-    assert!(rt; counts.own > 100 && counts.refilled > 100, "{counts:?}");
-    assert!(rt; counts.stolen > 100, "{counts:?}");
-    assert!(rt; counts.taken > 100 && counts.opened > 100, "{counts:?}");
-    assert!(rt; counts.large > 10 && counts.none > 100, "{counts:?}");
-    assert!(rt;
-        counts.left > 100 && counts.old > 100 && counts.moved > 100,
-        "{counts:?}"
-    );
+    assert!(rt; counts.refilled > 100 && counts.stolen > 100, "{counts:?}");
+    came_often(&rt, counts);
     Ok(())
 }

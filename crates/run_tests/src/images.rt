@@ -1,4 +1,14 @@
 // Images made by hand, and what `check` and `recover` write of them.
+//
+// Here is how images are made and how both commands run over them. `entries` has images with open entries, `transition` of a
+// slab that takes another class, `defects` with a defect, `pools` of several arenas and of wrong lengths, and `cycles` images
+// that `image` makes of traces.
+mod cycles;
+mod defects;
+mod entries;
+mod pools;
+mod transition;
+
 use crate::runs::tells;
 use std::alloc::{AllocError, Global};
 use std::process::Abort;
@@ -41,6 +51,18 @@ pub(crate) const IN_TRANSITION: [Run; 11] = [
     (196608, &[3, 19, 3, 1]),
     (196736, &[1]),
     (197184, &[1]),
+];
+
+/// How many bytes of an image of one arena of 16 granules there are, and the line that both commands write of them. Below 64
+/// bytes there is no header to say how many there must be.
+pub(crate) const TOO_SHORT: [(usize, &str); 7] = [
+    (0, "bad length 0 64\n"),
+    (1, "bad length 1 64\n"),
+    (63, "bad length 63 64\n"),
+    (64, "bad length 64 262144\n"),
+    (65, "bad length 65 262144\n"),
+    (65536, "bad length 65536 262144\n"),
+    (262143, "bad length 262143 262144\n"),
 ];
 
 /// So many bytes, of which those of two rows are not 0, the second over the first.

@@ -1,39 +1,22 @@
-// Long traces, in short. A line `N times A, B` stands for N times the lines A and B, one after the other.
-use std::alloc::Global;
-use std::test::Fail;
+// Runs over traces, and over work that the program generates.
+//
+// Here are long traces that several tests take, in short, as `expanded` of `worked_runs` reads them. `worked` has the tables of
+// `worked_runs`, `thresholds` how full a slab may be that takes another class, `payload` words that are written, `arenas`
+// traces of several arenas and threads, `logs` traces that fill an arena's log, `crashes` a crash at every event of some
+// calls, and `generated` generated work.
+mod arenas;
+mod crashes;
+mod generated;
+mod logs;
+mod payload;
+mod thresholds;
+mod worked;
+
+use std::alloc::{AllocError, Global};
 
 /// One block 61 times: the first chunk of the log is full then, and no extent of it lives.
 pub(crate) const ROLLS: &str = "pool 1 16
 61 times 0 0 m 0 20000, 0 0 f 0
-";
-
-/// Eight chunks of the log, each with the extents of two live blocks, and one block more: the log is written anew.
-pub(crate) const WRITES_ANEW: &str = "pool 1 64
-0 0 m 0 20000
-59 times 0 0 m 100 20000, 0 0 f 100
-0 0 m 1 20000
-0 0 m 2 20000
-59 times 0 0 m 100 20000, 0 0 f 100
-0 0 m 3 20000
-0 0 m 4 20000
-59 times 0 0 m 100 20000, 0 0 f 100
-0 0 m 5 20000
-0 0 m 6 20000
-59 times 0 0 m 100 20000, 0 0 f 100
-0 0 m 7 20000
-0 0 m 8 20000
-59 times 0 0 m 100 20000, 0 0 f 100
-0 0 m 9 20000
-0 0 m 10 20000
-59 times 0 0 m 100 20000, 0 0 f 100
-0 0 m 11 20000
-0 0 m 12 20000
-59 times 0 0 m 100 20000, 0 0 f 100
-0 0 m 13 20000
-0 0 m 14 20000
-59 times 0 0 m 100 20000, 0 0 f 100
-0 0 m 15 20000
-0 0 m 101 20000
 ";
 
 /// Two chunks, and the last entry of the second that tells of a live extent says what the first chunk says of it.
@@ -114,61 +97,62 @@ pub(crate) const CLASSES_TAKEN: &str = "pool 3 16
 2 2 v 8 7
 ";
 
-/// `WRITES_ANEW` on each of two arenas, by a thread for each.
-pub(crate) const BOTH_WRITE_ANEW: &str = "pool 2 64
-0 0 m 0 20000
-1 1 m 0 20000
-59 times 0 0 m 100 20000, 0 0 f 100, 1 1 m 100 20000, 1 1 f 100
-0 0 m 1 20000
-1 1 m 1 20000
-0 0 m 2 20000
-1 1 m 2 20000
-59 times 0 0 m 100 20000, 0 0 f 100, 1 1 m 100 20000, 1 1 f 100
-0 0 m 3 20000
-1 1 m 3 20000
-0 0 m 4 20000
-1 1 m 4 20000
-59 times 0 0 m 100 20000, 0 0 f 100, 1 1 m 100 20000, 1 1 f 100
-0 0 m 5 20000
-1 1 m 5 20000
-0 0 m 6 20000
-1 1 m 6 20000
-59 times 0 0 m 100 20000, 0 0 f 100, 1 1 m 100 20000, 1 1 f 100
-0 0 m 7 20000
-1 1 m 7 20000
-0 0 m 8 20000
-1 1 m 8 20000
-59 times 0 0 m 100 20000, 0 0 f 100, 1 1 m 100 20000, 1 1 f 100
-0 0 m 9 20000
-1 1 m 9 20000
-0 0 m 10 20000
-1 1 m 10 20000
-59 times 0 0 m 100 20000, 0 0 f 100, 1 1 m 100 20000, 1 1 f 100
-0 0 m 11 20000
-1 1 m 11 20000
-0 0 m 12 20000
-1 1 m 12 20000
-59 times 0 0 m 100 20000, 0 0 f 100, 1 1 m 100 20000, 1 1 f 100
-0 0 m 13 20000
-1 1 m 13 20000
-0 0 m 14 20000
-1 1 m 14 20000
-59 times 0 0 m 100 20000, 0 0 f 100, 1 1 m 100 20000, 1 1 f 100
-0 0 m 15 20000
-1 1 m 15 20000
-0 0 m 101 20000
-1 1 m 101 20000
-";
-
 /// Sixteen arenas, of which the first and the last have a block.
 pub(crate) const SIXTEEN_ARENAS: &str = "pool 16 16
 0 15 m 4095 16
 0 0 m 1 196608
 ";
 
-/// A text around the lines of the blocks that the roots below 16 have in `WRITES_ANEW`: two granules each, one block
+/// Eight chunks of the log of each arena, each with the extents of two live blocks, and one block more: the log is written
+/// anew. A thread of its own makes the calls of each arena.
+pub(crate) fn writes_anew(alloc: Global, arenas: u32) -> Result<String, AllocError> {
+    let mut trace = format!(in alloc; "pool {arenas} 64\n")?;
+    add_calls(&mut trace, alloc, arenas, "m 0 20000")?;
+    for chunk in 0..8u32 {
+        for _ in 0..59u32 {
+            add_calls(&mut trace, alloc, arenas, "m 100 20000, f 100")?;
+        }
+        let first = 2 * chunk + 1;
+        let second = if chunk < 7 { first + 1 } else { 101 };
+        add_calls(
+            &mut trace,
+            alloc,
+            arenas,
+            &format!(in alloc; "m {first} 20000")?,
+        )?;
+        add_calls(
+            &mut trace,
+            alloc,
+            arenas,
+            &format!(in alloc; "m {second} 20000")?,
+        )?;
+    }
+    Ok(trace)
+}
+
+// Adds these calls at each arena, by the thread of its number.
+fn add_calls(
+    trace: &mut String,
+    alloc: Global,
+    arenas: u32,
+    calls: &str,
+) -> Result<(), AllocError> {
+    for arena in 0..arenas {
+        for call in calls.split(", ") {
+            let line = format!(in alloc; "{arena} {arena} {call}\n")?;
+            trace.push_str(&line)?;
+        }
+    }
+    Ok(())
+}
+
+/// A text around the lines of the blocks that the roots below 16 have in `writes_anew`: two granules each, one block
 /// behind the other.
-pub(crate) fn around_sixteen(alloc: Global, before: &str, behind: &str) -> Result<String, Fail> {
+pub(crate) fn around_sixteen(
+    alloc: Global,
+    before: &str,
+    behind: &str,
+) -> Result<String, AllocError> {
     let mut text = String::from_str(alloc, before)?;
     for root in 0..16u32 {
         let at = 65536 + 32768 * root;
@@ -177,33 +161,4 @@ pub(crate) fn around_sixteen(alloc: Global, before: &str, behind: &str) -> Resul
     }
     text.push_str(behind)?;
     Ok(text)
-}
-
-/// The trace that a text says.
-pub(crate) fn expanded(alloc: Global, text: &str) -> Result<String, Fail> {
-    let mut trace = String::new(alloc);
-    for line in text.lines() {
-        match line.split_once(" times ") {
-            Some((count, calls)) => add_times(&mut trace, count.parse()?, calls)?,
-            None => add_line(&mut trace, line)?,
-        }
-    }
-    Ok(trace)
-}
-
-// Adds so many times the lines that stand between commas.
-fn add_times(trace: &mut String, count: u32, calls: &str) -> Result<(), Fail> {
-    for _ in 0..count {
-        for line in calls.split(", ") {
-            add_line(trace, line)?;
-        }
-    }
-    Ok(())
-}
-
-// Adds a line.
-fn add_line(trace: &mut String, line: &str) -> Result<(), Fail> {
-    trace.push_str(line)?;
-    trace.push_str("\n")?;
-    Ok(())
 }

@@ -1,6 +1,7 @@
 // An index of slabs beside a plain list of slabs and of the blocks that were taken.
 ghost use Rattle.std.specs.Prelude.{◌≡◌, ◌<◌, ◌≤◌};
 
+use crate::plain::{GRANULES, PlainSlabs};
 use pmem_lines::OutOfMemory;
 use rand_core::SeedableRng;
 use rand_core::utils::NextWord;
@@ -9,62 +10,8 @@ use size_classes::capacity;
 use slab_index::{LiveCounts, SlabBlock, SlabIndex};
 use std::test::Fail;
 
-const GRANULES: u32 = 24;
-
-// The class of the slab at each granule, and the blocks that were taken.
-#[derive(Drop)]
-struct Plain {
-    classes: [Option<u8>; 24],
-    taken: Vec<SlabBlock>,
-}
-
-impl Plain {
-    fn class_at(&self, start: u32) -> Option<u8> {
-        match self.classes.get(start as usize) {
-            Some(class) => *class,
-            None => None,
-        }
-    }
-
-    fn put(&mut self, start: u32, class: Option<u8>) {
-        if let Some(slab) = self.classes.get_mut(start as usize) {
-            *slab = class;
-        }
-        self.taken.retain(|block| block.start != start);
-    }
-
-    fn is_taken(&self, start: u32, number: u32) -> bool {
-        self.taken.contains(&SlabBlock { start, number })
-    }
-
-    // The lowest block of a slab that was not taken.
-    fn lowest_of(&self, start: u32, class: u8) -> Option<SlabBlock>
-        requires { class < 36 }
-    {
-        for number in 0..capacity(class) {
-            if !self.is_taken(start, number) {
-                return Some(SlabBlock { start, number });
-            }
-        }
-        None
-    }
-
-    fn lowest(&self, class: u8) -> Option<SlabBlock>
-        requires { class < 36 }
-    {
-        for start in 0..GRANULES {
-            if self.class_at(start) == Some(class) {
-                if let Some(block) = self.lowest_of(start, class) {
-                    return Some(block);
-                }
-            }
-        }
-        None
-    }
-}
-
 // Adds or removes the slab at a granule.
-fn change_slab(index: &mut SlabIndex, plain: &mut Plain, start: u32, class: u8)
+fn change_slab(index: &mut SlabIndex, plain: &mut PlainSlabs, start: u32, class: u8)
     requires inside { start < index.old.granules }
     requires class { class < 36 }
     ensures { index.new.granules ≡ index.old.granules }
@@ -84,7 +31,7 @@ fn change_slab(index: &mut SlabIndex, plain: &mut Plain, start: u32, class: u8)
 // Takes up to so many of the lowest blocks of the class. Whether they are those of the plain list.
 fn take_lowest(
     index: &mut SlabIndex,
-    plain: &mut Plain,
+    plain: &mut PlainSlabs,
     class: u8,
     most: u32,
 ) -> Result<bool, OutOfMemory>
@@ -110,7 +57,7 @@ fn take_lowest(
 }
 
 // Gives one of the blocks back that were taken.
-fn give_one(index: &mut SlabIndex, plain: &mut Plain, drawn: u64)
+fn give_one(index: &mut SlabIndex, plain: &mut PlainSlabs, drawn: u64)
     ensures { index.new.granules ≡ index.old.granules }
 {
     if plain.taken.is_empty() {
@@ -128,7 +75,7 @@ fn give_one(index: &mut SlabIndex, plain: &mut Plain, drawn: u64)
 // One of four changes, by a drawn number. `false` where another block was taken than the lowest.
 fn change(
     index: &mut SlabIndex,
-    plain: &mut Plain,
+    plain: &mut PlainSlabs,
     drawn: u64,
     class: u8,
 ) -> Result<bool, OutOfMemory>
@@ -152,7 +99,7 @@ fn change(
 // Takes the blocks of the slab at a granule that a word of numbers has, 64 of them from a word's first on.
 fn take_some(
     index: &mut SlabIndex,
-    plain: &mut Plain,
+    plain: &mut PlainSlabs,
     start: u32,
     at: u32,
     word: u64,
@@ -175,13 +122,14 @@ fn take_some(
 }
 
 // Both say the same of the slab at a granule, and of one of its blocks.
-fn agree(index: &SlabIndex, plain: &Plain, start: u32, number: u32) -> bool {
+fn agree(index: &SlabIndex, plain: &PlainSlabs, start: u32, number: u32) -> bool {
     match index.class_at(start) {
         None => plain.class_at(start).is_none(),
         Some(class) => {
             plain.class_at(start) == Some(class)
                 && (number >= capacity(class)
-                    || index.is_available(start, number) != plain.is_taken(start, number))
+                    || index.is_available(start, number)
+                        != plain.is_taken(SlabBlock { start, number }))
         }
     }
 }
@@ -191,10 +139,7 @@ fn agree(index: &SlabIndex, plain: &Plain, start: u32, number: u32) -> bool {
 #[test]
 fn like_a_plain_list(rt: HostRuntime) -> Result<(), Fail> {
     let mut index = SlabIndex::new(rt.alloc(), GRANULES)?;
-    let mut plain = Plain {
-        classes: [None; 24],
-        taken: Vec::new(rt.alloc()),
-    };
+    let mut plain = PlainSlabs::new(rt.alloc());
     let mut picks = SplitMix64::from_seed([7; 8]);
     for turn in 0..1200 {
         let drawn = picks.next_word();

@@ -2,8 +2,7 @@
 // end to end.
 //
 // `blocks` tests the slabs of `slab_index` with their available blocks, `candidates` its calm slabs that may take another
-// class, `supply` the rows of `block_supply`, and `served` its calls beside plain lists. The crate has no code. It stands
-// apart from the two that it tests, since a crate with tests is proved twice.
+// class, `supply` the calls of `block_supply`, and `plain` has the plain lists of slabs. The crate has no code. It stands apart from the two that it tests, since a crate with tests is proved twice.
 #![tactic(auto)]
 
 #[cfg(test)]
@@ -11,6 +10,6 @@ mod blocks;
 #[cfg(test)]
 mod candidates;
 #[cfg(test)]
-mod served;
+mod plain;
 #[cfg(test)]
 mod supply;

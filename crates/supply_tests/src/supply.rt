@@ -1,14 +1,15 @@
 // A supply of small blocks: rows that were worked by hand. `served` has many calls beside plain lists.
+mod served;
+
 ghost use Rattle.std.specs.Prelude.{◌≡◌, ◌<◌, ◌≤◌, true, IfOk};
 ghost use Rattle.block_supply.specs.Supply.{IsClearOf};
 
+use crate::plain::GRANULES;
 use block_supply::{BlockSupply, SlabBlock};
 use pmem_lines::OutOfMemory;
 use size_classes::capacity;
 use std::alloc::Global;
 use std::test::Fail;
-
-const GRANULES: u32 = 24;
 
 // Block `number` of the slab at a granule.
 fn some(start: u32, number: u32) -> Option<SlabBlock> {

@@ -1,6 +1,6 @@
 // Reports that were changed by hand: the judge refuses each at the line at which it is no report of its trace any more.
+use crate::judge::known::old_block_goes;
 use crate::judge::{Verdict, judge};
-use crate::known::TAKES_A_CLASS;
 use std::alloc::{AllocError, Global};
 use std::test::Fail;
 
@@ -117,20 +117,20 @@ fn other_reports_are_right(rt: HostRuntime) -> Result<(), Fail> {
 // Of a report whose reader knows each block: no cut of it is right.
 #[test]
 fn reports_that_are_cut_are_refused(rt: HostRuntime) -> Result<(), Fail> {
-    let (trace, report) = TAKES_A_CLASS.split_once('$').ok_or("no report")?;
+    let (trace, report) = old_block_goes(rt.alloc())?;
     let mut cut = String::new(rt.alloc());
     let mut count = 0usize;
     for line in report.lines() {
-        let verdict = judge(rt.alloc(), trace, &cut)?;
+        let verdict = judge(rt.alloc(), &trace, &cut)?;
         count = count.saturating_add(1);
         assert_eq!(rt; verdict, Verdict::WrongAt(count));
         cut.push_str(line)?;
         cut.push_str("\n")?;
     }
-    let verdict = judge(rt.alloc(), trace, &cut)?;
+    let verdict = judge(rt.alloc(), &trace, &cut)?;
     assert!(rt; verdict.is_right(), "{verdict:?}");
     cut.push_str("arena 1 calls 0\n")?;
-    let verdict = judge(rt.alloc(), trace, &cut)?;
+    let verdict = judge(rt.alloc(), &trace, &cut)?;
     assert_eq!(rt; verdict, Verdict::WrongAt(count.saturating_add(1)));
     Ok(())
 }

@@ -1,5 +1,5 @@
 // Which block a malloc gets, and where a block that comes back goes.
-use crate::blocks::{FIRST, GRANULE, Range, Slab};
+use crate::machine::blocks::{FIRST, GRANULE, Range, Slab};
 use crate::machine::{Machine, Reserved, one_more};
 use std::alloc::{AllocError, Global};
 

@@ -2,14 +2,14 @@
 use crate::images::{IN_TRANSITION, ONE_BLOCK, Run, both_tell, image_of};
 use crate::runs::{ends_and_writes, tells};
 use crate::traces::{
-    BOTH_WRITE_ANEW, CLASSES_TAKEN, MIXED, REPEATS, ROLLS, SIXTEEN_ARENAS, TWO_ARENAS, WRITES_ANEW,
-    expanded,
+    CLASSES_TAKEN, MIXED, REPEATS, ROLLS, SIXTEEN_ARENAS, TWO_ARENAS, writes_anew,
 };
 use nvheap::Status;
 use std::alloc::Global;
 use std::sync::Wait;
 use std::test::Fail;
 use std::thread::Threads;
+use worked_runs::expanded;
 
 // The heaps of a report, as `recover` writes them: the line `heap M` of an arena names the arena, and its blocks are
 // those of the report.
@@ -58,6 +58,8 @@ arena 15 large 0 slabs 1 blocks 1 loose 0
 // blocks, slabs, and all blocks; what calls leave has nothing loose.
 #[test]
 fn heaps_come_back(rt: HostRuntime) -> Result<(), Fail> {
+    let anew = writes_anew(rt.alloc(), 1)?;
+    let both_anew = writes_anew(rt.alloc(), 2)?;
     let rows = [
         ("pool 1 16\n", "arena 0 large 0 slabs 0 blocks 0 loose 0\n"),
         (
@@ -66,9 +68,12 @@ fn heaps_come_back(rt: HostRuntime) -> Result<(), Fail> {
         ),
         (MIXED, "arena 0 large 1 slabs 4 blocks 6 loose 0\n"),
         (ROLLS, "arena 0 large 0 slabs 0 blocks 0 loose 0\n"),
-        (WRITES_ANEW, "arena 0 large 17 slabs 0 blocks 17 loose 0\n"),
         (
-            BOTH_WRITE_ANEW,
+            anew.as_str(),
+            "arena 0 large 17 slabs 0 blocks 17 loose 0\n",
+        ),
+        (
+            both_anew.as_str(),
             "arena 0 large 17 slabs 0 blocks 17 loose 0\narena 1 large 17 slabs 0 blocks 17 loose 0\n",
         ),
         (REPEATS, "arena 0 large 1 slabs 0 blocks 1 loose 0\n"),
@@ -203,7 +208,7 @@ const ANEW: [Run; 17] = [
 
 #[test]
 fn log_written_anew(rt: HostRuntime) -> Result<(), Fail> {
-    let trace = expanded(rt.alloc(), WRITES_ANEW)?;
+    let trace = writes_anew(rt.alloc(), 1)?;
     let (ended, image) = ends_and_writes(&rt, rt.alloc(), "image", trace.as_bytes())?;
     assert_eq!(rt; ended, Status::Done);
     assert_eq!(rt; image.get(16..24), Some(&[9, 0, 0, 0, 0, 0, 0, 0][..]));

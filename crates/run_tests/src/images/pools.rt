@@ -1,5 +1,5 @@
 // Images of several arenas, and images of the wrong length.
-use crate::images::{Defective, ONE_BLOCK, Run, both_refuse, both_tell, image_of, put};
+use crate::images::{Defective, ONE_BLOCK, Run, TOO_SHORT, both_refuse, both_tell, image_of, put};
 use std::test::Fail;
 
 // Two arenas of 16 granules: the header lines, and the first word of each log's directory.
@@ -78,24 +78,16 @@ fn sixteen_arenas(rt: HostRuntime) -> Result<(), Fail> {
     both_tell(&rt, rt.alloc(), "chunk 16", &bytes, 2, line, line)
 }
 
-// The first so many bytes of an image, zeros behind it. Below 64 bytes there is no header to say how many there must
-// be.
+// The first so many bytes of an image, zeros behind it.
 #[test]
 fn lengths(rt: HostRuntime) -> Result<(), Fail> {
-    let rows = [
-        (0, "bad length 0 64\n"),
-        (1, "bad length 1 64\n"),
-        (63, "bad length 63 64\n"),
-        (64, "bad length 64 262144\n"),
-        (65, "bad length 65 262144\n"),
-        (65536, "bad length 65536 262144\n"),
-        (262143, "bad length 262143 262144\n"),
-        (262145, "bad length 262145 262144\n"),
-    ];
-    for (size, line) in rows {
+    for (size, line) in TOO_SHORT {
         let bytes = image_of(rt.alloc(), size, &ONE_BLOCK, &[])?;
         both_tell(&rt, rt.alloc(), "one arena", &bytes, 2, line, line)?;
     }
+    let longer = image_of(rt.alloc(), 262145, &ONE_BLOCK, &[])?;
+    let line = "bad length 262145 262144\n";
+    both_tell(&rt, rt.alloc(), "a byte more", &longer, 2, line, line)?;
     let half = image_of(rt.alloc(), 262144, &TWO, &[])?;
     let line = "bad length 262144 524288\n";
     both_tell(&rt, rt.alloc(), "one of two arenas", &half, 2, line, line)

@@ -1,13 +1,10 @@
 // Runs from readers and to writers of the standard library.
+use crate::outside::{REPORT, TRACE};
 use crate::runs::ends;
 use nvheap::{ReadSource, Status, WriteSink};
 use std::io;
 use std::io::Read;
 use std::test::Fail;
-
-const TRACE: &str = "pool 1 16\n0 0 m 5 100\n";
-
-const REPORT: &str = "arena 0 calls 1\n0 m 5 100 placed 67584 112\nheap 1\n5 67584 112\n";
 
 // Gives its bytes, and then fails.
 #[derive(Drop)]

@@ -1,17 +1,28 @@
-// Sources and sinks that fail, and a source that gives too much.
+// Sources and sinks that fail, and sources that give too much.
 ghost use Rattle.std.specs.Prelude.{None};
 
+use crate::outside::TRACE;
 use crate::runs::ends;
 use nvheap::{Failed, MemSink, MemSource, Source, Status, SureSource};
+use std::alloc::Global;
+use std::process::Abort;
+use std::sync::Wait;
 use std::test::Fail;
+use std::thread::Threads;
 
-const TRACE: &str = "pool 1 16\n0 0 m 5 100\n";
-
-// One byte, so many times that no memory is to hold them. It tells nothing of them.
+// One byte, so many times that no memory is to hold them. It tells nothing of them, and counts those that it gave.
 #[derive(Drop)]
 struct Repeated {
     byte: u8,
     left: usize,
+    given: usize,
+}
+
+impl Repeated {
+    fn new(byte: u8, left: usize) -> Repeated {
+        let given = 0;
+        Repeated { byte, left, given }
+    }
 }
 
 impl Source for Repeated {
@@ -23,6 +34,7 @@ impl Source for Repeated {
         let n = into.len().min(self.left);
         into[..n].fill(self.byte);
         self.left -= n;
+        self.given = self.given.saturating_add(n);
         Ok(n)
     }
 }
@@ -47,35 +59,48 @@ fn tells_a_write_fault(rt: HostRuntime) -> Result<(), Fail> {
     Ok(())
 }
 
-// One byte more than a trace may have, and than an image may: it is read, and nothing is written.
+// A source of one byte, so many times, is read this far and no further, and nothing is written.
+fn is_too_long<R: Abort + Threads + Wait + Sync>(
+    rt: &R,
+    alloc: Global,
+    line: &str,
+    mut source: Repeated,
+    read: usize,
+) -> Result<(), Fail> {
+    let mut sink = MemSink::new(alloc, &[], usize::MAX);
+    let status = ends(rt, alloc, line, &mut source, &mut sink)?;
+    assert_eq!(rt; status, Status::TooLong, "{line}");
+    assert_eq!(rt; source.given, read, "{line}");
+    assert_eq!(rt; sink.bytes().len(), 0, "{line}");
+    Ok(())
+}
+
+// One byte more than a trace may have, and than an image may.
 #[test]
 fn tells_that_the_input_is_too_long(rt: HostRuntime) -> Result<(), Fail> {
-    let rows = [
-        ("replay", b'\n', 67_108_865),
-        ("check", 0, 268_435_457),
-        ("recover", 0, 268_435_457),
-    ];
-    for (line, byte, left) in rows {
-        let mut source = Repeated { byte, left };
-        let mut sink = MemSink::new(rt.alloc(), &[], usize::MAX);
-        let status = ends(&rt, rt.alloc(), line, &mut source, &mut sink)?;
-        assert_eq!(rt; status, Status::TooLong, "{line}");
-        assert_eq!(rt; source.left, 0, "{line}");
-        assert_eq!(rt; sink.bytes().len(), 0, "{line}");
-    }
-    Ok(())
+    let trace = Repeated::new(b'\n', 67_108_865);
+    is_too_long(&rt, rt.alloc(), "replay", trace, 67_108_865)?;
+    let image = Repeated::new(0, 268_435_457);
+    is_too_long(&rt, rt.alloc(), "check", image, 268_435_457)?;
+    let image = Repeated::new(0, 268_435_457);
+    is_too_long(&rt, rt.alloc(), "recover", image, 268_435_457)
+}
+
+#[test]
+fn a_source_without_end(rt: HostRuntime) -> Result<(), Fail> {
+    let trace = Repeated::new(b'\n', usize::MAX);
+    is_too_long(&rt, rt.alloc(), "replay", trace, 67_108_865)?;
+    let image = Repeated::new(0, usize::MAX);
+    is_too_long(&rt, rt.alloc(), "check", image, 268_435_457)
 }
 
 #[test]
 fn reads_nothing_where_the_words_are_none(rt: HostRuntime) -> Result<(), Fail> {
-    let mut source = Repeated {
-        byte: b'\n',
-        left: 5,
-    };
+    let mut source = Repeated::new(b'\n', 5);
     let mut sink = MemSink::new(rt.alloc(), &[], usize::MAX);
     let status = ends(&rt, rt.alloc(), "replay image", &mut source, &mut sink)?;
     assert_eq!(rt; status, Status::Usage);
-    assert_eq!(rt; source.left, 5);
+    assert_eq!(rt; source.given, 0);
     assert_eq!(rt; sink.bytes().len(), 0);
     Ok(())
 }

@@ -1,33 +1,19 @@
-// Hostile use: an image that was cut or patched, ends that give and take one byte at a time and then fail, and a source
-// that never ends. `pools` and `defects` have more images that are refused, `faults` and `adapters` more ends that fail.
-ghost use Rattle.std.specs.Prelude.{None};
-
-use crate::images::{both_tell, put};
+// Hostile use: an image that was cut or patched, and ends that give and take one byte at a time and then fail. `pools` and
+// `defects` of `images` have more images that are refused, `faults` and `adapters` more ends that fail.
+use crate::images::{TOO_SHORT, both_tell, put};
+use crate::outside::{REPORT, TRACE};
 use crate::runs::{ends, ends_and_writes};
-use nvheap::{Failed, MemSink, ReadSource, Source, Status, SureSource};
+use nvheap::{MemSink, ReadSource, Status, SureSource};
 use std::io;
 use std::io::Read;
 use std::test::Fail;
 
-const TRACE: &str = "pool 1 16\n0 0 m 5 100\n";
-
-const REPORT: &str = "arena 0 calls 1\n0 m 5 100 placed 67584 112\nheap 1\n5 67584 112\n";
-
-// The first so many bytes of the image that a call leaves. Below 64 there is no header to say how many there must be.
+// The first so many bytes of the image that a call leaves.
 #[test]
 fn a_cut_image(rt: HostRuntime) -> Result<(), Fail> {
     let (_, image) = ends_and_writes(&rt, rt.alloc(), "image", TRACE.as_bytes())?;
     assert_eq!(rt; image.len(), 262_144);
-    let rows = [
-        (0, "bad length 0 64\n"),
-        (1, "bad length 1 64\n"),
-        (63, "bad length 63 64\n"),
-        (64, "bad length 64 262144\n"),
-        (65, "bad length 65 262144\n"),
-        (65536, "bad length 65536 262144\n"),
-        (262143, "bad length 262143 262144\n"),
-    ];
-    for (size, line) in rows {
+    for (size, line) in TOO_SHORT {
         let front = image.get(..size).unwrap_or(&[]);
         both_tell(&rt, rt.alloc(), "a front", front, 2, line, line)?;
     }
@@ -107,40 +93,6 @@ fn each_write_fails(rt: HostRuntime) -> Result<(), Fail> {
         assert_eq!(rt; status, Status::WriteFault, "behind {taken}");
         let front = REPORT.as_bytes().get(..taken).unwrap_or(&[]);
         assert_eq!(rt; sink.bytes(), front, "behind {taken}");
-    }
-    Ok(())
-}
-
-// One byte without end, which tells nothing of what it has, and counts what it gave.
-#[derive(Drop)]
-struct Endless {
-    byte: u8,
-    given: usize,
-}
-
-impl Source for Endless {
-    ghost left = { λ _. None };
-
-    ghost faults = { λ _. 0 };
-
-    fn read(&mut self, into: &mut [u8]) -> Result<usize, Failed> {
-        into.fill(self.byte);
-        self.given = self.given.saturating_add(into.len());
-        Ok(into.len())
-    }
-}
-
-// It is read one byte past what an input may have, and no further.
-#[test]
-fn a_source_without_end(rt: HostRuntime) -> Result<(), Fail> {
-    let rows = [("replay", b'\n', 67_108_865), ("check", 0, 268_435_457)];
-    for (line, byte, read) in rows {
-        let mut source = Endless { byte, given: 0 };
-        let mut sink = MemSink::new(rt.alloc(), &[], usize::MAX);
-        let status = ends(&rt, rt.alloc(), line, &mut source, &mut sink)?;
-        assert_eq!(rt; status, Status::TooLong, "{line}");
-        assert_eq!(rt; source.given, read, "{line}");
-        assert_eq!(rt; sink.bytes().len(), 0, "{line}");
     }
     Ok(())
 }

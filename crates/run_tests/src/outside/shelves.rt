@@ -1,6 +1,7 @@
 // The words of the device that a replay leaves on a shelf, and a shelf that keeps none.
-use crate::runs::{ends_and_writes, word_after, words_of};
-use nvheap::{DropShelf, MemSink, OpenGate, Status, SureSource, run};
+use crate::outside::{REPORT, TRACE};
+use crate::runs::{ends_and_writes, ends_with, word_after};
+use nvheap::{DropShelf, OpenGate, Status};
 use std::alloc::Global;
 use std::process::Abort;
 use std::sync::Wait;
@@ -47,7 +48,7 @@ fn one_small_block(rt: HostRuntime) -> Result<(), Fail> {
         (65664, 0),
         (67584, 0),
     ];
-    all_left(&rt, rt.alloc(), "pool 1 16\n0 0 m 5 100\n", &rows)
+    all_left(&rt, rt.alloc(), TRACE, &rows)
 }
 
 // The bits of neighbours lie in different lines.
@@ -72,29 +73,16 @@ fn a_slab_goes_back(rt: HostRuntime) -> Result<(), Fail> {
 // A shelf that drops what is put serves as well, for the device of a replay and for one that is recovered.
 #[test]
 fn a_shelf_that_drops(rt: HostRuntime) -> Result<(), Fail> {
-    let trace = b"pool 1 16\n0 0 m 5 100\n";
-    let (_, image) = ends_and_writes(&rt, rt.alloc(), "image", trace)?;
-    let report = "arena 0 calls 1\n0 m 5 100 placed 67584 112\nheap 1\n5 67584 112\n";
+    let (_, image) = ends_and_writes(&rt, rt.alloc(), "image", TRACE.as_bytes())?;
     let heap = "arena 0 heap 1\n5 67584 112\n";
     for (line, input, text) in [
-        ("replay", trace.as_slice(), report),
+        ("replay", TRACE.as_bytes(), REPORT),
         ("recover", image.as_slice(), heap),
     ] {
-        let words = words_of(rt.alloc(), line)?;
-        let mut source = SureSource::new(input);
-        let mut sink = MemSink::new(rt.alloc(), &[], usize::MAX);
         let mut shelf = DropShelf::new();
-        let status = run(
-            &rt,
-            rt.alloc(),
-            &words,
-            &mut source,
-            &mut sink,
-            &OpenGate,
-            &mut shelf,
-        );
+        let (status, written) = ends_with(&rt, rt.alloc(), line, input, &OpenGate, &mut shelf)?;
         assert_eq!(rt; status, Status::Done, "{line}");
-        assert_eq!(rt; sink.bytes(), text.as_bytes(), "{line}");
+        assert_eq!(rt; written.as_slice(), text.as_bytes(), "{line}");
     }
     Ok(())
 }

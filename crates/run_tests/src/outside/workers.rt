@@ -1,8 +1,8 @@
 // Two threads of a trace that wait for each other.
 ghost use Rattle.std.specs.Prelude.{◌<◌, length, IfSome};
 
-use crate::runs::words_of;
-use nvheap::{Gate, KeptShelf, MemSink, Status, SureSource, run};
+use crate::runs::ends_with;
+use nvheap::{Gate, KeptShelf, Status};
 use shared_pool::Pass;
 use std::sync::Wait;
 use std::sync::atomic::{AtomicU64, Ordering};
@@ -59,23 +59,13 @@ fn workers_at_the_same_time(rt: HostRuntime) -> Result<(), Fail> {
         gave_up: AtomicU64::new(0),
         odd: AtomicU64::new(0),
     };
-    let words = words_of(alloc, "replay")?;
-    let mut source = SureSource::new(TWO_THREADS.as_bytes());
-    let mut sink = MemSink::new(alloc, &[], usize::MAX);
     let mut shelf = KeptShelf::new(alloc)?;
-    let status = run(
-        &rt,
-        alloc,
-        &words,
-        &mut source,
-        &mut sink,
-        &gate,
-        &mut shelf,
-    );
+    let trace = TWO_THREADS.as_bytes();
+    let (status, written) = ends_with(&rt, alloc, "replay", trace, &gate, &mut shelf)?;
     assert_eq!(&rt; status, Status::Done);
     assert_eq!(&rt; gate.gave_up.load(Ordering::SeqCst), 0);
     assert_eq!(&rt; gate.odd.load(Ordering::SeqCst), 0);
-    let report = str::from_utf8(sink.bytes())?;
+    let report = str::from_utf8(&written)?;
     assert!(&rt; report.starts_with("arena 0 calls 4\n"));
     assert!(&rt; report.contains("\nheap 2\n5 "));
     Ok(())

@@ -1,11 +1,12 @@
 // Crashes at every event of some calls, with several seeds each.
 use crate::runs::tells;
-use crate::traces::{ROLLS, WRITES_ANEW, around_sixteen, expanded};
+use crate::traces::{ROLLS, around_sixteen, writes_anew};
 use std::alloc::Global;
 use std::process::Abort;
 use std::sync::Wait;
 use std::test::Fail;
 use std::thread::Threads;
+use worked_runs::expanded;
 
 // The first and the last of some numbers of events, and what `crash` may write after so many: one text or the other, as
 // the seed picks.
@@ -124,7 +125,7 @@ fn where_the_log_is_written_anew(rt: HostRuntime) -> Result<(), Fail> {
         (6876, 6877, before, after),
         (6878, 6878, after, after),
     ];
-    let trace = expanded(rt.alloc(), WRITES_ANEW)?;
+    let trace = writes_anew(rt.alloc(), 1)?;
     crash_writes(&rt, rt.alloc(), &trace, 3, &events)
 }
 

@@ -1,6 +1,6 @@
 // Generated work: what it prints, and what it leaves.
-use crate::runs::{all_tell, ends, words_of};
-use nvheap::{KeptShelf, MemSink, MemSource, OpenGate, Status, SureSource, run};
+use crate::runs::{all_tell, ends, ends_with};
+use nvheap::{KeptShelf, MemSink, MemSource, OpenGate, Status};
 use pmem_lines::Pmem;
 use std::process::Abort;
 use std::test::Fail;
@@ -100,19 +100,8 @@ fn root_at(shelf: &KeptShelf, arena: u32, root: u32) -> Option<u64> {
 #[test]
 fn devices_stay(rt: HostRuntime) -> Result<(), Fail> {
     let alloc = rt.alloc();
-    let words = words_of(alloc, "gen 1 0")?;
-    let mut source = SureSource::new(b"");
-    let mut sink = MemSink::new(alloc, &[], usize::MAX);
     let mut shelf = KeptShelf::new(alloc)?;
-    let status = run(
-        &rt,
-        alloc,
-        &words,
-        &mut source,
-        &mut sink,
-        &OpenGate,
-        &mut shelf,
-    );
+    let (status, _) = ends_with(&rt, alloc, "gen 1 0", b"", &OpenGate, &mut shelf)?;
     assert_eq!(rt; status, Status::Done);
     assert_eq!(rt; root_at(&shelf, 0, 431), Some(67584));
     assert_eq!(rt; root_at(&shelf, 1, 431), Some(0));

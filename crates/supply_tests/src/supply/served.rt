@@ -1,6 +1,7 @@
 // A supply of small blocks beside plain lists, which are searched from end to end.
 ghost use Rattle.std.specs.Prelude.{◌≡◌, ◌<◌};
 
+use crate::plain::{GRANULES, PlainSlabs};
 use crate::supply::{add_used, is_open, make_available, put_back};
 use block_supply::{BlockSupply, SlabBlock};
 use pmem_lines::OutOfMemory;
@@ -11,39 +12,31 @@ use size_classes::capacity;
 use std::alloc::Global;
 use std::test::Fail;
 
-const GRANULES: u32 = 24;
-
-// A block in the stack of a seat and class.
+// The stack of a seat and class.
 #[derive(Clone, Copy, Debug, PartialEq, Eq)]
-struct Reserved {
+struct Stack {
     seat: u32,
     class: u8,
+}
+
+// A block in a stack.
+#[derive(Clone, Copy, Debug, PartialEq, Eq)]
+struct Reserved {
+    stack: Stack,
     block: SlabBlock,
 }
 
-// The class of the slab at each granule, the blocks that were taken, and those in all stacks: of one stack those that came
-// last are nearer to the end. All others are available.
+// The slabs, and the blocks in all stacks: of one stack those that came last are nearer to the end. All others are available.
 #[derive(Drop)]
 struct Plain {
-    classes: [Option<u8>; 24],
-    taken: Vec<SlabBlock>,
+    slabs: PlainSlabs,
     reserved: Vec<Reserved>,
 }
 
 impl Plain {
-    fn class_at(&self, start: u32) -> Option<u8> {
-        match self.classes.get(start as usize) {
-            Some(class) => *class,
-            None => None,
-        }
-    }
-
     // The slab at a granule comes or goes, with all of its blocks.
     fn put(&mut self, start: u32, class: Option<u8>) {
-        if let Some(slab) = self.classes.get_mut(start as usize) {
-            *slab = class;
-        }
-        self.taken.retain(|block| block.start != start);
+        self.slabs.put(start, class);
         self.reserved.retain(|own| own.block.start != start);
     }
 
@@ -56,20 +49,17 @@ impl Plain {
         false
     }
 
-    fn is_open(&self, block: SlabBlock) -> bool {
-        !self.taken.contains(&block)
-    }
-
     // The lowest available blocks of the lowest slab of the class that has one, eight at most.
     fn lowest(&self, alloc: Global, class: u8) -> Result<Vec<SlabBlock>, OutOfMemory>
         requires { class < 36 }
     {
         let mut blocks = Vec::new(alloc);
         for start in 0..GRANULES {
-            if self.class_at(start) == Some(class) && blocks.is_empty() {
+            if self.slabs.class_at(start) == Some(class) && blocks.is_empty() {
                 for number in 0..capacity(class) {
                     let block = SlabBlock { start, number };
-                    if blocks.len() < 8 && self.is_open(block) && !self.is_reserved(block) {
+                    let is_out = self.slabs.is_taken(block) || self.is_reserved(block);
+                    if blocks.len() < 8 && !is_out {
                         blocks.push(block)?;
                     }
                 }
@@ -78,11 +68,11 @@ impl Plain {
         Ok(blocks)
     }
 
-    // Takes the top of the stack of a seat and class.
-    fn pop(&mut self, seat: u32, class: u8) -> Option<SlabBlock> {
+    // Takes the top of a stack.
+    fn pop(&mut self, stack: Stack) -> Option<SlabBlock> {
         let mut top = None;
         for (at, own) in self.reserved.iter().enumerate() {
-            if own.seat == seat && own.class == class {
+            if own.stack == stack {
                 top = Some(at);
             }
         }
@@ -92,62 +82,57 @@ impl Plain {
         }
     }
 
-    // Takes the lowest available block of the class, and puts the others on the seat's stack, the lowest on top.
-    fn refill(
-        &mut self,
-        alloc: Global,
-        seat: u32,
-        class: u8,
-    ) -> Result<Option<SlabBlock>, OutOfMemory>
-        requires { class < 36 }
+    // Takes the lowest available block of the stack's class, and puts the others on the stack, the lowest on top.
+    fn refill(&mut self, alloc: Global, stack: Stack) -> Result<Option<SlabBlock>, OutOfMemory>
+        requires { stack.class < 36 }
     {
-        let mut blocks = self.lowest(alloc, class)?;
+        let mut blocks = self.lowest(alloc, stack.class)?;
         for _ in 0..8u32 {
             if blocks.len() > 1 {
                 if let Some(block) = blocks.pop() {
-                    self.reserved.push(Reserved { seat, class, block })?;
+                    self.reserved.push(Reserved { stack, block })?;
                 }
             }
         }
         Ok(blocks.pop())
     }
 
-    // Takes a block for a seat.
-    fn take(
-        &mut self,
-        alloc: Global,
-        seat: u32,
-        class: u8,
-    ) -> Result<Option<SlabBlock>, OutOfMemory>
-        requires { class < 36 }
+    // Takes a block of the stack's class for its seat.
+    fn take(&mut self, alloc: Global, stack: Stack) -> Result<Option<SlabBlock>, OutOfMemory>
+        requires { stack.class < 36 }
     {
-        let mut found = self.pop(seat, class);
+        let mut found = self.pop(stack);
         if found.is_none() {
-            found = self.refill(alloc, seat, class)?;
+            found = self.refill(alloc, stack)?;
         }
-        for other in 0..64 {
+        for seat in 0..64 {
             if found.is_none() {
-                found = self.pop(other, class);
+                found = self.pop(Stack { seat, ..stack });
             }
         }
         if let Some(block) = found {
-            self.taken.push(block)?;
+            self.slabs.taken.push(block)?;
         }
         Ok(found)
     }
 
+    // A block that was taken is taken no more.
+    fn untake(&mut self, block: SlabBlock) {
+        self.slabs.taken.retain(|other| *other != block);
+    }
+
     // Brings a block back that was taken.
     fn put_back(&mut self, seat: u32, block: SlabBlock) -> Result<(), OutOfMemory> {
-        self.taken.retain(|other| *other != block);
-        if let Some(class) = self.class_at(block.start) {
-            let mut held = 0u32;
-            for own in &self.reserved {
-                if own.seat == seat && own.class == class {
-                    held = held.saturating_add(1);
-                }
-            }
+        self.untake(block);
+        if let Some(class) = self.slabs.class_at(block.start) {
+            let stack = Stack { seat, class };
+            let held = self
+                .reserved
+                .iter()
+                .filter(|own| own.stack == stack)
+                .count();
             if held < 8 {
-                self.reserved.push(Reserved { seat, class, block })?;
+                self.reserved.push(Reserved { stack, block })?;
             }
         }
         Ok(())
@@ -174,7 +159,7 @@ fn change_slab(
         plain.put(start, Some(class));
         for number in 0..64 {
             if number < capacity(class) && (word >> number) & 1 == 1 {
-                plain.taken.push(SlabBlock { start, number })?;
+                plain.slabs.taken.push(SlabBlock { start, number })?;
             }
         }
     }
@@ -183,10 +168,11 @@ fn change_slab(
 
 // One of the blocks that were taken.
 fn taken_one(plain: &Plain, drawn: u64) -> Option<SlabBlock> {
-    if plain.taken.is_empty() {
+    let taken = &plain.slabs.taken;
+    if taken.is_empty() {
         return None;
     }
-    plain.taken.get(drawn as usize % plain.taken.len()).copied()
+    taken.get(drawn as usize % taken.len()).copied()
 }
 
 // One call, by a drawn number. `false` where both differ.
@@ -212,7 +198,10 @@ fn change(
             let word = if drawn % 2 == 0 { 0 } else { drawn >> 40 };
             change_slab(supply, plain, (drawn / 256 % 21) as u32, class, word)?;
         }
-        4..=34 => return Ok(supply.take(seat, class) == plain.take(alloc, seat, class)?),
+        4..=34 => {
+            let stack = Stack { seat, class };
+            return Ok(supply.take(seat, class) == plain.take(alloc, stack)?);
+        }
         35..=58 => {
             if let Some(block) = taken_one(plain, drawn / 256) {
                 plain.put_back(seat, block)?;
@@ -221,7 +210,7 @@ fn change(
         }
         _ => {
             if let Some(block) = taken_one(plain, drawn / 256) {
-                plain.taken.retain(|other| *other != block);
+                plain.untake(block);
                 return Ok(make_available(supply, block.start, block.number));
             }
         }
@@ -231,7 +220,7 @@ fn change(
 
 // Both say the same of the slab at a granule, and of all of its blocks.
 fn agree(supply: &BlockSupply, plain: &Plain, start: u32) -> bool {
-    let class = plain.class_at(start);
+    let class = plain.slabs.class_at(start);
     if supply.class_at(start) != class {
         return false;
     }
@@ -239,7 +228,7 @@ fn agree(supply: &BlockSupply, plain: &Plain, start: u32) -> bool {
         if class < 36 {
             for number in 0..capacity(class) {
                 let block = SlabBlock { start, number };
-                if is_open(supply, start, number) != plain.is_open(block) {
+                if is_open(supply, start, number) == plain.slabs.is_taken(block) {
                     return false;
                 }
             }
@@ -254,8 +243,7 @@ fn agree(supply: &BlockSupply, plain: &Plain, start: u32) -> bool {
 fn like_plain_lists(rt: HostRuntime) -> Result<(), Fail> {
     let mut supply = BlockSupply::new(rt.alloc(), GRANULES)?;
     let mut plain = Plain {
-        classes: [None; 24],
-        taken: Vec::new(rt.alloc()),
+        slabs: PlainSlabs::new(rt.alloc()),
         reserved: Vec::new(rt.alloc()),
     };
     let mut picks = SplitMix64::from_seed([5; 8]);

@@ -1,0 +1,33 @@
+// Runs of the program that were worked by hand, as texts: traces, and what the program writes of each. Tests alone read them:
+// `run_tests` that the program writes them, and `judge_tests` that its judge finds the reports right. The crate stands on
+// none, since the judge takes nothing of the crates that define or serve the heap.
+//
+// A table has traces between lines `----`, each with runs over it. A run is a line with `$`, the code with which it ends and
+// the program's words, and below it what it writes; where commas stand between words, each of these runs ends and writes so.
+// In place of a code `may` says that the run is one of several that threads may come to. A trace may be said in short, as
+// `expanded` reads it, and one that runs into its first `$` lacks its last line feed.
+//
+// `short` has short traces, `stacks` and `seats` traces that show which block is given, `classes` and `old_blocks` traces in
+// which slabs take other classes, `payload` traces that write and read words, and `moves` traces that move blocks. For how
+// full a slab may be that takes another class, `thresholds` has numbers, of which `filled` makes a trace and its report.
+#![tactic(auto)]
+
+mod classes;
+mod moves;
+mod old_blocks;
+mod payload;
+mod seats;
+mod short;
+mod shorthand;
+mod stacks;
+mod thresholds;
+
+pub use classes::{CLASSES_OF_ONE_SEAT, CLASSES_OF_SEVERAL_SEATS, OLD_BLOCK_GOES};
+pub use moves::MOVES;
+pub use old_blocks::OLD_BLOCKS;
+pub use payload::PAYLOAD;
+pub use seats::SEATS;
+pub use short::SHORT;
+pub use shorthand::expanded;
+pub use stacks::STACKS;
+pub use thresholds::{FILLINGS, Filling, filled};
