@@ -27,9 +27,9 @@ fn new_stack(alloc: Global, granules: u32) -> Result<RecordStack<SimPmem>, Fail>
     Ok(stack.ok_or("no stack")?)
 }
 
-#[test]
-fn the_last_record_comes_first(rt: HostRuntime) -> Result<(), Fail> {
-    let mut stack = new_stack(rt.alloc(), 16)?;
+// Two records come to a stack without any and go again. Who has a stack in hand lets it go at each way out, which is dear to
+// prove: so it is lent to the calls that are tested, here and below.
+fn come_and_go<R: Abort>(rt: &R, stack: &mut RecordStack<SimPmem>) -> Result<(), Fail> {
     assert!(rt; stack.is_empty());
     assert_eq!(rt; stack.pop(), Err(PopRefusal::Empty));
     assert!(rt; stack.top().is_none());
@@ -42,6 +42,12 @@ fn the_last_record_comes_first(rt: HostRuntime) -> Result<(), Fail> {
     stack.pop()?;
     assert_eq!(rt; stack.len(), 0);
     Ok(())
+}
+
+#[test]
+fn the_last_record_comes_first(rt: HostRuntime) -> Result<(), Fail> {
+    let mut stack = new_stack(rt.alloc(), 16)?;
+    come_and_go(&rt, &mut stack)
 }
 
 // So many records come to a stack of an arena of so many granules, and then this refusal.
@@ -98,8 +104,13 @@ fn reopened(
     if image.len() % 8 != 0 || image.len() < 8 || image.len() > 8_388_608 {
         return Err(ReopenFault::NoStack);
     }
-    let device = SimPmem::from_image(alloc, &image, 2048).map_err(ReopenFault::Memory)?;
-    reopen(alloc, device).map_err(|refused| refused.0)
+    match SimPmem::from_image(alloc, &image, 2048) {
+        Ok(device) => match reopen(alloc, device) {
+            Ok(stack) => Ok(stack),
+            Err((fault, _)) => Err(fault),
+        },
+        Err(error) => Err(ReopenFault::Memory(error)),
+    }
 }
 
 // After a stop at each event of the last call of an arena, for the seeds 0, 1 and 2, the stack has LOW alone with an empty
@@ -115,35 +126,63 @@ fn all_stop<R: Abort>(
     for k in 0..=events {
         for seed in 0..3 {
             let stack = reopened(alloc, device, k, seed)?;
-            let top = stack.top().ok_or("no record")?;
-            let is_old = stack.len() == 1 && top == LOW.as_slice();
-            let is_new = stack.len() == 2 && top == HIGH.as_slice();
-            assert!(rt; is_old && !(shows && k == events) || is_new && shows && k > 0);
-            assert!(rt; stack.arena().block(4095).is_none());
+            stands(rt, &stack, !(shows && k == events), shows && k > 0)?;
         }
     }
     Ok(())
 }
 
+// A stack has LOW alone where it may be the old one, or HIGH above it where it may be the new one, and its stage is empty.
+fn stands<R: Abort>(
+    rt: &R,
+    stack: &RecordStack<SimPmem>,
+    old: bool,
+    new: bool,
+) -> Result<(), Fail> {
+    let top = stack.top().ok_or("no record")?;
+    let is_old = stack.len() == 1 && top == LOW.as_slice();
+    let is_new = stack.len() == 2 && top == HIGH.as_slice();
+    assert!(rt; is_old && old || is_new && new);
+    assert!(rt; stack.arena().block(4095).is_none());
+    Ok(())
+}
+
 // The three calls of a push, one by one.
+fn push_by_steps<R: Abort>(rt: &R, alloc: Global, arena: &mut Arena<SimPmem>) -> Result<(), Fail> {
+    arena.malloc_to(0, 4095, 64)?;
+    all_stop(rt, alloc, arena, false)?;
+    arena.write(4095, 0, &HIGH)?;
+    all_stop(rt, alloc, arena, false)?;
+    arena.move_to(4095, 1)?;
+    all_stop(rt, alloc, arena, true)
+}
+
+// The arena of a stack that has LOW alone.
+fn arena_with_low(alloc: Global) -> Result<Arena<SimPmem>, Fail> {
+    let mut stack = new_stack(alloc, 16)?;
+    stack.push(&LOW)?;
+    Ok(stack.into_arena())
+}
+
 #[test]
 fn a_push_is_stopped(rt: HostRuntime) -> Result<(), Fail> {
-    let mut stack = new_stack(rt.alloc(), 16)?;
-    stack.push(&LOW)?;
-    let mut arena = stack.into_arena();
-    arena.malloc_to(0, 4095, 64)?;
-    all_stop(&rt, rt.alloc(), &arena, false)?;
-    arena.write(4095, 0, &HIGH)?;
-    all_stop(&rt, rt.alloc(), &arena, false)?;
-    arena.move_to(4095, 1)?;
-    all_stop(&rt, rt.alloc(), &arena, true)
+    let mut arena = arena_with_low(rt.alloc())?;
+    push_by_steps(&rt, rt.alloc(), &mut arena)
 }
 
 // The device of a whole push has the events of its last call.
+fn push_both<R: Abort>(
+    rt: &R,
+    alloc: Global,
+    stack: &mut RecordStack<SimPmem>,
+) -> Result<(), Fail> {
+    stack.push(&LOW)?;
+    stack.push(&HIGH)?;
+    all_stop(rt, alloc, stack.arena(), true)
+}
+
 #[test]
 fn a_push_ends_with_a_move(rt: HostRuntime) -> Result<(), Fail> {
     let mut stack = new_stack(rt.alloc(), 16)?;
-    stack.push(&LOW)?;
-    stack.push(&HIGH)?;
-    all_stop(&rt, rt.alloc(), stack.arena(), true)
+    push_both(&rt, rt.alloc(), &mut stack)
 }
