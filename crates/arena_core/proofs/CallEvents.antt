@@ -320,36 +320,6 @@ small_attachable words root size block class image asked placing =
       none = asked.none;
     }
 
--- it came
-pub IsDone-small : {old new : PmemState} {was left : Volatile} {root class : ℕ} (block : SmallBlock) → IsArena old was → left ≡ record was { supply = left.supply; lives = left.lives } → IsAttachable (words_of old) root block →
-    (tables_of (words_of old)).class block.start ≡ class → IsQuietStep old new (attach_events (words_of old) was.line root block) (IsEitherHeap (words_of old) (words_of new)) → IsAttached (words_of old) was.line root block (words_of new) →
-    IsSlabsOf left.supply (words_of new) → AreLivesOf left.lives (words_of new) →
-    IsDone old new left root (Some (slab_block block.start class block.number)) (slabs (tables_of (words_of old))) (attach_events (words_of old) was.line root block)
-IsDone-small {old} {new} {was} {left} {root} {class} block arena left_is may class_is step attached slabs lives =
-    let words = words_of old in
-    let after = words_of new in
-    let bits = bits_with (tables_of words) block.start block.number in
-    let live_bits = lives_as (tables_of words) in
-    let change = change_bit may.block_in arena.few in
-    record {
-      step = step;
-      current = subst (IsCurrent new) (sym left_is) (record {
-        ready = ready_after arena.current.ready step.appends.room step.quiet arena.current.exact.formed attached.exact.formed attached.bounds;
-        exact = attached.exact;
-        log = book_small change after attached.rest attached.bounds was.log arena.current.log;
-        index = index_small words bits live_bits root true block.at after attached.bounds attached.tables was.free arena.current.index;
-      });
-      slabs = slabs;
-      lives = lives;
-      gives = record {
-        here = attached.gives.here ∙ ap (λ c. Some (slab_block block.start c block.number)) class_is;
-        others = attached.gives.others;
-        slabs = classes_small words bits live_bits root true block.at after attached.bounds attached.tables;
-        keeps = keeps_small change after attached.rest;
-        bounds = attached.bounds;
-      };
-    }
-
 -- a call that is refused
 pub IsCalled-refused : {old : PmemState} {was : Volatile} {seat : ℕ} (call : Call) (reply : Reply) → IsArena old was →
     call_events (words_of old) was.line call reply ≡ [] → line_after was.line reply ≡ was.line → IsStepOfAny (words_of old) (words_of old) call reply → IsCalled old old was was seat call reply

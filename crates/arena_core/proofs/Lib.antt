@@ -20,6 +20,7 @@ pub mod CoveredBlocks
 pub mod TakenBlocks
 pub mod SlabChanges
 pub mod ChangedClasses
+pub mod GivenBlocks
 pub mod Tidying
 pub mod Plans
 pub mod BestSlabs
@@ -29,6 +30,7 @@ pub mod PayloadImages
 pub mod PayloadRows
 pub mod PayloadStates
 pub mod PayloadCalls
+pub mod FreedCalls
 pub mod PlannedCalls
 pub mod MovesArenas
 pub mod MovesStates

@@ -17,7 +17,9 @@ use Rattle.heap_check.proofs.Geometry.{one_slab, is_large-slab, is_large-start}
 use Rattle.heap_check.proofs.Heaps.{heap-claim, IsClaim-heap}
 use Rattle.heap_check.proofs.SmallPlaces.{Holds-claim}
 use Rattle.heap_check.proofs.Within.{IsInSlab-held}
-use Rattle.arena_core.specs.Arena.{live_in, AreCountsOf}
+use Rattle.slab_lives.specs.Lives.{Lives, calm_at}
+use Rattle.arena_core.specs.Arena.{live_in, calm_of, AreCountsOf, AreLivesOf}
+use Rattle.arena_core.specs.Carried.{HaveOneMore}
 
 -- one, where something is so
 abbrev pub one_if : Bool → ℕ
@@ -127,32 +129,31 @@ counts_raised without with_it root start range counts next more size put were = 
       (cases_eq s start);
 }
 
-pub counts_lowered : (without with_it : List ℕ) (root start : ℕ) (range : Range) (counts next : List ℕ) → IsOneMore without with_it root start range → length next ≡ length counts →
-    ((s : ℕ) → slice_index next s ≡ (if s == start then slice_index counts s - 1 else slice_index counts s)) → AreCountsOf counts with_it → AreCountsOf next without
-counts_lowered without with_it root start range counts next more size put were = record {
-  size = size ∙ were.size ∙ ap (λ (b : Bounds). b.granules) more.bounds;
-  each = λ s.
-      let step = live_step without with_it root start range more s in
-      ⊎_elim
-      (λ (same : s ≡ start).
-      let test = eq-eqb s start same in
-      let here = put s ∙ cond-true (s == start) (slice_index counts s - 1) (slice_index counts s) test in
-      let one = ap one_if test in
-      omega (arith, here, were.each s, step, one))
-      (λ (apart : s ≢ start).
-      let test = ne_eqb s start apart in
-      let here = put s ∙ cond-false (s == start) (slice_index counts s - 1) (slice_index counts s) test in
-      let none = ap one_if test in
-      omega (arith, here, were.each s, step, none))
-      (cases_eq s start);
+-- the other way round, the counts from before are one more at the slab
+pub one_more : {without with_it : List ℕ} {root start : ℕ} {range : Range} (lives : Lives) → IsOneMore without with_it root start range → start < length lives.counts → AreLivesOf lives with_it →
+    ((s : ℕ) → calm_of (tables_of with_it) s ≡ calm_of (tables_of without) s) → HaveOneMore lives without start
+one_more {without} {with_it} {root} {start} {range} lives more inside were calm = record {
+  size = were.counts.size ∙ ap (λ (b : Bounds). b.granules) more.bounds;
+  inside = inside;
+  each = λ s. were.counts.each s ∙ live_step without with_it root start range more s ∙ put_one (s == start) (live_in without s);
+  calm = λ s. were.calm s ∙ calm s;
 }
+  where
+    put_one : (is : Bool) (n : ℕ) → one_if is + n ≡ (if is then n + 1 else n)
+    put_one true n = omega arith
+    put_one false n = omega arith
 
--- the number that falls is some
-pub live_positive : (without with_it : List ℕ) (root start : ℕ) (range : Range) → IsOneMore without with_it root start range → 0 < live_in with_it start
-live_positive without with_it root start range more =
-    let step = live_step without with_it root start range more start in
-    let one = ap one_if (eq-eqb start start refl) in
-    omega (arith, step, one)
+-- once it is one less, they are those of the image
+pub one_less : {lives next : Lives} {words : List ℕ} {start : ℕ} → HaveOneMore lives words start → length next.counts ≡ length lives.counts →
+    ((s : ℕ) → slice_index next.counts s ≡ (if s == start then slice_index lives.counts s - 1 else slice_index lives.counts s)) → ((s : ℕ) → calm_at next s ≡ calm_at lives s) → AreLivesOf next words
+one_less {lives} {next} {words} {start} were size put calm = record {
+  counts = record { size = size ∙ were.size; each = λ s. less (s == start) (were.each s) (put s) };
+  calm = λ s. calm s ∙ were.calm s;
+}
+  where
+    less : (is : Bool) {n old new : ℕ} → old ≡ (if is then n + 1 else n) → new ≡ (if is then old - 1 else old) → new ≡ n
+    less true was now = omega (arith, was, now)
+    less false was now = now ∙ was
 
 -- there are no more than roots
 pub live_below-most : (block : ℕ → Option Range) (s n : ℕ) → live_below block s n ≤ n

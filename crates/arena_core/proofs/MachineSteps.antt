@@ -148,11 +148,14 @@ refused_malloc words root size refusal image plan = refused_step words (calls.Ma
 
 -- free
 
+-- a free of this block leaves these stacks, whatever the state is
+abbrev pub Returns : List ℕ → Stacks → (seat root : ℕ) → Range → Stacks → Type 0
+Returns words was seat root range after = (m : Machine) → HasState words m → m.block root ≡ Some range → IsReturned (without_block (bounds_of words) m root range) (without_left (bounds_of words) m (without_block (bounds_of words) m root range) was) seat range after
+
 -- a block is freed, whose slabs stay or go as the machine's do, and the stacks as the placement's
 pub freed_step : (old new : List ℕ) (was after : Stacks) (seat root : ℕ) (range : Range) (slab : ℕ → Option ℕ) → root < (bounds_of old).roots → heap (tables_of old) root ≡ Some range →
     ((m : Machine) → HasState old m → m.block root ≡ Some range → (s : ℕ) → slab s ≡ slabs_without (bounds_of old) m root range s) →
-    ((m : Machine) → HasState old m → m.block root ≡ Some range → IsReturned (without_block (bounds_of old) m root range) (without_left (bounds_of old) m (without_block (bounds_of old) m root range) was) seat range after) →
-    GivesRoot old root None slab new → IsStepOf seat old was new after (calls.Free root) (replies.Freed range.at range.size)
+    Returns old was seat root range after → GivesRoot old root None slab new → IsStepOf seat old was new after (calls.Free root) (replies.Freed range.at range.size)
 freed_step old new was after seat root range slab below named same returned gives = record {
   bounds = gives.bounds;
   each = λ m state.
@@ -186,9 +189,7 @@ small_stays words root start range gone image inside last m state named s = ⊎_
     last.is
 
 -- so a large block goes on no stack
-pub large_returned : (words : List ℕ) (stacks : Stacks) (seat root start count : ℕ) → IsExactImage words → IsTakable (bounds_of words) (tables_of words) root start count → (m : Machine) → HasState words m →
-    m.block root ≡ Some (record { at = 16384 * start; size = 16384 * count }) → let range : Range = record { at = 16384 * start; size = 16384 * count } in
-    IsReturned (without_block (bounds_of words) m root range) (without_left (bounds_of words) m (without_block (bounds_of words) m root range) stacks) seat range stacks
+pub large_returned : (words : List ℕ) (stacks : Stacks) (seat root start count : ℕ) → IsExactImage words → IsTakable (bounds_of words) (tables_of words) root start count → Returns words stacks seat root (record { at = 16384 * start; size = 16384 * count }) stacks
 large_returned words stacks seat root start count image taken m state named =
     let range : Range = record { at = 16384 * start; size = 16384 * count } in
     returned_large (bounds_of words) m (without_block (bounds_of words) m root range) stacks seat range (omega (arith, taken.many)) (λ s. sym (large_stays words root start count image taken m state named s) ∙ state.slabs s)
@@ -204,8 +205,7 @@ put_back_as {stacks} {after} {seat} {c} {at} {gone} start number class same is b
 
 -- a block of its slab's class goes on the seat's stack, where that has room and the slab stays
 pub small_returned : (words : List ℕ) (stacks after : Stacks) (seat root start class number : ℕ) (gone : Bool) → IsExactImage words → let t = tables_of words in let range = slab_block start class number in
-    t.class start ≡ class → number < class_capacity class → IsInSlab t start range.at → IsLastOf t root start gone → IsPutBack stacks seat class range.at start gone after → (m : Machine) → HasState words m → m.block root ≡ Some range →
-    IsReturned (without_block (bounds_of words) m root range) (without_left (bounds_of words) m (without_block (bounds_of words) m root range) stacks) seat range after
+    t.class start ≡ class → number < class_capacity class → IsInSlab t start range.at → IsLastOf t root start gone → IsPutBack stacks seat class range.at start gone after → Returns words stacks seat root range after
 small_returned words stacks after seat root start class number gone image class_is within inside last back m state named =
     let range = slab_block start class number in
     returned_small (bounds_of words) m (law_of_exact_state words m image state) start class range (naming_slab state start inside.slab ∙ ap (λ c. Some c) class_is) inside.low inside.high
@@ -214,8 +214,7 @@ small_returned words stacks after seat root start class number gone image class_
 
 -- an old one goes on none
 pub old_returned : (words : List ℕ) (stacks after : Stacks) (seat root start old : ℕ) (range : Range) (gone : Bool) → IsExactImage words → old < 36 → old ≢ (tables_of words).class start → range.size ≡ class_size old → IsInSlab (tables_of words) start range.at →
-    IsLastOf (tables_of words) root start gone → after ≡ stacks_but stacks start gone → (m : Machine) → HasState words m → m.block root ≡ Some range →
-    IsReturned (without_block (bounds_of words) m root range) (without_left (bounds_of words) m (without_block (bounds_of words) m root range) stacks) seat range after
+    IsLastOf (tables_of words) root start gone → after ≡ stacks_but stacks start gone → Returns words stacks seat root range after
 old_returned words stacks after seat root start old range gone image is_class differ wide inside last is m state named =
     returned_old (bounds_of words) m (law_of_exact_state words m image state) start ((tables_of words).class start) range (naming_slab state start inside.slab) inside.low inside.high
     (without_block (bounds_of words) m root range) stacks after seat old gone (λ s. sym (small_stays words root start range gone image inside last m state named s) ∙ slabs_but_state words m state start gone s) is_class differ wide is

@@ -1,13 +1,35 @@
 -- What an arena keeps behind the plan of a malloc: all but the supply is as it was.
-use Rattle.std.proofs.Common.{◌≡◌, ℕ, ◌<◌, Option, Some, None, Result, Ok, refl, sym, ap, ◌∙◌, subst}
+use Rattle.std.proofs.Common.{◌≡◌, true, ℕ, ◌<◌, Option, Some, None, Result, Ok, refl, sym, ap, ◌∙◌, subst, List, ◌+◌, ◌*◌, ◌%◌, ◌≤◌, ◌++◌, ◌≢◌, inl, inr, ⊎_elim, arith}
+use Rattle.arena_core.proofs.GivenBlocks.{done_behind}
+use Rattle.arena_core.proofs.MachineSteps.{IsServedAt, placed_reply, placed_step}
+use Rattle.arena_core.proofs.CallEvents.{IsCalled-done, small_attachable, placed_large, line_placed, placed_there, placed_morph, placed_fresh, start_is, line_small}
+use Rattle.arena_core.proofs.Plans.{class_capacity-some, slab_parts}
+use Rattle.arena_core.specs.Events.{is_small, start_at, place_events, placed_events, line_after}
+use Rattle.arena_core.specs.Effect.{IsSuppliedFresh, IsSuppliedMorph}
+use Rattle.heap_check.proofs.Sizes.{sizes_of}
+use Rattle.heap_check.specs.Heap.{slabs, IsUnusedIn}
+use Rattle.attach_steps.specs.Steps.{attach_events}
+use Rattle.extent_steps.specs.Slabs.{open_events}
+use Rattle.block_supply.proofs.Firsts.{in_new, first_of}
+use Rattle.block_supply.proofs.Takes.{none_open}
+use Rattle.slab_index.specs.declared.block.SlabBlock.{SlabBlock}
+use Rattle.slab_index.specs.SlabSet.{class_in}
+use Rattle.slab_header.specs.Morph.{morph_events}
+use Rattle.heap_model.proofs.Maps.{with_key-here, with_key-other}
+use Rattle.heap_model.specs.Choice.Site.{Granules, InSlab, InMorph, InNewSlab}
+use Rattle.heap_model.specs.Choice.{Site, IsSite, range_of, slabs_with}
+use Rattle.pmem_lines.specs.Events.{reading}
+use Rattle.pmem_lines.specs.declared.event.Event.{Event}
+use Rattle.std.proofs.lemmas.Bool.{cond-true, cond-false, cases_Bool, cases_eq}
 use Rattle.pmem_lines.specs.Pmem.{PmemState, words_of, began}
 use Rattle.image_tables.specs.Tables.{Tables, tables_of}
-use Rattle.size_classes.specs.Classes.{class_size}
+use Rattle.size_classes.specs.Classes.{class_size, class_capacity}
 use Rattle.heap_model.specs.declared.call.Call.{Call}
+use Rattle.heap_model.specs.declared.call.Call.TheVariants as calls
 use Rattle.heap_model.specs.declared.call.Reply.TheVariants as replies
-use Rattle.heap_model.specs.Machine.{Bounds, slab_block}
+use Rattle.heap_model.specs.Machine.{Bounds, slab_block, with_key}
 use Rattle.heap_model.proofs.Sites.{class_small}
-use Rattle.block_supply.specs.Supply.{Supply, HasNoOpen, HadNoOpen}
+use Rattle.block_supply.specs.Supply.{Supply, HasNoOpen, HadNoOpen, IsOpen, HasSlabMore, HasSlabLess, TookBlock}
 use Rattle.arena_core.specs.declared.volatile.Volatile.{Volatile}
 use Rattle.arena_core.specs.declared.plan.Place.{Place}
 use Rattle.arena_core.specs.declared.plan.Place.TheVariants.{Large, Small, Morph, Fresh}
@@ -16,11 +38,11 @@ use Rattle.heap_check.specs.Image.{bounds_of}
 use Rattle.arena_core.specs.declared.answer.MallocRefusal.{MallocRefusal}
 use Rattle.arena_core.specs.declared.answer.MallocRefusal.TheVariants.{NoSpace}
 use Rattle.arena_core.specs.declared.answer.Placed.{Placed}
-use Rattle.arena_core.specs.Carried.{IsCalled}
+use Rattle.arena_core.specs.Carried.{IsCalled, IsHeldFor, MayOpen, MayTakeClass, IsDone, HasClassNow, IsSlabFor}
 use Rattle.attach_steps.specs.declared.block.SmallBlock.{SmallBlock}
 use Rattle.slab_lives.specs.Lives.{Lives}
 use Rattle.arena_core.specs.Arena.{IsArena, AreSlabsLess, AreLivesOf}
-use Rattle.arena_core.specs.Plan.{IsAskedOf, IsPlacing, IsFound, IsSuppliedAt, IsSuppliedFor, IsPlanned}
+use Rattle.arena_core.specs.Plan.{IsAskedOf, IsPlacing, IsFound, IsSuppliedAt, IsSuppliedFor, IsPlanned, tables_view, IsBlockAs, number_of}
 use Rattle.arena_core.proofs.PayloadCalls.{IsArena-began}
 use Rattle.arena_core.proofs.SmallCalls.{slabs_without}
 
@@ -57,26 +79,72 @@ arena_same {device} was now arena rest same = subst (IsArena device) (sym (all_s
 pub line_same : (was now : Volatile) → now ≡ record was { supply = now.supply } → now.line ≡ was.line
 line_same was now rest = ap (λ (v : Volatile). v.line) rest
 
-pub lives_same : (was now : Volatile) → now ≡ record was { supply = now.supply } → now.lives ≡ was.lives
-lives_same was now rest = ap (λ (v : Volatile). v.lives) rest
-
--- then the counts change alone
-pub rest_then : (was now left : Volatile) → now ≡ record was { supply = now.supply } → left ≡ record now { lives = left.lives } → left ≡ record was { supply = left.supply; lives = left.lives }
-rest_then was now left rest after =
-    after
-    ∙ ap (λ (v : Volatile). record v { lives = left.lives }) rest
-    ∙ ap (λ (s : Supply). record was { supply = s; lives = left.lives }) (sym (ap (λ (v : Volatile). v.supply) after))
-
--- a block that was taken for the plan is missing in the supply
-pub planned_less : {device : PmemState} {was now : Volatile} {seat root size class : ℕ} {block : SmallBlock} → IsPlanned device was now seat root size (Ok (Small block class)) → AreSlabsLess now.supply (words_of device) block.start block.number
-planned_less {device} {was} {now} {seat} {root} {size} {class} {block} planned = slabs_without block.start block.number planned.arena.slabs planned.supplied.without
-
-pub planned_lives : {device : PmemState} {was now : Volatile} {seat root size class : ℕ} {block : SmallBlock} → IsPlanned device was now seat root size (Ok (Small block class)) → AreLivesOf now.lives (words_of device)
-planned_lives {device} {was} {now} planned = subst (λ (lives : Lives). AreLivesOf lives (words_of device)) (sym (lives_same was now planned.rest)) planned.arena.lives
+-- a block that was taken for the plan is held for the root
+pub planned_held : {device : PmemState} {was now : Volatile} {seat root size class : ℕ} {block : SmallBlock} → IsPlanned device was now seat root size (Ok (Small block class)) → IsHeldFor device now root block
+planned_held {device} {was} {now} {seat} {root} {size} {class} {block} planned =
+    let arena = planned.arena in
+    let current = arena.current in
+    let placing = planned.is.1 in
+    subst (λ (v : Volatile). IsHeldFor device v root block) (sym planned.rest) (record {
+      ready = current.ready;
+      few = arena.few;
+      attachable = small_attachable (words_of device) root size block class current.exact planned.is.0 placing.place_for;
+      log = current.log;
+      index = current.index;
+      slabs = slabs_without block.start block.number arena.slabs planned.supplied.without;
+      lives = arena.lives;
+    })
 
 -- for a slab that takes the class, or a new one, none of the class is open
 pub none_open_now : (was now : Supply) (class : ℕ) → HadNoOpen was class now → HasNoOpen now class
 none_open_now was now class had = subst (λ (s : Supply). HasNoOpen s class) (sym had.same) had.none
+
+-- so it may come
+pub may_open : {device : PmemState} {was now : Volatile} {seat root size start class : ℕ} → IsPlanned device was now seat root size (Ok (Fresh start class)) → MayOpen device now start class
+may_open {device} {was} {now} planned = record { arena = arena_same was now planned.arena planned.rest planned.supplied.same; row = planned.is.1.place_for; is_class = planned.is.1.site.least.is_class }
+
+pub may_take_class : {device : PmemState} {was now : Volatile} {seat root size start class : ℕ} → IsPlanned device was now seat root size (Ok (Morph start class)) → MayTakeClass device now start class
+may_take_class {device} {was} {now} planned = record { arena = arena_same was now planned.arena planned.rest planned.supplied.same; morphable = planned.is.1.place_for; is_class = planned.is.1.site.least.is_class }
+
+-- and is there for the root then
+came_for : {old mid : PmemState} {was now part : Volatile} {seat root size start class : ℕ} {place : Place} {events : List Event} → IsPlanned old was now seat root size (Ok place) → class < 36 → HasClassNow old mid now part start class events →
+    (number : ℕ) → IsOpen part.supply start number → ((s i : ℕ) → class_in part.supply.slabs s ≡ Some class → IsOpen part.supply s i → s ≡ start) → IsSlabFor mid part root start class
+came_for {old} {mid} {was} {now} {part} {seat} {root} planned is_class came number is_open alone = record {
+  arena = came.arena;
+  lively = came.lively;
+  few = omega (arith, came.line, line_same was now planned.rest, planned.arena.few);
+  is_class = is_class;
+  class_is = came.class_is;
+  below = subst (λ (b : Bounds). root < b.roots) (sym came.bounds) planned.is.0.below;
+  none = came.roots root ∙ planned.is.0.none;
+  number = number;
+  is_open = is_open;
+  alone = alone;
+}
+
+-- of a new slab all blocks are open
+pub fresh_for : {old mid : PmemState} {was now part : Volatile} {seat root size start class : ℕ} {events : List Event} → IsPlanned old was now seat root size (Ok (Fresh start class)) → HasClassNow old mid now part start class events →
+    HasSlabMore now.supply part.supply start class (λ i. i < class_capacity class) → IsSlabFor mid part root start class
+fresh_for {old} {mid} {was} {now} {part} {seat} {root} {size} {start} {class} planned came more =
+    let is_class = planned.is.1.site.least.is_class in
+    let none = none_open_now was.supply now.supply class planned.supplied in
+    came_for planned is_class came 0 ((more.here 0).1 (class_capacity-some class is_class)) (in_new (none_open now.supply class none) more)
+
+-- of one that takes the class, those that are unused
+pub morph_for : {old mid : PmemState} {was now part : Volatile} {seat root size start class : ℕ} {events : List Event} → IsPlanned old was now seat root size (Ok (Morph start class)) → HasClassNow old mid now part start class events →
+    {less : Supply} → HasSlabLess now.supply less start → HasSlabMore less part.supply start class (λ i. (i < class_capacity class) × IsUnusedIn (tables_of (words_of old)) start class i) → IsSlabFor mid part root start class
+morph_for {old} {mid} {was} {now} {part} {seat} {root} {size} {start} {class} planned came {less} gone more =
+    let fit = planned.is.1.place_for.fit in
+    let none = none_open_now was.supply now.supply class planned.supplied in
+    let unused : IsUnusedIn (tables_of (words_of old)) start class fit.number = record { each = λ range holds. ⊎_elim inr inl (fit.block.unused.each range holds) } in
+    came_for planned planned.is.1.site.least.is_class came fit.number ((more.here fit.number).1 (fit.block.within, unused)) (in_new without more)
+  where
+    -- its own blocks were of another class
+    without : (s i : ℕ) → class_in less.slabs s ≡ Some class → ¬ (IsOpen less s i)
+    without s i slab is = ⊎_elim
+        (λ (same : s ≡ start). let nothing = sym (ap (class_in less.slabs) same ∙ gone.classes start ∙ with_key-here (class_in now.supply.slabs) start None) ∙ slab in absurd (cc))
+        (λ (differ : s ≢ start). none_open now.supply class (none_open_now was.supply now.supply class planned.supplied) s i (sym (gone.classes s ∙ with_key-other (class_in now.supply.slabs) start s None differ) ∙ slab) ((gone.others s i differ).0 is))
+        (cases_eq s start)
 
 -- the plan is one for the state at the call's begin too
 pub planned_begun : {device : PmemState} (begun : PmemState) {was now : Volatile} {seat root size : ℕ} {plan : Result Place MallocRefusal} → begun ≡ began device → IsPlanned device was now seat root size plan → IsPlanned begun was now seat root size plan
@@ -87,11 +155,111 @@ planned_begun {device} begun {was} {now} {seat} {root} {size} {plan} is planned 
   is = planned.is;
 })
 
--- the answer tells the block that was placed
-pub answered_placed : {old new : PmemState} {was left : Volatile} {seat : ℕ} {call : Call} {answer placed : Placed} → answer ≡ placed → IsCalled old new was left seat call (replies.Placed placed.at placed.size) → IsCalled old new was left seat call (replies.Placed answer.at answer.size)
-answered_placed {old} {new} {was} {left} {seat} {call} same called = subst (λ (r : Placed). IsCalled old new was left seat call (replies.Placed r.at r.size)) (sym same) called
+-- a block was placed at a site
 
--- of a slab it is told by its address
-pub answered_small : {old new : PmemState} {was left : Volatile} {seat : ℕ} {call : Call} {answer : Placed} {at : ℕ} (start class number : ℕ) → at ≡ (slab_block start class number).at → answer ≡ record { at = at; size = class_size class } →
-    IsCalled old new was left seat call (replies.Placed (slab_block start class number).at (class_size class)) → IsCalled old new was left seat call (replies.Placed answer.at answer.size)
-answered_small start class number is same called = answered_placed (same ∙ (λ i. record { at = is i; size = class_size class })) called
+-- the line stays among the eight
+line_few : (line at size : ℕ) → line < 8 → line_after line (replies.Placed at size) < 8
+line_few line at size few = ⊎_elim
+    (λ small. omega (arith, cond-true (is_small size) ((line + 1) % 8) line small))
+    (λ large. omega (arith, cond-false (is_small size) ((line + 1) % 8) line large, few))
+    (cases_Bool (is_small size))
+
+called_at : {old new : PmemState} {was now left : Volatile} {seat root size : ℕ} {place : Place} {events : List Event} → IsPlanned old was now seat root size (Ok place) → (site : Site) → IsSite (tables_view (bounds_of (words_of old)) (tables_of (words_of old))) size site →
+    IsServedAt (tables_of (words_of old)) was.supply left.supply seat site → IsDone old new left root (Some (range_of site)) (slabs_with (slabs (tables_of (words_of old))) site) events → events ≡ placed_events (words_of old) was.line root (range_of site).at (range_of site).size →
+    left.line ≡ line_after was.line (placed_reply (range_of site)) → (answer : Placed) → answer ≡ record { at = (range_of site).at; size = (range_of site).size } → IsCalled old new was left seat (calls.Malloc root size) (replies.Placed answer.at answer.size)
+called_at {old} {new} {was} {now} {left} {seat} {root} {size} planned site is served done same line_is answer told =
+    let exact = planned.arena.current.exact in
+    let range = range_of site in
+    let step = placed_step (words_of old) (words_of new) was.supply left.supply seat root size site exact planned.arena.slabs planned.is.0 is served done.gives in
+    subst (λ (r : Placed). IsCalled old new was left seat (calls.Malloc root size) (replies.Placed r.at r.size)) (sym told)
+    (IsCalled-done (calls.Malloc root size) (placed_reply range) done same refl line_is (omega (arith, line_is, line_few was.line range.at range.size planned.arena.few)) step)
+
+-- whole granules
+pub called_large : {old new : PmemState} {was now left : Volatile} {seat root size start count : ℕ} → IsPlanned old was now seat root size (Ok (Large start count)) →
+    IsDone old new left root (Some (record { at = 16384 * start; size = 16384 * count })) (slabs (tables_of (words_of old))) (place_events (words_of old) root start count) → left.line ≡ now.line → left.supply ≡ now.supply →
+    (answer : Placed) → answer ≡ record { at = 16384 * start; size = 16384 * count } → IsCalled old new was left seat (calls.Malloc root size) (replies.Placed answer.at answer.size)
+called_large {old} {new} {was} {now} {left} {seat} {root} {size} {start} {count} planned done line_is supply_is =
+    let many = planned.is.1.place_for.many in
+    called_at planned (Granules start count) planned.is.1.site (ap (λ (s : Supply). s.stacks) (supply_is ∙ planned.supplied)) done (sym (placed_large (words_of old) was.line root start count many))
+    (line_is ∙ line_same was now planned.rest ∙ sym (line_placed (words_of old) was.line root start count many was.line))
+
+-- a block of a slab
+pub called_small : {old new : PmemState} {was now left : Volatile} {seat root size class : ℕ} {block : SmallBlock} → IsPlanned old was now seat root size (Ok (Small block class)) →
+    IsDone old new left root (Some (slab_block block.start class block.number)) (slabs (tables_of (words_of old))) (attach_events (words_of old) now.line root block) → left ≡ record now { lives = left.lives; line = (now.line + 1) % 8 } →
+    (answer : Placed) → answer ≡ record { at = block.at; size = class_size class } → IsCalled old new was left seat (calls.Malloc root size) (replies.Placed answer.at answer.size)
+called_small {old} {new} {was} {now} {left} {seat} {root} {size} {class} {block} planned done left_is answer told =
+    let words = words_of old in
+    let placing = planned.is.1 in
+    let may = placing.place_for in
+    let is_class = placing.site.least.is_class in
+    let line_is = line_same was now planned.rest in
+    let served : TookBlock was.supply seat class (number_of block) left.supply = subst (λ (s : Supply). TookBlock was.supply seat class (number_of block) s) (sym (ap (λ (v : Volatile). v.supply) left_is)) planned.supplied in
+    called_at planned (InSlab block.start class block.number) placing.site served done
+    (ap (λ n. attach_events words n root block) line_is ∙ placed_there words was.line root block class is_class may.at (start_is planned.arena.current.exact.exact.sound block.start class block.number may.slab is_class may.below) may.slab may.class_is)
+    (ap (λ (v : Volatile). v.line) left_is ∙ ap (λ n. (n + 1) % 8) line_is ∙ sym (line_small was.line block.at class is_class).0)
+    answer (told ∙ (λ i. record { at = may.at i; size = class_size class }))
+
+-- a block of a slab that takes the class
+pub called_morph : {old mid new : PmemState} {was now part left : Volatile} {seat root size start class : ℕ} (block : SmallBlock) → IsPlanned old was now seat root size (Ok (Morph start class)) →
+    HasClassNow old mid now part start class (morph_events (tables_of (words_of old)) start class) →
+    {less : Supply} → HasSlabLess now.supply less start → HasSlabMore less part.supply start class (λ i. (i < class_capacity class) × IsUnusedIn (tables_of (words_of old)) start class i) →
+    IsBlockAs block start class block.number → TookBlock part.supply seat class (number_of block) left.supply →
+    IsDone mid new left root (Some (slab_block start class block.number)) (slabs (tables_of (words_of mid))) (attach_events (words_of mid) part.line root block) → left.line ≡ (part.line + 1) % 8 →
+    (answer : Placed) → answer ≡ record { at = block.at; size = class_size class } → IsCalled old new was left seat (calls.Malloc root size) (replies.Placed answer.at answer.size)
+called_morph {old} {mid} {new} {was} {now} {part} {left} {seat} {root} {size} {start} {class} block planned came {less} gone more lies took done left_line answer told =
+    let words = words_of old in
+    let t = tables_of words in
+    let number = block.number in
+    let placing = planned.is.1 in
+    let site = placing.site in
+    let may = placing.place_for in
+    let is_class = site.least.is_class in
+    let line_is : part.line ≡ was.line = came.line ∙ line_same was now planned.rest in
+    let here : TookBlock part.supply seat class (record { start = start; number = number }) left.supply = subst (λ (s : ℕ). TookBlock part.supply seat class (record { start = s; number = number }) left.supply) lies.start_is took in
+    let supplied : IsSuppliedMorph t was.supply left.supply seat start class number =
+    subst (λ (s : Supply). IsSuppliedMorph t s left.supply seat start class number) planned.supplied.same (record { less = less; gone = gone; anew = record { mid = part.supply; more = more; took = here } }) in
+    let both = (more.here number).0 here.was_open in
+    let at : block.at ≡ (slab_block block.start class number).at = lies.at_is ∙ ap (λ s. (slab_block s class number).at) (sym lies.start_is) in
+    let slab : t.slab block.start ≡ true = ap t.slab lies.start_is ∙ may.slab in
+    let own : t.class block.start ≢ class = λ same. site.best.fit.differs (sym (sym (slab_parts t start site.best.fit.class site.best.fit.slab).1 ∙ ap t.class (sym lies.start_is) ∙ same)) in
+    let there : start_at t (slab_block block.start class number).at ≡ block.start = start_is planned.arena.current.exact.exact.sound block.start class number slab is_class both.0 in
+    let morph = morph_events t start class in
+    let events : (morph ++ attach_events (reading words morph) part.line root block) ≡ placed_events words was.line root (slab_block start class number).at (class_size class) =
+    (λ i. let all = morph_events t (sym lies.start_is i) class in all ++ attach_events (reading words all) (line_is i) root block)
+    ∙ placed_morph words was.line root block class is_class at there slab own
+    ∙ ap (λ s. placed_events words was.line root (slab_block s class number).at (class_size class)) lies.start_is in
+    called_at planned (InMorph start class number) (record { least = site.least; full = site.full; best = site.best; block = record { within = both.0; unused = both.1 } }) (planned.supplied.none, supplied)
+    (done_behind (λ ws. attach_events ws part.line root block) came done) events
+    (left_line ∙ ap (λ n. (n + 1) % 8) line_is ∙ sym (line_small was.line block.at class is_class).0)
+    answer (told ∙ (λ i. record { at = lies.at_is i; size = class_size class }))
+
+-- the first block of a slab that is opened
+pub called_fresh : {old mid new : PmemState} {was now part left : Volatile} {seat root size start class : ℕ} (block : SmallBlock) → IsPlanned old was now seat root size (Ok (Fresh start class)) →
+    HasClassNow old mid now part start class (open_events (words_of old) start class) → HasSlabMore now.supply part.supply start class (λ i. i < class_capacity class) →
+    IsBlockAs block start class block.number → TookBlock part.supply seat class (number_of block) left.supply →
+    IsDone mid new left root (Some (slab_block start class block.number)) (slabs (tables_of (words_of mid))) (attach_events (words_of mid) part.line root block) → left.line ≡ (part.line + 1) % 8 →
+    (answer : Placed) → answer ≡ record { at = block.at; size = class_size class } → IsCalled old new was left seat (calls.Malloc root size) (replies.Placed answer.at answer.size)
+called_fresh {old} {mid} {new} {was} {now} {part} {left} {seat} {root} {size} {start} {class} block planned came more lies took done left_line answer told =
+    let words = words_of old in
+    let b = bounds_of words in
+    let placing = planned.is.1 in
+    let site = placing.site in
+    let row = placing.place_for in
+    let is_class = site.least.is_class in
+    let line_is : part.line ≡ was.line = came.line ∙ line_same was now planned.rest in
+    let zero : block.number ≡ 0 = (first_of now.supply part.supply left.supply seat start class (none_open_now was.supply now.supply class planned.supplied) more is_class (class_capacity-some class is_class) (number_of block) took).1 in
+    let at : block.at ≡ (slab_block start class 0).at = lies.at_is ∙ ap (λ n. (slab_block start class n).at) zero in
+    let at_is : block.at ≡ 16384 * start + 2048 = omega (arith, at) in
+    let supplied : IsSuppliedFresh was.supply left.supply seat start class =
+    subst (λ (s : Supply). IsSuppliedFresh s left.supply seat start class) planned.supplied.same
+    (record { mid = part.supply; more = more; took = subst (λ (k : SlabBlock). TookBlock part.supply seat class k left.supply) (λ i. record { start = lies.start_is i; number = zero i }) took }) in
+    let high : 3 ≤ start = omega (arith, row.low, (sizes_of words planned.arena.current.exact.formed).first) in
+    let opening = open_events words start class in
+    let events : (opening ++ attach_events (reading words opening) part.line root block) ≡ placed_events words was.line root (slab_block start class 0).at (class_size class) =
+    (λ i. opening ++ attach_events (reading words opening) (line_is i) root (record { start = lies.start_is i; number = zero i; at = at_is i }))
+    ∙ placed_fresh b words was.line root start class is_class high (row.vacant start (omega arith) (omega arith)) in
+    called_at planned (InNewSlab start class 0) site (planned.supplied.none, supplied, refl)
+    (subst (λ n. IsDone old new left root (Some (slab_block start class n)) (with_key (slabs (tables_of words)) start (Some class)) (opening ++ attach_events (reading words opening) part.line root block)) zero
+    (done_behind (λ ws. attach_events ws part.line root block) came done)) events
+    (left_line ∙ ap (λ n. (n + 1) % 8) line_is ∙ sym (line_small was.line block.at class is_class).0)
+    answer (told ∙ (λ i. record { at = at i; size = class_size class }))

@@ -129,23 +129,6 @@ module _ (words : List ℕ) (start class : ℕ) (exact : IsExactImage words) (ro
       (λ root range k named word. ⊎_elim (λ x. inl x) (λ x. inr (omega (arith, x))) (block_word-vacant exact.exact.sound exact.exact.closed root range named k word start (row.vacant start (omega arith) (omega arith))))
       opened.rest
 
-  -- its first block may come to a root
-  pub first_attachable : (root at : ℕ) → root < (bounds_of words).roots → t.root root ≡ 0 → at ≡ 16384 * start + 2048 → IsAttachable new root (record { start = start; number = 0; at = at })
-  first_attachable root at rooted none is =
-      let some : 0 < class_capacity class = le-div 1 63488 (class_size class) (omega (arith, class_size-least class class_below)) (omega (arith, class_size-most class class_below)) in
-      record {
-        block_in = record {
-          image = opened.image;
-          rooted = subst (λ (b : Bounds). root < b.roots) (sym opened.bounds) rooted;
-          slab = with_it.more.slab;
-          lively = λ done. omega (arith, done.kind, with_it.fresh.kind);
-          below = subst (λ c. 0 < class_capacity c) (sym with_it.fresh.class_is) some;
-          at = omega (arith, is);
-        };
-        unused = record { each = λ range holds. absurd (holds_none-fresh with_it.fresh range holds) };
-        none = ap (λ (row : ℕ → ℕ). row root) with_it.more.root ∙ none;
-      }
-
 -- a slab is dropped
 module _ (words : List ℕ) (start : ℕ) (image : IsExactButImage words start) (empty : IsEmptySlab (tables_of words) start) (new : List ℕ) (dropped : IsDropped words start new) where
   abbrev full : Tables

@@ -1,5 +1,5 @@
 -- A block of a slab came to a root, or went from it: what an arena keeps holds again.
-use Rattle.std.proofs.Common.{◌≡◌, ℕ, ◌<◌, Bool, true, false, List, length, slice_index, Some, None, refl, sym, ap, subst, ◌∙◌, arith, ◌++◌, inr}
+use Rattle.std.proofs.Common.{◌≡◌, ℕ, [], ◌+◌, ◌%◌, ◌<◌, ◌≤◌, Bool, true, false, List, length, slice_index, Some, None, refl, sym, ap, subst, ◌∙◌, arith, ◌++◌, inr}
 use Rattle.arena_core.proofs.Readiness.{ready_after}
 use Rattle.pmem_lines.specs.declared.event.Event.{Event}
 use Rattle.pmem_lines.specs.Events.{reading}
@@ -7,7 +7,7 @@ use Rattle.pmem_lines.specs.Pmem.{PmemState, words_of}
 use Rattle.pmem_lines.specs.Steps.{IsQuietStep}
 use Rattle.image_tables.specs.Tables.{Tables, tables_of}
 use Rattle.image_tables.proofs.Updates.{put_at-same, put_at-other}
-use Rattle.block_supply.specs.Supply.{Supply}
+use Rattle.block_supply.specs.Supply.{Supply, IsWith}
 use Rattle.heap_model.specs.Machine.{Bounds, Range, slab_block}
 use Rattle.heap_check.specs.Heap.{heap, slabs}
 use Rattle.heap_check.specs.Sound.{IsInSlab, IsSound}
@@ -16,18 +16,18 @@ use Rattle.heap_check.specs.State.{IsEitherHeap}
 use Rattle.heap_check.proofs.Geometry.{granules_at-slab}
 use Rattle.heap_check.proofs.OneBlock.{stage_of}
 use Rattle.heap_check.proofs.Sizes.{sizes_of}
-use Rattle.attach_steps.specs.Steps.{KeepsOthers, GivesOne, IsDetachable, IsDetached, IsOldDetachable, IsOldDetached}
+use Rattle.attach_steps.specs.Steps.{KeepsOthers, GivesOne, IsDetachable, IsDetached, IsOldDetachable, IsOldDetached, detach_events, detach_old_events}
 use Rattle.arena_core.specs.declared.volatile.Volatile.{Volatile}
 use Rattle.slab_lives.specs.Lives.{Lives}
-use Rattle.arena_core.specs.Arena.{IsSlabsOf, IsCurrent, live_in, AreLivesOf, old_range}
-use Rattle.arena_core.specs.Carried.{IsDone, IsTaken, IsTidied}
+use Rattle.arena_core.specs.Arena.{IsSlabsOf, IsCurrent, live_in, AreLivesOf, old_range, IsArena, calm_of}
+use Rattle.arena_core.specs.Carried.{IsDone, IsTaken, IsTidied, HaveOneMore}
 use Rattle.arena_core.specs.Effect.{IsLastOf, slabs_but}
 use Rattle.arena_core.specs.Events.{holds_none, tidy_events}
-use Rattle.arena_core.proofs.BlockChanges.{IsBlockChange, book_small, keeps_small}
+use Rattle.arena_core.proofs.BlockChanges.{IsBlockChange, book_small, keeps_small, change_bit, change_index}
 use Rattle.arena_core.proofs.HeapSteps.{keeps_both, steps_then}
 use Rattle.arena_core.proofs.LastBlocks.{last_of}
-use Rattle.arena_core.proofs.LiveCounts.{IsOneMore, begins_only, live_most}
-use Rattle.arena_core.proofs.SmallCalls.{classes_small, index_small}
+use Rattle.arena_core.proofs.LiveCounts.{IsOneMore, begins_only, live_most, one_more}
+use Rattle.arena_core.proofs.SmallCalls.{classes_small, index_small, bits_with, lives_as, bits_as, lives_with, slabs_with, slabs_less, slabs_missing, named_used, unused_taken}
 use Rattle.attach_steps.specs.declared.block.SmallBlock.{SmallBlock}
 use Rattle.attach_steps.specs.declared.block.OldBlock.{OldBlock}
 use Rattle.heap_check.proofs.Within.{IsInSlab-held}
@@ -89,11 +89,11 @@ old_more words line root block may new detached =
     (heap_held but.sound but.closed root block.start range holds (may.named ∙ may.at)) detached.gives
 
 -- a block went
-pub taken_by : {old new : PmemState} (was : Volatile) (fewer : Supply) (lives_left : Lives) {root start k : ℕ} (bits lives : Bool → ℕ → ℕ → Bool) {events : List Event} → IsBlockChange (words_of old) was.line root start k →
+taken_by : {old new : PmemState} (was : Volatile) (fewer : Supply) (lives_left : Lives) {root start k : ℕ} (bits lives : Bool → ℕ → ℕ → Bool) {events : List Event} → IsBlockChange (words_of old) was.line root start k →
     IsQuietStep old new events (IsEitherHeap (words_of old) (words_of new)) → IsExactButImage (words_of new) start → bounds_of (words_of new) ≡ bounds_of (words_of old) →
     tables_of (words_of new) ≡ stage_of (tables_of (words_of old)) bits lives root false 0 None → GivesOne (words_of old) root None (words_of new) → KeepsOthers (words_of old) was.line root k (words_of new) →
-    IsCurrent old was → IsSlabsOf fewer (words_of new) → AreLivesOf lives_left (words_of new) → IsTaken old new was (record was { supply = fewer; lives = lives_left }) root start events
-taken_by {old} {new} was fewer lives_left {root} {start} {k} bits lives {events} change step image bounds tables gives rest current slabs_are lives_are =
+    IsCurrent old was → length new.events ≤ 11 → IsSlabsOf fewer (words_of new) → AreLivesOf lives_left (words_of new) → IsTaken old new was (record was { supply = fewer; lives = lives_left; line = (was.line + 1) % 8 }) root start events
+taken_by {old} {new} was fewer lives_left {root} {start} {k} bits lives {events} change step image bounds tables gives rest current few slabs_are lives_are =
     let words = words_of old in
     let left = words_of new in
     let t = tables_of words in
@@ -118,7 +118,41 @@ taken_by {old} {new} was fewer lives_left {root} {start} {k} bits lives {events}
         bounds = bounds;
       };
       line = refl;
+      few = few;
     }
+
+-- of its slab's class: it may be given out again, and is counted until then
+pub class_one_more : {old : PmemState} {new : List ℕ} {was : Volatile} {root : ℕ} {block : SmallBlock} → IsArena old was → IsDetachable (words_of old) root block → IsDetached (words_of old) was.line root block new → HaveOneMore was.lives new block.start
+class_one_more {old} {new} {was} {root} {block} arena may detached =
+    one_more was.lives (class_more (words_of old) was.line root block may new detached) (counted (words_of old) block.start was.lives may.block_in.image may.block_in.slab arena.lives).0 arena.lives (λ s. sym (ap (λ (x : Tables). calm_of x s) detached.tables))
+
+module _ {old new : PmemState} (was : Volatile) {root : ℕ} {block : SmallBlock} (arena : IsArena old was) (may : IsDetachable (words_of old) root block) (detached : IsDetached (words_of old) was.line root block (words_of new)) where
+  pub class_taken : (fewer : Supply) (lives : Lives) → old.events ≡ [] → IsQuietStep old new (detach_events (words_of old) was.line root block) (IsEitherHeap (words_of old) (words_of new)) → IsWith was.supply fewer block.start block.number → AreLivesOf lives (words_of new) →
+      IsTaken old new was (record was { supply = fewer; lives = lives; line = (was.line + 1) % 8 }) root block.start (detach_events (words_of old) was.line root block)
+  class_taken fewer lives fresh step came lives_are =
+      let words = words_of old in
+      let t = tables_of words in
+      taken_by was fewer lives (bits_with t block.start block.number) (lives_as t) (change_bit may.block_in arena.few) step detached.image detached.bounds detached.tables detached.gives detached.rest arena.current
+      (omega (arith, ap length fresh, step.appends.size))
+      (slabs_with block.start block.number
+      (slabs_less words root block.start block.number false 0 (words_of new) detached.bounds detached.tables was.supply
+      (slabs_missing block.start block.number arena.slabs (named_used arena.slabs may)))
+      came (unused_taken words was.line root block may (words_of new) detached))
+      lives_are
+
+-- an old one: the blocks that it alone covered may be given out, and it is counted until then
+pub old_one_more : {old : PmemState} {new : List ℕ} {was : Volatile} {root : ℕ} {block : OldBlock} → IsArena old was → IsOldDetachable (words_of old) root block → IsOldDetached (words_of old) was.line root block new → HaveOneMore was.lives new block.start
+old_one_more {old} {new} {was} {root} {block} arena may detached =
+    one_more was.lives (old_more (words_of old) was.line root block may new detached) (counted (words_of old) block.start was.lives may.image may.slab arena.lives).0 arena.lives (λ s. sym (ap (λ (x : Tables). calm_of x s) detached.tables))
+
+module _ {old new : PmemState} (was : Volatile) {root : ℕ} {block : OldBlock} (arena : IsArena old was) (may : IsOldDetachable (words_of old) root block) (detached : IsOldDetached (words_of old) was.line root block (words_of new)) where
+  pub old_taken : (fewer : Supply) (lives : Lives) → old.events ≡ [] →
+      let events = detach_old_events (tables_of (words_of old)) was.line root block.at block.start block.place in
+      IsQuietStep old new events (IsEitherHeap (words_of old) (words_of new)) → IsSlabsOf fewer (words_of new) → AreLivesOf lives (words_of new) → IsTaken old new was (record was { supply = fewer; lives = lives; line = (was.line + 1) % 8 }) root block.start events
+  old_taken fewer lives fresh step slabs_are lives_are =
+      let t = tables_of (words_of old) in
+      taken_by was fewer lives (bits_as t) (lives_with t block.start block.place) (change_index may arena.few) step detached.image detached.bounds detached.tables detached.gives detached.rest arena.current
+      (omega (arith, ap length fresh, step.appends.size)) slabs_are lives_are
 
 -- whether it was the last of its slab, by the words that its events leave
 pub last_taken : {old mid : PmemState} {was part : Volatile} {root start : ℕ} {events : List Event} → IsTaken old mid was part root start events → IsLastOf (tables_of (words_of old)) root start (holds_none (tables_of (reading (words_of old) events)) start)

@@ -1,20 +1,28 @@
 -- What a call has done once it is carried out.
-use Rattle.std.specs.Prelude.{◌≡◌, ℕ, List, Option, None, true}
+use Rattle.std.specs.Prelude.{◌≡◌, ◌==◌, ◌+◌, ◌%◌, ◌<◌, ◌≤◌, ℕ, if◌then◌else◌, List, length, slice_index, Option, Some, None, true}
 use Rattle.pmem_lines.specs.declared.event.Event.{Event}
-use Rattle.pmem_lines.specs.Pmem.{PmemState, words_of}
+use Rattle.pmem_lines.specs.Pmem.{PmemState, words_of, HasRoom}
 use Rattle.pmem_lines.specs.Steps.{IsQuietStep}
 use Rattle.image_tables.specs.Tables.{tables_of}
 use Rattle.heap_model.specs.declared.call.Call.{Call}
 use Rattle.heap_model.specs.declared.call.Reply.{Reply}
-use Rattle.heap_model.specs.Machine.{Range}
+use Rattle.pool_layout.specs.Header.{granules_in}
+use Rattle.heap_model.specs.Machine.{Range, with_key}
+use Rattle.slab_index.specs.SlabSet.{class_in}
+use Rattle.slab_lives.specs.Lives.{Lives, calm_at}
+use Rattle.block_supply.specs.Supply.{IsOpen}
+use Rattle.attach_steps.specs.declared.block.SmallBlock.{SmallBlock}
+use Rattle.attach_steps.specs.Steps.{IsAttachable}
+use Rattle.heap_check.specs.Sound.{IsDoneSlab}
 use Rattle.heap_check.specs.Heap as Heap
 use Rattle.heap_check.specs.Image.{bounds_of, IsExactButImage}
 use Rattle.heap_check.specs.State.{HaveSameHeap, KeepsBlocks, IsEitherHeap}
 use Rattle.log_steps.specs.Log.{IsBookOf}
 use Rattle.arena_core.specs.declared.volatile.Volatile.{Volatile}
-use Rattle.arena_core.specs.Arena.{IsIndexOf, IsSlabsOf, AreLivesOf, IsCurrent, IsArena}
+use Rattle.arena_core.specs.Arena.{IsIndexOf, IsSlabsOf, AreSlabsLess, AreLivesOf, live_in, calm_of, IsCurrent, IsArena}
 use Rattle.thread_cache.specs.Stacks.{stacks_of}
 use Rattle.arena_core.specs.Call.{IsReady, IsStepOf}
+use Rattle.arena_core.specs.Plan.{IsVacantRow, IsMorphable}
 use Rattle.arena_core.specs.Effect.{slabs_but, GivesRoot, IsLastOf}
 use Rattle.arena_core.specs.Events.{holds_none, tidy_events, call_events, line_after}
 
@@ -26,6 +34,13 @@ pub record IsDone (old new : PmemState) (left : Volatile) (root : ℕ) (block : 
   pub lives : AreLivesOf left.lives (words_of new)
   pub gives : GivesRoot (words_of old) root block slab (words_of new)
 
+-- the counts are those of these words, but that the slab at a start has one more, and the calm slabs are the normal ones
+pub record HaveOneMore (lives : Lives) (words : List ℕ) (start : ℕ) : Type 0 where
+  pub size : length lives.counts ≡ granules_in words
+  pub inside : start < length lives.counts
+  pub each : (s : ℕ) → slice_index lives.counts s ≡ (if s == start then live_in words s + 1 else live_in words s)
+  pub calm : (s : ℕ) → calm_at lives s ≡ calm_of (tables_of words) s
+
 -- what an arena keeps, but that a slab may be without a block, or done
 pub record IsUntidy (device : PmemState) (volatile : Volatile) (start : ℕ) : Type 0 where
   pub ready : IsReady device
@@ -36,13 +51,64 @@ pub record IsUntidy (device : PmemState) (volatile : Volatile) (start : ℕ) : T
   pub slabs : IsSlabsOf volatile.supply (words_of device)
   pub lives : AreLivesOf volatile.lives (words_of device)
 
+-- an arena may open a slab of the class at a start
+pub record MayOpen (device : PmemState) (volatile : Volatile) (start class : ℕ) : Type 0 where
+  pub arena : IsArena device volatile
+  pub row : IsVacantRow (bounds_of (words_of device)) (tables_of (words_of device)) start 4
+  pub is_class : class < 36
+
+-- a slab of it may take the class
+pub record MayTakeClass (device : PmemState) (volatile : Volatile) (start class : ℕ) : Type 0 where
+  pub arena : IsArena device volatile
+  pub morphable : IsMorphable (tables_of (words_of device)) start class
+  pub is_class : class < 36
+
+-- a block was taken out of the supply for a root that names nothing
+pub record IsHeldFor (device : PmemState) (volatile : Volatile) (root : ℕ) (block : SmallBlock) : Type 0 where
+  pub ready : IsReady device
+  pub few : volatile.line < 8
+  pub attachable : IsAttachable (words_of device) root block
+  pub log : IsBookOf volatile.log (words_of device)
+  pub index : IsIndexOf volatile.free (words_of device)
+  pub slabs : AreSlabsLess volatile.supply (words_of device) block.start block.number
+  pub lives : AreLivesOf volatile.lives (words_of device)
+
+-- a slab of a class is there for a root that names nothing: of the class blocks of this slab alone are open, and one is
+pub record IsSlabFor (device : PmemState) (volatile : Volatile) (root start class : ℕ) : Type 0 where
+  pub arena : IsUntidy device volatile start
+  pub lively : ¬ (IsDoneSlab (tables_of (words_of device)) start)
+  pub few : volatile.line < 8
+  pub is_class : class < 36
+  pub class_is : (tables_of (words_of device)).class start ≡ class
+  pub below : root < (bounds_of (words_of device)).roots
+  pub none : (tables_of (words_of device)).root root ≡ 0
+  pub number : ℕ
+  pub is_open : IsOpen volatile.supply start number
+  pub alone : (s i : ℕ) → class_in volatile.supply.slabs s ≡ Some class → IsOpen volatile.supply s i → s ≡ start
+
+-- A slab has the class now, whatever was there before, and may be without a block: no root's block came or went, and there
+-- is room for one to come.
+pub record HasClassNow (old new : PmemState) (was left : Volatile) (start class : ℕ) (events : List Event) : Type 0 where
+  pub step : IsQuietStep old new events (IsEitherHeap (words_of old) (words_of new))
+  pub arena : IsUntidy new left start
+  pub lively : ¬ (IsDoneSlab (tables_of (words_of new)) start)
+  pub class_is : (tables_of (words_of new)).class start ≡ class
+  pub slabs : (s : ℕ) → Heap.slabs (tables_of (words_of new)) s ≡ with_key (Heap.slabs (tables_of (words_of old))) start (Some class) s
+  pub heap : HaveSameHeap (words_of old) (words_of new)
+  pub roots : (root : ℕ) → (tables_of (words_of new)).root root ≡ (tables_of (words_of old)).root root
+  pub keeps : KeepsBlocks (words_of old) (words_of new)
+  pub bounds : bounds_of (words_of new) ≡ bounds_of (words_of old)
+  pub line : left.line ≡ was.line
+  pub room : HasRoom new 11
+
 -- a block went from its root, and its slab may be without a block, or done
 pub record IsTaken (old new : PmemState) (was left : Volatile) (root start : ℕ) (events : List Event) : Type 0 where
   pub step : IsQuietStep old new events (IsEitherHeap (words_of old) (words_of new))
   pub untidy : IsUntidy new left start
   pub last : IsLastOf (tables_of (words_of old)) root start (holds_none (tables_of (words_of new)) start)
   pub gives : GivesRoot (words_of old) root None (Heap.slabs (tables_of (words_of old))) (words_of new)
-  pub line : left.line ≡ was.line
+  pub line : left.line ≡ (was.line + 1) % 8
+  pub few : length new.events ≤ 11
 
 -- A slab was dropped, where it held no block, or its transition ended, where its last old block was gone: the image is
 -- exact.

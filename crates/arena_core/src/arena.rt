@@ -20,9 +20,8 @@ ghost use Rattle.arena_core.specs.Payload.{payload_events, IsWriteStep, IsWritte
 
 use crate::adopting::{read_image, read_lives, take_front};
 use crate::formatting::write_header;
-use crate::moving::plan_move;
-use crate::payload::{block_of, carry_out_write, plan_write};
-use crate::plan::{freed_of, granules_in, held_by, layout_in, plan_free};
+use crate::payload::carry_out_write;
+use crate::plan::{freed_of, granules_in, layout_in};
 use crate::volatile::Volatile;
 use crate::{
     ArenaRoom, BlockRefusal, FreeRefusal, Freed, MallocRefusal, MoveRefusal, Moved, Placed,
@@ -161,12 +160,7 @@ impl<P: Pmem> Arena<P> {
         ensures ready { IsReady self.new.device }
         ensures crash { CrashOnly self.new.device.base self.new.device.events (IsEitherHeap (words_of self.old.device) (words_of self.new.device)) }
     {
-        let plan = plan_free(
-            &self.device,
-            &self.volatile.log,
-            &self.volatile.supply,
-            root,
-        );
+        let plan = self.volatile.plan_free(&self.device, root);
         self.device.begin();
         self.volatile
             .carry_out_free(&mut self.device, seat, root, plan)
@@ -189,13 +183,7 @@ impl<P: Pmem> Arena<P> {
         ensures ready { IsReady self.new.device }
         ensures crash { CrashOnly self.new.device.base self.new.device.events (IsEitherMoved (words_of self.old.device) (words_of self.new.device) to) }
     {
-        let plan = plan_move(
-            &self.device,
-            &self.volatile.log,
-            &self.volatile.supply,
-            from,
-            to,
-        );
+        let plan = self.volatile.plan_move(&self.device, from, to);
         self.device.begin();
         self.volatile
             .carry_out_move(&mut self.device, from, to, plan)
@@ -219,14 +207,8 @@ impl<P: Pmem> Arena<P> {
         ensures ready { IsReady self.new.device }
         ensures crash { CrashOnly self.new.device.base self.new.device.events (IsEitherWords (words_of self.old.device) (words_of self.new.device)) }
     {
-        let plan = plan_write(
-            &self.device,
-            &self.volatile.log,
-            &self.volatile.supply,
-            root,
-            from,
-            words.len() as u64,
-        );
+        let count = words.len() as u64;
+        let plan = self.volatile.plan_write(&self.device, root, from, count);
         self.device.begin();
         carry_out_write(&mut self.device, plan, words)
     }
@@ -238,12 +220,7 @@ impl<P: Pmem> Arena<P> {
         ensures exact { IsExactImage (words_of self.now.device) }
         ensures ready { IsReady self.now.device }
     {
-        match block_of(
-            &self.device,
-            &self.volatile.log,
-            &self.volatile.supply,
-            root,
-        ) {
+        match self.volatile.block_of(&self.device, root) {
             Ok(block) => Ok(self.device.words(block.at, block.size / 8)),
             Err(refusal) => Err(refusal),
         }
@@ -256,12 +233,7 @@ impl<P: Pmem> Arena<P> {
         if root >= layout_in(&self.device).roots {
             return None;
         }
-        match held_by(
-            &self.device,
-            &self.volatile.log,
-            &self.volatile.supply,
-            root,
-        ) {
+        match self.volatile.held_by(&self.device, root) {
             Some(held) => {
                 let block = freed_of(held);
                 Some(Block {

@@ -1,5 +1,5 @@
 // What a call does, once it has begun: it changes the words and what stands beside them together.
-ghost use Rattle.std.specs.Prelude.{◌≡◌, ◌<◌, ◌≤◌, ◌*◌, ℕ, true, [], ◌++◌, Some, None, Ok, length};
+ghost use Rattle.std.specs.Prelude.{◌≡◌, ◌<◌, ◌≤◌, ◌*◌, ◌+◌, ◌%◌, ℕ, List, true, [], length, Some, None, Ok};
 ghost use Rattle.pmem_lines.specs.Events.{reading, IsQuiet};
 ghost use Rattle.pmem_lines.specs.Steps.{IsQuietStep};
 ghost use Rattle.pmem_lines.specs.Pmem.{words_of, HasRoom};
@@ -13,17 +13,17 @@ ghost use Rattle.heap_check.specs.Image.{bounds_of, IsExactButImage};
 ghost use Rattle.heap_check.specs.State.{IsEitherHeap};
 ghost use Rattle.size_classes.specs.Classes.{class_capacity};
 ghost use Rattle.thread_cache.specs.Stacks.{stacks_of};
-ghost use Rattle.block_supply.specs.Supply.{Supply, HasNoOpen, HasSlabMore, HasSlabLess, IsPutOn};
+ghost use Rattle.block_supply.specs.Supply.{Supply, HasSlabMore, HasSlabLess, TookBlock, IsPutOn};
 ghost use Rattle.class_steps.specs.Classes.{LeavesClosed, IsOfClass};
 ghost use Rattle.log_steps.specs.Log.{IsBookOf};
 ghost use Rattle.extent_steps.specs.Slabs.{open_events, IsOpened};
 ghost use Rattle.attach_steps.specs.Steps.{attach_events, detach_events, detach_old_events, IsAttachable, IsDetachable, IsOldDetachable, IsAttached};
 ghost use Rattle.arena_core.specs.Answer.{malloc_reply, free_reply};
 ghost use Rattle.arena_core.specs.Arena.{IsIndexOf, IsSlabsOf, AreSlabsLess, AreSlabsBut, AreLivesOf, IsCurrent, IsArena};
-ghost use Rattle.arena_core.specs.Carried.{IsDone, IsUntidy, IsTaken, IsTidied, IsCalled};
+ghost use Rattle.arena_core.specs.Carried.{MayOpen, MayTakeClass, IsHeldFor, IsSlabFor, HasClassNow, HaveOneMore, IsDone, IsUntidy, IsTaken, IsTidied, IsCalled};
 ghost use Rattle.arena_core.specs.Effect.{IsLastOf, slabs_but, stacks_but, IsPutBack, IsSuppliedFresh, IsSuppliedMorph};
 ghost use Rattle.arena_core.specs.Events.{place_events, take_events, fresh_events, morphed_events, unsmall_events, tidy_events, holds_none};
-ghost use Rattle.arena_core.specs.Plan.{IsBlockAs, IsMorphable, IsAskedOf, IsVacantRow, IsGivable, IsTakable, IsNamedSmall, IsNamedOld, IsHeldBy, IsPlanned, IsFreePlan};
+ghost use Rattle.arena_core.specs.Plan.{IsBlockAs, number_of, IsGivable, IsTakable, IsNamedSmall, IsNamedOld, IsHeldBy, IsPlanned, IsFreePlan, range_held};
 
 use crate::plan::{Held, Place, freed_of, placed_large, placed_small};
 use crate::volatile::Volatile;
@@ -38,6 +38,7 @@ use pmem_lines::Pmem;
 use pool_layout::{SLAB_GRANULES, blocks_at, granule_at};
 use size_classes::size_of_class;
 use slab_header::class_at;
+use slab_lives::SlabLives;
 use slab_morph::{covered_by, is_done, is_unused, used_blocks};
 use transition_steps::end_transition;
 
@@ -81,17 +82,16 @@ impl Volatile {
             }
             Place::Small { block, class } => {
                 self.give_small(device, root, block);
-                self.line = (self.line + 1) % 8;
                 placed_small(block, class)
             }
             Place::Morph { start, class } => {
-                let block = self.give_morphed(device, seat, root, SlabAt { start, class });
-                self.line = (self.line + 1) % 8;
+                self.change_class(device, start, class);
+                let block = self.give_of(device, seat, root, SlabAt { start, class });
                 placed_small(block, class)
             }
             Place::Fresh { start, class } => {
-                let block = self.give_fresh(device, seat, root, SlabAt { start, class });
-                self.line = (self.line + 1) % 8;
+                self.add_slab(device, start, class);
+                let block = self.give_of(device, seat, root, SlabAt { start, class });
                 placed_small(block, class)
             }
         }
@@ -112,31 +112,33 @@ impl Volatile {
         ensures { IsCalled (P.state device.old) (P.state device.new) self.old self.new seat (calls.Free root) (free_reply result) }
     {
         match plan {
-            Ok(held) => Ok(self.carry_out_held(device, seat, root, held)),
+            Ok(held) => {
+                self.carry_out_held(device, seat, root, held);
+                Ok(freed_of(held))
+            }
             Err(refusal) => Err(refusal),
         }
     }
 
     // Takes what it holds from a root of a seat.
-    fn carry_out_held<P: Pmem>(&mut self, device: &mut P, seat: u32, root: u32, held: Held) -> Freed
+    fn carry_out_held<P: Pmem>(&mut self, device: &mut P, seat: u32, root: u32, held: Held)
         requires arena { IsArena (P.state device.old) self.old }
         requires fresh { (P.state device.old).events ≡ [] }
         requires seat { seat < 64 }
         requires plan { IsHeldBy (bounds_of (words_of (P.state device.old))) (tables_of (words_of (P.state device.old))) root held }
-        ensures { IsCalled (P.state device.old) (P.state device.new) self.old self.new seat (calls.Free root) (replies.Freed result.at result.size) }
+        ensures { IsCalled (P.state device.old) (P.state device.new) self.old self.new seat (calls.Free root) (replies.Freed (range_held held).at (range_held held).size) }
     {
         match held {
             Held::Large { start, granules } => self.take_large(device, root, start, granules),
             Held::Small { block, class: _ } => {
-                self.take_small(device, seat, root, block);
-                self.line = (self.line + 1) % 8;
+                self.take_block(device, seat, root, block);
+                self.tidy(device, block.start);
             }
-            Held::Old { block, class } => {
-                self.take_old(device, root, block, class);
-                self.line = (self.line + 1) % 8;
+            Held::Old { block, class: _ } => {
+                self.take_old_block(device, root, block);
+                self.tidy(device, block.start);
             }
         }
-        freed_of(held)
     }
 
     // Gives granules to a root: their extent goes into the log, and then the root gets its address.
@@ -169,39 +171,22 @@ impl Volatile {
 
     // Gives a block of a slab to a root, which was taken out of the supply.
     fn give_small<P: Pmem>(&mut self, device: &mut P, root: u32, block: SmallBlock)
-        requires quiet { IsQuiet (P.state device.old).events }
+        requires held { IsHeldFor (P.state device.old) self.old root block }
         requires room { HasRoom (P.state device.old) 11 }
-        requires line { self.old.line < 8 }
-        requires attachable { IsAttachable (words_of (P.state device.old)) root block }
-        requires slabs { AreSlabsLess self.old.supply (words_of (P.state device.old)) block.start block.number }
-        requires lives { AreLivesOf self.old.lives (words_of (P.state device.old)) }
-        ensures step { IsQuietStep (P.state device.old) (P.state device.new) (attach_events (words_of (P.state device.old)) self.old.line root block) (IsEitherHeap (words_of (P.state device.old)) (words_of (P.state device.new))) }
-        ensures attached { IsAttached (words_of (P.state device.old)) self.old.line root block (words_of (P.state device.new)) }
-        ensures slabs { IsSlabsOf self.new.supply (words_of (P.state device.new)) }
-        ensures lives { AreLivesOf self.new.lives (words_of (P.state device.new)) }
-        ensures rest { self.new ≡ record self.old { lives = self.new.lives } }
+        ensures done { (class : ℕ) → (tables_of (words_of (P.state device.old))).class block.start ≡ class → IsDone (P.state device.old) (P.state device.new) self.new root (Some (slab_block block.start class block.number)) (classes_of (tables_of (words_of (P.state device.old)))) (attach_events (words_of (P.state device.old)) self.old.line root block) }
+        ensures rest { self.new ≡ record self.old { lives = self.new.lives; line = (self.old.line + 1) % 8 } }
     {
         attach(device, self.line, root, block);
         self.lives.raise(block.start);
+        self.line = (self.line + 1) % 8;
     }
 
     // Opens a slab on vacant granules.
     fn add_slab<P: Pmem>(&mut self, device: &mut P, start: u32, class: u8)
-        requires current { IsCurrent (P.state device.old) self.old }
         requires fresh { (P.state device.old).events ≡ [] }
-        requires row { IsVacantRow (bounds_of (words_of (P.state device.old))) (tables_of (words_of (P.state device.old))) start 4 }
-        requires class { class < 36 }
-        requires slabs { IsSlabsOf self.old.supply (words_of (P.state device.old)) }
-        requires lives { AreLivesOf self.old.lives (words_of (P.state device.old)) }
-        ensures step { IsQuietStep (P.state device.old) (P.state device.new) (open_events (words_of (P.state device.old)) start class) (IsEitherHeap (words_of (P.state device.old)) (words_of (P.state device.new))) }
-        ensures room { HasRoom (P.state device.new) 11 }
-        ensures opened { IsOpened (words_of (P.state device.old)) start class (words_of (P.state device.new)) }
-        ensures book { IsBookOf self.new.log (words_of (P.state device.new)) }
-        ensures index { IsIndexOf self.new.free (words_of (P.state device.new)) }
-        ensures slabs { IsSlabsOf self.new.supply (words_of (P.state device.new)) }
-        ensures more { HasSlabMore self.old.supply self.new.supply start class (λ i. i < class_capacity class) }
-        ensures lives { AreLivesOf self.new.lives (words_of (P.state device.new)) }
-        ensures line { self.new.line ≡ self.old.line }
+        requires may { MayOpen (P.state device.old) self.old start class }
+        ensures came { HasClassNow (P.state device.old) (P.state device.new) self.old self.new start class (open_events (words_of (P.state device.old)) start class) }
+        ensures supplied { HasSlabMore self.old.supply self.new.supply start class (λ i. i < class_capacity class) }
     {
         open_slab(device, &mut self.log, start, class);
         self.free.take(start, SLAB_GRANULES);
@@ -211,18 +196,10 @@ impl Volatile {
 
     // Gives a slab another class, for which it is fit: the blocks that it held live on in it as old ones.
     fn change_class<P: Pmem>(&mut self, device: &mut P, start: u32, class: u8)
-        requires arena { IsArena (P.state device.old) self.old }
         requires fresh { (P.state device.old).events ≡ [] }
-        requires morphable { IsMorphable (tables_of (words_of (P.state device.old))) start class }
-        requires class { class < 36 }
-        ensures step { IsQuietStep (P.state device.old) (P.state device.new) (morph_events (tables_of (words_of (P.state device.old))) start class) (LeavesClosed (words_of (P.state device.old))) }
-        ensures room { HasRoom (P.state device.new) 11 }
-        ensures taken { IsOfClass (words_of (P.state device.old)) start class (words_of (P.state device.new)) }
-        ensures current { IsCurrent (P.state device.new) self.new }
-        ensures slabs { IsSlabsOf self.new.supply (words_of (P.state device.new)) }
+        requires may { MayTakeClass (P.state device.old) self.old start class }
+        ensures came { HasClassNow (P.state device.old) (P.state device.new) self.old self.new start class (morph_events (tables_of (words_of (P.state device.old))) start class) }
         ensures supplied { (less : Supply) × HasSlabLess self.old.supply less start × HasSlabMore less self.new.supply start class (λ i. (i < class_capacity class) × IsUnusedIn (tables_of (words_of (P.state device.old))) start class i) }
-        ensures lives { AreLivesOf self.new.lives (words_of (P.state device.new)) }
-        ensures line { self.new.line ≡ self.old.line }
     {
         take_class(device, start, class);
         self.lives.stir(start);
@@ -231,28 +208,23 @@ impl Volatile {
         self.supply.add_used(start, class, &used);
     }
 
-    // Gives a slab another class, where no block of the class is open, and the first block of it that the seat is given then
-    // to a root.
-    fn give_morphed<P: Pmem>(
+    // Gives a block of a slab to a root of a seat: of the slab's class only blocks of this slab are open, and the seat is
+    // given one of them.
+    fn give_of<P: Pmem>(
         &mut self,
         device: &mut P,
         seat: u32,
         root: u32,
         slab: SlabAt,
     ) -> SmallBlock
-        requires arena { IsArena (P.state device.old) self.old }
-        requires fresh { (P.state device.old).events ≡ [] }
+        requires ready { IsSlabFor (P.state device.old) self.old root slab.start slab.class }
+        requires room { HasRoom (P.state device.old) 11 }
         requires seat { seat < 64 }
-        requires asked { (size : ℕ) × IsAskedOf (bounds_of (words_of (P.state device.old))) (tables_of (words_of (P.state device.old))) root size }
-        requires morphable { IsMorphable (tables_of (words_of (P.state device.old))) slab.start slab.class }
-        requires class { slab.class < 36 }
-        requires none { HasNoOpen self.old.supply slab.class }
         ensures block { IsBlockAs result slab.start slab.class result.number }
-        ensures done { IsDone (P.state device.old) (P.state device.new) self.new root (Some (slab_block slab.start slab.class result.number)) (with_key (classes_of (tables_of (words_of (P.state device.old)))) slab.start (Some slab.class)) (morphed_events (words_of (P.state device.old)) self.old.line root result slab.class) }
-        ensures supplied { IsSuppliedMorph (tables_of (words_of (P.state device.old))) self.old.supply self.new.supply seat slab.start slab.class result.number }
-        ensures line { self.new.line ≡ self.old.line }
+        ensures took { TookBlock self.old.supply seat slab.class (number_of result) self.new.supply }
+        ensures done { IsDone (P.state device.old) (P.state device.new) self.new root (Some (slab_block slab.start slab.class result.number)) (classes_of (tables_of (words_of (P.state device.old)))) (attach_events (words_of (P.state device.old)) self.old.line root result) }
+        ensures line { self.new.line ≡ (self.old.line + 1) % 8 }
     {
-        self.change_class(device, slab.start, slab.class);
         let taken = self.supply.take(seat, slab.class).unwrap();
         let at = blocks_at(granule_at(slab.start)) + taken.number * size_of_class(slab.class);
         let block = SmallBlock {
@@ -262,67 +234,6 @@ impl Volatile {
         };
         self.give_small(device, root, block);
         block
-    }
-
-    // Opens a slab, where no block of its class is open, and gives its first block to a root of a seat.
-    fn give_fresh<P: Pmem>(
-        &mut self,
-        device: &mut P,
-        seat: u32,
-        root: u32,
-        slab: SlabAt,
-    ) -> SmallBlock
-        requires arena { IsArena (P.state device.old) self.old }
-        requires fresh { (P.state device.old).events ≡ [] }
-        requires seat { seat < 64 }
-        requires asked { (size : ℕ) × IsAskedOf (bounds_of (words_of (P.state device.old))) (tables_of (words_of (P.state device.old))) root size }
-        requires row { IsVacantRow (bounds_of (words_of (P.state device.old))) (tables_of (words_of (P.state device.old))) slab.start 4 }
-        requires class { slab.class < 36 }
-        requires none { HasNoOpen self.old.supply slab.class }
-        ensures block { IsBlockAs result slab.start slab.class 0 }
-        ensures done { IsDone (P.state device.old) (P.state device.new) self.new root (Some (slab_block slab.start slab.class 0)) (with_key (classes_of (tables_of (words_of (P.state device.old)))) slab.start (Some slab.class)) (fresh_events (words_of (P.state device.old)) self.old.line root slab.start slab.class) }
-        ensures supplied { IsSuppliedFresh self.old.supply self.new.supply seat slab.start slab.class }
-        ensures line { self.new.line ≡ self.old.line }
-    {
-        self.add_slab(device, slab.start, slab.class);
-        // The seat is given the first of the new blocks: no other one of the class is open.
-        self.supply.take(seat, slab.class);
-        let first = SmallBlock {
-            start: slab.start,
-            number: 0,
-            at: blocks_at(granule_at(slab.start)),
-        };
-        self.give_small(device, root, first);
-        first
-    }
-
-    // Takes a block of its slab's class from a root of a seat, and tidies the slab.
-    fn take_small<P: Pmem>(&mut self, device: &mut P, seat: u32, root: u32, block: SmallBlock)
-        requires arena { IsArena (P.state device.old) self.old }
-        requires fresh { (P.state device.old).events ≡ [] }
-        requires seat { seat < 64 }
-        requires named { IsNamedSmall (bounds_of (words_of (P.state device.old))) (tables_of (words_of (P.state device.old))) root block ((tables_of (words_of (P.state device.old))).class block.start) }
-        ensures last { let left = reading (words_of (P.state device.old)) (detach_events (words_of (P.state device.old)) self.old.line root block) in IsLastOf (tables_of (words_of (P.state device.old))) root block.start (holds_none (tables_of left) block.start) }
-        ensures done { let left = reading (words_of (P.state device.old)) (detach_events (words_of (P.state device.old)) self.old.line root block) in IsDone (P.state device.old) (P.state device.new) self.new root None (slabs_but (classes_of (tables_of (words_of (P.state device.old)))) block.start (holds_none (tables_of left) block.start)) (unsmall_events (words_of (P.state device.old)) self.old.line root block) }
-        ensures line { self.new.line ≡ self.old.line }
-        ensures stacks { let left = reading (words_of (P.state device.old)) (detach_events (words_of (P.state device.old)) self.old.line root block) in IsPutBack (stacks_of self.old.supply.stacks) seat ((tables_of (words_of (P.state device.old))).class block.start) block.at block.start (holds_none (tables_of left) block.start) (stacks_of self.new.supply.stacks) }
-    {
-        self.take_block(device, seat, root, block);
-        self.tidy(device, block.start);
-    }
-
-    // Takes an old block from a root, and tidies its slab.
-    fn take_old<P: Pmem>(&mut self, device: &mut P, root: u32, block: OldBlock, class: u8)
-        requires arena { IsArena (P.state device.old) self.old }
-        requires fresh { (P.state device.old).events ≡ [] }
-        requires named { IsNamedOld (bounds_of (words_of (P.state device.old))) (tables_of (words_of (P.state device.old))) root block class }
-        ensures last { let left = reading (words_of (P.state device.old)) (detach_old_events (tables_of (words_of (P.state device.old))) self.old.line root block.at block.start block.place) in IsLastOf (tables_of (words_of (P.state device.old))) root block.start (holds_none (tables_of left) block.start) }
-        ensures done { let left = reading (words_of (P.state device.old)) (detach_old_events (tables_of (words_of (P.state device.old))) self.old.line root block.at block.start block.place) in IsDone (P.state device.old) (P.state device.new) self.new root None (slabs_but (classes_of (tables_of (words_of (P.state device.old)))) block.start (holds_none (tables_of left) block.start)) (detach_old_events (tables_of (words_of (P.state device.old))) self.old.line root block.at block.start block.place ++ tidy_events left block.start) }
-        ensures line { self.new.line ≡ self.old.line }
-        ensures stacks { let left = reading (words_of (P.state device.old)) (detach_old_events (tables_of (words_of (P.state device.old))) self.old.line root block.at block.start block.place) in stacks_of self.new.supply.stacks ≡ stacks_but (stacks_of self.old.supply.stacks) block.start (holds_none (tables_of left) block.start) }
-    {
-        self.take_old_block(device, root, block);
-        self.tidy(device, block.start);
     }
 
     // Takes a block of its slab's class from a root of a seat: it may be given out again.
@@ -335,6 +246,7 @@ impl Volatile {
         ensures stacks { IsPutOn (stacks_of self.old.supply.stacks) seat ((tables_of (words_of (P.state device.old))).class block.start) block.at (stacks_of self.new.supply.stacks) }
     {
         detach(device, self.line, root, block);
+        self.line = (self.line + 1) % 8;
         let number = block.number;
         self.supply.put_back(
             seat,
@@ -343,7 +255,7 @@ impl Volatile {
                 number,
             },
         );
-        self.lives.lower(block.start);
+        lower(&mut self.lives, block.start);
     }
 
     // Takes an old block from a root: the blocks of the slab's class that it covered alone may be given out.
@@ -355,8 +267,9 @@ impl Volatile {
         ensures stacks { self.new.supply.stacks ≡ self.old.supply.stacks }
     {
         detach_old(device, self.line, root, block);
+        self.line = (self.line + 1) % 8;
         open_covered(device, &mut self.supply, block);
-        self.lives.lower(block.start);
+        lower(&mut self.lives, block.start);
     }
 
     // Behind a block that went: drops its slab where it holds no other, and ends the slab's transition where that was the
@@ -378,6 +291,14 @@ impl Volatile {
             self.lives.calm(start, class_at(device, granule_at(start)));
         }
     }
+}
+
+// One block less lives in a slab.
+fn lower(lives: &mut SlabLives, start: u32)
+    requires { (words : List ℕ) × HaveOneMore lives.old words start }
+    ensures { (words : List ℕ) → HaveOneMore lives.old words start → AreLivesOf lives.new words }
+{
+    lives.lower(start);
 }
 
 // An old block went: the blocks of its slab's class that overlap it and no other block that the slab holds are open again.

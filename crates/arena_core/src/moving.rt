@@ -1,54 +1,42 @@
 // A block that moves from a root to another.
 ghost use Rattle.std.specs.Prelude.{◌≡◌, []};
 ghost use Rattle.pmem_lines.specs.Pmem.{words_of};
-ghost use Rattle.heap_check.specs.Image.{IsExactImage};
-ghost use Rattle.log_steps.specs.Log.{IsBookOf};
 ghost use Rattle.arena_core.specs.Answer.{move_reply};
-ghost use Rattle.arena_core.specs.Arena.{IsSlabsOf, IsArena};
+ghost use Rattle.arena_core.specs.Arena.{IsArena};
 ghost use Rattle.arena_core.specs.Moving.{IsMovePlan, IsMoveCarried};
 
-use crate::plan::{freed_of, held_by, layout_in, root_word};
+use crate::plan::{freed_of, layout_in, root_word};
 use crate::volatile::Volatile;
 use crate::{MoveRefusal, Moved};
-use block_supply::BlockSupply;
-use book_log::BookLog;
 use move_steps::move_root;
 use pmem_lines::Pmem;
 
-/// The block that moves, or why none does.
-pub(crate) fn plan_move<P: Pmem>(
-    device: &P,
-    log: &BookLog,
-    supply: &BlockSupply,
-    from: u32,
-    to: u32,
-) -> Result<Moved, MoveRefusal>
-    requires exact { IsExactImage (words_of (P.state device.now)) }
-    requires log { IsBookOf log.now (words_of (P.state device.now)) }
-    requires slabs { IsSlabsOf supply.now (words_of (P.state device.now)) }
-    ensures { IsMovePlan (words_of (P.state device.now)) from to result }
-{
-    let roots = layout_in(device).roots;
-    if from >= roots || to >= roots {
-        return Err(MoveRefusal::NoRoot);
-    }
-    match held_by(device, log, supply, from) {
-        Some(held) => {
-            let at = root_word(device, to);
-            if at != 0 {
-                return Err(MoveRefusal::Occupied { at });
-            }
-            let block = freed_of(held);
-            Ok(Moved {
-                at: block.at,
-                size: block.size,
-            })
-        }
-        None => Err(MoveRefusal::Empty),
-    }
-}
-
 impl Volatile {
+    /// The block that moves, or why none does.
+    pub(crate) fn plan_move<P: Pmem>(&self, device: &P, from: u32, to: u32) -> Result<Moved, MoveRefusal>
+        requires arena { IsArena (P.state device.now) self.now }
+        ensures { IsMovePlan (words_of (P.state device.now)) from to result }
+    {
+        let roots = layout_in(device).roots;
+        if from >= roots || to >= roots {
+            return Err(MoveRefusal::NoRoot);
+        }
+        match self.held_by(device, from) {
+            Some(held) => {
+                let at = root_word(device, to);
+                if at != 0 {
+                    return Err(MoveRefusal::Occupied { at });
+                }
+                let block = freed_of(held);
+                Ok(Moved {
+                    at: block.at,
+                    size: block.size,
+                })
+            }
+            None => Err(MoveRefusal::Empty),
+        }
+    }
+
     /// Does what the plan of a move says, and answers the call. What stands beside the words stays, but for the line.
     pub(crate) fn carry_out_move<P: Pmem>(
         &mut self,

@@ -5,71 +5,55 @@ ghost use Rattle.pmem_lines.specs.Steps.{IsQuietStep};
 ghost use Rattle.durable_steps.specs.Rows.{IsOldOrNewRow};
 ghost use Rattle.image_tables.specs.Tables.{Tables};
 ghost use Rattle.heap_check.specs.Image.{IsExactImage};
-ghost use Rattle.log_steps.specs.Log.{IsBookOf};
-ghost use Rattle.arena_core.specs.Arena.{IsSlabsOf};
+ghost use Rattle.arena_core.specs.Arena.{IsArena};
 ghost use Rattle.arena_core.specs.Call.{IsReady};
 ghost use Rattle.arena_core.specs.Events.{write_events};
 ghost use Rattle.arena_core.specs.Payload.{IsBlockPlan, IsWritePlan, IsWriteCarried};
 
 use crate::BlockRefusal;
-use crate::plan::{freed_of, held_by, layout_in};
-use block_supply::BlockSupply;
-use book_log::BookLog;
+use crate::plan::{freed_of, layout_in};
+use crate::volatile::Volatile;
 use durable_steps::write_row;
 use heap_model::Block;
 use pmem_lines::Pmem;
 
-/// The block of a root, or why there is none.
-pub(crate) fn block_of<P: Pmem>(
-    device: &P,
-    log: &BookLog,
-    supply: &BlockSupply,
-    root: u32,
-) -> Result<Block, BlockRefusal>
-    requires exact { IsExactImage (words_of (P.state device.now)) }
-    requires log { IsBookOf log.now (words_of (P.state device.now)) }
-    requires slabs { IsSlabsOf supply.now (words_of (P.state device.now)) }
-    ensures { IsBlockPlan (words_of (P.state device.now)) root result }
-{
-    if root >= layout_in(device).roots {
-        return Err(BlockRefusal::NoRoot);
-    }
-    match held_by(device, log, supply, root) {
-        Some(held) => {
-            let block = freed_of(held);
-            Ok(Block {
-                root,
-                at: block.at,
-                size: block.size,
-            })
+impl Volatile {
+    /// The block of a root, or why there is none.
+    pub(crate) fn block_of<P: Pmem>(&self, device: &P, root: u32) -> Result<Block, BlockRefusal>
+        requires arena { IsArena (P.state device.now) self.now }
+        ensures { IsBlockPlan (words_of (P.state device.now)) root result }
+    {
+        if root >= layout_in(device).roots {
+            return Err(BlockRefusal::NoRoot);
         }
-        None => Err(BlockRefusal::Empty),
-    }
-}
-
-/// The byte at which a write of `count` words begins, from word `from` of a root's block on, or why there is none.
-pub(crate) fn plan_write<P: Pmem>(
-    device: &P,
-    log: &BookLog,
-    supply: &BlockSupply,
-    root: u32,
-    from: u32,
-    count: u64,
-) -> Result<u32, BlockRefusal>
-    requires exact { IsExactImage (words_of (P.state device.now)) }
-    requires log { IsBookOf log.now (words_of (P.state device.now)) }
-    requires slabs { IsSlabsOf supply.now (words_of (P.state device.now)) }
-    requires few { count ≤ 512 }
-    ensures { IsWritePlan (words_of (P.state device.now)) root from count result }
-{
-    match block_of(device, log, supply, root) {
-        Ok(block) => {
-            if u64::from(from) + count > u64::from(block.size / 8) {
-                return Err(BlockRefusal::OutOfRange);
+        match self.held_by(device, root) {
+            Some(held) => {
+                let block = freed_of(held);
+                Ok(Block {
+                    root,
+                    at: block.at,
+                    size: block.size,
+                })
             }
-            Ok(block.at + 8 * from)
+            None => Err(BlockRefusal::Empty),
         }
-        Err(refusal) => Err(refusal),
+    }
+
+    /// The byte at which a write of `count` words begins, from word `from` of a root's block on, or why there is none.
+    pub(crate) fn plan_write<P: Pmem>(&self, device: &P, root: u32, from: u32, count: u64) -> Result<u32, BlockRefusal>
+        requires arena { IsArena (P.state device.now) self.now }
+        requires few { count ≤ 512 }
+        ensures { IsWritePlan (words_of (P.state device.now)) root from count result }
+    {
+        match self.block_of(device, root) {
+            Ok(block) => {
+                if u64::from(from) + count > u64::from(block.size / 8) {
+                    return Err(BlockRefusal::OutOfRange);
+                }
+                Ok(block.at + 8 * from)
+            }
+            Err(refusal) => Err(refusal),
+        }
     }
 }
 

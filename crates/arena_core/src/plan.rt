@@ -10,14 +10,14 @@ ghost use Rattle.heap_model.specs.Runs.{IsBestFit, HasNoFit};
 ghost use Rattle.heap_check.specs.Sound.{IsVacant};
 ghost use Rattle.heap_check.specs.Image.{bounds_of, IsFormed, IsExactImage};
 ghost use Rattle.log_steps.specs.Log.{IsBookOf};
-ghost use Rattle.arena_core.specs.Arena.{IsIndexOf, IsSlabsOf, IsArena};
+ghost use Rattle.arena_core.specs.Arena.{IsIndexOf, IsArena};
 ghost use Rattle.arena_core.specs.Plan.{IsPlanned, IsFreePlan, IsHeldBy, IsSlabAt, IsRootIn, IsAskedOf, IsFound, IsSuppliedFor, range_held};
 
 use crate::fitting::best_slab;
 use crate::volatile::Volatile;
 use crate::{FreeRefusal, Freed, MallocRefusal, Placed};
 use attach_steps::{OldBlock, SmallBlock};
-use block_supply::{BlockSupply, SlabAt};
+use block_supply::SlabAt;
 use book_log::{BookLog, LogEntry};
 use extent_index::ExtentIndex;
 use pmem_lines::Pmem;
@@ -127,6 +127,40 @@ impl Volatile {
             None => None,
         }
     }
+
+    /// What a free takes from a root, or why there is nothing.
+    pub(crate) fn plan_free<P: Pmem>(&self, device: &P, root: u32) -> Result<Held, FreeRefusal>
+        requires arena { IsArena (P.state device.now) self.now }
+        ensures { IsFreePlan (bounds_of (words_of (P.state device.now))) (tables_of (words_of (P.state device.now))) root result }
+    {
+        if root >= layout_in(device).roots {
+            return Err(FreeRefusal::NoRoot);
+        }
+        match self.held_by(device, root) {
+            Some(held) => Ok(held),
+            None => Err(FreeRefusal::Empty),
+        }
+    }
+
+    /// What a root names, if anything.
+    pub(crate) fn held_by<P: Pmem>(&self, device: &P, root: u32) -> Option<Held>
+        requires arena { IsArena (P.state device.now) self.now }
+        requires root { root < (layout_of (version_in (words_of (P.state device.now)))).roots }
+        ensures { MatchOption result ((tables_of (words_of (P.state device.now))).root root ≡ 0) (IsHeldBy (bounds_of (words_of (P.state device.now))) (tables_of (words_of (P.state device.now))) root) }
+    {
+        let at = root_word(device, root);
+        if at == 0 {
+            return None;
+        }
+        let granule = at / GRANULE_BYTES;
+        match self.supply.slab_with(granule) {
+            Some(slab) => Some(held_in(device, slab, at)),
+            None => Some(Held::Large {
+                start: granule,
+                granules: granules_at(&self.log, granule),
+            }),
+        }
+    }
 }
 
 // A place for so many granules, two at least: their best fit.
@@ -159,54 +193,6 @@ pub(crate) fn placed_small(block: SmallBlock, class: u8) -> Placed
     Placed {
         at: block.at,
         size: size_of_class(class),
-    }
-}
-
-/// What a free takes from a root, or why there is nothing.
-pub(crate) fn plan_free<P: Pmem>(
-    device: &P,
-    log: &BookLog,
-    supply: &BlockSupply,
-    root: u32,
-) -> Result<Held, FreeRefusal>
-    requires exact { IsExactImage (words_of (P.state device.now)) }
-    requires log { IsBookOf log.now (words_of (P.state device.now)) }
-    requires slabs { IsSlabsOf supply.now (words_of (P.state device.now)) }
-    ensures { IsFreePlan (bounds_of (words_of (P.state device.now))) (tables_of (words_of (P.state device.now))) root result }
-{
-    if root >= layout_in(device).roots {
-        return Err(FreeRefusal::NoRoot);
-    }
-    match held_by(device, log, supply, root) {
-        Some(held) => Ok(held),
-        None => Err(FreeRefusal::Empty),
-    }
-}
-
-/// What a root names, if anything.
-pub(crate) fn held_by<P: Pmem>(
-    device: &P,
-    log: &BookLog,
-    supply: &BlockSupply,
-    root: u32,
-) -> Option<Held>
-    requires exact { IsExactImage (words_of (P.state device.now)) }
-    requires log { IsBookOf log.now (words_of (P.state device.now)) }
-    requires slabs { IsSlabsOf supply.now (words_of (P.state device.now)) }
-    requires root { root < (layout_of (version_in (words_of (P.state device.now)))).roots }
-    ensures { MatchOption result ((tables_of (words_of (P.state device.now))).root root ≡ 0) (IsHeldBy (bounds_of (words_of (P.state device.now))) (tables_of (words_of (P.state device.now))) root) }
-{
-    let at = root_word(device, root);
-    if at == 0 {
-        return None;
-    }
-    let granule = at / GRANULE_BYTES;
-    match supply.slab_with(granule) {
-        Some(slab) => Some(held_in(device, slab, at)),
-        None => Some(Held::Large {
-            start: granule,
-            granules: granules_at(log, granule),
-        }),
     }
 }
 

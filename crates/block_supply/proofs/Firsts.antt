@@ -32,7 +32,7 @@ module _ (old mid new : Supply) (seat start class : ℕ) (none : HasNoOpen old c
   lowest_is zero first = refl
   lowest_is (suc n) first = absurd (first 0 (omega arith) (omega arith) first_open)
 
-  first_of : (block : SlabBlock) → TookBlock mid seat class block new → (block.start ≡ start) × (block.number ≡ 0)
+  pub first_of : (block : SlabBlock) → TookBlock mid seat class block new → (block.start ≡ start) × (block.number ≡ 0)
   first_of block took =
       let here = in_new (none_open old class none) more block.start block.number took.slab took.was_open in (
         here,
@@ -49,9 +49,3 @@ module _ (old mid new : Supply) (seat start class : ℕ) (none : HasNoOpen old c
             rest.1)
             took.served,
       )
-
-  pub first_taken : (result : Option SlabBlock) → MatchOption result (HadNoOpen mid class new) (λ block. TookBlock mid seat class block new) → TookBlock mid seat class (record { start = start; number = 0 }) new
-  first_taken None had = absurd (none_open mid class had.none start 0 (more.classes start ∙ with_key-here (class_in old.slabs) start (Some class)) ((more.here 0).1 some))
-  first_taken (Some block) took =
-      let is = first_of block took in
-      subst (λ (b : SlabBlock). TookBlock mid seat class b new) (λ i. record { start = is.0 i; number = is.1 i }) took

@@ -1,4 +1,8 @@
-use Rattle.std.proofs.Common.{◌≡◌, [], Err, refl, subst}
+use Rattle.std.proofs.Common.{◌≡◌, [], Err, refl, sym, subst, arith}
+use Rattle.heap_model.specs.declared.call.Reply.TheVariants as replies
+use Rattle.heap_model.specs.Machine.{Range}
+use Rattle.heap_check.proofs.Sizes.{sizes_of}
+use Rattle.arena_core.specs.Carried.{IsCalled}
 use Rattle.pmem_lines.specs.Pmem.{words_of}
 use Rattle.image_tables.specs.Tables.{tables_of}
 use Rattle.heap_model.specs.declared.call.Call.TheVariants as calls
@@ -16,6 +20,16 @@ pub carry_out_held-requires-clause-plan : goal.carry_out_held-requires-clause-pl
 carry_out_held-requires-clause-plan g c =
     let words = words_of (g.P.Pmem.state c.args.device.now) in
     subst (IsFreePlan (bounds_of words) (tables_of words) c.args.root) c.in-Ok.is c.requires.plan
+
+pub freed_of-requires : goal.freed_of-requires
+freed_of-requires g c =
+    let words = words_of (g.P.Pmem.state c.args.device.now) in
+    (_, _, _, subst (IsFreePlan (bounds_of words) (tables_of words) c.args.root) c.in-Ok.is c.requires.plan, omega (arith, (sizes_of words c.requires.arena.current.exact.formed).most))
+
+pub returns-in-Ok : goal.returns-in-Ok
+returns-in-Ok g c =
+    let state = g.P.Pmem.state in
+    subst (λ (r : Range). IsCalled (state c.args.device.now) (state c.carry_out_held.new.device) c.args.self.now c.carry_out_held.new.self c.args.seat (calls.Free c.args.root) (replies.Freed r.at r.size)) (λ i. record { at = sym c.freed_of.ensures.0 i; size = sym c.freed_of.ensures.1 i }) c.carry_out_held.ensures
 
 pub returns-in-Err : goal.returns-in-Err
 returns-in-Err g c =

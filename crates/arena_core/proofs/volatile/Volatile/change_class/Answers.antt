@@ -1,45 +1,47 @@
 use Rattle.std.proofs.Common.{◌≡◌, ◌/◌, length, ap, ◌∙◌, arith}
 use Rattle.arena_core.proofs.Readiness.{ready_after, room_of}
 use Rattle.pmem_lines.specs.Pmem.{words_of}
-use Rattle.image_tables.specs.Tables.{tables_of}
+use Rattle.pmem_lines.proofs.Steps.{step_wider}
+use Rattle.image_tables.specs.Tables.{Tables, tables_of}
+use Rattle.heap_check.proofs.Loose.{IsExactBut-exact}
 use Rattle.heap_model.proofs.Maps.{with_key-here}
 use Rattle.slab_index.specs.SlabSet.{class_in}
 use Rattle.heap_check.proofs.Geometry.{granules_at-slab}
 use Rattle.arena_core.proofs.HeldBlocks.{slab_here}
-use Rattle.arena_core.proofs.ChangedClasses.{ready_for, few_changes, is_slab, clear_without, slab_now, came_back, book_changed, index_changed, slabs_changed, lives_changed}
+use Rattle.arena_core.proofs.ChangedClasses.{ready_for, few_changes, is_slab, clear_without, slab_now, class_now, classes_changed, either_kept, came_back, book_changed, index_changed, slabs_changed, lives_changed}
 use Rattle.arena_core.proofs.volatile.Volatile.change_class.Goals as goal
 
 pub take_class-requires-clause-ready : goal.take_class-requires-clause-ready
-take_class-requires-clause-ready g c = ready_for (words_of (g.P.Pmem.state c.args.device.now)) c.args.start c.args.class c.requires.arena.current.exact c.requires.morphable
+take_class-requires-clause-ready g c = ready_for (words_of (g.P.Pmem.state c.args.device.now)) c.args.start c.args.class c.requires.may.arena.current.exact c.requires.may.morphable
 
 pub take_class-requires-clause-room : goal.take_class-requires-clause-room
 take_class-requires-clause-room g c =
-    let few = few_changes (tables_of (words_of (g.P.Pmem.state c.args.device.now))) c.args.start c.args.class c.requires.morphable in
-    omega (arith, few, ap length c.requires.fresh, room_of c.requires.arena.current.ready)
+    let few = few_changes (tables_of (words_of (g.P.Pmem.state c.args.device.now))) c.args.start c.args.class c.requires.may.morphable in
+    omega (arith, few, ap length c.requires.fresh, room_of c.requires.may.arena.current.ready)
 
 pub remove-requires : goal.remove-requires
-remove-requires g c = is_slab c.args.start c.requires.arena.slabs c.requires.morphable.slab
+remove-requires g c = is_slab c.args.start c.requires.may.arena.slabs c.requires.may.morphable.slab
 
 pub used_blocks-used-requires : goal.used_blocks-used-requires
 used_blocks-used-requires g c =
     let words = words_of (g.P.Pmem.state c.args.device.now) in
     let new = words_of (g.P.Pmem.state c.take_class.new.p) in
     let taken = c.take_class.ensures.taken in
-    slab_here new c.args.start c.granule_at.result (omega (arith, c.granule_at.ensures)) taken.exact.formed taken.exact.exact.sound (slab_now words c.args.start c.args.class c.requires.morphable new taken c.args.start ∙ c.requires.morphable.slab)
+    slab_here new c.args.start c.granule_at.result (omega (arith, c.granule_at.ensures)) taken.exact.formed taken.exact.exact.sound (slab_now words c.args.start c.args.class c.requires.may.morphable new taken c.args.start ∙ c.requires.may.morphable.slab)
 
 pub add_used-requires-clause-inside : goal.add_used-requires-clause-inside
 add_used-requires-clause-inside g c =
     let words = words_of (g.P.Pmem.state c.args.device.now) in
-    let image = c.requires.arena.current.exact in
-    let four = granules_at-slab (tables_of words) c.args.start c.requires.morphable.slab in
+    let image = c.requires.may.arena.current.exact in
+    let four = granules_at-slab (tables_of words) c.args.start c.requires.may.morphable.slab in
     let lies = image.exact.sound.starts c.args.start (omega (arith, four)) in
-    omega (arith, lies.1, four, c.remove.ensures.granules, c.requires.arena.slabs.granules)
+    omega (arith, lies.1, four, c.remove.ensures.granules, c.requires.may.arena.slabs.granules)
 
 pub add_used-requires-clause-fresh : goal.add_used-requires-clause-fresh
 add_used-requires-clause-fresh g c = c.remove.ensures.classes c.args.start ∙ with_key-here (class_in c.args.self.now.supply.slabs) c.args.start _
 
 pub add_used-requires-clause-clear : goal.add_used-requires-clause-clear
-add_used-requires-clause-clear g c = clear_without c.args.start c.requires.arena.current.exact c.requires.arena.slabs c.requires.morphable.slab c.remove.ensures
+add_used-requires-clause-clear g c = clear_without c.args.start c.requires.may.arena.current.exact c.requires.may.arena.slabs c.requires.may.morphable.slab c.remove.ensures
 
 pub returns : goal.returns
 returns g c =
@@ -49,8 +51,8 @@ returns g c =
     let new = words_of left in
     let start = c.args.start in
     let class = c.args.class in
-    let may = c.requires.morphable in
-    let arena = c.requires.arena in
+    let may = c.requires.may.morphable in
+    let arena = c.requires.may.arena in
     let image = arena.current.exact in
     let taken = c.take_class.ensures.taken in
     let step = c.take_class.ensures.step in
@@ -58,17 +60,26 @@ returns g c =
     let at : c.granule_at.result / 16384 ≡ start = omega (arith, c.granule_at.ensures) in
     let more = came_back words start class may new taken (c.granule_at.result / 16384) at c.add_used.ensures c.used_blocks-used.ensures.unused in
     record {
-      step = step;
-      room = omega (arith, few, ap length c.requires.fresh, c.take_class.ensures.count, step.appends.room, room_of arena.current.ready);
-      taken = taken;
-      current = record {
-        ready = ready_after arena.current.ready step.appends.room step.quiet image.formed taken.exact.formed taken.bounds;
-        exact = taken.exact;
-        log = book_changed words start class may new taken image c.args.self.now.log arena.current.log;
-        index = index_changed words start class may new taken c.args.self.now.free arena.current.index;
+      came = record {
+        step = step_wider (either_kept words start class may new taken) step;
+        arena = record {
+          ready = ready_after arena.current.ready step.appends.room step.quiet image.formed taken.exact.formed taken.bounds;
+          image = record { formed = taken.exact.formed; but = IsExactBut-exact taken.exact.exact start };
+          slab = slab_now words start class may new taken start ∙ may.slab;
+          log = book_changed words start class may new taken image c.args.self.now.log arena.current.log;
+          index = index_changed words start class may new taken c.args.self.now.free arena.current.index;
+          slabs = slabs_changed words start class may new taken arena.slabs c.remove.ensures more;
+          lives = lives_changed words start class may new taken c.args.self.now.lives c.stir.new.self c.stir.ensures.counts c.stir.ensures.calm arena.lives;
+        };
+        lively = taken.exact.exact.none_done start;
+        class_is = class_now words start class may new taken;
+        slabs = classes_changed words start class may new taken;
+        heap = taken.left.keeps.heap;
+        roots = λ root. ap (λ (x : Tables). x.root root) taken.tables;
+        keeps = taken.left.keeps.blocks;
+        bounds = taken.bounds;
+        line = λ i. c.args.self.now.line;
+        room = omega (arith, few, ap length c.requires.fresh, c.take_class.ensures.count, step.appends.room, room_of arena.current.ready);
       };
-      slabs = slabs_changed words start class may new taken arena.slabs c.remove.ensures more;
       supplied = (c.remove.new.self, c.remove.ensures, more);
-      lives = lives_changed words start class may new taken c.args.self.now.lives c.stir.new.self c.stir.ensures.counts c.stir.ensures.calm arena.lives;
-      line = λ i. c.args.self.now.line;
     }
