@@ -224,16 +224,12 @@ IsReadBelow-first words set parts granules free slab_granules none = record {
 pub index_read : (words : List ℕ) (set : FreeSet) (parts : Supply) (from : ℕ) → ((start : ℕ) → from ≤ start → extent_at words start ≡ None) → IsReadBelow words set parts from → IsIndexOf set words
 index_read words set parts from none read = record {
   granules = read.granules;
-  each = λ k. (
-    λ is.
-        let vacant = (read.free k).0 is in
-        record {
-          low = vacant.low;
-          high = vacant.high;
-          none = λ start covers. ⊎_elim (λ (lower : start < from). vacant.none start lower covers) (λ (past : from ≤ start). covers_none words start k (none start past) covers) (cases_lt start from);
-        },
-    λ vacant. (read.free k).1 (record { low = vacant.low; high = vacant.high; none = λ start less. vacant.none start }),
-  );
+  each = λ k.
+      -- no extent that covers a granule starts behind it
+      let all = IsReadBelow-none words set parts from (from + k + 1) (omega arith) (λ start past less. none start past) read in (
+        λ is. let vacant = (all.free k).0 is in record { low = vacant.low; high = vacant.high; none = λ start covers. vacant.none start (omega (arith, covers.low)) covers },
+        λ vacant. (read.free k).1 (record { low = vacant.low; high = vacant.high; none = λ start less. vacant.none start }),
+      );
 }
 
 pub slabs_read : (words : List ℕ) (set : FreeSet) (parts : Supply) (from : ℕ) → ((start : ℕ) → from ≤ start → extent_at words start ≡ None) → IsReadBelow words set parts from → IsSlabsOf parts words

@@ -1,8 +1,13 @@
 -- What an arena keeps holds again once a block was given or taken.
-use Rattle.std.proofs.Common.{◌≡◌, ◌↔◌, ◌⊎◌, ℕ, ◌+◌, ◌<◌, ◌≤◌, List, cond, Some, None, refl, sym, ap, subst, ◌∙◌, inl, inr, ⊎_elim}
-use Rattle.pmem_lines.specs.Words.{put_word}
+use Rattle.std.proofs.Common.{◌≡◌, ◌↔◌, ◌⊎◌, ℕ, ◌+◌, ◌<◌, ◌≤◌, List, cond, Some, None, refl, sym, ap, subst, ◌∙◌, inl, inr, ⊎_elim, arith}
+use Rattle.std.proofs.lemmas.List.Elements.{All-weaker}
+use Rattle.pmem_lines.specs.Words.{word_at, put_word}
 use Rattle.pool_layout.specs.Layout.{layout_of}
-use Rattle.pool_layout.specs.Places.{root_word}
+use Rattle.pool_layout.specs.Places.{fields_word, directory_word, entry_word, root_word}
+use Rattle.image_tables.specs.Log.{active_chunks}
+use Rattle.image_tables.proofs.Chunks.{few_chunks}
+use Rattle.image_tables.proofs.Logs.{SameChunk, SameLog}
+use Rattle.heap_check.specs.Slabs.{IsSameSlab}
 use Rattle.pool_layout.specs.Header.{version_in, granules_in}
 use Rattle.image_tables.specs.Tables.{Tables, tables_of}
 use Rattle.image_tables.proofs.Stores.{IsOffLog-root, granules_in-put_root, HasNoMove-closed}
@@ -23,7 +28,7 @@ use Rattle.arena_core.specs.Effect.{KeepsSlabs}
 use Rattle.arena_core.proofs.LargeStages.{IsStageOf}
 use Rattle.arena_core.proofs.UnusedBlocks.{iff_then}
 use Rattle.heap_check.specs.Heap.{IsUnusedIn}
-use Rattle.heap_check.proofs.SameSlabs.{IsUnusedIn-same}
+use Rattle.heap_check.proofs.SameSlabs.{IsSameSlab-roots, IsUnusedIn-same}
 
 -- a log reads the same where a root's word is stored
 pub book_root : (book : Book) (words : List ℕ) (root value : ℕ) → root < (layout_of (version_in words)).roots → IsBookOf book words → IsBookOf book (put_word words (root_word root) value)
@@ -32,19 +37,19 @@ book_root book words root value below log = record {
   granules = log.granules ∙ sym (granules_in-put_root words root value);
 }
 
+-- and where the front words stay and those of the chunks' entries
+pub same_log : (words new : List ℕ) → ((k : ℕ) → k < 64 → word_at new k ≡ word_at words k) →
+    ((c e : ℕ) → c < 16 → e < (layout_of (version_in words)).chunk_entries → word_at new (entry_word (version_in words) c e) ≡ word_at words (entry_word (version_in words) c e)) → SameLog words new
+same_log words new front entries = record {
+  fields = front fields_word (omega arith);
+  directory = front directory_word (omega arith);
+  chunks = All-weaker (λ c. c < 16) (SameChunk (version_in words) words new) (λ c few. record { each = λ e below. entries c e few below }) (active_chunks (word_at words directory_word)) (few_chunks (word_at words directory_word));
+}
+
 -- at each stage the slabs are as before
 pub slabs_stage : {words : List ℕ} {root start here word : ℕ} {image : List ℕ} → IsStageOf words root start here word image → KeepsSlabs words image
 slabs_stage {words} {root} {start} {here} {word} {image} stage = record {
-  each = λ s. record {
-    slab = ap (λ (t : Tables). t.slab s) stage.tables;
-    kind = ap (λ (t : Tables). t.kind s) stage.tables;
-    class = ap (λ (t : Tables). t.class s) stage.tables;
-    old = ap (λ (t : Tables). t.old s) stage.tables;
-    index_count = ap (λ (t : Tables). t.index_count s) stage.tables;
-    bit = ap (λ (t : Tables). t.bit s) stage.tables;
-    live = ap (λ (t : Tables). t.live s) stage.tables;
-    number = ap (λ (t : Tables). t.number s) stage.tables;
-  };
+  each = λ s. subst (λ (t : Tables). IsSameSlab (tables_of words) t s) (sym stage.tables) (IsSameSlab-roots (tables_of words) _ _ _ _ s);
 }
 
 -- so the index of them holds still

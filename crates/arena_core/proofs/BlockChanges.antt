@@ -1,14 +1,11 @@
 -- A block of a slab and its root come or go: the words of the log stay, and those of the other blocks.
 use Rattle.std.proofs.Common.{true, ◌≤◌, ◌+◌, ◌*◌, ◌≡◌, ℕ, ◌<◌, List, sym, ap, ◌∙◌, arith, true, ◌*◌}
-use Rattle.std.proofs.lemmas.List.Elements.{All-weaker}
 use Rattle.pmem_lines.specs.Words.{word_at}
-use Rattle.pool_layout.specs.Places.{fields_word, directory_word, entry_word}
+use Rattle.pool_layout.specs.Places.{entry_word}
 use Rattle.pool_layout.specs.Header.{version_in}
-use Rattle.image_tables.specs.Log.{active_chunks}
 use Rattle.image_tables.specs.Tables.{tables_of, index_word}
-use Rattle.image_tables.proofs.Chunks.{few_chunks}
 use Rattle.image_tables.proofs.Places.{log_word-low, entry_word-low, entry_word-high}
-use Rattle.image_tables.proofs.Logs.{SameChunk, SameLog}
+use Rattle.image_tables.proofs.Logs.{SameLog}
 use Rattle.image_tables.proofs.Stores.{root_word-low}
 use Rattle.book_log.specs.Book.{Book}
 use Rattle.book_log.proofs.Books.{Reads-same}
@@ -22,6 +19,7 @@ use Rattle.attach_steps.specs.declared.block.SmallBlock.{SmallBlock}
 use Rattle.attach_steps.specs.Steps.{KeepsOthers, IsBlockIn, bit_word, IsOldDetachable}
 use Rattle.heap_check.proofs.Geometry.{number_few, granules_at-slab, index_count_few}
 use Rattle.attach_steps.specs.declared.block.OldBlock.{OldBlock}
+use Rattle.arena_core.proofs.Arenas.{same_log}
 
 -- One word of a slab's header changes with a root's word and a write-ahead line: where it lies.
 pub record IsBlockChange (words : List ℕ) (line root start k : ℕ) : Type 0 where
@@ -61,21 +59,13 @@ module _ {words : List ℕ} {line root start place : ℕ} (change : IsBlockChang
   log_small =
       let version = version_in words in
       let sizes = sizes_of words change.image.formed in
-      record {
-        fields = keeps_low fields_word (omega arith);
-        directory = keeps_low directory_word (omega arith);
-        chunks = All-weaker (λ c. c < 16) (SameChunk version words new)
-            (λ c few. record {
-              each = λ e below.
-                  let low = entry_word-low version c e in
-                  let high = entry_word-high version c e few below in
-                  rest.others (entry_word version c e)
-                  (λ is. omega (arith, is, low, log_word-low version, change.few))
-                  (λ is. omega (arith, is, high, sizes.first, change.low, start_low))
-                  (λ is. omega (arith, is, low, root_word-low version root change.rooted));
-            })
-            (active_chunks (word_at words directory_word)) (few_chunks (word_at words directory_word));
-      }
+      same_log words new keeps_low (λ c e few below.
+      let low = entry_word-low version c e in
+      let high = entry_word-high version c e few below in
+      rest.others (entry_word version c e)
+      (λ is. omega (arith, is, low, log_word-low version, change.few))
+      (λ is. omega (arith, is, high, sizes.first, change.low, start_low))
+      (λ is. omega (arith, is, low, root_word-low version root change.rooted)))
 
   pub book_small : bounds_of new ≡ bounds_of words → (book : Book) → IsBookOf book words → IsBookOf book new
   book_small bounds book log = record {

@@ -1,6 +1,5 @@
 -- What a call has done, put together: by the place of its block.
 use Rattle.std.proofs.Common.{◌==◌, ◌≡◌, ◌≢◌, ◌*◌, ◌/◌, ◌+◌, ◌-◌, ◌%◌, ◌<◌, ◌≤◌, ℕ, true, false, cond, leb, List, [], Option, Some, refl, sym, ap, subst, ◌∙◌, arith, ◌++◌, ◌&&◌, ⊎_elim, Bool}
-use Rattle.arena_core.proofs.Readiness.{ready_after}
 use Rattle.std.proofs.lemmas.Bool.{cond-true, cond-false, eq-eqb, ne_eqb, le-leb, lt-leb, false_from_ne_true, and_from, and_parts, eqb-true, cases_Bool}
 use Rattle.std.proofs.lemmas.Nat.{div-mul-add}
 use Rattle.size_classes.specs.Classes.{class_size, class_capacity}
@@ -24,9 +23,8 @@ use Rattle.heap_check.proofs.Geometry.{Covers-slab, slab_of-here, granules_at-sl
 use Rattle.heap_check.proofs.Within.{IsInSlab-held}
 use Rattle.log_steps.proofs.Entries.{first_zero-is}
 use Rattle.attach_steps.specs.declared.block.SmallBlock.{SmallBlock}
-use Rattle.attach_steps.specs.Steps.{attach_events, IsAttachable, IsAttached, detach_old_events, IsDetachable, IsOldDetachable}
+use Rattle.attach_steps.specs.Steps.{attach_events, IsAttachable, detach_old_events, IsDetachable, IsOldDetachable}
 use Rattle.heap_check.proofs.Loose.{IsExactBut-exact}
-use Rattle.arena_core.proofs.SmallCalls.{classes_small, index_small, bits_with, lives_as}
 use Rattle.heap_check.specs.Image.{bounds_of, IsExactImage}
 use Rattle.heap_check.specs.State.{KeepsBlocks, IsEitherHeap}
 use Rattle.arena_core.specs.Arena.{ArenaState, IsSlabsOf, live_in, AreLivesOf, IsCurrent, IsArena, old_range}
@@ -48,7 +46,6 @@ use Rattle.slab_lives.specs.Lives.{Lives}
 use Rattle.arena_core.proofs.LiveCounts.{counts_kept}
 use Rattle.arena_core.proofs.LiveSlabs.{calm_same, lives_kept}
 use Rattle.heap_check.proofs.Small.{one_number, is_old-held}
-use Rattle.arena_core.proofs.BlockChanges.{change_bit, book_small, keeps_small}
 
 -- equal ends
 pub IsCalled-same : {old new device : PmemState} {was next left : Volatile} {seat : ℕ} {call : Call} {reply answer : Reply} → device ≡ new → left ≡ next → answer ≡ reply → IsCalled old new was next seat call reply → IsCalled old device was left seat call answer

@@ -1,5 +1,5 @@
 -- A slab took another class: what stands beside the words of an arena holds again.
-use Rattle.std.proofs.Common.{◌≡◌, ◌≢◌, ◌==◌, ◌↔◌, ℕ, ◌+◌, ◌-◌, ◌*◌, ◌<◌, ◌≤◌, Bool, true, false, List, length, Option, Some, None, MatchOption, IsSome, refl, sym, ap, ◌∙◌, subst, arith, inl, inr, ⊎_elim, if◌then◌else◌}
+use Rattle.std.proofs.Common.{◌≡◌, ◌≢◌, ◌==◌, ◌↔◌, ℕ, ◌+◌, ◌<◌, ◌≤◌, Bool, true, false, List, length, Some, None, sym, ap, ◌∙◌, subst, arith, inl, inr, ⊎_elim, if◌then◌else◌}
 use Rattle.std.proofs.Math.Nat.{min-le_right}
 use Rattle.std.proofs.lemmas.Bool.{cases_eq, cases_lt, cond-true, cond-false, eq-eqb, ne_eqb}
 use Rattle.size_classes.specs.Classes.{class_capacity}
@@ -10,15 +10,12 @@ use Rattle.image_tables.proofs.Stores.{HasNoMove-closed}
 use Rattle.image_tables.proofs.Updates.{put_at-same, put_at-other}
 use Rattle.book_log.specs.Book.{Book}
 use Rattle.book_log.proofs.Books.{Reads-same}
-use Rattle.heap_model.specs.Machine.{Bounds, with_key, slab_block}
+use Rattle.heap_model.specs.Machine.{Bounds, with_key}
 use Rattle.heap_model.proofs.Maps.{with_key-here, with_key-other}
 use Rattle.extent_index.specs.FreeSet.{FreeSet, IsFree}
 use Rattle.slab_index.specs.SlabSet.{class_in, IsSlab}
 use Rattle.slab_lives.specs.Lives.{Lives, calm_at}
-use Rattle.slab_index.specs.declared.block.SlabBlock.{SlabBlock}
-use Rattle.block_supply.specs.Supply.{Supply, IsOpen, IsClearOf, HasSlabMore, HasSlabLess, HasNoOpen, HadNoOpen, TookBlock}
-use Rattle.block_supply.proofs.Takes.{none_open}
-use Rattle.block_supply.proofs.Firsts.{in_new}
+use Rattle.block_supply.specs.Supply.{Supply, IsOpen, IsClearOf, HasSlabMore, HasSlabLess}
 use Rattle.heap_check.specs.Heap.{slabs, IsUnusedIn}
 use Rattle.heap_check.specs.Sound.{IsVacant}
 use Rattle.heap_check.specs.Image.{bounds_of, IsExactImage}
@@ -31,7 +28,7 @@ use Rattle.slab_morph.specs.SlabHeaders.{SlabHeader, header_of, put_header}
 use Rattle.slab_morph.specs.Stages.{morphed, morph_count}
 use Rattle.class_steps.specs.Classes.{IsReadyFor, LeavesClosed, IsOfClass}
 use Rattle.arena_core.specs.Arena.{IsIndexOf, IsSlabsOf, AreCountsOf, AreLivesOf, calm_of}
-use Rattle.arena_core.specs.Plan.{IsAskedOf, IsMorphable, IsGivableBlock}
+use Rattle.arena_core.specs.Plan.{IsMorphable}
 use Rattle.arena_core.proofs.LiveCounts.{counts_kept, live_same}
 use Rattle.arena_core.proofs.LiveSlabs.{calm_stirred, calm_header, calm_all_but, lives_put}
 use Rattle.arena_core.proofs.Plans.{slab_parts}

@@ -1,5 +1,5 @@
 -- What a free has done, put together: by what the root held.
-use Rattle.std.proofs.Common.{◌≡◌, ◌*◌, ◌+◌, ◌%◌, ◌<◌, ◌++◌, ℕ, true, List, Some, refl, sym, ap, subst, ◌∙◌, arith, None, Bool}
+use Rattle.std.proofs.Common.{◌≡◌, ◌*◌, ◌+◌, ◌%◌, ◌<◌, ◌++◌, ℕ, List, Some, refl, sym, ap, subst, ◌∙◌, arith, None}
 use Rattle.pmem_lines.specs.declared.event.Event.{Event}
 use Rattle.pmem_lines.specs.Events.{reading}
 use Rattle.pmem_lines.specs.Pmem.{PmemState, words_of}

@@ -1,5 +1,5 @@
 -- A slab is there for a root: its seat is given a block of it, and this comes to the root.
-use Rattle.std.proofs.Common.{◌≡◌, ◌+◌, ◌*◌, ◌%◌, ◌^◌, ◌<◌, ◌≤◌, ◌++◌, ℕ, true, List, Option, Some, None, MatchOption, IsSome, refl, sym, ap, ◌∙◌, subst, arith, inl}
+use Rattle.std.proofs.Common.{◌≡◌, ◌+◌, ◌*◌, ◌^◌, ◌<◌, ◌++◌, ℕ, true, List, Option, Some, None, MatchOption, IsSome, refl, sym, ap, ◌∙◌, subst, arith, inl}
 use Rattle.std.proofs.lemmas.Bool.{cond-true}
 use Rattle.arena_core.proofs.Readiness.{ready_after}
 use Rattle.pmem_lines.specs.declared.event.Event.{Event}
@@ -12,7 +12,7 @@ use Rattle.heap_model.specs.Machine.{Range, with_key, slab_block}
 use Rattle.heap_model.proofs.Slabbing.{LiesIn-block}
 use Rattle.slab_index.specs.SlabSet.{class_in}
 use Rattle.slab_index.specs.declared.block.SlabBlock.{SlabBlock}
-use Rattle.block_supply.specs.Supply.{Supply, IsOpen, HadNoOpen, TookBlock}
+use Rattle.block_supply.specs.Supply.{Supply, HadNoOpen, TookBlock}
 use Rattle.block_supply.proofs.Takes.{none_open}
 use Rattle.heap_check.specs.Heap.{slabs}
 use Rattle.heap_check.specs.State.{IsEitherHeap}

@@ -21,6 +21,7 @@ pub mod TakenBlocks
 pub mod SlabChanges
 pub mod ChangedClasses
 pub mod GivenBlocks
+pub mod LargeBlocks
 pub mod Tidying
 pub mod Plans
 pub mod BestSlabs

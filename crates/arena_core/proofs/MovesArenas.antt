@@ -1,16 +1,13 @@
 -- A block moved from a root to another: what stands beside the words is what they say still.
 use Rattle.std.proofs.Common.{◌≡◌, ◌≢◌, ◌↔◌, ℕ, ◌+◌, ◌<◌, List, Option, Some, None, sym, ap, subst, ◌∙◌, arith, ⊎_elim, if◌then◌else◌}
 use Rattle.std.proofs.lemmas.Bool.{cases_eq}
-use Rattle.std.proofs.lemmas.List.Elements.{All-weaker}
 use Rattle.pmem_lines.specs.Words.{word_at}
-use Rattle.pool_layout.specs.Places.{fields_word, directory_word, entry_word}
+use Rattle.pool_layout.specs.Places.{entry_word}
 use Rattle.pool_layout.specs.Header.{version_in, granules_in}
-use Rattle.image_tables.specs.Log.{active_chunks}
 use Rattle.image_tables.specs.Tables.{Tables, tables_of}
 use Rattle.image_tables.specs.Updates.{with_root}
-use Rattle.image_tables.proofs.Chunks.{few_chunks}
 use Rattle.image_tables.proofs.Places.{log_word-low, entry_word-low}
-use Rattle.image_tables.proofs.Logs.{SameChunk, SameLog}
+use Rattle.image_tables.proofs.Logs.{SameLog}
 use Rattle.image_tables.proofs.Stores.{root_word-low}
 use Rattle.book_log.specs.Book.{Book}
 use Rattle.book_log.proofs.Books.{Reads-same}
@@ -27,6 +24,7 @@ use Rattle.move_steps.specs.Moves.{IsMovable, IsMoved}
 use Rattle.slab_lives.specs.Lives.{Lives, calm_at}
 use Rattle.arena_core.specs.Arena.{IsIndexOf, live_in, AreLivesOf}
 use Rattle.arena_core.specs.Effect.{KeepsSlabs}
+use Rattle.arena_core.proofs.Arenas.{same_log}
 use Rattle.arena_core.proofs.LiveCounts.{one_if, live_given, counts_kept}
 use Rattle.arena_core.proofs.LiveSlabs.{calm_same, lives_kept}
 
@@ -70,20 +68,12 @@ module _ {words new : List ℕ} {line from to at : ℕ} (may : IsMovable words f
   log_moved : SameLog words new
   log_moved =
       let version = version_in words in
-      record {
-        fields = keeps_low fields_word (omega arith);
-        directory = keeps_low directory_word (omega arith);
-        chunks = All-weaker (λ c. c < 16) (SameChunk version words new)
-            (λ c few_chunks. record {
-              each = λ e below.
-                  let low = entry_word-low version c e in
-                  moved.rest.others (entry_word version c e)
-                  (λ is. omega (arith, is, low, log_word-low version, few))
-                  (λ is. omega (arith, is, low, root_word-low version from may.from_rooted))
-                  (λ is. omega (arith, is, low, root_word-low version to may.to_rooted));
-            })
-            (active_chunks (word_at words directory_word)) (few_chunks (word_at words directory_word));
-      }
+      same_log words new keeps_low (λ c e few_chunks below.
+      let low = entry_word-low version c e in
+      moved.rest.others (entry_word version c e)
+      (λ is. omega (arith, is, low, log_word-low version, few))
+      (λ is. omega (arith, is, low, root_word-low version from may.from_rooted))
+      (λ is. omega (arith, is, low, root_word-low version to may.to_rooted)))
 
   pub granules_moved : granules_in new ≡ granules_in words
   granules_moved = ap (λ (b : Bounds). b.granules) moved.bounds

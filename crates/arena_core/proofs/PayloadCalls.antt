@@ -1,5 +1,5 @@
 -- Words that are written into a root's block, put together: what a write did, and what a crash within it leaves.
-use Rattle.std.proofs.Common.{◌≡◌, ◌<◌, ◌≤◌, ◌+◌, ◌-◌, ◌*◌, ◌/◌, ◌%◌, ℕ, List, [], length, Ok, Err, Result, refl, sym, ap, subst, ◌∙◌, arith, inl, inr, ⊎_elim}
+use Rattle.std.proofs.Common.{◌≡◌, ◌<◌, ◌≤◌, ◌+◌, ◌-◌, ◌*◌, ◌/◌, ◌%◌, ℕ, List, [], length, Ok, Err, None, Result, refl, sym, ap, subst, ◌∙◌, arith, inl, inr, ⊎_elim}
 use Rattle.arena_core.proofs.Readiness.{ready_after}
 use Rattle.std.proofs.lemmas.Bool.{cases_lt}
 use Rattle.pmem_lines.specs.Words.{word_at}
@@ -13,13 +13,15 @@ use Rattle.image_tables.proofs.Stores.{HasNoMove-closed}
 use Rattle.size_classes.specs.Classes.{class_size}
 use Rattle.size_classes.proofs.Spacing.{class_size-aligned}
 use Rattle.heap_model.specs.Machine.{slab_block}
-use Rattle.heap_check.specs.Heap.{entry_at}
+use Rattle.image_tables.proofs.Tables.{root_table-past}
+use Rattle.heap_check.specs.Heap.{entry_at, heap}
 use Rattle.heap_check.specs.Image.{bounds_of, IsExactImage}
 use Rattle.heap_check.proofs.Claims.{IsNamed-claim}
-use Rattle.heap_check.proofs.Heaps.{IsClaim-heap}
+use Rattle.heap_check.proofs.Heaps.{heap-none, IsClaim-heap}
 use Rattle.heap_check.proofs.Sizes.{sizes_of}
 use Rattle.heap_check.proofs.Within.{IsWithin-claim}
 use Rattle.arena_core.specs.declared.answer.BlockRefusal.{BlockRefusal}
+use Rattle.arena_core.specs.declared.answer.BlockRefusal.TheVariants.{NoRoot, Empty, OutOfRange}
 use Rattle.arena_core.specs.declared.plan.Held.{Held}
 use Rattle.arena_core.specs.declared.plan.Held.TheVariants as holding
 use Rattle.arena_core.specs.declared.volatile.Volatile.{Volatile}
@@ -27,7 +29,7 @@ use Rattle.arena_core.specs.Answer.{write_reply}
 use Rattle.arena_core.specs.Arena.{ArenaState, IsArena}
 use Rattle.arena_core.specs.Call.{IsReady}
 use Rattle.arena_core.specs.Events.{write_events}
-use Rattle.arena_core.specs.Payload.{payload_events, IsWriteStep, IsNamedWord, HasWritten, IsWrittenBy, IsEitherWords, HasBlockAt, IsWritable, IsWritePlan, IsWriteCarried}
+use Rattle.arena_core.specs.Payload.{payload_events, IsWriteStep, IsNamedWord, HasWritten, IsWrittenBy, IsEitherWords, HasBlockAt, IsBlockPlan, IsWritable, IsWritePlan, IsWriteCarried}
 use Rattle.arena_core.specs.Plan.{IsHeldBy, range_held}
 use Rattle.arena_core.proofs.CallEvents.{held_heap, meant}
 use Rattle.arena_core.proofs.PayloadImages.{IsSameOffBlock, bounds_kept, exact_kept, heap_kept, slabs_kept, IsArena-block}
@@ -73,6 +75,12 @@ HasBlockAt-held words image root held rooted is =
       inside = omega (arith, within.1.high, lies.1, sizes.size);
       few = omega (arith, sizes.size, sizes.most);
     }
+
+-- where none is found the root has none
+pub block_refused : (words : List ℕ) (root : ℕ) (refusal : BlockRefusal) → IsBlockPlan words root (Err refusal) → heap (tables_of words) root ≡ None
+block_refused words root NoRoot past = heap-none (tables_of words) root (root_table-past words root past)
+block_refused words root Empty none = none.1
+block_refused words root OutOfRange never = absurd never
 
 -- what a write did
 

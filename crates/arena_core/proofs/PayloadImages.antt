@@ -1,17 +1,14 @@
 -- Words that differ within the block of a root alone: the image says the same of everything, and what stands beside the
 -- words of an arena stays what they say.
 use Rattle.std.proofs.Common.{◌≡◌, ◌<◌, ◌≤◌, ◌↔◌, ◌+◌, ◌*◌, ℕ, true, List, length, Some, sym, ap, subst, ◌∙◌, arith, ⊎_elim, cond}
-use Rattle.std.proofs.lemmas.List.Elements.{All-weaker}
 use Rattle.size_classes.specs.Classes.{class_capacity}
 use Rattle.pmem_lines.specs.Words.{word_at}
 use Rattle.pmem_lines.specs.Pmem.{PmemState, words_of}
-use Rattle.pool_layout.specs.Places.{text_word, fields_word, directory_word, root_word, wal_word, entry_word, granule_word, heap_word, blocks_place}
+use Rattle.pool_layout.specs.Places.{text_word, root_word, wal_word, entry_word, granule_word, heap_word, blocks_place}
 use Rattle.pool_layout.specs.Header.{version_field, version_in, granules_in}
-use Rattle.image_tables.specs.Log.{active_chunks}
 use Rattle.image_tables.specs.Tables.{Tables, root_in, open_entry_in, wal_lines, large_of, is_slab_of, is_slab, state_word, bitmap_word, index_word, bit_at, live_at, number_at, tables_of}
-use Rattle.image_tables.proofs.Chunks.{few_chunks}
 use Rattle.image_tables.proofs.Places.{log_word-low, entry_word-high}
-use Rattle.image_tables.proofs.Logs.{SameChunk, SameLog}
+use Rattle.image_tables.proofs.Logs.{SameLog}
 use Rattle.image_tables.proofs.Extents.{extent_at-same}
 use Rattle.image_tables.proofs.Tables.{slab_table, index_count_table}
 use Rattle.image_tables.proofs.Stores.{root_word-low, wal_word-low, log_word-high, live_at-same, number_at-same, bit_at-same, slab_bit-same, roots-same, entry_among-same, tables_by}
@@ -29,6 +26,7 @@ use Rattle.heap_check.proofs.BlockWords.{block_word-heap, block_word-header}
 use Rattle.heap_check.proofs.Forms.{IsFormed-same, HasWal-same, bounds_of-same}
 use Rattle.heap_check.proofs.Geometry.{index_count_few}
 use Rattle.log_steps.specs.Log.{IsBookOf}
+use Rattle.arena_core.proofs.Arenas.{same_log}
 use Rattle.arena_core.specs.declared.volatile.Volatile.{Volatile}
 use Rattle.slab_lives.specs.Lives.{Lives, calm_at}
 use Rattle.arena_core.specs.Arena.{IsIndexOf, IsSlabsOf, live_in, calm_of, AreLivesOf, IsArena}
@@ -61,13 +59,7 @@ module _ {words new : List ℕ} {range : Range} (image : IsExactImage words) (ro
       (block_word-header image.exact.sound image.exact.closed root range named k within start (slab_table words start ∙ is)))
 
   log : SameLog words new
-  log = record {
-    fields = lowest fields_word (omega arith);
-    directory = lowest directory_word (omega arith);
-    chunks = All-weaker (λ c. c < 16) (SameChunk (version_in words) words new)
-        (λ c few. record { each = λ e below. low (entry_word (version_in words) c e) (entry_word-high (version_in words) c e few below) })
-        (active_chunks (word_at words directory_word)) (few_chunks (word_at words directory_word));
-  }
+  log = same_log words new (λ k before. lowest k (omega (arith, before))) (λ c e few below. low (entry_word (version_in words) c e) (entry_word-high (version_in words) c e few below))
 
   slab : (start : ℕ) → is_slab new start ≡ is_slab words start
   slab start = ap is_slab_of (extent_at-same words new start log)

@@ -24,7 +24,6 @@ use Rattle.std.proofs.lemmas.Bool.{cond-true, cond-false, cases_Bool, cases_eq}
 use Rattle.pmem_lines.specs.Pmem.{PmemState, words_of, began}
 use Rattle.image_tables.specs.Tables.{Tables, tables_of}
 use Rattle.size_classes.specs.Classes.{class_size, class_capacity}
-use Rattle.heap_model.specs.declared.call.Call.{Call}
 use Rattle.heap_model.specs.declared.call.Call.TheVariants as calls
 use Rattle.heap_model.specs.declared.call.Reply.TheVariants as replies
 use Rattle.heap_model.specs.Machine.{Bounds, slab_block, with_key}
@@ -40,8 +39,7 @@ use Rattle.arena_core.specs.declared.answer.MallocRefusal.TheVariants.{NoSpace}
 use Rattle.arena_core.specs.declared.answer.Placed.{Placed}
 use Rattle.arena_core.specs.Carried.{IsCalled, IsHeldFor, MayOpen, MayTakeClass, IsDone, HasClassNow, IsSlabFor}
 use Rattle.attach_steps.specs.declared.block.SmallBlock.{SmallBlock}
-use Rattle.slab_lives.specs.Lives.{Lives}
-use Rattle.arena_core.specs.Arena.{IsArena, AreSlabsLess, AreLivesOf}
+use Rattle.arena_core.specs.Arena.{IsArena}
 use Rattle.arena_core.specs.Plan.{IsAskedOf, IsPlacing, IsFound, IsSuppliedAt, IsSuppliedFor, IsPlanned, tables_view, IsBlockAs, number_of}
 use Rattle.arena_core.proofs.PayloadCalls.{IsArena-began}
 use Rattle.arena_core.proofs.SmallCalls.{slabs_without}

@@ -1,9 +1,7 @@
 -- A slab comes or goes: what an arena keeps holds again.
-use Rattle.std.proofs.Common.{◌≡◌, ◌≢◌, ◌⊎◌, ◌↔◌, ◌==◌, ℕ, ◌+◌, ◌*◌, ◌<◌, ◌≤◌, true, true≢false, List, sym, ap, subst, ◌∙◌, arith, inl, inr, ⊎_elim, Some, None, if◌then◌else◌, slice_index}
+use Rattle.std.proofs.Common.{◌≡◌, ◌≢◌, ◌⊎◌, ◌↔◌, ◌==◌, ℕ, ◌+◌, ◌<◌, ◌≤◌, true, true≢false, List, sym, ap, subst, ◌∙◌, arith, inl, inr, ⊎_elim, Some, None, if◌then◌else◌, slice_index}
 use Rattle.std.proofs.lemmas.Bool.{cases_eq, cases_lt, eq-eqb, ne_eqb, cond-true, cond-false}
-use Rattle.std.proofs.lemmas.Nat.{le-div}
-use Rattle.size_classes.specs.Classes.{class_size, class_capacity}
-use Rattle.size_classes.proofs.Spacing.{class_size-least, class_size-most}
+use Rattle.size_classes.specs.Classes.{class_capacity}
 use Rattle.image_tables.specs.Tables.{Tables, tables_of}
 use Rattle.extent_index.specs.FreeSet.{FreeSet, IsFree, IsHeldRow}
 use Rattle.slab_index.specs.SlabSet.{class_in}
@@ -22,7 +20,6 @@ use Rattle.heap_check.proofs.SlabPlaces.{IsSlabPlace-vacant, IsSlabPlace-empty}
 use Rattle.heap_check.proofs.Slabs.{IsSlabPlace, holds_none-fresh}
 use Rattle.extent_steps.specs.Slabs.{IsOpened, IsDropped}
 use Rattle.extent_steps.proofs.Images.{keeps_blocks}
-use Rattle.attach_steps.specs.Steps.{IsAttachable}
 use Rattle.slab_lives.specs.Lives.{Lives, calm_at}
 use Rattle.arena_core.specs.Arena.{IsIndexOf, IsSlabsOf, AreCountsOf, AreLivesOf, live_in}
 use Rattle.arena_core.specs.Plan.{IsVacantRow}

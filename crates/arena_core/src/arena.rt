@@ -21,7 +21,7 @@ ghost use Rattle.arena_core.specs.Payload.{payload_events, IsWriteStep, IsWritte
 use crate::adopting::{read_image, read_lives, take_front};
 use crate::formatting::write_header;
 use crate::payload::carry_out_write;
-use crate::plan::{freed_of, granules_in, layout_in};
+use crate::plan::granules_in;
 use crate::volatile::Volatile;
 use crate::{
     ArenaRoom, BlockRefusal, FreeRefusal, Freed, MallocRefusal, MoveRefusal, Moved, Placed,
@@ -230,19 +230,13 @@ impl<P: Pmem> Arena<P> {
     pub fn block(&self, root: u32) -> Option<Block>
         ensures { IsBlockOfRoot (words_of self.now.device) root result }
     {
-        if root >= layout_in(&self.device).roots {
-            return None;
-        }
-        match self.volatile.held_by(&self.device, root) {
-            Some(held) => {
-                let block = freed_of(held);
-                Some(Block {
-                    root,
-                    at: block.at,
-                    size: block.size,
-                })
-            }
-            None => None,
+        match self.volatile.block_of(&self.device, root) {
+            Ok(block) => Some(Block {
+                root,
+                at: block.at,
+                size: block.size,
+            }),
+            Err(_) => None,
         }
     }
 

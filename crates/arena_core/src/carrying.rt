@@ -210,13 +210,7 @@ impl Volatile {
 
     // Gives a block of a slab to a root of a seat: of the slab's class only blocks of this slab are open, and the seat is
     // given one of them.
-    fn give_of<P: Pmem>(
-        &mut self,
-        device: &mut P,
-        seat: u32,
-        root: u32,
-        slab: SlabAt,
-    ) -> SmallBlock
+    fn give_of<P: Pmem>(&mut self, device: &mut P, seat: u32, root: u32, slab: SlabAt) -> SmallBlock
         requires ready { IsSlabFor (P.state device.old) self.old root slab.start slab.class }
         requires room { HasRoom (P.state device.old) 11 }
         requires seat { seat < 64 }

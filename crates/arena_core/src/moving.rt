@@ -13,7 +13,12 @@ use pmem_lines::Pmem;
 
 impl Volatile {
     /// The block that moves, or why none does.
-    pub(crate) fn plan_move<P: Pmem>(&self, device: &P, from: u32, to: u32) -> Result<Moved, MoveRefusal>
+    pub(crate) fn plan_move<P: Pmem>(
+        &self,
+        device: &P,
+        from: u32,
+        to: u32,
+    ) -> Result<Moved, MoveRefusal>
         requires arena { IsArena (P.state device.now) self.now }
         ensures { IsMovePlan (words_of (P.state device.now)) from to result }
     {

@@ -40,7 +40,13 @@ impl Volatile {
     }
 
     /// The byte at which a write of `count` words begins, from word `from` of a root's block on, or why there is none.
-    pub(crate) fn plan_write<P: Pmem>(&self, device: &P, root: u32, from: u32, count: u64) -> Result<u32, BlockRefusal>
+    pub(crate) fn plan_write<P: Pmem>(
+        &self,
+        device: &P,
+        root: u32,
+        from: u32,
+        count: u64,
+    ) -> Result<u32, BlockRefusal>
         requires arena { IsArena (P.state device.now) self.now }
         requires few { count ≤ 512 }
         ensures { IsWritePlan (words_of (P.state device.now)) root from count result }

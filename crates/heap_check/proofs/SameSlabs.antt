@@ -1,7 +1,8 @@
 -- Of a slab two tables say the same: so it holds the same blocks, and the same blocks of it are unused.
-use Rattle.std.proofs.Common.{◌↔◌, ℕ, ◌<◌, Bool, sym, ap, subst, ◌∙◌, arith, inl, inr, ⊎_elim}
+use Rattle.std.proofs.Common.{◌↔◌, ℕ, ◌<◌, Bool, Option, refl, sym, ap, subst, ◌∙◌, arith, inl, inr, ⊎_elim}
 use Rattle.size_classes.specs.Classes.{class_capacity}
 use Rattle.image_tables.specs.Tables.{Tables}
+use Rattle.image_tables.specs.declared.entry.WalEntry.{WalEntry}
 use Rattle.heap_model.specs.Machine.{Range, slab_block}
 use Rattle.heap_check.specs.Heap.{Holds, HoldsBit, HoldsOld, IsUnusedIn}
 use Rattle.heap_check.specs.Slabs.{IsSameSlab}
@@ -17,6 +18,10 @@ IsSameSlab-back {t} {new} {start} same = record {
   live = sym same.live;
   number = sym same.number;
 }
+
+-- tables that differ in roots, the open entry and large extents alone
+pub IsSameSlab-roots : (t : Tables) (word root large : ℕ → ℕ) (entry : Option WalEntry) (start : ℕ) → IsSameSlab t (record t { word = word; root = root; large = large; open_entry = entry }) start
+IsSameSlab-roots t word root large entry start = record { slab = refl; kind = refl; class = refl; old = refl; index_count = refl; bit = refl; live = refl; number = refl }
 
 pub Holds-same : {t new : Tables} {start : ℕ} → IsSameSlab t new start → (range : Range) → Holds t start range → Holds new start range
 Holds-same {t} {new} {start} same range holds = record {

@@ -45,17 +45,7 @@ written g c = record {
 }
 
 left : (g : given.Over) (c : goal.After-load g) → IsWritten (g.P.Pmem.state c.args.device) (g.P.Pmem.state c.begin.new.self) (g.P.Pmem.state c.write_header.new.device) c.args.number c.args.arenas c.granules.result
-left g c = record {
-  begun_is = c.begin.ensures.state;
-  step = c.write_header.ensures.appends;
-  zeros = c.requires.zero;
-  size = omega (arith, c.requires.size, c.room.view_is, c.granules.ensures.granules);
-  below = c.requires.number;
-  few = c.requires.few;
-  least = c.granules.ensures.size.least;
-  most = omega (arith, c.requires.most, c.room.view_is, c.granules.ensures.granules);
-  room = c.requires.room;
-}
+left g c = written g c.before
 
 pub load-requires-clause-log : goal.load-requires-clause-log
 load-requires-clause-log g c = formatted_log (written g c) c.room.inside.volatile.log.granules (sym c.granules.ensures.granules)

@@ -1,4 +1,4 @@
-use Rattle.std.proofs.Common.{◌+◌, ◌*◌, ap, arith, length}
+use Rattle.std.proofs.Common.{ap, arith, length}
 use Rattle.arena_core.proofs.Readiness.{room_of}
 use Rattle.pmem_lines.specs.Pmem.{words_of}
 use Rattle.heap_check.proofs.Sizes.{sizes_of}

@@ -1,18 +1,14 @@
-use Rattle.std.proofs.Common.{ℕ, List, length, refl, sym, ap, subst, ◌∙◌, arith, inl}
-use Rattle.arena_core.proofs.Readiness.{ready_after, room_of, entry_room}
+use Rattle.std.proofs.Common.{ℕ, List, length, sym, ap, subst, arith}
+use Rattle.arena_core.proofs.Readiness.{room_of, entry_room}
 use Rattle.pmem_lines.specs.Pmem.{words_of}
-use Rattle.image_tables.specs.Tables.{tables_of}
-use Rattle.heap_check.specs.Image.{bounds_of}
-use Rattle.heap_check.proofs.Large.{with_large}
-use Rattle.heap_check.proofs.LargeHeaps.{IsVacant-freed}
 use Rattle.pool_layout.specs.Layout.{layout_of}
 use Rattle.heap_check.proofs.Sizes.{sizes_of, root_inside, version_by_bounds}
 use Rattle.log_steps.specs.Log.{IsBookOf}
 use Rattle.extent_steps.specs.Large.{IsLooseExtent}
-use Rattle.arena_core.proofs.Arenas.{book_root, slabs_stage, index_stage, index_more}
-use Rattle.arena_core.proofs.CallEvents.{IsDone-large}
-use Rattle.arena_core.proofs.LargeStages.{IsStageOf, stage_gone, exact_stage, gives_none}
-use Rattle.arena_core.proofs.LargeCalls.{take_place, taken_root, taken_loose, taken_covers, take_step, live_taken_large}
+use Rattle.arena_core.proofs.Arenas.{book_root}
+use Rattle.arena_core.proofs.LargeStages.{IsStageOf}
+use Rattle.arena_core.proofs.LargeCalls.{taken_root, taken_loose, taken_covers}
+use Rattle.arena_core.proofs.LargeBlocks.{large_taken}
 use Rattle.arena_core.proofs.volatile.Volatile.take_large.Goals as goal
 
 pub put_root-requires-clause-root : goal.put_root-requires-clause-root
@@ -59,29 +55,4 @@ give-requires g c =
 
 pub returns-clause-done : goal.returns-clause-done
 returns-clause-done g c =
-    let state = g.P.Pmem.state in
-    let words = words_of (state c.args.device.now) in
-    let made = words_of (state c.put_root.new.p) in
-    let new = words_of (state c.drop_extent.new.p) in
-    let root = c.args.root in
-    let start = c.args.start in
-    let count = c.args.granules in
-    let arena = c.requires.arena.current in
-    let exact = arena.exact in
-    let put = c.put_root.ensures in
-    let drop = c.drop_extent.ensures in
-    let place = take_place words root start count exact c.requires.takable in
-    let stage : IsStageOf words root start count 0 made = subst (λ (ws : List ℕ). IsStageOf words root start count 0 ws) (sym put.words) (taken_root words root start count exact c.requires.takable) in
-    let done : IsStageOf words root start 0 0 new = stage_gone words root start count 0 made new stage drop.gone in
-    IsDone-large c.requires.arena refl refl (live_taken_large words new root start count exact c.requires.takable (gives_none exact place 0 new done) (slabs_stage done))
-    (take_step words root start count exact c.requires.takable new put.words drop.gone.heap put.step drop.step)
-    (record {
-      ready = ready_after arena.ready (drop.step.appends.room ∙ put.step.appends.room) drop.step.quiet exact.formed done.formed done.bounds;
-      exact = exact_stage exact place 0 0 new (record { is = inl (refl, refl) }) done;
-      log = drop.book;
-      index = index_stage c.give.new.self done (c.give.ensures.granules ∙ arena.index.granules)
-          (index_more c.args.self.now.free c.give.new.self (bounds_of words) (tables_of words) (with_large (tables_of words) start 0 root 0) start count
-          arena.index.each c.give.ensures.free (λ k. IsVacant-freed place 0 k c.requires.takable.live));
-    })
-    (gives_none exact place 0 new done)
-    (slabs_stage done)
+    large_taken c.requires.arena c.requires.takable c.give.new.self c.drop_extent.new.log c.put_root.ensures.words c.put_root.ensures.step c.drop_extent.ensures.gone c.drop_extent.ensures.step c.drop_extent.ensures.book c.give.ensures.granules c.give.ensures.free
