@@ -1,5 +1,5 @@
 -- What every row of the table of versions keeps.
-use Rattle.std.proofs.Common.{◌≡◌, ◌+◌, ◌*◌, ◌/◌, ℕ, refl, sym, ◌∙◌, ap, arith, rules}
+use Rattle.std.proofs.Common.{◌≡◌, ◌+◌, ◌*◌, ◌/◌, ℕ, sym, ◌∙◌, ap, arith, rules}
 use Rattle.pool_layout.specs.declared.layout.Layout.{Layout}
 use Rattle.pool_layout.specs.Layout.{layout_of, IsVersion, IsLayout}
 
