@@ -1,9 +1,13 @@
 -- Worked rows of slabs that take a class, at the bounds: 64 live blocks, and five times as many as the capacity. The arena
 -- has 16 granules and at least 2001 roots.
-use Rattle.std.proofs.Common.{◌≡◌, ◌⊎◌, ◌<◌, ◌≤◌, ◌+◌, ◌*◌, ℕ, suc, refl, sym, arith, subst, inl, inr, ⊎_elim, lit<, lit≤}
+use Rattle.std.proofs.Common.{◌≡◌, ◌≢◌, ◌⊎◌, ◌<◌, ◌≤◌, ◌+◌, ◌*◌, ◌&&◌, ◌||◌, ltb, eqb, Bool, true, ℕ, suc, List, [], ◌∷◌, refl, ap, arith, subst, inl, inr, ⊎_elim, lit<, lit≤}
+use Rattle.std.specs.List.{All, AllPass}
 use Rattle.std.proofs.lemmas.Bool.{cases_lt}
+use Rattle.std.proofs.lemmas.Bool.Decides.{nat_tests}
+use Rattle.std.proofs.lemmas.List.Elements.{All-weaker}
+use Rattle.std.proofs.lemmas.List.Sums.{AllPass-from_list_all}
 use Rattle.size_classes.specs.Classes.{sizes, class_size, class_capacity, IsClassOf}
-use Rattle.size_classes.proofs.Spacing.{class_size-rises}
+use Rattle.size_classes.proofs.Spacing.{class_size-rises, class_size-least}
 use Rattle.heap_model.specs.declared.call.Call.TheVariants.{Malloc}
 use Rattle.heap_model.specs.declared.call.Reply.TheVariants.{Placed, NoSpace}
 use Rattle.heap_model.specs.Machine.{Bounds}
@@ -28,6 +32,61 @@ class_above size b is_class above holds = record {
 class_zero : IsClassOf 16 0
 unfolding class_size sizes
 class_zero = record { is_class = lit< tt; holds = lit≤ tt; least = λ lower less. absurd (omega (arith, less)) }
+
+-- so many blocks of a class are at most 64 and at most a fifth of its capacity, and one more is not; the first block of 16
+-- bytes behind them has this number
+record Row : Type 0 where
+  class : ℕ
+  blocks : ℕ
+  number : ℕ
+
+-- five times as many blocks as the class's capacity, exactly; of class 9, whose capacity is 330, the bound of 64 comes
+-- first; and of class 20, whose capacity of 49 five does not divide, nine blocks are less than a fifth, and ten are more
+rows : List Row
+rows =
+    record { class = 13; blocks = 33; number = 792 }
+    ∷ record { class = 18; blocks = 14; number = 784 }
+    ∷ record { class = 22; blocks = 7; number = 784 }
+    ∷ record { class = 25; blocks = 4; number = 768 }
+    ∷ record { class = 27; blocks = 3; number = 768 }
+    ∷ record { class = 29; blocks = 2; number = 768 }
+    ∷ record { class = 33; blocks = 1; number = 768 }
+    ∷ record { class = 9; blocks = 64; number = 768 }
+    ∷ record { class = 20; blocks = 9; number = 720 }
+    ∷ []
+
+-- a test of a row, and what it says
+is_at_bound : Row → Bool
+is_at_bound r =
+    (ltb 0 r.class && ltb r.class 36 && ltb r.blocks 65 && ltb (5 * r.blocks) (class_capacity r.class + 1))
+    && ((ltb 64 (r.blocks + 1) || ltb (class_capacity r.class) (5 * (r.blocks + 1))) && ltb r.blocks (class_capacity r.class) && ltb r.number (class_capacity 0) && eqb (r.blocks * class_size r.class) (r.number * class_size 0))
+
+record IsAtBound (r : Row) : Type 0 where
+  other : 0 < r.class
+  is_class : r.class < 36
+  most : r.blocks ≤ 64
+  fifth : 5 * r.blocks ≤ class_capacity r.class
+  above : (64 < r.blocks + 1) ⊎ (class_capacity r.class < 5 * (r.blocks + 1))
+  room : r.blocks < class_capacity r.class
+  inside : r.number < class_capacity 0
+  behind : r.blocks * class_size r.class ≡ r.number * class_size 0
+
+at_bound : (r : Row) → is_at_bound r ≡ true → IsAtBound r
+unfolding is_at_bound
+at_bound r is = record {
+  other = grind (arith, nat_tests);
+  is_class = grind (arith, nat_tests);
+  most = grind (arith, nat_tests);
+  fifth = grind (arith, nat_tests);
+  above = grind (arith, nat_tests);
+  room = grind (arith, nat_tests);
+  inside = grind (arith, nat_tests);
+  behind = grind (arith, nat_tests);
+}
+
+rows_pass : AllPass is_at_bound rows
+unfolding rows is_at_bound class_size sizes
+rows_pass = AllPass-from_list_all is_at_bound rows refl
 
 module _ (roots : ℕ) (many : 2001 ≤ roots) where
   abbrev b : Bounds
@@ -60,48 +119,16 @@ module _ (roots : ℕ) (many : 2001 ≤ roots) where
     pub takes : IsSite (view_of (small roots) (filled d n)) 16 (InMorph 12 0 j)
     pub takes_none : HasNoSite (view_of (small roots) (filled d (suc n))) 16
 
-  bound : (d n j cap size : ℕ) → class_size d ≡ size → class_capacity d ≡ cap → class_size 0 ≡ 16 → class_capacity 0 ≡ 3968 → 0 < d → 0 < size → n + 1 ≤ 64 → 5 * (n + 1) ≤ cap → (64 < n + 2) ⊎ (cap < 5 * (n + 2)) → n + 2 ≤ cap →
-      j < 3968 → (n + 1) * size ≡ j * 16 → IsBound d n j
-  bound d n j cap size wide holds zero_size zero_holds other some most fifth above room inside behind = record {
-    takes = takes_class roots d n (omega (arith, wide, some)) (omega (arith, holds, room)) (omega (arith, most, many)) 0 j 16 most (omega (arith, holds, fifth)) (λ same. omega (arith, same, other)) class_zero (omega (arith, zero_holds, inside))
-        (subst (λ (k : ℕ). (n + 1) * class_size d ≤ j * k) (sym zero_size) (subst (λ (k : ℕ). (n + 1) * k ≤ j * 16) (sym wide) (omega (arith, behind))));
-    takes_none = takes_none roots d (suc n) (omega (arith, wide, some)) (omega (arith, holds, room)) (omega (arith, most, many)) 0 16 (⊎_elim (λ x. inl (omega (arith, x))) (λ x. inr (omega (arith, x, holds))) above) (λ same. omega (arith, same, other)) class_zero;
-  }
+  bound : (r : Row) → IsAtBound r → (n : ℕ) → n + 1 ≡ r.blocks → IsBound r.class n r.number
+  bound r at n is =
+      let d = r.class in
+      let other : 0 ≢ d = λ same. omega (arith, same, at.other) in
+      let some : 0 < class_size d = omega (arith, class_size-least d at.is_class) in
+      record {
+        takes = takes_class roots d n some (omega (arith, at.room, is)) (omega (arith, at.most, is, many)) 0 r.number 16 (omega (arith, at.most, is)) (omega (arith, at.fifth, is)) other class_zero at.inside
+            (omega (arith, at.behind, ap (λ k. k * class_size d) is));
+        takes_none = takes_none roots d (suc n) some (omega (arith, at.room, is)) (omega (arith, at.most, is, many)) 0 16 (⊎_elim (λ x. inl (omega (arith, x, is))) (λ x. inr (omega (arith, x, is))) at.above) other class_zero;
+      }
 
-  -- five times as many blocks as the class's capacity, exactly; of class 9, whose capacity is 330, the bound of 64 comes first
-  class_13 : (n : ℕ) → n + 1 ≡ 33 → IsBound 13 n 792
-  unfolding class_size sizes
-  class_13 n is = bound 13 n 792 165 384 refl refl refl refl (lit< tt) (lit< tt) (omega (arith, is)) (omega (arith, is)) (inr (omega (arith, is))) (omega (arith, is)) (lit< tt) (omega (arith, is))
-
-  class_18 : (n : ℕ) → n + 1 ≡ 14 → IsBound 18 n 784
-  unfolding class_size sizes
-  class_18 n is = bound 18 n 784 70 896 refl refl refl refl (lit< tt) (lit< tt) (omega (arith, is)) (omega (arith, is)) (inr (omega (arith, is))) (omega (arith, is)) (lit< tt) (omega (arith, is))
-
-  class_22 : (n : ℕ) → n + 1 ≡ 7 → IsBound 22 n 784
-  unfolding class_size sizes
-  class_22 n is = bound 22 n 784 35 1792 refl refl refl refl (lit< tt) (lit< tt) (omega (arith, is)) (omega (arith, is)) (inr (omega (arith, is))) (omega (arith, is)) (lit< tt) (omega (arith, is))
-
-  class_25 : (n : ℕ) → n + 1 ≡ 4 → IsBound 25 n 768
-  unfolding class_size sizes
-  class_25 n is = bound 25 n 768 20 3072 refl refl refl refl (lit< tt) (lit< tt) (omega (arith, is)) (omega (arith, is)) (inr (omega (arith, is))) (omega (arith, is)) (lit< tt) (omega (arith, is))
-
-  class_27 : (n : ℕ) → n + 1 ≡ 3 → IsBound 27 n 768
-  unfolding class_size sizes
-  class_27 n is = bound 27 n 768 15 4096 refl refl refl refl (lit< tt) (lit< tt) (omega (arith, is)) (omega (arith, is)) (inr (omega (arith, is))) (omega (arith, is)) (lit< tt) (omega (arith, is))
-
-  class_29 : (n : ℕ) → n + 1 ≡ 2 → IsBound 29 n 768
-  unfolding class_size sizes
-  class_29 n is = bound 29 n 768 10 6144 refl refl refl refl (lit< tt) (lit< tt) (omega (arith, is)) (omega (arith, is)) (inr (omega (arith, is))) (omega (arith, is)) (lit< tt) (omega (arith, is))
-
-  class_33 : (n : ℕ) → n + 1 ≡ 1 → IsBound 33 n 768
-  unfolding class_size sizes
-  class_33 n is = bound 33 n 768 5 12288 refl refl refl refl (lit< tt) (lit< tt) (omega (arith, is)) (omega (arith, is)) (inr (omega (arith, is))) (omega (arith, is)) (lit< tt) (omega (arith, is))
-
-  class_9 : (n : ℕ) → n + 1 ≡ 64 → IsBound 9 n 768
-  unfolding class_size sizes
-  class_9 n is = bound 9 n 768 330 192 refl refl refl refl (lit< tt) (lit< tt) (omega (arith, is)) (omega (arith, is)) (inl (omega (arith, is))) (omega (arith, is)) (lit< tt) (omega (arith, is))
-
-  -- a capacity that five does not divide: of class 20, 49, nine blocks are less than a fifth, and ten are more
-  class_20 : (n : ℕ) → n + 1 ≡ 9 → IsBound 20 n 720
-  unfolding class_size sizes
-  class_20 n is = bound 20 n 720 49 1280 refl refl refl refl (lit< tt) (lit< tt) (omega (arith, is)) (omega (arith, is)) (inr (omega (arith, is))) (omega (arith, is)) (lit< tt) (omega (arith, is))
+  bounds : All (λ r. (n : ℕ) → n + 1 ≡ r.blocks → IsBound r.class n r.number) rows
+  bounds = All-weaker (λ r. is_at_bound r ≡ true) (λ r. (n : ℕ) → n + 1 ≡ r.blocks → IsBound r.class n r.number) (λ r is. bound r (at_bound r is)) rows rows_pass
