@@ -9,10 +9,11 @@ use Rattle.std.proofs.lemmas.List.Sums.{AllPass-from_list_all}
 use Rattle.size_classes.specs.Classes.{sizes, class_size, class_capacity, IsClassOf}
 use Rattle.size_classes.proofs.Spacing.{class_size-rises, class_size-least}
 use Rattle.heap_model.specs.declared.call.Call.TheVariants.{Malloc}
+use Rattle.heap_model.specs.declared.call.Reply.{Reply}
 use Rattle.heap_model.specs.declared.call.Reply.TheVariants.{Placed, NoSpace}
 use Rattle.heap_model.specs.Machine.{Bounds}
 use Rattle.heap_model.proofs.Sites.{IsStep-granted, IsStep-no_space}
-use Rattle.heap_model.specs.Choice.{IsSite, HasNoSite}
+use Rattle.heap_model.specs.Choice.{IsSite, HasNoSite, Site, range_of}
 use Rattle.heap_model.specs.Choice.Site.{InMorph}
 use Rattle.heap_model.specs.Slabs.{view_of}
 use Rattle.heap_model.specs.Step.{with_block, IsStep}
@@ -33,14 +34,14 @@ class_zero : IsClassOf 16 0
 unfolding class_size sizes
 class_zero = record { is_class = lit< tt; holds = lit≤ tt; least = λ lower less. absurd (omega (arith, less)) }
 
--- so many blocks of a class are at most 64 and at most a fifth of its capacity, and one more is not; the first block of 16
--- bytes behind them has this number
+-- so many blocks of a class are at most 64 and at most a fifth of its capacity, and one more is not; the first block of
+-- another class behind them has this number
 record Row : Type 0 where
   class : ℕ
   blocks : ℕ
   number : ℕ
 
--- five times as many blocks as the class's capacity, exactly; of class 9, whose capacity is 330, the bound of 64 comes
+-- with blocks of 16 bytes behind them: five times as many blocks as the class's capacity, exactly; of class 9, whose capacity is 330, the bound of 64 comes
 -- first; and of class 20, whose capacity of 49 five does not divide, nine blocks are less than a fifth, and ten are more
 rows : List Row
 rows =
@@ -55,25 +56,25 @@ rows =
     ∷ record { class = 20; blocks = 9; number = 720 }
     ∷ []
 
--- a test of a row, and what it says
-is_at_bound : Row → Bool
-is_at_bound r =
-    (ltb 0 r.class && ltb r.class 36 && ltb r.blocks 65 && ltb (5 * r.blocks) (class_capacity r.class + 1))
-    && ((ltb 64 (r.blocks + 1) || ltb (class_capacity r.class) (5 * (r.blocks + 1))) && ltb r.blocks (class_capacity r.class) && ltb r.number (class_capacity 0) && eqb (r.blocks * class_size r.class) (r.number * class_size 0))
+-- a test of a row with a class behind its blocks, and what it says
+is_at_bound : ℕ → Row → Bool
+is_at_bound c r =
+    ((ltb c r.class || ltb r.class c) && ltb r.class 36 && ltb r.blocks 65 && ltb (5 * r.blocks) (class_capacity r.class + 1))
+    && ((ltb 64 (r.blocks + 1) || ltb (class_capacity r.class) (5 * (r.blocks + 1))) && ltb r.blocks (class_capacity r.class) && ltb r.number (class_capacity c) && eqb (r.blocks * class_size r.class) (r.number * class_size c))
 
-record IsAtBound (r : Row) : Type 0 where
-  other : 0 < r.class
+record IsAtBound (c : ℕ) (r : Row) : Type 0 where
+  other : (c < r.class) ⊎ (r.class < c)
   is_class : r.class < 36
   most : r.blocks ≤ 64
   fifth : 5 * r.blocks ≤ class_capacity r.class
   above : (64 < r.blocks + 1) ⊎ (class_capacity r.class < 5 * (r.blocks + 1))
   room : r.blocks < class_capacity r.class
-  inside : r.number < class_capacity 0
-  behind : r.blocks * class_size r.class ≡ r.number * class_size 0
+  inside : r.number < class_capacity c
+  behind : r.blocks * class_size r.class ≡ r.number * class_size c
 
-at_bound : (r : Row) → is_at_bound r ≡ true → IsAtBound r
+at_bound : (c : ℕ) (r : Row) → is_at_bound c r ≡ true → IsAtBound c r
 unfolding is_at_bound
-at_bound r is = record {
+at_bound c r is = record {
   other = grind (arith, nat_tests);
   is_class = grind (arith, nat_tests);
   most = grind (arith, nat_tests);
@@ -84,51 +85,54 @@ at_bound r is = record {
   behind = grind (arith, nat_tests);
 }
 
-rows_pass : AllPass is_at_bound rows
+rows_pass : AllPass (is_at_bound 0) rows
 unfolding rows is_at_bound class_size sizes
-rows_pass = AllPass-from_list_all is_at_bound rows refl
+rows_pass = AllPass-from_list_all (is_at_bound 0) rows refl
 
 module _ (roots : ℕ) (many : 2001 ≤ roots) where
   abbrev b : Bounds
   b = small roots
 
-  -- 64 blocks of 64 bytes cover 4096, and a block of 1000 comes behind them; 65 are too many
-  sixty_four : (n : ℕ) → n + 1 ≡ 64 → IsStep b (filled 3 n) (Malloc 2000 1000) (Placed 202752 1024) (with_block (filled 3 n) 2000 (InMorph 12 19 4))
-  unfolding class_size sizes
-  sixty_four n is = IsStep-granted b (filled 3 n) 2000 1000 many (none_filled 3 n 2000 (omega (arith, is))) (λ none. omega (arith, none)) (lit≤ tt) (InMorph 12 19 4)
-      (takes_class roots 3 n (lit< tt) (omega (arith, is)) (omega (arith, is, many)) 19 4 1000 (omega (arith, is)) (omega (arith, is)) (λ same. omega (arith, same)) (class_above 1000 18 (lit< tt) (lit< tt) (lit≤ tt)) (lit< tt) (omega (arith, is)))
+  -- a request at the bound of a class: the slab takes class c with so many blocks, and not with one more
+  pub record IsBound (c size d n j : ℕ) : Type 0 where
+    pub takes : IsSite (view_of b (filled d n)) size (InMorph 12 c j)
+    pub takes_none : HasNoSite (view_of b (filled d (suc n))) size
 
-  sixty_five : (n : ℕ) → n + 1 ≡ 65 → IsStep b (filled 3 n) (Malloc 2000 1000) NoSpace (filled 3 n)
-  unfolding class_size sizes
-  sixty_five n is = IsStep-no_space b (filled 3 n) 2000 1000 many (none_filled 3 n 2000 (omega (arith, is))) (λ none. omega (arith, none)) (lit≤ tt)
-      (takes_none roots 3 n (lit< tt) (omega (arith, is)) (omega (arith, is, many)) 19 1000 (inl (omega (arith, is))) (λ same. omega (arith, same)) (class_above 1000 18 (lit< tt) (lit< tt) (lit≤ tt)))
-
-  -- of the 62 blocks of 1024 bytes that a slab holds, 12 are at most a fifth; 13 are more
-  twelve : (n : ℕ) → n + 1 ≡ 12 → IsStep b (filled 19 n) (Malloc 2000 64) (Placed 210944 64) (with_block (filled 19 n) 2000 (InMorph 12 3 192))
-  unfolding class_size sizes
-  twelve n is = IsStep-granted b (filled 19 n) 2000 64 many (none_filled 19 n 2000 (omega (arith, is))) (λ none. omega (arith, none)) (lit≤ tt) (InMorph 12 3 192)
-      (takes_class roots 19 n (lit< tt) (omega (arith, is)) (omega (arith, is, many)) 3 192 64 (omega (arith, is)) (omega (arith, is)) (λ same. omega (arith, same)) (class_above 64 2 (lit< tt) (lit< tt) (lit≤ tt)) (lit< tt) (omega (arith, is)))
-
-  thirteen : (n : ℕ) → n + 1 ≡ 13 → IsStep b (filled 19 n) (Malloc 2000 64) NoSpace (filled 19 n)
-  unfolding class_size sizes
-  thirteen n is = IsStep-no_space b (filled 19 n) 2000 64 many (none_filled 19 n 2000 (omega (arith, is))) (λ none. omega (arith, none)) (lit≤ tt)
-      (takes_none roots 19 n (lit< tt) (omega (arith, is)) (omega (arith, is, many)) 3 64 (inr (omega (arith, is))) (λ same. omega (arith, same)) (class_above 64 2 (lit< tt) (lit< tt) (lit≤ tt)))
-
-  -- a request of 16 bytes at the bound of a class: the slab takes class 0 with so many blocks, and not with one more
-  pub record IsBound (d n j : ℕ) : Type 0 where
-    pub takes : IsSite (view_of (small roots) (filled d n)) 16 (InMorph 12 0 j)
-    pub takes_none : HasNoSite (view_of (small roots) (filled d (suc n))) 16
-
-  bound : (r : Row) → IsAtBound r → (n : ℕ) → n + 1 ≡ r.blocks → IsBound r.class n r.number
-  bound r at n is =
+  bound : (c size : ℕ) → IsClassOf size c → (r : Row) → IsAtBound c r → (n : ℕ) → n + 1 ≡ r.blocks → IsBound c size r.class n r.number
+  bound c size least r at n is =
       let d = r.class in
-      let other : 0 ≢ d = λ same. omega (arith, same, at.other) in
+      let other : c ≢ d = λ same. ⊎_elim (λ below. omega (arith, same, below)) (λ above. omega (arith, same, above)) at.other in
       let some : 0 < class_size d = omega (arith, class_size-least d at.is_class) in
       record {
-        takes = takes_class roots d n some (omega (arith, at.room, is)) (omega (arith, at.most, is, many)) 0 r.number 16 (omega (arith, at.most, is)) (omega (arith, at.fifth, is)) other class_zero at.inside
+        takes = takes_class roots d n some (omega (arith, at.room, is)) (omega (arith, at.most, is, many)) c r.number size (omega (arith, at.most, is)) (omega (arith, at.fifth, is)) other least at.inside
             (omega (arith, at.behind, ap (λ k. k * class_size d) is));
-        takes_none = takes_none roots d (suc n) some (omega (arith, at.room, is)) (omega (arith, at.most, is, many)) 0 16 (⊎_elim (λ x. inl (omega (arith, x, is))) (λ x. inr (omega (arith, x, is))) at.above) other class_zero;
+        takes_none = takes_none roots d (suc n) some (omega (arith, at.room, is)) (omega (arith, at.most, is, many)) c size (⊎_elim (λ x. inl (omega (arith, x, is))) (λ x. inr (omega (arith, x, is))) at.above) other least;
       }
 
-  bounds : All (λ r. (n : ℕ) → n + 1 ≡ r.blocks → IsBound r.class n r.number) rows
-  bounds = All-weaker (λ r. is_at_bound r ≡ true) (λ r. (n : ℕ) → n + 1 ≡ r.blocks → IsBound r.class n r.number) (λ r is. bound r (at_bound r is)) rows rows_pass
+  bounds : All (λ r. (n : ℕ) → n + 1 ≡ r.blocks → IsBound 0 16 r.class n r.number) rows
+  bounds = All-weaker (λ r. is_at_bound 0 r ≡ true) (λ r. (n : ℕ) → n + 1 ≡ r.blocks → IsBound 0 16 r.class n r.number) (λ r is. bound 0 16 class_zero r (at_bound 0 r is)) rows rows_pass
+
+  -- the machine's steps there
+  pub record AreSteps (size d n : ℕ) (reply : Reply) (site : Site) : Type 0 where
+    pub granted : IsStep b (filled d n) (Malloc 2000 size) reply (with_block (filled d n) 2000 site)
+    pub no_space : IsStep b (filled d (suc n)) (Malloc 2000 size) NoSpace (filled d (suc n))
+
+  steps : (c size : ℕ) → IsClassOf size c → size ≢ 0 → size ≤ 196608 → (r : Row) → is_at_bound c r ≡ true → (n : ℕ) → n + 1 ≡ r.blocks →
+      AreSteps size r.class n (Placed (range_of (InMorph 12 c r.number)).at (range_of (InMorph 12 c r.number)).size) (InMorph 12 c r.number)
+  steps c size least some most r test n is =
+      let at = at_bound c r test in
+      let there = bound c size least r at n is in
+      record {
+        granted = IsStep-granted b (filled r.class n) 2000 size many (none_filled r.class n 2000 (omega (arith, is, at.most))) some most (InMorph 12 c r.number) there.takes;
+        no_space = IsStep-no_space b (filled r.class (suc n)) 2000 size many (none_filled r.class (suc n) 2000 (omega (arith, is, at.most))) some most there.takes_none;
+      }
+
+  -- 64 blocks of 64 bytes cover 4096, and a block of 1000 comes behind them; 65 are too many
+  sixty_four : (n : ℕ) → n + 1 ≡ 64 → AreSteps 1000 3 n (Placed 202752 1024) (InMorph 12 19 4)
+  unfolding is_at_bound class_size sizes
+  sixty_four = steps 19 1000 (class_above 1000 18 (lit< tt) (lit< tt) (lit≤ tt)) (λ none. omega (arith, none)) (lit≤ tt) (record { class = 3; blocks = 64; number = 4 }) refl
+
+  -- of the 62 blocks of 1024 bytes that a slab holds, 12 are at most a fifth; 13 are more
+  twelve : (n : ℕ) → n + 1 ≡ 12 → AreSteps 64 19 n (Placed 210944 64) (InMorph 12 3 192)
+  unfolding is_at_bound class_size sizes
+  twelve = steps 3 64 (class_above 64 2 (lit< tt) (lit< tt) (lit≤ tt)) (λ none. omega (arith, none)) (lit≤ tt) (record { class = 19; blocks = 12; number = 192 }) refl

@@ -1,5 +1,5 @@
 -- Images of pools: where the words of an arena lie, and when a header line is good.
-use Rattle.std.proofs.Common.{◌≡◌, ℕ, suc, ◌+◌, ◌*◌, ◌<◌, ◌≤◌, List, length, sym, ap, ◌∙◌, subst, inr, arith}
+use Rattle.std.proofs.Common.{◌≡◌, ◌≢◌, refl, ⊎_elim, ℕ, suc, ◌+◌, ◌*◌, ◌<◌, ◌≤◌, List, length, sym, ap, ◌∙◌, subst, inl, inr, arith}
 use Rattle.std.proofs.Math.Nat.{mul-le-mul_left}
 use Rattle.pmem_lines.specs.Words.{word_at}
 use Rattle.pmem_lines.proofs.Words.{length-words_at, get_or-words_at}
@@ -8,7 +8,7 @@ use Rattle.pool_layout.specs.declared.defect.Defect.{Defect}
 use Rattle.pool_layout.specs.declared.defect.Defect.TheVariants.{BadHeader}
 use Rattle.pool_layout.specs.Layout.{layout_of, IsLayout}
 use Rattle.pool_layout.specs.Places.{fields_word}
-use Rattle.pool_layout.specs.Header.{header_word, fields_of, IsPoolHeader, IsHeader, IsSecondWord}
+use Rattle.pool_layout.specs.Header.{header_word, fields_of, IsPoolHeader, IsHeader, IsSecondWord, IsHeaderDefect}
 use Rattle.pool_layout.specs.Bytes.{words_of_bytes}
 use Rattle.pool_layout.specs.Image.{part_of, header_of_arena, image_length, IsFirstHeader, IsFirstLine, IsFirstFields, IsBadLine, HasBadArena, HasHeaders, IsPoolImage, IsImageOf}
 use Rattle.pool_layout.proofs.Layouts.{layout_rules}
@@ -58,6 +58,21 @@ pub first_fields : (word : ℕ) → IsFirstFields word → IsFirstHeader (fields
 first_fields word found =
     let header : PoolHeader = found.0 in
     subst IsFirstHeader (sym (ap fields_of found.2 ∙ fields_of-header_word header (header_fits header found.1.valid))) found.1
+
+-- the header line of arena 0 is bad where it is that of no arena, and where it is that of another one
+pub bad_first : (words : List ℕ) → 8 ≤ length words → {defect : Defect} → IsHeaderDefect words defect → IsBadLine words IsFirstFields defect
+bad_first words whole bad = ⊎_elim
+    (λ short. absurd (omega (arith, whole, short.0)))
+    (λ more. ⊎_elim
+    (λ text. inl text.1)
+    (λ fields. inr (fields.1, (λ first. fields.2 first.0 first.2 first.1.valid), fields.3))
+    more)
+    bad
+
+pub other_first : (words : List ℕ) (header : PoolHeader) → IsHeader words header → header.number ≢ 0 → IsBadLine words IsFirstFields (BadHeader fields_word (word_at words fields_word))
+other_first words header is other =
+    let says : fields_of (word_at words fields_word) ≡ header = ap fields_of is.word ∙ fields_of-header_word header (header_fits header is.valid) in
+    inr (is.text, (λ first. other (sym (ap (λ (h : PoolHeader). h.number) says) ∙ (first_fields (word_at words fields_word) first).number)), refl)
 
 -- the header line of an arena, word by word
 pub IsHeader-part : (words : List ℕ) (header : PoolHeader) (arena : ℕ) (word : ℕ) → length words ≡ header.arenas * header.granules * 2048 → IsFirstHeader header → arena < header.arenas →

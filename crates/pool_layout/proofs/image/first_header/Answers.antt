@@ -1,23 +1,18 @@
 use Rattle.std.proofs.lemmas.Result.{err_from_is_err_and}
-use Rattle.std.proofs.Common.{◌∙◌, sym, subst, inl, refl}
-use Rattle.std.proofs.lemmas.Bool.{false≢true}
-use Rattle.pool_layout.specs.Image.{IsFirstHeader, IsFirstFields}
-use Rattle.pool_layout.proofs.Images.{bad_fields, first_fields}
+use Rattle.pmem_lines.specs.Words.{word_at}
+use Rattle.pool_layout.proofs.Images.{bad_first, other_first}
 use Rattle.pool_layout.proofs.image.first_header.Goals as goal
 
-pub returns-in_err-word : goal.returns-in_err-word
-returns-in_err-word c =
+pub returns-in_err-header : goal.returns-in_err-header
+returns-in_err-header c =
     let p = err_from_is_err_and c.from_residual.result c.from_residual.ensures.1 in
-    rw (p.1, p.2) (inl c.in_err-word.ensures)
+    rw (p.1, p.2) (bad_first c.args.words.now c.requires c.in_err-header.ensures.defect)
 
-pub returns-then-not-is_first_header : goal.returns-then-not-is_first_header
-returns-then-not-is_first_header c =
-    bad_fields c.args.words.now IsFirstFields c.in_ok-word.word c.in_ok-word.ensures
-    (λ fields. false≢true (c.if-not-is_first_header.ensures.1 (subst IsFirstHeader (sym c.fields_of-header.ensures.fields) (first_fields c.in_ok-word.word fields))))
+pub returns-then-header-ne0 : goal.returns-then-header-ne0
+unfolding word_at
+returns-then-header-ne0 c = other_first c.args.words.now c.in_ok-header.header c.in_ok-header.ensures.header c.if-header-ne0.true
 
 pub returns : goal.returns
-returns c = record {
-  text = c.in_ok-word.ensures.text;
-  fields = sym (c.fields_of-header.ensures.inverse ∙ c.in_ok-word.ensures.is);
-  valid = c.if-not-is_first_header.ensures.0 refl;
-}
+returns c =
+    let is = c.in_ok-header.ensures.header in
+    record { text = is.text; fields = is.word; valid = record { valid = is.valid; number = c.if-header-ne0.false } }
