@@ -10,7 +10,7 @@ use Rattle.image_tables.specs.Tables.{Tables, root_in, open_entry_in, wal_lines,
 use Rattle.image_tables.proofs.Places.{log_word-low, entry_word-high}
 use Rattle.image_tables.proofs.Logs.{SameLog}
 use Rattle.image_tables.proofs.Extents.{extent_at-same}
-use Rattle.image_tables.proofs.Tables.{slab_table, index_count_table}
+use Rattle.image_tables.proofs.Tables.{slab_table, slab_fields}
 use Rattle.image_tables.proofs.Stores.{root_word-low, wal_word-low, log_word-high, live_at-same, number_at-same, bit_at-same, slab_bit-same, roots-same, entry_among-same, tables_by}
 use Rattle.book_log.specs.Book.{Book}
 use Rattle.book_log.proofs.Books.{HasLog-same, Reads-same}
@@ -97,7 +97,7 @@ module _ {words new : List ℕ} {range : Range} (image : IsExactImage words) (ro
     state = state;
     index = λ start place is among.
         let few = index_count_few (image.exact.sound.slabs start (slab_table words start ∙ is)) in
-        index start place is (omega (arith, among, few, index_count_table words start));
+        index start place is (omega (arith, among, few, (slab_fields words start).index_count));
   })
       (HasLog-same (granules_in words) words new log image.formed.log)
       (HasWal-same words new wal image.formed.wal)

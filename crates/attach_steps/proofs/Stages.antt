@@ -13,7 +13,7 @@ use Rattle.image_tables.proofs.Updates.{put_at-twice, put_at-own}
 use Rattle.image_tables.proofs.Extents.{extent_at-elsewhere}
 use Rattle.image_tables.proofs.Headers.{IsSameOffHeader-put, is_slab-off_header}
 use Rattle.image_tables.proofs.Stores.{few_lines, closed_words, HasNoMove-closed, held_of-plain, roots_plain, extent_at-put_root, wal_word-put_root, IsOffLog-wal, tables_put_root}
-use Rattle.image_tables.proofs.Tables.{slab_table, index_count_table}
+use Rattle.image_tables.proofs.Tables.{slab_table, slab_fields}
 use Rattle.attach_wal.specs.Entry.{entry_word}
 use Rattle.attach_wal.specs.Wal.{HasNoOther, Opens, Closes}
 use Rattle.heap_model.specs.Machine.{Bounds, Range}
@@ -215,7 +215,7 @@ module _ (words : List ℕ) (line root : ℕ) (site : Site) (is : IsSite words r
     pub few_entries : (other : ℕ) → is_slab made other ≡ true → state_field made other 24 ≤ 64
     few_entries other there =
         let here : t.slab other ≡ true = sym (ap (λ (x : Tables). x.slab other) stage.tables) ∙ slab_table made other ∙ there in
-        let same : state_field made other 24 ≡ t.index_count other = sym (index_count_table made other) ∙ ap (λ (x : Tables). x.index_count other) stage.tables in
+        let same : state_field made other 24 ≡ t.index_count other = sym (slab_fields made other).index_count ∙ ap (λ (x : Tables). x.index_count other) stage.tables in
         omega (arith, same, index_count_few (sound.slabs other here))
 
     -- the word of the header is stored, by which the block is held or not

@@ -51,7 +51,13 @@ added_but old mid new start class used added granules classes blocks = record {
   others = λ s i differ. blocks s i ∙ cond-false ((s == start) && has_number used i) false (is_available mid s i) (and_left (s == start) (has_number used i) (ne_eqb s start differ)) ∙ added.others s i differ;
 }
 
-module _ (old : Supply) (kept : IsKept old.slabs old.stacks) (start class : ℕ) (Opens : ℕ → Type 0) (slabs : SlabSet) (inside : start < old.slabs.granules) (is_class : class < 36) (fresh : class_in old.slabs start ≡ None) (clear : IsClearOf old start)
+-- a slab may begin at the granule
+pub record IsVacant (s : Supply) (start : ℕ) : Type 0 where
+  pub inside : start < s.slabs.granules
+  pub fresh : class_in s.slabs start ≡ None
+  pub clear : IsClearOf s start
+
+module _ (old : Supply) (kept : IsKept old.slabs old.stacks) (start class : ℕ) (Opens : ℕ → Type 0) (slabs : SlabSet) (vacant : IsVacant old start) (is_class : class < 36)
     (within : (i : ℕ) → Opens i → i < class_capacity class) (added : IsSlabAdded old.slabs slabs start class Opens) where
   abbrev new : Supply
   new = record { slabs = slabs; stacks = old.stacks }
@@ -62,7 +68,7 @@ module _ (old : Supply) (kept : IsKept old.slabs old.stacks) (start class : ℕ)
 
   still : (s c : ℕ) → class_in old.slabs s ≡ Some c → class_in slabs s ≡ Some c
   still s c is = ⊎_elim
-      (λ (same : s ≡ start). absurd (let none = sym fresh ∙ ap (class_in old.slabs) (sym same) ∙ is in cc))
+      (λ (same : s ≡ start). absurd (let none = sym vacant.fresh ∙ ap (class_in old.slabs) (sym same) ∙ is in cc))
       (λ (differ : s ≢ start). added.classes s ∙ with_key-other (class_in old.slabs) start s (Some class) differ ∙ is)
       (cases_eq s start)
 
@@ -79,21 +85,21 @@ module _ (old : Supply) (kept : IsKept old.slabs old.stacks) (start class : ℕ)
         ⊎_elim
         (λ before. omega (arith, before, one.high, two.low, some.block.is, class_size-least class is_class))
         (λ behind. omega (arith, behind, two.high, one.low, some.block.is, class_size-least c (kept.known some.start c some.block.slab).0))
-        (clear.apart some.start c some.block.slab);
+        (vacant.clear.apart some.start c some.block.slab);
   }
 
   pub kept_added : IsKept slabs old.stacks
   kept_added = record {
     few = subst (λ n. n ≤ 4096) (sym added.granules) kept.few;
     known = λ s c is. ⊎_elim
-        (λ (same : s ≡ start). (subst (λ k. k < 36) (sym (here_is c (ap (class_in slabs) (sym same) ∙ is))) is_class, omega (arith, same, inside, added.granules)))
+        (λ (same : s ≡ start). (subst (λ k. k < 36) (sym (here_is c (ap (class_in slabs) (sym same) ∙ is))) is_class, omega (arith, same, vacant.inside, added.granules)))
         (λ (differ : s ≢ start). let known = kept.known s c (was s c differ is) in (known.0, omega (arith, known.1, added.granules)))
         (cases_eq s start);
     apart = record {
       each = λ s t c d differ one two. ⊎_elim
-          (λ (same : s ≡ start). ⊎_elim (λ (also : t ≡ start). absurd (differ (same ∙ sym also))) (λ (apart : t ≢ start). ⊎_elim (λ x. inl (omega (arith, x, same))) (λ x. inr (omega (arith, x, same))) (clear.apart t d (was t d apart two))) (cases_eq t start))
+          (λ (same : s ≡ start). ⊎_elim (λ (also : t ≡ start). absurd (differ (same ∙ sym also))) (λ (apart : t ≢ start). ⊎_elim (λ x. inl (omega (arith, x, same))) (λ x. inr (omega (arith, x, same))) (vacant.clear.apart t d (was t d apart two))) (cases_eq t start))
           (λ (apart : s ≢ start). ⊎_elim
-          (λ (also : t ≡ start). ⊎_elim (λ x. inr (omega (arith, x, also))) (λ x. inl (omega (arith, x, also))) (clear.apart s c (was s c apart one)))
+          (λ (also : t ≡ start). ⊎_elim (λ x. inr (omega (arith, x, also))) (λ x. inl (omega (arith, x, also))) (vacant.clear.apart s c (was s c apart one)))
           (λ (too : t ≢ start). kept.apart.each s t c d differ (was s c apart one) (was t d too two))
           (cases_eq t start))
           (cases_eq s start);

@@ -6,14 +6,13 @@ use Rattle.std.proofs.lemmas.List.Elements.{All-push}
 use Rattle.std.proofs.Math.ListN.{get_or-append}
 use Rattle.std.proofs.Math.Seq.{get_or-append_seam}
 use Rattle.pmem_lines.specs.Words.{word_at, put_word}
-use Rattle.pmem_lines.proofs.Words.{word_at-put_same, word_at-put_other}
+use Rattle.pmem_lines.proofs.Words.{word_at-put_same}
 use Rattle.pool_layout.specs.Layout.{layout_of}
-use Rattle.pool_layout.specs.Places.{fields_word, directory_word, entry_word}
+use Rattle.pool_layout.specs.Places.{directory_word, entry_word}
 use Rattle.pool_layout.specs.Header.{version_field, version_in}
 use Rattle.image_tables.specs.declared.extent.Extent.{Extent}
 use Rattle.image_tables.specs.Extents.{extent_at}
-use Rattle.image_tables.proofs.Places.{log_word-low, entry_word-low, entry_word-same}
-use Rattle.image_tables.proofs.Logs.{IsFront}
+use Rattle.image_tables.proofs.Logs.{IsFront, entry_store}
 use Rattle.image_tables.proofs.Extents.{extent_at-appended, extent_after-named, extent_after-other}
 use Rattle.book_log.specs.declared.entry.LogEntry.{LogEntry}
 use Rattle.book_log.specs.declared.entry.LogEntry.TheVariants.{Large, Slab, Tomb}
@@ -120,23 +119,18 @@ log_appended granules words before chunk place v entry append valid =
     let version = version_in words in
     let k = entry_word version chunk place in
     let new = put_word words k v in
-    let low = entry_word-low version chunk place in
-    let behind = log_word-low version in
-    let other : (i : ℕ) → i ≢ k → word_at new i ≡ word_at words i = λ i apart. word_at-put_other words k i v apart in
-    let directory : word_at new directory_word ≡ word_at words directory_word = other directory_word (λ e. omega (arith, e, low, behind)) in
-    let fields : word_at new fields_word ≡ word_at words fields_word = other fields_word (λ e. omega (arith, e, low, behind)) in
-    let below = append.next.below in
+    let stored = entry_store words chunk place v append.next.below in
     let is = append.log.entries in
     let chunks = before ++ chunk ∷ [] in
     let old : All (IsChunk version granules new) before = λ i d within.
     chunk_same version granules words new (get_or before i d)
-    (λ e under. other (entry_word version (get_or before i d) e) (λ same. last_once before chunk append.log.directory.once i d within (entry_word-same version (get_or before i d) chunk e place under below same).0))
+    (stored.chunks (get_or before i d) (last_once before chunk append.log.directory.once i d within)).each
     (front_holds (IsChunk version granules words) before chunk is i d within) in
     let last : IsChunk version granules new chunk =
     chunk_put version granules words new chunk place v entry (last_holds (IsChunk version granules words) before chunk is) append.next valid
     (word_at-put_same words k k v refl append.inside)
-    (λ e under apart. other (entry_word version chunk e) (λ same. apart (entry_word-same version chunk chunk e place under below same).1)) in
+    stored.entries in
     record {
-      directory = subst (λ w. IsDirectory w chunks) (sym directory) append.log.directory;
-      entries = subst (λ w. All (IsChunk (version_field w) granules new) chunks) (sym fields) (All-push (IsChunk version granules new) before chunk old last);
+      directory = subst (λ w. IsDirectory w chunks) (sym stored.directory) append.log.directory;
+      entries = subst (λ w. All (IsChunk (version_field w) granules new) chunks) (sym stored.fields) (All-push (IsChunk version granules new) before chunk old last);
     }

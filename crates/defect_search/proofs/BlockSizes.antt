@@ -3,7 +3,7 @@ use Rattle.std.proofs.Common.{◌≡◌, ◌≢◌, ◌↔◌, ◌&&◌, ◌==�
 use Rattle.std.proofs.lemmas.Bool.{false≢true, cond-true, cond-false, eq-eqb, eqb-true, ne_eqb, lt-ltb, and_parts, and_from, false_from_ne_true}
 use Rattle.size_classes.specs.Classes.{class_size}
 use Rattle.image_tables.specs.Tables.{Tables, is_slab, state_field, tables_of}
-use Rattle.image_tables.proofs.Tables.{slab_table, class_table, old_table, index_count_table}
+use Rattle.image_tables.proofs.Tables.{slab_table, slab_fields}
 use Rattle.heap_model.proofs.Below.{any_below-true, any_below-some}
 use Rattle.heap_model.specs.Machine.{slab_block}
 use Rattle.heap_check.specs.Heap.{slab_of, is_old_of, is_old, is_large, entry_at, entry_old, size_by, size_at}
@@ -33,13 +33,13 @@ field_none : (words : List ℕ) (start bits : ℕ) → is_slab words start ≡ f
 field_none words start bits none = cond-false (is_slab words start) _ 0 none
 
 pub class_none : (words : List ℕ) (start : ℕ) → is_slab words start ≡ false → (tables_of words).class start ≡ 0
-class_none words start none = class_table words start ∙ field_none words start 8 none
+class_none words start none = (slab_fields words start).class ∙ field_none words start 8 none
 
 pub old_table-none : (words : List ℕ) (start : ℕ) → is_slab words start ≡ false → (tables_of words).old start ≡ 0
-old_table-none words start none = old_table words start ∙ field_none words start 16 none
+old_table-none words start none = (slab_fields words start).old ∙ field_none words start 16 none
 
 pub index_count_none : (words : List ℕ) (start : ℕ) → is_slab words start ≡ false → (tables_of words).index_count start ≡ 0
-index_count_none words start none = index_count_table words start ∙ field_none words start 24 none
+index_count_none words start none = (slab_fields words start).index_count ∙ field_none words start 24 none
 
 -- no slab begins that far
 pub slab_none : (words : List ℕ) (start : ℕ) → AreSlabsAt words → 65000 ≤ start → is_slab words start ≡ false

@@ -2,7 +2,7 @@
 use Rattle.std.proofs.Common.{◌≡◌, ◌≢◌, ◌⊎◌, ◌↔◌, ℕ, ◌+◌, ◌*◌, ◌/◌, ◌<◌, ◌≤◌, Bool, true, false, List, length, refl, sym, ap, subst, ◌∙◌, arith, inl, inr, ⊎_elim, IsTrue, not, eqb}
 use Rattle.std.proofs.lemmas.Bool.{cases_eq, cases_lt, false≢true, true≢false, false_from_ne_true, eqb-true, eq-eqb}
 use Rattle.image_tables.specs.Tables.{Tables, is_slab, state_field, tables_of}
-use Rattle.image_tables.proofs.Tables.{slab_table, kind_table, index_count_table, root_table-past}
+use Rattle.image_tables.proofs.Tables.{slab_table, slab_fields, root_table-past}
 use Rattle.pool_layout.specs.Layout.{layout_of}
 use Rattle.pool_layout.specs.Header.{version_in}
 use Rattle.pool_layout.proofs.Layouts.{layout_rules}
@@ -97,8 +97,8 @@ morphing_by words start is says = (
 
 pub done_by : (words : List ℕ) (start : ℕ) (dead : Bool) → is_slab words start ≡ true → (tables_of words).kind start ≡ 3 → (IsTrue dead ↔ ((place : ℕ) → place < state_field words start 24 → (tables_of words).live start place ≡ false)) → (IsTrue dead ↔ IsDoneSlab (tables_of words) start)
 done_by words start dead is kind clear = (
-  λ e. record { slab = slab_table words start ∙ is; kind = kind; none = λ place below. clear.0 e place (subst (λ n. place < n) (index_count_table words start) below) },
-  λ done. clear.1 (λ place below. done.none place (subst (λ n. place < n) (sym (index_count_table words start)) below)),
+  λ e. record { slab = slab_table words start ∙ is; kind = kind; none = λ place below. clear.0 e place (subst (λ n. place < n) (slab_fields words start).index_count below) },
+  λ done. clear.1 (λ place below. done.none place (subst (λ n. place < n) (sym (slab_fields words start).index_count) below)),
 )
 
 pub roots_inside : (words : List ℕ) → IsArena words → 2048 + (layout_of (version_in words)).roots ≤ length words
@@ -108,6 +108,6 @@ roots_inside words arena =
 
 pub kind_by : (words : List ℕ) (start kind field : ℕ) → is_slab words start ≡ true → field ≡ state_field words start 0 → (IsTrue (eqb field kind) ↔ ((is_slab words start ≡ true) × ((tables_of words).kind start ≡ kind)))
 kind_by words start kind field slab is = (
-  λ e. (slab, kind_table words start ∙ sym is ∙ eqb-true field kind e),
-  λ both. eq-eqb field kind (is ∙ sym (kind_table words start) ∙ both.1),
+  λ e. (slab, (slab_fields words start).kind ∙ sym is ∙ eqb-true field kind e),
+  λ both. eq-eqb field kind (is ∙ sym (slab_fields words start).kind ∙ both.1),
 )

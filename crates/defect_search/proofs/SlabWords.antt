@@ -6,7 +6,7 @@ use Rattle.size_classes.specs.Classes.{class_capacity}
 use Rattle.pmem_lines.specs.Words.{word_at}
 use Rattle.image_tables.specs.Forms.{IsState, IsStateWord, IsIndexWord}
 use Rattle.image_tables.specs.Tables.{is_slab, state_word, state_field, index_word, tables_of}
-use Rattle.image_tables.proofs.Tables.{kind_table, class_table, old_table, index_count_table, number_table}
+use Rattle.image_tables.proofs.Tables.{slab_fields, number_table}
 use Rattle.slab_header.specs.declared.state.SlabState.{SlabState}
 use Rattle.slab_header.specs.declared.index.IndexEntry.{IndexEntry}
 use Rattle.slab_header.specs.State.{IsWordOfState, SaysOfState}
@@ -57,8 +57,8 @@ state_of_word words start state slab is says =
     let field : (bits : ℕ) → state_field words start bits ≡ w / 2 ^ bits % 2 ^ 8 = λ bits. cond-true (is_slab words start) (w / 2 ^ bits % 2 ^ 8) 0 slab in
     record {
       form = says.form;
-      old = old_table words start ∙ field 16 ∙ says.old;
-      entries = index_count_table words start ∙ field 24 ∙ says.entries;
+      old = (slab_fields words start).old ∙ field 16 ∙ says.old;
+      entries = (slab_fields words start).index_count ∙ field 24 ∙ says.entries;
       valid = is.valid;
     }
 
@@ -67,10 +67,10 @@ good_slab words start slab form places =
     let t = tables_of words in
     let w = word_at words (state_word start) in
     let field : (bits : ℕ) → w / 2 ^ bits % 2 ^ 8 ≡ state_field words start bits = λ bits. sym (cond-true (is_slab words start) (w / 2 ^ bits % 2 ^ 8) 0 slab) in
-    let kind : w % 2 ^ 8 ≡ t.kind start = omega (arith, field 0, kind_table words start) in
-    let class : w / 2 ^ 8 % 2 ^ 8 ≡ t.class start = field 8 ∙ sym (class_table words start) in
-    let old : w / 2 ^ 16 % 2 ^ 8 ≡ t.old start = field 16 ∙ sym (old_table words start) in
-    let entries : w / 2 ^ 24 % 2 ^ 8 ≡ t.index_count start = field 24 ∙ sym (index_count_table words start) in
+    let kind : w % 2 ^ 8 ≡ t.kind start = omega (arith, field 0, (slab_fields words start).kind) in
+    let class : w / 2 ^ 8 % 2 ^ 8 ≡ t.class start = field 8 ∙ sym (slab_fields words start).class in
+    let old : w / 2 ^ 16 % 2 ^ 8 ≡ t.old start = field 16 ∙ sym (slab_fields words start).old in
+    let entries : w / 2 ^ 24 % 2 ^ 8 ≡ t.index_count start = field 24 ∙ sym (slab_fields words start).index_count in
     let is : IsValidSlab t start = record {
       state = subst (λ (T : Type 0). T) (λ i. IsState (kind i) (class i) (old i) (entries i)) form.state;
       small = λ place below. (places.each place below).small;
@@ -80,7 +80,7 @@ good_slab words start slab form places =
           (cases_lt place other);
     } in
     record {
-      header = record { state = form.small; index = λ place below. (places.each place (subst (λ n. place < n) (sym (index_count_table words start)) below)).form };
+      header = record { state = form.small; index = λ place below. (places.each place (subst (λ n. place < n) (sym (slab_fields words start).index_count) below)).form };
       slab = is;
     }
 

@@ -6,7 +6,7 @@ use Rattle.pmem_lines.proofs.Words.{word_at-put_same, word_at-put_other, length-
 use Rattle.pmem_lines.specs.declared.event.Event.{Event}
 use Rattle.pmem_lines.specs.declared.event.Event.TheVariants.{Store, Flush, Fence}
 use Rattle.pmem_lines.specs.Events.{reading, IsStored, IsQuiet, is_flushed, is_fenced, CrashOnly}
-use Rattle.pmem_lines.proofs.Images.{by_blend}
+use Rattle.pmem_lines.proofs.Images.{by_blend, is_fenced-append}
 use Rattle.durable_steps.specs.Rows.{stores_at, flushes_of, lines_of, row_events, IsOldOrNewRow}
 
 -- one flush more
@@ -80,10 +80,7 @@ row_word base at (w ∷ words) k low high inside =
 
 -- a fence stays one behind other events
 pub is_fenced-behind : (e f : List Event) → is_fenced f ≡ true → is_fenced (e ++ f) ≡ true
-is_fenced-behind [] f fenced = fenced
-is_fenced-behind (Store at value ∷ e) f fenced = is_fenced-behind e f fenced
-is_fenced-behind (Flush line ∷ e) f fenced = is_fenced-behind e f fenced
-is_fenced-behind (Fence ∷ e) f fenced = refl
+is_fenced-behind e f fenced = is_fenced-append e f ∙ or_right (is_fenced e) (is_fenced f) fenced
 
 -- a line that is flushed is so behind other events
 pub is_flushed-behind : (line : ℕ) (e f : List Event) → is_flushed line f ≡ true → is_flushed line (e ++ f) ≡ true

@@ -3,7 +3,7 @@ use Rattle.std.proofs.Common.{◌≡◌, ◌⊎◌, ℕ, ◌+◌, ◌<◌, ◌�
 use Rattle.pool_layout.specs.Places.{granule_word}
 use Rattle.image_tables.specs.Extents.{extent_at}
 use Rattle.image_tables.specs.Tables.{Tables, is_slab_of, is_slab, state_field, tables_of}
-use Rattle.image_tables.proofs.Tables.{slab_table, index_count_table}
+use Rattle.image_tables.proofs.Tables.{slab_table, slab_fields}
 use Rattle.image_tables.proofs.Stores.{HasNoMove-closed, tables_off_log-same}
 use Rattle.heap_model.specs.Machine.{Bounds, Range}
 use Rattle.heap_check.specs.Heap.{heap}
@@ -31,7 +31,7 @@ pub record IsSame (words : List ℕ) (start : ℕ) (image : List ℕ) : Type 0 w
 
 -- no slab of a sound image has more than 64 index entries
 pub few_entries : (words : List ℕ) → IsSound (bounds_of words) (tables_of words) → (other : ℕ) → is_slab words other ≡ true → state_field words other 24 ≤ 64
-few_entries words sound other is = omega (arith, index_count_few (sound.slabs other (slab_table words other ∙ is)), index_count_table words other)
+few_entries words sound other is = omega (arith, index_count_few (sound.slabs other (slab_table words other ∙ is)), (slab_fields words other).index_count)
 
 -- the words of blocks are kept, which lie in no header at the start
 pub keeps_blocks : (words : List ℕ) (start : ℕ) (image : List ℕ) → IsFormed words → IsSound (bounds_of words) (tables_of words) → (tables_of words).open_entry ≡ None →

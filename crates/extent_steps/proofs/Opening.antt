@@ -10,7 +10,7 @@ use Rattle.image_tables.specs.Extents.{extent_at}
 use Rattle.image_tables.specs.Tables.{Tables, AreSlabsInHeap, is_slab_of, is_slab, state_word, bitmap_word, state_field, tables_of}
 use Rattle.image_tables.proofs.Headers.{IsSameOffHeader, SameLog-off_header}
 use Rattle.image_tables.proofs.Stores.{IsSameOffLog, heap_word-off_log, slab_bit-same, tables_off_log-same}
-use Rattle.image_tables.proofs.Tables.{slab_table, large_table, bit_table, kind_table, class_table, old_table, index_count_table}
+use Rattle.image_tables.proofs.Tables.{slab_table, large_table, bit_table, slab_fields}
 use Rattle.slab_header.specs.Steps.{KeepsOutside, IsMade}
 use Rattle.book_log.specs.declared.entry.LogEntry.TheVariants.{Slab}
 use Rattle.book_log.specs.Book.{Book}
@@ -198,10 +198,10 @@ module _ (words : List ℕ) (start class : ℕ) (may : IsOpenable words start) (
               others = slab_other;
             }));
         fresh = record {
-          kind = kind_table image start ∙ field_here 0 1 is_made.says.kind;
-          class_is = class_table image start ∙ field_here 8 class is_made.says.class;
-          old = old_table image start ∙ field_here 16 0 is_made.says.old;
-          index_count = index_count_table image start ∙ field_here 24 0 is_made.says.entries;
+          kind = (slab_fields image start).kind ∙ field_here 0 1 is_made.says.kind;
+          class_is = (slab_fields image start).class ∙ field_here 8 class is_made.says.class;
+          old = (slab_fields image start).old ∙ field_here 16 0 is_made.says.old;
+          index_count = (slab_fields image start).index_count ∙ field_here 24 0 is_made.says.entries;
           clear = λ i among.
               let few = number_few class i below among in
               bit_table image start i is_here few

@@ -4,7 +4,7 @@ use Rattle.std.proofs.lemmas.Bool.{cond-true}
 use Rattle.pmem_lines.specs.Words.{word_at}
 use Rattle.image_tables.specs.Forms.{IsState, HasStateBits, IsStateWord}
 use Rattle.image_tables.specs.Tables.{is_slab, state_word, state_field, tables_of}
-use Rattle.image_tables.proofs.Tables.{kind_table, class_table, old_table, index_count_table}
+use Rattle.image_tables.proofs.Tables.{slab_fields}
 use Rattle.heap_check.specs.Sound.{IsValidSlab}
 
 same_state : {kind class old n a c o e : ℕ} → kind ≡ a → class ≡ c → old ≡ o → n ≡ e → IsState kind class old n → IsState a c o e
@@ -18,5 +18,5 @@ IsStateWord-valid words start slab bits valid =
     let field : (bits : ℕ) → state_field words start bits ≡ w / 2 ^ bits % 2 ^ 8 = λ bits. cond-true (is_slab words start) (w / 2 ^ bits % 2 ^ 8) 0 slab in
     record {
       small = bits;
-      state = same_state (kind_table words start ∙ field 0 ∙ omega arith) (class_table words start ∙ field 8) (old_table words start ∙ field 16) (index_count_table words start ∙ field 24) valid.state;
+      state = same_state ((slab_fields words start).kind ∙ field 0 ∙ omega arith) ((slab_fields words start).class ∙ field 8) ((slab_fields words start).old ∙ field 16) ((slab_fields words start).index_count ∙ field 24) valid.state;
     }

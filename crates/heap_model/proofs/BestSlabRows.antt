@@ -1,7 +1,7 @@
 -- Worked rows of the best of two slabs that are fit.
-use Rattle.std.proofs.Common.{◌≡◌, ◌⊎◌, ◌<◌, ◌≤◌, ◌+◌, ℕ, Some, None, if◌then◌else◌, refl, sym, ap, ◌∙◌, arith, inl, inr, ⊎_elim, lit<}
-use Rattle.size_classes.specs.Classes.{sizes, class_size}
-use Rattle.heap_model.specs.Machine.{Bounds, Range, Machine, no_heap, with_key, slab_block}
+use Rattle.std.proofs.Common.{◌≡◌, ◌≢◌, ◌⊎◌, ◌<◌, ◌≤◌, ◌+◌, ℕ, Some, None, if◌then◌else◌, refl, sym, ap, ◌∙◌, arith, inl, inr, ⊎_elim, lit<, lit≤}
+use Rattle.size_classes.specs.Classes.{sizes, class_size, class_capacity}
+use Rattle.heap_model.specs.Machine.{Bounds, Range, Machine, LiesIn, AreApart, no_heap, with_key, slab_block}
 use Rattle.heap_model.specs.Choice.{IsFit, IsBestSlab, range_of}
 use Rattle.heap_model.specs.Choice.Site.{Granules, InSlab, InNewSlab}
 use Rattle.heap_model.specs.Slabs.{live_below, begins_in, view_of}
@@ -81,36 +81,43 @@ module _ (roots : ℕ) (many : 2001 ≤ roots) where
       more)
       (each.each root range named)
 
-  -- both are fit for the class of 1000 bytes
-  fit_first : (m : Machine) → EachBlock m IsEither → m.slab 4 ≡ Some 3 → count m 4 ≤ 2 → IsFit (view_of b m) 19 4
-  unfolding class_size sizes
-  fit_first m each slab few = record {
-    class = 3;
+  -- of a block that lives: it has the class's size where it lies in the slab, and block 1 of class 19 of the slab is apart
+  record IsBeside (s d : ℕ) (range : Range) : Type 0 where
+    size : LiesIn s range → range.size ≡ class_size d
+    apart : AreApart (slab_block s 19 1) range
+
+  -- with two blocks at most, a slab where that is so of all is fit for class 19, that of 1000 bytes
+  fit_with : (m : Machine) (s d : ℕ) → m.slab s ≡ Some d → 19 ≢ d → 10 ≤ class_capacity d → 1 < class_capacity 19 → count m s ≤ 2 → EachBlock m (λ root. IsBeside s d) → IsFit (view_of b m) 19 s
+  fit_with m s d slab differs holds within few each = record {
+    class = d;
     slab = slab;
     calm = λ moving.
-        let class : moving.class ≡ 3 = (let is = moving.slab in cc) in
-        in_first m each moving.root moving.range moving.named (λ at wide. moving.other (wide ∙ sym (ap class_size class))) (λ far. omega (arith, far, moving.lies.high));
-    differs = λ same. omega (arith, same);
+        let class : moving.class ≡ d = (let is = moving.slab in cc) in
+        moving.other ((each.each moving.root moving.range moving.named).size moving.lies ∙ sym (ap class_size class));
+    differs = differs;
     few = omega (arith, few);
-    sparse = omega (arith, few);
+    sparse = omega (arith, few, holds);
     number = 1;
-    block = record { within = lit< tt; unused = record { each = λ root range named. in_first m each root range named (λ at wide. inr (omega (arith, at, wide))) (λ far. inl (omega (arith, far))) } };
+    block = record { within = within; unused = record { each = λ root range named. (each.each root range named).apart } };
   }
+
+  -- both are fit
+  fit_first : (m : Machine) → EachBlock m IsEither → m.slab 4 ≡ Some 3 → count m 4 ≤ 2 → IsFit (view_of b m) 19 4
+  unfolding class_size sizes
+  fit_first m each slab few = fit_with m 4 3 slab (λ same. omega (arith, same)) (lit≤ tt) (lit< tt) few (record {
+    each = λ root range named. in_first m each root range named
+        (λ at wide. record { size = λ lies. wide; apart = inr (omega (arith, at, wide)) })
+        (λ far. record { size = λ lies. absurd (omega (arith, far, lies.high)); apart = inl (omega (arith, far)) });
+  })
 
   fit_second : (m : Machine) → EachBlock m IsEither → m.slab 8 ≡ Some 6 → count m 8 ≡ 1 → IsFit (view_of b m) 19 8
   unfolding class_size sizes
-  fit_second m each slab few = record {
-    class = 6;
-    slab = slab;
-    calm = λ moving.
-        let class : moving.class ≡ 6 = (let is = moving.slab in cc) in
-        in_second m each moving.root moving.range moving.named (λ at wide. moving.other (wide ∙ sym (ap class_size class))) (λ low. omega (arith, low, moving.lies.low)) (λ high some. omega (arith, high, some, moving.lies.high));
-    differs = λ same. omega (arith, same);
-    few = omega (arith, few);
-    sparse = omega (arith, few);
-    number = 1;
-    block = record { within = lit< tt; unused = record { each = λ root range named. in_second m each root range named (λ at wide. inr (omega (arith, at, wide))) (λ low. inr (omega (arith, low))) (λ high some. inl (omega (arith, high))) } };
-  }
+  fit_second m each slab few = fit_with m 8 6 slab (λ same. omega (arith, same)) (lit≤ tt) (lit< tt) (omega (arith, few)) (record {
+    each = λ root range named. in_second m each root range named
+        (λ at wide. record { size = λ lies. wide; apart = inr (omega (arith, at, wide)) })
+        (λ low. record { size = λ lies. absurd (omega (arith, low, lies.low)); apart = inr (omega (arith, low)) })
+        (λ high some. record { size = λ lies. absurd (omega (arith, high, some, lies.high)); apart = inl (omega (arith, high)) });
+  })
 
   -- among equals the lowest is the best, and else the one with the fewest live blocks
   lowest_of_equals : IsBestSlab (view_of b even) 19 4

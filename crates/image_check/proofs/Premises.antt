@@ -8,7 +8,7 @@ use Rattle.pool_layout.specs.Header.{version_in, granules_in, fields_of, IsHeade
 use Rattle.pool_layout.proofs.Headers.{fields_of-header_word, header_fits}
 use Rattle.image_tables.specs.Extents.{extent_at}
 use Rattle.image_tables.specs.Tables.{Tables, is_slab, tables_of}
-use Rattle.image_tables.proofs.Tables.{slab_table, large_table, index_count_table}
+use Rattle.image_tables.proofs.Tables.{slab_table, large_table, slab_fields}
 use Rattle.book_log.specs.Book.{Book, HasLog, Reads, AreWithin, IsArenaSize}
 use Rattle.book_log.proofs.Places.{within_heap}
 use Rattle.heap_check.specs.Sound.{granules_at}
@@ -101,7 +101,7 @@ arena_of words header size log good = record {
       let four = four_granules words start slab in
       let lies = extents_lie words log start (omega (arith, four)) in
       (lies.0, omega (arith, lies.1, four));
-  entries = λ start slab. subst (λ n. n ≤ 64) (index_count_table words start) (index_count_few (good start slab).slab);
+  entries = λ start slab. subst (λ n. n ≤ 64) (slab_fields words start).index_count (index_count_few (good start slab).slab);
 }
 
 -- numbers of a chunk's entries fit their type

@@ -7,7 +7,7 @@ use Rattle.pool_layout.specs.declared.defect.Defect.TheVariants.{BadSlab}
 use Rattle.image_tables.specs.Forms.{IsState, IsStateWord}
 use Rattle.image_tables.specs.Tables.{is_slab, state_word, index_word, state_field, tables_of}
 use Rattle.heap_check.proofs.StateWords.{IsStateWord-valid}
-use Rattle.image_tables.proofs.Tables.{kind_table, class_table, old_table, index_count_table}
+use Rattle.image_tables.proofs.Tables.{slab_fields}
 use Rattle.image_defects.specs.Headers.{IsGoodSlab, AreGoodSlabs, IsBadPlace, IsBadWord, IsSlabDefect}
 use Rattle.image_defects.proofs.LeastNumbers.{least_once}
 
@@ -19,7 +19,7 @@ pub place_bad : (words : List ℕ) (start place : ℕ) → IsBadPlace words star
 place_bad words start place bad good =
     let t = tables_of words in
     ⊎_elim
-    (λ form. form (good.header.index place (subst (λ n. place < n) (index_count_table words start) bad.below)))
+    (λ form. form (good.header.index place (subst (λ n. place < n) (slab_fields words start).index_count bad.below)))
     (λ rest. ⊎_elim
     (λ past. omega (arith, past, good.slab.small place bad.below))
     (λ twice. omega (arith, twice.1, good.slab.once twice.0 place (omega (arith, twice.1, bad.below)) bad.below twice.2))

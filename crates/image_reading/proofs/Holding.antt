@@ -6,7 +6,7 @@ use Rattle.size_classes.specs.Classes.{class_size, class_capacity}
 use Rattle.size_classes.proofs.Spacing.{class_size-least}
 use Rattle.pmem_lines.specs.Words.{word_at}
 use Rattle.image_tables.specs.Tables.{Tables, is_slab, state_word, state_field, tables_of}
-use Rattle.image_tables.proofs.Tables.{slab_table, kind_table, class_table, old_table, index_count_table}
+use Rattle.image_tables.proofs.Tables.{slab_table, slab_fields}
 use Rattle.heap_model.specs.Machine.{Range, LiesIn, slab_block}
 use Rattle.heap_model.proofs.Slabbing.{LiesIn-block}
 use Rattle.heap_check.specs.Sound.{IsValidSlab, IsHeld, IsStanding}
@@ -41,10 +41,10 @@ read_of words slab at good is says =
     record {
       at = at;
       of = record {
-        kind = kind_table words slab.start ∙ field 0 ∙ says.kind;
-        class = class_table words slab.start ∙ field 8 ∙ says.class;
-        old = old_table words slab.start ∙ field 16 ∙ says.old;
-        entries = index_count_table words slab.start ∙ field 24 ∙ says.entries;
+        kind = (slab_fields words slab.start).kind ∙ field 0 ∙ says.kind;
+        class = (slab_fields words slab.start).class ∙ field 8 ∙ says.class;
+        old = (slab_fields words slab.start).old ∙ field 16 ∙ says.old;
+        entries = (slab_fields words slab.start).index_count ∙ field 24 ∙ says.entries;
         valid = is.valid;
         numbers = good.slab.small;
       };

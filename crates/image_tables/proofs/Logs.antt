@@ -77,6 +77,26 @@ log_of-inactive words new chunk inactive same =
           (active_chunks (word_at words directory_word)) inactive;
     })
 
+-- a store to an entry of the log changes neither the fields nor the directory, and no other entry
+pub record IsEntryStore (words new : List ℕ) (chunk entry : ℕ) : Type 0 where
+  pub fields : word_at new fields_word ≡ word_at words fields_word
+  pub directory : word_at new directory_word ≡ word_at words directory_word
+  pub chunks : (c : ℕ) → c ≢ chunk → SameChunk (version_in words) words new c
+  pub entries : (e : ℕ) → e < (layout_of (version_in words)).chunk_entries → e ≢ entry → word_at new (entry_word (version_in words) chunk e) ≡ word_at words (entry_word (version_in words) chunk e)
+
+pub entry_store : (words : List ℕ) (chunk entry v : ℕ) → entry < (layout_of (version_in words)).chunk_entries → IsEntryStore words (put_word words (entry_word (version_in words) chunk entry) v) chunk entry
+entry_store words chunk entry v below =
+    let version = version_in words in
+    let low = entry_word-low version chunk entry in
+    let behind = log_word-low version in
+    let other = λ (i : ℕ) (apart : i ≢ entry_word version chunk entry). word_at-put_other words (entry_word version chunk entry) i v apart in
+    record {
+      fields = other fields_word (λ e. omega (arith, e, low, behind));
+      directory = other directory_word (λ e. omega (arith, e, low, behind));
+      chunks = λ c apart. record { each = λ e within. other (entry_word version c e) (λ same. apart (entry_word-same version c chunk e entry within below same).0) };
+      entries = λ e within apart. other (entry_word version chunk e) (λ same. apart (entry_word-same version chunk chunk e entry within below same).1);
+    }
+
 -- the last active chunk, and an entry of it from which on all are free
 pub record IsFront (words : List ℕ) (before : List ℕ) (chunk entry : ℕ) : Type 0 where
   pub chunks : active_chunks (word_at words directory_word) ≡ before ++ chunk ∷ []
@@ -93,22 +113,17 @@ log_of-appended words before chunk entry v front some =
     let version = version_in words in
     let k = entry_word version chunk entry in
     let new = put_word words k v in
-    let low = entry_word-low version chunk entry in
-    let behind = log_word-low version in
-    let other : (i : ℕ) → i ≢ k → word_at new i ≡ word_at words i = λ i apart. word_at-put_other words k i v apart in
-    let fields : word_at new fields_word ≡ word_at words fields_word = other fields_word (λ e. omega (arith, e, low, behind)) in
-    let directory : word_at new directory_word ≡ word_at words directory_word = other directory_word (λ e. omega (arith, e, low, behind)) in
+    let stored = entry_store words chunk entry v front.below in
     let old : All (λ c. chunk_log version new c ≡ chunk_log version words c) before =
     All-weaker (λ c. c ≢ chunk) (λ c. chunk_log version new c ≡ chunk_log version words c)
-    (λ c apart. chunk_log-same version words new c (record { each = λ e below. other (entry_word version c e) (λ same. apart (entry_word-same version c chunk e entry below front.below same).0) }))
+    (λ c apart. chunk_log-same version words new c (stored.chunks c apart))
     before front.once in
     let last : chunk_log version new chunk ≡ chunk_log version words chunk ++ v ∷ [] =
     entries_below-put (λ e. word_at words (entry_word version chunk e)) (λ e. word_at new (entry_word version chunk e)) entry (layout_of version).chunk_entries v front.below some
     (word_at-put_same words k k v refl front.inside)
-    (λ e below apart. other (entry_word version chunk e) (λ same. apart (entry_word-same version chunk chunk e entry below front.below same).1))
-    front.free in
-    ap (λ w. flat_map (chunk_log (version_field w) new) (active_chunks (word_at new directory_word))) fields
-    ∙ ap (λ w. flat_map (chunk_log version new) (active_chunks w)) directory
+    stored.entries front.free in
+    ap (λ w. flat_map (chunk_log (version_field w) new) (active_chunks (word_at new directory_word))) stored.fields
+    ∙ ap (λ w. flat_map (chunk_log version new) (active_chunks w)) stored.directory
     ∙ ap (flat_map (chunk_log version new)) front.chunks
     ∙ flat_map-append (chunk_log version new) before (chunk ∷ [])
     ∙ ap (λ xs. xs ++ (chunk_log version new chunk ++ [])) (flat_map-same (chunk_log version words) (chunk_log version new) before old)

@@ -68,19 +68,12 @@ unfolding tables_of
 number_table words start place is below = cond-true (is_slab words start && ltb place 64) _ 0 (and_from (is_slab words start) (ltb place 64) is (lt-ltb place 64 below))
 
 -- the fields of a slab's state word
+pub record HasStateFields (words : List ℕ) (start : ℕ) : Type 0 where
+  pub kind : (tables_of words).kind start ≡ state_field words start 0
+  pub class : (tables_of words).class start ≡ state_field words start 8
+  pub old : (tables_of words).old start ≡ state_field words start 16
+  pub index_count : (tables_of words).index_count start ≡ state_field words start 24
 
-pub kind_table : (words : List ℕ) (start : ℕ) → (tables_of words).kind start ≡ state_field words start 0
+pub slab_fields : (words : List ℕ) (start : ℕ) → HasStateFields words start
 unfolding tables_of
-kind_table words start = refl
-
-pub class_table : (words : List ℕ) (start : ℕ) → (tables_of words).class start ≡ state_field words start 8
-unfolding tables_of
-class_table words start = refl
-
-pub old_table : (words : List ℕ) (start : ℕ) → (tables_of words).old start ≡ state_field words start 16
-unfolding tables_of
-old_table words start = refl
-
-pub index_count_table : (words : List ℕ) (start : ℕ) → (tables_of words).index_count start ≡ state_field words start 24
-unfolding tables_of
-index_count_table words start = refl
+slab_fields words start = record { kind = refl; class = refl; old = refl; index_count = refl }

@@ -1,8 +1,11 @@
 -- What one pass over the log keeps of each start: what its last entry says, what the last entry of another chunk says,
 -- and whose the last entry is. That tells of each chunk at once whether the start needs it.
-use Rattle.std.specs.Prelude.{◌==◌, ◌&&◌, true, ℕ, zero, suc, Bool, List, [], ◌∷◌, slice_index_or, Option, None, if◌then◌else◌}
+use Rattle.std.specs.Prelude.{◌==◌, ◌&&◌, ◌≤◌, length, true, ℕ, zero, suc, Bool, List, [], ◌∷◌, slice_index_or, Option, None, if◌then◌else◌}
 use Rattle.image_tables.specs.declared.extent.Extent.{Extent}
 use Rattle.image_tables.specs.Extents.{start_of_entry, extent_of_entry}
+use Rattle.pool_layout.specs.Places.{heap_word}
+use Rattle.pool_layout.specs.Header.{version_in}
+use Rattle.book_log.specs.Book.{HasLog}
 use Rattle.log_gc.specs.declared.census.Slot.{Slot}
 use Rattle.log_gc.specs.Needless.{same_extent}
 
@@ -40,3 +43,8 @@ spares slot chunk = if slot.owner == chunk then same_extent slot.other slot.last
 abbrev pub all_spare : (ℕ → Slot) → ℕ → ℕ → Bool
 all_spare slots chunk zero = true
 all_spare slots chunk (suc n) = all_spare slots chunk n && spares (slots n) chunk
+
+-- the log of the words is well formed, and lies in them as a whole
+pub record HasWholeLog (granules : ℕ) (words : List ℕ) : Type 0 where
+  pub log : HasLog granules words
+  pub inside : heap_word (version_in words) ≤ length words

@@ -3,16 +3,16 @@
 ghost use Rattle.std.specs.Prelude.{◌≡◌, ◌≢◌, ◌==◌, ℕ, ◌<◌, ◌≤◌, not, length, slice_index_or, true, if◌then◌else◌};
 ghost use Rattle.std.specs.List.{All};
 ghost use Rattle.pmem_lines.specs.Pmem.{words_of};
-ghost use Rattle.pool_layout.specs.Layout.{layout_of};
 ghost use Rattle.pool_layout.specs.Places.{heap_word};
-ghost use Rattle.pool_layout.specs.Header.{version_in};
 ghost use Rattle.image_tables.specs.Log.{entry_or_none, chunk_log};
 ghost use Rattle.book_log.specs.declared.entry.LogEntry.{LogEntry};
 ghost use Rattle.book_log.specs.Entry.{start_of, extent_of, IsEntryWord};
-ghost use Rattle.book_log.specs.Log.{IsChunk, IsLog};
+ghost use Rattle.book_log.specs.Log.{IsChunk};
+ghost use Rattle.book_log.specs.Book.{chunks_of};
 ghost use Rattle.log_gc.specs.Needless.{same_extent, first_of, first_needless};
-ghost use Rattle.log_gc.specs.Census.{blank_slot, slot_at, slot_noted, slot_behind, slot_over, all_spare};
+ghost use Rattle.log_gc.specs.Census.{blank_slot, slot_at, slot_noted, slot_behind, slot_over, all_spare, HasWholeLog};
 
+use crate::chunks::{active_of, version_of};
 use book_log::{LogEntry, log_entry_of};
 use image_tables::Extent;
 use pmem_lines::Pmem;
@@ -36,62 +36,47 @@ struct Slot {
 }
 
 /// The first needless chunk in the order of the directory: without its entries the log has the same live extents.
-pub(crate) fn first_needless<P: Pmem>(
-    device: &P,
-    version: u32,
-    granules: u32,
-    active: &[u32],
-) -> Option<u8>
-    requires version { version ≡ version_in (words_of (P.state device.now)) }
-    requires log { IsLog granules (words_of (P.state device.now)) active.now }
-    requires inside { heap_word version ≤ length (words_of (P.state device.now)) }
+pub(crate) fn first_needless<P: Pmem>(device: &P, granules: u32) -> Option<u8>
+    requires log { HasWholeLog granules (words_of (P.state device.now)) }
     requires few { granules ≤ 4096 }
-    ensures { result ≡ first_needless granules (words_of (P.state device.now)) active.now }
+    ensures { result ≡ first_needless granules (words_of (P.state device.now)) (chunks_of (words_of (P.state device.now))) }
 {
     if granules <= FEW_STARTS as u32 {
-        needless_among::<P, FEW_STARTS>(device, version, granules, active)
+        needless_among::<P, FEW_STARTS>(device, granules)
     } else {
-        needless_among::<P, STARTS>(device, version, granules, active)
+        needless_among::<P, STARTS>(device, granules)
     }
 }
 
 // The same by a table of so many starts: a smaller one takes less to be made blank.
 #[inline(never)]
-fn needless_among<P: Pmem, const N: usize>(
-    device: &P,
-    version: u32,
-    granules: u32,
-    active: &[u32],
-) -> Option<u8>
-    requires version { version ≡ version_in (words_of (P.state device.now)) }
-    requires log { IsLog granules (words_of (P.state device.now)) active.now }
-    requires inside { heap_word version ≤ length (words_of (P.state device.now)) }
+fn needless_among<P: Pmem, const N: usize>(device: &P, granules: u32) -> Option<u8>
+    requires log { HasWholeLog granules (words_of (P.state device.now)) }
     requires few { granules ≤ N }
     requires small { N ≤ 4096 }
-    ensures { result ≡ first_needless granules (words_of (P.state device.now)) active.now }
+    ensures { result ≡ first_needless granules (words_of (P.state device.now)) (chunks_of (words_of (P.state device.now))) }
 {
     let mut slots = blank_slots::<N>();
-    first_noted(&mut slots, device, version, granules, active)
+    first_noted(&mut slots, device, granules)
 }
 
 // The same by slots in which nothing is noted, one for each granule at least.
-fn first_noted<P: Pmem>(
-    slots: &mut [Slot],
-    device: &P,
-    version: u32,
-    granules: u32,
-    active: &[u32],
-) -> Option<u8>
-    requires version { version ≡ version_in (words_of (P.state device.now)) }
-    requires log { IsLog granules (words_of (P.state device.now)) active.now }
-    requires inside { heap_word version ≤ length (words_of (P.state device.now)) }
+fn first_noted<P: Pmem>(slots: &mut [Slot], device: &P, granules: u32) -> Option<u8>
+    requires log { HasWholeLog granules (words_of (P.state device.now)) }
     requires starts { granules ≤ length slots.old }
     requires blank { (start : ℕ) → slot_at slots.old start ≡ blank_slot }
-    ensures { result ≡ first_needless granules (words_of (P.state device.now)) active.now }
+    ensures { result ≡ first_needless granules (words_of (P.state device.now)) (chunks_of (words_of (P.state device.now))) }
 {
-    note_log(slots, device, version, granules, active);
+    let active = active_of(device);
+    note_log(
+        slots,
+        device,
+        version_of(device),
+        granules,
+        active.as_slice(),
+    );
     let needed = needed_chunks(slots, granules);
-    first_spare(active, &needed)
+    first_spare(active.as_slice(), &needed)
 }
 
 // Slots in which nothing is noted.

@@ -2,10 +2,16 @@
 
 ghost use Rattle.std.specs.Prelude.{◌≡◌, ◌<◌, ◌≤◌, length, take};
 ghost use Rattle.std.specs.List.{All};
+ghost use Rattle.pmem_lines.specs.Pmem.{words_of};
+ghost use Rattle.pool_layout.specs.Header.{version_in};
 ghost use Rattle.book_log.specs.Log.{directory_of};
+ghost use Rattle.book_log.specs.Book.{chunks_of};
 ghost use Rattle.log_gc.specs.Chunks.{without, spare_chunks};
 
 use arrayvec::ArrayVec;
+use book_log::active_chunks;
+use pmem_lines::Pmem;
+use pool_layout::{directory_at, fields_at};
 
 // How many chunks a log has, active or not.
 const CHUNKS: u32 = 16;
@@ -50,4 +56,20 @@ pub(crate) fn directory_of(chunks: &[u32]) -> u64
         word = 256 * word + u64::from(chunk) + 1;
     }
     word
+}
+
+/// The active chunks, in the order of the directory.
+pub(crate) fn active_of<P: Pmem>(p: &P) -> ArrayVec<u32, 8>
+    requires { 2 < length (words_of (P.state p.now)) }
+    ensures { result.items ≡ chunks_of (words_of (P.state p.now)) }
+{
+    active_chunks(p.load(directory_at()))
+}
+
+/// The version of the arena's layout.
+pub(crate) fn version_of<P: Pmem>(p: &P) -> u32
+    requires { 2 < length (words_of (P.state p.now)) }
+    ensures { result ≡ version_in (words_of (P.state p.now)) }
+{
+    (p.load(fields_at()) % 65536) as u32
 }

@@ -14,12 +14,12 @@ ghost use Rattle.book_log.specs.Live.{AreDisjoint};
 ghost use Rattle.log_gc.specs.Room.{way_of, room_events, KeepsLog};
 
 use crate::census::first_needless;
+use crate::chunks::{active_of, version_of};
 use crate::copying::count_live;
 use crate::switching::{rewrite, roll};
-use arrayvec::ArrayVec;
-use book_log::{BookLog, active_chunks};
+use book_log::BookLog;
 use pmem_lines::Pmem;
-use pool_layout::{directory_at, fields_at, layout_of};
+use pool_layout::layout_of;
 
 // How many chunks may be active.
 const MOST_ACTIVE: usize = 8;
@@ -81,7 +81,7 @@ fn choose_way<P: Pmem>(log: &BookLog, p: &P) -> Rolled
 {
     let version = version_of(p);
     let active = active_of(p);
-    let dropped = first_needless(p, version, log.granules(), active.as_slice());
+    let dropped = first_needless(p, log.granules());
     if active.len() < MOST_ACTIVE || dropped.is_some() {
         return Rolled::Rolled { dropped };
     }
@@ -111,20 +111,4 @@ fn take_way<P: Pmem>(log: &BookLog, p: &mut P, way: Rolled)
             rewrite(p, log, version, active.as_slice(), u32::from(chunks));
         }
     }
-}
-
-// The active chunks, in the order of the directory.
-fn active_of<P: Pmem>(p: &P) -> ArrayVec<u32, 8>
-    requires { 2 < length (words_of (P.state p.now)) }
-    ensures { result.items ≡ chunks_of (words_of (P.state p.now)) }
-{
-    active_chunks(p.load(directory_at()))
-}
-
-// The version of the arena's layout.
-fn version_of<P: Pmem>(p: &P) -> u32
-    requires { 2 < length (words_of (P.state p.now)) }
-    ensures { result ≡ version_in (words_of (P.state p.now)) }
-{
-    (p.load(fields_at()) % 65536) as u32
 }

@@ -5,22 +5,19 @@ use Rattle.std.proofs.lemmas.List.{take-take, take_all, length-take}
 use Rattle.pmem_lines.specs.declared.event.Event.{Event}
 use Rattle.pmem_lines.specs.declared.event.Event.TheVariants.{Store, Flush, Fence}
 use Rattle.pmem_lines.specs.Words.{put_word}
-use Rattle.pmem_lines.specs.Events.{reading, less_one, image_of, CrashOnly}
+use Rattle.pmem_lines.specs.Events.{reading, less_one, image_of, CrashOnly, AllStores}
 
 -- every store is to the line
 abbrev pub OnLine : ℕ → List Event → Type 0
-OnLine line [] = Unit {0}
-OnLine line (Store at value ∷ e) = (at / 64 ≡ line) × OnLine line e
-OnLine line (Flush l ∷ e) = OnLine line e
-OnLine line (Fence ∷ e) = OnLine line e
+OnLine line e = AllStores (λ at. at / 64 ≡ line) e
 
--- the first so many of them are to the line too
-OnLine-take : (line n : ℕ) (e : List Event) → OnLine line e → OnLine line (take n e)
-OnLine-take line zero e on = tt
-OnLine-take line (suc n) [] on = on
-OnLine-take line (suc n) (Store at value ∷ e) on = (on.0, OnLine-take line n e on.1)
-OnLine-take line (suc n) (Flush l ∷ e) on = OnLine-take line n e on
-OnLine-take line (suc n) (Fence ∷ e) on = OnLine-take line n e on
+-- what holds of every store holds of every one of the first events
+pub AllStores-take : (P : ℕ → Type 0) (n : ℕ) (e : List Event) → AllStores P e → AllStores P (take n e)
+AllStores-take P zero e all = tt
+AllStores-take P (suc n) [] all = all
+AllStores-take P (suc n) (Store at value ∷ e) all = (all.0, AllStores-take P n e all.1)
+AllStores-take P (suc n) (Flush l ∷ e) all = AllStores-take P n e all
+AllStores-take P (suc n) (Fence ∷ e) all = AllStores-take P n e all
 
 -- with nothing kept of the line, nothing is done
 none_kept : (kept : ℕ → ℕ) (base : List ℕ) (line : ℕ) (e : List Event) → OnLine line e → kept line ≡ 0 → image_of kept base e ≡ base
@@ -52,7 +49,7 @@ cases_le k n = ⊎_elim (λ lt. inl (omega arith)) (λ ge. ⊎_elim (λ lt. inr 
 pub by_prefixes : (base : List ℕ) (line : ℕ) (e : List Event) (P : List ℕ → Type 0) → OnLine line e → ((k : ℕ) → P (reading base (take k e))) → CrashOnly base e P
 by_prefixes base line e P on each = record {
   each = λ n image left.
-      let prefix = a_prefix left.kept base line (take n e) (OnLine-take line n e on) in
+      let prefix = a_prefix left.kept base line (take n e) (AllStores-take (λ at. at / 64 ≡ line) n e on) in
       rw (left.is, prefix.1) (take_twice prefix.0 n);
 }
   where

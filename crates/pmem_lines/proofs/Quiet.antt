@@ -1,5 +1,5 @@
 -- The counts of a line's stores, and lists of events that end quiet.
-use Rattle.std.proofs.Common.{◌≡◌, ◌==◌, ◌&&◌, ℕ, ◌+◌, ◌/◌, ◌≤◌, Bool, true, false, cond, List, [], ◌∷◌, ◌++◌, sym, ◌∙◌, ap, refl, ⊎_elim, arith, eqb}
+use Rattle.std.proofs.Common.{◌≡◌, ◌==◌, ◌&&◌, ◌||◌, ℕ, ◌+◌, ◌/◌, ◌≤◌, Bool, true, false, cond, List, [], ◌∷◌, ◌++◌, sym, ◌∙◌, ap, refl, ⊎_elim, arith, eqb}
 use Rattle.std.proofs.lemmas.Bool.{cases_Bool, eqb-true, eq-eqb, or_parts, true_from_ne_false, or_left, or_right, or_cases, and_parts, and_from}
 use Rattle.std.proofs.lemmas.List.{append-nil}
 use Rattle.pmem_lines.specs.declared.event.Event.{Event}
@@ -23,12 +23,12 @@ done_of-all_of line (Store at value ∷ events) =
 done_of-all_of line (Flush l ∷ events) = done_of-all_of line events
 done_of-all_of line (Fence ∷ events) = done_of-all_of line events
 
--- a fence stays one, whatever follows
-is_fenced-append : (e f : List Event) → is_fenced e ≡ true → is_fenced (e ++ f) ≡ true
-is_fenced-append [] f h = cc
-is_fenced-append (Store at value ∷ e) f h = is_fenced-append e f h
-is_fenced-append (Flush l ∷ e) f h = is_fenced-append e f h
-is_fenced-append (Fence ∷ e) f h = refl
+-- there is a fence in two lists where there is one in either
+pub is_fenced-append : (e f : List Event) → is_fenced (e ++ f) ≡ is_fenced e || is_fenced f
+is_fenced-append [] f = refl
+is_fenced-append (Store at value ∷ e) f = is_fenced-append e f
+is_fenced-append (Flush l ∷ e) f = is_fenced-append e f
+is_fenced-append (Fence ∷ e) f = refl
 
 -- a line that is flushed stays so, whatever follows
 pub is_flushed-append : (line : ℕ) (e f : List Event) → is_flushed line e ≡ true → is_flushed line (e ++ f) ≡ true
@@ -37,7 +37,7 @@ is_flushed-append line (Store at value ∷ e) f h = is_flushed-append line e f h
 is_flushed-append line (Flush l ∷ e) f h =
     ⊎_elim
     (λ here. let parts = and_parts (l == line) (is_fenced e) here in
-    or_left (l == line && is_fenced (e ++ f)) (is_flushed line (e ++ f)) (and_from (l == line) (is_fenced (e ++ f)) parts.0 (is_fenced-append e f parts.1)))
+    or_left (l == line && is_fenced (e ++ f)) (is_flushed line (e ++ f)) (and_from (l == line) (is_fenced (e ++ f)) parts.0 (is_fenced-append e f ∙ or_left (is_fenced e) (is_fenced f) parts.1)))
     (λ later. or_right (l == line && is_fenced (e ++ f)) (is_flushed line (e ++ f)) (is_flushed-append line e f later))
     (or_cases (l == line && is_fenced e) (is_flushed line e) h)
 is_flushed-append line (Fence ∷ e) f h = is_flushed-append line e f h

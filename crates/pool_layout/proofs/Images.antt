@@ -1,5 +1,5 @@
 -- Images of pools: where the words of an arena lie, and when a header line is good.
-use Rattle.std.proofs.Common.{◌≡◌, ◌≢◌, ℕ, suc, ◌+◌, ◌*◌, ◌<◌, ◌≤◌, List, length, sym, ap, ◌∙◌, subst, inl, inr, arith}
+use Rattle.std.proofs.Common.{◌≡◌, ◌≢◌, refl, ⊎_elim, ℕ, suc, ◌+◌, ◌*◌, ◌<◌, ◌≤◌, List, length, sym, ap, ◌∙◌, subst, inl, inr, arith}
 use Rattle.std.proofs.Math.Nat.{mul-le-mul_left}
 use Rattle.pmem_lines.specs.Words.{word_at}
 use Rattle.pmem_lines.proofs.Words.{length-words_at, get_or-words_at}
@@ -7,8 +7,8 @@ use Rattle.pool_layout.specs.declared.header.PoolHeader.{PoolHeader}
 use Rattle.pool_layout.specs.declared.defect.Defect.{Defect}
 use Rattle.pool_layout.specs.declared.defect.Defect.TheVariants.{BadHeader}
 use Rattle.pool_layout.specs.Layout.{layout_of, IsLayout}
-use Rattle.pool_layout.specs.Places.{text_word, fields_word}
-use Rattle.pool_layout.specs.Header.{header_text, header_word, fields_of, IsPoolHeader, IsHeader}
+use Rattle.pool_layout.specs.Places.{fields_word}
+use Rattle.pool_layout.specs.Header.{header_word, fields_of, IsPoolHeader, IsHeader, IsSecondWord, IsHeaderDefect}
 use Rattle.pool_layout.specs.Bytes.{words_of_bytes}
 use Rattle.pool_layout.specs.Image.{part_of, header_of_arena, image_length, IsFirstHeader, IsFirstLine, IsFirstFields, IsBadLine, HasBadArena, HasHeaders, IsPoolImage, IsImageOf}
 use Rattle.pool_layout.proofs.Layouts.{layout_rules}
@@ -49,13 +49,9 @@ arena_header_valid header arena first below = record {
   greatest = first.valid.greatest;
 }
 
--- the text is bad
-pub bad_text : (words : List ℕ) (Is : ℕ → Type 0) (text : ℕ) → text ≡ word_at words text_word → text ≢ header_text → IsBadLine words Is (BadHeader text_word text)
-bad_text words Is text is bad = inl ((λ good. bad (is ∙ good)), ap (BadHeader text_word) is)
-
 -- the text is good, and the second word is bad
-pub bad_fields : (words : List ℕ) (Is : ℕ → Type 0) (text word : ℕ) → text ≡ word_at words text_word → text ≡ header_text → word ≡ word_at words fields_word → ¬ (Is word) → IsBadLine words Is (BadHeader fields_word word)
-bad_fields words Is text word text_is good word_is bad = inr (sym text_is ∙ good, (λ is. bad (subst Is (sym word_is) is)), ap (BadHeader fields_word) word_is)
+pub bad_fields : (words : List ℕ) (Is : ℕ → Type 0) (word : ℕ) → IsSecondWord words word → ¬ (Is word) → IsBadLine words Is (BadHeader fields_word word)
+bad_fields words Is word second bad = inr (second.text, (λ is. bad (subst Is (sym second.is) is)), ap (BadHeader fields_word) second.is)
 
 -- a word is the second one of some pool's arena 0 where what it says is that arena's header
 pub first_fields : (word : ℕ) → IsFirstFields word → IsFirstHeader (fields_of word)
@@ -63,14 +59,29 @@ first_fields word found =
     let header : PoolHeader = found.0 in
     subst IsFirstHeader (sym (ap fields_of found.2 ∙ fields_of-header_word header (header_fits header found.1.valid))) found.1
 
+-- the header line of arena 0 is bad where it is that of no arena, and where it is that of another one
+pub bad_first : (words : List ℕ) → 8 ≤ length words → {defect : Defect} → IsHeaderDefect words defect → IsBadLine words IsFirstFields defect
+bad_first words whole bad = ⊎_elim
+    (λ short. absurd (omega (arith, whole, short.0)))
+    (λ more. ⊎_elim
+    (λ text. inl text.1)
+    (λ fields. inr (fields.1, (λ first. fields.2 first.0 first.2 first.1.valid), fields.3))
+    more)
+    bad
+
+pub other_first : (words : List ℕ) (header : PoolHeader) → IsHeader words header → header.number ≢ 0 → IsBadLine words IsFirstFields (BadHeader fields_word (word_at words fields_word))
+other_first words header is other =
+    let says : fields_of (word_at words fields_word) ≡ header = ap fields_of is.word ∙ fields_of-header_word header (header_fits header is.valid) in
+    inr (is.text, (λ first. other (sym (ap (λ (h : PoolHeader). h.number) says) ∙ (first_fields (word_at words fields_word) first).number)), refl)
+
 -- the header line of an arena, word by word
-pub IsHeader-part : (words : List ℕ) (header : PoolHeader) (arena : ℕ) (text word : ℕ) → length words ≡ header.arenas * header.granules * 2048 → IsFirstHeader header → arena < header.arenas →
-    text ≡ word_at (part_of words header.granules arena) text_word → text ≡ header_text → word ≡ word_at (part_of words header.granules arena) fields_word → word ≡ header_word (header_of_arena header arena) →
+pub IsHeader-part : (words : List ℕ) (header : PoolHeader) (arena : ℕ) (word : ℕ) → length words ≡ header.arenas * header.granules * 2048 → IsFirstHeader header → arena < header.arenas →
+    IsSecondWord (part_of words header.granules arena) word → word ≡ header_word (header_of_arena header arena) →
     IsHeader (part_of words header.granules arena) (header_of_arena header arena)
-IsHeader-part words header arena text word size first below text_is good word_is fields = record {
+IsHeader-part words header arena word size first below second fields = record {
   whole = omega (arith, length-part_of words header.granules header.arenas arena size below, some_granules header first.valid);
-  text = sym text_is ∙ good;
-  word = sym word_is ∙ fields;
+  text = second.text;
+  word = sym second.is ∙ fields;
   valid = arena_header_valid header arena first below;
 }
 
@@ -87,7 +98,7 @@ IsHeader-first words header size line =
     let next : 2048 * header.granules * 0 + 1 ≡ 1 = omega arith in
     let text = word_at-part_of words header.granules 0 0 (omega (arith, some)) ∙ ap (word_at words) here in
     let word = word_at-part_of words header.granules 0 1 (omega (arith, some)) ∙ ap (word_at words) next in
-    IsHeader-part words header 0 (word_at words 0) (word_at words 1) size line.valid (omega (arith, line.valid.valid.some)) (sym text) line.text (sym word)
+    IsHeader-part words header 0 (word_at words 1) size line.valid (omega (arith, line.valid.valid.some)) (record { text = text ∙ line.text; is = sym word })
     (line.fields ∙ ap (λ n. header_word (record { version = header.version; number = n; arenas = header.arenas; granules = header.granules })) line.valid.number)
 
 -- the header line of an arena is bad, and no earlier one

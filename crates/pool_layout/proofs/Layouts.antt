@@ -1,33 +1,11 @@
 -- What every row of the table of versions keeps.
-use Rattle.std.proofs.Common.{◌≡◌, ◌+◌, ◌*◌, ◌/◌, ℕ, refl, sym, ◌∙◌, ap, arith}
+use Rattle.std.proofs.Common.{◌≡◌, ◌+◌, ◌*◌, ◌/◌, ℕ, sym, ◌∙◌, ap, arith, rules}
 use Rattle.pool_layout.specs.declared.layout.Layout.{Layout}
 use Rattle.pool_layout.specs.Layout.{layout_of, IsVersion, IsLayout}
 
 pub layout_rules : (version : ℕ) → IsLayout (layout_of version)
 unfolding layout_of
-layout_rules version = record {
-  some_root = omega arith;
-  few_roots = omega arith;
-  roots = omega arith;
-  log = refl;
-  chunk = refl;
-  some_entry = omega arith;
-  few_entries = omega arith;
-  lines = refl;
-  heap = refl;
-  first = omega arith;
-  some_granule = omega arith;
-  least = omega arith;
-  range = omega arith;
-  most = omega arith;
-  few_chunks = omega arith;
-  entry = omega arith;
-  slab = omega arith;
-  recovery = omega arith;
-  call = omega arith;
-  recovered = omega arith;
-  room = omega arith;
-}
+layout_rules version = search rules
 
 -- versions that have as many roots are one
 pub version_by_roots : (version other : ℕ) → IsVersion version → IsVersion other → (layout_of version).roots ≡ (layout_of other).roots → version ≡ other

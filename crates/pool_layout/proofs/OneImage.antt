@@ -209,7 +209,7 @@ arenas_or_not bytes header line size (suc n) within =
     (λ (all : (k : ℕ) → k < n → Good k). ⊎_elim
     (λ (good : (word_at part text_word ≡ header_text) × Is (word_at part fields_word)).
     let here : Good n =
-    IsHeader-part words header n (word_at part text_word) (word_at part fields_word) (words_in_image bytes header size) line.valid (omega arith) refl good.0 refl good.1 in
+    IsHeader-part words header n (word_at part fields_word) (words_in_image bytes header size) line.valid (omega arith) (record { text = good.0; is = refl }) good.1 in
     inl (λ k below. ⊎_elim (λ (low : k < n). all k low) (λ (high : n ≤ k). let same : n ≡ k = omega arith in subst Good same here) (cases_lt k n)))
     (λ (bad : (defect : Defect) × IsBadLine part Is defect).
     let later : 1 ≤ n = ⊎_elim

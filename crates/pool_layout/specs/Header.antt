@@ -63,10 +63,19 @@ pub record IsHeader (words : List ℕ) (header : PoolHeader) : Type 0 where
   pub word : word_at words fields_word ≡ header_word header
   pub valid : IsPoolHeader header
 
+-- the words do not begin with the text, and the defect says so
+abbrev pub HasBadText : List ℕ → Defect → Type 0
+HasBadText words defect = (word_at words text_word ≢ header_text) × (defect ≡ BadHeader text_word (word_at words text_word))
+
+-- the words begin with the text, and this is the word behind it
+pub record IsSecondWord (words : List ℕ) (word : ℕ) : Type 0 where
+  pub text : word_at words text_word ≡ header_text
+  pub is : word ≡ word_at words fields_word
+
 -- the words do not begin with a header line, and this is the first defect
 abbrev pub IsHeaderDefect : List ℕ → Defect → Type 0
 IsHeaderDefect words defect =
     ((length words < 8) × (defect ≡ BadLength (8 * length words) 64))
-    ⊎ (((8 ≤ length words) × (word_at words text_word ≢ header_text) × (defect ≡ BadHeader text_word (word_at words text_word)))
+    ⊎ (((8 ≤ length words) × HasBadText words defect)
     ⊎ ((8 ≤ length words) × (word_at words text_word ≡ header_text) × ((header : PoolHeader) → word_at words fields_word ≡ header_word header → ¬ (IsPoolHeader header))
     × (defect ≡ BadHeader fields_word (word_at words fields_word))))

@@ -7,7 +7,7 @@ use Rattle.pool_layout.specs.declared.defect.Defect.TheVariants.{BadLength, BadH
 use Rattle.pool_layout.specs.declared.image.ImageFault.{ImageFault}
 use Rattle.pool_layout.specs.declared.image.ImageFault.TheVariants as faults
 use Rattle.pool_layout.specs.Places.{text_word, fields_word}
-use Rattle.pool_layout.specs.Header.{header_text, header_word, IsPoolHeader, IsHeader}
+use Rattle.pool_layout.specs.Header.{header_text, header_word, IsPoolHeader, IsHeader, HasBadText}
 use Rattle.pool_layout.specs.Bytes.{words_of_bytes}
 
 -- the words of an arena, in a pool whose arenas have so many granules
@@ -63,7 +63,7 @@ pub record HasHeaders (bytes : List ℕ) (header : PoolHeader) : Type 0 where
 -- first such word.
 abbrev pub IsBadLine : List ℕ → (ℕ → Type 0) → Defect → Type 0
 IsBadLine words IsFields defect =
-    ((word_at words text_word ≢ header_text) × (defect ≡ BadHeader text_word (word_at words text_word)))
+    HasBadText words defect
     ⊎ ((word_at words text_word ≡ header_text) × ¬ (IsFields (word_at words fields_word)) × (defect ≡ BadHeader fields_word (word_at words fields_word)))
 
 -- the second word of the header line of some pool's arena 0

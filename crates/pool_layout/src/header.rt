@@ -1,7 +1,7 @@
 // The header line of an arena.
 
-ghost use Rattle.std.specs.Prelude.{◌≡◌, ◌↔◌, IsTrue, IfOk, IfErr};
-ghost use Rattle.pool_layout.specs.Header.{header_text, header_word, fields_of, FitsWord, IsPoolHeader, IsHeader, IsHeaderDefect};
+ghost use Rattle.std.specs.Prelude.{◌≡◌, ◌≤◌, ◌↔◌, length, IsTrue, IfOk, IfErr, MatchResult};
+ghost use Rattle.pool_layout.specs.Header.{header_text, header_word, fields_of, FitsWord, IsPoolHeader, IsHeader, HasBadText, IsSecondWord, IsHeaderDefect};
 
 use crate::{Defect, is_version, layout_of};
 
@@ -20,6 +20,21 @@ pub fn header_text() -> u64
     ensures { result ≡ header_text }
 {
     u64::from_le_bytes(*b"NVALLOG1")
+}
+
+// The second word of a header line, where the first is the text; else that one is bad.
+pub(crate) fn second_word(words: &[u64]) -> Result<u64, Defect>
+    requires { 8 ≤ length words.now }
+    ensures { MatchResult result (IsSecondWord words.now) (HasBadText words.now) }
+{
+    let text = words[0];
+    if text != header_text() {
+        return Err(Defect::BadHeader {
+            word: 0,
+            value: text,
+        });
+    }
+    Ok(words[1])
 }
 
 /// The second word of the header line.
@@ -72,17 +87,12 @@ pub fn header_of(words: &[u64]) -> Result<PoolHeader, Defect>
             need: 64,
         });
     }
-    if words[0] != header_text() {
-        return Err(Defect::BadHeader {
-            word: 0,
-            value: words[0],
-        });
-    }
-    let header = fields_of(words[1]);
+    let word = second_word(words)?;
+    let header = fields_of(word);
     if !is_pool_header(&header) {
         return Err(Defect::BadHeader {
             word: 1,
-            value: words[1],
+            value: word,
         });
     }
     Ok(header)

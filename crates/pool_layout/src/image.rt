@@ -5,7 +5,7 @@ ghost use Rattle.pool_layout.specs.Bytes.{words_of_bytes};
 ghost use Rattle.pool_layout.specs.Image.{part_of, header_of_arena, image_length, IsFirstHeader, IsFirstLine, IsFirstFields, IsBadLine, HasBadArena, AreWordsOf, AreWords, IsPoolImage, IsImageOf, IsImageDefect, IfDefect};
 
 use crate::bytes::add_words;
-use crate::header::{fields_of, header_text, header_word, is_pool_header};
+use crate::header::{header_of, header_word, second_word};
 use crate::{Defect, PoolHeader};
 use pmem_lines::OutOfMemory;
 use std::alloc::Global;
@@ -90,31 +90,16 @@ pub fn pool_header(words: &[u64], bytes: u64) -> Result<PoolHeader, ArenaDefect>
     }
 }
 
-// A pool's arena 0 may have this header.
-fn is_first_header(header: &PoolHeader) -> bool
-    ensures { IsTrue result ↔ IsFirstHeader header.now }
-{
-    header.number == 0 && is_pool_header(header)
-}
-
 // The header of arena 0; the first word of its line that is bad, where one is.
 fn first_header(words: &[u64]) -> Result<PoolHeader, Defect>
     requires { 8 ≤ length words.now }
     ensures { MatchResult result (IsFirstLine words.now) (IsBadLine words.now IsFirstFields) }
 {
-    let text = words[0];
-    if text != header_text() {
-        return Err(Defect::BadHeader {
-            word: 0,
-            value: text,
-        });
-    }
-    let word = words[1];
-    let header = fields_of(word);
-    if !is_first_header(&header) {
+    let header = header_of(words)?;
+    if header.number != 0 {
         return Err(Defect::BadHeader {
             word: 1,
-            value: word,
+            value: words[1],
         });
     }
     Ok(header)
@@ -128,14 +113,7 @@ fn check_arena(words: &[u64], header: &PoolHeader, arena: u32) -> Result<(), Def
     ensures { MatchResult result (λ _. IsHeader (part_of words.now header.now.granules arena) (header_of_arena header.now arena)) (λ defect. IsBadLine (part_of words.now header.now.granules arena) (λ word. word ≡ header_word (header_of_arena header.now arena)) defect) }
 {
     let part = parts(header, words, arena);
-    let text = part[0];
-    if text != header_text() {
-        return Err(Defect::BadHeader {
-            word: 0,
-            value: text,
-        });
-    }
-    let word = part[1];
+    let word = second_word(part)?;
     let own = PoolHeader {
         version: header.version,
         number: arena,

@@ -16,7 +16,7 @@ use Rattle.image_tables.specs.Forms.{IsWalWord}
 use Rattle.image_tables.specs.Tables.{Tables, entry_of_word, entry_among, AreSlabsInHeap, is_slab_of, is_slab, state_field, wal_lines, tables_of}
 use Rattle.image_tables.proofs.Extents.{extent_at-elsewhere}
 use Rattle.image_tables.proofs.Stores.{few_lines, IsOffLog-wal}
-use Rattle.image_tables.proofs.Tables.{slab_table, index_count_table}
+use Rattle.image_tables.proofs.Tables.{slab_table, slab_fields}
 use Rattle.attach_wal.specs.Wal.{HasNoOther, Closes, ClosesOrNot}
 use Rattle.heap_model.specs.Machine.{Bounds, Range}
 use Rattle.heap_check.specs.Heap.{heap}
@@ -69,7 +69,7 @@ slab_lies words formed sound start slab =
 
 -- no slab of a sound image has more than 64 index entries
 pub few_entries : (words : List ℕ) → IsSound (bounds_of words) (tables_of words) → (other : ℕ) → is_slab words other ≡ true → state_field words other 24 ≤ 64
-few_entries words sound other is = omega (arith, index_count_few (sound.slabs other (slab_table words other ∙ is)), index_count_table words other)
+few_entries words sound other is = omega (arith, index_count_few (sound.slabs other (slab_table words other ∙ is)), (slab_fields words other).index_count)
 
 -- the only entry among the lines is the open one
 entry_one : (row : ℕ → ℕ) (n line : ℕ) → line < n → row line ≢ 0 → ((other : ℕ) → other < n → other ≢ line → row other ≡ 0) → entry_among row n ≡ Some (entry_of_word (row line))

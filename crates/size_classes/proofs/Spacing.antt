@@ -37,37 +37,23 @@ is_aligned class = eqb (class_size class % 16) 0
 is_scaled : ℕ → Bool
 is_scaled n = eqb (class_size (n + 8)) (2 ^ (n / 4 + 5) * (n % 4 + 5)) && eqb (class_size (n + 7)) (2 ^ (n / 4 + 5) * (n % 4 + 4))
 
-all_low : all_below is_low 8 ≡ true
-unfolding all_below is_low class_size sizes
-all_low = refl
+-- what is computed of the table of sizes: each test at every class that it speaks of, and both ends
+record Computed : Type 0 where
+  low : all_below is_low 8 ≡ true
+  doubled : all_below is_doubled 28 ≡ true
+  rising : all_below is_rising 35 ≡ true
+  aligned : all_below is_aligned 36 ≡ true
+  scaled : all_below is_scaled 28 ≡ true
+  first : class_size 0 ≡ 16
+  last : class_size 35 ≡ 16384
 
-all_doubled : all_below is_doubled 28 ≡ true
-unfolding all_below is_doubled class_size sizes
-all_doubled = refl
-
-all_rising : all_below is_rising 35 ≡ true
-unfolding all_below is_rising class_size sizes
-all_rising = refl
-
-all_aligned : all_below is_aligned 36 ≡ true
-unfolding all_below is_aligned class_size sizes
-all_aligned = refl
-
-all_scaled : all_below is_scaled 28 ≡ true
-unfolding all_below is_scaled class_size sizes
-all_scaled = refl
-
-first : class_size 0 ≡ 16
-unfolding class_size sizes
-first = refl
-
-last : class_size 35 ≡ 16384
-unfolding class_size sizes
-last = refl
+computed : Computed
+unfolding all_below is_low is_doubled is_rising is_aligned is_scaled class_size sizes
+computed = record { low = refl; doubled = refl; rising = refl; aligned = refl; scaled = refl; first = refl; last = refl }
 
 pub class_size-low : (class : ℕ) → class < 8 → class_size class ≡ 16 * (class + 1)
 unfolding is_low
-class_size-low class low = eqb-true (class_size class) (16 * (class + 1)) (passed is_low 8 class all_low low)
+class_size-low class low = eqb-true (class_size class) (16 * (class + 1)) (passed is_low 8 class computed.low low)
 
 pub class_size-doubled : (class : ℕ) → 8 ≤ class → class < 36 → class_size class ≡ 2 * class_size (class - 4)
 unfolding is_doubled
@@ -75,12 +61,12 @@ class_size-doubled class high below =
     let e : class - 8 + 8 ≡ class = omega arith in
     let f : class - 8 + 4 ≡ class - 4 = omega arith in
     ap class_size (sym e)
-    ∙ eqb-true (class_size (class - 8 + 8)) (2 * class_size (class - 8 + 4)) (passed is_doubled 28 (class - 8) all_doubled (omega arith))
+    ∙ eqb-true (class_size (class - 8 + 8)) (2 * class_size (class - 8 + 4)) (passed is_doubled 28 (class - 8) computed.doubled (omega arith))
     ∙ ap (λ k. 2 * class_size k) f
 
 pub class_size-aligned : (class : ℕ) → class < 36 → class_size class % 16 ≡ 0
 unfolding is_aligned
-class_size-aligned class below = eqb-true (class_size class % 16) 0 (passed is_aligned 36 class all_aligned below)
+class_size-aligned class below = eqb-true (class_size class % 16) 0 (passed is_aligned 36 class computed.aligned below)
 
 -- class `4 * (k - 4) + q` of the doublings, where q is from 4 to 7
 pub class_size-scaled : (class k q : ℕ) → 5 ≤ k → 4 ≤ q → q < 8 → class ≡ 4 * (k - 4) + q → class < 36 → class_size class ≡ 2 ^ k * (q + 1)
@@ -90,7 +76,7 @@ class_size-scaled class k q low least most is below =
     let e : n + 8 ≡ class = omega arith in
     let row : n / 4 + 5 ≡ k = omega arith in
     let column : n % 4 + 5 ≡ q + 1 = omega arith in
-    let parts = and_parts (eqb (class_size (n + 8)) (2 ^ (n / 4 + 5) * (n % 4 + 5))) (eqb (class_size (n + 7)) (2 ^ (n / 4 + 5) * (n % 4 + 4))) (passed is_scaled 28 n all_scaled (omega arith)) in
+    let parts = and_parts (eqb (class_size (n + 8)) (2 ^ (n / 4 + 5) * (n % 4 + 5))) (eqb (class_size (n + 7)) (2 ^ (n / 4 + 5) * (n % 4 + 4))) (passed is_scaled 28 n computed.scaled (omega arith)) in
     ap class_size (sym e) ∙ eqb-true (class_size (n + 8)) (2 ^ (n / 4 + 5) * (n % 4 + 5)) parts.0
     ∙ ap (λ x. 2 ^ x * (n % 4 + 5)) row ∙ ap (λ x. 2 ^ k * x) column
 
@@ -102,13 +88,13 @@ class_size-scaled_before class k q low least most is below =
     let e : n + 7 ≡ class = omega arith in
     let row : n / 4 + 5 ≡ k = omega arith in
     let column : n % 4 + 4 ≡ q = omega arith in
-    let parts = and_parts (eqb (class_size (n + 8)) (2 ^ (n / 4 + 5) * (n % 4 + 5))) (eqb (class_size (n + 7)) (2 ^ (n / 4 + 5) * (n % 4 + 4))) (passed is_scaled 28 n all_scaled (omega arith)) in
+    let parts = and_parts (eqb (class_size (n + 8)) (2 ^ (n / 4 + 5) * (n % 4 + 5))) (eqb (class_size (n + 7)) (2 ^ (n / 4 + 5) * (n % 4 + 4))) (passed is_scaled 28 n computed.scaled (omega arith)) in
     ap class_size (sym e) ∙ eqb-true (class_size (n + 7)) (2 ^ (n / 4 + 5) * (n % 4 + 4)) parts.1
     ∙ ap (λ x. 2 ^ x * (n % 4 + 4)) row ∙ ap (λ x. 2 ^ k * x) column
 
 next_rises : (class : ℕ) → class < 35 → class_size class < class_size (class + 1)
 unfolding is_rising
-next_rises class below = ltb-true (class_size class) (class_size (class + 1)) (passed is_rising 35 class all_rising below)
+next_rises class below = ltb-true (class_size class) (class_size (class + 1)) (passed is_rising 35 class computed.rising below)
 
 -- the sizes rise with the class
 pub class_size-rises : (lower class : ℕ) → lower < class → class < 36 → class_size lower < class_size class
@@ -123,14 +109,14 @@ class_size-rises lower (suc class) below within =
 
 pub class_size-least : (class : ℕ) → class < 36 → 16 ≤ class_size class
 class_size-least class below = ⊎_elim
-    (λ (some : 0 < class). omega (arith, class_size-rises 0 class some below, first))
-    (λ (none : class ≤ 0). let same : 0 ≡ class = omega arith in omega (arith, ap class_size same, first))
+    (λ (some : 0 < class). omega (arith, class_size-rises 0 class some below, computed.first))
+    (λ (none : class ≤ 0). let same : 0 ≡ class = omega arith in omega (arith, ap class_size same, computed.first))
     (cases_lt 0 class)
 
 pub class_size-most : (class : ℕ) → class < 36 → class_size class ≤ 16384
 class_size-most class below = ⊎_elim
-    (λ (lower : class < 35). omega (arith, class_size-rises class 35 lower (omega arith), last))
-    (λ (top : 35 ≤ class). let same : class ≡ 35 = omega arith in omega (arith, ap class_size same, last))
+    (λ (lower : class < 35). omega (arith, class_size-rises class 35 lower (omega arith), computed.last))
+    (λ (top : 35 ≤ class). let same : class ≡ 35 = omega arith in omega (arith, ap class_size same, computed.last))
     (cases_lt class 35)
 
 -- all of it

@@ -61,7 +61,7 @@ and_true false = refl
 pub AreKept-changed : {calm : List (Option CalmSlab)} {starts some classes : List ℕ} (starts' some' classes' : List ℕ) (start : ℕ) (slab : CalmSlab) (on : Bool) (was now : Option CalmSlab) →
     AreKept calm starts some classes → start < length calm → get_or calm start None ≡ was →
     IsMarked starts start slab on starts' → length some' ≡ 65 → IsSummary starts' some' → IsPut classes (4096 * slab.class + start) on classes' →
-    ((n : ℕ) → has_live now n ≡ cond (eqb n slab.live && is_sparse slab) on (has_live was n)) → ((n : ℕ) → has_class now n ≡ cond (eqb n slab.class && true) on (has_class was n)) →
+    ((n : ℕ) → has_live now n ≡ cond (eqb n slab.live && is_sparse slab) on (has_live was n)) → ((n : ℕ) → has_class now n ≡ cond (eqb n slab.class) on (has_class was n)) →
     ((other : CalmSlab) → now ≡ Some other → other.class < 36) → AreKept (set calm start now) starts' some' classes'
 AreKept-changed {calm} {starts} {some} {classes} starts' some' classes' start slab on was now kept inside was_is marked some_size summary put live_is class_is known =
     let small : start < 4096 = omega (arith, inside, kept.few) in
@@ -84,24 +84,16 @@ AreKept-changed {calm} {starts} {some} {classes} starts' some' classes' start sl
           was_is
           here
           others
-          class_is;
+          (λ n. class_is n ∙ ap (λ b. cond b on (has_class was n)) (sym (and_true (eqb n slab.class))));
     }
 
 leaves : (x : Bool) → false ≡ cond x false x
 leaves true = refl
 leaves false = refl
 
-leaves_class : (x : Bool) → false ≡ cond (x && true) false x
-leaves_class true = refl
-leaves_class false = refl
-
 comes : (x : Bool) → x ≡ cond x true false
 comes true = refl
 comes false = refl
-
-comes_class : (x : Bool) → x ≡ cond (x && true) true false
-comes_class true = refl
-comes_class false = refl
 
 -- after it went
 pub AreKept-left : {calm : List (Option CalmSlab)} {starts some classes : List ℕ} (starts' some' classes' : List ℕ) (start : ℕ) (slab : CalmSlab) → AreKept calm starts some classes → start < length calm → get_or calm start None ≡ Some slab →
@@ -109,7 +101,7 @@ pub AreKept-left : {calm : List (Option CalmSlab)} {starts some classes : List �
 AreKept-left starts' some' classes' start slab kept inside was marked some_size summary put =
     AreKept-changed starts' some' classes' start slab false (Some slab) None kept inside was marked some_size summary put
     (λ n. leaves (eqb n slab.live && is_sparse slab))
-    (λ n. leaves_class (eqb n slab.class))
+    (λ n. leaves (eqb n slab.class))
     (λ other e. absurd (none-some other e))
 
 same_Some : (slab other : CalmSlab) → Some slab ≡ Some other → slab.class ≡ other.class
@@ -125,7 +117,7 @@ pub AreKept-come : {calm : List (Option CalmSlab)} {starts some classes : List �
 AreKept-come starts' some' classes' start slab kept inside was known marked some_size summary put =
     AreKept-changed starts' some' classes' start slab true None (Some slab) kept inside was marked some_size summary put
     (λ n. comes (eqb n slab.live && is_sparse slab))
-    (λ n. comes_class (eqb n slab.class))
+    (λ n. comes (eqb n slab.class))
     (λ other e. omega (arith, same_Some slab other e, known))
 
 -- a slab of the same class has it still

@@ -1,5 +1,5 @@
 -- The first candidate, from the sets of words that candidates keep.
-use Rattle.std.proofs.Common.{◌≡◌, ◌≢◌, ℕ, ◌+◌, ◌*◌, ◌/◌, ◌%◌, ◌<◌, ◌≤◌, ⊎_elim, inl, inr, true, false, eqb, leb, ◌&&◌, List, Option, Some, None, length, get_or, refl, sym, ap, ◌∙◌, subst, arith}
+use Rattle.std.proofs.Common.{◌≡◌, ◌≢◌, ℕ, ◌+◌, ◌*◌, ◌/◌, ◌%◌, ◌<◌, ◌≤◌, ⊎_elim, inl, inr, Bool, true, false, eqb, leb, ◌&&◌, List, Option, Some, None, length, get_or, refl, sym, ap, ◌∙◌, subst, arith}
 use Rattle.std.specs.Option.{MatchOption, IfSome}
 use Rattle.std.proofs.lemmas.Bool.{cases_lt, cases_eq, eq-eqb, eqb-true, ne_eqb, le-leb, leb-true, and_parts, and_from, both_ways, false≢true}
 use Rattle.std.proofs.lemmas.List.{get_or_past}
@@ -50,20 +50,19 @@ pub record IsPlaced (starts classes : List ℕ) (class granules s n : ℕ) : Typ
   pub is : IsOther starts classes class n s
 
 module _ {calm set : List (Option CalmSlab)} {starts some classes : List ℕ} (view : calm ≡ set) (kept : AreKept calm starts some classes) where
-  -- the tests of a number of the sets
-  live_at : (n s : ℕ) → s < 4096 → has starts (4096 * n + s) ≡ has_live (get_or calm s None) n
-  live_at n s small =
-      let k = 4096 * n + s in
+  -- what a set that a test tells has of a start and a key
+  told_at : (test : Option CalmSlab → ℕ → Bool) (words : List ℕ) → ((k : ℕ) → has words k ≡ test (get_or calm (k % 4096) None) (k / 4096)) → (key s : ℕ) → s < 4096 → has words (4096 * key + s) ≡ test (get_or calm s None) key
+  told_at test words told key s small =
+      let k = 4096 * key + s in
       let place : k % 4096 ≡ s = omega arith in
-      let of_live : k / 4096 ≡ n = omega arith in
-      kept.starts_are k ∙ ap (λ t. has_live (get_or calm t None) (k / 4096)) place ∙ ap (has_live (get_or calm s None)) of_live
+      let of_key : k / 4096 ≡ key = omega arith in
+      told k ∙ ap (λ t. test (get_or calm t None) (k / 4096)) place ∙ ap (test (get_or calm s None)) of_key
+
+  live_at : (n s : ℕ) → s < 4096 → has starts (4096 * n + s) ≡ has_live (get_or calm s None) n
+  live_at = told_at has_live starts kept.starts_are
 
   class_at : (class s : ℕ) → s < 4096 → has classes (4096 * class + s) ≡ has_class (get_or calm s None) class
-  class_at class s small =
-      let k = 4096 * class + s in
-      let place : k % 4096 ≡ s = omega arith in
-      let of_class : k / 4096 ≡ class = omega arith in
-      kept.classes_are k ∙ ap (λ t. has_class (get_or calm t None) (k / 4096)) place ∙ ap (has_class (get_or calm s None)) of_class
+  class_at = told_at has_class classes kept.classes_are
 
   -- a candidate is in the sets
   pub other_of_candidate : (class s n : ℕ) → IsCandidate set class s n → IsPlaced starts classes class (length calm) s n

@@ -32,12 +32,20 @@ pub record IsFirstCandidate (set : List (Option CalmSlab)) (class : ℕ) (found 
   pub is : IsCandidate set class found.start found.live
   pub first : (start live : ℕ) → IsCandidate set class start live → ¬ (IsBefore live start found.live found.start)
 
+-- there is none in a part of their order, which is told by a number of live blocks and a start
+pub record HasNoneAmong (set : List (Option CalmSlab)) (class : ℕ) (IsIn : ℕ → ℕ → Type 0) : Type 0 where
+  pub none : (s n : ℕ) → IsIn n s → ¬ (IsCandidate set class s n)
+
+-- the first one in a part of their order
+pub record IsFirstAmong (set : List (Option CalmSlab)) (class : ℕ) (IsIn : ℕ → ℕ → Type 0) (found : Candidate) : Type 0 where
+  pub is : IsCandidate set class found.start found.live
+  pub behind : IsIn found.live found.start
+  pub first : (s n : ℕ) → IsCandidate set class s n → IsIn n s → ¬ (IsBefore n s found.live found.start)
+
 -- there is none behind a place in their order
-pub record HasNoneBehind (set : List (Option CalmSlab)) (class live start : ℕ) : Type 0 where
-  pub none : (s n : ℕ) → IsBefore live start n s → ¬ (IsCandidate set class s n)
+abbrev pub HasNoneBehind : List (Option CalmSlab) → (class live start : ℕ) → Type 0
+HasNoneBehind set class live start = HasNoneAmong set class (IsBefore live start)
 
 -- the first one behind a place in their order
-pub record IsNextCandidate (set : List (Option CalmSlab)) (class live start : ℕ) (found : Candidate) : Type 0 where
-  pub is : IsCandidate set class found.start found.live
-  pub behind : IsBefore live start found.live found.start
-  pub first : (s n : ℕ) → IsCandidate set class s n → IsBefore live start n s → ¬ (IsBefore n s found.live found.start)
+abbrev pub IsNextCandidate : List (Option CalmSlab) → (class live start : ℕ) → Candidate → Type 0
+IsNextCandidate set class live start found = IsFirstAmong set class (IsBefore live start) found

@@ -5,7 +5,7 @@ use Rattle.size_classes.specs.Classes.{class_capacity}
 use Rattle.bit_words.specs.Numbers.{has}
 use Rattle.slab_index.specs.declared.candidates.CalmSlab.{CalmSlab}
 use Rattle.slab_index.specs.declared.candidates.Candidate.{Candidate}
-use Rattle.slab_index.specs.Candidates.{IsCandidate, IsBefore}
+use Rattle.slab_index.specs.Candidates.{HasNoneAmong, IsFirstAmong}
 use Rattle.slab_index.specs.Kept.{IsSummary}
 
 -- so few blocks live in the slab that it may take another class
@@ -76,11 +76,9 @@ abbrev pub IsFrom : (live start other_live other : ℕ) → Type 0
 IsFrom live start other_live other = (live < other_live) ⊎ ((live ≡ other_live) × (start ≤ other))
 
 -- there is no candidate from a place on
-pub record HasNoneFrom (set : List (Option CalmSlab)) (class live start : ℕ) : Type 0 where
-  pub none : (s n : ℕ) → IsFrom live start n s → ¬ (IsCandidate set class s n)
+abbrev pub HasNoneFrom : List (Option CalmSlab) → (class live start : ℕ) → Type 0
+HasNoneFrom set class live start = HasNoneAmong set class (IsFrom live start)
 
 -- the first one from a place on
-pub record IsLeastFrom (set : List (Option CalmSlab)) (class live start : ℕ) (found : Candidate) : Type 0 where
-  pub is : IsCandidate set class found.start found.live
-  pub behind : IsFrom live start found.live found.start
-  pub first : (s n : ℕ) → IsCandidate set class s n → IsFrom live start n s → ¬ (IsBefore n s found.live found.start)
+abbrev pub IsLeastFrom : List (Option CalmSlab) → (class live start : ℕ) → Candidate → Type 0
+IsLeastFrom set class live start found = IsFirstAmong set class (IsFrom live start) found

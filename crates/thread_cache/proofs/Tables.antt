@@ -7,7 +7,7 @@ use Rattle.bit_words.proofs.Bits.{put_here, put_beside, has-zero, has-zeros}
 use Rattle.heap_model.specs.Placement.{no_stacks, with_stack, HasTop}
 use Rattle.std.specs.Option.{MatchOption}
 use Rattle.thread_cache.specs.Stacks.{StackTable, stacks_of, AreDistinct, WasEmpty, GaveTop, WereEmpty, GaveFirst}
-use Rattle.thread_cache.specs.Kept.{table_of, IsKept}
+use Rattle.thread_cache.specs.Kept.{table_of, IsNumberOf, IsKept}
 use Rattle.thread_cache.proofs.Distinct.{AreDistinct-none, IsOther, stack_here, stack_there, here_or_there}
 
 -- the stack of a seat and class is that of its number
@@ -42,24 +42,23 @@ module _ {lists : List (List ℕ)} {table : StackTable} (is : table_of lists ≡
       sym (ap (λ (t : StackTable). stacks_of t seat class) is) ∙ stack_at (table_of lists) seat class is_seat is_class ∙ ap (λ k. get_or lists k []) (sym at)
 
   -- a stack that is read
-  pub stack_read : (number seat class : ℕ) (stack : List ℕ) → number ≡ 64 * class + seat → seat < 64 → class < 36 → number < length lists → stack ≡ get_or lists number stack → stacks_of table seat class ≡ stack
-  stack_read number seat class stack at is_seat is_class inside read =
-      stack_of_number number seat class at is_seat is_class ∙ sym (get_or_read lists number stack inside read [])
+  pub stack_read : {number seat class : ℕ} → IsNumberOf number seat class → length lists ≡ 2304 → (stack : List ℕ) → stack ≡ get_or lists number stack → stacks_of table seat class ≡ stack
+  stack_read {number} {seat} {class} at size stack read =
+      stack_of_number number seat class at.value at.is_seat at.is_class ∙ sym (get_or_read lists number stack (omega (arith, at.value, at.is_seat, at.is_class)) read [])
 
   -- another list at a number is another stack of its seat and class
-  pub stacks_after : (number seat class : ℕ) (stack : List ℕ) → number ≡ 64 * class + seat → seat < 64 → class < 36 → number < length lists →
-      stacks_of (table_of (set lists number stack)) ≡ with_stack (stacks_of table) seat class stack
-  stacks_after number seat class stack at is_seat is_class inside = λ i other c. each other c i
+  pub stacks_after : {number seat class : ℕ} → IsNumberOf number seat class → length lists ≡ 2304 → (stack : List ℕ) → stacks_of (table_of (set lists number stack)) ≡ with_stack (stacks_of table) seat class stack
+  stacks_after {number} {seat} {class} at size stack = λ i other c. each other c i
     where
       near : (other c : ℕ) → other < 64 → c < 36 → stacks_of (table_of (set lists number stack)) other c ≡ with_stack (stacks_of table) seat class stack other c
       near other c is_other is_c = ⊎_elim
           (λ (same : (other ≡ seat) × (c ≡ class)).
           stack_at (table_of (set lists number stack)) other c is_other is_c
-          ∙ ap (λ k. get_or (set lists number stack) k []) (omega (arith, at, same.0, same.1))
-          ∙ get_or-set_same lists number stack [] inside
+          ∙ ap (λ k. get_or (set lists number stack) k []) (omega (arith, at.value, same.0, same.1))
+          ∙ get_or-set_same lists number stack [] (omega (arith, at.value, at.is_seat, at.is_class))
           ∙ sym (stack_here (stacks_of table) seat class other c stack same.0 same.1))
           (λ (apart : IsOther seat class other c).
-          let far : 64 * c + other ≢ number = λ e. apart.apart (omega arith) (omega arith) in
+          let far : 64 * c + other ≢ number = λ e. apart.apart (omega (arith, at.value, at.is_seat)) (omega (arith, at.value, at.is_seat)) in
           stack_at (table_of (set lists number stack)) other c is_other is_c
           ∙ get_or-set_other lists number (64 * c + other) stack [] far
           ∙ sym (stack_of_number (64 * c + other) other c refl is_other is_c)
@@ -69,13 +68,13 @@ module _ {lists : List (List ℕ)} {table : StackTable} (is : table_of lists ≡
       each : (other c : ℕ) → stacks_of (table_of (set lists number stack)) other c ≡ with_stack (stacks_of table) seat class stack other c
       each = by_range (λ other c. stacks_of (table_of (set lists number stack)) other c ≡ with_stack (stacks_of table) seat class stack other c)
           near
-          (λ other c past. no_seat (table_of (set lists number stack)) other c past ∙ sym (no_seat table other c past) ∙ sym (stack_there (stacks_of table) seat class other c stack (record { apart = λ e _. absurd (omega arith) })))
-          (λ other c past. no_class (table_of (set lists number stack)) other c past ∙ sym (no_class table other c past) ∙ sym (stack_there (stacks_of table) seat class other c stack (record { apart = λ _ e. absurd (omega arith) })))
+          (λ other c past. no_seat (table_of (set lists number stack)) other c past ∙ sym (no_seat table other c past) ∙ sym (stack_there (stacks_of table) seat class other c stack (record { apart = λ e _. absurd (omega (arith, at.is_seat)) })))
+          (λ other c past. no_class (table_of (set lists number stack)) other c past ∙ sym (no_class table other c past) ∙ sym (stack_there (stacks_of table) seat class other c stack (record { apart = λ _ e. absurd (omega (arith, at.is_class)) })))
 
   -- a list that is put where it stands changes nothing
-  pub table_same : (number : ℕ) (stack later : List ℕ) → number < length lists → stack ≡ get_or lists number stack → later ≡ stack → table_of (set lists number later) ≡ table
-  table_same number stack later inside read same =
-      ap (λ (xs : List ℕ). table_of (set lists number xs)) (same ∙ get_or_read lists number stack inside read []) ∙ ap table_of (set-get_or lists number []) ∙ is
+  pub table_same : {number seat class : ℕ} → IsNumberOf number seat class → length lists ≡ 2304 → (stack later : List ℕ) → stack ≡ get_or lists number stack → later ≡ stack → table_of (set lists number later) ≡ table
+  table_same {number} at size stack later read same =
+      ap (λ (xs : List ℕ). table_of (set lists number xs)) (same ∙ get_or_read lists number stack (omega (arith, at.value, at.is_seat, at.is_class)) read []) ∙ ap table_of (set-get_or lists number []) ∙ is
 
   module _ {seats : List ℕ} (kept : IsKept lists seats) where
     -- no address of the table stands in two places
@@ -83,10 +82,10 @@ module _ {lists : List (List ℕ)} {table : StackTable} (is : table_of lists ≡
     distinct_of = subst (λ (t : StackTable). AreDistinct (stacks_of t)) is kept.distinct
 
     -- what caches keep, after one stack and its bit were put
-    pub IsKept-after : (later : List ℕ) (number seat class : ℕ) (stack : List ℕ) (on : Bool) → number ≡ 64 * class + seat → seat < 64 → class < 36 → IsPut seats number on later → on ≡ ltb 0 (length stack) →
+    pub IsKept-after : {number seat class : ℕ} → IsNumberOf number seat class → (later stack : List ℕ) (on : Bool) → IsPut seats number on later → on ≡ ltb 0 (length stack) →
         AreDistinct (with_stack (stacks_of table) seat class stack) → IsKept (set lists number stack) later
-    IsKept-after later number seat class stack on at is_seat is_class put some distinct =
-        let inside : number < length lists = omega (arith, kept.lists_size) in
+    IsKept-after {number} at later stack on put some distinct =
+        let inside : number < length lists = omega (arith, kept.lists_size, at.value, at.is_seat, at.is_class) in
         record {
           lists_size = length-set lists number stack ∙ kept.lists_size;
           seats_size = put.size ∙ kept.seats_size;
@@ -96,7 +95,7 @@ module _ {lists : List (List ℕ)} {table : StackTable} (is : table_of lists ≡
               (λ (there : k ≢ number).
               put_beside put k there ∙ kept.seats_are k ∙ sym (ap (λ (xs : List ℕ). ltb 0 (length xs)) (get_or-set_other lists number k stack [] there)))
               (cases_eq k number);
-          distinct = subst AreDistinct (sym (stacks_after number seat class stack at is_seat is_class inside)) distinct;
+          distinct = subst AreDistinct (sym (stacks_after at kept.lists_size stack)) distinct;
         }
 
     -- a stack whose bit is clear is empty

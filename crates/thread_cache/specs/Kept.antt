@@ -1,5 +1,5 @@
 -- What caches keep beside the stacks: which of them are not empty. And the steps of their loops, by classes and seats.
-use Rattle.std.specs.Prelude.{◌≡◌, ℕ, nat_lt, Bool, List, [], length, slice_index_or, if◌then◌else◌}
+use Rattle.std.specs.Prelude.{◌≡◌, ℕ, ◌+◌, ◌*◌, ◌<◌, nat_lt, Bool, List, [], length, slice_index_or, if◌then◌else◌}
 use Rattle.bit_words.specs.Numbers.{has}
 use Rattle.heap_model.specs.Placement.{Stacks, without_slab, Has}
 use Rattle.thread_cache.specs.Stacks.{StackTable, stacks_of, AreDistinct}
@@ -7,6 +7,12 @@ use Rattle.thread_cache.specs.Stacks.{StackTable, stacks_of, AreDistinct}
 -- the stacks that these lists say
 abbrev pub table_of : List (List ℕ) → StackTable
 table_of lists = record { lists = lists }
+
+-- the number of the stack of a seat and class
+pub record IsNumberOf (number seat class : ℕ) : Type 0 where
+  pub value : number ≡ 64 * class + seat
+  pub is_seat : seat < 64
+  pub is_class : class < 36
 
 -- there is a list for each seat and class, a bit says which has an address, and no address stands in two places
 pub record IsKept (lists : List (List ℕ)) (seats : List ℕ) : Type 0 where

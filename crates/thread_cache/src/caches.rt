@@ -2,7 +2,7 @@
 ghost use Rattle.std.specs.Prelude.{◌≡◌, ◌==◌, ◌+◌, ◌*◌, ◌/◌, ◌%◌, ◌<◌, ◌↔◌, [], ◌∷◌, length, nat_lt, true, false, replicate, MatchOption, IfOk};
 ghost use Rattle.heap_model.specs.Placement.{no_stacks, with_stack, without_slab, Has, IsInNoStack};
 ghost use Rattle.thread_cache.specs.Stacks.{stacks_of, AreDistinct, AreRising, AreLoose, IsHeld, WasEmpty, GaveTop, WereEmpty, GaveFirst};
-ghost use Rattle.thread_cache.specs.Kept.{HasNone, IsPurgedWhere};
+ghost use Rattle.thread_cache.specs.Kept.{IsNumberOf, HasNone, IsPurgedWhere};
 
 use crate::stack::Stack;
 use arrayvec::ArrayVec;
@@ -210,8 +210,7 @@ impl ThreadCaches {
 fn number_of(seat: u32, class: u8) -> u32
     requires seat { seat < 64 }
     requires class { class < 36 }
-    ensures value { result ≡ 64 * class + seat }
-    ensures below { result < 2304 }
+    ensures { IsNumberOf result seat class }
 {
     SEATS * u32::from(class) + seat
 }

@@ -50,6 +50,19 @@ fn put_back(caches: &mut ThreadCaches, seat: u32, class: u8, at: u32) -> bool
     !caches.holds(at) && caches.put_back(seat, class, at)
 }
 
+// Puts blocks back, one after another, and gives the first that does not come back.
+fn first_refused(caches: &mut ThreadCaches, seat: u32, class: u8, blocks: &[u32]) -> Option<u32>
+    requires seat { seat < 64 }
+    requires class { class < 36 }
+{
+    for at in blocks {
+        if !put_back(caches, seat, class, *at) {
+            return Some(*at);
+        }
+    }
+    None
+}
+
 // Blocks of 64 bytes of the slab at 65536. Three are taken and two put back: the one that came last goes first, and then
 // the one before.
 #[test]
@@ -102,14 +115,9 @@ fn all_are_stolen(rt: HostRuntime) -> Result<(), Fail> {
 #[test]
 fn lowest_seat_first(rt: HostRuntime) -> Result<(), Fail> {
     let mut caches = with_row(rt.alloc(), 40, 7, 100096, 128, 2)?;
-    for (seat, class, at) in [
-        (63, 7, 200000),
-        (5, 7, 300032),
-        (5, 7, 300160),
-        (0, 8, 400000),
-    ] {
-        assert!(rt; put_back(&mut caches, seat, class, at), "for {at}");
-    }
+    assert_eq!(rt; first_refused(&mut caches, 63, 7, &[200000]), None);
+    assert_eq!(rt; first_refused(&mut caches, 5, 7, &[300032, 300160]), None);
+    assert_eq!(rt; first_refused(&mut caches, 0, 8, &[400000]), None);
     for want in [
         Some(300160),
         Some(300032),
@@ -128,16 +136,9 @@ fn lowest_seat_first(rt: HostRuntime) -> Result<(), Fail> {
 #[test]
 fn others_keep_their_order(rt: HostRuntime) -> Result<(), Fail> {
     let mut caches = with_row(rt.alloc(), 2, 0, 131056, 16, 0)?;
-    for (seat, class, at) in [
-        (2, 0, 131056),
-        (2, 0, 131072),
-        (2, 0, 65536),
-        (2, 0, 196592),
-        (2, 0, 196608),
-        (63, 35, 133120),
-    ] {
-        assert!(rt; put_back(&mut caches, seat, class, at), "for {at}");
-    }
+    let row = [131056, 131072, 65536, 196592, 196608];
+    assert_eq!(rt; first_refused(&mut caches, 2, 0, &row), None);
+    assert_eq!(rt; first_refused(&mut caches, 63, 35, &[133120]), None);
     caches.purge_slab(131072);
     for want in [Some(196608), Some(65536), Some(131056), None] {
         assert_eq!(rt; caches.pop(2, 0), want);

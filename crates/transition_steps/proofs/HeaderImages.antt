@@ -13,7 +13,7 @@ use Rattle.image_tables.specs.Tables.{is_slab, AreSlabsInHeap, state_word, index
 use Rattle.image_tables.proofs.Headers.{IsSameOffHeader, SameLog-off_header, is_slab-off_header}
 use Rattle.image_tables.proofs.Places.{log_word-low}
 use Rattle.image_tables.proofs.Stores.{log_word-high, wal_word-low, state_field-same}
-use Rattle.image_tables.proofs.Tables.{index_count_table}
+use Rattle.image_tables.proofs.Tables.{slab_fields}
 use Rattle.book_log.specs.Book.{HasLog}
 use Rattle.book_log.proofs.Books.{HasLog-same}
 use Rattle.heap_check.specs.Sound.{IsValidSlab, IsSound}
@@ -48,7 +48,7 @@ valid_here words start is header slab =
     let same = header_of-slab words start is in
     record {
       state = IsStateWord-valid words start is header.state slab;
-      index = λ place below. header.index place (omega (arith, below, ap (λ (h : SlabHeader). h.index_count) same, index_count_table words start));
+      index = λ place below. header.index place (omega (arith, below, ap (λ (h : SlabHeader). h.index_count) same, (slab_fields words start).index_count));
       slab = subst (λ (h : SlabHeader). IsValidSlab (alone h) start) same (record { state = slab.state; small = slab.small; once = slab.once });
     }
 
@@ -56,7 +56,7 @@ valid_here words start is header slab =
 header_there : (words : List ℕ) (start : ℕ) → is_slab words start ≡ true → IsValidHeader words start → HasSlabHeader words start
 header_there words start is valid = record {
   state = valid.state.small;
-  index = λ place below. valid.index place (omega (arith, below, ap (λ (h : SlabHeader). h.index_count) (header_of-slab words start is), index_count_table words start));
+  index = λ place below. valid.index place (omega (arith, below, ap (λ (h : SlabHeader). h.index_count) (header_of-slab words start is), (slab_fields words start).index_count));
 }
 
 module _ (words : List ℕ) (start : ℕ) (formed : IsFormed words) (sound : IsSound (bounds_of words) (tables_of words)) (slab : (tables_of words).slab start ≡ true) where

@@ -21,7 +21,7 @@ pub returns-then-len-lt-MOST_ACTIVE : goal.returns-then-len-lt-MOST_ACTIVE
 returns-then-len-lt-MOST_ACTIVE g c =
     let words = words_of (g.P.Pmem.state c.args.p.now) in
     let granules = c.args.log.now.granules in
-    let first = c.first_needless-dropped.ensures ∙ ap (λ n. first_needless n words c.as_slice.result.now) c.granules.ensures.granules ∙ ap (first_needless granules words) (c.as_slice.ensures.value ∙ c.active_of-active.ensures) in
+    let first = c.first_needless-dropped.ensures ∙ ap (λ n. first_needless n words (chunks_of words)) c.granules.ensures.granules in
     sym (way_roll granules words c.first_needless-dropped.result c.requires.full first
     (elim c.then-len-lt-MOST_ACTIVE.branch [
       | then-len-lt-MOST_ACTIVE-via-then-len-lt-MOST_ACTIVE w ↦ inl (omega (arith, w.if-len-lt-MOST_ACTIVE.true, c.len.ensures.value, ap length c.active_of-active.ensures))
@@ -43,7 +43,7 @@ pub returns : goal.returns
 returns g c =
     let words = words_of (g.P.Pmem.state c.args.p.now) in
     let granules = c.args.log.now.granules in
-    let first = c.first_needless-dropped.ensures ∙ ap (λ n. first_needless n words c.as_slice.result.now) c.granules.ensures.granules ∙ ap (first_needless granules words) (c.as_slice.ensures.value ∙ c.active_of-active.ensures) in
+    let first = c.first_needless-dropped.ensures ∙ ap (λ n. first_needless n words (chunks_of words)) c.granules.ensures.granules in
     let row = ap (λ (l : Layout). l.chunk_entries) c.layout_of.ensures.row in
     let chunks = book_chunks c.args.log.now words c.version_of-version.result c.count_live.result c.layout_of.result.chunk_entries c.requires.reads c.version_of-version.ensures c.count_live.ensures row in
     ap rolled.Rewritten chunks

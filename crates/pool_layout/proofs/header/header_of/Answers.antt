@@ -1,29 +1,28 @@
-use Rattle.std.proofs.Common.{inl, inr, sym, ◌∙◌, refl}
+use Rattle.std.proofs.lemmas.Result.{err_from_is_err_and}
+use Rattle.std.proofs.Common.{inl, inr, sym, ◌∙◌, ap, refl}
 use Rattle.std.proofs.lemmas.Bool.{false≢true}
-use Rattle.pmem_lines.specs.Words.{word_at}
-use Rattle.pool_layout.specs.Header.{IsPoolHeader}
+use Rattle.pool_layout.specs.declared.defect.Defect.TheVariants.{BadHeader}
+use Rattle.pool_layout.specs.Header.{IsPoolHeader, fields_of}
 use Rattle.pool_layout.proofs.Headers.{no_header}
 use Rattle.pool_layout.proofs.header.header_of.Goals as goal
 
-pub returns-then-words-header_text-clause-defect :
-    goal.returns-then-words-header_text-clause-defect
-unfolding word_at
-returns-then-words-header_text-clause-defect c =
-    inr (inl (c.if-words-lt8.false, (λ text. c.if-words-header_text.true (text ∙ sym c.header_text.ensures)), refl))
+pub returns-in_err-word-clause-defect : goal.returns-in_err-word-clause-defect
+returns-in_err-word-clause-defect c =
+    let p = err_from_is_err_and c.from_residual.result c.from_residual.ensures.1 in
+    rw (p.1, p.2) (inr (inl (c.if-words-lt8.false, c.in_err-word.ensures)))
 
 pub returns-then-not-is_pool_header-clause-defect :
     goal.returns-then-not-is_pool_header-clause-defect
-unfolding word_at
 returns-then-not-is_pool_header-clause-defect c =
-    let fields = c.fields_of-header.ensures.fields in
+    let word = c.in_ok-word.ensures in
+    let fields = ap fields_of (sym word.is) ∙ sym c.fields_of-header.ensures.fields in
     let none : ¬ (IsPoolHeader c.fields_of-header.result) = λ valid. false≢true (c.if-not-is_pool_header.ensures.1 valid) in
-    inr (inr (c.if-words-lt8.false, c.if-words-header_text.false ∙ c.header_text.ensures, no_header _ (rw (← fields) none), refl))
+    inr (inr (c.if-words-lt8.false, word.text, no_header _ (rw fields none), ap (BadHeader 1) word.is))
 
 pub returns-clause-header : goal.returns-clause-header
-unfolding word_at
 returns-clause-header c = record {
   whole = c.if-words-lt8.false;
-  text = c.if-words-header_text.false ∙ c.header_text.ensures;
-  word = sym c.fields_of-header.ensures.inverse;
+  text = c.in_ok-word.ensures.text;
+  word = sym (c.fields_of-header.ensures.inverse ∙ c.in_ok-word.ensures.is);
   valid = c.if-not-is_pool_header.ensures.0 refl;
 }

@@ -1,26 +1,18 @@
-use Rattle.std.proofs.Common.{◌∙◌, refl, sym, subst}
-use Rattle.std.proofs.lemmas.Bool.{false≢true}
+use Rattle.std.proofs.lemmas.Result.{err_from_is_err_and}
 use Rattle.pmem_lines.specs.Words.{word_at}
-use Rattle.pool_layout.specs.Image.{IsFirstHeader, IsFirstFields}
-use Rattle.pool_layout.proofs.Images.{bad_text, bad_fields, first_fields}
+use Rattle.pool_layout.proofs.Images.{bad_first, other_first}
 use Rattle.pool_layout.proofs.image.first_header.Goals as goal
 
-pub returns-then-text-header_text : goal.returns-then-text-header_text
-unfolding word_at
-returns-then-text-header_text c =
-    bad_text c.args.words.now IsFirstFields (word_at c.args.words.now 0) refl (λ good. c.if-text-header_text.true (good ∙ sym c.header_text.ensures))
+pub returns-in_err-header : goal.returns-in_err-header
+returns-in_err-header c =
+    let p = err_from_is_err_and c.from_residual.result c.from_residual.ensures.1 in
+    rw (p.1, p.2) (bad_first c.args.words.now c.requires c.in_err-header.ensures.defect)
 
-pub returns-then-not-is_first_header : goal.returns-then-not-is_first_header
+pub returns-then-header-ne0 : goal.returns-then-header-ne0
 unfolding word_at
-returns-then-not-is_first_header c =
-    let words = c.args.words.now in
-    bad_fields words IsFirstFields (word_at words 0) (word_at words 1) refl (c.if-text-header_text.false ∙ c.header_text.ensures) refl
-    (λ fields. false≢true (c.if-not-is_first_header.ensures.1 (subst IsFirstHeader (sym c.fields_of-header.ensures.fields) (first_fields (word_at words 1) fields))))
+returns-then-header-ne0 c = other_first c.args.words.now c.in_ok-header.header c.in_ok-header.ensures.header c.if-header-ne0.true
 
 pub returns : goal.returns
-unfolding word_at
-returns c = record {
-  text = c.if-text-header_text.false ∙ c.header_text.ensures;
-  fields = sym c.fields_of-header.ensures.inverse;
-  valid = c.if-not-is_first_header.ensures.0 refl;
-}
+returns c =
+    let is = c.in_ok-header.ensures.header in
+    record { text = is.text; fields = is.word; valid = record { valid = is.valid; number = c.if-header-ne0.false } }

@@ -1,6 +1,6 @@
 use Rattle.std.proofs.Common.{sym, ◌∙◌}
 use Rattle.std.proofs.lemmas.Bool.{false≢true}
-use Rattle.image_tables.proofs.Tables.{slab_table, kind_table}
+use Rattle.image_tables.proofs.Tables.{slab_table, slab_fields}
 use Rattle.recovery_steps.proofs.Arenas.{slab_at}
 use Rattle.recovery_steps.proofs.nearly.is_nearly_done.Goals as goal
 
@@ -18,7 +18,7 @@ state_field-requires-clause-slab c =
 pub returns-then-state_field-eq-NORMAL : goal.returns-then-state_field-eq-NORMAL
 returns-then-state_field-eq-NORMAL c = (
   λ e. absurd (false≢true e),
-  λ near. absurd (near.kind (kind_table c.args.words.now c.args.start ∙ sym c.state_field.ensures ∙ c.if-state_field-eq-NORMAL.true)),
+  λ near. absurd (near.kind ((slab_fields c.args.words.now c.args.start).kind ∙ sym c.state_field.ensures ∙ c.if-state_field-eq-NORMAL.true)),
 )
 
 pub are_leaving-requires-clause-slab : goal.are_leaving-requires-clause-slab
@@ -28,7 +28,7 @@ pub returns : goal.returns
 returns c = (
   λ e. record {
     slab = slab_table c.args.words.now c.args.start ∙ sym (c.is_slab.ensures c.args.words.now c.requires.book.reads) ∙ c.if-not-is_slab.false;
-    kind = λ normal. c.if-state_field-eq-NORMAL.false (c.state_field.ensures ∙ sym (kind_table c.args.words.now c.args.start) ∙ normal);
+    kind = λ normal. c.if-state_field-eq-NORMAL.false (c.state_field.ensures ∙ sym (slab_fields c.args.words.now c.args.start).kind ∙ normal);
     none = c.are_leaving.ensures.0 e;
   },
   λ near. c.are_leaving.ensures.1 near.none,

@@ -1,4 +1,4 @@
-use Rattle.std.proofs.Common.{◌≡◌, ◌<◌, ◌/◌, List, ℕ, length, sym, ap, ◌∙◌, not, subst, arith}
+use Rattle.std.proofs.Common.{◌≡◌, ◌/◌, List, ℕ, length, sym, ap, ◌∙◌, not, subst, arith}
 use Rattle.std.specs.List.{filter}
 use Rattle.std.proofs.lemmas.List.{with_items_is}
 use Rattle.heap_model.specs.Placement.{with_stack}
@@ -18,24 +18,19 @@ returns-then-not-has c =
 pub invariant_of-self : goal.invariant_of-self
 invariant_of-self c =
     let s = c.self.inside in
-    let number = c.number_of-number.result in
-    let inside : number < length s.stacks.items = omega (arith, c.number_of-number.ensures.below, c.self.invariant.lists_size) in
     let stays = λ (at : ℕ). not (is_within (c.args.slab / 16384) at) in
-    let is = stack_read c.self.view_is number c.args.seat c.args.class c.index_mut-stack.result.now c.number_of-number.ensures.value c.requires.seat c.requires.class inside c.index_mut-stack.ensures.value in
+    let is = stack_read c.self.view_is c.number_of-number.ensures c.self.invariant.lists_size c.index_mut-stack.result.now c.index_mut-stack.ensures.value in
     let left : c.leave_slab.new.self ≡ filter stays (stacks_of c.args.self.now c.args.seat c.args.class) = c.leave_slab.ensures ∙ ap (filter stays) (sym is) in
     let put = rw c.deref_mut.ensures.value at c.put.ensures in
     rw (with_items_is s.seats c.put.new.words (omega (arith, put.size, s.seats.ok.0)))
-    (IsKept-after c.self.view_is c.self.invariant c.put.new.words number c.args.seat c.args.class c.leave_slab.new.self (not c.is_empty-still.result) c.number_of-number.ensures.value c.requires.seat c.requires.class put
+    (IsKept-after c.self.view_is c.self.invariant c.number_of-number.ensures c.put.new.words c.leave_slab.new.self (not c.is_empty-still.result) put
     (ap not c.is_empty-still.ensures ∙ some_by_length (length c.leave_slab.new.self))
     (subst (λ (xs : List ℕ). AreDistinct (with_stack (stacks_of c.args.self.now) c.args.seat c.args.class xs)) (sym left)
     (AreDistinct-left (distinct_of c.self.view_is c.self.invariant) c.args.seat c.args.class stays c.requires.seat c.requires.class)))
 
 pub returns : goal.returns
 returns c =
-    let s = c.self.inside in
-    let number = c.number_of-number.result in
-    let inside : number < length s.stacks.items = omega (arith, c.number_of-number.ensures.below, c.self.invariant.lists_size) in
     let stays = λ (at : ℕ). not (is_within (c.args.slab / 16384) at) in
-    let is = stack_read c.self.view_is number c.args.seat c.args.class c.index_mut-stack.result.now c.number_of-number.ensures.value c.requires.seat c.requires.class inside c.index_mut-stack.ensures.value in
-    stacks_after c.self.view_is number c.args.seat c.args.class c.leave_slab.new.self c.number_of-number.ensures.value c.requires.seat c.requires.class inside
+    let is = stack_read c.self.view_is c.number_of-number.ensures c.self.invariant.lists_size c.index_mut-stack.result.now c.index_mut-stack.ensures.value in
+    stacks_after c.self.view_is c.number_of-number.ensures c.self.invariant.lists_size c.leave_slab.new.self
     ∙ ap (with_stack (stacks_of c.args.self.now) c.args.seat c.args.class) (c.leave_slab.ensures ∙ ap (filter stays) (sym is))

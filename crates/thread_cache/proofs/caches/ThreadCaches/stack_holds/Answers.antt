@@ -1,4 +1,4 @@
-use Rattle.std.proofs.Common.{◌<◌, List, ℕ, length, sym, ◌∙◌, subst, arith}
+use Rattle.std.proofs.Common.{List, ℕ, sym, ◌∙◌, subst}
 use Rattle.std.proofs.lemmas.Bool.{both_ways}
 use Rattle.heap_model.specs.Placement.{Has}
 use Rattle.thread_cache.proofs.Tables.{stack_read, none_by_bit}
@@ -6,10 +6,7 @@ use Rattle.thread_cache.proofs.caches.ThreadCaches.stack_holds.Goals as goal
 
 pub returns-then-has : goal.returns-then-has
 returns-then-has c =
-    let s = c.self.inside in
-    let number = c.number_of-number.result in
-    let inside : number < length s.stacks.items = omega (arith, c.number_of-number.ensures.below, c.self.invariant.lists_size) in
-    let is = stack_read c.self.view_is number c.args.seat c.args.class c.index.result.now c.number_of-number.ensures.value c.requires.seat c.requires.class inside c.index.ensures in
+    let is = stack_read c.self.view_is c.number_of-number.ensures c.self.invariant.lists_size c.index.result.now c.index.ensures in
     ((λ found. subst (λ (xs : List ℕ). Has xs c.args.at) (sym is) (c.holds.ensures.0 found)), (λ has. c.holds.ensures.1 (subst (λ (xs : List ℕ). Has xs c.args.at) is has)))
 
 pub returns-else-has : goal.returns-else-has

@@ -2,7 +2,7 @@ use Rattle.std.proofs.Common.{◌/◌, ◌∙◌, ap, arith}
 use Rattle.pmem_lines.specs.Words.{word_at}
 use Rattle.pmem_lines.specs.Pmem.{words_of}
 use Rattle.image_tables.specs.Log.{active_chunks}
-use Rattle.log_gc.proofs.room.active_of.Goals as goal
+use Rattle.log_gc.proofs.chunks.active_of.Goals as goal
 
 pub load-requires : goal.load-requires
 load-requires g c = record { aligned = omega (arith, c.directory_at.ensures); inside = omega (arith, c.directory_at.ensures, c.requires) }
