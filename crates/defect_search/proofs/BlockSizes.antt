@@ -27,6 +27,10 @@ pub slab_of-last : (slab : ℕ → Bool) (k : ℕ) → slab k ≡ false → slab
 unfolding slab_of
 slab_of-last slab k none nor neither = cond-false (slab k) k _ none ∙ cond-false (slab (k - 1)) (k - 1) _ nor ∙ cond-false (slab (k - 2)) (k - 2) _ neither
 
+-- what was read of a granule is in the tables
+pub slab_read : (words : List ℕ) {k at : ℕ} {read is : Bool} → at ≡ k → read ≡ is_slab words at → read ≡ is → (tables_of words).slab k ≡ is
+slab_read words {k} {at} same here is = ap (tables_of words).slab (sym same) ∙ slab_table words at ∙ sym here ∙ is
+
 -- what the tables have where no slab starts
 
 field_none : (words : List ℕ) (start bits : ℕ) → is_slab words start ≡ false → state_field words start bits ≡ 0

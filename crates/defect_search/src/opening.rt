@@ -239,24 +239,6 @@ fn may_move(words: &[u64], from: u32, to: u32) -> bool
     are_movable(root_word(words, from), root_word(words, to))
 }
 
-// An entry may be open alone, but for slabs that take another class.
-fn may_open(words: &[u64], log: &BookLog, entry: WalEntry) -> bool
-    requires reads { Reads log.now words.now }
-    requires slabs { AreSlabsAt words.now }
-    requires inside { 2048 + (layout_of (version_in words.now)).roots ≤ length words.now }
-    ensures { IsTrue result ↔ IsOpenEntry (bounds_of words.now) (with_open_entry (tables_of words.now) (Some entry)) entry }
-{
-    match entry {
-        WalEntry::Place {
-            root,
-            at,
-            old,
-            place,
-        } => may_place(words, log, root, at, old, place),
-        WalEntry::Move { from, to } => may_move(words, from, to),
-    }
-}
-
 // A word of a write-ahead line is an entry that may be open alone. `slabs` has all slabs.
 pub(crate) fn is_open_word(words: &[u64], log: &BookLog, slabs: &[Slab], word: u64) -> bool
     requires reads { Reads log.now words.now }
@@ -265,12 +247,19 @@ pub(crate) fn is_open_word(words: &[u64], log: &BookLog, slabs: &[Slab], word: u
     requires inside { 2048 + (layout_of (version_in words.now)).roots ≤ length words.now }
     ensures { IsTrue result ↔ IsOpenWord words.now word }
 {
-    let entry = match entry_of(word) {
-        None => return false,
-        Some(entry) => entry,
-    };
     if !is_calm(words, slabs) {
         return false;
     }
-    may_open(words, log, entry)
+    match entry_of(word) {
+        None => false,
+        Some(
+            WalEntry::Place {
+                root,
+                at,
+                old,
+                place,
+            },
+        ) => may_place(words, log, root, at, old, place),
+        Some(WalEntry::Move { from, to }) => may_move(words, from, to),
+    }
 }

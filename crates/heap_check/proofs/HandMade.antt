@@ -2,56 +2,47 @@
 --
 -- In an arena of 16 granules root 0 names two granules from granule 4 on, and root 5 names block 0 of a slab of class 6,
 -- of blocks of 112 bytes, at granule 6.
-use Rattle.std.proofs.Common.{◌≡◌, ◌≢◌, ◌⊎◌, ◌==◌, ◌&&◌, ℕ, ◌+◌, true, false, Some, None, sym, ap, ◌∙◌, refl, arith, subst, inl, inr, ⊎_elim}
-use Rattle.std.proofs.lemmas.Bool.{cases_eq, ne_eqb, eqb-true}
+use Rattle.std.proofs.Common.{◌≡◌, ◌≢◌, ◌⊎◌, ℕ, ◌+◌, Some, None, sym, ◌∙◌, refl, arith, subst, inl, inr, ⊎_elim}
+use Rattle.std.proofs.lemmas.Bool.{cases_eq, ne_eqb}
 use Rattle.size_classes.specs.Classes.{class_size, sizes}
 use Rattle.image_tables.specs.Tables.{Tables}
 use Rattle.heap_model.specs.Machine.{Range, AreApart, slab_block}
-use Rattle.heap_check.specs.Heap.{heap, slab_of, is_old_of, is_large, IsClaim, Holds, HoldsBit, HoldsOld}
-use Rattle.heap_check.specs.Sound.{IsInSlab, IsValidSlab, IsStanding, IsExact}
-use Rattle.heap_check.proofs.HandMadeParts.{only, bounds, HasExtents, no_claim, normal_slab, slab_is, large_is, sound_by}
+use Rattle.heap_check.specs.Heap.{heap, slab_of, is_old_of, is_large, IsClaim}
+use Rattle.heap_check.specs.Sound.{IsInSlab, IsStanding, IsExact}
+use Rattle.heap_check.proofs.HandMadeParts.{only, bounds, HasExtents, no_claim, HasBlocks, exact_by}
+use Rattle.heap_check.proofs.HandMadeBlock.{tables, extents, slab_valid, Holds-block, held_is}
+
+words_of : ℕ → ℕ
+words_of r = only 0 65536 r + only 5 100352 r
 
 image : Tables
-image = record {
-  word = λ r. only 0 65536 r + only 5 100352 r;
-  root = λ r. only 0 65536 r + only 5 100352 r;
-  open_entry = None;
-  large = λ g. only 4 2 g;
-  slab = λ g. g == 6;
-  kind = λ g. only 6 1 g;
-  class = λ g. only 6 6 g;
-  old = λ _. 0;
-  index_count = λ _. 0;
-  bit = λ g i. (g == 6) && (i == 0);
-  live = λ _ _. false;
-  number = λ _ _. 0;
-}
+image = tables 6 2 words_of None
 
 abbrev small_block : Range
 small_block = slab_block 6 6 0
 
-extents : HasExtents image 6 2
+image_extents : HasExtents image 6 2
 unfolding image
-extents = record { slab = λ g. refl; large = λ g. refl; before = omega arith; behind = omega arith }
+image_extents = extents 6 2 words_of None (omega arith) (omega arith)
 
 -- which roots have a word
 roots_of : (r : ℕ) → (r ≡ 0) ⊎ ((r ≡ 5) ⊎ (image.root r ≡ 0))
-unfolding image
+unfolding image tables words_of
 roots_of r = ⊎_elim
     (λ (first : r ≡ 0). inl first)
     (λ (no_first : r ≢ 0). inr (⊎_elim (λ (second : r ≡ 5). inl second) (λ (no_second : r ≢ 5). inr (rw (ne_eqb r 0 no_first, ne_eqb r 5 no_second) refl)) (cases_eq r 5)))
     (cases_eq r 0)
 
 large_claim : (range : Range) → IsClaim image 0 range → (range.at ≡ 65536) × (range.size ≡ 32768)
-unfolding image is_large
+unfolding image tables words_of is_large
 large_claim range claim = (sym claim.place, sym claim.wide)
 
 small_claim : (range : Range) → IsClaim image 5 range → (range.at ≡ 100352) × (range.size ≡ 112)
-unfolding image is_large slab_of is_old_of class_size sizes
+unfolding image tables words_of is_large slab_of is_old_of class_size sizes
 small_claim range claim = (sym claim.place, sym claim.wide)
 
 claims_of : (r : ℕ) (range : Range) → IsClaim image r range → ((r ≡ 0) × (range.at ≡ 65536) × (range.size ≡ 32768)) ⊎ ((r ≡ 5) × (range.at ≡ 100352) × (range.size ≡ 112))
-unfolding image
+unfolding image tables
 claims_of r range claim = ⊎_elim
     (λ first. let is = large_claim range (subst (λ k. IsClaim image k range) first claim) in inl (first, is.0, is.1))
     (λ rest. ⊎_elim
@@ -66,37 +57,20 @@ apart root other range another differ first second = ⊎_elim
     (λ small. ⊎_elim (λ large. inr (omega (arith, large.1, large.2, small.1))) (λ same. absurd (differ (small.0 ∙ sym same.0))) (claims_of other another second))
     (claims_of root range first)
 
--- what the slab holds: the small block
-
-holds_it : Holds image 6 small_block
-unfolding image class_size sizes
-holds_it = record { slab = refl; block = inl (record { number = 0; below = omega arith; read = omega arith; set = refl; is = refl }) }
-
-held : (range : Range) → Holds image 6 range → range ≡ small_block
-unfolding image
-held range holds = ⊎_elim
-    (λ (bit : HoldsBit image 6 range). bit.is ∙ ap (slab_block 6 6) (eqb-true bit.number 0 bit.set))
-    (λ (old : HoldsOld image 6 range). absurd (omega (arith, old.below)))
-    holds.block
-
--- which is root 5's
+-- the small block is root 5's
 its_claim : IsClaim image 5 small_block
-unfolding image is_large slab_of is_old_of class_size sizes
+unfolding image tables words_of is_large slab_of is_old_of class_size sizes
 its_claim = record { some = omega arith; place = refl; wide = refl }
-
-image_slab : IsValidSlab image 6
-unfolding image
-image_slab = normal_slab image 6 refl (omega arith) refl refl
 
 -- each root stands where a block may
 
 stands_0 : IsStanding image 0 (image.root 0)
-unfolding image is_large
+unfolding image tables words_of is_large
 stands_0 = inl refl
 
 stands_5 : IsStanding image 5 (image.root 5)
-unfolding image class_size sizes
-stands_5 = inr (inl (record { start = 6; range = small_block; holds = holds_it; here = refl }))
+unfolding image tables words_of class_size sizes
+stands_5 = inr (inl (record { start = 6; range = small_block; holds = Holds-block 6 2 words_of None; here = refl }))
 
 stands : (r : ℕ) → image.root r ≢ 0 → IsStanding image r (image.root r)
 stands r some = ⊎_elim
@@ -105,34 +79,27 @@ stands r some = ⊎_elim
     (roots_of r)
 
 closed : image.open_entry ≡ None
-unfolding image
+unfolding image tables
 closed = refl
 
 in_slab : IsInSlab image 6 100352
-unfolding image
+unfolding image tables
 in_slab = record { slab = refl; low = omega arith; high = omega arith }
 
 -- the image is exact
 hand_made_exact : IsExact bounds image
-unfolding image
+unfolding image tables words_of
 hand_made_exact =
-    let normal : (start : ℕ) → image.slab start ≡ true → image.kind start ≡ 1 = λ start slab. ap image.kind (slab_is extents start slab) in
-    record {
-      sound = sound_by extents (record {
-        slab = image_slab;
-        open_entry = λ e is. absurd (cc (is, closed));
-        rooted = stands;
-        apart = apart;
-        claimed = λ range holds. (5, subst (IsClaim image 5) (sym (held range holds)) its_claim);
-      });
-      closed = closed;
-      all_named = λ start live. (0, omega (arith, (large_is extents start live).0));
-      all_live = λ start slab. (5, omega arith, subst (λ g. IsInSlab image g 100352) (sym (slab_is extents start slab)) in_slab);
-      calm = λ start morphing. omega (arith, morphing.kind, normal start morphing.slab);
-      none_done = λ start done. omega (arith, done.kind, normal start done.slab);
-    }
+    let blocks : HasBlocks image 6 = record {
+      slab = slab_valid 6 2 words_of None;
+      open_entry = λ e is. absurd (cc (is, closed));
+      rooted = stands;
+      apart = apart;
+      claimed = λ range holds. (5, subst (IsClaim image 5) (sym (held_is 6 2 words_of None range holds)) its_claim);
+    } in
+    exact_by image_extents blocks closed refl 5 (omega arith) in_slab (omega arith) (λ done. omega (arith, done.kind))
 
 -- its heap has both blocks
 both_blocks : (heap image 0 ≡ Some (record { at = 65536; size = 32768 })) × (heap image 5 ≡ Some (record { at = 100352; size = 112 }))
-unfolding image is_large slab_of is_old_of class_size sizes
+unfolding image tables words_of is_large slab_of is_old_of class_size sizes
 both_blocks = (refl, refl)

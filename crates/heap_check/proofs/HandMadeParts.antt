@@ -1,12 +1,12 @@
 -- What the images that are made by hand share: an arena of 16 granules with one slab, and with one large extent from the
 -- first granule of its heap on, or none.
-use Rattle.std.proofs.Common.{◌≡◌, ◌≢◌, ◌⊎◌, ◌==◌, ℕ, ◌+◌, ◌<◌, ◌≤◌, true, false, cond, Some, refl, sym, ap, ◌∙◌, arith, subst, inl, inr, ⊎_elim}
+use Rattle.std.proofs.Common.{◌≡◌, ◌≢◌, ◌⊎◌, ◌==◌, ℕ, ◌+◌, ◌<◌, ◌≤◌, true, false, cond, Some, None, refl, sym, ap, ◌∙◌, arith, subst, inl, inr, ⊎_elim}
 use Rattle.std.proofs.lemmas.Bool.{cases_eq, cases_Bool, cases_lt, ne_eqb, eqb-true}
 use Rattle.image_tables.specs.declared.entry.WalEntry.{WalEntry}
 use Rattle.image_tables.specs.Tables.{Tables}
 use Rattle.heap_model.specs.Machine.{Bounds, Range, AreApart}
 use Rattle.heap_check.specs.Heap.{entry_at, IsClaim, Holds}
-use Rattle.heap_check.specs.Sound.{granules_at, Covers, IsValidSlab, IsOpen, IsStanding, IsSound, IsSteady}
+use Rattle.heap_check.specs.Sound.{granules_at, Covers, IsInSlab, IsValidSlab, IsOpen, IsStanding, IsDoneSlab, IsSound, IsSteady, IsExact}
 use Rattle.heap_check.proofs.Claims.{IsNamed-claim}
 use Rattle.heap_check.proofs.Geometry.{granules_at-slab, granules_at-large}
 
@@ -114,3 +114,14 @@ module _ {t : Tables} {start count : ℕ} (has : HasExtents t start count) where
 
   pub steady_by : HasBlocks t start → IsSteady bounds t
   steady_by blocks = record { sound = sound_by blocks; one_done = record { same = λ one other first second. one_slab one other first.slab second.slab } }
+
+  -- where no entry is open, root 0 has the large extent, another root a block in the slab, and the slab is not in transition
+  pub exact_by : HasBlocks t start → t.open_entry ≡ None → t.root 0 ≡ 65536 → (root : ℕ) → t.root root ≢ 0 → IsInSlab t start (t.root root) → t.kind start ≢ 2 → ¬ (IsDoneSlab t start) → IsExact bounds t
+  exact_by blocks closed named root some inside calm not_done = record {
+    sound = sound_by blocks;
+    closed = closed;
+    all_named = λ g live. (0, omega (arith, (large_is g live).0, named));
+    all_live = λ g slab. (root, some, subst (λ s. IsInSlab t s (t.root root)) (sym (slab_is g slab)) inside);
+    calm = λ g is. calm (ap t.kind (sym (slab_is g is.slab)) ∙ is.kind);
+    none_done = λ g is. not_done (subst (IsDoneSlab t) (slab_is g is.slab) is);
+  }

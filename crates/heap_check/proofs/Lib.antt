@@ -5,6 +5,7 @@ pub mod IndexForms
 pub mod StateWords
 pub mod Formatted
 pub mod HandMadeParts
+pub mod HandMadeBlock
 pub mod HandMade
 pub mod HandMadeSlab
 pub mod HandMadeMorphed

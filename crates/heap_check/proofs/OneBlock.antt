@@ -11,11 +11,11 @@ use Rattle.image_tables.proofs.Updates.{put_at-same, put_at-other}
 use Rattle.heap_model.specs.Machine.{Bounds, Range, AreApart, slab_block}
 use Rattle.heap_model.proofs.Slabbing.{LiesIn-block}
 use Rattle.heap_check.specs.Heap.{size_at, entry_at, claim_at, heap, IsClaim, Holds}
-use Rattle.heap_check.specs.Sound.{Covers, IsVacant, IsInSlab, IsValidSlab, IsOpen, IsHeld, IsStanding, IsLooseLarge, IsEmptySlab, IsDoneSlab, IsLeaving, IsNearlyDone, IsSound, IsExact, IsSteady, IsExactBut, HasOther}
+use Rattle.heap_check.specs.Sound.{Covers, IsVacant, IsInSlab, IsValidSlab, IsOpen, IsStanding, IsLooseLarge, IsEmptySlab, IsDoneSlab, IsLeaving, IsNearlyDone, IsSound, IsExact, IsSteady, IsExactBut, HasOther}
 use Rattle.heap_check.proofs.Claims.{NamesOnly, NamesOnly-none, plain_size, IsNamed-claim, IsClaim-word, IsClaim-named}
 use Rattle.heap_check.proofs.Geometry.{granules_at-live, Covers-slab, plain_size-some, one_slab}
 use Rattle.heap_check.proofs.Heaps.{heap-none, heap-some, heap-same}
-use Rattle.heap_check.proofs.Touch.{IsTouch, Range-same, IsSound-touched}
+use Rattle.heap_check.proofs.Touch.{IsTouch, IsStanding-else, Range-same, IsSound-touched}
 use Rattle.heap_check.proofs.Loose.{AtMostOne-one, AtMostOne-fewer, others_lived}
 
 -- the tables with the bits and live index entries that are there while the block is held or not, the word of a root, and the
@@ -178,16 +178,8 @@ module _ {b : Bounds} {t : Tables} {bits lives : Bool → ℕ → ℕ → Bool} 
         stage.is
 
     others_stand : (other : ℕ) → other ≢ root → t.root other ≢ 0 → IsStanding t other (t.root other) → IsStanding new other (t.root other)
-    others_stand other differ some standing = ⊎_elim
-        (λ large. inl large)
-        (λ rest. inr (⊎_elim
-        (λ (held : IsHeld t (t.root other)). ⊎_elim
-        (λ still. inl (record { start = held.start; range = held.range; holds = still; here = held.here }))
-        (λ same. absurd (lone other differ (sym held.here ∙ ap (λ (x : Range). x.at) same)))
-        (is.forth on word entry held.start held.range held.holds))
-        (λ by_entry. absurd (some (sym by_entry ∙ entry_at-none other)))
-        rest))
-        standing
+    others_stand other differ some standing =
+        IsStanding-else t new other (t.root other) block some (lone other differ) (entry_at-none other) (λ large. large) (λ at range holds. is.forth on word entry at range holds) standing
 
     -- a slab that holds the block has it of the root
     held : (other : ℕ) → Holds new other block → IsClaim new root block

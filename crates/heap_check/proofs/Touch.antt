@@ -4,8 +4,8 @@ use Rattle.std.proofs.lemmas.Bool.{cases_eq}
 use Rattle.image_tables.specs.declared.entry.WalEntry.{WalEntry}
 use Rattle.image_tables.specs.Tables.{Tables}
 use Rattle.heap_model.specs.Machine.{Bounds, Range, AreApart}
-use Rattle.heap_check.specs.Heap.{IsClaim, Holds}
-use Rattle.heap_check.specs.Sound.{granules_at, Covers, IsValidSlab, IsOpen, IsStanding, AtMostOne, IsLooseLarge, IsEmptySlab, IsMorphing, IsDoneSlab, IsSound}
+use Rattle.heap_check.specs.Heap.{is_large, entry_at, IsClaim, Holds}
+use Rattle.heap_check.specs.Sound.{granules_at, Covers, IsValidSlab, IsOpen, IsHeld, IsStanding, AtMostOne, IsLooseLarge, IsEmptySlab, IsMorphing, IsDoneSlab, IsSound}
 use Rattle.heap_check.proofs.Claims.{NamesOnly, plain_size, IsNamed-claim, IsClaim-named}
 
 -- what changes between the tables is the block that a root has before or after; where it has none, the range is empty
@@ -36,6 +36,20 @@ pub record IsTouch (b : Bounds) (t new : Tables) (root : ℕ) (block : Range) : 
   pub empty_slab : AtMostOne (IsEmptySlab new)
   pub morphing : AtMostOne (IsMorphing new)
   pub done : AtMostOne (IsDoneSlab new)
+
+-- A root that the entry does not name stands as before, where large extents stay and slabs hold all but a block elsewhere.
+pub IsStanding-else : (t new : Tables) (root at : ℕ) (block : Range) → at ≢ 0 → at ≢ block.at → entry_at t.open_entry root ≡ 0 → (is_large t.large at ≡ true → is_large new.large at ≡ true) →
+    ((start : ℕ) (range : Range) → Holds t start range → Holds new start range ⊎ (range ≡ block)) → IsStanding t root at → IsStanding new root at
+IsStanding-else t new root at block some lone unnamed large forth standing = ⊎_elim
+    (λ is. inl (large is))
+    (λ rest. inr (⊎_elim
+    (λ (held : IsHeld t at). ⊎_elim
+    (λ still. inl (record { start = held.start; range = held.range; holds = still; here = held.here }))
+    (λ same. absurd (lone (sym held.here ∙ ap (λ (x : Range). x.at) same)))
+    (forth held.start held.range held.holds))
+    (λ by_entry. absurd (some (sym by_entry ∙ unnamed)))
+    rest))
+    standing
 
 pub AreApart-swapped : (range another : Range) → AreApart range another → AreApart another range
 AreApart-swapped range another apart = ⊎_elim (λ x. inr x) (λ x. inl x) apart

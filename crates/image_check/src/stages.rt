@@ -1,6 +1,6 @@
 // The classes of defects before the last three, stage by stage.
 ghost use Rattle.std.specs.Prelude.{◌≡◌, OnOk, IfOk, IfErr};
-ghost use Rattle.pool_layout.specs.Header.{version_in, granules_in, IsHeader};
+ghost use Rattle.pool_layout.specs.Header.{granules_in, IsHeader};
 ghost use Rattle.book_log.specs.Book.{Reads, HasLog};
 ghost use Rattle.heap_check.specs.Image.{header_in};
 ghost use Rattle.image_defects.specs.Defects.{HasLength, FromDirectory, FromExtents, FromWal};
@@ -16,7 +16,7 @@ use defect_search::{
 };
 use image_defects::Summary;
 use image_reading::{Slab, held_root, wal_word};
-use pool_layout::Defect;
+use pool_layout::{Defect, PoolHeader};
 use std::alloc::Global;
 
 // Looks for write-ahead words that may not be open, then for stray roots, then on. `slabs` has all slabs.
@@ -103,13 +103,11 @@ fn check_extents_of(alloc: Global, words: &[u64], granules: u32) -> Result<Summa
 pub(crate) fn check_log(
     alloc: Global,
     words: &[u64],
-    version: u32,
-    granules: u32,
+    header: PoolHeader,
 ) -> Result<Summary, CheckFault>
     requires header { IsHeader words.now (header_in words.now) }
+    requires same { header ≡ header_in words.now }
     requires size { HasLength words.now }
-    requires version { version ≡ version_in words.now }
-    requires granules { granules ≡ granules_in words.now }
     ensures good { OnOk result (HasGoodLog words.now) }
     ensures summary { IfOk result (IsSummary words.now) }
     ensures defect { IfErr result (λ fault. IfDefect fault (FromDirectory words.now)) }
@@ -117,12 +115,12 @@ pub(crate) fn check_log(
     if let Some(value) = bad_directory(words) {
         return Err(CheckFault::Defect(Defect::BadDirectory { value }));
     }
-    if let Some(place) = bad_entry(words, version, granules) {
+    if let Some(place) = bad_entry(words, header.version, header.granules) {
         return Err(CheckFault::Defect(Defect::BadEntry {
             chunk: place.chunk as u8,
             entry: place.entry as u16,
             value: place.value,
         }));
     }
-    check_extents_of(alloc, words, granules)
+    check_extents_of(alloc, words, header.granules)
 }

@@ -6,7 +6,7 @@ use Rattle.pmem_lines.specs.Pmem.{PmemState, words_of, appended}
 use Rattle.pmem_lines.specs.Events.{reading, IsQuiet, IsImage}
 use Rattle.pmem_lines.specs.Steps.{IsQuietStep}
 use Rattle.pmem_lines.proofs.Images.{quiet_image}
-use Rattle.pmem_lines.proofs.Steps.{quiet_events, step_none, step_then}
+use Rattle.pmem_lines.proofs.Steps.{quiet_events, step_none, step_then, step_wider}
 use Rattle.image_tables.specs.Tables.{Tables, tables_of}
 use Rattle.heap_check.specs.Image.{IsSteadyImage}
 use Rattle.heap_check.specs.State.{HaveSameHeap, IsEitherHeap}
@@ -15,7 +15,9 @@ use Rattle.settle_steps.specs.Settled.{KeepsHeap}
 use Rattle.settle_steps.proofs.Keeping.{KeepsHeap-then}
 use Rattle.transition_steps.specs.Transitions.{LeavesHeap}
 use Rattle.pmem_lines.proofs.States.{appended_none}
-use Rattle.recovery_steps.specs.Parts.{IsPart, Then}
+use Rattle.book_log.specs.Book.{Book}
+use Rattle.log_steps.specs.Log.{IsBookOf}
+use Rattle.recovery_steps.specs.Parts.{MayBegin, IsPart, Does, Then}
 use Rattle.recovery_steps.specs.Recovery.{TakesOne, SettlesOpen, FinishesMorphing, DropsLarge, DropsSlab, EndsDone, Recovers}
 
 -- a crash behind all events leaves what is read
@@ -39,12 +41,15 @@ pub part_of : {s t : PmemState} (Stores : List ℕ → List Event → Type 0) {m
 part_of Stores {most} {events} stores step few = record { events = events; stores = stores; few = few; step = step }
 
 -- the heap is kept where it is the one of before or of afterwards, and both are the same
-pub either_keeps : (words new image : List ℕ) → HaveSameHeap words new → IsEitherHeap words new image → KeepsHeap words image
+either_keeps : (words new image : List ℕ) → HaveSameHeap words new → IsEitherHeap words new image → KeepsHeap words image
 either_keeps words new image same is = record {
   steady = is.steady;
   heap = ⊎_elim (λ old. old) (λ other. record { each = λ root. other.each root ∙ same.each root }) is.heap;
   blocks = is.words;
 }
+
+pub drop_step : {s t : PmemState} {events : List Event} → HaveSameHeap (words_of s) (words_of t) → IsQuietStep s t events (IsEitherHeap (words_of s) (words_of t)) → IsQuietStep s t events (KeepsHeap (words_of s))
+drop_step {s} {t} same step = step_wider (λ image is. either_keeps (words_of s) (words_of t) image same is) step
 
 -- two parts, where of the whole is said what follows from what is said of each of them
 both_parts : {s t u : PmemState} {Front Back : List ℕ → List ℕ → Type 0} {First Second : List ℕ → List Event → Type 0} {m n : ℕ} (Leaves : List ℕ → List ℕ → Type 0) (most : ℕ) → m + n ≤ most →
@@ -79,12 +84,28 @@ takes_none none = inl (none, refl)
 pub takes_one : {IsLoose : ℕ → Type 0} {taken : ℕ → List Event} (start : ℕ) → IsLoose start → TakesOne IsLoose taken (taken start)
 takes_one start here = inr (record { start = start; here = here; is = refl })
 
+-- one thing that was found is taken
+pub does_one : {s t : PmemState} {found : List ℕ} {log : Book} {Leaves Left : List ℕ → List ℕ → Type 0} {most : ℕ} (IsLoose : Tables → ℕ → Type 0) (taken : List ℕ → ℕ → List Event) (start : ℕ) → found ≡ words_of s → IsLoose (tables_of found) start →
+    IsQuietStep s t (taken (words_of s) start) (Leaves (words_of s)) → length t.events ≤ length s.events + most →
+    (IsLoose (tables_of (words_of s)) start → Left (words_of s) (words_of t) × IsBookOf log (words_of t)) → Does log Leaves Left s t (λ words events. TakesOne (IsLoose (tables_of words)) (taken words) events) most
+does_one {s} IsLoose taken start same is step few done =
+    let here = subst (λ (ws : List ℕ). IsLoose (tables_of ws) start) same is in
+    record {
+      part = record { events = taken (words_of s) start; stores = takes_one start here; few = omega (arith, few, step.appends.count); step = step };
+      left = (done here).0;
+      book = (done here).1;
+    }
+
 -- nothing is stored where there is no such thing
-pub part_idle : {s : PmemState} {found : List ℕ} (IsLoose : Tables → ℕ → Type 0) (taken : List ℕ → ℕ → List Event) (most : ℕ) → IsQuiet s.events → IsSteadyImage (words_of s) → found ≡ words_of s → HasNone (IsLoose (tables_of found)) →
-    IsPart KeepsHeap s s (λ words events. TakesOne (IsLoose (tables_of words)) (taken words) events) most
-part_idle {s} IsLoose taken most quiet image same none =
-    part_none (λ words events. TakesOne (IsLoose (tables_of words)) (taken words) events) most quiet image
-    (takes_none (subst (λ (ws : List ℕ). HasNone (IsLoose (tables_of ws))) same none))
+pub does_none : {s : PmemState} {found : List ℕ} {log : Book} {Is : List ℕ → Type 0} {Left : List ℕ → List ℕ → Type 0} (IsLoose : Tables → ℕ → Type 0) (taken : List ℕ → ℕ → List Event) (most : ℕ) → MayBegin Is log s most → IsSteadyImage (words_of s) →
+    found ≡ words_of s → HasNone (IsLoose (tables_of found)) → (HasNone (IsLoose (tables_of (words_of s))) → Left (words_of s) (words_of s)) → Does log KeepsHeap Left s s (λ words events. TakesOne (IsLoose (tables_of words)) (taken words) events) most
+does_none {s} IsLoose taken most begins image same is left =
+    let none = subst (λ (ws : List ℕ). HasNone (IsLoose (tables_of ws))) same is in
+    record {
+      part = part_none (λ words events. TakesOne (IsLoose (tables_of words)) (taken words) events) most begins.quiet image (takes_none none);
+      left = left none;
+      book = begins.book;
+    }
 
 -- from a sound image: first it becomes steady
 pub part_after : {s t u : PmemState} {First Second : List ℕ → List Event → Type 0} {m n : ℕ} (most : ℕ) → m + n ≤ most → IsPart LeavesHeap s t First m → KeepsHeap (words_of s) (words_of t) → IsPart KeepsHeap t u Second n → IsPart LeavesHeap s u (Then First Second) most

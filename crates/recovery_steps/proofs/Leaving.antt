@@ -30,6 +30,9 @@ loosens_self t = record { large = λ start loose. loose; empty = λ start loose.
 pub rids_self : {IsLoose : Tables → ℕ → Type 0} (words : List ℕ) → IsShut words → HasNone (IsLoose (tables_of words)) → Rids IsLoose words words
 rids_self words shut none = record { left = left_self words shut; loose = loosens_self (tables_of words); none = none }
 
+pub calms_self : (words : List ℕ) → IsShut words → HasNone (IsMorphing (tables_of words)) → Calms words words
+calms_self words shut none = record { left = left_self words shut; none = none }
+
 -- the open entry is settled
 
 settled_roots : (words : List ℕ) (start : ℕ) (entry : WalEntry) → (settled_tables words start entry).root ≡ (tables_of words).root

@@ -11,11 +11,14 @@ use Rattle.heap_check.specs.Image.{bounds_of, IsSteadyImage}
 use Rattle.image_defects.specs.Least.{HasNone}
 use Rattle.log_steps.specs.Log.{IsBookOf}
 use Rattle.settle_steps.specs.Settled.{KeepsHeap}
+use Rattle.recovery_steps.specs.Names.{Names, AreNames}
 
 -- when
 
--- a part may begin: the log is that of the words, nothing is under way, and there is room for so many events
-pub record MayBegin (log : Book) (s : PmemState) (most : ℕ) : Type 0 where
+-- a part may begin: the image is of a kind, the log is that of its words, nothing is under way, and there is room for so
+-- many events
+pub record MayBegin (Is : List ℕ → Type 0) (log : Book) (s : PmemState) (most : ℕ) : Type 0 where
+  pub image : Is (words_of s)
   pub book : IsBookOf log (words_of s)
   pub quiet : IsQuiet s.events
   pub room : HasRoom s most
@@ -45,6 +48,11 @@ pub record IsShut (words : List ℕ) : Type 0 where
   pub image : IsSteadyImage words
   pub closed : (tables_of words).open_entry ≡ None
 
+-- and these are the names of its roots
+pub record IsShutWith (names : Names) (words : List ℕ) : Type 0 where
+  pub shut : IsShut words
+  pub are : AreNames names words
+
 -- such an image with the same numbers, in which each root holds what it held
 pub record IsLeft (words new : List ℕ) : Type 0 where
   pub shut : IsShut new
@@ -68,3 +76,9 @@ pub record Rids (IsLoose : Tables → ℕ → Type 0) (words new : List ℕ) : T
   pub left : IsLeft words new
   pub loose : LoosensNothing (tables_of words) (tables_of new)
   pub none : HasNone (IsLoose (tables_of new))
+
+-- A part of recovery is done: its events, what it leaves of the words, and the log, which is that of the new words.
+pub record Does (log : Book) (Leaves Left : List ℕ → List ℕ → Type 0) (old new : PmemState) (Stores : List ℕ → List Event → Type 0) (most : ℕ) : Type 0 where
+  pub part : IsPart Leaves old new Stores most
+  pub left : Left (words_of old) (words_of new)
+  pub book : IsBookOf log (words_of new)

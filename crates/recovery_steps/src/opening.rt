@@ -1,14 +1,12 @@
 // The open write-ahead entry is settled.
 ghost use Rattle.std.specs.Prelude.{◌≡◌, ℕ, List, Some, MatchOption};
-ghost use Rattle.pmem_lines.specs.Pmem.{words_of};
 ghost use Rattle.image_tables.specs.Tables.{tables_of};
 ghost use Rattle.book_log.specs.Book.{Reads};
 ghost use Rattle.heap_check.specs.Image.{IsSoundImage, IsSteadyImage};
-ghost use Rattle.log_steps.specs.Log.{IsBookOf};
 ghost use Rattle.settle_steps.specs.Entries.{LiesInSlab};
 ghost use Rattle.recovery_steps.specs.Opening.{IsClosed, IsFoundOpen};
 ghost use Rattle.settle_steps.specs.Settled.{KeepsHeap};
-ghost use Rattle.recovery_steps.specs.Parts.{MayBegin, IsPart, IsLeft};
+ghost use Rattle.recovery_steps.specs.Parts.{MayBegin, IsLeft, Does};
 ghost use Rattle.recovery_steps.specs.Recovery.{SettlesOpen};
 
 use crate::search::all_words;
@@ -53,17 +51,11 @@ fn slab_with(log: &BookLog, entry: WalEntry) -> u32
 
 /// Settles the open entry, if there is one, and closes it, by at most six events.
 pub(crate) fn settle_open<P: Pmem>(p: &mut P, log: &BookLog)
-    requires image { IsSteadyImage (words_of (P.state p.old)) }
-    requires begins { MayBegin log.now (P.state p.old) 6 }
-    ensures part { IsPart KeepsHeap (P.state p.old) (P.state p.new) SettlesOpen 6 }
-    ensures left { IsLeft (words_of (P.state p.old)) (words_of (P.state p.new)) }
-    ensures book { IsBookOf log.now (words_of (P.state p.new)) }
+    requires { MayBegin IsSteadyImage log.now (P.state p.old) 6 }
+    ensures { Does log.now KeepsHeap IsLeft (P.state p.old) (P.state p.new) SettlesOpen 6 }
 {
-    match open_in(all_words(p)) {
-        Some(found) => {
-            let start = slab_with(log, found.entry);
-            settle_entry(p, found.line, found.entry, start);
-        }
-        None => {}
+    if let Some(found) = open_in(all_words(p)) {
+        let start = slab_with(log, found.entry);
+        settle_entry(p, found.line, found.entry, start);
     }
 }

@@ -44,9 +44,8 @@ pub fn make_exact<P: Pmem>(p: &mut P, log: &mut BookLog, names: &RootNames)
 
 // The same from a steady image.
 fn make_steady_exact<P: Pmem>(p: &mut P, log: &mut BookLog, names: &RootNames)
-    requires image { IsSteadyImage (words_of (P.state p.old)) }
     requires names { AreNames names.now (words_of (P.state p.old)) }
-    requires begins { MayBegin log.old (P.state p.old) ((layout_of (version_in (words_of (P.state p.old)))).recovery_events - 3) }
+    requires begins { MayBegin IsSteadyImage log.old (P.state p.old) ((layout_of (version_in (words_of (P.state p.old)))).recovery_events - 3) }
     ensures part { IsPart KeepsHeap (P.state p.old) (P.state p.new) Recovers ((layout_of (version_in (words_of (P.state p.old)))).recovery_events - 3) }
     ensures exact { IsExactImage (words_of (P.state p.new)) }
     ensures heap { KeepsHeap (words_of (P.state p.old)) (words_of (P.state p.new)) }

@@ -130,14 +130,23 @@ module _ (words : List ℕ) (line root : ℕ) (block : SmallBlock) (line_below :
           ∙ ap (λ (x : Tables). with_open_entry x None) made_tables
           ∙ (λ i. record (put_bit t start block.number named) { root = sym (roots_plain words plain) i; open_entry = None })
 
-      pub class_block_settled : IsClassBlockSettled words line root block new
-      class_block_settled = record {
+      made_settled : IsClassBlockSettled words line root block new
+      made_settled = record {
         settled = settled_as words line line_below own may.open_in (bit_word block) new settled shut_in new_near new_tables (loosens_left shut);
         tables = new_tables;
         loose = subst (λ (x : Tables). LoosensNothing t x) (sym new_tables) (loosens_nothing shut (λ s place. refl));
       }
 
-    pub class_block_step : {s u v : PmemState} → IsQuietStep s u (word_events (8 * bit_word block) (bit_put words block (is_named words root block.at))) (IsOldOrNewWord words (8 * bit_word block) (bit_put words block (is_named words root block.at))) →
-        IsQuietStep u v (word_events (8 * wal_word line) 0) (ClosesOrNot (put_word words (bit_word block) (bit_put words block (is_named words root block.at))) line) → IsQuietStep s v (class_block_events words line root block) (KeepsHeap words)
-    class_block_step putting closing =
-        settle_step words line line_below own may.open_in (word_events (8 * bit_word block) (bit_put words block named)) made putting closing (word_keeps words line line_below own may.open_in (bit_word block) (bit_put words block named) made_keeps) made_keeps (λ image closes. (class_block_settled image closes).settled.keeps)
+    -- by the words that the bit's store left, and what was read of the root
+    pub class_block_settled : {left new : List ℕ} → left ≡ put_word words (bit_word block) (bit_put words block (is_named words root block.at)) → Closes left line new → IsClassBlockSettled words line root block new
+    class_block_settled {left} {new} is closes = made_settled new (subst (λ (ws : List ℕ). Closes ws line new) is closes)
+
+    pub class_block_step : {s u v : PmemState} {left : List ℕ} {on : Bool} → on ≡ is_named words root block.at → left ≡ put_word words (bit_word block) (bit_put words block (is_named words root block.at)) →
+        IsQuietStep s u (word_events (8 * bit_word block) (bit_put words block on)) (IsOldOrNewWord words (8 * bit_word block) (bit_put words block on)) → IsQuietStep u v (word_events (8 * wal_word line) 0) (ClosesOrNot left line) →
+        IsQuietStep s v (class_block_events words line root block) (KeepsHeap words)
+    class_block_step {s} {u} {v} on_is is putting closing =
+        let at = 8 * bit_word block in
+        settle_step words line line_below own may.open_in (word_events at (bit_put words block named)) made
+        (subst (λ on. IsQuietStep s u (word_events at (bit_put words block on)) (IsOldOrNewWord words at (bit_put words block on))) on_is putting)
+        (subst (λ (ws : List ℕ). IsQuietStep u v (word_events (8 * wal_word line) 0) (ClosesOrNot ws line)) is closing)
+        (word_keeps words line line_below own may.open_in (bit_word block) (bit_put words block named) made_keeps) made_keeps (λ image closes. (made_settled image closes).settled.keeps)

@@ -15,6 +15,8 @@ use Rattle.image_tables.proofs.Updates.{put_in-own}
 use Rattle.image_tables.proofs.Headers.{IsSameOffHeader-put, is_slab-off_header}
 use Rattle.image_tables.proofs.Stores.{few_lines, roots_plain}
 use Rattle.image_tables.proofs.Tables.{root_table, number_table}
+use Rattle.slab_header.specs.declared.index.IndexEntry.{IndexEntry}
+use Rattle.slab_header.specs.Index.{word_of_index}
 use Rattle.slab_header.specs.Steps.{PutsIndexOver}
 use Rattle.attach_wal.specs.Wal.{Closes, ClosesOrNot}
 use Rattle.heap_model.specs.Machine.{Bounds, Range}
@@ -173,14 +175,22 @@ module _ (words : List ℕ) (line root : ℕ) (block : OldBlock) (line_below : l
           ∙ ap (λ (x : Tables). with_open_entry x None) made_tables
           ∙ (λ i. record t { live = lives; root = sym (roots_plain words plain) i; open_entry = None })
 
-      pub old_block_settled : IsOldBlockSettled words line root block new
-      old_block_settled = record {
+      made_settled : IsOldBlockSettled words line root block new
+      made_settled = record {
         settled = settled_as words line line_below own may.open_in k new settled shut_in new_near new_tables (loosens_left shut);
         tables = new_tables;
       }
 
-    pub old_block_step : {s u v : PmemState} → IsQuietStep s u (word_events (8 * index_word block.start block.place) (live_put words block (is_named words root block.at)))
-        (IsOldOrNewWord words (8 * index_word block.start block.place) (live_put words block (is_named words root block.at))) →
-        IsQuietStep u v (word_events (8 * wal_word line) 0) (ClosesOrNot (put_word words (index_word block.start block.place) (live_put words block (is_named words root block.at))) line) →
-        IsQuietStep s v (old_block_events words line root block) (KeepsHeap words)
-    old_block_step putting closing = settle_step words line line_below own may.open_in (word_events (8 * k) value) made putting closing (word_keeps words line line_below own may.open_in k value made_keeps) made_keeps (λ image closes. (old_block_settled image closes).settled.keeps)
+    -- by the words that the index word's store left, and what was read of the root and the entry
+    pub old_block_settled : {left new : List ℕ} → left ≡ put_word words (index_word block.start block.place) (live_put words block (is_named words root block.at)) → Closes left line new → IsOldBlockSettled words line root block new
+    old_block_settled {left} {new} is closes = made_settled new (subst (λ (ws : List ℕ). Closes ws line new) is closes)
+
+    pub old_block_step : {s u v : PmemState} {left : List ℕ} {e : IndexEntry} → e ≡ entry_put words block (is_named words root block.at) →
+        left ≡ put_word words (index_word block.start block.place) (live_put words block (is_named words root block.at)) →
+        IsQuietStep s u (word_events (8 * index_word block.start block.place) (word_of_index e)) (IsOldOrNewWord words (8 * index_word block.start block.place) (word_of_index e)) →
+        IsQuietStep u v (word_events (8 * wal_word line) 0) (ClosesOrNot left line) → IsQuietStep s v (old_block_events words line root block) (KeepsHeap words)
+    old_block_step {s} {u} {v} entry is putting closing =
+        settle_step words line line_below own may.open_in (word_events (8 * k) value) made
+        (subst (λ (e : IndexEntry). IsQuietStep s u (word_events (8 * k) (word_of_index e)) (IsOldOrNewWord words (8 * k) (word_of_index e))) entry putting)
+        (subst (λ (ws : List ℕ). IsQuietStep u v (word_events (8 * wal_word line) 0) (ClosesOrNot ws line)) is closing) (word_keeps words line line_below own may.open_in k value made_keeps) made_keeps
+        (λ image closes. (made_settled image closes).settled.keeps)

@@ -1,6 +1,6 @@
 -- A slab comes to hold the block of the open entry's root, or holds it no more, and the entry is open still or closed: the
 -- image stays steady, and its heap the same.
-use Rattle.std.proofs.Common.{◌≡◌, ◌≢◌, ◌⊎◌, ◌==◌, ◌&&◌, ℕ, ◌/◌, ◌<◌, Bool, true, false, true≢false, cond, refl, sym, ap, ◌∙◌, arith, inl, inr, ⊎_elim, ltb, Option, Some, None}
+use Rattle.std.proofs.Common.{◌≡◌, ◌≢◌, ◌⊎◌, ◌==◌, ◌&&◌, ℕ, ◌/◌, ◌<◌, Bool, true, false, true≢false, cond, refl, sym, ap, ◌∙◌, arith, ⊎_elim, ltb, Option, Some, None}
 use Rattle.std.proofs.lemmas.Bool.{cases_eq, cond-true, cond-false, eq-eqb, ne_eqb, and_from, lt-ltb}
 use Rattle.size_classes.specs.Classes.{class_size}
 use Rattle.image_tables.specs.declared.entry.WalEntry.{WalEntry}
@@ -8,10 +8,10 @@ use Rattle.image_tables.specs.declared.entry.WalEntry.TheVariants.{Place}
 use Rattle.image_tables.specs.Tables.{Tables}
 use Rattle.heap_model.specs.Machine.{Bounds, Range}
 use Rattle.heap_check.specs.Heap.{slab_of, is_large, size_at, entry_at, entry_old, claim_at, heap, IsClaim, Holds}
-use Rattle.heap_check.specs.Sound.{Covers, IsValidSlab, IsOpen, IsHeld, IsStanding, IsLooseLarge, IsEmptySlab, IsMorphing, IsDoneSlab, IsNearlyDone, IsSound, IsSteady, LoosensNothing}
+use Rattle.heap_check.specs.Sound.{Covers, IsValidSlab, IsOpen, IsStanding, IsLooseLarge, IsEmptySlab, IsMorphing, IsDoneSlab, IsNearlyDone, IsSound, IsSteady, LoosensNothing}
 use Rattle.heap_check.proofs.Claims.{NamesOnly, plain_size, IsClaim-word}
 use Rattle.heap_check.proofs.Heaps.{heap-none, heap-same}
-use Rattle.heap_check.proofs.Touch.{IsTouch, Range-same, IsSound-touched}
+use Rattle.heap_check.proofs.Touch.{IsTouch, IsStanding-else, Range-same, IsSound-touched}
 use Rattle.heap_check.proofs.Loose.{AtMostOne-fewer}
 use Rattle.settle_steps.specs.Settled.{LoosensLeft}
 
@@ -84,16 +84,8 @@ module _ {b : Bounds} {t : Tables} {bits lives : ℕ → ℕ → Bool} {entry : 
       is.own
 
   others_stand : (other : ℕ) → other ≢ root → t.root other ≢ 0 → IsStanding t other (t.root other) → IsStanding new other (t.root other)
-  others_stand other differ some standing = ⊎_elim
-      (λ large. inl large)
-      (λ rest. inr (⊎_elim
-      (λ (held : IsHeld t (t.root other)). ⊎_elim
-      (λ still. inl (record { start = held.start; range = held.range; holds = still; here = held.here }))
-      (λ same. absurd (lone other differ some (sym held.here ∙ ap (λ (x : Range). x.at) same)))
-      (is.forth held.start held.range held.holds))
-      (λ by_entry. absurd (some (sym by_entry ∙ is.names.others other differ)))
-      rest))
-      standing
+  others_stand other differ some standing =
+      IsStanding-else t new other (t.root other) block some (lone other differ some) (is.names.others other differ) (λ large. large) is.forth standing
 
   held : (start : ℕ) → Holds new start block → IsClaim new root block
   held start holds = ⊎_elim (λ mine. mine) (λ none. absurd (none.2 start holds)) is.own

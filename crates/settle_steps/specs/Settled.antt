@@ -1,6 +1,8 @@
 -- The open entry is settled: what is left of the image, and what a crash within leaves.
-use Rattle.std.specs.Prelude.{◌≡◌, ◌≢◌, ℕ, List, length, None}
+use Rattle.std.specs.Prelude.{◌≡◌, ◌≢◌, ℕ, ◌<◌, List, length, None}
 use Rattle.pmem_lines.specs.Words.{word_at}
+use Rattle.pmem_lines.specs.Pmem.{PmemState, HasRoom}
+use Rattle.pmem_lines.specs.Events.{IsQuiet}
 use Rattle.pool_layout.specs.Places.{wal_word}
 use Rattle.image_tables.specs.declared.entry.WalEntry.{WalEntry}
 use Rattle.image_tables.specs.Tables.{Tables, tables_of}
@@ -15,6 +17,13 @@ use Rattle.heap_check.specs.State.{HaveSameHeap, KeepsBlocks}
 pub record IsOpenIn (words : List ℕ) (line : ℕ) (entry : WalEntry) : Type 0 where
   pub image : IsSteadyImage words
   pub here : IsEntryWord (word_at words (wal_word line)) entry
+
+-- The open entry, which the line of this number has, may be settled: nothing is under way, and there is room.
+pub record MaySettle (number : ℕ) (IsOpen : Type 0) (s : PmemState) : Type 0 where
+  pub line : number < 8
+  pub open_entry : IsOpen
+  pub quiet : IsQuiet s.events
+  pub room : HasRoom s 6
 
 -- what is left
 

@@ -6,7 +6,7 @@ ghost use Rattle.pmem_lines.specs.Pmem.{words_of, HasRoom};
 ghost use Rattle.durable_steps.specs.Steps.{word_events, IsOldOrNewWord};
 ghost use Rattle.slab_header.specs.Steps.{PutsBitOver};
 ghost use Rattle.attach_steps.specs.Steps.{bit_word, bit_put};
-ghost use Rattle.settle_steps.specs.Settled.{KeepsHeap};
+ghost use Rattle.settle_steps.specs.Settled.{MaySettle, KeepsHeap};
 ghost use Rattle.settle_steps.specs.ClassBlocks.{IsOpenForBlock, class_block_events, IsClassBlockSettled};
 
 use crate::root_word::names;
@@ -21,10 +21,7 @@ use slab_header::put_bit;
 /// entry is open then, and nothing else that the words say has changed; the heap stays as it is, also after a crash within
 /// it, and every block keeps its words.
 pub fn settle_class_block<P: Pmem>(p: &mut P, line: u32, root: u32, block: SmallBlock)
-    requires line { line < 8 }
-    requires open_entry { IsOpenForBlock (words_of (P.state p.old)) line root block }
-    requires quiet { IsQuiet (P.state p.old).events }
-    requires room { HasRoom (P.state p.old) 6 }
+    requires { MaySettle line (IsOpenForBlock (words_of (P.state p.old)) line root block) (P.state p.old) }
     ensures step { IsQuietStep (P.state p.old) (P.state p.new) (class_block_events (words_of (P.state p.old)) line root block) (KeepsHeap (words_of (P.state p.old))) }
     ensures settled { IsClassBlockSettled (words_of (P.state p.old)) line root block (words_of (P.state p.new)) }
 {

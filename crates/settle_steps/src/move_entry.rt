@@ -5,7 +5,7 @@ ghost use Rattle.pmem_lines.specs.Events.{IsQuiet};
 ghost use Rattle.pmem_lines.specs.Steps.{IsQuietStep};
 ghost use Rattle.pmem_lines.specs.Pmem.{words_of, HasRoom};
 ghost use Rattle.pool_layout.specs.Places.{root_word};
-ghost use Rattle.settle_steps.specs.Settled.{KeepsHeap};
+ghost use Rattle.settle_steps.specs.Settled.{MaySettle, KeepsHeap};
 ghost use Rattle.settle_steps.specs.Moves.{IsOpenForMove, move_events, release_events, released, ReleasesOrNot, IsMoveSettled};
 
 use attach_steps::put_root;
@@ -18,10 +18,7 @@ use pool_layout::root_at;
 /// entry is open then, and each root holds what it held; the heap stays as it is, also after a crash within it, and every
 /// block keeps its words.
 pub fn settle_move<P: Pmem>(p: &mut P, line: u32, from: u32, to: u32)
-    requires line { line < 8 }
-    requires open_entry { IsOpenForMove (words_of (P.state p.old)) line from to }
-    requires quiet { IsQuiet (P.state p.old).events }
-    requires room { HasRoom (P.state p.old) 6 }
+    requires { MaySettle line (IsOpenForMove (words_of (P.state p.old)) line from to) (P.state p.old) }
     ensures step { IsQuietStep (P.state p.old) (P.state p.new) (move_events (words_of (P.state p.old)) line from to) (KeepsHeap (words_of (P.state p.old))) }
     ensures settled { IsMoveSettled (words_of (P.state p.old)) line from to (words_of (P.state p.new)) }
 {

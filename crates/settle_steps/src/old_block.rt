@@ -8,7 +8,7 @@ ghost use Rattle.durable_steps.specs.Steps.{word_events, IsOldOrNewWord};
 ghost use Rattle.image_tables.specs.Tables.{index_word};
 ghost use Rattle.slab_header.specs.Index.{word_of_index};
 ghost use Rattle.slab_header.specs.Steps.{PutsIndexOver};
-ghost use Rattle.settle_steps.specs.Settled.{KeepsHeap};
+ghost use Rattle.settle_steps.specs.Settled.{MaySettle, KeepsHeap};
 ghost use Rattle.settle_steps.specs.OldBlocks.{IsOpenForOldBlock, old_block_events, IsOldBlockSettled};
 
 use crate::root_word::names;
@@ -23,10 +23,7 @@ use slab_header::{IndexEntry, put_index};
 /// No entry is open then, and nothing else that the words say has changed; the heap stays as it is, also after a crash
 /// within it, and every block keeps its words. Where the block was the last live old one and goes, the slab is done then.
 pub fn settle_old_block<P: Pmem>(p: &mut P, line: u32, root: u32, block: OldBlock)
-    requires line { line < 8 }
-    requires open_entry { IsOpenForOldBlock (words_of (P.state p.old)) line root block }
-    requires quiet { IsQuiet (P.state p.old).events }
-    requires room { HasRoom (P.state p.old) 6 }
+    requires { MaySettle line (IsOpenForOldBlock (words_of (P.state p.old)) line root block) (P.state p.old) }
     ensures step { IsQuietStep (P.state p.old) (P.state p.new) (old_block_events (words_of (P.state p.old)) line root block) (KeepsHeap (words_of (P.state p.old))) }
     ensures settled { IsOldBlockSettled (words_of (P.state p.old)) line root block (words_of (P.state p.new)) }
 {

@@ -103,7 +103,7 @@ pub record IsOneSlab (words new : List ℕ) : Type 0 where
   pub size : length new ≡ 32768
 
 -- the log has the slab
-pub one_slab_by : {words made new : List ℕ} {k granules : ℕ} → IsFormatted words header → IsMade words made 4 6 → IsInLog (version_in made) k → new ≡ put_word made k (word_of_entry (Slab 4)) →
+one_slab_by : {words made new : List ℕ} {k granules : ℕ} → IsFormatted words header → IsMade words made 4 6 → IsInLog (version_in made) k → new ≡ put_word made k (word_of_entry (Slab 4)) →
     ((start : ℕ) → extent_at new start ≡ with_entry (extent_at made) (Slab 4) start) → HasLog granules new → granules ≡ 16 → IsOneSlab words new
 unfolding layout_of
 one_slab_by {words} {made} {new} {k} {granules} formatted slab place is extents log same =
@@ -293,13 +293,19 @@ module _ (words new : List ℕ) (one : IsOneSlab words new) where
   }
 
   -- block 9 may come to root 5
-  pub attachable : IsAttachable new 5 block
+  attachable : IsAttachable new 5 block
   unfolding tables_of
   attachable = record {
     block_in = block_in;
     unused = record { each = λ range holds. absurd (holds_none-fresh with_slab.fresh range holds) };
     none = ap (λ (row : ℕ → ℕ). row 5) with_slab.more.root ∙ blank.roots 5;
   }
+
+-- after the log has the slab, and a call began
+pub attachable_by : {words made new begun : List ℕ} {k granules : ℕ} → IsFormatted words header → IsMade words made 4 6 → IsInLog (version_in made) k → new ≡ put_word made k (word_of_entry (Slab 4)) →
+    ((start : ℕ) → extent_at new start ≡ with_entry (extent_at made) (Slab 4) start) → HasLog granules new → granules ≡ 16 → begun ≡ new → IsAttachable begun 5 block
+attachable_by {words} {made} {new} formatted slab place is extents log size same =
+    subst (λ (ws : List ℕ). IsAttachable ws 5 block) (sym same) (attachable words new (one_slab_by formatted slab place is extents log size))
 
 -- and then go from it
 pub detachable : (words new : List ℕ) (line : ℕ) → IsAttachable words 5 block → IsAttached words line 5 block new → IsDetachable new 5 block

@@ -1,7 +1,7 @@
 // Slabs that take another class, on a simulated memory of 16 granules. The slab begins at granule 4.
-ghost use Rattle.std.specs.Prelude.{◌≡◌, ◌*◌, ◌≤◌, length};
+ghost use Rattle.std.specs.Prelude.{◌≡◌, ◌*◌, ◌≤◌, length, IfOk};
 ghost use Rattle.pmem_lines.specs.Events.{IsQuiet};
-ghost use Rattle.pmem_lines.specs.Pmem.{words_of};
+ghost use Rattle.pmem_lines.specs.Pmem.{words_of, HasRoom};
 
 use crate::steps::events::{flush, has_events, store};
 use durable_steps::write_word;
@@ -144,38 +144,42 @@ fn fit_where_there_is_room(rt: HostRuntime) -> Result<(), Fail> {
     Ok(())
 }
 
+// A slab with this state word and these bits of its first eight blocks.
+fn slab_with(alloc: Global, state: u64, bits: u64) -> Result<SimPmem, OutOfMemory>
+    ensures size { IfOk result (λ device. length (words_of device) ≡ 32768) }
+    ensures quiet { IfOk result (λ device. IsQuiet device.events) }
+    ensures room { IfOk result (λ device. HasRoom device 3) }
+{
+    let mut device = SimPmem::zeroed(alloc, 4096, 200)?;
+    write_word(&mut device, SLAB, state);
+    write_word(&mut device, 65600, bits);
+    Ok(device)
+}
+
 // The slab takes a class, where it may and this is one of its blocks.
-fn take_class<P: Pmem>(p: &mut P, class: u8, number: u32) -> bool
+fn take_class<P: Pmem>(p: &mut P, class: u8, number: u32)
     requires inside { 67584 ≤ 8 * length (words_of (P.state p.old)) }
     requires quiet { IsQuiet (P.state p.old).events }
 {
     if class >= 36 || p.left() < 152 {
-        return false;
+        return;
     }
-    match state_of(p.load(SLAB)) {
-        Some(SlabState::Normal { class: own }) => {
-            if own >= 36
-                || number >= capacity(own)
-                || !bit_at(p, SLAB, number)
-                || !fit(p, SLAB, class)
-            {
-                return false;
-            }
-            morph(p, SLAB, class);
-            true
+    if let Some(SlabState::Normal { class: own }) = state_of(p.load(SLAB)) {
+        if own >= 36 || number >= capacity(own) {
+            return;
         }
-        _ => false,
+        if bit_at(p, SLAB, number) && fit(p, SLAB, class) {
+            morph(p, SLAB, class);
+        }
     }
 }
 
 // Block 0 alone is held. After event 4 the state word may be as before or say Morphing, and every image holds the block.
 #[test]
 fn class_3_takes_class_19(rt: HostRuntime) -> Result<(), Fail> {
-    let mut device = SimPmem::zeroed(rt.alloc(), 4096, 200)?;
-    make_slab(&mut device, SLAB, 3);
-    write_word(&mut device, 65600, 1);
+    let mut device = slab_with(rt.alloc(), 0x0301, 1)?;
     device.begin();
-    assert!(rt; take_class(&mut device, 19, 0));
+    take_class(&mut device, 19, 0);
     assert_eq!(rt; device.event_count(), 82);
     let events = [
         (0, store(ENTRY, 1)),
@@ -210,38 +214,28 @@ fn class_3_takes_class_19(rt: HostRuntime) -> Result<(), Fail> {
 }
 
 // A slab on its way to its class comes to it.
-fn arrive<P: Pmem>(p: &mut P) -> bool
+fn arrive<P: Pmem>(p: &mut P)
     requires inside { 67584 ≤ 8 * length (words_of (P.state p.old)) }
     requires quiet { IsQuiet (P.state p.old).events }
     ensures { length (words_of (P.state p.new)) ≡ length (words_of (P.state p.old)) }
 {
-    match state_of(p.load(SLAB)) {
-        Some(SlabState::Morphing { .. }) => {
-            if p.left() < 76 {
-                return false;
-            }
+    if let Some(SlabState::Morphing { .. }) = state_of(p.load(SLAB)) {
+        if p.left() >= 76 {
             finish_morph(p, SLAB);
-            true
         }
-        _ => false,
     }
 }
 
 // A slab whose one index entry is dead becomes normal.
-fn settle<P: Pmem>(p: &mut P) -> bool
+fn settle<P: Pmem>(p: &mut P)
     requires inside { 67584 ≤ 8 * length (words_of (P.state p.old)) }
     requires quiet { IsQuiet (P.state p.old).events }
     ensures { length (words_of (P.state p.new)) ≡ length (words_of (P.state p.old)) }
 {
-    match state_of(p.load(SLAB)) {
-        Some(SlabState::Morphed { entries, .. }) => {
-            if entries != 1 || p.load(ENTRY) % 2 != 0 || p.left() < 3 {
-                return false;
-            }
+    if let Some(SlabState::Morphed { entries, .. }) = state_of(p.load(SLAB)) {
+        if entries == 1 && p.load(ENTRY) % 2 == 0 && p.left() >= 3 {
             finish_old(p, SLAB);
-            true
         }
-        _ => false,
     }
 }
 
@@ -249,9 +243,7 @@ fn settle<P: Pmem>(p: &mut P) -> bool
 // it would be fit; with one it is not.
 #[test]
 fn a_transition_ends(rt: HostRuntime) -> Result<(), Fail> {
-    let mut device = SimPmem::zeroed(rt.alloc(), 4096, 200)?;
-    write_word(&mut device, SLAB, 0x0103_1302);
-    write_word(&mut device, 65600, 7);
+    let mut device = slab_with(rt.alloc(), 0x0103_1302, 7)?;
     assert_eq!(rt;
         (is_fit(&device, 0), is_fit(&device, 19)),
         (Some(true), Some(false))
@@ -259,12 +251,11 @@ fn a_transition_ends(rt: HostRuntime) -> Result<(), Fail> {
     write_word(&mut device, ENTRY, 1);
     assert_eq!(rt; is_fit(&device, 0), Some(false));
     device.begin();
-    assert!(rt; arrive(&mut device));
+    arrive(&mut device);
     assert_eq!(rt; device.event_count(), 76);
-    let mut left = SimPmem::zeroed(rt.alloc(), 4096, 20)?;
-    write_word(&mut left, SLAB, 0x0103_1303);
+    let mut left = slab_with(rt.alloc(), 0x0103_1303, 0)?;
     left.begin();
-    assert!(rt; settle(&mut left));
+    settle(&mut left);
     assert_eq!(rt; (left.event_count(), left.load(SLAB)), (3, 0x1301));
     Ok(())
 }

@@ -12,11 +12,8 @@ use Rattle.image_check.proofs.checking.check_arena.Goals as goal
 pub check_length-requires-clause-header : goal.check_length-requires-clause-header
 check_length-requires-clause-header c = subst (IsHeader c.args.words.now) (header_same c.args.words.now c.in-Ok.header c.in-Ok.ensures.header) c.in-Ok.ensures.header
 
-pub check_length-requires-clause-version : goal.check_length-requires-clause-version
-check_length-requires-clause-version c = ap (λ (h : PoolHeader). h.version) (header_same c.args.words.now c.in-Ok.header c.in-Ok.ensures.header)
-
-pub check_length-requires-clause-granules : goal.check_length-requires-clause-granules
-check_length-requires-clause-granules c = ap (λ (h : PoolHeader). h.granules) (header_same c.args.words.now c.in-Ok.header c.in-Ok.ensures.header)
+pub check_length-requires-clause-same : goal.check_length-requires-clause-same
+check_length-requires-clause-same c = header_same c.args.words.now c.in-Ok.header c.in-Ok.ensures.header
 
 pub returns-in-Ok-clause-sound : goal.returns-in-Ok-clause-sound
 returns-in-Ok-clause-sound c =

@@ -11,65 +11,59 @@ use Rattle.recovery_steps.proofs.Arenas.{sound_of}
 use Rattle.recovery_steps.proofs.Leaving.{no_large_still, no_empty_still, calm_still, left_version, left_then, left_all, names_left}
 use Rattle.recovery_steps.proofs.recovery.make_steady_exact.Goals as goal
 
-pub drop_empty-requires-clause-names : goal.drop_empty-requires-clause-names
-drop_empty-requires-clause-names g c =
-    let state = g.P.Pmem.state in
-    names_left c.args.names.now (words_of (state c.args.p.now)) (words_of (state c.drop_loose.new.p))
-    (left_then (left_then c.settle_open.ensures.left c.finish_morphing.ensures.calms.left) c.drop_loose.ensures.rids.left) c.requires.names
-
 -- how many events the entries of two images have, to which parts of recovery led
 entries_few : {words one two : List ℕ} → IsSteadyImage words → IsLeft words one → IsLeft words two → (layout_of (version_in one)).entry_events + (layout_of (version_in two)).entry_events + 85 ≤ (layout_of (version_in words)).recovery_events - 3
 entries_few {words} image first second =
     omega (arith, (layout_rules (version_in words)).recovery, ap (λ v. (layout_of v).entry_events) (left_version image first), ap (λ v. (layout_of v).entry_events) (left_version image second))
 
-pub settle_open-requires-clause-begins : goal.settle_open-requires-clause-begins
-settle_open-requires-clause-begins g c = record { book = c.requires.begins.book; quiet = c.requires.begins.quiet; room = omega (arith, c.requires.begins.room, (layout_rules (version_in (words_of (g.P.Pmem.state c.args.p.now)))).recovery) }
+pub settle_open-requires : goal.settle_open-requires
+settle_open-requires g c = record { image = c.requires.begins.image; book = c.requires.begins.book; quiet = c.requires.begins.quiet; room = omega (arith, c.requires.begins.room, (layout_rules (version_in (words_of (g.P.Pmem.state c.args.p.now)))).recovery) }
 
-pub finish_morphing-requires-clause-begins : goal.finish_morphing-requires-clause-begins
-finish_morphing-requires-clause-begins g c =
-    record { book = c.settle_open.ensures.book; quiet = c.settle_open.ensures.part.step.quiet; room = omega (arith, c.requires.begins.room, (layout_rules (version_in (words_of (g.P.Pmem.state c.args.p.now)))).recovery, adds_few c.settle_open.ensures.part) }
+pub finish_morphing-requires : goal.finish_morphing-requires
+finish_morphing-requires g c =
+    record { image = c.settle_open.ensures.left.shut; book = c.settle_open.ensures.book; quiet = c.settle_open.ensures.part.step.quiet; room = omega (arith, c.requires.begins.room, (layout_rules (version_in (words_of (g.P.Pmem.state c.args.p.now)))).recovery, adds_few c.settle_open.ensures.part) }
 
-pub drop_loose-requires-clause-begins : goal.drop_loose-requires-clause-begins
-drop_loose-requires-clause-begins g c =
+pub drop_loose-requires : goal.drop_loose-requires
+drop_loose-requires g c =
     let settled = c.settle_open.ensures in
     let finished = c.finish_morphing.ensures in
-    let before = left_then settled.left finished.calms.left in
-    record { book = c.finish_morphing.ensures.book; quiet = c.finish_morphing.ensures.part.step.quiet; room = omega (arith, c.requires.begins.room, entries_few c.requires.image before before, adds_few settled.part, adds_few finished.part) }
+    let before = left_then settled.left finished.left.left in
+    record { image = record { shut = finished.left.left.shut; are = names_left c.args.names.now (words_of (g.P.Pmem.state c.args.p.now)) (words_of (g.P.Pmem.state c.finish_morphing.new.p)) before c.requires.names }; book = c.finish_morphing.ensures.book; quiet = c.finish_morphing.ensures.part.step.quiet; room = omega (arith, c.requires.begins.room, entries_few c.requires.begins.image before before, adds_few settled.part, adds_few finished.part) }
 
-pub drop_empty-requires-clause-begins : goal.drop_empty-requires-clause-begins
-drop_empty-requires-clause-begins g c =
+pub drop_empty-requires : goal.drop_empty-requires
+drop_empty-requires g c =
     let settled = c.settle_open.ensures in
     let finished = c.finish_morphing.ensures in
     let large = c.drop_loose.ensures in
-    let before = left_then settled.left finished.calms.left in
-    record { book = c.drop_loose.ensures.book; quiet = c.drop_loose.ensures.part.step.quiet; room = omega (arith, c.requires.begins.room, entries_few c.requires.image before (left_then before large.rids.left), adds_few settled.part, adds_few finished.part, adds_few large.part) }
+    let before = left_then settled.left finished.left.left in
+    record { image = record { shut = large.left.left.shut; are = names_left c.args.names.now (words_of (g.P.Pmem.state c.args.p.now)) (words_of (g.P.Pmem.state c.drop_loose.new.p)) (left_then before large.left.left) c.requires.names }; book = c.drop_loose.ensures.book; quiet = c.drop_loose.ensures.part.step.quiet; room = omega (arith, c.requires.begins.room, entries_few c.requires.begins.image before (left_then before large.left.left), adds_few settled.part, adds_few finished.part, adds_few large.part) }
 
-pub end_done-requires-clause-begins : goal.end_done-requires-clause-begins
-end_done-requires-clause-begins g c =
-    let before = left_then c.settle_open.ensures.left c.finish_morphing.ensures.calms.left in
-    record { book = c.drop_empty.ensures.book; quiet = c.drop_empty.ensures.part.step.quiet; room = omega (arith, c.requires.begins.room, entries_few c.requires.image before (left_then before c.drop_loose.ensures.rids.left), adds_few c.settle_open.ensures.part, adds_few c.finish_morphing.ensures.part, adds_few c.drop_loose.ensures.part, adds_few c.drop_empty.ensures.part) }
+pub end_done-requires : goal.end_done-requires
+end_done-requires g c =
+    let before = left_then c.settle_open.ensures.left c.finish_morphing.ensures.left.left in
+    record { image = c.drop_empty.ensures.left.left.shut; book = c.drop_empty.ensures.book; quiet = c.drop_empty.ensures.part.step.quiet; room = omega (arith, c.requires.begins.room, entries_few c.requires.begins.image before (left_then before c.drop_loose.ensures.left.left), adds_few c.settle_open.ensures.part, adds_few c.finish_morphing.ensures.part, adds_few c.drop_loose.ensures.part, adds_few c.drop_empty.ensures.part) }
 
 pub returns-clause-part : goal.returns-clause-part
 returns-clause-part g c =
-    let before = left_then c.settle_open.ensures.left c.finish_morphing.ensures.calms.left in
-    all_parts ((layout_of (version_in (words_of (g.P.Pmem.state c.args.p.now)))).recovery_events - 3) (entries_few c.requires.image before (left_then before c.drop_loose.ensures.rids.left))
+    let before = left_then c.settle_open.ensures.left c.finish_morphing.ensures.left.left in
+    all_parts ((layout_of (version_in (words_of (g.P.Pmem.state c.args.p.now)))).recovery_events - 3) (entries_few c.requires.begins.image before (left_then before c.drop_loose.ensures.left.left))
     c.settle_open.ensures.part c.finish_morphing.ensures.part c.drop_loose.ensures.part c.drop_empty.ensures.part c.end_done.ensures.part
 
 pub returns-clause-heap : goal.returns-clause-heap
 returns-clause-heap g c = step_end (returns-clause-part g c).step
 
 pub returns-clause-left : goal.returns-clause-left
-returns-clause-left g c = left_all c.settle_open.ensures.left c.finish_morphing.ensures.calms c.drop_loose.ensures.rids c.drop_empty.ensures.rids c.end_done.ensures.rids
+returns-clause-left g c = left_all c.settle_open.ensures.left c.finish_morphing.ensures.left c.drop_loose.ensures.left c.drop_empty.ensures.left c.end_done.ensures.left
 
 pub returns-clause-exact : goal.returns-clause-exact
 returns-clause-exact g c =
-    let loose = c.drop_loose.ensures.rids in
-    let empty = c.drop_empty.ensures.rids in
-    let done = c.end_done.ensures.rids in
+    let loose = c.drop_loose.ensures.left in
+    let empty = c.drop_empty.ensures.left in
+    let done = c.end_done.ensures.left in
     let words = words_of (g.P.Pmem.state c.end_done.new.p) in
-    let shut = (left_all c.settle_open.ensures.left c.finish_morphing.ensures.calms loose empty done).shut in
+    let shut = (left_all c.settle_open.ensures.left c.finish_morphing.ensures.left loose empty done).shut in
     exact_by_none words (sound_of words shut.image) shut.closed
     (no_large_still done.loose (no_large_still empty.loose loose.none))
     (no_empty_still done.loose empty.none)
-    (calm_still done.loose (calm_still empty.loose (calm_still loose.loose c.finish_morphing.ensures.calms.none)))
+    (calm_still done.loose (calm_still empty.loose (calm_still loose.loose c.finish_morphing.ensures.left.none)))
     done.none

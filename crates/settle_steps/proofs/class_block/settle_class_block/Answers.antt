@@ -1,11 +1,7 @@
-use Rattle.std.proofs.Common.{◌≡◌, ℕ, ◌*◌, ◌/◌, List, subst, ◌∙◌, arith}
+use Rattle.std.proofs.Common.{◌≡◌, ◌*◌, ◌/◌, subst, ◌∙◌, arith}
 use Rattle.pmem_lines.specs.Words.{put_word}
 use Rattle.pmem_lines.specs.Pmem.{words_of}
-use Rattle.pmem_lines.specs.Steps.{IsQuietStep}
-use Rattle.durable_steps.specs.Steps.{word_events, IsOldOrNewWord}
-use Rattle.pool_layout.specs.Places.{wal_word}
 use Rattle.slab_header.specs.Steps.{PutsBitOver}
-use Rattle.attach_wal.specs.Wal.{Closes, ClosesOrNot}
 use Rattle.attach_steps.specs.Steps.{bit_word, bit_put}
 use Rattle.settle_steps.specs.ClassBlocks.{is_named}
 use Rattle.settle_steps.proofs.ClassImages.{number_low, root_there, reads_named, class_block_settled, class_block_step}
@@ -36,17 +32,7 @@ made g c =
     c.mark_as.ensures.step.appends.words ∙ (λ i. put_word words (word i) (bit_put words c.args.block (named g c i)))
 
 pub returns-clause-settled : goal.returns-clause-settled
-returns-clause-settled g c =
-    let state = g.P.Pmem.state in
-    let new = words_of (state c.close_entry.new.device) in
-    class_block_settled (words_of (state c.args.p.now)) c.args.line c.args.root c.args.block c.requires.line c.requires.open_entry (over g c) new
-    (subst (λ (ws : List ℕ). Closes ws c.args.line new) (made g c) c.close_entry.ensures.closes)
+returns-clause-settled g c = class_block_settled (words_of (g.P.Pmem.state c.args.p.now)) c.args.line c.args.root c.args.block c.requires.line c.requires.open_entry (over g c) (made g c) c.close_entry.ensures.closes
 
 pub returns-clause-step : goal.returns-clause-step
-returns-clause-step g c =
-    let state = g.P.Pmem.state in
-    let words = words_of (state c.args.p.now) in
-    let at = 8 * bit_word c.args.block in
-    class_block_step words c.args.line c.args.root c.args.block c.requires.line c.requires.open_entry (over g c)
-    (subst (λ on. IsQuietStep (state c.args.p.now) (state c.mark_as.new.p) (word_events at (bit_put words c.args.block on)) (IsOldOrNewWord words at (bit_put words c.args.block on))) (named g c) c.mark_as.ensures.step)
-    (subst (λ (ws : List ℕ). IsQuietStep (state c.mark_as.new.p) (state c.close_entry.new.device) (word_events (8 * wal_word c.args.line) 0) (ClosesOrNot ws c.args.line)) (made g c) c.close_entry.ensures.step)
+returns-clause-step g c = class_block_step (words_of (g.P.Pmem.state c.args.p.now)) c.args.line c.args.root c.args.block c.requires.line c.requires.open_entry (over g c) (named g c) (made g c) c.mark_as.ensures.step c.close_entry.ensures.step

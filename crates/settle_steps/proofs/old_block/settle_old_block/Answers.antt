@@ -1,14 +1,10 @@
-use Rattle.std.proofs.Common.{◌≡◌, ℕ, ◌*◌, ◌/◌, List, subst, ◌∙◌, arith}
+use Rattle.std.proofs.Common.{◌≡◌, ◌*◌, ◌/◌, subst, ◌∙◌, arith}
 use Rattle.pmem_lines.specs.Words.{put_word}
 use Rattle.pmem_lines.specs.Pmem.{words_of}
-use Rattle.pmem_lines.specs.Steps.{IsQuietStep}
-use Rattle.durable_steps.specs.Steps.{word_events, IsOldOrNewWord}
-use Rattle.pool_layout.specs.Places.{wal_word}
 use Rattle.image_tables.specs.Tables.{index_word}
 use Rattle.slab_header.specs.declared.index.IndexEntry.{IndexEntry}
 use Rattle.slab_header.specs.Index.{word_of_index}
 use Rattle.slab_header.specs.Steps.{PutsIndexOver}
-use Rattle.attach_wal.specs.Wal.{Closes, ClosesOrNot}
 use Rattle.settle_steps.specs.ClassBlocks.{is_named}
 use Rattle.settle_steps.specs.OldBlocks.{entry_put, live_put}
 use Rattle.settle_steps.proofs.OldImages.{place_low, old_root_there, reads_named_old, reads_number, old_block_settled, old_block_step}
@@ -52,17 +48,7 @@ made g c =
     c.mark_live.ensures.step.appends.words ∙ (λ i. put_word words (word i) (word_of_index (entry_is g c i)))
 
 pub returns-clause-settled : goal.returns-clause-settled
-returns-clause-settled g c =
-    let state = g.P.Pmem.state in
-    let new = words_of (state c.close_entry.new.device) in
-    old_block_settled (words_of (state c.args.p.now)) c.args.line c.args.root c.args.block c.requires.line c.requires.open_entry (over g c) new
-    (subst (λ (ws : List ℕ). Closes ws c.args.line new) (made g c) c.close_entry.ensures.closes)
+returns-clause-settled g c = old_block_settled (words_of (g.P.Pmem.state c.args.p.now)) c.args.line c.args.root c.args.block c.requires.line c.requires.open_entry (over g c) (made g c) c.close_entry.ensures.closes
 
 pub returns-clause-step : goal.returns-clause-step
-returns-clause-step g c =
-    let state = g.P.Pmem.state in
-    let words = words_of (state c.args.p.now) in
-    let at = 8 * index_word c.args.block.start c.args.block.place in
-    old_block_step words c.args.line c.args.root c.args.block c.requires.line c.requires.open_entry (over g c)
-    (subst (λ (e : IndexEntry). IsQuietStep (state c.args.p.now) (state c.mark_live.new.p) (word_events at (word_of_index e)) (IsOldOrNewWord words at (word_of_index e))) (entry_is g c) c.mark_live.ensures.step)
-    (subst (λ (ws : List ℕ). IsQuietStep (state c.mark_live.new.p) (state c.close_entry.new.device) (word_events (8 * wal_word c.args.line) 0) (ClosesOrNot ws c.args.line)) (made g c) c.close_entry.ensures.step)
+returns-clause-step g c = old_block_step (words_of (g.P.Pmem.state c.args.p.now)) c.args.line c.args.root c.args.block c.requires.line c.requires.open_entry (over g c) (entry_is g c) (made g c) c.mark_live.ensures.step c.close_entry.ensures.step

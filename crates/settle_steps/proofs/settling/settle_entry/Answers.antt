@@ -13,11 +13,16 @@ number_of-number-requires-clause-slab g c = slab_here c.args.start c.requires.li
 pub number_of-number-requires-clause-behind : goal.number_of-number-requires-clause-behind
 number_of-number-requires-clause-behind g c = block_behind c.args.start c.requires.line (flag_is c.in-Place.is c.if-old.false) c.requires.open_entry c.requires.slab
 
-pub settle_class_block-requires-clause-open_entry : goal.settle_class_block-requires-clause-open_entry
-settle_class_block-requires-clause-open_entry g c =
+pub settle_class_block-requires : goal.settle_class_block-requires
+settle_class_block-requires g c =
     let words = words_of (g.P.Pmem.state c.args.p.now) in
-    subst (λ n. IsOpenForBlock words c.args.line c.in-Place.root (record { start = c.args.start; number = n; at = c.in-Place.at })) (sym c.number_of-number.ensures)
-    (block_open c.args.start c.requires.line (flag_is c.in-Place.is c.if-old.false) c.requires.open_entry c.requires.slab)
+    record {
+      line = c.requires.line;
+      open_entry = subst (λ n. IsOpenForBlock words c.args.line c.in-Place.root (record { start = c.args.start; number = n; at = c.in-Place.at })) (sym c.number_of-number.ensures)
+          (block_open c.args.start c.requires.line (flag_is c.in-Place.is c.if-old.false) c.requires.open_entry c.requires.slab);
+      quiet = c.requires.quiet;
+      room = c.requires.room;
+    }
 
 -- the entry is settled where its place entry is
 settled : (words : List ℕ) (line start : ℕ) (new : List ℕ) {entry : WalEntry} {root at place : ℕ} {old flag : Bool} → entry ≡ Place root at old place → old ≡ flag → IsEntrySettled words line start (Place root at flag place) new → IsEntrySettled words line start entry new

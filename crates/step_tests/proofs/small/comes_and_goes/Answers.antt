@@ -4,7 +4,7 @@ use Rattle.pool_layout.specs.Layout.{layout_of}
 use Rattle.book_log.proofs.Books.{Reads-same}
 use Rattle.book_log.proofs.Places.{within_heap}
 use Rattle.attach_steps.specs.Steps.{IsAttachable}
-use Rattle.step_tests.proofs.OneSlab.{block, formatted_by, log_by, same_log, one_slab_by, attachable, detachable}
+use Rattle.step_tests.proofs.OneSlab.{formatted_by, log_by, same_log, attachable_by, detachable}
 use Rattle.step_tests.proofs.small.comes_and_goes.Goals as goal
 
 pub load-requires-clause-log : goal.load-requires-clause-log
@@ -33,15 +33,11 @@ attach-requires-clause-attachable g c =
     let zeroed = c.in_ok-device.ensures in
     let formatted = formatted_by zeroed.zero zeroed.size c.fields_at.ensures c.write_word.ensures.appends.words c.directory_at.ensures c.write_word-2.ensures.appends.words c.text_at.ensures c.header_text.ensures c.write_word-3.ensures.appends.words in
     let appended = c.append.ensures in
-    let one = one_slab_by formatted c.make_slab.ensures.made appended.place appended.words appended.extents appended.reads.log (appended.granules ∙ c.load.ensures.granules ∙ c.in_ok-log.ensures.granules_of) in
-    subst (λ (ws : List ℕ). IsAttachable ws 5 block) (sym (ap (λ (s : PmemState). words_of s) c.begin.ensures.state)) (attachable (words_of c.write_word-3.new.device) (words_of c.append.new.p) one)
+    attachable_by formatted c.make_slab.ensures.made appended.place appended.words appended.extents appended.reads.log (appended.granules ∙ c.load.ensures.granules ∙ c.in_ok-log.ensures.granules_of) (ap (λ (s : PmemState). words_of s) c.begin.ensures.state)
 
 pub detach-requires-clause-detachable : goal.detach-requires-clause-detachable
 detach-requires-clause-detachable g c =
     let zeroed = c.in_ok-device.ensures in
     let formatted = formatted_by zeroed.zero zeroed.size c.fields_at.ensures c.write_word.ensures.appends.words c.directory_at.ensures c.write_word-2.ensures.appends.words c.text_at.ensures c.header_text.ensures c.write_word-3.ensures.appends.words in
     let appended = c.append.ensures in
-    let one = one_slab_by formatted c.make_slab.ensures.made appended.place appended.words appended.extents appended.reads.log (appended.granules ∙ c.load.ensures.granules ∙ c.in_ok-log.ensures.granules_of) in
-    let same = ap (λ (s : PmemState). words_of s) c.begin.ensures.state in
-    detachable (words_of c.begin.new.self) (words_of c.attach.new.p) 3
-    (subst (λ (ws : List ℕ). IsAttachable ws 5 block) (sym same) (attachable (words_of c.write_word-3.new.device) (words_of c.append.new.p) one)) c.attach.ensures.attached
+    detachable (words_of c.begin.new.self) (words_of c.attach.new.p) 3 (attachable_by formatted c.make_slab.ensures.made appended.place appended.words appended.extents appended.reads.log (appended.granules ∙ c.load.ensures.granules ∙ c.in_ok-log.ensures.granules_of) (ap (λ (s : PmemState). words_of s) c.begin.ensures.state)) c.attach.ensures.attached
