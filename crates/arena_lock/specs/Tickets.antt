@@ -6,6 +6,7 @@ use Rattle.std.specs.Prelude.{◌≡◌, ℕ, ◌+◌, ◌*◌, ◌^◌, ◌<◌
 use mathlib.Core.Option.{some}
 use mathlib.Core.List.{IsPrefix}
 use lib.ListN.{get_elem?}
+use Rattle.atomic_table.specs.Seated.{TableId}
 use Rattle.atomic_table.specs.Table.{State}
 use Rattle.heap_model.specs.declared.call.Entry.{Entry}
 use Rattle.arena_lock.specs.declared.opening.Opening.{Opening}
@@ -93,3 +94,10 @@ spent_view = record (new_view no_opening [] [] 0 0) { live = false }
 pub record IsIdle (v : SeatView) : Type 0 where
   pub live : v.live ≡ true
   pub idle : v.standing ≡ Idle
+
+-- the seat is of this table, which has the lock's three words; it is between two calls, and a turn is left to it
+pub record MayBegin (table seat : TableId) (v : SeatView) : Type 0 where
+  pub same : seat ≡ table
+  pub words : table.words ≡ 3
+  pub idle : IsIdle v
+  pub left : 0 < v.turns

@@ -1,7 +1,7 @@
 // An index of slabs beside a plain list of slabs and of the blocks that were taken.
 ghost use Rattle.std.specs.Prelude.{◌≡◌, ◌<◌, ◌≤◌};
 
-use crate::plain::{GRANULES, PlainSlabs};
+use crate::plain::{GRANULES, PlainSlabs, class_of};
 use pmem_lines::OutOfMemory;
 use rand_core::SeedableRng;
 use rand_core::utils::NextWord;
@@ -134,8 +134,7 @@ fn agree(index: &SlabIndex, plain: &PlainSlabs, start: u32, number: u32) -> bool
     }
 }
 
-// Classes 35, 34 and 32 have 3, 4 and 6 blocks a slab, so slabs fill and empty often. Class 15 has 124, of which more
-// than 64 come to be taken.
+// Class 15 has 124 blocks a slab, of which more than 64 come to be taken.
 #[test]
 fn like_a_plain_list(rt: HostRuntime) -> Result<(), Fail> {
     let mut index = SlabIndex::new(rt.alloc(), GRANULES)?;
@@ -143,12 +142,7 @@ fn like_a_plain_list(rt: HostRuntime) -> Result<(), Fail> {
     let mut picks = SplitMix64::from_seed([7; 8]);
     for turn in 0..1200 {
         let drawn = picks.next_word();
-        let class = match drawn / 2048 % 8 {
-            0 => 35,
-            1 => 34,
-            2 => 32,
-            _ => 15,
-        };
+        let class = class_of(drawn / 2048, 15, 15);
         let same = change(&mut index, &mut plain, drawn, class)?;
         assert!(rt; same, "of {class} in {turn}");
         assert_eq!(rt; index.lowest(class), plain.lowest(class), "after {turn}");

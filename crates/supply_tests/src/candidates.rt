@@ -143,15 +143,11 @@ fn fit_at_the_bounds(rt: HostRuntime) -> Result<(), Fail> {
 #[test]
 fn fewest_then_lowest(rt: HostRuntime) -> Result<(), Fail> {
     let mut candidates = Candidates::new(rt.alloc(), 1024)?;
-    for (start, class, live) in [
-        (300, 0, 7),
-        (200, 3, 2),
-        (100, 0, 2),
-        (20, 5, 9),
-        (400, 5, 2),
-    ] {
-        candidates.put(start, class, live);
-    }
+    candidates.put(300, 0, 7);
+    candidates.put(200, 3, 2);
+    candidates.put(100, 0, 2);
+    candidates.put(20, 5, 9);
+    candidates.put(400, 5, 2);
     let mut found = Vec::new(rt.alloc());
     let mut next = candidates.first(5);
     for _ in 0..5 {

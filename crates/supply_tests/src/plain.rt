@@ -8,6 +8,21 @@ use std::alloc::Global;
 /// How many granules there are.
 pub(crate) const GRANULES: u32 = 24;
 
+/// The class that a number draws. Of each eight three draw the classes 35, 34 and 32, which have 3, 4 and 6 blocks a slab, so
+/// that slabs fill and empty often; one draws a class of the caller's, and all others another of them.
+pub(crate) fn class_of(drawn: u64, one: u8, others: u8) -> u8
+    requires { (one < 36) × (others < 36) }
+    ensures { result < 36 }
+{
+    match drawn % 8 {
+        0 => 35,
+        1 => 34,
+        2 => 32,
+        3 => one,
+        _ => others,
+    }
+}
+
 /// The class of the slab at each granule, and the blocks that were taken.
 #[derive(Drop)]
 pub(crate) struct PlainSlabs {

@@ -1,7 +1,7 @@
 // A supply of small blocks beside plain lists, which are searched from end to end.
 ghost use Rattle.std.specs.Prelude.{◌≡◌, ◌<◌};
 
-use crate::plain::{GRANULES, PlainSlabs};
+use crate::plain::{GRANULES, PlainSlabs, class_of};
 use crate::supply::{add_used, is_open, make_available, put_back};
 use block_supply::{BlockSupply, SlabBlock};
 use pmem_lines::OutOfMemory;
@@ -237,8 +237,7 @@ fn agree(supply: &BlockSupply, plain: &Plain, start: u32) -> bool {
     true
 }
 
-// Classes 35, 34, 32 and 29 have 3, 4, 6 and ten blocks a slab, so slabs and stacks fill and empty often, and seats take from
-// each other. Class 23 has 31.
+// Slabs and stacks fill and empty often, and seats take from each other. Class 29 has ten blocks a slab, and class 23 has 31.
 #[test]
 fn like_plain_lists(rt: HostRuntime) -> Result<(), Fail> {
     let mut supply = BlockSupply::new(rt.alloc(), GRANULES)?;
@@ -249,13 +248,7 @@ fn like_plain_lists(rt: HostRuntime) -> Result<(), Fail> {
     let mut picks = SplitMix64::from_seed([5; 8]);
     for turn in 0..400 {
         let drawn = picks.next_word();
-        let class = match drawn / 8192 % 8 {
-            0 => 35,
-            1 => 34,
-            2 => 32,
-            3 => 29,
-            _ => 23,
-        };
+        let class = class_of(drawn / 8192, 29, 23);
         let same = change(rt.alloc(), &mut supply, &mut plain, drawn, class)?;
         assert!(rt; same, "of {class} in {turn}");
         for start in 0..=GRANULES {
