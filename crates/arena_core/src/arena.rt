@@ -20,7 +20,7 @@ ghost use Rattle.arena_core.specs.Payload.{payload_events, IsWriteStep, IsWritte
 
 use crate::adopting::{read_image, read_lives, take_front};
 use crate::formatting::write_header;
-use crate::payload::carry_out_write;
+use crate::payload::{carry_out_write, plan_write};
 use crate::plan::granules_in;
 use crate::volatile::Volatile;
 use crate::{
@@ -207,8 +207,8 @@ impl<P: Pmem> Arena<P> {
         ensures ready { IsReady self.new.device }
         ensures crash { CrashOnly self.new.device.base self.new.device.events (IsEitherWords (words_of self.old.device) (words_of self.new.device)) }
     {
-        let count = words.len() as u64;
-        let plan = self.volatile.plan_write(&self.device, root, from, count);
+        let block = self.volatile.block_of(&self.device, root);
+        let plan = plan_write(block, from, words.len() as u64);
         self.device.begin();
         carry_out_write(&mut self.device, plan, words)
     }

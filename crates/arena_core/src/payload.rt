@@ -1,5 +1,5 @@
 // The words of a root's block: where they lie, and writing them.
-ghost use Rattle.std.specs.Prelude.{◌≡◌, ◌+◌, ◌*◌, ◌%◌, ◌^◌, ◌<◌, ◌≤◌, ℕ, [], length};
+ghost use Rattle.std.specs.Prelude.{◌≡◌, ◌+◌, ◌*◌, ◌%◌, ◌^◌, ◌<◌, ◌≤◌, ℕ, List, [], length};
 ghost use Rattle.pmem_lines.specs.Pmem.{words_of};
 ghost use Rattle.pmem_lines.specs.Steps.{IsQuietStep};
 ghost use Rattle.durable_steps.specs.Rows.{IsOldOrNewRow};
@@ -38,28 +38,26 @@ impl Volatile {
             None => Err(BlockRefusal::Empty),
         }
     }
+}
 
-    /// The byte at which a write of `count` words begins, from word `from` of a root's block on, or why there is none.
-    pub(crate) fn plan_write<P: Pmem>(
-        &self,
-        device: &P,
-        root: u32,
-        from: u32,
-        count: u64,
-    ) -> Result<u32, BlockRefusal>
-        requires arena { IsArena (P.state device.now) self.now }
-        requires few { count ≤ 512 }
-        ensures { IsWritePlan (words_of (P.state device.now)) root from count result }
-    {
-        match self.block_of(device, root) {
-            Ok(block) => {
-                if u64::from(from) + count > u64::from(block.size / 8) {
-                    return Err(BlockRefusal::OutOfRange);
-                }
-                Ok(block.at + 8 * from)
+/// The byte at which a write of `count` words begins, from word `from` of a root's block on, or why there is none.
+pub(crate) fn plan_write(
+    block: Result<Block, BlockRefusal>,
+    from: u32,
+    count: u64,
+) -> Result<u32, BlockRefusal>
+    requires few { count ≤ 512 }
+    requires block { (words : List ℕ) × (root : ℕ) × IsBlockPlan words root block }
+    ensures { (words : List ℕ) (root : ℕ) → IsBlockPlan words root block → IsWritePlan words root from count result }
+{
+    match block {
+        Ok(block) => {
+            if u64::from(from) + count > u64::from(block.size / 8) {
+                return Err(BlockRefusal::OutOfRange);
             }
-            Err(refusal) => Err(refusal),
+            Ok(block.at + 8 * from)
         }
+        Err(refusal) => Err(refusal),
     }
 }
 

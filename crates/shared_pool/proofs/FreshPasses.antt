@@ -65,9 +65,10 @@ first_split xs rest x f n whole h = subst (λ l. AllFirst n (map f l)) whole h
 pub first_seat : (xs rest : List Known) (x : Known) (n : ℕ) → xs ≡ x ∷ rest → FirstIs n xs → (x.numbers ≡ n ∷ []) × (x.seen ≡ [])
 first_seat xs rest x n whole h = subst (λ l. FirstIs n l) whole h
 
-pub pred : (m : ℕ) → 0 < m → (k : ℕ) × (m ≡ suc k)
-pred zero l = absurd (omega arith)
-pred (suc k) l = (k, refl)
+-- while not all were dealt, of those that are left there is one, and so many more
+pub one_left : {m n whole : ℕ} → n + m ≡ whole → n < whole → (k : ℕ) × (m ≡ suc k)
+one_left {zero} {n} all less = absurd (omega (arith, all, less))
+one_left {suc k} all less = (k, refl)
 
 pub one_less : {A : Type 0} (xs ys : List A) (k : ℕ) → ys ≡ remove xs 0 → length xs ≡ suc k → length ys ≡ k
 one_less [] ys k e l = absurd (omega arith)

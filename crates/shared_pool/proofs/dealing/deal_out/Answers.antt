@@ -4,23 +4,21 @@ use Rattle.shared_pool.specs.declared.pass.Spot.{Spot}
 use Rattle.shared_pool.specs.Closed.{tail_list}
 use Rattle.shared_pool.specs.Passes.{PassState, fresh_pass, fresh_passes}
 use Rattle.shared_pool.specs.Rows.{AllTell, part_of, each_of, AllSome, AllFirst, firsts, lines}
-use Rattle.shared_pool.proofs.FreshPasses.{pred, some_lines, first_lines, firsts_lines, tails_lines, fresh_more, room_left, no_items, one_less}
+use Rattle.shared_pool.proofs.FreshPasses.{one_left, some_lines, first_lines, firsts_lines, tails_lines, fresh_more, room_left, no_items, one_less}
 use Rattle.shared_pool.proofs.dealing.deal_out.Goals as goal
 
 pub row_of-requires-clause-some : goal.row_of-requires-clause-some
 row_of-requires-clause-some c =
     let inv = c.loop-number.invariant in
     let locks = c.requires.dealts.0 in
-    let left : 0 < inv.0 = omega (arith, inv.1, c.loop-number-test.true) in
-    let k = pred inv.0 left in
+    let k = one_left inv.1 c.loop-number-test.true in
     subst AllSome (sym ((inv.2 locks c.requires.dealts.1).0 ∙ ap (λ m. lines c.loop-number.number m locks) k.1)) (some_lines c.loop-number.number k.0 locks)
 
 pub made-requires-clause-tell : goal.made-requires-clause-tell
 made-requires-clause-tell c =
     let inv = c.loop-number.invariant in
     let locks = c.requires.dealts.0 in
-    let left : 0 < inv.0 = omega (arith, inv.1, c.loop-number-test.true) in
-    let k = pred inv.0 left in
+    let k = one_left inv.1 c.loop-number-test.true in
     let empty : length c.remove-spots.result.items ≡ 0 = search rules in
     c.row_of.ensures.tell c.loop-number.number (subst (λ (l : List Spot). AllTell c.loop-number.number l) (no_items c.remove-spots.result.items empty) tt)
     (subst (AllFirst c.loop-number.number) (sym ((inv.2 locks c.requires.dealts.1).0 ∙ ap (λ m. lines c.loop-number.number m locks) k.1)) (first_lines c.loop-number.number k.0 locks))
@@ -29,8 +27,7 @@ pub loop-number-preserved : goal.loop-number-preserved
 loop-number-preserved c =
     let inv = c.loop-number.invariant in
     let n = c.loop-number.number in
-    let left : 0 < inv.0 = omega (arith, inv.1, c.loop-number-test.true) in
-    let k = pred inv.0 left in
+    let k = one_left inv.1 c.loop-number-test.true in
     let up : suc n ≡ n + 1 = omega arith in
     let zero_up : n ≡ 0 + n = omega arith in
     let sum : n + 1 + k.0 ≡ c.args.seats = omega (arith, inv.1, k.1) in
