@@ -219,8 +219,8 @@ impl<P: Pmem> SharedPool<P> {
         self.call(rt, pass, arena, Call::Move { from, to })
     }
 
-    // One journal call, whichever it is.
-    fn call<R: Wait>(
+    /// Makes a call of an arena that is handed over as a value, whichever it is, as the methods above make theirs.
+    pub fn call<R: Wait>(
         &self,
         rt: &R,
         pass: &mut Pass,

@@ -26,7 +26,6 @@ use trace_text::TraceCall;
 #[tactic(auto, using(crate::proofs::Calls::of_append, crate::proofs::Calls::done_append, crate::proofs::Calls::numbers_append))]
 pub(crate) fn work_all<R: Threads + Wait + Sync, P: Pmem + Drop + Send, G: Gate + Sync>(
     rt: &R,
-    alloc: Global,
     pool: &SharedPool<P>,
     passes: &mut [Pass],
     calls: &[TraceCall],
@@ -43,7 +42,7 @@ pub(crate) fn work_all<R: Threads + Wait + Sync, P: Pmem + Drop + Send, G: Gate 
         return Ok(());
     }
     if passes.len() == 1 {
-        return work(rt, alloc, pool, &mut passes[0], calls, gate);
+        return work(rt, pool, &mut passes[0], calls, gate);
     }
     let (front, back) = passes.split_at_mut(passes.len() / 2);
     let (first, second) = join_mut(
@@ -51,11 +50,11 @@ pub(crate) fn work_all<R: Threads + Wait + Sync, P: Pmem + Drop + Send, G: Gate 
         &mut || -> Result<(), OutOfMemory>
             requires { IsSync R.row × IsSync G.row × AllReady pool.now front.now × AllIn (length pool.now.locks) calls.now × (length calls.now < 2 ^ 32) }
             ensures { AllOf pool.entry.now front.exit.now × (map (λ p. p.number) front.exit.now ≡ map (λ p. p.number) front.entry.now) × IfOk result (λ _. AllDone calls.entry.now front.exit.now) }
-        { work_all(rt, alloc, pool, front, calls, gate) },
+        { work_all(rt, pool, front, calls, gate) },
         &mut || -> Result<(), OutOfMemory>
             requires { IsSync R.row × IsSync G.row × AllReady pool.now back.now × AllIn (length pool.now.locks) calls.now × (length calls.now < 2 ^ 32) }
             ensures { AllOf pool.entry.now back.exit.now × (map (λ p. p.number) back.exit.now ≡ map (λ p. p.number) back.entry.now) × IfOk result (λ _. AllDone calls.entry.now back.exit.now) }
-        { work_all(rt, alloc, pool, back, calls, gate) },
+        { work_all(rt, pool, back, calls, gate) },
     );
     first?;
     second
@@ -91,7 +90,7 @@ fn work_counted<R: Threads + Wait + Sync, P: Pmem + Drop + Send, G: Gate + Sync>
     ensures counted { IfOk result (λ counts. AreCounted passes.new 0 counts.items) }
     ensures all { IfOk result (λ counts. length counts.items ≡ arenas) }
 {
-    match work_all(rt, alloc, pool, passes, calls, gate) {
+    match work_all(rt, pool, passes, calls, gate) {
         Ok(()) => lengths_of(alloc, pool, passes, arenas),
         Err(fault) => Err(fault),
     }

@@ -6,15 +6,15 @@ use Rattle.heap_model.specs.declared.call.Call.TheVariants.{Malloc}
 use Rattle.trace_text.specs.declared.call.TraceCall.{TraceCall}
 use Rattle.trace_workers.proofs.Calls.{in_at, has_part, done_other, done_more, turns_left, turns_other, turns_more, take_next}
 use Rattle.trace_workers.proofs.working.work.Goals as goal
-use Rattle.trace_workers.proofs.working.work.Goals.{then-call-number+in_ok-make, else-call-number}
+use Rattle.trace_workers.proofs.working.work.Goals.{then-call-number+in_ok-call, else-call-number}
 
-pub make-requires-clause-arena : goal.make-requires-clause-arena
-make-requires-clause-arena g c =
+pub call-requires-clause-arena : goal.call-requires-clause-arena
+call-requires-clause-arena g c =
     let room : c.loop-k.k < length c.args.calls.now = search rules in
     in_at (length c.args.pool.now.locks) c.args.calls.now c.loop-k.k (record { thread = 0; arena = 0; call = Malloc 0 0 }) room c.requires.arenas
 
-pub make-requires-clause-left : goal.make-requires-clause-left
-make-requires-clause-left g c =
+pub call-requires-clause-left : goal.call-requires-clause-left
+call-requires-clause-left g c =
     let room : c.loop-k.k < length c.args.calls.now = search rules in
     let arena = in_at (length c.args.pool.now.locks) c.args.calls.now c.loop-k.k (record { thread = 0; arena = 0; call = Malloc 0 0 }) room c.requires.arenas in
     turns_left c.loop-k.k (length c.args.calls.now) c.loop-k.pass _ (has_part c.args.pool.now c.loop-k.pass _ c.loop-k.invariant.0 arena) room c.requires.few c.loop-k.invariant.4
@@ -23,7 +23,7 @@ pub after-requires : goal.after-requires
 after-requires g c =
     let room : c.loop-k.k < length c.args.calls.now = search rules in
     let arena = in_at (length c.args.pool.now.locks) c.args.calls.now c.loop-k.k (record { thread = 0; arena = 0; call = Malloc 0 0 }) room c.requires.arenas in
-    let part = has_part c.args.pool.now c.make.new.pass _ c.make.ensures.pass arena in
+    let part = has_part c.args.pool.now c.call.new.pass _ c.call.ensures.pass arena in
     omega (arith, part)
 
 pub loop-k-init : goal.loop-k-init
@@ -42,15 +42,15 @@ loop-k-preserved g c =
     let next : take k calls ++ call ∷ [] ≡ take (k + 1) calls = take_next calls k d room in
     let part : call.arena < length p.parts = has_part c.args.pool.now p call.arena inv.0 (in_at (length c.args.pool.now.locks) calls k d room c.requires.arenas) in
     elim c.if-call-number.branch [
-      | then-call-number+in_ok-make w ↦
-          let q = w.make.new.pass in
-          let same : q.number ≡ p.number = w.make.ensures.number in
+      | then-call-number+in_ok-call w ↦
+          let q = w.call.new.pass in
+          let same : q.number ≡ p.number = w.call.ensures.number in
           let mine : call.thread ≡ p.number = w.if-call-number.true ∙ (c.number-number.ensures ∙ sym number) in
-          let done : HasMadeOwn (take k calls ++ call ∷ []) q = done_more (take k calls) call p q w.in_ok-make.field-0 part mine w.in_ok-make.ensures.called inv.3 in
-          let turns : HasTurns (k + 1) q = turns_more k call.arena call.call p q w.in_ok-make.field-0 part w.in_ok-make.ensures.called inv.4 in
+          let done : HasMadeOwn (take k calls ++ call ∷ []) q = done_more (take k calls) call p q w.in_ok-call.field-0 part mine w.in_ok-call.ensures.called inv.3 in
+          let turns : HasTurns (k + 1) q = turns_more k call.arena call.call p q w.in_ok-call.field-0 part w.in_ok-call.ensures.called inv.4 in
           let made : c.if-call-number.made ≤ k + 1 = search rules in
           subst (λ (z : PassState). IsPassOf c.args.pool.now z × (z.number ≡ c.args.pass.now.number) × (c.if-call-number.made ≤ k + 1) × HasMadeOwn (take (k + 1) calls) z × HasTurns (k + 1) z) (sym w.pass-is)
-          (w.make.ensures.pass, same ∙ number, made, subst (λ (l : List TraceCall). HasMadeOwn l q) next done, turns)
+          (w.call.ensures.pass, same ∙ number, made, subst (λ (l : List TraceCall). HasMadeOwn l q) next done, turns)
       | else-call-number w ↦
           let done : HasMadeOwn (take k calls ++ call ∷ []) p = done_other (take k calls) call p (λ e. w.if-call-number.false (e ∙ (number ∙ sym c.number-number.ensures))) inv.3 in
           let made : c.if-call-number.made ≤ k + 1 = search rules in
