@@ -3,7 +3,7 @@ use Rattle.std.proofs.Common.{◌≡◌, ◌≢◌, ℕ, ◌+◌, ◌*◌, ◌/�
 use Rattle.std.proofs.lemmas.Bool.{cases_eq, eq-eqb, ne_eqb, lt-ltb, le-ltb, ltb-true, cond-true, cond-false, and_left}
 use Rattle.std.proofs.lemmas.List.{get_or_read, get_or-set_same, get_or-set_other, length-set}
 use Rattle.bit_words.specs.Numbers.{has, ones, IsPut, IsFilled}
-use Rattle.slab_index.specs.Kept.{capacity_or_none, capacity_at, is_class, has_block, IsSummary, IsIndex}
+use Rattle.slab_index.specs.Kept.{capacity_or_none, capacity_at, is_class, has_block, IsSummary, IsIndex, HasPlaceFor}
 use Rattle.bit_words.proofs.Bits.{put_beside, told_after}
 use Rattle.bit_words.proofs.Fills.{fits_filled, has_filled, some_filled}
 
@@ -67,6 +67,17 @@ some_by_word word kept is = ⊎_elim
     (λ (zero : word ≡ 0). ap not (eq-eqb word 0 zero) ∙ sym (le-ltb 0 kept (omega arith)))
     (λ (more : word ≢ 0). ap not (ne_eqb word 0 more) ∙ sym (lt-ltb 0 kept (omega arith)))
     (cases_eq word 0)
+
+-- an index has a place for a word of its blocks
+pub has_place : {granules : ℕ} {classes : List (Option ℕ)} {blocks some starts some_starts turned : List ℕ} {class at : ℕ} → IsIndex granules classes blocks some starts some_starts → length turned ≡ length blocks → at / 64 < granules → class < 36 →
+    HasPlaceFor turned some starts some_starts class at
+has_place index size inside known = record {
+  block = omega (arith, size, index.blocks_size);
+  slab = omega (arith, index.some_size);
+  start = omega (arith, index.most, index.starts_size);
+  some_start = omega (arith, index.most, index.some_starts_size);
+  summary = index.summary;
+}
 
 -- an index after one word of its blocks changed
 pub IsIndex-turned : {granules : ℕ} {classes : List (Option ℕ)} {blocks some starts some_starts : List ℕ} (turned some' starts' some_starts' : List ℕ) (i class : ℕ) →

@@ -39,6 +39,14 @@ pub record IsLeastAt (words some : List ℕ) (place number : ℕ) : Type 0 where
   pub least_word : IsLeastIn some (64 * place) 64 word
   pub least : IsLeastIn words (64 * word) 64 (4096 * place + number)
 
+-- the sets have a place for one word of blocks, and for its slab, of a class
+pub record HasPlaceFor (blocks some starts some_starts : List ℕ) (class at : ℕ) : Type 0 where
+  pub block : at < length blocks
+  pub slab : at / 64 < length some
+  pub start : (4096 * class + at / 64) / 64 < length starts
+  pub some_start : (4096 * class + at / 64) / 64 / 64 < length some_starts
+  pub summary : IsSummary starts some_starts
+
 -- from one word of a set the numbers are taken that a word has
 pub record IsTakenFrom (old : List ℕ) (at word : ℕ) (new : List ℕ) : Type 0 where
   pub size : length new ≡ length old
