@@ -1,8 +1,7 @@
 // The sets of words that candidates keep: the starts of slabs, for each class and for each number of live blocks.
 ghost use Rattle.std.specs.Prelude.{◌≡◌, ◌+◌, ◌*◌, ◌/◌, ◌<◌, length, MatchOption};
 ghost use Rattle.bit_words.specs.Numbers.{IsPut};
-ghost use Rattle.slab_index.specs.Kept.{IsSummary};
-ghost use Rattle.slab_index.specs.Sparse.{is_sparse, IsMarked, IsMarkedAnew, HasNoneInWord, IsFirstInWord, HasNoneInRow, IsFirstInRow};
+ghost use Rattle.slab_index.specs.Sparse.{is_sparse, HasRows, IsMarked, IsMarkedAnew, HasNoneInWord, IsFirstInWord, HasNoneInRow, IsFirstInRow};
 
 use crate::CalmSlab;
 use crate::words::{NUMBERS, Summed, put_summed};
@@ -35,12 +34,9 @@ pub(crate) fn mark_class(classes: &mut [u64], start: u32, slab: CalmSlab, on: bo
 pub(crate) fn mark_sparse(starts: &mut Summed, start: u32, slab: CalmSlab, on: bool)
     requires start { start < 4096 }
     requires class { slab.class < 36 }
-    requires starts_size { length starts.old.words.items ≡ 4160 }
-    requires some_size { length starts.old.some.items ≡ 65 }
-    requires summary { IsSummary starts.old.words.items starts.old.some.items }
+    requires rows { HasRows starts.old.words.items starts.old.some.items }
     ensures starts { IsMarked starts.old.words.items start slab on starts.new.words.items }
-    ensures some_size { length starts.new.some.items ≡ 65 }
-    ensures summary { IsSummary starts.new.words.items starts.new.some.items }
+    ensures rows { HasRows starts.new.words.items starts.new.some.items }
 {
     if !is_sparse(slab) {
         return;
@@ -53,12 +49,9 @@ pub(crate) fn mark_anew(starts: &mut Summed, start: u32, was: CalmSlab, slab: Ca
     requires start { start < 4096 }
     requires was_class { was.class < 36 }
     requires class { slab.class < 36 }
-    requires starts_size { length starts.old.words.items ≡ 4160 }
-    requires some_size { length starts.old.some.items ≡ 65 }
-    requires summary { IsSummary starts.old.words.items starts.old.some.items }
+    requires rows { HasRows starts.old.words.items starts.old.some.items }
     ensures starts { IsMarkedAnew starts.old.words.items start was slab starts.new.words.items }
-    ensures some_size { length starts.new.some.items ≡ 65 }
-    ensures summary { IsSummary starts.new.words.items starts.new.some.items }
+    ensures rows { HasRows starts.new.words.items starts.new.some.items }
 {
     mark_sparse(starts, start, was, false);
     mark_sparse(starts, start, slab, true);
@@ -76,9 +69,7 @@ fn in_word(
     requires class { class < 36 }
     requires live { live < 65 }
     requires at { at < 64 }
-    requires starts_size { length starts.now.words.items ≡ 4160 }
-    requires some_size { length starts.now.some.items ≡ 65 }
-    requires summary { IsSummary starts.now.words.items starts.now.some.items }
+    requires rows { HasRows starts.now.words.items starts.now.some.items }
     requires classes_size { length classes.now ≡ 2304 }
     ensures { MatchOption result (HasNoneInWord starts.now.words.items classes.now class live at from) (IsFirstInWord starts.now.words.items classes.now class live at from) }
 {
@@ -104,10 +95,8 @@ pub(crate) fn in_row(
 ) -> Option<u32>
     requires class { class < 36 }
     requires live { live < 65 }
-    requires starts_size { length starts.now.words.items ≡ 4160 }
-    requires some_size { length starts.now.some.items ≡ 65 }
+    requires rows { HasRows starts.now.words.items starts.now.some.items }
     requires classes_size { length classes.now ≡ 2304 }
-    requires summary { IsSummary starts.now.words.items starts.now.some.items }
     ensures { MatchOption result (HasNoneInRow starts.now.words.items classes.now class live from) (IsFirstInRow starts.now.words.items classes.now class live from) }
 {
     if starts.some[live as usize] == 0 {

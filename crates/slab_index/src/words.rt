@@ -1,7 +1,7 @@
 // The words of an index: of its blocks, and of the sets that it keeps beside them.
 ghost use Rattle.std.specs.Prelude.{◌≡◌, ◌+◌, ◌*◌, ◌/◌, ◌%◌, ◌<◌, ◌≤◌, min, nat_lt, length, slice_index, slice_set, replicate, MatchOption, IfOk};
 ghost use Rattle.bit_words.specs.Numbers.{IsPut, IsFilled, ones};
-ghost use Rattle.slab_index.specs.Kept.{IsTakenFrom, IsSummary, IsLeastAt, HasPlaceFor};
+ghost use Rattle.slab_index.specs.Kept.{IsTakenFrom, IsSummary, IsLeastAt, HasPlaceFor, IsSummedUp};
 
 use bit_words::{fill, least_of, ones, put};
 use pmem_lines::OutOfMemory;
@@ -117,10 +117,7 @@ fn take_numbers(set: &mut [u64], at: u32, word: u64)
 pub(crate) fn summarize(blocks: &mut Summed, starts: &mut Summed, class: u8, at: u32)
     requires { HasPlaceFor blocks.old.words.items blocks.old.some.items starts.old.words.items starts.old.some.items class at }
     ensures words { blocks.new.words ≡ blocks.old.words }
-    ensures some { IsPut blocks.old.some.items at (nat_lt 0 (slice_index blocks.old.words.items at)) blocks.new.some.items }
-    ensures starts { IsPut starts.old.words.items (4096 * class + at / 64) (nat_lt 0 (slice_index blocks.new.some.items (at / 64))) starts.new.words.items }
-    ensures some_size { length starts.new.some.items ≡ length starts.old.some.items }
-    ensures summary { IsSummary starts.new.words.items starts.new.some.items }
+    ensures sums { IsSummedUp blocks.old.words.items blocks.old.some.items starts.old.words.items starts.old.some.items class at blocks.new.some.items starts.new.words.items starts.new.some.items }
 {
     let start = at / 64;
     put(&mut blocks.some, at, blocks.words[at as usize] != 0);

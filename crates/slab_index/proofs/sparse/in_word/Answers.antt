@@ -8,13 +8,13 @@ use Rattle.slab_index.proofs.Others.{left_of, none_in_clear_word, none_in_word, 
 use Rattle.slab_index.proofs.sparse.in_word.Goals as goal
 
 pub returns-then-not-has : goal.returns-then-not-has
-returns-then-not-has c = none_in_clear_word c.args.classes.now c.args.class c.args.live c.args.at c.args.from c.requires.summary (rw c.deref.ensures.value at (sym c.if-not-has.ensures)) c.requires.at
+returns-then-not-has c = none_in_clear_word c.args.classes.now c.args.class c.args.live c.args.at c.args.from c.requires.rows.summary (rw c.deref.ensures.value at (sym c.if-not-has.ensures)) c.requires.at
 
 pub returns-then-word-eq0 : goal.returns-then-word-eq0
 returns-then-word-eq0 c =
     let a = c.args in
     let here = c.index-here.result.now in
-    let here_is : here ≡ get_or a.starts.now.words.items (64 * a.live + a.at) 0 = word_read _ _ (64 * a.live + a.at) here refl (omega (arith, c.requires.starts_size)) c.index-here.ensures in
+    let here_is : here ≡ get_or a.starts.now.words.items (64 * a.live + a.at) 0 = word_read _ _ (64 * a.live + a.at) here refl (omega (arith, c.requires.rows.size)) c.index-here.ensures in
     let own_fits : get_or a.classes.now (64 * a.class + a.at) 0 < 2 ^ 64 = omega (arith, c.type_inv.classes (64 * a.class + a.at)) in
     none_in_word a.starts.now.words.items a.classes.now a.class a.live a.at a.from own_fits (left_of here (get_or a.classes.now (64 * c.from.result + a.at) 0) c.ones.result)
     (ap (λ class. left_of here (get_or a.classes.now (64 * class + a.at) 0) c.ones.result) c.from.ensures ∙ ap (left_of here (get_or a.classes.now (64 * a.class + a.at) 0)) (c.ones.ensures ∙ ap ones c.saturating_sub.ensures) ∙ ap (λ h. left_of h (get_or a.classes.now (64 * a.class + a.at) 0) (ones (a.from - 64 * a.at))) here_is)
@@ -24,7 +24,7 @@ pub returns : goal.returns
 returns c =
     let a = c.args in
     let here = c.index-here.result.now in
-    let here_is : here ≡ get_or a.starts.now.words.items (64 * a.live + a.at) 0 = word_read _ _ (64 * a.live + a.at) here refl (omega (arith, c.requires.starts_size)) c.index-here.ensures in
+    let here_is : here ≡ get_or a.starts.now.words.items (64 * a.live + a.at) 0 = word_read _ _ (64 * a.live + a.at) here refl (omega (arith, c.requires.rows.size)) c.index-here.ensures in
     let own = get_or a.classes.now (64 * c.from.result + a.at) 0 in
     let word = left_of here own c.ones.result in
     let own_fits : get_or a.classes.now (64 * a.class + a.at) 0 < 2 ^ 64 = omega (arith, c.type_inv.classes (64 * a.class + a.at)) in

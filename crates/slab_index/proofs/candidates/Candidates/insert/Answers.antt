@@ -20,8 +20,7 @@ invariant_of-self c =
     (calm_of_list c.self.view_is start ∙ c.requires.fresh)
     c.requires.class
     marked
-    c.mark_sparse.ensures.some_size
-    c.mark_sparse.ensures.summary
+    c.mark_sparse.ensures.rows
     put)
 
 pub returns-clause-calm : goal.returns-clause-calm

@@ -16,8 +16,7 @@ invariant_of-self c =
     refl
     c.requires.class
     marked
-    c.mark_anew.ensures.some_size
-    c.mark_anew.ensures.summary
+    c.mark_anew.ensures.rows
 
 pub returns-clause-calm : goal.returns-clause-calm
 returns-clause-calm c =

@@ -19,8 +19,7 @@ invariant_of-self c =
     (AreKept-left c.mark_sparse.new.starts.words.items c.mark_sparse.new.starts.some.items c.mark_class.new.classes start c.in-Some.slab c.self.invariant inside
     (calm_of_list c.self.view_is start ∙ sym c.in-Some.ensures.slab)
     marked
-    c.mark_sparse.ensures.some_size
-    c.mark_sparse.ensures.summary
+    c.mark_sparse.ensures.rows
     put)
 
 pub returns-in-Some-clause-calm : goal.returns-in-Some-clause-calm

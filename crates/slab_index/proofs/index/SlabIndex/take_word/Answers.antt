@@ -31,10 +31,7 @@ invariant_of-self c =
     taken.others
     (taken.fits index.fits)
     (λ k is. index.below k (had_taken taken k is))
-    (rw c.take.ensures.some at c.summarize.ensures.some)
-    c.summarize.ensures.starts
-    c.summarize.ensures.some_size
-    c.summarize.ensures.summary)
+    (rw c.take.ensures.some at c.summarize.ensures.sums))
 
 pub returns-in-Some-clause-classes : goal.returns-in-Some-clause-classes
 returns-in-Some-clause-classes c = λ s. class_of_list {granules = c.self.inside.granules} {classes = c.self.inside.classes.items} {blocks = c.summarize.new.blocks.words.items} refl s ∙ sym (class_of_list c.self.view_is s)

@@ -32,10 +32,7 @@ invariant_of-self c =
     (λ j apart. put.others j (λ e. apart (omega (arith, e, below, index.few start))))
     (put.fits index.fits)
     (below_put s.classes.items start number below (omega (arith, below, index.few start)) index.below put)
-    (rw c.put.ensures.some at c.summarize.ensures.some)
-    c.summarize.ensures.starts
-    c.summarize.ensures.some_size
-    c.summarize.ensures.summary)
+    (rw c.put.ensures.some at c.summarize.ensures.sums))
 
 pub returns-in-Some-clause-classes : goal.returns-in-Some-clause-classes
 returns-in-Some-clause-classes c = λ s. class_of_list {granules = c.self.inside.granules} {classes = c.self.inside.classes.items} {blocks = c.summarize.new.blocks.words.items} refl s ∙ sym (class_of_list c.self.view_is s)
