@@ -68,24 +68,30 @@ some_by_word word kept is = ⊎_elim
     (λ (more : word ≢ 0). ap not (ne_eqb word 0 more) ∙ sym (lt-ltb 0 kept (omega arith)))
     (cases_eq word 0)
 
--- an index has a place for a word of its blocks
-pub has_place : {granules : ℕ} {classes : List (Option ℕ)} {blocks some starts some_starts turned : List ℕ} {class at : ℕ} → IsIndex granules classes blocks some starts some_starts → length turned ≡ length blocks → at / 64 < granules → class < 36 →
+-- a word of blocks is one of a slab of the class
+pub record IsWordOf (granules : ℕ) (classes : List (Option ℕ)) (class at : ℕ) : Type 0 where
+  pub slab : get_or classes (at / 64) None ≡ Some class
+  pub inside : at / 64 < granules
+  pub known : class < 36
+
+-- an index has a place for such a word
+pub has_place : {granules : ℕ} {classes : List (Option ℕ)} {blocks some starts some_starts turned : List ℕ} {class at : ℕ} → IsIndex granules classes blocks some starts some_starts → length turned ≡ length blocks → IsWordOf granules classes class at →
     HasPlaceFor turned some starts some_starts class at
-has_place index size inside known = record {
-  block = omega (arith, size, index.blocks_size);
-  slab = omega (arith, index.some_size);
-  start = omega (arith, index.most, index.starts_size);
-  some_start = omega (arith, index.most, index.some_starts_size);
+has_place index size word = record {
+  block = omega (arith, size, word.inside, index.blocks_size);
+  slab = omega (arith, word.inside, index.some_size);
+  start = omega (arith, word.inside, word.known, index.most, index.starts_size);
+  some_start = omega (arith, word.inside, word.known, index.most, index.some_starts_size);
   summary = index.summary;
 }
 
 -- an index after one word of its blocks changed
 pub IsIndex-turned : {granules : ℕ} {classes : List (Option ℕ)} {blocks some starts some_starts : List ℕ} (turned some' starts' some_starts' : List ℕ) (i class : ℕ) →
-    IsIndex granules classes blocks some starts some_starts → get_or classes (i / 64) None ≡ Some class → i / 64 < granules → length turned ≡ length blocks →
+    IsIndex granules classes blocks some starts some_starts → IsWordOf granules classes class i → length turned ≡ length blocks →
     ((j : ℕ) → j ≢ i → get_or turned j 0 ≡ get_or blocks j 0) → ((j : ℕ) → get_or turned j 0 < 2 ^ 64) → ((k : ℕ) → has turned k ≡ true → k % 4096 < capacity_at classes (k / 4096)) →
     IsSummedUp turned some starts some_starts class i some' starts' some_starts' →
     IsIndex granules classes turned some' starts' some_starts'
-IsIndex-turned {granules} {classes} {blocks} {some} {starts} {some_starts} turned some' starts' some_starts' i class index slab inside size others fits below sums = record {
+IsIndex-turned {granules} {classes} {blocks} {some} {starts} {some_starts} turned some' starts' some_starts' i class index word size others fits below sums = record {
   least = index.least;
   most = index.most;
   classes_size = index.classes_size;
@@ -101,11 +107,11 @@ IsIndex-turned {granules} {classes} {blocks} {some} {starts} {some_starts} turne
   some_is = told_after (λ j. ltb 0 (get_or blocks j 0)) (λ j. ltb 0 (get_or turned j 0)) sums.word index.some_is refl (λ j apart. ap (ltb 0) (sym (others j apart)));
   starts_is = told_after (has_block classes some) (has_block classes some') sums.start index.starts_is
       (ap (λ b. b && ltb 0 (get_or some' (i / 64) 0)) (sym (eq-eqb class class refl))
-      ∙ sym (start_here classes some' (i / 64) class (Some class) (omega (arith, index.most)) slab))
+      ∙ sym (start_here classes some' (i / 64) class (Some class) (omega (arith, word.inside, index.most)) word.slab))
       (λ j apart. starts_beside classes classes some some' (i / 64) class j (λ other differ. refl)
       (λ other differ. sums.word.others other (λ e. differ (omega (arith, e))))
-      (HasOnly-some (get_or classes (i / 64) None) class slab)
-      (HasOnly-some (get_or classes (i / 64) None) class slab)
+      (HasOnly-some (get_or classes (i / 64) None) class word.slab)
+      (HasOnly-some (get_or classes (i / 64) None) class word.slab)
       apart);
 }
 
