@@ -101,7 +101,7 @@ module _ (words : List ℕ) (header : PoolHeader) where
 
     -- without its text the header is refused
     refused : (image : List ℕ) → length image ≡ length words → word_at image text_word ≡ 0 → IsFormattedOrNot image
-    refused image same none = inl (inr (inl (omega (arith, same, long), (λ is. text_some (sym is ∙ none)), ap (BadHeader 0) (sym none))))
+    refused image same none = inl (inr (inl (omega (arith, same, long), ((λ is. text_some (sym is ∙ none)), ap (BadHeader 0) (sym none)))))
 
     done : (k : ℕ) → IsFormattedOrNot (reading written (take k (Flush 0 ∷ Fence ∷ [])))
     done zero = inr (law_of_formatted written header IsFormatted-written)

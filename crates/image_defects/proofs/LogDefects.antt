@@ -16,7 +16,7 @@ use Rattle.image_defects.proofs.LeastNumbers.{least_once}
 pub header_bad : (words : List ℕ) (d : Defect) → IsHeaderDefect words d → ¬ (IsHeader words (header_in words))
 header_bad words d is header = ⊎_elim
     (λ short. omega (arith, short.0, header.whole))
-    (λ rest. ⊎_elim (λ text. text.1 header.text) (λ fields. fields.2 (header_in words) header.word header.valid) rest)
+    (λ rest. ⊎_elim (λ text. text.1.0 header.text) (λ fields. fields.2 (header_in words) header.word header.valid) rest)
     is
 
 pub header_once : (words : List ℕ) (d e : Defect) → IsHeaderDefect words d → IsHeaderDefect words e → d ≡ e
@@ -28,11 +28,11 @@ header_once words d e is also = ⊎_elim
     (λ rest. ⊎_elim
     (λ text. ⊎_elim
     (λ short. absurd (omega (arith, short.0, text.0)))
-    (λ more. ⊎_elim (λ other. text.2 ∙ sym other.2) (λ fields. absurd (text.1 fields.1)) more)
+    (λ more. ⊎_elim (λ other. text.1.1 ∙ sym other.1.1) (λ fields. absurd (text.1.0 fields.1)) more)
     also)
     (λ fields. ⊎_elim
     (λ short. absurd (omega (arith, short.0, fields.0)))
-    (λ more. ⊎_elim (λ text. absurd (text.1 fields.1)) (λ other. fields.3 ∙ sym other.3) more)
+    (λ more. ⊎_elim (λ text. absurd (text.1.0 fields.1)) (λ other. fields.3 ∙ sym other.3) more)
     also)
     rest)
     is
