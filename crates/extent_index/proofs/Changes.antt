@@ -5,7 +5,7 @@ use Rattle.std.proofs.lemmas.List.{get_or-set_same, get_or-set_other, length-set
 use Rattle.bit_words.specs.Numbers.{has, IsPut, HasNoneIn}
 use Rattle.bit_words.proofs.Bits.{put_here, put_beside, get_or-zeros, has-zeros}
 use Rattle.extent_index.specs.FreeSet.{FreeSet, IsFree}
-use Rattle.extent_index.specs.Runs.{words_of, run_number, set_of, IsIndex, IsRoomFor}
+use Rattle.extent_index.specs.Runs.{words_of, run_number, set_of, HaveSizes, IsIndex, IsRoomFor}
 use Rattle.extent_index.proofs.Members.{AreRuns, run_of, free_by, in_run, free_in, granules_of}
 use Rattle.extent_index.proofs.Numbers.{enough_words, same_run}
 
@@ -96,6 +96,16 @@ pub record IsClear (granules : ℕ) (length_at : List ℕ) (s n : ℕ) : Type 0 
   pub none : get_or length_at s 0 ≡ 0
   pub apart : (t : ℕ) → 0 < get_or length_at t 0 → (t + get_or length_at t 0 < s) ⊎ (s + n < t)
 
+-- the tables stay as long
+sizes_after : {granules k s e n v w : ℕ} {on left : Bool} {starts lengths length_at start_at starts' lengths' length_at' start_at' : List ℕ} → HaveSizes granules starts lengths length_at start_at →
+    IsPut starts k on starts' → IsReplaced length_at s v length_at' → IsReplaced start_at e w start_at' → IsPut lengths n left lengths' → HaveSizes granules starts' lengths' length_at' start_at'
+sizes_after sizes put replaced ended put_length = record {
+  starts_size = put.size ∙ sizes.starts_size;
+  lengths_size = put_length.size ∙ sizes.lengths_size;
+  length_at_size = replaced.size ∙ sizes.length_at_size;
+  start_at_size = ended.size ∙ sizes.start_at_size;
+}
+
 -- an index after a run was taken out
 pub IsIndex-removed : {granules s n : ℕ} {left : Bool} {starts lengths length_at start_at : List ℕ} (starts' lengths' length_at' start_at' : List ℕ) →
     IsIndex granules starts lengths length_at start_at → 0 < n → get_or length_at s 0 ≡ n →
@@ -114,10 +124,7 @@ IsIndex-removed {granules} {s} {n} {left} {starts} {lengths} {length_at} {start_
     record {
       least = index.least;
       most = index.most;
-      starts_size = put.size ∙ index.starts_size;
-      lengths_size = put_length.size ∙ index.lengths_size;
-      length_at_size = replaced.size ∙ index.length_at_size;
-      start_at_size = ended.size ∙ index.start_at_size;
+      sizes = sizes_after index.sizes put replaced ended put_length;
       low = λ t more. index.low t (same t more);
       high = λ t more. omega (arith, left_of replaced t more, index.high t (same t more));
       apart = λ t u lower more more'. omega (arith, left_of replaced t more, index.apart t u lower (same t more) (same u more'));
@@ -184,10 +191,7 @@ IsIndex-inserted {granules} {s} {n} {starts} {lengths} {length_at} {start_at} st
     record {
       least = index.least;
       most = index.most;
-      starts_size = put.size ∙ index.starts_size;
-      lengths_size = put_length.size ∙ index.lengths_size;
-      length_at_size = replaced.size ∙ index.length_at_size;
-      start_at_size = ended.size ∙ index.start_at_size;
+      sizes = sizes_after index.sizes put replaced ended put_length;
       low = λ t more. ⊎_elim
           (λ (at : (t ≡ s) × (get_or length_at' t 0 ≡ n)). omega (arith, at, clear.low))
           (λ (was : (t ≢ s) × (get_or length_at' t 0 ≡ get_or length_at t 0)). index.low t (omega (arith, was)))
@@ -322,10 +326,12 @@ IsIndex-full granules least most =
     record {
       least = least;
       most = most;
-      starts_size = length-replicate {A = ℕ} (words_of granules * granules) 0;
-      lengths_size = length-replicate {A = ℕ} (words_of granules) 0;
-      length_at_size = length-replicate {A = ℕ} granules 0;
-      start_at_size = length-replicate {A = ℕ} granules 0;
+      sizes = record {
+        starts_size = length-replicate {A = ℕ} (words_of granules * granules) 0;
+        lengths_size = length-replicate {A = ℕ} (words_of granules) 0;
+        length_at_size = length-replicate {A = ℕ} granules 0;
+        start_at_size = length-replicate {A = ℕ} granules 0;
+      };
       low = λ s more. absurd (omega (arith, zeros s));
       high = λ s more. absurd (omega (arith, zeros s));
       apart = λ s t lower more more'. absurd (omega (arith, zeros s));

@@ -31,15 +31,19 @@ words_of granules = (granules + 63) / 64
 abbrev pub run_number : ℕ → ℕ → ℕ → ℕ
 run_number granules run_length start = 64 * (words_of granules * run_length) + start
 
+-- the tables are as long as an arena of so many granules needs
+pub record HaveSizes (granules : ℕ) (starts lengths length_at start_at : List ℕ) : Type 0 where
+  pub starts_size : length starts ≡ words_of granules * granules
+  pub lengths_size : length lengths ≡ words_of granules
+  pub length_at_size : length length_at ≡ granules
+  pub start_at_size : length start_at ≡ granules
+
 -- what an index keeps: at the first granule of each free run its length and at its last granule its first, and 0 elsewhere;
 -- for each length the first granules of the runs that have it; and the lengths that a run has
 pub record IsIndex (granules : ℕ) (starts lengths length_at start_at : List ℕ) : Type 0 where
   pub least : 16 ≤ granules
   pub most : granules ≤ 4096
-  pub starts_size : length starts ≡ words_of granules * granules
-  pub lengths_size : length lengths ≡ words_of granules
-  pub length_at_size : length length_at ≡ granules
-  pub start_at_size : length start_at ≡ granules
+  pub sizes : HaveSizes granules starts lengths length_at start_at
   pub low : (s : ℕ) → 0 < slice_index length_at s → 4 ≤ s
   pub high : (s : ℕ) → 0 < slice_index length_at s → s + slice_index length_at s ≤ granules
   pub apart : (s t : ℕ) → s < t → 0 < slice_index length_at s → 0 < slice_index length_at t → s + slice_index length_at s < t

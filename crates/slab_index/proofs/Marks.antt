@@ -7,8 +7,7 @@ use Rattle.bit_words.specs.Numbers.{has, IsPut}
 use Rattle.bit_words.proofs.Bits.{has-zeros, get_or-zeros}
 use Rattle.slab_index.specs.declared.candidates.CalmSlab.{CalmSlab}
 use Rattle.slab_index.specs.Candidates.{calm_in}
-use Rattle.slab_index.specs.Kept.{IsSummary}
-use Rattle.slab_index.specs.Sparse.{is_sparse, has_live, has_class, AreKept, IsMarked, IsMarkedAnew}
+use Rattle.slab_index.specs.Sparse.{is_sparse, has_live, has_class, HasRows, AreKept, IsMarked, IsMarkedAnew}
 
 -- the calm slabs after one was replaced
 pub calm_after : (calm : List (Option CalmSlab)) (start : ℕ) (slab : Option CalmSlab) → start < length calm → (s : ℕ) → calm_in (set calm start slab) s ≡ cond (eqb s start) slab (calm_in calm s)
@@ -60,25 +59,23 @@ and_true false = refl
 -- what is kept, after the sets were marked for a slab that was replaced
 pub AreKept-changed : {calm : List (Option CalmSlab)} {starts some classes : List ℕ} (starts' some' classes' : List ℕ) (start : ℕ) (slab : CalmSlab) (on : Bool) (was now : Option CalmSlab) →
     AreKept calm starts some classes → start < length calm → get_or calm start None ≡ was →
-    IsMarked starts start slab on starts' → length some' ≡ 65 → IsSummary starts' some' → IsPut classes (4096 * slab.class + start) on classes' →
+    IsMarked starts start slab on starts' → HasRows starts' some' → IsPut classes (4096 * slab.class + start) on classes' →
     ((n : ℕ) → has_live now n ≡ cond (eqb n slab.live && is_sparse slab) on (has_live was n)) → ((n : ℕ) → has_class now n ≡ cond (eqb n slab.class) on (has_class was n)) →
     ((other : CalmSlab) → now ≡ Some other → other.class < 36) → AreKept (set calm start now) starts' some' classes'
-AreKept-changed {calm} {starts} {some} {classes} starts' some' classes' start slab on was now kept inside was_is marked some_size summary put live_is class_is known =
+AreKept-changed {calm} {starts} {some} {classes} starts' some' classes' start slab on was now kept inside was_is marked rows put live_is class_is known =
     let small : start < 4096 = omega (arith, inside, kept.few) in
     let later = set calm start now in
     let here : get_or later start None ≡ now = get_or-set_same calm start now None inside in
     let others : (other : ℕ) → other ≢ start → get_or later other None ≡ get_or calm other None = λ other apart. get_or-set_other calm start other now None apart in
     record {
       few = omega (arith, kept.few, length-set calm start now);
-      starts_size = marked.size ∙ kept.starts_size;
-      some_size = some_size;
+      rows = rows;
       classes_size = put.size ∙ kept.classes_size;
       known = λ s other is. ⊎_elim
           (λ (same : s ≡ start). known other (sym here ∙ ap (λ t. get_or later t None) (sym same) ∙ is))
           (λ (apart : s ≢ start). kept.known s other (sym (others s apart) ∙ is))
           (cases_eq s start);
       starts_are = told_marked has_live calm later starts starts' start slab.live (is_sparse slab) on was now small kept.starts_are marked.each was_is here others live_is;
-      summary = summary;
       classes_are = told_marked has_class calm later classes classes' start slab.class true on was now small kept.classes_are
           (λ k. put.each k ∙ ap (λ b. cond b on (has classes k)) (sym (and_true (eqb k (4096 * slab.class + start)))))
           was_is
@@ -97,9 +94,9 @@ comes false = refl
 
 -- after it went
 pub AreKept-left : {calm : List (Option CalmSlab)} {starts some classes : List ℕ} (starts' some' classes' : List ℕ) (start : ℕ) (slab : CalmSlab) → AreKept calm starts some classes → start < length calm → get_or calm start None ≡ Some slab →
-    IsMarked starts start slab false starts' → length some' ≡ 65 → IsSummary starts' some' → IsPut classes (4096 * slab.class + start) false classes' → AreKept (set calm start None) starts' some' classes'
-AreKept-left starts' some' classes' start slab kept inside was marked some_size summary put =
-    AreKept-changed starts' some' classes' start slab false (Some slab) None kept inside was marked some_size summary put
+    IsMarked starts start slab false starts' → HasRows starts' some' → IsPut classes (4096 * slab.class + start) false classes' → AreKept (set calm start None) starts' some' classes'
+AreKept-left starts' some' classes' start slab kept inside was marked rows put =
+    AreKept-changed starts' some' classes' start slab false (Some slab) None kept inside was marked rows put
     (λ n. leaves (eqb n slab.live && is_sparse slab))
     (λ n. leaves (eqb n slab.class))
     (λ other e. absurd (none-some other e))
@@ -113,9 +110,9 @@ same_Some slab other e = ap class_of e
 
 -- after it came
 pub AreKept-come : {calm : List (Option CalmSlab)} {starts some classes : List ℕ} (starts' some' classes' : List ℕ) (start : ℕ) (slab : CalmSlab) → AreKept calm starts some classes → start < length calm → get_or calm start None ≡ None → slab.class < 36 →
-    IsMarked starts start slab true starts' → length some' ≡ 65 → IsSummary starts' some' → IsPut classes (4096 * slab.class + start) true classes' → AreKept (set calm start (Some slab)) starts' some' classes'
-AreKept-come starts' some' classes' start slab kept inside was known marked some_size summary put =
-    AreKept-changed starts' some' classes' start slab true None (Some slab) kept inside was marked some_size summary put
+    IsMarked starts start slab true starts' → HasRows starts' some' → IsPut classes (4096 * slab.class + start) true classes' → AreKept (set calm start (Some slab)) starts' some' classes'
+AreKept-come starts' some' classes' start slab kept inside was known marked rows put =
+    AreKept-changed starts' some' classes' start slab true None (Some slab) kept inside was marked rows put
     (λ n. comes (eqb n slab.live && is_sparse slab))
     (λ n. comes (eqb n slab.class))
     (λ other e. omega (arith, same_Some slab other e, known))
@@ -126,8 +123,8 @@ same_class was slab same n = ap (eqb n) (sym same)
 
 -- after its live blocks were counted anew: its start went from the set of the one number to that of the other
 pub AreKept-recounted : {calm : List (Option CalmSlab)} {starts some classes : List ℕ} (starts' some' : List ℕ) (start : ℕ) (was slab : CalmSlab) → AreKept calm starts some classes → start < length calm → get_or calm start None ≡ Some was →
-    slab.class ≡ was.class → slab.class < 36 → IsMarkedAnew starts start was slab starts' → length some' ≡ 65 → IsSummary starts' some' → AreKept (set calm start (Some slab)) starts' some' classes
-AreKept-recounted {calm} {starts} {some} {classes} starts' some' start was slab kept inside was_is same known marked some_size summary =
+    slab.class ≡ was.class → slab.class < 36 → IsMarkedAnew starts start was slab starts' → HasRows starts' some' → AreKept (set calm start (Some slab)) starts' some' classes
+AreKept-recounted {calm} {starts} {some} {classes} starts' some' start was slab kept inside was_is same known marked rows =
     let mid = marked.mid in
     let small : start < 4096 = omega (arith, inside, kept.few) in
     let none : List (Option CalmSlab) = set calm start None in
@@ -140,8 +137,7 @@ AreKept-recounted {calm} {starts} {some} {classes} starts' some' start was slab 
     (λ n. leaves (eqb n was.live && is_sparse was)) in
     record {
       few = omega (arith, kept.few, length-set calm start (Some slab));
-      starts_size = marked.back.size ∙ marked.out.size ∙ kept.starts_size;
-      some_size = some_size;
+      rows = rows;
       classes_size = kept.classes_size;
       known = λ s other is. ⊎_elim
           (λ (at : s ≡ start). omega (arith, same_Some slab other (sym here ∙ ap (λ t. get_or later t None) (sym at) ∙ is), known))
@@ -150,7 +146,6 @@ AreKept-recounted {calm} {starts} {some} {classes} starts' some' start was slab 
       starts_are = told_marked has_live none later mid starts' start slab.live (is_sparse slab) true None (Some slab) small told marked.back.each none_here here
           (λ other apart. others other apart ∙ sym (none_others other apart))
           (λ n. comes (eqb n slab.live && is_sparse slab));
-      summary = summary;
       classes_are = λ k. ⊎_elim
           (λ (at : k % 4096 ≡ start).
           kept.classes_are k
@@ -174,12 +169,14 @@ get_or-nones n i = ⊎_elim
 pub AreKept-fresh : (granules : ℕ) → granules ≤ 4096 → AreKept (replicate granules None) (replicate 4160 0) (replicate 65 0) (replicate 2304 0)
 AreKept-fresh granules few = record {
   few = omega (arith, few, length-replicate {A = Option CalmSlab} granules None);
-  starts_size = length-replicate {A = ℕ} 4160 0;
-  some_size = length-replicate {A = ℕ} 65 0;
+  rows = record {
+    size = length-replicate {A = ℕ} 4160 0;
+    some_size = length-replicate {A = ℕ} 65 0;
+    summary = record { is = λ i. has-zeros 65 i ∙ sym (ap (ltb 0) (get_or-zeros 4160 i)) };
+  };
   classes_size = length-replicate {A = ℕ} 2304 0;
   known = λ s slab is. absurd (none-some slab (sym (get_or-nones granules s) ∙ is));
   starts_are = λ k. has-zeros 4160 k ∙ sym (ap (λ slab. has_live slab (k / 4096)) (get_or-nones granules (k % 4096)));
-  summary = record { is = λ i. has-zeros 65 i ∙ sym (ap (ltb 0) (get_or-zeros 4160 i)) };
   classes_are = λ k. has-zeros 2304 k ∙ sym (ap (λ slab. has_class slab (k / 4096)) (get_or-nones granules (k % 4096)));
 }
 

@@ -3,7 +3,7 @@ use Rattle.std.proofs.Common.{◌≡◌, ◌≢◌, ℕ, ◌+◌, ◌*◌, ◌/�
 use Rattle.std.proofs.lemmas.Bool.{cases_eq, eq-eqb, ne_eqb, lt-ltb, le-ltb, ltb-true, cond-true, cond-false, and_left}
 use Rattle.std.proofs.lemmas.List.{get_or_read, get_or-set_same, get_or-set_other, length-set}
 use Rattle.bit_words.specs.Numbers.{has, ones, IsPut, IsFilled}
-use Rattle.slab_index.specs.Kept.{capacity_or_none, capacity_at, is_class, has_block, IsSummary, IsIndex}
+use Rattle.slab_index.specs.Kept.{capacity_or_none, capacity_at, is_class, has_block, IsSummary, IsIndex, HasPlaceFor, IsSummedUp}
 use Rattle.bit_words.proofs.Bits.{put_beside, told_after}
 use Rattle.bit_words.proofs.Fills.{fits_filled, has_filled, some_filled}
 
@@ -68,33 +68,50 @@ some_by_word word kept is = ⊎_elim
     (λ (more : word ≢ 0). ap not (ne_eqb word 0 more) ∙ sym (lt-ltb 0 kept (omega arith)))
     (cases_eq word 0)
 
+-- a word of blocks is one of a slab of the class
+pub record IsWordOf (granules : ℕ) (classes : List (Option ℕ)) (class at : ℕ) : Type 0 where
+  pub slab : get_or classes (at / 64) None ≡ Some class
+  pub inside : at / 64 < granules
+  pub known : class < 36
+
+-- an index has a place for such a word
+pub has_place : {granules : ℕ} {classes : List (Option ℕ)} {blocks some starts some_starts turned : List ℕ} {class at : ℕ} → IsIndex granules classes blocks some starts some_starts → length turned ≡ length blocks → IsWordOf granules classes class at →
+    HasPlaceFor turned some starts some_starts class at
+has_place index size word = record {
+  block = omega (arith, size, word.inside, index.blocks_size);
+  slab = omega (arith, word.inside, index.some_size);
+  start = omega (arith, word.inside, word.known, index.most, index.starts_size);
+  some_start = omega (arith, word.inside, word.known, index.most, index.some_starts_size);
+  summary = index.summary;
+}
+
 -- an index after one word of its blocks changed
 pub IsIndex-turned : {granules : ℕ} {classes : List (Option ℕ)} {blocks some starts some_starts : List ℕ} (turned some' starts' some_starts' : List ℕ) (i class : ℕ) →
-    IsIndex granules classes blocks some starts some_starts → get_or classes (i / 64) None ≡ Some class → i / 64 < granules → length turned ≡ length blocks →
+    IsIndex granules classes blocks some starts some_starts → IsWordOf granules classes class i → length turned ≡ length blocks →
     ((j : ℕ) → j ≢ i → get_or turned j 0 ≡ get_or blocks j 0) → ((j : ℕ) → get_or turned j 0 < 2 ^ 64) → ((k : ℕ) → has turned k ≡ true → k % 4096 < capacity_at classes (k / 4096)) →
-    IsPut some i (ltb 0 (get_or turned i 0)) some' → IsPut starts (4096 * class + i / 64) (ltb 0 (get_or some' (i / 64) 0)) starts' → length some_starts' ≡ length some_starts → IsSummary starts' some_starts' →
+    IsSummedUp turned some starts some_starts class i some' starts' some_starts' →
     IsIndex granules classes turned some' starts' some_starts'
-IsIndex-turned {granules} {classes} {blocks} {some} {starts} {some_starts} turned some' starts' some_starts' i class index slab inside size others fits below put_some put_start some_size summary = record {
+IsIndex-turned {granules} {classes} {blocks} {some} {starts} {some_starts} turned some' starts' some_starts' i class index word size others fits below sums = record {
   least = index.least;
   most = index.most;
   classes_size = index.classes_size;
   blocks_size = size ∙ index.blocks_size;
-  some_size = put_some.size ∙ index.some_size;
-  starts_size = put_start.size ∙ index.starts_size;
-  some_starts_size = some_size ∙ index.some_starts_size;
-  summary = summary;
+  some_size = sums.word.size ∙ index.some_size;
+  starts_size = sums.start.size ∙ index.starts_size;
+  some_starts_size = sums.some_size ∙ index.some_starts_size;
+  summary = sums.summary;
   known = index.known;
   fits = fits;
   few = index.few;
   below = below;
-  some_is = told_after (λ j. ltb 0 (get_or blocks j 0)) (λ j. ltb 0 (get_or turned j 0)) put_some index.some_is refl (λ j apart. ap (ltb 0) (sym (others j apart)));
-  starts_is = told_after (has_block classes some) (has_block classes some') put_start index.starts_is
+  some_is = told_after (λ j. ltb 0 (get_or blocks j 0)) (λ j. ltb 0 (get_or turned j 0)) sums.word index.some_is refl (λ j apart. ap (ltb 0) (sym (others j apart)));
+  starts_is = told_after (has_block classes some) (has_block classes some') sums.start index.starts_is
       (ap (λ b. b && ltb 0 (get_or some' (i / 64) 0)) (sym (eq-eqb class class refl))
-      ∙ sym (start_here classes some' (i / 64) class (Some class) (omega (arith, index.most)) slab))
+      ∙ sym (start_here classes some' (i / 64) class (Some class) (omega (arith, word.inside, index.most)) word.slab))
       (λ j apart. starts_beside classes classes some some' (i / 64) class j (λ other differ. refl)
-      (λ other differ. put_some.others other (λ e. differ (omega (arith, e))))
-      (HasOnly-some (get_or classes (i / 64) None) class slab)
-      (HasOnly-some (get_or classes (i / 64) None) class slab)
+      (λ other differ. sums.word.others other (λ e. differ (omega (arith, e))))
+      (HasOnly-some (get_or classes (i / 64) None) class word.slab)
+      (HasOnly-some (get_or classes (i / 64) None) class word.slab)
       apart);
 }
 

@@ -7,7 +7,7 @@ use Rattle.bit_words.proofs.Bits.{put_here, put_beside}
 use Rattle.slab_index.specs.SlabSet.{SlabSet, class_in, is_available, IsBlock}
 use Rattle.slab_index.specs.Kept.{set_of, capacity_or_none, capacity_at, IsIndex}
 use Rattle.bit_words.proofs.Fills.{has_filled}
-use Rattle.slab_index.proofs.Steps.{IsReplaced}
+use Rattle.slab_index.proofs.Steps.{IsReplaced, IsWordOf}
 
 -- a slab of the set is one of the list
 pub class_of_list : {granules : ℕ} {classes : List (Option ℕ)} {blocks : List ℕ} {set : SlabSet} → set_of granules classes blocks ≡ set → (s : ℕ) → class_in set s ≡ get_or classes s None
@@ -125,3 +125,10 @@ none_outside is index s i outside = ⊎_elim
     absurd (omega (arith, slab_inside index s block.class (sym (class_of_list is s) ∙ block.slab)))))
     (λ past. available_past is s i past)
     outside
+
+-- a word of the blocks of a slab
+pub word_of : {granules : ℕ} {classes : List (Option ℕ)} {blocks some starts some_starts : List ℕ} {set : SlabSet} → set_of granules classes blocks ≡ set → IsIndex granules classes blocks some starts some_starts →
+    {start class at : ℕ} → Some class ≡ class_in set start → start ≡ at / 64 → IsWordOf granules classes class at
+word_of {classes = classes} is index {start} {class} slab place =
+    let listed = ap (λ k. get_or classes k None) (sym place) ∙ sym (class_of_list is start) ∙ sym slab in
+    record { slab = listed; inside = slab_inside index _ class listed; known = index.known _ class listed }

@@ -3,7 +3,7 @@
 use Rattle.std.specs.Prelude.{◌≡◌, ◌≢◌, ◌==◌, ℕ, ◌+◌, ◌*◌, ◌/◌, ◌%◌, ◌^◌, ◌<◌, ◌≤◌, Bool, true, false, ◌&&◌, nat_lt, List, length, Option, Some, None, slice_index, slice_index_or, if◌then◌else◌}
 use Rattle.std.specs.Int.{bit_at}
 use Rattle.size_classes.specs.Classes.{class_capacity}
-use Rattle.bit_words.specs.Numbers.{has, IsLeastIn}
+use Rattle.bit_words.specs.Numbers.{has, IsPut, IsLeastIn}
 use Rattle.heap_model.specs.Placement.{AreLowest}
 use Rattle.slab_index.specs.SlabSet.{SlabSet, class_in, is_available, AreTaken}
 
@@ -38,6 +38,21 @@ pub record IsLeastAt (words some : List ℕ) (place number : ℕ) : Type 0 where
   pub word : ℕ
   pub least_word : IsLeastIn some (64 * place) 64 word
   pub least : IsLeastIn words (64 * word) 64 (4096 * place + number)
+
+-- the sets have a place for one word of blocks, and for its slab, of a class
+pub record HasPlaceFor (blocks some starts some_starts : List ℕ) (class at : ℕ) : Type 0 where
+  pub block : at < length blocks
+  pub slab : at / 64 < length some
+  pub start : (4096 * class + at / 64) / 64 < length starts
+  pub some_start : (4096 * class + at / 64) / 64 / 64 < length some_starts
+  pub summary : IsSummary starts some_starts
+
+-- the sets beside the blocks were brought up to one word of these, of a slab of a class
+pub record IsSummedUp (blocks some starts some_starts : List ℕ) (class at : ℕ) (some' starts' some_starts' : List ℕ) : Type 0 where
+  pub word : IsPut some at (nat_lt 0 (slice_index blocks at)) some'
+  pub start : IsPut starts (4096 * class + at / 64) (nat_lt 0 (slice_index some' (at / 64))) starts'
+  pub some_size : length some_starts' ≡ length some_starts
+  pub summary : IsSummary starts' some_starts'
 
 -- from one word of a set the numbers are taken that a word has
 pub record IsTakenFrom (old : List ℕ) (at word : ℕ) (new : List ℕ) : Type 0 where

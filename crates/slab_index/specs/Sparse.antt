@@ -22,15 +22,19 @@ abbrev pub has_class : Option CalmSlab → ℕ → Bool
 has_class None class = false
 has_class (Some slab) class = class == slab.class
 
+-- the set of starts has a place for each number of live blocks, and it is known which of its words are not 0
+pub record HasRows (starts some : List ℕ) : Type 0 where
+  pub size : length starts ≡ 4160
+  pub some_size : length some ≡ 65
+  pub summary : IsSummary starts some
+
 -- the sets are those of these calm slabs
 pub record AreKept (calm : List (Option CalmSlab)) (starts some classes : List ℕ) : Type 0 where
   pub few : length calm ≤ 4096
-  pub starts_size : length starts ≡ 4160
-  pub some_size : length some ≡ 65
+  pub rows : HasRows starts some
   pub classes_size : length classes ≡ 2304
   pub known : (start : ℕ) (slab : CalmSlab) → slice_index_or calm start None ≡ Some slab → slab.class < 36
   pub starts_are : (k : ℕ) → has starts k ≡ has_live (slice_index_or calm (k % 4096) None) (k / 4096)
-  pub summary : IsSummary starts some
   pub classes_are : (k : ℕ) → has classes k ≡ has_class (slice_index_or calm (k % 4096) None) (k / 4096)
 
 -- the set has a slab's start, or has it not, where so few blocks live in it

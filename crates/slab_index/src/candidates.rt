@@ -5,11 +5,12 @@ ghost use Rattle.slab_index.specs.Candidates.{calm_in, HasNoCandidate, IsFirstCa
 ghost use Rattle.slab_index.specs.Sparse.{HasNoneFrom, IsLeastFrom};
 
 use crate::sparse::{COUNTS, in_row, mark_anew, mark_class, mark_sparse};
+use crate::words::Summed;
 use pmem_lines::OutOfMemory;
 use std::alloc::Global;
 use std::marker::Model;
 
-// How many words have the starts of the slabs of a class, or of those with so many live blocks.
+// How many words have the starts of the slabs of a class.
 const START_WORDS: usize = 64;
 
 const CLASSES: usize = 36;
@@ -37,10 +38,8 @@ pub struct Candidate {
 #[derive(Drop)]
 pub struct Candidates {
     calm: Vec<Option<CalmSlab>>,
-    // The calm slabs with so few live blocks: 4096 numbers for each number of live blocks.
-    starts: Vec<u64>,
-    // The words of `starts` that are not 0.
-    some: Vec<u64>,
+    // The calm slabs with so few live blocks, by their number.
+    starts: Summed,
     // All calm slabs: 4096 numbers for each class.
     classes: Vec<u64>,
 }
@@ -55,7 +54,7 @@ impl Model for Candidates {
 
     ghost view = { λ a. a.calm.items };
 
-    ghost invariant = { λ a. AreKept a.calm.items a.starts.items a.some.items a.classes.items };
+    ghost invariant = { λ a. AreKept a.calm.items a.starts.words.items a.starts.some.items a.classes.items };
 }
 
 impl Candidates {
@@ -67,13 +66,11 @@ impl Candidates {
         ensures none { IfOk result (λ candidates. (s : ℕ) → calm_in candidates s ≡ None) }
     {
         let calm = vec![in alloc; None; granules as usize]?;
-        let starts = vec![in alloc; 0; START_WORDS * COUNTS as usize]?;
-        let some = vec![in alloc; 0; COUNTS as usize]?;
+        let starts = Summed::new(alloc, COUNTS as usize)?;
         let classes = vec![in alloc; 0; START_WORDS * CLASSES]?;
         Ok(Candidates {
             calm,
             starts,
-            some,
             classes,
         })
     }
@@ -115,13 +112,7 @@ impl Candidates {
     {
         let class = was.class;
         self.calm[start as usize] = Some(CalmSlab { class, live });
-        mark_anew(
-            &mut self.starts,
-            &mut self.some,
-            start,
-            was,
-            CalmSlab { class, live },
-        );
+        mark_anew(&mut self.starts, start, was, CalmSlab { class, live });
     }
 
     /// The slab at a granule is not calm, or there is none; whether it was calm before makes no difference. The other slabs
@@ -133,7 +124,7 @@ impl Candidates {
         if let Some(slab) = self.calm_at(start) {
             self.calm[start as usize] = None;
             mark_class(&mut self.classes, start, slab, false);
-            mark_sparse(&mut self.starts, &mut self.some, start, slab, false);
+            mark_sparse(&mut self.starts, start, slab, false);
         }
     }
 
@@ -165,14 +156,7 @@ impl Candidates {
     {
         for count in live..COUNTS {
             let low = low_of(count, live, start);
-            if let Some(found) = in_row(
-                &self.starts,
-                &self.some,
-                &self.classes,
-                class,
-                count,
-                low,
-            ) {
+            if let Some(found) = in_row(&self.starts, &self.classes, class, count, low) {
                 return Some(Candidate {
                     start: found,
                     live: count,
@@ -192,7 +176,7 @@ impl Candidates {
     {
         self.calm[start as usize] = Some(slab);
         mark_class(&mut self.classes, start, slab, true);
-        mark_sparse(&mut self.starts, &mut self.some, start, slab, true);
+        mark_sparse(&mut self.starts, start, slab, true);
     }
 }
 

@@ -7,17 +7,17 @@ ghost use Rattle.bit_words.specs.Numbers.{has as has_number};
 ghost use Rattle.slab_index.specs.SlabSet.{class_in, is_available, IsSlab, IsBlock, HasNoBlock, IsLowest, HadNoBlock, TookLowest};
 ghost use Rattle.slab_index.specs.Kept.{IsUsedUp, IsFirstBlock, WasUsedUp, TookFirst, TookSome};
 
-use crate::words::{NUMBERS, least_at, put_summed, summarize, take_numbers};
+use crate::words::{NUMBERS, Summed, least_at, put_summed, summarize};
 use crate::{SlabBlock, SlabBlocks};
 use arrayvec::ArrayVec;
-use bit_words::{fill, has, ones, put};
+use bit_words::has;
 use pmem_lines::OutOfMemory;
 use size_classes::capacity;
 use std::alloc::Global;
 use std::marker::Model;
 
-// How many words have the blocks of a granule, and the starts of a class.
-const WORDS: usize = 64;
+// How many words have the blocks of a slab.
+const WORDS: u32 = 64;
 
 const CLASSES: usize = 36;
 
@@ -27,14 +27,10 @@ const CLASSES: usize = 36;
 pub struct SlabIndex {
     granules: u32,
     classes: Vec<Option<u8>>,
-    // The available blocks, with 4096 numbers for each granule.
-    blocks: Vec<u64>,
-    // The words of `blocks` that are not 0.
-    some: Vec<u64>,
-    // The slabs that have an available block, with 4096 numbers for each class.
-    starts: Vec<u64>,
-    // The words of `starts` that are not 0.
-    some_starts: Vec<u64>,
+    // The available blocks, by granule.
+    blocks: Summed,
+    // The slabs that have an available block, by class.
+    starts: Summed,
 }
 
 impl Model for SlabIndex {
@@ -44,9 +40,9 @@ impl Model for SlabIndex {
 
     ghost use Rattle.slab_index.specs.Kept.{set_of, IsIndex};
 
-    ghost view = { λ a. set_of a.granules a.classes.items a.blocks.items };
+    ghost view = { λ a. set_of a.granules a.classes.items a.blocks.words.items };
 
-    ghost invariant = { λ a. IsIndex a.granules a.classes.items a.blocks.items a.some.items a.starts.items a.some_starts.items };
+    ghost invariant = { λ a. IsIndex a.granules a.classes.items a.blocks.words.items a.blocks.some.items a.starts.words.items a.starts.some.items };
 }
 
 impl SlabIndex {
@@ -59,19 +55,14 @@ impl SlabIndex {
         ensures classes { IfOk result (λ index. (s : ℕ) → class_in index s ≡ None) }
         ensures blocks { IfOk result (λ index. (s i : ℕ) → is_available index s i ≡ false) }
     {
-        let count = granules as usize;
-        let classes = vec![in alloc; None; count]?;
-        let blocks = vec![in alloc; 0; WORDS * count]?;
-        let some = vec![in alloc; 0; count]?;
-        let starts = vec![in alloc; 0; WORDS * CLASSES]?;
-        let some_starts = vec![in alloc; 0; CLASSES]?;
+        let classes = vec![in alloc; None; granules as usize]?;
+        let blocks = Summed::new(alloc, granules as usize)?;
+        let starts = Summed::new(alloc, CLASSES)?;
         Ok(SlabIndex {
             granules,
             classes,
             blocks,
-            some,
             starts,
-            some_starts,
         })
     }
 
@@ -97,7 +88,7 @@ impl SlabIndex {
         if start >= self.granules || number >= NUMBERS {
             return false;
         }
-        has(&self.blocks, NUMBERS * start + number)
+        has(&self.blocks.words, NUMBERS * start + number)
     }
 
     /// Adds a slab of the class at a granule where none begins. All of its blocks are available. The other slabs and their
@@ -110,13 +101,9 @@ impl SlabIndex {
         ensures classes { (s : ℕ) → class_in self.new s ≡ with_key (class_in self.old) start (Some class) s }
         ensures blocks { (s i : ℕ) → is_available self.new s i ≡ (if s == start then nat_lt i (class_capacity class) else is_available self.old s i) }
     {
-        let at = start as usize;
-        let blocks = capacity(class);
-        self.classes[at] = Some(class);
-        fill(&mut self.blocks, start, blocks);
-        self.some[at] = ones(blocks.div_ceil(64));
-        let number = NUMBERS * u32::from(class) + start;
-        put_summed(&mut self.starts, &mut self.some_starts, number, true);
+        self.classes[start as usize] = Some(class);
+        self.blocks.fill(start, capacity(class));
+        put_summed(&mut self.starts, NUMBERS * u32::from(class) + start, true);
     }
 
     /// Takes the slab that begins at a granule out of the set, with all of its blocks. The other slabs and their blocks
@@ -128,12 +115,9 @@ impl SlabIndex {
         ensures blocks { (s i : ℕ) → is_available self.new s i ≡ (if s == start then false else is_available self.old s i) }
     {
         if let Some(class) = self.class_at(start) {
-            let at = start as usize;
-            self.classes[at] = None;
-            fill(&mut self.blocks, start, 0);
-            self.some[at] = 0;
-            let number = NUMBERS * u32::from(class) + start;
-            put_summed(&mut self.starts, &mut self.some_starts, number, false);
+            self.classes[start as usize] = None;
+            self.blocks.fill(start, 0);
+            put_summed(&mut self.starts, NUMBERS * u32::from(class) + start, false);
         }
     }
 
@@ -143,8 +127,8 @@ impl SlabIndex {
         requires { class < 36 }
         ensures { MatchOption result (HasNoBlock self.now class) (IsLowest self.now class) }
     {
-        let start = least_at(&self.starts, &self.some_starts, u32::from(class))?;
-        let number = least_at(&self.blocks, &self.some, start)?;
+        let start = least_at(&self.starts, u32::from(class))?;
+        let number = least_at(&self.blocks, start)?;
         Some(SlabBlock { start, number })
     }
 
@@ -196,7 +180,7 @@ impl SlabIndex {
         ensures classes { (s : ℕ) → class_in self.new s ≡ class_in self.old s }
         ensures blocks { (s i : ℕ) → is_available self.new s i ≡ (if s == start && has_number numbers.now i then false else is_available self.old s i) }
     {
-        for at in 0..WORDS as u32 {
+        for at in 0..WORDS {
             self.take_word(start, at, numbers[at as usize]);
         }
     }
@@ -232,7 +216,7 @@ impl SlabIndex {
         requires { IsSlab self.now start }
         ensures { MatchOption result (IsUsedUp self.now start) (IsFirstBlock self.now start) }
     {
-        least_at(&self.blocks, &self.some, start)
+        least_at(&self.blocks, start)
     }
 
     // Takes those blocks of a slab that a word of a set has, which is word `at` of it.
@@ -245,15 +229,8 @@ impl SlabIndex {
     {
         if let Some(class) = self.class_at(start) {
             let place = 64 * start + at;
-            take_numbers(&mut self.blocks, place, word);
-            summarize(
-                &self.blocks,
-                &mut self.some,
-                &mut self.starts,
-                &mut self.some_starts,
-                class,
-                place,
-            );
+            self.blocks.take(place, word);
+            summarize(&mut self.blocks, &mut self.starts, class, place);
         }
     }
 
@@ -265,15 +242,9 @@ impl SlabIndex {
         ensures blocks { (s i : ℕ) → is_available self.new s i ≡ (if s == start && i == number then on else is_available self.old s i) }
     {
         if let Some(class) = self.class_at(start) {
-            put(&mut self.blocks, NUMBERS * start + number, on);
-            summarize(
-                &self.blocks,
-                &mut self.some,
-                &mut self.starts,
-                &mut self.some_starts,
-                class,
-                64 * start + number / 64,
-            );
+            self.blocks.put(NUMBERS * start + number, on);
+            let place = 64 * start + number / 64;
+            summarize(&mut self.blocks, &mut self.starts, class, place);
         }
     }
 }

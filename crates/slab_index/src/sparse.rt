@@ -1,11 +1,10 @@
 // The sets of words that candidates keep: the starts of slabs, for each class and for each number of live blocks.
 ghost use Rattle.std.specs.Prelude.{◌≡◌, ◌+◌, ◌*◌, ◌/◌, ◌<◌, length, MatchOption};
 ghost use Rattle.bit_words.specs.Numbers.{IsPut};
-ghost use Rattle.slab_index.specs.Kept.{IsSummary};
-ghost use Rattle.slab_index.specs.Sparse.{is_sparse, IsMarked, IsMarkedAnew, HasNoneInWord, IsFirstInWord, HasNoneInRow, IsFirstInRow};
+ghost use Rattle.slab_index.specs.Sparse.{is_sparse, HasRows, IsMarked, IsMarkedAnew, HasNoneInWord, IsFirstInWord, HasNoneInRow, IsFirstInRow};
 
 use crate::CalmSlab;
-use crate::words::{NUMBERS, put_summed};
+use crate::words::{NUMBERS, Summed, put_summed};
 use bit_words::{has, ones, put};
 use size_classes::has_at_least;
 
@@ -32,54 +31,35 @@ pub(crate) fn mark_class(classes: &mut [u64], start: u32, slab: CalmSlab, on: bo
 
 /// Puts the start of a slab into the set of its number of live blocks, or out of it, where these are so few that the slab may
 /// take another class.
-pub(crate) fn mark_sparse(
-    starts: &mut [u64],
-    some: &mut [u64],
-    start: u32,
-    slab: CalmSlab,
-    on: bool,
-)
+pub(crate) fn mark_sparse(starts: &mut Summed, start: u32, slab: CalmSlab, on: bool)
     requires start { start < 4096 }
     requires class { slab.class < 36 }
-    requires starts_size { length starts.old ≡ 4160 }
-    requires some_size { length some.old ≡ 65 }
-    requires summary { IsSummary starts.old some.old }
-    ensures starts { IsMarked starts.old start slab on starts.new }
-    ensures some_size { length some.new ≡ 65 }
-    ensures summary { IsSummary starts.new some.new }
+    requires rows { HasRows starts.old.words.items starts.old.some.items }
+    ensures starts { IsMarked starts.old.words.items start slab on starts.new.words.items }
+    ensures rows { HasRows starts.new.words.items starts.new.some.items }
 {
     if !is_sparse(slab) {
         return;
     }
-    put_summed(starts, some, NUMBERS * slab.live + start, on);
+    put_summed(starts, NUMBERS * slab.live + start, on);
 }
 
 /// Puts the start of a slab out of the set of one number of live blocks and into that of another.
-pub(crate) fn mark_anew(
-    starts: &mut [u64],
-    some: &mut [u64],
-    start: u32,
-    was: CalmSlab,
-    slab: CalmSlab,
-)
+pub(crate) fn mark_anew(starts: &mut Summed, start: u32, was: CalmSlab, slab: CalmSlab)
     requires start { start < 4096 }
     requires was_class { was.class < 36 }
     requires class { slab.class < 36 }
-    requires starts_size { length starts.old ≡ 4160 }
-    requires some_size { length some.old ≡ 65 }
-    requires summary { IsSummary starts.old some.old }
-    ensures starts { IsMarkedAnew starts.old start was slab starts.new }
-    ensures some_size { length some.new ≡ 65 }
-    ensures summary { IsSummary starts.new some.new }
+    requires rows { HasRows starts.old.words.items starts.old.some.items }
+    ensures starts { IsMarkedAnew starts.old.words.items start was slab starts.new.words.items }
+    ensures rows { HasRows starts.new.words.items starts.new.some.items }
 {
-    mark_sparse(starts, some, start, was, false);
-    mark_sparse(starts, some, start, slab, true);
+    mark_sparse(starts, start, was, false);
+    mark_sparse(starts, start, slab, true);
 }
 
 // Of the slabs with so many live blocks that begin among 64 granules the lowest that has another class, from a start on.
 fn in_word(
-    starts: &[u64],
-    some: &[u64],
+    starts: &Summed,
     classes: &[u64],
     class: u8,
     live: u32,
@@ -89,16 +69,14 @@ fn in_word(
     requires class { class < 36 }
     requires live { live < 65 }
     requires at { at < 64 }
-    requires starts_size { length starts.now ≡ 4160 }
-    requires some_size { length some.now ≡ 65 }
-    requires summary { IsSummary starts.now some.now }
+    requires rows { HasRows starts.now.words.items starts.now.some.items }
     requires classes_size { length classes.now ≡ 2304 }
-    ensures { MatchOption result (HasNoneInWord starts.now classes.now class live at from) (IsFirstInWord starts.now classes.now class live at from) }
+    ensures { MatchOption result (HasNoneInWord starts.now.words.items classes.now class live at from) (IsFirstInWord starts.now.words.items classes.now class live at from) }
 {
-    if !has(some, 64 * live + at) {
+    if !has(&starts.some, 64 * live + at) {
         return None;
     }
-    let here = starts[(64 * live + at) as usize];
+    let here = starts.words[(64 * live + at) as usize];
     let own = classes[(64 * u32::from(class) + at) as usize];
     let word = here & !own & !ones(from.saturating_sub(64 * at));
     if word == 0 {
@@ -109,8 +87,7 @@ fn in_word(
 
 /// Of the slabs with so many live blocks, from 0 to 64, the lowest that has another class, from a start on.
 pub(crate) fn in_row(
-    starts: &[u64],
-    some: &[u64],
+    starts: &Summed,
     classes: &[u64],
     class: u8,
     live: u32,
@@ -118,17 +95,15 @@ pub(crate) fn in_row(
 ) -> Option<u32>
     requires class { class < 36 }
     requires live { live < 65 }
-    requires starts_size { length starts.now ≡ 4160 }
-    requires some_size { length some.now ≡ 65 }
+    requires rows { HasRows starts.now.words.items starts.now.some.items }
     requires classes_size { length classes.now ≡ 2304 }
-    requires summary { IsSummary starts.now some.now }
-    ensures { MatchOption result (HasNoneInRow starts.now classes.now class live from) (IsFirstInRow starts.now classes.now class live from) }
+    ensures { MatchOption result (HasNoneInRow starts.now.words.items classes.now class live from) (IsFirstInRow starts.now.words.items classes.now class live from) }
 {
-    if some[live as usize] == 0 {
+    if starts.some[live as usize] == 0 {
         return None;
     }
     for at in from / 64..64 {
-        if let Some(start) = in_word(starts, some, classes, class, live, at, from) {
+        if let Some(start) = in_word(starts, classes, class, live, at, from) {
             return Some(start);
         }
     }

@@ -13,17 +13,14 @@ invariant_of-self c =
     let start = c.args.start in
     let inside : start < length s.calm.items = rw c.self.view_is c.requires.inside in
     let put = rw c.deref_mut.ensures.value at c.mark_class.ensures in
-    let marked = rw c.deref_mut-2.ensures.value at c.mark_sparse.ensures.starts in
-    let starts_are : (with_items s.starts c.mark_sparse.new.starts).items ≡ c.mark_sparse.new.starts = with_items_is s.starts c.mark_sparse.new.starts (omega (arith, marked.size, s.starts.ok.0)) in
-    let some_are : (with_items s.some c.mark_sparse.new.some).items ≡ c.mark_sparse.new.some = with_items_is s.some c.mark_sparse.new.some (omega (arith, c.mark_sparse.ensures.some_size, c.self.invariant.some_size, s.some.ok.0)) in
+    let marked = c.mark_sparse.ensures.starts in
     let classes_are : (with_items s.classes c.mark_class.new.classes).items ≡ c.mark_class.new.classes = with_items_is s.classes c.mark_class.new.classes (omega (arith, put.size, s.classes.ok.0)) in
-    rw (starts_are, some_are, classes_are)
-    (AreKept-come c.mark_sparse.new.starts c.mark_sparse.new.some c.mark_class.new.classes start c.args.slab c.self.invariant inside
+    rw classes_are
+    (AreKept-come c.mark_sparse.new.starts.words.items c.mark_sparse.new.starts.some.items c.mark_class.new.classes start c.args.slab c.self.invariant inside
     (calm_of_list c.self.view_is start ∙ c.requires.fresh)
     c.requires.class
     marked
-    c.mark_sparse.ensures.some_size
-    c.mark_sparse.ensures.summary
+    c.mark_sparse.ensures.rows
     put)
 
 pub returns-clause-calm : goal.returns-clause-calm

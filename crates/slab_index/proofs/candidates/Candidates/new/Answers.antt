@@ -7,10 +7,8 @@ use Rattle.slab_index.proofs.candidates.Candidates.new.Goals as goal
 pub invariant_of-result : goal.invariant_of-result
 invariant_of-result c =
     let calm : c.in_ok-calm.calm.items ≡ replicate {A = Option CalmSlab} c.args.granules None = c.in_ok-calm.ensures.items_if_clones_equal (λ y h. grind (arith, common_steps)) in
-    let starts = c.in_ok-starts.ensures.items_if_clones_equal (λ y h. h) in
-    let some = c.in_ok-some.ensures.items_if_clones_equal (λ y h. h) in
     let classes = c.in_ok-classes.ensures.items_if_clones_equal (λ y h. h) in
-    rw (calm, starts, some, classes) (AreKept-fresh c.args.granules c.requires)
+    rw (calm, c.in_ok-starts.ensures.words, c.in_ok-starts.ensures.some, classes) (AreKept-fresh c.args.granules c.requires)
 
 pub returns-clause-none : goal.returns-clause-none
 returns-clause-none c =

@@ -1,6 +1,4 @@
-use Rattle.std.proofs.Common.{◌≡◌, ◌<◌, ℕ, List, Option, Some, length, set, refl, ◌∙◌, subst, arith}
-use Rattle.std.specs.Vec.{with_items}
-use Rattle.std.proofs.lemmas.List.{with_items_is}
+use Rattle.std.proofs.Common.{◌≡◌, ◌<◌, ℕ, List, Option, Some, length, set, refl, ◌∙◌, subst}
 use Rattle.heap_model.specs.Machine.{with_key}
 use Rattle.slab_index.specs.declared.candidates.CalmSlab.{CalmSlab}
 use Rattle.slab_index.specs.Candidates.{calm_in}
@@ -12,17 +10,13 @@ invariant_of-self c =
     let s = c.self.inside in
     let start = c.args.start in
     let inside : start < length s.calm.items = rw c.self.view_is c.requires.inside in
-    let marked = rw c.deref_mut.ensures.value at c.mark_anew.ensures.starts in
-    let starts_are : (with_items s.starts c.mark_anew.new.starts).items ≡ c.mark_anew.new.starts = with_items_is s.starts c.mark_anew.new.starts (omega (arith, marked.back.size, marked.out.size, s.starts.ok.0)) in
-    let some_are : (with_items s.some c.mark_anew.new.some).items ≡ c.mark_anew.new.some = with_items_is s.some c.mark_anew.new.some (omega (arith, c.mark_anew.ensures.some_size, c.self.invariant.some_size, s.some.ok.0)) in
-    rw (starts_are, some_are)
-    (AreKept-recounted c.mark_anew.new.starts c.mark_anew.new.some start c.args.was (record { class = c.args.was.class; live = c.args.live }) c.self.invariant inside
+    let marked = c.mark_anew.ensures.starts in
+    AreKept-recounted c.mark_anew.new.starts.words.items c.mark_anew.new.starts.some.items start c.args.was (record { class = c.args.was.class; live = c.args.live }) c.self.invariant inside
     (calm_of_list c.self.view_is start ∙ c.requires.was)
     refl
     c.requires.class
     marked
-    c.mark_anew.ensures.some_size
-    c.mark_anew.ensures.summary)
+    c.mark_anew.ensures.rows
 
 pub returns-clause-calm : goal.returns-clause-calm
 returns-clause-calm c =

@@ -7,9 +7,8 @@ use Rattle.slab_index.proofs.index.SlabIndex.first_of.Goals as goal
 pub least_at-requires-clause-place : goal.least_at-requires-clause-place
 least_at-requires-clause-place c =
     let s = c.self.inside in
-    rw c.deref-2.ensures.value (omega (arith, slab_inside c.self.invariant c.args.start c.requires.class (sym (class_of_list c.self.view_is c.args.start) ∙ c.requires.is), c.self.invariant.some_size))
+    omega (arith, slab_inside c.self.invariant c.args.start c.requires.class (sym (class_of_list c.self.view_is c.args.start) ∙ c.requires.is), c.self.invariant.some_size)
 
 pub returns : goal.returns
 returns c =
-    either c.least_at.result (used_up c.self.view_is c.self.invariant c.args.start) (first_block c.self.view_is c.self.invariant c.args.start)
-    (rw (c.deref.ensures.value, c.deref-2.ensures.value) at c.least_at.ensures)
+    either c.least_at.result (used_up c.self.view_is c.self.invariant c.args.start) (first_block c.self.view_is c.self.invariant c.args.start) c.least_at.ensures
