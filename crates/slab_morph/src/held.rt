@@ -57,22 +57,27 @@ pub fn fields_of(state: SlabState) -> Fields
             class,
             old,
             entries,
-        } => Fields {
-            class,
-            old,
-            entries: u32::from(entries),
-            reads_bits: false,
-        },
+        } => transit_fields(class, old, entries, false),
         SlabState::Morphed {
             class,
             old,
             entries,
-        } => Fields {
-            class,
-            old,
-            entries: u32::from(entries),
-            reads_bits: true,
-        },
+        } => transit_fields(class, old, entries, true),
+    }
+}
+
+// Those of a slab in transition.
+fn transit_fields(class: u8, old: u8, entries: u8, reads_bits: bool) -> Fields
+    ensures class { result.class ≡ class }
+    ensures old { result.old ≡ old }
+    ensures entries { result.entries ≡ entries }
+    ensures reads_bits { result.reads_bits ≡ reads_bits }
+{
+    Fields {
+        class,
+        old,
+        entries: u32::from(entries),
+        reads_bits,
     }
 }
 
