@@ -1,9 +1,14 @@
 -- What is read behind the stores of a sequence.
-use Rattle.std.proofs.Common.{◌≡◌, ℕ, ◌*◌, ◌/◌, ◌<◌, List, ap, ◌∙◌, arith}
+use Rattle.std.proofs.Common.{◌≡◌, ℕ, ◌*◌, ◌/◌, ◌<◌, List, ap, subst, ◌∙◌, arith}
 use Rattle.pmem_lines.specs.Words.{word_at, put_word}
 use Rattle.pmem_lines.proofs.Words.{word_at-put_other}
-use Rattle.pmem_lines.specs.Events.{reading}
-use Rattle.durable_steps.specs.Steps.{pair_events}
+use Rattle.pmem_lines.specs.declared.event.Event.{Event}
+use Rattle.pmem_lines.specs.Pmem.{PmemState, words_of, Appends}
+use Rattle.pmem_lines.specs.Events.{reading, IsQuiet}
+use Rattle.pmem_lines.specs.Steps.{IsQuietStep}
+use Rattle.pmem_lines.proofs.Steps.{step_of}
+use Rattle.durable_steps.proofs.Steps.{IsQuiet-pair, pair_crash}
+use Rattle.durable_steps.specs.Steps.{pair_events, IsOldOrNewPair}
 use Rattle.pool_layout.specs.Places.{wal_word}
 use Rattle.attach_wal.specs.Entry.{entry_word}
 use Rattle.attach_wal.specs.Wal.{Opens}
@@ -15,6 +20,11 @@ reading_pair words a x b y =
     let first : 8 * a / 8 ≡ a = omega arith in
     let second : 8 * b / 8 ≡ b = omega arith in
     λ i. put_word (put_word words (first i) x) (second i) y
+
+-- a pair of stores under one fence is a step
+pub pair_step : {s t : PmemState} {events : List Event} (at value after word : ℕ) → events ≡ pair_events at value after word → Appends s t events → IsQuiet s.events → IsQuietStep s t (pair_events at value after word) (IsOldOrNewPair (words_of s) at value after word)
+pair_step {s} {t} at value after word is done quiet =
+    step_of (subst (λ (es : List Event). Appends s t es) is done) (IsQuiet-pair at value after word) quiet (pair_crash (words_of s) at value after word)
 
 -- the entry is open, and the header's word is as it was
 pub opened_word : (words : List ℕ) (line root : ℕ) (site : Site) → IsSite words root site → line < 8 → (made : List ℕ) → Opens words line site.own made → word_at made site.k ≡ word_at words site.k

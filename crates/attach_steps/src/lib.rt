@@ -10,11 +10,13 @@
 // header or of a write-ahead line.
 #![tactic(auto)]
 
+mod bit;
 mod block;
 mod old;
 mod root;
 mod steps;
 
+pub use bit::put_block_bit;
 pub use block::{OldBlock, SmallBlock};
 pub use old::{detach_old, old_number};
 pub use root::put_root;

@@ -9,11 +9,10 @@ ghost use Rattle.slab_header.specs.Steps.{PutsBitOver};
 ghost use Rattle.heap_check.specs.State.{IsEitherHeap};
 ghost use Rattle.attach_steps.specs.Steps.{bit_word, bit_put, mark_events, unmark_events, attach_events, detach_events, AreInside, IsAttachable, IsDetachable, IsAttached, IsDetached};
 
-use crate::SmallBlock;
+use crate::{SmallBlock, put_block_bit};
 use attach_wal::{WalEntry, close_entry, write_entry};
 use pmem_lines::Pmem;
-use pool_layout::{granule_at, root_at};
-use slab_header::put_bit;
+use pool_layout::root_at;
 
 /// Gives a root, which has no block, an unused block of its slab's class, by 11 events: the entry is opened on a write-ahead
 /// line, from 0 to 7, the block's bit is set, the root gets the block's address, the entry is closed. Every other root
@@ -69,7 +68,7 @@ fn mark<P: Pmem>(p: &mut P, root: u32, block: SmallBlock)
     ensures step { IsQuietStep (P.state p.old) (P.state p.new) (mark_events (words_of (P.state p.old)) root block) (IsOldOrNewPair (words_of (P.state p.old)) (8 * bit_word block) (bit_put (words_of (P.state p.old)) block true) (8 * root_word root) block.at) }
     ensures over { PutsBitOver (words_of (P.state p.old)) block.start block.number true }
 {
-    put_bit(p, granule_at(block.start), block.number, true);
+    put_block_bit(p, block, true);
     p.store(root_at(root), u64::from(block.at));
     p.flush(root_at(root) / 64);
     p.fence();
@@ -86,6 +85,6 @@ fn unmark<P: Pmem>(p: &mut P, root: u32, block: SmallBlock)
 {
     p.store(root_at(root), 0);
     p.flush(root_at(root) / 64);
-    put_bit(p, granule_at(block.start), block.number, false);
+    put_block_bit(p, block, false);
     p.fence();
 }

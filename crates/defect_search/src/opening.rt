@@ -11,13 +11,11 @@ ghost use Rattle.heap_check.specs.Image.{bounds_of};
 ghost use Rattle.image_defects.specs.Wal.{IsOpenWord};
 ghost use Rattle.image_reading.specs.Slabs.{IsRead, AreSlabs};
 ghost use Rattle.image_reading.specs.Held.{AreSlabsAt};
-ghost use Rattle.defect_search.specs.Opening.{IsNewBlock, IsOldBlock, HasNewBlock, HasOldBlock, IsCalm, IsMovable};
+ghost use Rattle.defect_search.specs.Opening.{IsNewBlock, IsOldBlock, IsCalm, IsMovable};
 
 use attach_wal::entry_of;
 use book_log::BookLog;
-use image_reading::{
-    Slab, block_at, is_slab, number_at, number_of, read_slab, root_word, roots_of,
-};
+use image_reading::{Slab, block_at, number_at, number_of, root_word, roots_of, slab_back};
 use image_tables::WalEntry;
 use slab_header::SlabState;
 
@@ -66,30 +64,6 @@ fn has_new(words: &[u64], slab: Slab, at: u64) -> bool
     }
 }
 
-// The same of the slab that starts at a granule, if one does.
-fn has_new_at(words: &[u64], log: &BookLog, start: u32, at: u64) -> bool
-    requires reads { Reads log.now words.now }
-    requires slabs { AreSlabsAt words.now }
-    ensures { IsTrue result ↔ IsNewBlock (tables_of words.now) start at }
-{
-    if !is_slab(log, start) {
-        return false;
-    }
-    has_new(words, read_slab(words, start), at)
-}
-
-// The same of the slab that begins so many granules before another, if one does.
-fn has_new_back(words: &[u64], log: &BookLog, last: u32, back: u32, at: u64) -> bool
-    requires reads { Reads log.now words.now }
-    requires slabs { AreSlabsAt words.now }
-    ensures { IsTrue result ↔ HasNewBlock (tables_of words.now) last back at }
-{
-    if last < back {
-        return false;
-    }
-    has_new_at(words, log, last - back, at)
-}
-
 // A block of its class begins at this byte, in some slab.
 fn is_new(words: &[u64], log: &BookLog, at: u32) -> bool
     requires reads { Reads log.now words.now }
@@ -98,8 +72,10 @@ fn is_new(words: &[u64], log: &BookLog, at: u32) -> bool
 {
     let last = at / 16384;
     for back in 0..4u32 {
-        if has_new_back(words, log, last, back, u64::from(at)) {
-            return true;
+        if let Some(slab) = slab_back(words, log, last, back) {
+            if has_new(words, slab, u64::from(at)) {
+                return true;
+            }
         }
     }
     false
@@ -134,30 +110,6 @@ fn has_old_of(words: &[u64], slab: Slab, at: u32, place: u32) -> bool
     }
 }
 
-// The same of the slab that starts at a granule, if one does.
-fn has_old_at(words: &[u64], log: &BookLog, start: u32, at: u32, place: u32) -> bool
-    requires reads { Reads log.now words.now }
-    requires slabs { AreSlabsAt words.now }
-    ensures { IsTrue result ↔ IsOldBlock (tables_of words.now) start at place }
-{
-    if !is_slab(log, start) {
-        return false;
-    }
-    has_old_of(words, read_slab(words, start), at, place)
-}
-
-// The same of the slab that begins so many granules before another, if one does.
-fn has_old_back(words: &[u64], log: &BookLog, last: u32, back: u32, at: u32, place: u32) -> bool
-    requires reads { Reads log.now words.now }
-    requires slabs { AreSlabsAt words.now }
-    ensures { IsTrue result ↔ HasOldBlock (tables_of words.now) last back at place }
-{
-    if last < back {
-        return false;
-    }
-    has_old_at(words, log, last - back, at, place)
-}
-
 // The place of some slab's index table has its block at this byte.
 fn is_old(words: &[u64], log: &BookLog, at: u32, place: u32) -> bool
     requires reads { Reads log.now words.now }
@@ -166,8 +118,10 @@ fn is_old(words: &[u64], log: &BookLog, at: u32, place: u32) -> bool
 {
     let last = at / 16384;
     for back in 0..4u32 {
-        if has_old_back(words, log, last, back, at, place) {
-            return true;
+        if let Some(slab) = slab_back(words, log, last, back) {
+            if has_old_of(words, slab, at, place) {
+                return true;
+            }
         }
     }
     false

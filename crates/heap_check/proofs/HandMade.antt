@@ -8,7 +8,7 @@ use Rattle.size_classes.specs.Classes.{class_size, sizes}
 use Rattle.image_tables.specs.Tables.{Tables}
 use Rattle.heap_model.specs.Machine.{Range, AreApart, slab_block}
 use Rattle.heap_check.specs.Heap.{heap, slab_of, is_old_of, is_large, IsClaim}
-use Rattle.heap_check.specs.Sound.{IsInSlab, IsStanding, IsExact}
+use Rattle.heap_check.specs.Sound.{IsStanding, IsExact}
 use Rattle.heap_check.proofs.HandMadeParts.{only, bounds, HasExtents, no_claim, HasBlocks, exact_by}
 use Rattle.heap_check.proofs.HandMadeBlock.{tables, extents, slab_valid, Holds-block, held_is}
 
@@ -78,26 +78,18 @@ stands r some = ⊎_elim
     (λ rest. ⊎_elim (λ second. subst (λ k. IsStanding image k (image.root k)) (sym second) stands_5) (λ none. absurd (some none)) rest)
     (roots_of r)
 
-closed : image.open_entry ≡ None
-unfolding image tables
-closed = refl
-
-in_slab : IsInSlab image 6 100352
-unfolding image tables
-in_slab = record { slab = refl; low = omega arith; high = omega arith }
-
 -- the image is exact
 hand_made_exact : IsExact bounds image
 unfolding image tables words_of
 hand_made_exact =
     let blocks : HasBlocks image 6 = record {
       slab = slab_valid 6 2 words_of None;
-      open_entry = λ e is. absurd (cc (is, closed));
+      open_entry = λ e is. absurd (cc is);
       rooted = stands;
       apart = apart;
       claimed = λ range holds. (5, subst (IsClaim image 5) (sym (held_is 6 2 words_of None range holds)) its_claim);
     } in
-    exact_by image_extents blocks closed refl 5 (omega arith) in_slab (omega arith) (λ done. omega (arith, done.kind))
+    exact_by image_extents blocks refl refl 5 (omega arith) (record { slab = refl; low = omega arith; high = omega arith }) (omega arith) (λ done. omega (arith, done.kind))
 
 -- its heap has both blocks
 both_blocks : (heap image 0 ≡ Some (record { at = 65536; size = 32768 })) × (heap image 5 ≡ Some (record { at = 100352; size = 112 }))

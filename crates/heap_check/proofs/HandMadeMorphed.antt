@@ -10,7 +10,7 @@ use Rattle.image_tables.specs.declared.entry.WalEntry.{WalEntry}
 use Rattle.image_tables.specs.declared.entry.WalEntry.TheVariants.{Place}
 use Rattle.image_tables.specs.Tables.{Tables}
 use Rattle.heap_check.specs.Heap.{slab_of, is_old_of, is_large, heap}
-use Rattle.heap_check.specs.Sound.{IsInSlab, IsOpen, IsLeaving, IsNearlyDone, IsSteady, IsExact}
+use Rattle.heap_check.specs.Sound.{IsOpen, IsLeaving, IsNearlyDone, IsSteady, IsExact}
 use Rattle.heap_check.proofs.HandMadeParts.{bounds, slab_is, exact_by, HasBlocks, steady_by}
 use Rattle.heap_check.proofs.HandMadeSlab.{words_of, tables, extents, AreRoots, closed_roots, has_blocks}
 
@@ -19,20 +19,12 @@ use Rattle.heap_check.proofs.HandMadeSlab.{words_of, tables, extents, AreRoots, 
 morphed : Tables
 morphed = tables 3 198656 199680 None
 
-closed : morphed.open_entry ≡ None
-unfolding morphed tables
-closed = refl
-
-old_inside : IsInSlab morphed 12 198656
-unfolding morphed tables
-old_inside = record { slab = refl; low = omega arith; high = omega arith }
-
 -- it is exact
 morphed_exact : IsExact bounds morphed
 unfolding morphed tables words_of
 morphed_exact =
     let blocks : HasBlocks morphed 12 = has_blocks (closed_roots 3 199680 (λ some. (omega arith, refl)) (λ read. refl)) (inr refl) in
-    exact_by (extents 3 198656 199680 None) blocks closed refl 1 (omega arith) old_inside (omega arith) (λ done. true≢false (done.none 0 (omega arith)))
+    exact_by (extents 3 198656 199680 None) blocks refl refl 1 (omega arith) (record { slab = refl; low = omega arith; high = omega arith }) (omega arith) (λ done. true≢false (done.none 0 (omega arith)))
 
 -- and its heap has the three blocks
 morphed_heap : (heap morphed 0 ≡ Some (record { at = 65536; size = 131072 })) × (heap morphed 1 ≡ Some (record { at = 198656; size = 64 })) × (heap morphed 2 ≡ Some (record { at = 199680; size = 1024 })) × ((root : ℕ) → heap morphed (suc (suc (suc root))) ≡ None)

@@ -15,7 +15,7 @@ use Rattle.slab_header.specs.State.{IsWordOfState, IsNoStateWord, SaysOfState}
 use Rattle.image_reading.specs.declared.slab.Slab.{Slab}
 use Rattle.image_reading.specs.Slabs.{IsSlabAt, IsRead}
 use Rattle.image_defects.specs.Headers.{IsGoodSlab}
-use Rattle.image_reading.specs.Held.{IsHeldBy, HasBitAt, HasOldAt, IsNumberAt, HasNoNumber, IsBack, HasBack, AreSlabsAt}
+use Rattle.image_reading.specs.Held.{IsHeldBy, HasBitAt, HasOldAt, IsNumberAt, HasNoNumber, HasNoBack, IsReadBack, IsBack, HasBack, AreSlabsAt}
 use Rattle.pool_layout.specs.Header.{version_in, granules_in}
 use Rattle.pool_layout.proofs.Layouts.{layout_rules}
 use Rattle.image_reading.specs.Extents.{HasExtents}
@@ -26,12 +26,13 @@ use Rattle.image_defects.proofs.SlabDefects.{has_state}
 pub refuted : {A : Type 0} → ¬ A → ((false ≡ true) ↔ A)
 refuted none = (λ e. absurd (false≢true e), λ a. absurd (none a))
 
--- what begins so many granules before another granule, found
-pub back_found : (Has : ℕ → Type 0) {last back start : ℕ} {found : Bool} → start + back ≡ last → ((found ≡ true) ↔ Has start) → ((found ≡ true) ↔ IsBack Has last back)
-back_found Has {last} {back} {start} is found = (
-  λ e. record { start = start; is = is; has = found.0 e },
-  λ back. found.1 (subst Has (omega (arith, back.is, is)) back.has),
-)
+-- what begins so many granules before another granule has not what no slab there has
+
+pub not_back : {words : List ℕ} {last back : ℕ} (Has : ℕ → Type 0) → ((start : ℕ) → Has start → (tables_of words).slab start ≡ true) → HasNoBack words last back → ¬ (IsBack Has last back)
+not_back Has of_slab none found = false≢true (sym (none.none found.start found.is) ∙ of_slab found.start found.has)
+
+pub back_without : {words : List ℕ} {last back : ℕ} {slab : Slab} {has : Bool} (Has : ℕ → Type 0) → IsReadBack words last back slab → ((has ≡ true) ↔ Has slab.start) → has ≡ false → ¬ (IsBack Has last back)
+back_without Has is tells none found = false≢true (sym none ∙ tells.1 (subst Has (omega (arith, found.is, is.is)) found.has))
 
 -- a state word that was read says what the tables do
 pub read_of : (words : List ℕ) (slab : Slab) → IsSlabAt words slab.start → IsGoodSlab words slab.start → IsWordOfState (word_at words (state_word slab.start)) slab.state → SaysOfState (word_at words (state_word slab.start)) slab.state → IsRead words slab

@@ -1,10 +1,11 @@
 -- Blocks that a slab holds, by address.
-use Rattle.std.specs.Prelude.{◌≡◌, ℕ, ◌+◌, ◌<◌, List, true}
+use Rattle.std.specs.Prelude.{◌≡◌, ℕ, ◌+◌, ◌<◌, List, true, false}
 use Rattle.size_classes.specs.Classes.{class_capacity}
-use Rattle.image_tables.specs.Tables.{Tables, is_slab}
+use Rattle.image_tables.specs.Tables.{Tables, is_slab, tables_of}
 use Rattle.heap_model.specs.Machine.{Range, slab_block}
 use Rattle.heap_check.specs.Heap.{Holds}
-use Rattle.image_reading.specs.Slabs.{IsSlabAt}
+use Rattle.image_reading.specs.declared.slab.Slab.{Slab}
+use Rattle.image_reading.specs.Slabs.{IsSlabAt, IsRead}
 use Rattle.image_defects.specs.Headers.{IsGoodSlab}
 
 -- the slab holds a block there
@@ -38,6 +39,14 @@ pub record HasNoNumber (start class at : ℕ) : Type 0 where
 pub record AreSlabsAt (words : List ℕ) : Type 0 where
   pub at : (start : ℕ) → is_slab words start ≡ true → IsSlabAt words start
   pub good : (start : ℕ) → is_slab words start ≡ true → IsGoodSlab words start
+
+-- no slab begins so many granules before another granule, or this one does, as it was read
+pub record HasNoBack (words : List ℕ) (last back : ℕ) : Type 0 where
+  pub none : (start : ℕ) → start + back ≡ last → (tables_of words).slab start ≡ false
+
+pub record IsReadBack (words : List ℕ) (last back : ℕ) (slab : Slab) : Type 0 where
+  pub is : slab.start + back ≡ last
+  pub read : IsRead words slab
 
 -- what begins so many granules before another granule has the property
 pub record IsBack (Has : ℕ → Type 0) (last back : ℕ) : Type 0 where

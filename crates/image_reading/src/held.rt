@@ -9,7 +9,7 @@ ghost use Rattle.heap_check.specs.Heap.{is_large, entry_at};
 ghost use Rattle.image_reading.specs.Extents.{HasExtents};
 ghost use Rattle.image_reading.specs.Slabs.{IsSlabAt, IsRead};
 ghost use Rattle.image_defects.specs.Headers.{IsGoodSlab};
-ghost use Rattle.image_reading.specs.Held.{IsHeldBy, HasBitAt, HasOldAt, IsNumberAt, HasNoNumber, AreSlabsAt, HasBack};
+ghost use Rattle.image_reading.specs.Held.{IsHeldBy, HasBitAt, HasOldAt, IsNumberAt, HasNoNumber, AreSlabsAt, HasNoBack, IsReadBack};
 
 use crate::Slab;
 use crate::block::{block_at, number_of};
@@ -79,28 +79,16 @@ fn holds(words: &[u64], slab: Slab, at: u64) -> bool
     }
 }
 
-// The slab that starts at a granule, if one does, holds a block that begins at this byte.
-fn holds_at(words: &[u64], log: &BookLog, start: u32, at: u64) -> bool
+/// The slab that begins so many granules before another, if one does.
+pub fn slab_back(words: &[u64], log: &BookLog, last: u32, back: u32) -> Option<Slab>
     requires reads { Reads log.now words.now }
     requires slabs { AreSlabsAt words.now }
-    ensures { IsTrue result ↔ IsHeldBy (tables_of words.now) start at }
+    ensures { MatchOption result (HasNoBack words.now last back) (IsReadBack words.now last back) }
 {
-    if !is_slab(log, start) {
-        return false;
+    if last < back || !is_slab(log, last - back) {
+        return None;
     }
-    holds(words, read_slab(words, start), at)
-}
-
-// The slab that begins so many granules before another, if one does, holds a block that begins at this byte.
-fn holds_back(words: &[u64], log: &BookLog, last: u32, back: u32, at: u64) -> bool
-    requires reads { Reads log.now words.now }
-    requires slabs { AreSlabsAt words.now }
-    ensures { IsTrue result ↔ HasBack (tables_of words.now) last back at }
-{
-    if last < back {
-        return false;
-    }
-    holds_at(words, log, last - back, at)
+    Some(read_slab(words, last - back))
 }
 
 /// Some slab holds a block that begins at this byte. It begins at the byte's granule or at one of the three before it.
@@ -115,8 +103,10 @@ pub fn is_held(words: &[u64], log: &BookLog, at: u64) -> bool
     }
     let last = granule as u32;
     for back in 0..4u32 {
-        if holds_back(words, log, last, back, at) {
-            return true;
+        if let Some(slab) = slab_back(words, log, last, back) {
+            if holds(words, slab, at) {
+                return true;
+            }
         }
     }
     false

@@ -12,7 +12,7 @@ mod reading;
 mod slab;
 
 pub use block::{block_at, number_of};
-pub use held::{has_old, is_held, is_large, is_standing, read_slab};
+pub use held::{has_old, is_held, is_large, is_standing, read_slab, slab_back};
 pub use reading::{
     bit_at, bit_of, bitmap_word, granules_at, held_root, index_word, is_slab, large_at, live_at,
     number_at, root_word, roots_of, state_field, state_word, wal_word, word_at,

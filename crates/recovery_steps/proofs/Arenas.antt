@@ -10,6 +10,9 @@ use Rattle.heap_check.proofs.Sizes.{sizes_of}
 use Rattle.settle_steps.proofs.Images.{few_entries}
 use Rattle.image_reading.specs.Slabs.{IsSlabAt}
 use Rattle.defect_search.specs.Arena.{IsArena}
+use Rattle.recovery_steps.specs.declared.search.Loose.{Loose}
+use Rattle.recovery_steps.specs.declared.search.Loose.TheVariants.{Morphing, Large, Empty, Done}
+use Rattle.recovery_steps.specs.Kinds.{IsLooseOf}
 
 -- a steady image is sound
 pub sound_of : (words : List ℕ) → IsSteadyImage words → IsSoundImage words
@@ -50,6 +53,12 @@ pub large_inside : (words : List ℕ) → IsSoundImage words → (start : ℕ) �
 large_inside words image start some =
     let lies = (arena_of words image).large start some in
     omega (arith, lies.1, some)
+
+pub loose_inside : (words : List ℕ) → IsSoundImage words → (kind : Loose) (start : ℕ) → IsLooseOf kind (tables_of words) start → start < granules_in words
+loose_inside words image Morphing start loose = slab_inside words image start loose.slab
+loose_inside words image Large start loose = large_inside words image start loose.live
+loose_inside words image Empty start loose = slab_inside words image start loose.slab
+loose_inside words image Done start loose = slab_inside words image start loose.slab
 
 -- and slabs in the heap
 pub slab_low : (words : List ℕ) → IsSoundImage words → (start : ℕ) → (tables_of words).slab start ≡ true → (layout_of (version_in words)).first_granule ≤ start

@@ -1,4 +1,5 @@
 pub mod Names
+pub mod Kinds
 pub mod Nearly
 pub mod Opening
 pub mod Parts

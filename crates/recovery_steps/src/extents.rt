@@ -8,7 +8,7 @@ ghost use Rattle.recovery_steps.specs.Parts.{MayBegin, IsShutWith, Rids, Does};
 ghost use Rattle.recovery_steps.specs.Recovery.{DropsLarge, DropsSlab};
 
 use crate::RootNames;
-use crate::search::{all_words, empty_slab, loose_large};
+use crate::search::{Loose, all_words, find};
 use book_log::BookLog;
 use extent_steps::{drop_extent, drop_slab};
 use pmem_lines::Pmem;
@@ -18,7 +18,7 @@ pub(crate) fn drop_loose<P: Pmem>(p: &mut P, log: &mut BookLog, names: &RootName
     requires { MayBegin (IsShutWith names.now) log.old (P.state p.old) (layout_of (version_in (words_of (P.state p.old)))).entry_events }
     ensures { Does log.new KeepsHeap (Rids IsLooseLarge) (P.state p.old) (P.state p.new) DropsLarge (layout_of (version_in (words_of (P.state p.old)))).entry_events }
 {
-    if let Some(start) = loose_large(all_words(p), log, names) {
+    if let Some(start) = find(all_words(p), log, names, Loose::Large) {
         drop_extent(p, log, start);
     }
 }
@@ -28,7 +28,7 @@ pub(crate) fn drop_empty<P: Pmem>(p: &mut P, log: &mut BookLog, names: &RootName
     requires { MayBegin (IsShutWith names.now) log.old (P.state p.old) (layout_of (version_in (words_of (P.state p.old)))).entry_events }
     ensures { Does log.new KeepsHeap (Rids IsEmptySlab) (P.state p.old) (P.state p.new) DropsSlab (layout_of (version_in (words_of (P.state p.old)))).entry_events }
 {
-    if let Some(start) = empty_slab(all_words(p), log, names) {
+    if let Some(start) = find(all_words(p), log, names, Loose::Empty) {
         drop_slab(p, log, start);
     }
 }

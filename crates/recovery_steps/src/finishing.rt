@@ -1,19 +1,20 @@
 // A slab in Morphing comes to its class.
 ghost use Rattle.settle_steps.specs.Settled.{KeepsHeap};
-ghost use Rattle.recovery_steps.specs.Parts.{MayBegin, IsShut, Calms, Does};
+ghost use Rattle.recovery_steps.specs.Parts.{MayBegin, IsShutWith, Calms, Does};
 ghost use Rattle.recovery_steps.specs.Recovery.{FinishesMorphing};
 
-use crate::search::{all_words, morphing_slab};
+use crate::RootNames;
+use crate::search::{Loose, all_words, find};
 use book_log::BookLog;
 use pmem_lines::Pmem;
 use transition_steps::finish_transition;
 
 /// Brings the slab in Morphing to its class, if there is one, by 76 events.
-pub(crate) fn finish_morphing<P: Pmem>(p: &mut P, log: &BookLog)
-    requires { MayBegin IsShut log.now (P.state p.old) 76 }
+pub(crate) fn finish_morphing<P: Pmem>(p: &mut P, log: &BookLog, names: &RootNames)
+    requires { MayBegin (IsShutWith names.now) log.now (P.state p.old) 76 }
     ensures { Does log.now KeepsHeap Calms (P.state p.old) (P.state p.new) FinishesMorphing 76 }
 {
-    if let Some(start) = morphing_slab(all_words(p), log) {
+    if let Some(start) = find(all_words(p), log, names, Loose::Morphing) {
         finish_transition(p, start);
     }
 }

@@ -6,9 +6,11 @@ ghost use Rattle.heap_check.specs.Sound.{IsLeaving, IsNearlyDone};
 ghost use Rattle.heap_check.specs.Image.{IsSoundImage};
 ghost use Rattle.image_defects.specs.Least.{HasNone};
 ghost use Rattle.log_steps.specs.Log.{IsBookOf};
+ghost use Rattle.recovery_steps.specs.Names.{AreNames};
 ghost use Rattle.recovery_steps.specs.Nearly.{HasOtherNear, IsDoneBesides};
 
-use crate::search::done_slab;
+use crate::RootNames;
+use crate::search::{Loose, find};
 use attach_wal::WalEntry;
 use book_log::BookLog;
 use defect_search::open_entry;
@@ -107,12 +109,13 @@ fn has_other_near(words: &[u64], log: &BookLog, entry: Option<WalEntry>, done: u
 }
 
 /// A slab that is done, where another is nearly so, if there is one.
-pub(crate) fn done_besides(words: &[u64], log: &BookLog) -> Option<u32>
+pub(crate) fn done_besides(words: &[u64], log: &BookLog, names: &RootNames) -> Option<u32>
     requires image { IsSoundImage words.now }
     requires book { IsBookOf log.now words.now }
+    requires names { AreNames names.now words.now }
     ensures { MatchOption result (HasNone (IsDoneBesides (tables_of words.now))) (IsDoneBesides (tables_of words.now)) }
 {
-    let done = match done_slab(words, log) {
+    let done = match find(words, log, names, Loose::Done) {
         Some(done) => done,
         None => return None,
     };

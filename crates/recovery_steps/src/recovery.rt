@@ -38,7 +38,7 @@ pub fn make_exact<P: Pmem>(p: &mut P, log: &mut BookLog, names: &RootNames)
     ensures left { IsLeft (words_of (P.state p.old)) (words_of (P.state p.new)) }
     ensures book { IsBookOf log.new (words_of (P.state p.new)) }
 {
-    make_steady(p, log);
+    make_steady(p, log, names);
     make_steady_exact(p, log, names);
 }
 
@@ -53,8 +53,8 @@ fn make_steady_exact<P: Pmem>(p: &mut P, log: &mut BookLog, names: &RootNames)
     ensures book { IsBookOf log.new (words_of (P.state p.new)) }
 {
     settle_open(p, log);
-    finish_morphing(p, log);
+    finish_morphing(p, log, names);
     drop_loose(p, log, names);
     drop_empty(p, log, names);
-    end_done(p, log);
+    end_done(p, log, names);
 }

@@ -10,11 +10,9 @@ ghost use Rattle.settle_steps.specs.Settled.{MaySettle, KeepsHeap};
 ghost use Rattle.settle_steps.specs.ClassBlocks.{IsOpenForBlock, class_block_events, IsClassBlockSettled};
 
 use crate::root_word::names;
-use attach_steps::SmallBlock;
+use attach_steps::{SmallBlock, put_block_bit};
 use attach_wal::close_entry;
 use pmem_lines::Pmem;
-use pool_layout::granule_at;
-use slab_header::put_bit;
 
 /// Settles the open place entry of a root's block, one of its slab's class, which a write-ahead line has, from 0 to 7: the
 /// block's bit is set where the root names the block and else cleared, and then the entry is closed, by six events. No
@@ -41,6 +39,6 @@ fn mark_as<P: Pmem>(p: &mut P, block: SmallBlock, on: bool)
     ensures step { IsQuietStep (P.state p.old) (P.state p.new) (word_events (8 * bit_word block) (bit_put (words_of (P.state p.old)) block on)) (IsOldOrNewWord (words_of (P.state p.old)) (8 * bit_word block) (bit_put (words_of (P.state p.old)) block on)) }
     ensures over { PutsBitOver (words_of (P.state p.old)) block.start block.number on }
 {
-    put_bit(p, granule_at(block.start), block.number, on);
+    put_block_bit(p, block, on);
     p.fence();
 }

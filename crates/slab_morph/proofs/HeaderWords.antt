@@ -8,7 +8,7 @@ use Rattle.image_tables.specs.Tables.{where_slab, bit_of_word, state_word, bitma
 use Rattle.slab_header.specs.declared.state.SlabState.{SlabState}
 use Rattle.slab_header.specs.State.{word_of_state, SaysOfState}
 use Rattle.slab_morph.specs.SlabHeaders.{SlabHeader, header_at}
-use Rattle.slab_morph.specs.Stages.{with_state, IsSameButIndex, IsSameButBits, IsOffHeader, IsOffState, IsOffBitmap, IsOffIndex}
+use Rattle.slab_morph.specs.Stages.{with_state, IsSameState, IsSameButIndex, IsSameButBits, IsOffHeader, IsOffState, IsOffBitmap, IsOffIndex}
 
 -- what is read below a bound
 pub below_and : (i n : ℕ) (a b : Bool) → (i < n → a ≡ b) → (ltb i n && a) ≡ (ltb i n && b)
@@ -24,16 +24,23 @@ below_where i n a b same = ⊎_elim
     (cases_lt i n)
 
 module _ (words image : List ℕ) (start : ℕ) where
+  -- the state word is the same
+  same_state : word_at image (state_word start) ≡ word_at words (state_word start) → IsSameState (header_at words start) (header_at image start)
+  unfolding header_at
+  same_state state = record {
+    kind = ap (λ w. w / 2 ^ 0 % 2 ^ 8) state;
+    class = ap (λ w. w / 2 ^ 8 % 2 ^ 8) state;
+    old = ap (λ w. w / 2 ^ 16 % 2 ^ 8) state;
+    index_count = ap (λ w. w / 2 ^ 24 % 2 ^ 8) state;
+  }
+
   -- the words before the index table are the same
   pub same_but_index : ((k : ℕ) → granule_word start ≤ k → k < granule_word start + 72 → word_at image k ≡ word_at words k) → IsSameButIndex (header_at words start) (header_at image start)
   unfolding header_at
   same_but_index same =
       let state = same (state_word start) (omega arith) (omega arith) in
       record {
-        kind = ap (λ w. w / 2 ^ 0 % 2 ^ 8) state;
-        class = ap (λ w. w / 2 ^ 8 % 2 ^ 8) state;
-        old = ap (λ w. w / 2 ^ 16 % 2 ^ 8) state;
-        index_count = ap (λ w. w / 2 ^ 24 % 2 ^ 8) state;
+        state = same_state state;
         bit = λ k i. below_and i 4096 (slab_bit image start i) (slab_bit words start i)
             (λ below. ap (λ w. bit_of_word w (i / 8 % 64)) (same (bitmap_word start i) (omega arith) (omega (arith, below)))) k;
       }
@@ -45,10 +52,7 @@ module _ (words image : List ℕ) (start : ℕ) where
   same_but_bits state same =
       let index : (place : ℕ) → place < 64 → word_at image (index_word start place) ≡ word_at words (index_word start place) = λ place below. same (index_word start place) (omega arith) (omega (arith, below)) in
       record {
-        kind = ap (λ w. w / 2 ^ 0 % 2 ^ 8) state;
-        class = ap (λ w. w / 2 ^ 8 % 2 ^ 8) state;
-        old = ap (λ w. w / 2 ^ 16 % 2 ^ 8) state;
-        index_count = ap (λ w. w / 2 ^ 24 % 2 ^ 8) state;
+        state = same_state state;
         live = λ k place. below_and place 64 (bit_of_word (word_at image (index_word start place)) 0) (bit_of_word (word_at words (index_word start place)) 0) (λ below. ap (λ w. bit_of_word w 0) (index place below)) k;
         number = λ k place. below_where place 64 (word_at image (index_word start place) / 2 ^ 16 % 2 ^ 16) (word_at words (index_word start place) / 2 ^ 16 % 2 ^ 16) (λ below. ap (λ w. w / 2 ^ 16 % 2 ^ 16) (index place below)) k;
       }
@@ -84,10 +88,10 @@ off_state words image start off = record {
 -- two headers that say the same
 pub header_by_bits : (h g k : SlabHeader) → IsSameButBits h g → k.kind ≡ h.kind → k.class ≡ h.class → k.old ≡ h.old → k.index_count ≡ h.index_count → k.live ≡ h.live → k.number ≡ h.number → g.bit ≡ k.bit → g ≡ k
 header_by_bits h g k same kind class old entries live number bits i = record {
-  kind = (same.kind ∙ sym kind) i;
-  class = (same.class ∙ sym class) i;
-  old = (same.old ∙ sym old) i;
-  index_count = (same.index_count ∙ sym entries) i;
+  kind = (same.state.kind ∙ sym kind) i;
+  class = (same.state.class ∙ sym class) i;
+  old = (same.state.old ∙ sym old) i;
+  index_count = (same.state.index_count ∙ sym entries) i;
   bit = bits i;
   live = (same.live ∙ sym live) i;
   number = (same.number ∙ sym number) i;

@@ -53,11 +53,11 @@ pub same_index : (start : ℕ) (h g : SlabHeader) → h.index_count ≡ 0 → Is
 same_index start h g none same = record {
   each = λ range. (
     by_blocks start h g
-        (λ range bit. held_bit (bit_kept start h g range same.kind same.class same.bit bit))
-        (λ range old. absurd (omega (arith, old.below, same.index_count, none)))
+        (λ range bit. held_bit (bit_kept start h g range same.state.kind same.state.class same.bit bit))
+        (λ range old. absurd (omega (arith, old.below, same.state.index_count, none)))
         range,
     by_blocks start g h
-        (λ range bit. held_bit (bit_kept start g h range (sym same.kind) (sym same.class) (sym same.bit) bit))
+        (λ range bit. held_bit (bit_kept start g h range (sym same.state.kind) (sym same.state.class) (sym same.bit) bit))
         (λ range old. absurd (omega (arith, old.below, none)))
         range,
   );
@@ -68,12 +68,12 @@ pub same_bits : (start : ℕ) (h g : SlabHeader) → h.kind ≡ morphing_kind �
 same_bits start h g is same = record {
   each = λ range. (
     by_blocks start h g
-        (λ range bit. absurd (bit.read (same.kind ∙ is)))
-        (λ range old. held_old (old_kept start h g range same.old same.index_count same.live same.number old))
+        (λ range bit. absurd (bit.read (same.state.kind ∙ is)))
+        (λ range old. held_old (old_kept start h g range same.state.old same.state.index_count same.live same.number old))
         range,
     by_blocks start g h
         (λ range bit. absurd (bit.read is))
-        (λ range old. held_old (old_kept start g h range (sym same.old) (sym same.index_count) (sym same.live) (sym same.number) old))
+        (λ range old. held_old (old_kept start g h range (sym same.state.old) (sym same.state.index_count) (sym same.live) (sym same.number) old))
         range,
   );
 }

@@ -174,10 +174,10 @@ module _ (base : List ℕ) (start : ℕ) (numbers : List ℕ) (few : length numb
 
   pub header_index : header_at new start ≡ with_index (header_at base start) numbers
   header_index i = record {
-    kind = same.kind i;
-    class = same.class i;
-    old = same.old i;
-    index_count = same.index_count i;
+    kind = same.state.kind i;
+    class = same.state.class i;
+    old = same.state.old i;
+    index_count = same.state.index_count i;
     bit = same.bit i;
     live = λ place. lives place i;
     number = λ place. numbered place i;

@@ -47,7 +47,7 @@ either : (P : List ℕ → Type 0) {old new : List ℕ} → P old → P new → 
 either P {old} {new} first second image is = ⊎_elim (λ same. subst P (sym same) first) (λ same. subst P (sym same) second) is
 
 no_bit_left : (h : SlabHeader) → IsSameButBits h (with_no_bit h)
-no_bit_left h = record { kind = refl; class = refl; old = refl; index_count = refl; live = refl; number = refl }
+no_bit_left h = record { state = record { kind = refl; class = refl; old = refl; index_count = refl }; live = refl; number = refl }
 
 -- a slab on its way to its class
 module _ (words : List ℕ) (start : ℕ) (is : (header_at words start).kind ≡ morphing_kind) where
@@ -102,7 +102,7 @@ module _ (words : List ℕ) (start class : ℕ) (normal : (header_at words start
   Morph = KeepsHeld words start (IsMorphStage n class)
 
   bits_alone : IsSameButBits (morphing n class) (morphing n class)
-  bits_alone = record { kind = refl; class = refl; old = refl; index_count = refl; live = refl; number = refl }
+  bits_alone = record { state = record { kind = refl; class = refl; old = refl; index_count = refl }; live = refl; number = refl }
 
   indexing : (image : List ℕ) → IsOffIndex words start image → Morph image
   indexing image off =

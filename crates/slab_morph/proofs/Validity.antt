@@ -6,23 +6,23 @@ use Rattle.image_tables.specs.Forms.{normal_kind, morphing_kind, IsState, IsStat
 use Rattle.image_tables.specs.Tables.{state_word, index_word}
 use Rattle.heap_check.specs.Sound.{IsValidSlab}
 use Rattle.slab_morph.specs.SlabHeaders.{SlabHeader, header_at, alone}
-use Rattle.slab_morph.specs.Stages.{set_numbers, morphing, finished, settled, IsOffState, IsOffBitmap, IsOffIndex, IsValidHeader}
+use Rattle.slab_morph.specs.Stages.{IsSameState, set_numbers, morphing, finished, settled, IsOffState, IsOffBitmap, IsOffIndex, IsValidHeader}
 use Rattle.slab_morph.proofs.Numbers.{numbers_pass, numbers_once}
 use Rattle.slab_morph.proofs.HeaderWords.{header_off_index, header_off_bitmap}
 use Rattle.slab_morph.proofs.Holding.{in_place}
 
 -- the fields of the state, and the numbers of the index table, as another header has them
-slab_by : (start : ℕ) (h g : SlabHeader) → g.kind ≡ h.kind → g.class ≡ h.class → g.old ≡ h.old → g.index_count ≡ h.index_count → ((place : ℕ) → place < h.index_count → g.number place ≡ h.number place) →
+slab_by : (start : ℕ) (h g : SlabHeader) → IsSameState h g → ((place : ℕ) → place < h.index_count → g.number place ≡ h.number place) →
     IsValidSlab (alone h) start → IsValidSlab (alone g) start
-slab_by start h g kind class old entries numbers valid = record {
-  state = subst (λ (k : ℕ). IsState k g.class g.old g.index_count) (sym kind) (subst (λ (c : ℕ). IsState h.kind c g.old g.index_count) (sym class) (subst (λ (o : ℕ). IsState h.kind h.class o g.index_count) (sym old) (subst (λ (n : ℕ). IsState h.kind h.class h.old n) (sym entries) valid.state)));
+slab_by start h g same numbers valid = record {
+  state = subst (λ (k : ℕ). IsState k g.class g.old g.index_count) (sym same.kind) (subst (λ (c : ℕ). IsState h.kind c g.old g.index_count) (sym same.class) (subst (λ (o : ℕ). IsState h.kind h.class o g.index_count) (sym same.old) (subst (λ (n : ℕ). IsState h.kind h.class h.old n) (sym same.index_count) valid.state)));
   small = λ place below.
-      let less : place < h.index_count = omega (arith, below, entries) in
-      subst (λ (o : ℕ). g.number place < class_capacity o) (sym old) (subst (λ (n : ℕ). n < class_capacity h.old) (sym (numbers place less)) (valid.small place less));
-  once = λ place other below under same.
-      let less : place < h.index_count = omega (arith, below, entries) in
-      let lower : other < h.index_count = omega (arith, under, entries) in
-      valid.once place other less lower (sym (numbers place less) ∙ same ∙ numbers other lower);
+      let less : place < h.index_count = omega (arith, below, same.index_count) in
+      subst (λ (o : ℕ). g.number place < class_capacity o) (sym same.old) (subst (λ (n : ℕ). n < class_capacity h.old) (sym (numbers place less)) (valid.small place less));
+  once = λ place other below under equal.
+      let less : place < h.index_count = omega (arith, below, same.index_count) in
+      let lower : other < h.index_count = omega (arith, under, same.index_count) in
+      valid.once place other less lower (sym (numbers place less) ∙ equal ∙ numbers other lower);
 }
 
 -- a slab without index entries
@@ -30,7 +30,7 @@ slab_none : (start : ℕ) (g : SlabHeader) → IsState g.kind g.class g.old g.in
 slab_none start g state none = record {
   state = state;
   small = λ place below. absurd (omega (arith, below, none));
-  once = λ place other below under same. absurd (omega (arith, below, none));
+  once = λ place other below under equal. absurd (omega (arith, below, none));
 }
 
 -- in Morphing
@@ -52,19 +52,19 @@ valid_bitmap words image start off valid =
     let same = header_off_bitmap words image start off in
     record {
       state = subst IsStateWord (sym (off.others (state_word start) (inl (omega arith)))) valid.state;
-      index = λ place below. subst IsIndexWord (sym (off.others (index_word start place) (inr (omega arith)))) (valid.index place (omega (arith, below, same.index_count)));
-      slab = slab_by start (header_at words start) (header_at image start) same.kind same.class same.old same.index_count (λ place below. ap (λ (f : ℕ → ℕ). f place) same.number) valid.slab;
+      index = λ place below. subst IsIndexWord (sym (off.others (index_word start place) (inr (omega arith)))) (valid.index place (omega (arith, below, same.state.index_count)));
+      slab = slab_by start (header_at words start) (header_at image start) same.state (λ place below. ap (λ (f : ℕ → ℕ). f place) same.number) valid.slab;
     }
 
 -- the index table of one without entries differs
 pub valid_index : (words image : List ℕ) (start : ℕ) → IsOffIndex words start image → (header_at words start).index_count ≡ 0 → IsValidHeader words start → IsValidHeader image start
 valid_index words image start off none valid =
     let same = header_off_index words image start off in
-    let empty : (header_at image start).index_count ≡ 0 = same.index_count ∙ none in
+    let empty : (header_at image start).index_count ≡ 0 = same.state.index_count ∙ none in
     record {
       state = subst IsStateWord (sym (off.others (state_word start) (inl (omega arith)))) valid.state;
       index = λ place below. absurd (omega (arith, below, empty));
-      slab = slab_by start (header_at words start) (header_at image start) same.kind same.class same.old same.index_count (λ place below. absurd (omega (arith, below, none))) valid.slab;
+      slab = slab_by start (header_at words start) (header_at image start) same.state (λ place below. absurd (omega (arith, below, none))) valid.slab;
     }
 
 -- its state word says something else

@@ -22,6 +22,10 @@ pub record SlabHeader : Type 0 where
   pub live : ℕ → Bool
   pub number : ℕ → ℕ
 
+-- a byte begins a granule, and the header of a slab there lies among the words
+abbrev pub IsHeaderIn : List ℕ → ℕ → Type 0
+IsHeaderIn words slab = (slab % 16384 ≡ 0) × (slab + 2048 ≤ 8 * length words)
+
 -- a field of the state word at a granule, of eight bits from this one on
 abbrev pub field_at : List ℕ → ℕ → ℕ → ℕ
 field_at words start bits = word_at words (state_word start) / 2 ^ bits % 2 ^ 8

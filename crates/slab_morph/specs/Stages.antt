@@ -60,20 +60,21 @@ settled h = with_state h (Normal h.class)
 
 -- stages
 
--- the second header says what the first does, but in its index table
-pub record IsSameButIndex (h g : SlabHeader) : Type 0 where
+-- the state words of two headers say the same
+pub record IsSameState (h g : SlabHeader) : Type 0 where
   pub kind : g.kind ≡ h.kind
   pub class : g.class ≡ h.class
   pub old : g.old ≡ h.old
   pub index_count : g.index_count ≡ h.index_count
+
+-- the second header says what the first does, but in its index table
+pub record IsSameButIndex (h g : SlabHeader) : Type 0 where
+  pub state : IsSameState h g
   pub bit : g.bit ≡ h.bit
 
 -- the second header says what the first does, but in its bits
 pub record IsSameButBits (h g : SlabHeader) : Type 0 where
-  pub kind : g.kind ≡ h.kind
-  pub class : g.class ≡ h.class
-  pub old : g.old ≡ h.old
-  pub index_count : g.index_count ≡ h.index_count
+  pub state : IsSameState h g
   pub live : g.live ≡ h.live
   pub number : g.number ≡ h.number
 

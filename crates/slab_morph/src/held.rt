@@ -7,7 +7,7 @@ ghost use Rattle.image_tables.specs.Forms.{IsStateWord, morphing_kind};
 ghost use Rattle.image_tables.specs.Tables.{state_word};
 ghost use Rattle.slab_header.specs.State.{kind_of, class_of, old_of, entries_of, IsValidState};
 ghost use Rattle.slab_header.specs.Morph.{numbers_below};
-ghost use Rattle.slab_morph.specs.SlabHeaders.{header_at, HasState};
+ghost use Rattle.slab_morph.specs.SlabHeaders.{IsHeaderIn, header_at, HasState};
 
 use pmem_lines::Pmem;
 use pool_layout::{index_at, slab_header_at};
@@ -16,8 +16,7 @@ use slab_header::{SlabState, bit_at, state_of};
 
 // The state of the slab that begins at this byte, whose state word is one.
 pub fn state_at<P: Pmem>(p: &P, slab: u32) -> SlabState
-    requires aligned { slab % 16384 ≡ 0 }
-    requires inside { slab + 2048 ≤ 8 * length (words_of (P.state p.now)) }
+    requires header { IsHeaderIn (words_of (P.state p.now)) slab }
     requires valid { IsStateWord (word_at (words_of (P.state p.now)) (state_word (slab / 16384))) }
     ensures says { HasState (header_at (words_of (P.state p.now)) (slab / 16384)) result }
     ensures valid { IsValidState result }
@@ -58,29 +57,33 @@ pub fn fields_of(state: SlabState) -> Fields
             class,
             old,
             entries,
-        } => Fields {
-            class,
-            old,
-            entries: u32::from(entries),
-            reads_bits: false,
-        },
+        } => transit_fields(class, old, entries, false),
         SlabState::Morphed {
             class,
             old,
             entries,
-        } => Fields {
-            class,
-            old,
-            entries: u32::from(entries),
-            reads_bits: true,
-        },
+        } => transit_fields(class, old, entries, true),
+    }
+}
+
+// Those of a slab in transition.
+fn transit_fields(class: u8, old: u8, entries: u8, reads_bits: bool) -> Fields
+    ensures class { result.class ≡ class }
+    ensures old { result.old ≡ old }
+    ensures entries { result.entries ≡ entries }
+    ensures reads_bits { result.reads_bits ≡ reads_bits }
+{
+    Fields {
+        class,
+        old,
+        entries: u32::from(entries),
+        reads_bits,
     }
 }
 
 // How many of the blocks of a class have their bit set.
 pub fn count_bits<P: Pmem>(p: &P, slab: u32, class: u8) -> u32
-    requires aligned { slab % 16384 ≡ 0 }
-    requires inside { slab + 2048 ≤ 8 * length (words_of (P.state p.now)) }
+    requires header { IsHeaderIn (words_of (P.state p.now)) slab }
     requires class { class < 36 }
     ensures count { result ≡ length (numbers_below (header_at (words_of (P.state p.now)) (slab / 16384)).bit (class_capacity class)) }
     ensures few { result ≤ 3968 }
@@ -96,8 +99,7 @@ pub fn count_bits<P: Pmem>(p: &P, slab: u32, class: u8) -> u32
 
 // Whether the bit of some block is set, from one on and before another.
 pub fn has_bit<P: Pmem>(p: &P, slab: u32, from: u32, end: u32) -> bool
-    requires aligned { slab % 16384 ≡ 0 }
-    requires inside { slab + 2048 ≤ 8 * length (words_of (P.state p.now)) }
+    requires header { IsHeaderIn (words_of (P.state p.now)) slab }
     requires end { end ≤ 4096 }
     ensures some { result ≡ true → (i : ℕ) × (from ≤ i) × (i < end) × ((header_at (words_of (P.state p.now)) (slab / 16384)).bit i ≡ true) }
     ensures none { result ≡ false → (i : ℕ) → from ≤ i → i < end → (header_at (words_of (P.state p.now)) (slab / 16384)).bit i ≡ false }
@@ -112,8 +114,7 @@ pub fn has_bit<P: Pmem>(p: &P, slab: u32, from: u32, end: u32) -> bool
 
 // Whether one of the first entries of the index table lives, of which there are at most 64.
 pub fn has_live<P: Pmem>(p: &P, slab: u32, entries: u32) -> bool
-    requires aligned { slab % 16384 ≡ 0 }
-    requires inside { slab + 2048 ≤ 8 * length (words_of (P.state p.now)) }
+    requires header { IsHeaderIn (words_of (P.state p.now)) slab }
     requires entries { entries ≤ 64 }
     ensures some { result ≡ true → (place : ℕ) × (place < entries) × ((header_at (words_of (P.state p.now)) (slab / 16384)).live place ≡ true) }
     ensures none { result ≡ false → (place : ℕ) → place < entries → (header_at (words_of (P.state p.now)) (slab / 16384)).live place ≡ false }
@@ -128,8 +129,7 @@ pub fn has_live<P: Pmem>(p: &P, slab: u32, entries: u32) -> bool
 
 // Whether the entry at a place of the index table lives.
 pub fn live_at<P: Pmem>(p: &P, slab: u32, place: u32) -> bool
-    requires aligned { slab % 16384 ≡ 0 }
-    requires inside { slab + 2048 ≤ 8 * length (words_of (P.state p.now)) }
+    requires header { IsHeaderIn (words_of (P.state p.now)) slab }
     requires place { place < 64 }
     ensures { result ≡ (header_at (words_of (P.state p.now)) (slab / 16384)).live place }
 {
@@ -138,8 +138,7 @@ pub fn live_at<P: Pmem>(p: &P, slab: u32, place: u32) -> bool
 
 // The number that the entry at a place of the index table has.
 pub fn number_at<P: Pmem>(p: &P, slab: u32, place: u32) -> u32
-    requires aligned { slab % 16384 ≡ 0 }
-    requires inside { slab + 2048 ≤ 8 * length (words_of (P.state p.now)) }
+    requires header { IsHeaderIn (words_of (P.state p.now)) slab }
     requires place { place < 64 }
     ensures { result ≡ (header_at (words_of (P.state p.now)) (slab / 16384)).number place }
 {

@@ -6,7 +6,7 @@ ghost use Rattle.pmem_lines.specs.Pmem.{words_of, HasRoom};
 ghost use Rattle.image_tables.specs.Forms.{morphing_kind};
 ghost use Rattle.slab_header.specs.State.{kind_of, class_of, old_of, entries_of, IsValidState};
 ghost use Rattle.slab_header.specs.Morph.{morph_events, finish_morph_events, finish_old_events};
-ghost use Rattle.slab_morph.specs.SlabHeaders.{header_at, alone};
+ghost use Rattle.slab_morph.specs.SlabHeaders.{IsHeaderIn, header_at, alone};
 ghost use Rattle.slab_morph.specs.Stages.{morphed, finished, settled, morph_count, IsMorphable, IsOnItsWay, IsDone, IsMorphStage, IsFinishStage, IsSettleStage, KeepsHeld, Changes};
 
 use crate::bitmap::clear_bitmap;
@@ -23,8 +23,7 @@ use slab_header::SlabState;
 /// Every word outside the slab's header stays the same, and so do the blocks that the slab holds, after a crash within it
 /// too.
 pub fn morph<P: Pmem>(p: &mut P, slab: u32, class: u8)
-    requires aligned { slab % 16384 ≡ 0 }
-    requires inside { slab + 2048 ≤ 8 * length (words_of (P.state p.old)) }
+    requires header { IsHeaderIn (words_of (P.state p.old)) slab }
     requires class { class < 36 }
     requires morphable { IsMorphable (words_of (P.state p.old)) (slab / 16384) class }
     requires quiet { IsQuiet (P.state p.old).events }
@@ -51,8 +50,7 @@ pub fn morph<P: Pmem>(p: &mut P, slab: u32, class: u8)
 /// Every word outside the slab's header stays the same, and so do the blocks that the slab holds, after a crash within it
 /// too.
 pub fn finish_morph<P: Pmem>(p: &mut P, slab: u32)
-    requires aligned { slab % 16384 ≡ 0 }
-    requires inside { slab + 2048 ≤ 8 * length (words_of (P.state p.old)) }
+    requires header { IsHeaderIn (words_of (P.state p.old)) slab }
     requires morphing { IsOnItsWay (words_of (P.state p.old)) (slab / 16384) }
     requires quiet { IsQuiet (P.state p.old).events }
     requires room { HasRoom (P.state p.old) 76 }
@@ -72,8 +70,7 @@ pub fn finish_morph<P: Pmem>(p: &mut P, slab: u32)
 /// Every word outside the slab's header stays the same, and so do the blocks that the slab holds, after a crash within it
 /// too.
 pub fn finish_old<P: Pmem>(p: &mut P, slab: u32)
-    requires aligned { slab % 16384 ≡ 0 }
-    requires inside { slab + 2048 ≤ 8 * length (words_of (P.state p.old)) }
+    requires header { IsHeaderIn (words_of (P.state p.old)) slab }
     requires done { IsDone (words_of (P.state p.old)) (slab / 16384) }
     requires quiet { IsQuiet (P.state p.old).events }
     requires room { HasRoom (P.state p.old) 3 }

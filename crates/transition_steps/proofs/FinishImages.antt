@@ -26,7 +26,7 @@ record IsSameOld (h g : SlabHeader) : Type 0 where
 
 same_old : (h g : SlabHeader) → h.kind ≡ morphing_kind → IsFinishStage h g → IsSameOld h g
 same_old h g moves stage = ⊎_elim
-    (λ same. record { class = same.class; old = same.old; index_count = same.index_count; live = same.live; number = same.number; kind = inl (same.kind ∙ moves) })
+    (λ same. record { class = same.state.class; old = same.state.old; index_count = same.state.index_count; live = same.live; number = same.number; kind = inl (same.state.kind ∙ moves) })
     (λ (is : g ≡ finished h). subst (IsSameOld h) (sym is) (record { class = refl; old = refl; index_count = refl; live = refl; number = refl; kind = inr refl }))
     stage
 

@@ -1,14 +1,12 @@
-use Rattle.std.proofs.Common.{◌≡◌, ◌*◌, ◌/◌, false, List, [], ◌∷◌, ◌++◌, subst, arith}
-use Rattle.pmem_lines.specs.declared.event.Event.{Event}
+use Rattle.std.proofs.Common.{◌≡◌, ◌*◌, ◌/◌, false, [], ◌∷◌, ◌++◌, subst, arith}
 use Rattle.pmem_lines.specs.declared.event.Event.TheVariants.{Store, Flush, Fence}
-use Rattle.pmem_lines.specs.Pmem.{words_of, Appends}
+use Rattle.pmem_lines.specs.Pmem.{words_of}
 use Rattle.pmem_lines.proofs.States.{then_step}
-use Rattle.pmem_lines.proofs.Steps.{step_of}
-use Rattle.durable_steps.proofs.Steps.{IsQuiet-pair, pair_crash}
 use Rattle.pool_layout.specs.Places.{root_word}
 use Rattle.image_tables.specs.Tables.{index_word}
 use Rattle.slab_header.specs.Index.{word_of_index}
 use Rattle.slab_header.specs.Steps.{put_events, PutsIndexOver}
+use Rattle.attach_steps.proofs.Pairs.{pair_step}
 use Rattle.attach_steps.proofs.old.bury.Given as given
 use Rattle.attach_steps.proofs.old.bury.Goals as goal
 
@@ -17,16 +15,10 @@ start g c = omega (arith, c.granule_at.ensures)
 
 pub returns-clause-step : goal.returns-clause-step
 returns-clause-step g c =
-    let state = g.P.Pmem.state in
-    let words = words_of (state c.args.p.now) in
     let value = word_of_index (record { live = false; number = c.args.number }) in
-    let at = 8 * index_word c.args.block.start c.args.block.place in
-    step_of
-    (subst (λ (es : List Event). Appends (state c.args.p.now) (state c.fence.new.self) es)
+    pair_step (8 * root_word c.args.root) 0 (8 * index_word c.args.block.start c.args.block.place) value
     (λ i. Store (c.root_at.ensures i) 0 ∷ Flush (c.root_at-2.ensures i / 64) ∷ put_events (8 * index_word (start g c i) c.args.block.place) value ++ Fence ∷ [])
-    (then_step (then_step (then_step c.store.ensures c.flush.ensures) c.put_index.ensures.appends) c.fence.ensures))
-    (IsQuiet-pair (8 * root_word c.args.root) 0 at value) c.requires.quiet
-    (pair_crash words (8 * root_word c.args.root) 0 at value)
+    (then_step (then_step (then_step c.store.ensures c.flush.ensures) c.put_index.ensures.appends) c.fence.ensures) c.requires.quiet
 
 -- the root's store keeps the length, so that the index entry is put over the words at the begin too
 pub returns-clause-over : goal.returns-clause-over

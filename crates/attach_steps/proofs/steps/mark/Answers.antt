@@ -1,26 +1,16 @@
-use Rattle.std.proofs.Common.{◌≡◌, ◌*◌, ◌/◌, ◌%◌, true, List, [], ◌∷◌, ◌++◌, subst, arith}
-use Rattle.pmem_lines.specs.Words.{word_at}
-use Rattle.pmem_lines.specs.declared.event.Event.{Event}
+use Rattle.std.proofs.Common.{◌*◌, ◌/◌, true, [], ◌∷◌, ◌++◌}
 use Rattle.pmem_lines.specs.declared.event.Event.TheVariants.{Store, Flush, Fence}
-use Rattle.pmem_lines.specs.Pmem.{words_of, Appends}
+use Rattle.pmem_lines.specs.Pmem.{words_of}
 use Rattle.pmem_lines.proofs.States.{then_step}
-use Rattle.pmem_lines.proofs.Steps.{step_of}
-use Rattle.durable_steps.proofs.Steps.{IsQuiet-pair, pair_crash}
 use Rattle.pool_layout.specs.Places.{root_word}
-use Rattle.image_tables.specs.Tables.{bitmap_word}
-use Rattle.slab_header.specs.Steps.{put_events, with_bit}
+use Rattle.slab_header.specs.Steps.{put_events}
 use Rattle.attach_steps.specs.Steps.{bit_word, bit_put}
+use Rattle.attach_steps.proofs.Pairs.{pair_step}
 use Rattle.attach_steps.proofs.steps.mark.Goals as goal
 
 pub returns-clause-step : goal.returns-clause-step
 returns-clause-step g c =
-    let state = g.P.Pmem.state in
-    let words = words_of (state c.args.p.now) in
-    let n = c.args.block.number in
-    let start : c.granule_at.result / 16384 ≡ c.args.block.start = omega (arith, c.granule_at.ensures) in
-    step_of
-    (subst (λ (es : List Event). Appends (state c.args.p.now) (state c.fence.new.self) es)
-    (λ i. put_events (8 * bitmap_word (start i) n) (with_bit (word_at words (bitmap_word (start i) n)) (n / 8 % 64) true) ++ Store (c.root_at.ensures i) (c.from.ensures i) ∷ Flush (c.root_at-2.ensures i / 64) ∷ Fence ∷ [])
-    (then_step (then_step (then_step c.put_bit.ensures.appends c.store.ensures) c.flush.ensures) c.fence.ensures))
-    (IsQuiet-pair (8 * bit_word c.args.block) (bit_put words c.args.block true) (8 * root_word c.args.root) c.args.block.at) c.requires.quiet
-    (pair_crash words (8 * bit_word c.args.block) (bit_put words c.args.block true) (8 * root_word c.args.root) c.args.block.at)
+    let words = words_of (g.P.Pmem.state c.args.p.now) in
+    pair_step (8 * bit_word c.args.block) (bit_put words c.args.block true) (8 * root_word c.args.root) c.args.block.at
+    (λ i. put_events (8 * bit_word c.args.block) (bit_put words c.args.block true) ++ Store (c.root_at.ensures i) (c.from.ensures i) ∷ Flush (c.root_at-2.ensures i / 64) ∷ Fence ∷ [])
+    (then_step (then_step (then_step c.put_block_bit.ensures.appends c.store.ensures) c.flush.ensures) c.fence.ensures) c.requires.quiet

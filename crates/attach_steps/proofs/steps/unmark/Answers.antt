@@ -1,22 +1,16 @@
-use Rattle.std.proofs.Common.{◌≡◌, ◌*◌, ◌/◌, ◌%◌, ℕ, false, List, [], ◌∷◌, ◌++◌, ap, subst, ◌∙◌, arith}
+use Rattle.std.proofs.Common.{◌≡◌, ◌*◌, ◌/◌, ◌%◌, ℕ, false, List, [], ◌∷◌, ◌++◌, ap, ◌∙◌, arith}
 use Rattle.pmem_lines.specs.Words.{word_at}
 use Rattle.pmem_lines.proofs.Words.{word_at-put_other}
-use Rattle.pmem_lines.specs.declared.event.Event.{Event}
 use Rattle.pmem_lines.specs.declared.event.Event.TheVariants.{Store, Flush, Fence}
-use Rattle.pmem_lines.specs.Pmem.{words_of, Appends}
+use Rattle.pmem_lines.specs.Pmem.{words_of}
 use Rattle.pmem_lines.proofs.States.{then_step}
-use Rattle.pmem_lines.proofs.Steps.{step_of}
-use Rattle.durable_steps.proofs.Steps.{IsQuiet-pair, pair_crash}
 use Rattle.pool_layout.specs.Places.{root_word}
-use Rattle.image_tables.specs.Tables.{bitmap_word}
-use Rattle.slab_header.specs.Steps.{put_events, with_bit, PutsBitOver}
+use Rattle.slab_header.specs.Steps.{put_events, with_bit}
 use Rattle.attach_steps.specs.Steps.{bit_word, bit_put}
+use Rattle.attach_steps.proofs.Pairs.{pair_step}
 use Rattle.attach_steps.proofs.ClassBlocks.{PutsBitOver-same}
 use Rattle.attach_steps.proofs.steps.unmark.Given as given
 use Rattle.attach_steps.proofs.steps.unmark.Goals as goal
-
-start : (g : given.Over) (c : goal.After-fence g) → c.granule_at.result / 16384 ≡ c.args.block.start
-start g c = omega (arith, c.granule_at.ensures)
 
 -- the words behind the store of the root
 abbrev left : (g : given.Over) (c : goal.After-fence g) → List ℕ
@@ -31,20 +25,10 @@ kept g c =
 
 pub returns-clause-step : goal.returns-clause-step
 returns-clause-step g c =
-    let state = g.P.Pmem.state in
-    let words = words_of (state c.args.p.now) in
-    let n = c.args.block.number in
-    let made : word_at (left g c) (bitmap_word (c.granule_at.result / 16384) n) ≡ word_at words (bit_word c.args.block) =
-    ap (λ s. word_at (left g c) (bitmap_word s n)) (start g c) ∙ kept g c in
-    step_of
-    (subst (λ (es : List Event). Appends (state c.args.p.now) (state c.fence.new.self) es)
-    (λ i. Store (c.root_at.ensures i) 0 ∷ Flush (c.root_at-2.ensures i / 64) ∷ put_events (8 * bitmap_word (start g c i) n) (with_bit (made i) (n / 8 % 64) false) ++ Fence ∷ [])
-    (then_step (then_step (then_step c.store.ensures c.flush.ensures) c.put_bit.ensures.appends) c.fence.ensures))
-    (IsQuiet-pair (8 * root_word c.args.root) 0 (8 * bit_word c.args.block) (bit_put words c.args.block false)) c.requires.quiet
-    (pair_crash words (8 * root_word c.args.root) 0 (8 * bit_word c.args.block) (bit_put words c.args.block false))
+    pair_step (8 * root_word c.args.root) 0 (8 * bit_word c.args.block) (bit_put (words_of (g.P.Pmem.state c.args.p.now)) c.args.block false)
+    (λ i. Store (c.root_at.ensures i) 0 ∷ Flush (c.root_at-2.ensures i / 64) ∷ put_events (8 * bit_word c.args.block) (with_bit (kept g c i) (c.args.block.number / 8 % 64) false) ++ Fence ∷ [])
+    (then_step (then_step (then_step c.store.ensures c.flush.ensures) c.put_block_bit.ensures.appends) c.fence.ensures) c.requires.quiet
 
 pub returns-clause-over : goal.returns-clause-over
 returns-clause-over g c =
-    let words = words_of (g.P.Pmem.state c.args.p.now) in
-    PutsBitOver-same words (left g c) c.args.block.start c.args.block.number false (c.flush.ensures.size ∙ c.store.ensures.size) (kept g c)
-    (subst (λ s. PutsBitOver (left g c) s c.args.block.number false) (start g c) c.put_bit.ensures.over)
+    PutsBitOver-same (words_of (g.P.Pmem.state c.args.p.now)) (left g c) c.args.block.start c.args.block.number false (c.flush.ensures.size ∙ c.store.ensures.size) (kept g c) c.put_block_bit.ensures.over

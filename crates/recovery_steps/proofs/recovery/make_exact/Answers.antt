@@ -28,8 +28,8 @@ returns-clause-part g c =
     (omega (arith, (layout_rules (version_in words)).recovery, ap (λ v. (layout_of v).recovery_events) same))
     c.make_steady.ensures.part steadied.keeps c.make_steady_exact.ensures.part
 
-pub make_steady-requires : goal.make_steady-requires
-make_steady-requires g c = record { image = c.requires.image; book = c.requires.book; quiet = c.requires.quiet; room = omega (arith, c.requires.room, (layout_rules (version_in (words_of (g.P.Pmem.state c.args.p.now)))).recovery) }
+pub make_steady-requires-clause-begins : goal.make_steady-requires-clause-begins
+make_steady-requires-clause-begins g c = record { image = c.requires.image; book = c.requires.book; quiet = c.requires.quiet; room = omega (arith, c.requires.room, (layout_rules (version_in (words_of (g.P.Pmem.state c.args.p.now)))).recovery) }
 
 pub make_steady_exact-requires-clause-begins : goal.make_steady_exact-requires-clause-begins
 make_steady_exact-requires-clause-begins g c =

@@ -21,7 +21,7 @@ settle_open-requires g c = record { image = c.requires.begins.image; book = c.re
 
 pub finish_morphing-requires : goal.finish_morphing-requires
 finish_morphing-requires g c =
-    record { image = c.settle_open.ensures.left.shut; book = c.settle_open.ensures.book; quiet = c.settle_open.ensures.part.step.quiet; room = omega (arith, c.requires.begins.room, (layout_rules (version_in (words_of (g.P.Pmem.state c.args.p.now)))).recovery, adds_few c.settle_open.ensures.part) }
+    record { image = record { shut = c.settle_open.ensures.left.shut; are = names_left c.args.names.now (words_of (g.P.Pmem.state c.args.p.now)) (words_of (g.P.Pmem.state c.settle_open.new.p)) c.settle_open.ensures.left c.requires.names }; book = c.settle_open.ensures.book; quiet = c.settle_open.ensures.part.step.quiet; room = omega (arith, c.requires.begins.room, (layout_rules (version_in (words_of (g.P.Pmem.state c.args.p.now)))).recovery, adds_few c.settle_open.ensures.part) }
 
 pub drop_loose-requires : goal.drop_loose-requires
 drop_loose-requires g c =
@@ -41,7 +41,7 @@ drop_empty-requires g c =
 pub end_done-requires : goal.end_done-requires
 end_done-requires g c =
     let before = left_then c.settle_open.ensures.left c.finish_morphing.ensures.left.left in
-    record { image = c.drop_empty.ensures.left.left.shut; book = c.drop_empty.ensures.book; quiet = c.drop_empty.ensures.part.step.quiet; room = omega (arith, c.requires.begins.room, entries_few c.requires.begins.image before (left_then before c.drop_loose.ensures.left.left), adds_few c.settle_open.ensures.part, adds_few c.finish_morphing.ensures.part, adds_few c.drop_loose.ensures.part, adds_few c.drop_empty.ensures.part) }
+    record { image = record { shut = c.drop_empty.ensures.left.left.shut; are = names_left c.args.names.now (words_of (g.P.Pmem.state c.args.p.now)) (words_of (g.P.Pmem.state c.drop_empty.new.p)) (left_then (left_then before c.drop_loose.ensures.left.left) c.drop_empty.ensures.left.left) c.requires.names }; book = c.drop_empty.ensures.book; quiet = c.drop_empty.ensures.part.step.quiet; room = omega (arith, c.requires.begins.room, entries_few c.requires.begins.image before (left_then before c.drop_loose.ensures.left.left), adds_few c.settle_open.ensures.part, adds_few c.finish_morphing.ensures.part, adds_few c.drop_loose.ensures.part, adds_few c.drop_empty.ensures.part) }
 
 pub returns-clause-part : goal.returns-clause-part
 returns-clause-part g c =

@@ -13,7 +13,7 @@ use Rattle.recovery_steps.proofs.steadying.make_steady.Goals as goal
 pub end_transition-requires-clause-endable : goal.end_transition-requires-clause-endable
 end_transition-requires-clause-endable g c =
     let words = words_of (g.P.Pmem.state c.args.p.now) in
-    endable_of words c.requires.image c.in-Some.start (subst (λ (ws : List ℕ). IsDoneBesides (tables_of ws) c.in-Some.start) c.all_words.ensures c.in-Some.ensures)
+    endable_of words c.requires.begins.image c.in-Some.start (subst (λ (ws : List ℕ). IsDoneBesides (tables_of ws) c.in-Some.start) c.all_words.ensures c.in-Some.ensures)
 
 pub returns-in-Some : goal.returns-in-Some
 returns-in-Some g c =
@@ -21,12 +21,12 @@ returns-in-Some g c =
     let start = c.in-Some.start in
     let done = c.end_transition.ensures in
     does_one IsDoneBesides end_events start c.all_words.ensures c.in-Some.ensures (step_wider (λ image leaves. leaves.keeps) done.step) (omega (arith, done.count)) (λ here. (
-      steadied_of words start (words_of (g.P.Pmem.state c.end_transition.new.p)) c.requires.image here done.ended,
-      book_off_header start c.requires.image here.done.slab done.ended.off done.ended.bounds c.requires.book,
+      steadied_of words start (words_of (g.P.Pmem.state c.end_transition.new.p)) c.requires.begins.image here done.ended,
+      book_off_header start c.requires.begins.image here.done.slab done.ended.off done.ended.bounds c.requires.begins.book,
     ))
 
 pub returns-in_default : goal.returns-in_default
 returns-in_default g c =
     let words = words_of (g.P.Pmem.state c.args.p.now) in
     let none = subst (λ (ws : List ℕ). HasNone (IsDoneBesides (tables_of ws))) c.all_words.ensures c.in_default.ensures in
-    record { part = leaves_none c.requires.quiet (takes_none none); left = steadied_self words (steady_of words c.requires.image none); book = c.requires.book }
+    record { part = leaves_none c.requires.begins.quiet (takes_none none); left = steadied_self words (steady_of words c.requires.begins.image none); book = c.requires.begins.book }

@@ -1,0 +1,13 @@
+-- The kinds of loose things.
+use Rattle.std.specs.Prelude.{ℕ}
+use Rattle.image_tables.specs.Tables.{Tables}
+use Rattle.heap_check.specs.Sound.{IsLooseLarge, IsEmptySlab, IsMorphing, IsDoneSlab}
+use Rattle.recovery_steps.specs.declared.search.Loose.{Loose}
+use Rattle.recovery_steps.specs.declared.search.Loose.TheVariants.{Morphing, Large, Empty, Done}
+
+-- a loose thing of the kind starts at a granule
+abbrev pub IsLooseOf : Loose → Tables → ℕ → Type 0
+IsLooseOf Morphing = IsMorphing
+IsLooseOf Large = IsLooseLarge
+IsLooseOf Empty = IsEmptySlab
+IsLooseOf Done = IsDoneSlab
