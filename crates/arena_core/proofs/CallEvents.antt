@@ -29,6 +29,7 @@ use Rattle.heap_check.specs.Image.{bounds_of, IsExactImage}
 use Rattle.heap_check.specs.State.{KeepsBlocks, IsEitherHeap}
 use Rattle.arena_core.specs.Arena.{ArenaState, IsSlabsOf, live_in, AreLivesOf, IsCurrent, IsArena, old_range}
 use Rattle.arena_core.specs.declared.volatile.Volatile.{Volatile}
+use Rattle.arena_core.specs.Answered.{IsAnswered}
 use Rattle.arena_core.specs.Call.{IsStepOf, IsStepOfAny}
 use Rattle.arena_core.specs.Carried.{IsDone, IsCalled}
 use Rattle.arena_core.specs.Effect.{GivesRoot, KeepsSlabs}
@@ -329,31 +330,24 @@ IsCalled-refused {old} {was} {seat} call reply arena none stays step =
       keeps = record { each = λ r other range k here is word. refl };
     }
 
--- an arena answered a call of a seat
-pub record IsAnswered (old new : ArenaState) (left : Volatile) (seat : ℕ) (call : Call) (reply : Reply) : Type 0 where
-  pub step : IsStepOf seat (words_of old.device) (stacks_of old.stacks) (words_of new.device) (stacks_of new.stacks) call reply
-  pub device : new.device ≡ appended (began old.device) (call_events (words_of old.device) old.line call reply)
-  pub line_is : new.line ≡ line_after old.line reply
-  pub keeps : KeepsBlocks (words_of old.device) (words_of new.device)
-  pub arena : IsArena new.device left
-  pub crash : CrashOnly new.device.base new.device.events (IsEitherHeap (words_of old.device) (words_of new.device))
-
 -- what an arena means
 abbrev pub meant : PmemState → Volatile → ArenaState
 meant device volatile = record { device = device; line = volatile.line; stacks = volatile.supply.stacks }
 
 -- by what was done behind its begin
-answered : (device begun new : PmemState) (was left : Volatile) (seat : ℕ) (call : Call) (reply : Reply) → begun ≡ began device → IsCalled begun new was left seat call reply → IsAnswered (meant device was) (meant new left) left seat call reply
-answered device begun new was left seat call reply is called =
+answered : (device begun new : PmemState) (was left : Volatile) (seat : ℕ) (call : Call) (reply : Reply) → begun ≡ began device → IsExactImage (words_of device) → IsCalled begun new was left seat call reply → IsAnswered seat (meant device was) (meant new left) call reply
+answered device begun new was left seat call reply is exact called =
     let same : words_of begun ≡ words_of device = ap (λ (s : PmemState). words_of s) is in
     let state : new ≡ appended (began device) (call_events (words_of device) was.line call reply) =
     called.carried.appends.state ∙ (λ i. appended (is i) (call_events (same i) was.line call reply)) in
     record {
       step = subst (λ (ws : List ℕ). IsStepOf seat ws (stacks_of was.supply.stacks) (words_of new) (stacks_of left.supply.stacks) call reply) same called.step;
       device = state;
-      line_is = called.line_is;
+      line = called.line_is;
       keeps = subst (λ (ws : List ℕ). KeepsBlocks ws (words_of new)) same called.keeps;
-      arena = called.arena;
+      was_exact = exact;
+      exact = called.arena.current.exact;
+      ready = called.arena.current.ready;
       crash = subst (λ (s : PmemState). CrashOnly s.base s.events (IsEitherHeap (words_of device) (words_of new))) (sym state)
           (subst (λ (ws : List ℕ). CrashOnly (words_of device) (call_events (words_of device) was.line call reply) (IsEitherHeap ws (words_of new))) same
           (subst (λ (ws : List ℕ). CrashOnly ws (call_events ws was.line call reply) (IsEitherHeap (words_of begun) (words_of new))) same called.carried.crash));
@@ -361,6 +355,6 @@ answered device begun new was left seat call reply is called =
 
 -- of an arena by what it means
 pub answered_by : (device begun new : PmemState) (was left : Volatile) (now : ArenaState) (seat : ℕ) (call : Call) (reply : Reply) → meant device was ≡ now → begun ≡ began device →
-    IsCalled begun new was left seat call reply → IsAnswered now (meant new left) left seat call reply
-answered_by device begun new was left now seat call reply view is called =
-    subst (λ (s : ArenaState). IsAnswered s (meant new left) left seat call reply) view (answered device begun new was left seat call reply is called)
+    IsExactImage (words_of device) → IsCalled begun new was left seat call reply → IsAnswered seat now (meant new left) call reply
+answered_by device begun new was left now seat call reply view is exact called =
+    subst (λ (s : ArenaState). IsAnswered seat s (meant new left) call reply) view (answered device begun new was left seat call reply is exact called)

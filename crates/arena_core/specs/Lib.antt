@@ -1,4 +1,5 @@
 pub mod Answer
+pub mod Answered
 pub mod Events
 pub mod Call
 pub mod Effect

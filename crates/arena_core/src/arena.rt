@@ -13,6 +13,7 @@ ghost use Rattle.heap_check.specs.Image.{IsExactImage};
 ghost use Rattle.heap_check.specs.State.{HasState, KeepsBlocks, IsEitherHeap};
 ghost use Rattle.move_steps.specs.Moves.{IsEitherMoved};
 ghost use Rattle.arena_core.specs.Answer.{malloc_reply, free_reply, move_reply, write_reply};
+ghost use Rattle.arena_core.specs.Answered.{IsAnswered};
 ghost use Rattle.arena_core.specs.Arena.{IsBlockOfRoot};
 ghost use Rattle.arena_core.specs.Call.{IsReady, IsStepOf, IsStepOfAny, IsFormattedOrNot};
 ghost use Rattle.arena_core.specs.Events.{call_events, line_after, format_events};
@@ -127,14 +128,7 @@ impl<P: Pmem> Arena<P> {
     /// one after it. It takes no memory. `seat` is the caller's, below 64.
     pub fn malloc_to(&mut self, seat: u32, root: u32, size: u64) -> Result<Placed, MallocRefusal>
         requires { seat < 64 }
-        ensures step { IsStepOf seat (words_of self.old.device) (stacks_of self.old.stacks) (words_of self.new.device) (stacks_of self.new.stacks) (calls.Malloc root size) (malloc_reply result) }
-        ensures device { self.new.device ≡ appended (began self.old.device) (call_events (words_of self.old.device) self.old.line (calls.Malloc root size) (malloc_reply result)) }
-        ensures line { self.new.line ≡ line_after self.old.line (malloc_reply result) }
-        ensures keeps { KeepsBlocks (words_of self.old.device) (words_of self.new.device) }
-        ensures was_exact { IsExactImage (words_of self.old.device) }
-        ensures exact { IsExactImage (words_of self.new.device) }
-        ensures ready { IsReady self.new.device }
-        ensures crash { CrashOnly self.new.device.base self.new.device.events (IsEitherHeap (words_of self.old.device) (words_of self.new.device)) }
+        ensures { IsAnswered seat self.old self.new (calls.Malloc root size) (malloc_reply result) }
     {
         let plan = self.volatile.plan_malloc(&self.device, seat, root, size);
         self.device.begin();
@@ -151,14 +145,7 @@ impl<P: Pmem> Arena<P> {
     /// is the caller's, below 64.
     pub fn free_from(&mut self, seat: u32, root: u32) -> Result<Freed, FreeRefusal>
         requires { seat < 64 }
-        ensures step { IsStepOf seat (words_of self.old.device) (stacks_of self.old.stacks) (words_of self.new.device) (stacks_of self.new.stacks) (calls.Free root) (free_reply result) }
-        ensures device { self.new.device ≡ appended (began self.old.device) (call_events (words_of self.old.device) self.old.line (calls.Free root) (free_reply result)) }
-        ensures line { self.new.line ≡ line_after self.old.line (free_reply result) }
-        ensures keeps { KeepsBlocks (words_of self.old.device) (words_of self.new.device) }
-        ensures was_exact { IsExactImage (words_of self.old.device) }
-        ensures exact { IsExactImage (words_of self.new.device) }
-        ensures ready { IsReady self.new.device }
-        ensures crash { CrashOnly self.new.device.base self.new.device.events (IsEitherHeap (words_of self.old.device) (words_of self.new.device)) }
+        ensures { IsAnswered seat self.old self.new (calls.Free root) (free_reply result) }
     {
         let plan = self.volatile.plan_free(&self.device, root);
         self.device.begin();
