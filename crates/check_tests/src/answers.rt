@@ -33,3 +33,18 @@ pub fn counts(large: u32, slabs: u32, blocks: u32, loose: u32) -> Result<Summary
         loose,
     })
 }
+
+/// The slab at a granule has a bad header, by this word.
+pub fn bad_slab(start: u32, value: u64) -> Defect {
+    Defect::BadSlab { start, value }
+}
+
+/// A write-ahead line has a bad entry, which is this word.
+pub fn bad_wal(line: u8, value: u64) -> Defect {
+    Defect::BadWal { line, value }
+}
+
+/// The blocks of two roots share a byte.
+pub fn shared(first: u32, second: u32) -> Defect {
+    Defect::SharedBlock { first, second }
+}

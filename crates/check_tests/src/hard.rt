@@ -2,7 +2,7 @@
 // there may be, and what is wrong, if anything, at the end of a search.
 ghost use Rattle.std.specs.Prelude.{◌<◌};
 
-use crate::answers::{answer_of, counts};
+use crate::answers::{answer_of, bad_slab, counts, shared};
 use crate::images::{Put, blank, put};
 use pmem_lines::OutOfMemory;
 use pool_layout::Defect;
@@ -81,13 +81,7 @@ fn the_last_pair_of_roots(rt: HostRuntime) -> Result<(), Fail> {
         hold(&mut words, root, block / 3968, 16 * (block % 3968));
     }
     hold(&mut words, 4095, 0, 0);
-    assert_eq!(rt;
-        answer_of(rt.alloc(), &words)?,
-        Err(Defect::SharedBlock {
-            first: 4094,
-            second: 4095
-        })
-    );
+    assert_eq!(rt; answer_of(rt.alloc(), &words)?, Err(shared(4094, 4095)));
     Ok(())
 }
 
@@ -112,13 +106,7 @@ fn all_slabs_in_transition(rt: HostRuntime) -> Result<(), Fail> {
     }
     assert_eq!(rt; answer_of(rt.alloc(), &words)?, counts(0, 255, 4096, 0));
     set(&mut words, 8192 * SLABS + 8 * 16 + 7, 1);
-    assert_eq!(rt;
-        answer_of(rt.alloc(), &words)?,
-        Err(Defect::BadSlab {
-            start: 1020,
-            value: 1
-        })
-    );
+    assert_eq!(rt; answer_of(rt.alloc(), &words)?, Err(bad_slab(1020, 1)));
     Ok(())
 }
 

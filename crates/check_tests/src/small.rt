@@ -1,7 +1,7 @@
 // Defects of an arena with one block, one by one. `moving` has its open entries of both kinds.
 mod moving;
 
-use crate::answers::{answer, answer_of, counts};
+use crate::answers::{answer, answer_of, bad_slab, bad_wal, counts, shared};
 use crate::images::{ONE_BLOCK, Put, blank, image, put};
 use pool_layout::Defect;
 use std::test::Fail;
@@ -58,22 +58,10 @@ fn defects(rt: HostRuntime) -> Result<(), Fail> {
                 second: 6,
             },
         ),
-        (
-            &[(8192, 1545)],
-            Defect::BadSlab {
-                start: 4,
-                value: 1545,
-            },
-        ),
-        (&[(64, 2)], Defect::BadWal { line: 0, value: 2 }),
+        (&[(8192, 1545)], bad_slab(4, 1545)),
+        (&[(64, 2)], bad_wal(0, 2)),
         (&[(2054, 67600)], Defect::StrayRoot { root: 6, at: 67600 }),
-        (
-            &[(2054, 67584)],
-            Defect::SharedBlock {
-                first: 5,
-                second: 6,
-            },
-        ),
+        (&[(2054, 67584)], shared(5, 6)),
         (&[(8208, 1)], Defect::StrayBit { at: 67696 }),
         (
             &[(6160, 33556481), (6168, 33556993)],

@@ -1,7 +1,6 @@
 // Open entries: of a block that comes or goes, and of one that moves.
-use crate::answers::{answer, counts};
+use crate::answers::{answer, bad_wal, counts};
 use crate::images::{ONE_BLOCK, Put};
-use pool_layout::Defect;
 use std::test::Fail;
 
 // The place entry of root 5 and the block that it holds, and the move entry from root 5 to root 9.
@@ -35,10 +34,7 @@ fn place_entries(rt: HostRuntime) -> Result<(), Fail> {
 
 #[test]
 fn move_entries(rt: HostRuntime) -> Result<(), Fail> {
-    let bad = Err(Defect::BadWal {
-        line: 0,
-        value: MOVE,
-    });
+    let bad = Err(bad_wal(0, MOVE));
     let rows: [(&[Put], _); 4] = [
         (&[(64, MOVE)], counts(0, 1, 1, 1)),
         (&[(64, MOVE), (2057, 67584)], counts(0, 1, 1, 1)),
@@ -56,10 +52,7 @@ fn second_lines(rt: HostRuntime) -> Result<(), Fail> {
     // A second entry is bad, though each of the two may be open alone.
     assert_eq!(rt;
         answer(rt.alloc(), &ONE_BLOCK, &[(64, PLACE), (80, MOVE)])?,
-        Err(Defect::BadWal {
-            line: 2,
-            value: MOVE
-        })
+        Err(bad_wal(2, MOVE))
     );
     // Root 5 has a word that is not the address of the first entry. The move entry behind it, by which root 5 would hold
     // nothing, does not make it good.
@@ -69,10 +62,7 @@ fn second_lines(rt: HostRuntime) -> Result<(), Fail> {
             &ONE_BLOCK,
             &[(64, 290752106397697), (72, MOVE), (2057, 67584)]
         )?,
-        Err(Defect::BadWal {
-            line: 0,
-            value: 290752106397697
-        })
+        Err(bad_wal(0, 290752106397697))
     );
     Ok(())
 }
