@@ -1,5 +1,7 @@
 // What becomes of images.
-use arena_core::{Freed, Moved, Placed};
+ghost use Rattle.std.specs.Prelude.{◌≡◌, ◌≤◌, ◌%◌, length};
+
+use arena_core::{Arena, Freed, Moved, Placed};
 use check_tests::{Put, image, put};
 use heap_model::Block;
 use pmem_lines::{OutOfMemory, Pmem, SimPmem};
@@ -59,6 +61,29 @@ pub fn recovered(
     }
 }
 
+/// The arena that is recovered from these words. `None` where they are not sound.
+fn arena_of(alloc: Global, words: &[u64]) -> Result<Option<Arena<SimPmem>>, OutOfMemory>
+    requires whole { length words.now % 8 ≡ 0 }
+    requires some { 8 ≤ length words.now }
+    requires few { length words.now ≤ 8388608 }
+{
+    let device = SimPmem::from_image(alloc, words, 2048)?;
+    match recover(alloc, device) {
+        Ok(arena) => Ok(Some(arena)),
+        Err((RecoverFault::Memory(error), _)) => Err(error),
+        Err((RecoverFault::Defect(_), _)) => Ok(None),
+    }
+}
+
+/// The arena that is recovered from the words of two rows. `None` where they are not sound.
+pub fn arena_with(
+    alloc: Global,
+    base: &[Put],
+    changes: &[Put],
+) -> Result<Option<Arena<SimPmem>>, OutOfMemory> {
+    arena_of(alloc, &image(alloc, base, changes)?)
+}
+
 /// What is changed in an image, what is then changed by recovery, and by how many events.
 pub type Row<'a> = (&'a [Put], &'a [Put], u32);
 
@@ -73,25 +98,25 @@ pub fn all_become<R: Abort>(rt: &R, alloc: Global, base: &[Put], rows: &[Row]) -
     Ok(())
 }
 
-/// What an arena that was recovered from the words of a row has at a root, and where it puts a block of another.
+/// A block that is given out at an address.
+pub fn placed(at: u32, size: u32) -> Option<Placed> {
+    Some(Placed { at, size })
+}
+
+/// A block at an address that goes.
+pub fn freed(at: u32, size: u32) -> Option<Freed> {
+    Some(Freed { at, size })
+}
+
+/// What an arena has at a root, and where it puts a block of another.
 pub fn goes_on(
-    alloc: Global,
-    base: &[Put],
-    changes: &[Put],
+    mut arena: Arena<SimPmem>,
     held: u32,
     root: u32,
     size: u64,
-) -> Result<(Option<Block>, Option<Placed>), OutOfMemory> {
-    let words = image(alloc, base, changes)?;
-    let device = SimPmem::from_image(alloc, &words, 2048)?;
-    match recover(alloc, device) {
-        Ok(mut arena) => {
-            let block = arena.block(held);
-            Ok((block, arena.malloc_to(0, root, size).ok()))
-        }
-        Err((RecoverFault::Memory(error), _)) => Err(error),
-        Err((RecoverFault::Defect(_), _)) => Ok((None, None)),
-    }
+) -> (Option<Block>, Option<Placed>) {
+    let block = arena.block(held);
+    (block, arena.malloc_to(0, root, size).ok())
 }
 
 /// What an arena answers to a malloc, a free behind it, and the same malloc for another root and for an eighth one; and how
@@ -105,36 +130,22 @@ pub struct Answered {
     pub eighth: Option<Placed>,
 }
 
-/// An arena that was recovered from the words of a row gives root 3 so many bytes, frees the block of a root, and gives the
-/// roots 4 to 11 as many. `None` where its image is not sound.
-pub fn frees_between(
-    alloc: Global,
-    base: &[Put],
-    root: u32,
-    size: u64,
-) -> Result<Option<Answered>, OutOfMemory> {
-    let words = image(alloc, base, &[])?;
-    let device = SimPmem::from_image(alloc, &words, 2048)?;
-    match recover(alloc, device) {
-        Ok(mut arena) => {
-            let before = arena.malloc_to(0, 3, size).ok();
-            let freed = arena.free_from(0, root).ok();
-            let events = arena.pmem().event_count();
-            let next = arena.malloc_to(0, 4, size).ok();
-            for root in 5..11 {
-                let _ = arena.malloc_to(0, root, size);
-            }
-            let eighth = arena.malloc_to(0, 11, size).ok();
-            Ok(Some(Answered {
-                before,
-                freed,
-                events,
-                next,
-                eighth,
-            }))
-        }
-        Err((RecoverFault::Memory(error), _)) => Err(error),
-        Err((RecoverFault::Defect(_), _)) => Ok(None),
+/// An arena gives root 3 so many bytes, frees the block of a root, and gives the roots 4 to 11 as many.
+pub fn frees_between(mut arena: Arena<SimPmem>, root: u32, size: u64) -> Answered {
+    let before = arena.malloc_to(0, 3, size).ok();
+    let freed = arena.free_from(0, root).ok();
+    let events = arena.pmem().event_count();
+    let next = arena.malloc_to(0, 4, size).ok();
+    for root in 5..11 {
+        let _ = arena.malloc_to(0, root, size);
+    }
+    let eighth = arena.malloc_to(0, 11, size).ok();
+    Answered {
+        before,
+        freed,
+        events,
+        next,
+        eighth,
     }
 }
 
@@ -147,31 +158,25 @@ pub struct Passed {
     pub freeing: u32,
 }
 
-/// An arena that was recovered from the words of a row moves a root's block to another, from which it is freed. `None`
-/// where its image is not sound.
-pub fn moves_and_frees(
-    alloc: Global,
-    base: &[Put],
-    from: u32,
-    to: u32,
-) -> Result<Option<Passed>, OutOfMemory> {
-    let words = image(alloc, base, &[])?;
-    let device = SimPmem::from_image(alloc, &words, 2048)?;
-    match recover(alloc, device) {
-        Ok(mut arena) => {
-            let moved = arena.move_to(from, to).ok();
-            let moving = arena.pmem().event_count();
-            let freed = arena.free_from(0, to).ok();
-            let freeing = arena.pmem().event_count();
-            Ok(Some(Passed {
-                moved,
-                moving,
-                freed,
-                freeing,
-            }))
-        }
-        Err((RecoverFault::Memory(error), _)) => Err(error),
-        Err((RecoverFault::Defect(_), _)) => Ok(None),
+/// An arena moves a root's block to another, from which it is freed.
+pub fn moves_and_frees(mut arena: Arena<SimPmem>, from: u32, to: u32) -> Passed {
+    let moved = arena.move_to(from, to).ok();
+    let moving = arena.pmem().event_count();
+    let freed = arena.free_from(0, to).ok();
+    let freeing = arena.pmem().event_count();
+    Passed {
+        moved,
+        moving,
+        freed,
+        freeing,
+    }
+}
+
+/// The address of the block of a root, 0 for none.
+fn at_of(arena: &Arena<SimPmem>, root: u32) -> u32 {
+    match arena.block(root) {
+        Some(block) => block.at,
+        None => 0,
     }
 }
 
@@ -186,21 +191,9 @@ fn both_of(
     if words.is_empty() || words.len() > 8_388_608 || words.len() % 8 != 0 {
         return Ok(None);
     }
-    let device = SimPmem::from_image(alloc, words, 2048)?;
-    match recover(alloc, device) {
-        Ok(arena) => {
-            let first = match arena.block(one) {
-                Some(block) => block.at,
-                None => 0,
-            };
-            let second = match arena.block(other) {
-                Some(block) => block.at,
-                None => 0,
-            };
-            Ok(Some((first, second)))
-        }
-        Err((RecoverFault::Memory(error), _)) => Err(error),
-        Err((RecoverFault::Defect(_), _)) => Ok(None),
+    match arena_of(alloc, words)? {
+        Some(arena) => Ok(Some((at_of(&arena, one), at_of(&arena, other)))),
+        None => Ok(None),
     }
 }
 
@@ -214,18 +207,13 @@ pub fn crash_in_a_move(
     k: u32,
     seed: u64,
 ) -> Result<Option<(u32, u32)>, OutOfMemory> {
-    let words = image(alloc, base, &[])?;
-    let device = SimPmem::from_image(alloc, &words, 2048)?;
-    match recover(alloc, device) {
-        Ok(mut arena) => {
-            if arena.move_to(from, to).is_err() || k > arena.pmem().event_count() {
-                return Ok(None);
-            }
-            let mut picks = SplitMix64::from_seed(seed.to_le_bytes());
-            let left = arena.pmem().image(alloc, k, &mut picks)?;
-            both_of(alloc, &left, from, to)
-        }
-        Err((RecoverFault::Memory(error), _)) => Err(error),
-        Err((RecoverFault::Defect(_), _)) => Ok(None),
+    let Some(mut arena) = arena_with(alloc, base, &[])? else {
+        return Ok(None);
+    };
+    if arena.move_to(from, to).is_err() || k > arena.pmem().event_count() {
+        return Ok(None);
     }
+    let mut picks = SplitMix64::from_seed(seed.to_le_bytes());
+    let left = arena.pmem().image(alloc, k, &mut picks)?;
+    both_of(alloc, &left, from, to)
 }

@@ -1,14 +1,14 @@
 // An arena with a slab that took another class, and images in which several things are loose.
-use crate::images::{Answered, Became, Row, all_become, frees_between, recovered};
-use arena_core::{Freed, Placed};
+use crate::images::{
+    Answered, Became, Row, all_become, arena_with, freed, frees_between, placed, recovered,
+};
 use check_tests::{IN_TRANSITION, Put};
 use pool_layout::Defect;
 use std::test::Fail;
 
 #[test]
 fn slabs_in_transition(rt: HostRuntime) -> Result<(), Fail> {
-    let rows: [Row; 7] = [
-        (&[], &[], 0),
+    let rows: [Row; 6] = [
         (
             &[(24576, 16978690), (2050, 0)],
             &[(24576, 16978691), (24592, 0)],
@@ -94,26 +94,15 @@ fn defects(rt: HostRuntime) -> Result<(), Fail> {
 #[test]
 fn old_block_goes(rt: HostRuntime) -> Result<(), Fail> {
     let wanted = Answered {
-        before: Some(Placed {
-            at: 200704,
-            size: 1024,
-        }),
-        freed: Some(Freed {
-            at: 198656,
-            size: 64,
-        }),
+        before: placed(200704, 1024),
+        freed: freed(198656, 64),
         events: 14,
-        next: Some(Placed {
-            at: 201728,
-            size: 1024,
-        }),
-        eighth: Some(Placed {
-            at: 198656,
-            size: 1024,
-        }),
+        next: placed(201728, 1024),
+        eighth: placed(198656, 1024),
     };
+    let arena = arena_with(rt.alloc(), &IN_TRANSITION, &[])?;
     assert_eq!(rt;
-        frees_between(rt.alloc(), &IN_TRANSITION, 1, 1000)?,
+        arena.map(|arena| frees_between(arena, 1, 1000)),
         Some(wanted)
     );
     Ok(())

@@ -1,7 +1,7 @@
 // Blocks that move from a root to another: an old one of a slab that took another class, and what recovery finds once a
 // crash came within a move.
-use crate::images::{Passed, crash_in_a_move, moves_and_frees};
-use arena_core::{Freed, Moved};
+use crate::images::{Passed, arena_with, crash_in_a_move, freed, moves_and_frees};
+use arena_core::Moved;
 use check_tests::{IN_TRANSITION, ONE_BLOCK};
 use std::test::Fail;
 
@@ -14,14 +14,12 @@ fn old_block_moves(rt: HostRuntime) -> Result<(), Fail> {
             size: 64,
         }),
         moving: 12,
-        freed: Some(Freed {
-            at: 198656,
-            size: 64,
-        }),
+        freed: freed(198656, 64),
         freeing: 14,
     };
+    let arena = arena_with(rt.alloc(), &IN_TRANSITION, &[])?;
     assert_eq!(rt;
-        moves_and_frees(rt.alloc(), &IN_TRANSITION, 1, 9)?,
+        arena.map(|arena| moves_and_frees(arena, 1, 9)),
         Some(wanted)
     );
     Ok(())

@@ -1,14 +1,19 @@
-// Open entries of an arena with one block.
-use crate::images::{Row, all_become, goes_on};
-use arena_core::Placed;
-use check_tests::{ONE_BLOCK, Put};
+// Images in which nothing is loose, and open entries of an arena with one block.
+use crate::images::{Row, all_become, arena_with, goes_on, placed};
+use check_tests::{IN_TRANSITION, ONE_BLOCK, Put};
 use heap_model::Block;
 use std::test::Fail;
 
+// What is exact stays so, by no event.
+#[test]
+fn exact_images(rt: HostRuntime) -> Result<(), Fail> {
+    all_become(&rt, rt.alloc(), &ONE_BLOCK, &[(&[], &[], 0)])?;
+    all_become(&rt, rt.alloc(), &IN_TRANSITION, &[(&[], &[], 0)])
+}
+
 #[test]
 fn open_entries(rt: HostRuntime) -> Result<(), Fail> {
-    let rows: [Row; 4] = [
-        (&[], &[], 0),
+    let rows: [Row; 3] = [
         (
             &[(64, 290271070060545), (8200, 0)],
             &[(64, 0), (8200, 1)],
@@ -42,10 +47,10 @@ fn arena_goes_on(rt: HostRuntime) -> Result<(), Fail> {
         (&[(64, 290271070060545), (2053, 0)], None, 67584),
     ];
     for (changes, block, at) in rows {
-        let wanted = Placed { at, size: 112 };
+        let arena = arena_with(rt.alloc(), &ONE_BLOCK, changes)?;
         assert_eq!(rt;
-            goes_on(rt.alloc(), &ONE_BLOCK, changes, 5, 6, 100)?,
-            (block, Some(wanted))
+            arena.map(|arena| goes_on(arena, 5, 6, 100)),
+            Some((block, placed(at, 112)))
         );
     }
     Ok(())
