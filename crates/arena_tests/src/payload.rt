@@ -3,6 +3,7 @@
 use crate::arenas::{freed, gave, had, new_arena, write};
 use arena_core::{Arena, BlockRefusal};
 use pmem_lines::{Event, SimPmem};
+use std::alloc::Global;
 use std::test::Fail;
 
 // The words that a root's block has.
@@ -13,10 +14,16 @@ fn has(arena: &Arena<SimPmem>, root: u32, words: &[u64]) -> bool {
     }
 }
 
+// An arena in which root 5 has its block.
+fn arena_of_one(alloc: Global) -> Result<Arena<SimPmem>, Fail> {
+    let mut arena = new_arena(alloc)?;
+    let _ = gave(&mut arena, 0, 5, 100).then_some(()).ok_or("no block")?;
+    Ok(arena)
+}
+
 #[test]
 fn across_two_lines(rt: HostRuntime) -> Result<(), Fail> {
-    let mut arena = new_arena(rt.alloc())?;
-    assert!(rt; gave(&mut arena, 0, 5, 100));
+    let mut arena = arena_of_one(rt.alloc())?;
     assert_eq!(rt; write(&mut arena, 5, 6, &[1, 2, 3, 4]), Ok(()));
     assert!(rt;
         had(
@@ -48,10 +55,10 @@ fn across_two_lines(rt: HostRuntime) -> Result<(), Fail> {
     Ok(())
 }
 
+// What lies past the end is refused, with no event, also where no words are written.
 #[test]
 fn at_the_end(rt: HostRuntime) -> Result<(), Fail> {
-    let mut arena = new_arena(rt.alloc())?;
-    assert!(rt; gave(&mut arena, 0, 5, 100));
+    let mut arena = arena_of_one(rt.alloc())?;
     assert_eq!(rt; write(&mut arena, 5, 12, &[8, 9]), Ok(()));
     assert!(rt;
         had(
@@ -70,33 +77,21 @@ fn at_the_end(rt: HostRuntime) -> Result<(), Fail> {
             ],
         )
     );
-    assert_eq!(rt;
-        write(&mut arena, 5, 13, &[1, 2]),
-        Err(BlockRefusal::OutOfRange)
-    );
-    assert!(rt; had(&arena, &[]));
-    assert_eq!(rt;
-        write(&mut arena, 5, 14, &[1]),
-        Err(BlockRefusal::OutOfRange)
-    );
-    assert_eq!(rt;
-        write(&mut arena, 5, 4294967295, &[1]),
-        Err(BlockRefusal::OutOfRange)
-    );
+    for (from, count, wanted) in [
+        (13, 2, Err(BlockRefusal::OutOfRange)),
+        (14, 1, Err(BlockRefusal::OutOfRange)),
+        (4294967295, 1, Err(BlockRefusal::OutOfRange)),
+        (14, 0, Ok(())),
+        (15, 0, Err(BlockRefusal::OutOfRange)),
+    ] {
+        assert_eq!(rt;
+            write(&mut arena, 5, from, &[1, 2][..count]),
+            wanted,
+            "{count} at {from}"
+        );
+        assert!(rt; had(&arena, &[]), "{count} at {from}");
+    }
     assert!(rt; has(&arena, 5, &[0, 0, 0, 0, 0, 0, 0, 0, 0, 0, 0, 0, 8, 9]));
-    Ok(())
-}
-
-#[test]
-fn no_words(rt: HostRuntime) -> Result<(), Fail> {
-    let mut arena = new_arena(rt.alloc())?;
-    assert!(rt; gave(&mut arena, 0, 5, 100));
-    assert_eq!(rt; write(&mut arena, 5, 14, &[]), Ok(()));
-    assert!(rt; had(&arena, &[]));
-    assert_eq!(rt;
-        write(&mut arena, 5, 15, &[]),
-        Err(BlockRefusal::OutOfRange)
-    );
     Ok(())
 }
 

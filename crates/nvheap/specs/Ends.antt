@@ -102,6 +102,10 @@ abbrev pub IsFaultLine : Cause → Answer → Type 0
 IsFaultLine cause (Output text) = ⊥
 IsFaultLine cause (FaultLine text) = text.items ≡ cause_text cause
 
+-- the line that says that a trace is refused, at a line outside the grammar
+abbrev pub IsBadLine : List ℕ → Answer → Type 0
+IsBadLine input answer = (line : ℕ) × IsRefusedLine input line × IsFaultLine (causes.Trace (BadLine line)) answer
+
 -- what a sink took of an answer, by how its writing ended: all of it, or at a fault its front
 abbrev pub IsWritten : Answer → Option (List ℕ) → Option (List ℕ) → Status → Type 0
 IsWritten (Output text) old new Done = Takes old new text.items

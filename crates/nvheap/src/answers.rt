@@ -1,11 +1,13 @@
 // What each command has to say of its input.
-ghost use Rattle.std.specs.Prelude.{◌≡◌, ℕ, List, Option, IfOk, OnErr};
+ghost use Rattle.std.specs.Prelude.{◌≡◌, ◌≤◌, ℕ, List, Option, length, IfOk, IfErr, OnErr};
+ghost use Rattle.std.specs.List.{All};
 ghost use Rattle.pmem_lines.specs.Pmem.{PmemState};
 ghost use Rattle.nvheap.specs.declared.command.Command.TheVariants as commands;
 ghost use Rattle.pool_layout.specs.Image.{AreWordsOf, AreWords};
 ghost use Rattle.nvheap.specs.Command.{MayWait, Recovers};
 ghost use Rattle.nvheap.specs.Inputs.{HasBytes, IsInput, Fits};
-ghost use Rattle.nvheap.specs.Ends.{IsAnswer, CountsImages, IsFaultLine};
+ghost use Rattle.trace_text.specs.Grammar.{pool_of, IsPool, IsTrace, IsTraceCall};
+ghost use Rattle.nvheap.specs.Ends.{IsAnswer, CountsImages, IsFaultLine, IsBadLine};
 
 use crate::cause::{Cause, write_cause};
 use crate::command::Command;
@@ -18,6 +20,7 @@ use image_runs::check_pool;
 use pmem_lines::OutOfMemory;
 use pool_layout::ImageFault;
 use std::alloc::Global;
+use trace_text::{Refusal, Trace, TraceFault, read_trace};
 
 /// What a command has to say of its input.
 #[derive(Drop)]
@@ -69,6 +72,25 @@ fn check_answer(alloc: Global, words: &[u64], bytes: u64) -> Result<Answer, OutO
             Cause::Image { arena, defect },
         ),
         Err(ImageFault::Memory(fault)) => Err(fault),
+    }
+}
+
+/// The trace that an input says, or the answer of each command that reads one: the line that says which line of the input is
+/// outside the grammar.
+pub(crate) fn trace_of(alloc: Global, input: &[u8]) -> Result<Trace, Result<Answer, OutOfMemory>>
+    ensures trace { IfOk result (λ trace. IsTrace input.now (pool_of trace) trace.calls.items) }
+    ensures pool { IfOk result (λ trace. IsPool (pool_of trace)) }
+    ensures each { IfOk result (λ trace. All (IsTraceCall trace.arenas) trace.calls.items) }
+    ensures few { IfOk result (λ trace. length trace.calls.items ≤ length input.now) }
+    ensures refused { IfErr result (λ answer. IfOk answer (IsBadLine input.now)) }
+{
+    match read_trace(alloc, input) {
+        Ok(trace) => Ok(trace),
+        Err(TraceFault::Memory(fault)) => Err(Err(fault)),
+        Err(TraceFault::BadLine { line }) => Err(fault_line(
+            alloc,
+            Cause::Trace(Refusal::BadLine { line }),
+        )),
     }
 }
 

@@ -1,5 +1,5 @@
 // The words of the program.
-ghost use Rattle.std.specs.Prelude.{◌≡◌, ◌↔◌, IsTrue, map, string_bytes, MatchOption};
+ghost use Rattle.std.specs.Prelude.{◌≡◌, ◌↔◌, [], ◌∷◌, IsTrue, map, string_bytes, MatchOption};
 ghost use Rattle.nvheap.specs.Command.{IsCommand, IsNoCommand, SaysCrash, IsNoCrash, SaysGen, IsNoGen};
 
 use trace_text::whole_number;
@@ -27,17 +27,8 @@ const MOST_CALLS: u64 = 1_000_000;
 pub(crate) fn command_of(words: &[String]) -> Option<Command>
     ensures { MatchOption result (IsNoCommand (map string_bytes words.now)) (IsCommand (map string_bytes words.now)) }
 {
-    if words.len() == 1 && is_word(&words[0], "replay") {
-        return Some(Command::Replay);
-    }
-    if words.len() == 1 && is_word(&words[0], "image") {
-        return Some(Command::Image);
-    }
-    if words.len() == 1 && is_word(&words[0], "check") {
-        return Some(Command::Check);
-    }
-    if words.len() == 1 && is_word(&words[0], "recover") {
-        return Some(Command::Recover);
+    if words.len() == 1 {
+        return plain_command(&words[0]);
     }
     if words.len() == 4 && is_word(&words[0], "crash") {
         return crash_of(
@@ -48,6 +39,25 @@ pub(crate) fn command_of(words: &[String]) -> Option<Command>
     }
     if words.len() == 3 && is_word(&words[0], "gen") {
         return gen_of(words[1].as_bytes(), words[2].as_bytes());
+    }
+    None
+}
+
+// The command that one word says.
+fn plain_command(word: &String) -> Option<Command>
+    ensures { MatchOption result (IsNoCommand (string_bytes word.now ∷ [])) (IsCommand (string_bytes word.now ∷ [])) }
+{
+    if is_word(word, "replay") {
+        return Some(Command::Replay);
+    }
+    if is_word(word, "image") {
+        return Some(Command::Image);
+    }
+    if is_word(word, "check") {
+        return Some(Command::Check);
+    }
+    if is_word(word, "recover") {
+        return Some(Command::Recover);
     }
     None
 }

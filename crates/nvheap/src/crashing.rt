@@ -8,7 +8,7 @@ ghost use Rattle.nvheap.specs.declared.command.Command.TheVariants as commands;
 ghost use Rattle.nvheap.specs.Answers.{PutsRecovered};
 ghost use Rattle.nvheap.specs.Ends.{IsAnswer, CountsImages};
 
-use crate::answers::{Answer, fault_line};
+use crate::answers::{Answer, fault_line, trace_of};
 use crate::cause::Cause;
 use crate::shelf::Shelf;
 use image_runs::recover_heap;
@@ -17,7 +17,7 @@ use pool_layout::layout_of;
 use recover::RecoverFault;
 use std::alloc::Global;
 use trace_crashes::{CrashFault, Crashed, crash};
-use trace_text::{Refusal, TraceFault, read_trace, write_crash};
+use trace_text::{Refusal, write_crash};
 
 // The version of a trace's arenas.
 const VERSION: u32 = 1;
@@ -36,13 +36,9 @@ pub(crate) fn crash_answer<H: Shelf>(
     ensures counts { IfOk result (CountsImages (commands.Crash arena event seed) input.now (H.images shelf.old) (H.images shelf.new)) }
     ensures kept { OnErr result (H.places shelf.new ≡ H.places shelf.old) }
 {
-    let trace = match read_trace(alloc, input) {
+    let trace = match trace_of(alloc, input) {
         Ok(trace) => trace,
-        Err(TraceFault::Memory(fault)) => return Err(fault),
-        Err(TraceFault::BadLine { line }) => return fault_line(
-            alloc,
-            Cause::Trace(Refusal::BadLine { line }),
-        ),
+        Err(answer) => return answer,
     };
     if arena >= trace.arenas {
         return fault_line(

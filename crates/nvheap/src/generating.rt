@@ -12,7 +12,7 @@ use std::sync::Wait;
 use std::thread::Threads;
 use trace_gen::{generate, generated_pool};
 use trace_text::Trace;
-use trace_workers::{Gate, summarize};
+use trace_workers::{Account, Gate, replay};
 
 /// What so many generated calls come to, which are made by a worker for each arena. Each arena's device comes from the shelf,
 /// and is put into the place of the arena's number once all calls are made.
@@ -35,7 +35,7 @@ pub(crate) fn gen_answer<R: Threads + Wait + Sync, G: Gate + Sync, H: Shelf>(
         calls: generate(alloc, count, seed)?,
     };
     let arenas = take_arenas(alloc, &trace, shelf)?;
-    let done = summarize(rt, alloc, &trace, arenas, gate)?;
+    let done = replay(rt, alloc, Account::Summary, &trace, arenas, gate)?;
     put_all(shelf, done.devices);
     Ok(Answer::Output(done.text))
 }

@@ -8,14 +8,13 @@ ghost use Rattle.nvheap.specs.declared.command.Command.TheVariants as commands;
 ghost use Rattle.nvheap.specs.Answers.{AreRunThrough, images_of};
 ghost use Rattle.nvheap.specs.Ends.{IsAnswer};
 
-use crate::answers::{Answer, fault_line};
-use crate::cause::Cause;
+use crate::answers::{Answer, trace_of};
 use crate::shelf::{Shelf, put_all};
 use pmem_lines::{OutOfMemory, Pmem};
 use pool_layout::{GRANULE_BYTES, image_bytes, layout_of};
 use std::alloc::Global;
 use trace_runs::run_calls;
-use trace_text::{Refusal, Trace, TraceFault, read_trace};
+use trace_text::Trace;
 
 const GRANULE_LINES: u32 = 256;
 
@@ -46,13 +45,9 @@ pub(crate) fn image_answer<H: Shelf>(
     ensures kept { OnErr result (H.places shelf.new ≡ H.places shelf.old) }
     ensures images { H.images shelf.new ≡ H.images shelf.old }
 {
-    let trace = match read_trace(alloc, input) {
+    let trace = match trace_of(alloc, input) {
         Ok(trace) => trace,
-        Err(TraceFault::Memory(fault)) => return Err(fault),
-        Err(TraceFault::BadLine { line }) => return fault_line(
-            alloc,
-            Cause::Trace(Refusal::BadLine { line }),
-        ),
+        Err(answer) => return answer,
     };
     let Images { bytes, devices } = run_arenas(alloc, &trace, shelf)?;
     put_all(shelf, devices);

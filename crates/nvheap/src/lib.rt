@@ -10,6 +10,7 @@
 // are checked and recovered by `image_runs`, text is read and written by `trace_text`, memory comes from `pmem_lines`.
 #![tactic(auto)]
 
+mod adapter;
 mod answers;
 mod cause;
 mod command;
@@ -26,11 +27,12 @@ mod sink;
 mod source;
 mod status;
 
+pub use adapter::Adapter;
 pub use cause::Cause;
 pub use command::Command;
 pub use running::run;
 pub use shelf::{DropShelf, KeptShelf, Shelf};
-pub use sink::{MemSink, Sink, SureSink, WriteSink};
-pub use source::{Failed, MemSource, ReadSource, Source, SureSource};
+pub use sink::{MemSink, Sink, SureSink};
+pub use source::{Failed, MemSource, Source, SureSource};
 pub use status::Status;
 pub use trace_workers::{Gate, OpenGate};

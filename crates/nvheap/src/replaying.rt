@@ -5,8 +5,7 @@ ghost use Rattle.trace_workers.specs.Reports.{AreNew};
 ghost use Rattle.nvheap.specs.declared.command.Command.TheVariants as commands;
 ghost use Rattle.nvheap.specs.Ends.{IsAnswer};
 
-use crate::answers::{Answer, fault_line};
-use crate::cause::Cause;
+use crate::answers::{Answer, trace_of};
 use crate::shelf::{Shelf, put_all};
 use arena_core::Arena;
 use pmem_lines::OutOfMemory;
@@ -15,8 +14,8 @@ use std::alloc::Global;
 use std::sync::Wait;
 use std::thread::Threads;
 use trace_runs::new_arena;
-use trace_text::{PoolSize, Refusal, Trace, TraceFault, read_trace};
-use trace_workers::{Gate, replay};
+use trace_text::{PoolSize, Trace};
+use trace_workers::{Account, Gate, replay};
 
 const GRANULE_LINES: u32 = 256;
 
@@ -37,16 +36,12 @@ pub(crate) fn replay_answer<R: Threads + Wait + Sync, G: Gate + Sync, H: Shelf>(
     ensures kept { OnErr result (H.places shelf.new ≡ H.places shelf.old) }
     ensures images { H.images shelf.new ≡ H.images shelf.old }
 {
-    let trace = match read_trace(alloc, input) {
+    let trace = match trace_of(alloc, input) {
         Ok(trace) => trace,
-        Err(TraceFault::Memory(fault)) => return Err(fault),
-        Err(TraceFault::BadLine { line }) => return fault_line(
-            alloc,
-            Cause::Trace(Refusal::BadLine { line }),
-        ),
+        Err(answer) => return answer,
     };
     let arenas = take_arenas(alloc, &trace, shelf)?;
-    let done = replay(rt, alloc, &trace, arenas, gate)?;
+    let done = replay(rt, alloc, Account::Report, &trace, arenas, gate)?;
     put_all(shelf, done.devices);
     Ok(Answer::Output(done.text))
 }

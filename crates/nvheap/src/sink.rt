@@ -2,9 +2,8 @@
 ghost use Rattle.std.specs.Prelude.{◌≡◌, ℕ, ◌<◌, ◌≤◌, List, [], ◌++◌, Option, Some, None, length, take, IfOk, OnErr, OnOk, IfSome};
 ghost use Rattle.nvheap.specs.Outside.{Rose, Takes};
 
-use crate::source::Failed;
+use crate::source::{Failed, counted};
 use std::alloc::Global;
-use std::io::Write;
 
 /// Where bytes go.
 pub trait Sink {
@@ -59,16 +58,6 @@ impl<'a> MemSink<'a> {
     {
         &self.bytes
     }
-
-    // Counts a failure, at which no byte was taken.
-    fn fail(&mut self) -> Failed
-        ensures bytes { self.new.bytes ≡ self.old.bytes }
-        ensures cause { Rose self.old.failed self.new.failed }
-        ensures later { self.old.failed ≤ self.new.failed }
-    {
-        self.failed = self.failed.saturating_add(1);
-        Failed
-    }
 }
 
 impl Sink for MemSink<'_> {
@@ -80,46 +69,12 @@ impl Sink for MemSink<'_> {
         let fails = self.failing.contains(&self.calls);
         self.calls = self.calls.saturating_add(1);
         if fails {
-            return Err(self.fail());
+            return Err(counted(&mut self.failed));
         }
         let n = piece.len().min(self.most);
         match self.bytes.extend_from_slice(&piece[..n]) {
             Ok(()) => Ok(n),
-            Err(_) => Err(self.fail()),
-        }
-    }
-}
-
-/// Takes bytes to a writer of the system, and tells them where the writer does. It counts the failures, among them a
-/// write of no bytes.
-#[derive(Drop)]
-pub struct WriteSink<W: Write + Drop> {
-    writer: W,
-    failed: u64,
-}
-
-impl<W: Write + Drop> WriteSink<W> {
-    /// A sink over this writer.
-    pub fn new(writer: W) -> Self
-        ensures writer { result.writer ≡ writer }
-        ensures failed { result.failed ≡ 0 }
-    {
-        WriteSink { writer, failed: 0 }
-    }
-}
-
-impl<W: Write + Drop> Sink for WriteSink<W> {
-    ghost taken = { λ s. W.contents s.writer };
-
-    ghost faults = { λ s. s.failed };
-
-    fn write(&mut self, piece: &[u8]) -> Result<usize, Failed> {
-        match self.writer.write(piece) {
-            Ok(n) if n > 0 || piece.is_empty() => Ok(n),
-            _ => {
-                self.failed = self.failed.saturating_add(1);
-                Err(Failed)
-            }
+            Err(_) => Err(counted(&mut self.failed)),
         }
     }
 }

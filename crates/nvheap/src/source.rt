@@ -2,11 +2,18 @@
 ghost use Rattle.std.specs.Prelude.{◌≡◌, ℕ, ◌<◌, ◌≤◌, List, [], Option, Some, None, length, take, drop, IfOk, OnErr, OnOk};
 ghost use Rattle.nvheap.specs.Outside.{Rose, Gives, IsAtEnd};
 
-use std::io::Read;
-
 /// A source or a sink failed.
 #[derive(Debug, Drop)]
 pub struct Failed;
+
+// Counts a failure.
+pub(crate) fn counted(faults: &mut u64) -> Failed
+    ensures cause { Rose faults.old faults.new }
+    ensures later { faults.old ≤ faults.new }
+{
+    *faults = faults.saturating_add(1);
+    Failed
+}
 
 /// What bytes come from.
 pub trait Source {
@@ -85,8 +92,7 @@ impl Source for MemSource<'_> {
         let fails = self.failing.contains(&self.calls);
         self.calls = self.calls.saturating_add(1);
         if fails {
-            self.failed = self.failed.saturating_add(1);
-            return Err(Failed);
+            return Err(counted(&mut self.failed));
         }
         Ok(give(&mut self.bytes, into))
     }
@@ -102,37 +108,4 @@ fn give(bytes: &mut &[u8], into: &mut [u8]) -> usize
     into[..n].copy_from_slice(&bytes[..n]);
     *bytes = &bytes[n..];
     n
-}
-
-/// Bytes from a reader of the system, told where the reader tells them. It counts the failures.
-#[derive(Drop)]
-pub struct ReadSource<R: Read + Drop> {
-    reader: R,
-    failed: u64,
-}
-
-impl<R: Read + Drop> ReadSource<R> {
-    /// A source over this reader.
-    pub fn new(reader: R) -> Self
-        ensures reader { result.reader ≡ reader }
-        ensures failed { result.failed ≡ 0 }
-    {
-        ReadSource { reader, failed: 0 }
-    }
-}
-
-impl<R: Read + Drop> Source for ReadSource<R> {
-    ghost left = { λ s. R.remaining s.reader };
-
-    ghost faults = { λ s. s.failed };
-
-    fn read(&mut self, into: &mut [u8]) -> Result<usize, Failed> {
-        match self.reader.read(into) {
-            Ok(n) => Ok(n),
-            Err(_) => {
-                self.failed = self.failed.saturating_add(1);
-                Err(Failed)
-            }
-        }
-    }
 }

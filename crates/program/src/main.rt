@@ -2,7 +2,7 @@
 // the line on standard error for the answer, and ends with the answer's code. What the program does is `run`'s contract.
 #![tactic(auto)]
 
-use nvheap::{DropShelf, OpenGate, ReadSource, Status, WriteSink, run};
+use nvheap::{Adapter, DropShelf, OpenGate, Status, run};
 use std::process::ExitCode;
 use std::{env, io};
 
@@ -40,8 +40,8 @@ fn complaint(status: Status) -> Option<&'static str> {
 fn main(rt: HostRuntime) -> ExitCode {
     let status = match words_of_program(&rt) {
         Ok(words) => {
-            let mut source = ReadSource::new(rt.stdin());
-            let mut sink = WriteSink::new(rt.stdout());
+            let mut source = Adapter::new(rt.stdin());
+            let mut sink = Adapter::new(rt.stdout());
             let mut shelf = DropShelf::new();
             run(
                 &rt,

@@ -9,7 +9,7 @@ mod entries;
 mod pools;
 mod transition;
 
-use crate::runs::tells;
+use crate::runs::{heap_of, tells};
 use std::alloc::{AllocError, Global};
 use std::process::Abort;
 use std::sync::Wait;
@@ -18,13 +18,6 @@ use std::thread::Threads;
 
 /// Bytes of an image: where they begin, and what they are.
 pub(crate) type Run = (usize, &'static [u8]);
-
-/// What is changed in an image, in words and as bytes; the code with which both commands end over it; and what `check`
-/// writes, and `recover`.
-pub(crate) type Row = (&'static str, &'static [Run], u8, &'static str, &'static str);
-
-/// A change that makes an image unsound, in words and as bytes, and the line that both commands write of it.
-pub(crate) type Defective = (&'static str, &'static [Run], &'static str);
 
 /// An arena of 16 granules with one slab of class 6, whose block 0 root 5 holds; all else is 0.
 pub(crate) const ONE_BLOCK: [Run; 7] = [
@@ -65,18 +58,10 @@ pub(crate) const TOO_SHORT: [(usize, &str); 7] = [
     (262143, "bad length 262143 262144\n"),
 ];
 
-/// So many bytes, of which those of two rows are not 0, the second over the first.
-pub(crate) fn image_of(
-    alloc: Global,
-    size: usize,
-    base: &[Run],
-    changes: &[Run],
-) -> Result<Vec<u8>, AllocError> {
+/// So many bytes, of which those of a row are not 0.
+pub(crate) fn image_of(alloc: Global, size: usize, runs: &[Run]) -> Result<Vec<u8>, AllocError> {
     let mut bytes = vec![in alloc; 0u8; size]?;
-    for (at, run) in base {
-        put(&mut bytes, *at, run);
-    }
-    for (at, run) in changes {
+    for (at, run) in runs {
         put(&mut bytes, *at, run);
     }
     Ok(bytes)
@@ -111,17 +96,44 @@ pub(crate) fn both_tell<R: Abort + Threads + Wait + Sync>(
     Ok(())
 }
 
-/// Both commands refuse an image of so many bytes with each of these changes.
-pub(crate) fn both_refuse<R: Abort + Threads + Wait + Sync>(
+/// Both commands end over images of so many bytes as a table says. Each of its lines has, between bars, what is changed in an
+/// image in words; the runs of bytes that are changed; and the line that both commands write, which refuse the image. Of an
+/// image that is sound it has what `check` writes, and then the blocks of the heap that `recover` writes.
+pub(crate) fn all_tell_of<R: Abort + Threads + Wait + Sync>(
     rt: &R,
     alloc: Global,
     size: usize,
     base: &[Run],
-    rows: &[Defective],
+    table: &str,
 ) -> Result<(), Fail> {
-    for (name, changes, line) in rows {
-        let bytes = image_of(alloc, size, base, changes)?;
-        both_tell(rt, alloc, name, &bytes, 2, line, line)?;
+    for row in table.lines() {
+        let (name, changed) = row.split_once(" | ").ok_or("no changes")?;
+        let (runs, told) = changed.split_once(" | ").ok_or("no line")?;
+        let mut bytes = image_of(alloc, size, base)?;
+        put_all(alloc, &mut bytes, runs)?;
+        let (line, code, recovered) = match told.split_once(" | ") {
+            Some((counts, blocks)) => {
+                let heap = heap_of(alloc, blocks)?;
+                (counts, 0, format!(in alloc; "arena 0 {heap}")?)
+            }
+            None => (told, 2, format!(in alloc; "{told}\n")?),
+        };
+        let checked = format!(in alloc; "{line}\n")?;
+        both_tell(rt, alloc, name, &bytes, code, &checked, &recovered)?;
+    }
+    Ok(())
+}
+
+// Puts runs into an image, of which each is said by the number of its first byte and its bytes: `512: 1 0 5, 65600: 0`.
+fn put_all(alloc: Global, bytes: &mut [u8], runs: &str) -> Result<(), Fail> {
+    for run in runs.split(", ") {
+        if let Some((at, numbers)) = run.split_once(": ") {
+            let mut row = Vec::new(alloc);
+            for number in numbers.split(' ') {
+                row.push(number.parse::<u8>()?)?;
+            }
+            put(bytes, at.parse::<usize>()?, &row);
+        }
     }
     Ok(())
 }

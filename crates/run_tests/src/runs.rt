@@ -86,8 +86,8 @@ pub(crate) fn all_tell<R: Abort + Threads + Wait + Sync>(
     Ok(())
 }
 
-// The two sides of a mark's first place; with no such place all is before it.
-fn halves(text: &str, mark: char) -> (&str, &str) {
+/// The two sides of a mark's first place; with no such place all is before it.
+pub(crate) fn halves(text: &str, mark: char) -> (&str, &str) {
     text.split_once(mark).unwrap_or((text, ""))
 }
 
@@ -97,22 +97,64 @@ pub(crate) fn all_end_and_write<R: Abort + Threads + Wait + Sync>(
     alloc: Global,
     table: &str,
 ) -> Result<(), Fail> {
-    for case in table.split("----\n") {
-        let (text, runs) = halves(case, '$');
-        let trace = expanded(alloc, text)?;
+    for case in expanded(alloc, table)?.split("----\n") {
+        let (trace, runs) = halves(case, '$');
         for asked in runs.split('$') {
             let (line, told) = halves(asked, '\n');
             let (code, lines) = halves(line, ' ');
-            for words in lines.split(", ") {
-                if code != "may" {
-                    let (status, taken) = ends_and_writes(rt, alloc, words, trace.as_bytes())?;
-                    assert_eq!(rt; code.parse(), Ok(status.code()), "{words} over {trace}");
-                    assert_eq!(rt; taken.as_slice(), told.as_bytes(), "{words} over {trace}");
+            match code {
+                "may" => {}
+                "events" => {
+                    let (arena, count) = halves(lines, ' ');
+                    has_events(rt, alloc, trace, arena, count.parse()?)?;
+                }
+                "idle" => {
+                    let words = format!(in alloc; "crash {lines} 0 0")?;
+                    all_tell(
+                        rt,
+                        alloc,
+                        trace.as_bytes(),
+                        &[(&words, 0, "call 0 same\nheap 0\n")],
+                    )?;
+                    has_events(rt, alloc, trace, lines, 0)?;
+                }
+                _ => {
+                    for words in lines.split(", ") {
+                        all_tell(rt, alloc, trace.as_bytes(), &[(words, code.parse()?, told)])?;
+                    }
                 }
             }
         }
     }
     Ok(())
+}
+
+// The calls of an arena of a trace have so many events: there is none behind them.
+fn has_events<R: Abort + Threads + Wait + Sync>(
+    rt: &R,
+    alloc: Global,
+    trace: &str,
+    arena: &str,
+    count: u32,
+) -> Result<(), Fail> {
+    let next = count.saturating_add(1);
+    let words = format!(in alloc; "crash {arena} {next} 0")?;
+    let told = format!(in alloc; "no event {next} of {count}\n")?;
+    all_tell(rt, alloc, trace.as_bytes(), &[(&words, 2, &told)])
+}
+
+/// The heap that has these blocks, as the program writes it; `none` says that it has none.
+pub(crate) fn heap_of(alloc: Global, blocks: &str) -> Result<String, AllocError> {
+    let mut lines = String::new(alloc);
+    let mut count = 0u32;
+    for block in blocks.split(", ") {
+        if block != "none" {
+            count = count.saturating_add(1);
+            lines.push_str(block)?;
+            lines.push_str("\n")?;
+        }
+    }
+    format!(in alloc; "heap {count}\n{lines}")
 }
 
 /// The word at an address of the device that a replay of a trace leaves on a shelf. The address lies in the first 16

@@ -6,11 +6,19 @@ use Rattle.arena_core.specs.Arena.{ArenaState}
 use Rattle.trace_text.specs.declared.call.PoolSize.{PoolSize}
 use Rattle.trace_text.specs.declared.call.TraceCall.{TraceCall}
 use Rattle.trace_gen.specs.Works.{summary_text}
-use Rattle.trace_workers.specs.Reports.{IsTold}
+use Rattle.trace_text.specs.Report.{arena_text}
+use Rattle.trace_workers.specs.declared.telling.Account.{Account}
+use Rattle.trace_workers.specs.declared.telling.Account.TheVariants.{Report, Summary}
+use Rattle.trace_workers.specs.Reports.{Telling, IsTold}
 
 -- the text is the summary: of each arena what its calls came to, by its journal and the blocks at the end
 abbrev pub IsSummed : PoolSize → List TraceCall → List ℕ → List PmemState → Type 0
 IsSummed pool calls text devices = IsTold summary_text pool calls text devices
+
+-- what is told of an arena by its report, or by its summary
+abbrev pub telling_of : Account → Telling
+telling_of Report = arena_text
+telling_of Summary = summary_text
 
 -- for the functions below
 

@@ -1,7 +1,10 @@
 -- What workers need and do.
 use Rattle.std.specs.Prelude.{◌≡◌, ℕ, ◌+◌, ◌^◌, ◌<◌, ◌≤◌, List, [], ◌∷◌, length}
+use Rattle.std.specs.List.{All}
 use Rattle.shared_pool.specs.Passes.{PassState, PoolState, IsPassOf, part_at, mine_at}
+use Rattle.trace_text.specs.declared.call.PoolSize.{PoolSize}
 use Rattle.trace_text.specs.declared.call.TraceCall.{TraceCall}
+use Rattle.trace_text.specs.Grammar.{IsPool, IsTraceCall}
 use Rattle.trace_workers.specs.Answers.{asked, calls_in}
 
 -- each call is of one of so many arenas
@@ -39,3 +42,10 @@ AllOf pool (p ∷ ps) = IsPassOf pool p × AllOf pool ps
 abbrev pub AllDone : List TraceCall → List PassState → Type 0
 AllDone calls [] = Unit {0}
 AllDone calls (p ∷ ps) = HasMadeOwn calls p × AllDone calls ps
+
+-- calls of a trace of this pool, and as many arenas as it has
+pub record IsWorkOf (pool : PoolSize) (calls : List TraceCall) (arenas : ℕ) : Type 0 where
+  pub sized : IsPool pool
+  pub each : All (IsTraceCall pool.arenas) calls
+  pub few : length calls < 2 ^ 32
+  pub all : arenas ≡ pool.arenas

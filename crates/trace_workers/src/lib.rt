@@ -4,20 +4,20 @@
 // number, and closes the pool. What it gives answers the trace (`AllAnswer` of `specs/Answers.antt`): each arena with a
 // journal that leads to it from the arena that was handed in, and that has of each thread just the calls that the thread
 // asks of the arena, in order, each once; how long each journal is, the pool is asked before it is closed. `replay` does it with
-// the new arenas of the trace's pool, and writes the report: journal and heap of each arena (`IsReplayed` of
-// `specs/Reports.antt`). `summarize` does it with calls of which each arena has one thread, and writes what they came to
-// (`IsSummed` of `specs/Summaries.antt`), by the published lengths. `Gate` is called around each call of a worker, so that a
-// test can hold one.
+// the new arenas of the trace's pool, and writes an account of each: the report, which is journal and heap (`IsReplayed` of
+// `specs/Reports.antt`), or, of calls of which each arena has one thread, what they came to (`IsSummed` of
+// `specs/Summaries.antt`), by the published lengths. `Gate` is called around each call of a worker, so that a test can hold
+// one.
 #![tactic(auto)]
 
 mod gate;
 mod lengths;
 mod replaying;
 mod running;
-mod summing;
+mod telling;
 mod working;
 
 pub use gate::{Gate, OpenGate};
-pub use replaying::{Replayed, make_calls, replay};
+pub use replaying::{make_calls, replay};
 pub use running::{Ended, run_trace};
-pub use summing::summarize;
+pub use telling::{Account, Replayed};

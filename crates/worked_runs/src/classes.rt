@@ -20,27 +20,13 @@ arena 0 calls 12
 0 m 1 64 placed 198656 64
 0 m 2 1000 placed 199680 1024
 0 f 1 freed 198656 64
-0 m 3 1000 placed 200704 1024
-0 m 4 1000 placed 201728 1024
-0 m 5 1000 placed 202752 1024
-0 m 6 1000 placed 203776 1024
-0 m 7 1000 placed 204800 1024
-0 m 8 1000 placed 205824 1024
-0 m 9 1000 placed 206848 1024
+0 m {3..9} 1000 placed {200704 by 1024} 1024
 0 m 10 1000 placed 198656 1024
 heap 10
 0 65536 131072
-2 199680 1024
-3 200704 1024
-4 201728 1024
-5 202752 1024
-6 203776 1024
-7 204800 1024
-8 205824 1024
-9 206848 1024
+{2..9} {199680 by 1024} 1024
 10 198656 1024
-$2 crash 0 291 0
-no event 291 of 290
+$events 0 290
 ";
 
 /// One thread: which slab takes a class, and which may take none.
@@ -58,8 +44,7 @@ heap 3
 0 65536 131072
 1 198656 64
 2 199680 1024
-$2 crash 0 189 0
-no event 189 of 188
+$events 0 188
 ----
 # no class again before the last old block went
 pool 1 16
@@ -93,8 +78,7 @@ heap 3
 0 65536 131072
 4 198656 128
 5 199680 1024
-$2 crash 0 427 0
-no event 427 of 426
+$events 0 426
 ----
 # of three slabs that are fit, by live blocks and then by start
 pool 1 16
@@ -136,8 +120,7 @@ heap 7
 8 145408 64
 9 208896 128
 10 79872 16
-$2 crash 0 626 0
-no event 626 of 625
+$events 0 625
 ----
 # a slab in which each block of a class is overlapped is not fit for that class
 pool 1 16
@@ -152,12 +135,7 @@ pool 1 16
 $0 replay
 arena 0 calls 13
 0 m 0 131072 placed 65536 131072
-0 m 1 6144 placed 198656 6144
-0 m 2 6144 placed 204800 6144
-0 m 3 6144 placed 210944 6144
-0 m 4 6144 placed 217088 6144
-0 m 5 6144 placed 223232 6144
-0 m 6 6144 placed 229376 6144
+0 m {1..6} 6144 placed {198656 by 6144} 6144
 0 f 1 freed 198656 6144
 0 f 2 freed 204800 6144
 0 f 4 freed 217088 6144
@@ -184,17 +162,8 @@ pool 1 16
 0 0 m 13 14336
 $0 replay
 arena 0 calls 19
-0 m 1 6144 placed 67584 6144
-0 m 2 6144 placed 73728 6144
-0 m 3 6144 placed 79872 6144
-0 m 4 6144 placed 86016 6144
-0 m 5 6144 placed 92160 6144
-0 m 6 6144 placed 98304 6144
-0 m 7 3072 placed 133120 3072
-0 m 8 3072 placed 136192 3072
-0 m 9 3072 placed 139264 3072
-0 m 10 3072 placed 142336 3072
-0 m 11 3072 placed 145408 3072
+0 m {1..6} 6144 placed {67584 by 6144} 6144
+0 m {7..11} 3072 placed {133120 by 3072} 3072
 0 m 0 65536 placed 196608 65536
 0 f 1 freed 67584 6144
 0 f 2 freed 73728 6144
@@ -207,10 +176,7 @@ heap 9
 0 196608 65536
 3 79872 6144
 6 98304 6144
-7 133120 3072
-8 136192 3072
-9 139264 3072
-10 142336 3072
+{7..10} {133120 by 3072} 3072
 12 149504 16384
 13 110592 14336
 ";
@@ -249,8 +215,7 @@ heap 4
 3 199680 1024
 6 198656 64
 7 199168 64
-$2 crash 0 331 0
-no event 331 of 330
+$events 0 330
 ----
 # of two slabs one takes a class, and the other one's blocks stay on a stack
 pool 1 16
@@ -273,8 +238,7 @@ heap 5
 10 67584 64
 11 145408 12288
 12 68096 64
-$2 crash 0 382 0
-no event 382 of 381
+$events 0 381
 ----
 # a block is taken from another seat before a slab takes a class
 pool 1 16
@@ -292,6 +256,5 @@ heap 7
 5 104448 12288
 6 116736 12288
 7 145408 12288
-$2 crash 0 316 0
-no event 316 of 315
+$events 0 315
 ";

@@ -4,8 +4,10 @@
 //
 // A table has traces between lines `----`, each with runs over it. A run is a line with `$`, the code with which it ends and
 // the program's words, and below it what it writes; where commas stand between words, each of these runs ends and writes so.
-// In place of a code `may` says that the run is one of several that threads may come to. A trace may be said in short, as
-// `expanded` reads it, and one that runs into its first `$` lacks its last line feed.
+// In place of a code `may` says that the run is one of several that threads may come to. A line `$events 1 89` says that the
+// calls of arena 1 have 89 events: a crash behind one more is refused. A line `$idle 1` says that they have none, and that a
+// crash leaves the empty heap with no call under way. A table is said in short, as `expanded` reads it, and a trace that runs
+// into its first `$` lacks its last line feed.
 //
 // `short` has short traces, `stacks` and `seats` traces that show which block is given, `classes` and `old_blocks` traces in
 // which slabs take other classes, `payload` traces that write and read words, and `moves` traces that move blocks. For how

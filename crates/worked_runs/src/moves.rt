@@ -30,8 +30,7 @@ $0 crash 0 93 0, crash 0 94 0, crash 0 95 0, crash 0 96 0, crash 0 97 0, crash 0
 call 2 after
 heap 1
 9 67584 112
-$2 crash 0 102 0
-no event 102 of 101
+$events 0 101
 ----
 pool 1 16
 0 0 m 1 20000

@@ -65,8 +65,7 @@ arena 0 calls 14
 heap 2
 0 65536 131072
 8 196608 65536
-$2 crash 0 363 0
-no event 363 of 362
+$events 0 362
 ----
 # words of an old block
 pool 1 16
@@ -138,6 +137,5 @@ arena 0 calls 9
 heap 2
 0 65536 131072
 5 196608 65536
-$2 crash 0 242 0
-no event 242 of 241
+$events 0 241
 ";

@@ -31,8 +31,7 @@ $0 crash 0 91 0
 call 2 same
 heap 1
 1 67584 16
-$2 crash 0 93 0
-no event 93 of 92
+$events 0 92
 ----
 pool 1 16
 0 0 m 5 100
@@ -55,8 +54,7 @@ heap 1
 $0 crash 0 106 2
 call 5 after
 heap 0
-$2 crash 0 107 0
-no event 107 of 106
+$events 0 106
 ----
 pool 1 16
 0 0 r 5 0
@@ -66,11 +64,7 @@ arena 0 calls 2
 0 r 5 0 empty
 0 w 5 0 1 empty
 heap 0
-$0 crash 0 0 0
-call 0 same
-heap 0
-$2 crash 0 1 0
-no event 1 of 0
+$idle 0
 ----
 pool 1 16
 0 0 m 4095 20000

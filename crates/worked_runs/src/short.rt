@@ -41,8 +41,7 @@ arena 0 calls 2
 heap 2
 1 67584 16
 2 67600 16
-$2 crash 0 101 0
-no event 101 of 100
+$events 0 100
 ----
 pool 1 16
 0 0 m {1..4} 16384
@@ -189,8 +188,7 @@ $0 crash 0 109 2
 call 3 after
 heap 1
 2 65536 32768
-$2 crash 0 110 0
-no event 110 of 109
+$events 0 109
 ----
 pool 1 16
 0 0 m 5 100
@@ -209,8 +207,7 @@ heap 1
 $0 crash 0 97 2, crash 0 103 2
 call 2 after
 heap 0
-$2 crash 0 104 0
-no event 104 of 103
+$events 0 103
 $2 crash 1 0 0
 no arena 1 of 1
 ----
@@ -231,16 +228,11 @@ $0 crash 0 7 2, crash 0 8 2
 call 2 before
 heap 1
 5 65536 32768
-$2 crash 0 13 0
-no event 13 of 12
+$events 0 12
 ----
 pool 1 16
 0 0 f 5
-$0 crash 0 0 0
-call 0 same
-heap 0
-$2 crash 0 1 0
-no event 1 of 0
+$idle 0
 ----
 pool 1 16
 0 0 m {0..2} 20000

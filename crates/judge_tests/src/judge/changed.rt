@@ -36,43 +36,29 @@ heap 1
 1 65536 32768
 ";
 
-// A part of the report, what stands in its place, and the line at which it is refused.
-const CHANGES: [(&str, &str, usize); 22] = [
-    ("placed 133120", "placed 133232", 4),
-    ("placed 133120", "placed 67584", 4),
-    ("placed 73728", "placed 67584", 3),
-    ("placed 65536 32768", "placed 65536 20000", 14),
-    ("2 100 placed 133120 112", "2 100 no space", 4),
-    ("moved 133120", "placed 133120", 9),
-    ("value 7", "value 8", 7),
-    ("value 0", "value 00", 8),
-    ("value 0", "wrote", 8),
-    ("1 f 3", "0 f 3", 6),
-    ("1 f 3", "2 f 3", 6),
-    ("0 w 1 3 7", "00 w 1 3 7", 5),
-    (
-        "0 r 1 3 value 7\n0 r 1 4 value 0\n",
-        "0 r 1 4 value 0\n0 r 1 3 value 7\n",
-        7,
-    ),
-    ("0 r 1 4 value 0\n", "", 8),
-    ("0 v 2 5 moved 133120 112\n", "", 9),
-    (
-        "1 f 3 freed 73728 6144\n",
-        "1 f 3 freed 73728 6144\n1 f 3 empty\n",
-        7,
-    ),
-    ("calls 8", "calls 7", 1),
-    ("heap 2", "heap 3", 10),
-    ("1 67584 112\n", "", 11),
-    (
-        "heap 2\n1 67584 112\n5 133120 112\n",
-        "heap 1\n1 67584 112\n",
-        10,
-    ),
-    ("5 133120 112\narena 1", "5 133120 112\narena 2", 13),
-    ("1 65536 32768\n", "1 65536 32768", 17),
-];
+// The line at which the report is refused, a part of it, and what stands in its place, if anything; `/` ends a line.
+const CHANGES: &str = "4: placed 133120 -> placed 133232
+4: placed 133120 -> placed 67584
+3: placed 73728 -> placed 67584
+14: placed 65536 32768 -> placed 65536 20000
+4: 2 100 placed 133120 112 -> 2 100 no space
+9: moved 133120 -> placed 133120
+7: value 7 -> value 8
+8: value 0 -> value 00
+8: value 0 -> wrote
+6: 1 f 3 -> 0 f 3
+6: 1 f 3 -> 2 f 3
+5: 0 w 1 3 7 -> 00 w 1 3 7
+7: 0 r 1 3 value 7/0 r 1 4 value 0/ -> 0 r 1 4 value 0/0 r 1 3 value 7/
+8: 0 r 1 4 value 0/ ->
+9: 0 v 2 5 moved 133120 112/ ->
+7: 1 f 3 freed 73728 6144/ -> 1 f 3 freed 73728 6144/1 f 3 empty/
+1: calls 8 -> calls 7
+10: heap 2 -> heap 3
+11: 1 67584 112/ ->
+10: heap 2/1 67584 112/5 133120 112/ -> heap 1/1 67584 112/
+13: 5 133120 112/arena 1 -> 5 133120 112/arena 2
+17: 1 65536 32768/ -> 1 65536 32768";
 
 // The report with one part changed, where it has that part.
 fn changed(alloc: Global, old: &str, new: &str) -> Result<Option<String>, AllocError> {
@@ -89,10 +75,13 @@ fn changed(alloc: Global, old: &str, new: &str) -> Result<Option<String>, AllocE
 fn changed_reports_are_refused(rt: HostRuntime) -> Result<(), Fail> {
     let verdict = judge(rt.alloc(), TRACE, REPORT)?;
     assert!(rt; verdict.is_right(), "{verdict:?}");
-    for (old, new, line) in CHANGES {
-        let report = changed(rt.alloc(), old, new)?.ok_or("no such part")?;
+    for change in CHANGES.lines() {
+        let (line, parts) = change.split_once(": ").ok_or("no line")?;
+        let parts = parts.replace(rt.alloc(), '/', "\n")?;
+        let (old, new) = parts.split_once(" ->").ok_or("no change")?;
+        let report = changed(rt.alloc(), old, new.trim_start_matches(' '))?.ok_or("no such part")?;
         let verdict = judge(rt.alloc(), TRACE, &report)?;
-        assert_eq!(rt; verdict, Verdict::WrongAt(line), "{new} in place of {old}");
+        assert_eq!(rt; verdict, Verdict::WrongAt(line.parse()?), "{change}");
     }
     Ok(())
 }

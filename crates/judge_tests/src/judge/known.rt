@@ -20,12 +20,11 @@ fn report_of(run: &str) -> Option<&str> {
 // The judge finds each report of a table right. How many it has.
 fn all_right<R: Abort>(rt: &R, alloc: Global, table: &str) -> Result<u32, Fail> {
     let mut count = 0u32;
-    for case in table.split("----\n") {
-        let (text, runs) = case.split_once('$').unwrap_or((case, ""));
-        let trace = expanded(alloc, text)?;
+    for case in expanded(alloc, table)?.split("----\n") {
+        let (trace, runs) = case.split_once('$').unwrap_or((case, ""));
         for run in runs.split('$') {
             if let Some(report) = report_of(run) {
-                let verdict = judge(alloc, &trace, report)?;
+                let verdict = judge(alloc, trace, report)?;
                 assert!(rt; verdict.is_right(), "{verdict:?} {case}");
                 count = count.saturating_add(1);
             }
@@ -87,19 +86,19 @@ heap 1
 }
 
 /// The trace in which an old block goes, and its report.
-pub(crate) fn old_block_goes(alloc: Global) -> Result<(String, &'static str), AllocError> {
-    let (text, runs) = OLD_BLOCK_GOES
-        .split_once('$')
-        .unwrap_or((OLD_BLOCK_GOES, ""));
+pub(crate) fn old_block_goes(alloc: Global) -> Result<(String, String), AllocError> {
+    let table = expanded(alloc, OLD_BLOCK_GOES)?;
+    let (trace, runs) = table.split_once('$').unwrap_or((&table, ""));
     let (run, _) = runs.split_once('$').unwrap_or((runs, ""));
-    Ok((expanded(alloc, text)?, report_of(run).unwrap_or("")))
+    let report = String::from_str(alloc, report_of(run).unwrap_or(""))?;
+    Ok((String::from_str(alloc, trace)?, report))
 }
 
 // Of the twelve calls one makes a slab, one takes a class, seven come from the stack and one behind it from a refill.
 #[test]
 fn ways_are_counted(rt: HostRuntime) -> Result<(), Fail> {
     let (trace, report) = old_block_goes(rt.alloc())?;
-    let verdict = judge(rt.alloc(), &trace, report)?;
+    let verdict = judge(rt.alloc(), &trace, &report)?;
     assert!(rt; verdict.is_right(), "{verdict:?}");
     let counts = verdict.counts();
     assert_eq!(rt; (counts.own, counts.refilled, counts.stolen), (7, 1, 0));

@@ -111,7 +111,7 @@ fn leaves<R: Threads + Wait + Sync>(
     size: usize,
     runs: &[Run],
 ) -> Result<bool, Fail> {
-    let wanted = image_of(alloc, size, runs, &[])?;
+    let wanted = image_of(alloc, size, runs)?;
     let (ended, image) = ends_and_writes(rt, alloc, "image", trace.as_bytes())?;
     Ok(ended == Status::Done && image == wanted)
 }
@@ -212,7 +212,7 @@ fn log_written_anew(rt: HostRuntime) -> Result<(), Fail> {
     let (ended, image) = ends_and_writes(&rt, rt.alloc(), "image", trace.as_bytes())?;
     assert_eq!(rt; ended, Status::Done);
     assert_eq!(rt; image.get(16..24), Some(&[9, 0, 0, 0, 0, 0, 0, 0][..]));
-    let chunk = image_of(rt.alloc(), 1024, &ANEW, &[])?;
+    let chunk = image_of(rt.alloc(), 1024, &ANEW)?;
     assert_eq!(rt; image.get(57344..58368), Some(chunk.as_slice()));
     Ok(())
 }

@@ -1,7 +1,7 @@
 // Runs from readers and to writers of the standard library.
 use crate::outside::{REPORT, TRACE};
 use crate::runs::ends;
-use nvheap::{ReadSource, Status, WriteSink};
+use nvheap::{Adapter, Status};
 use std::io;
 use std::io::Read;
 use std::test::Fail;
@@ -24,9 +24,9 @@ impl Read for Torn<'_> {
 #[test]
 fn reads_piece_by_piece_and_writes(rt: HostRuntime) -> Result<(), Fail> {
     let (first, second) = TRACE.as_bytes().split_at(12);
-    let mut source = ReadSource::new(first.chain(second));
+    let mut source = Adapter::new(first.chain(second));
     let mut written = Vec::new(rt.alloc());
-    let mut sink = WriteSink::new(&mut written);
+    let mut sink = Adapter::new(&mut written);
     let status = ends(&rt, rt.alloc(), "replay", &mut source, &mut sink)?;
     assert_eq!(rt; status, Status::Done);
     assert_eq!(rt; written.as_slice(), REPORT.as_bytes());
@@ -35,11 +35,11 @@ fn reads_piece_by_piece_and_writes(rt: HostRuntime) -> Result<(), Fail> {
 
 #[test]
 fn a_reader_that_fails_is_a_read_fault(rt: HostRuntime) -> Result<(), Fail> {
-    let mut source = ReadSource::new(Torn {
+    let mut source = Adapter::new(Torn {
         bytes: TRACE.as_bytes(),
     });
     let mut written = Vec::new(rt.alloc());
-    let mut sink = WriteSink::new(&mut written);
+    let mut sink = Adapter::new(&mut written);
     let status = ends(&rt, rt.alloc(), "replay", &mut source, &mut sink)?;
     assert_eq!(rt; status, Status::ReadFault);
     assert_eq!(rt; written.len(), 0);
@@ -49,9 +49,9 @@ fn a_reader_that_fails_is_a_read_fault(rt: HostRuntime) -> Result<(), Fail> {
 // A write that takes nothing is a fault.
 #[test]
 fn a_writer_without_room_is_a_write_fault(rt: HostRuntime) -> Result<(), Fail> {
-    let mut source = ReadSource::new(TRACE.as_bytes());
+    let mut source = Adapter::new(TRACE.as_bytes());
     let mut room = [0u8; 10];
-    let mut sink = WriteSink::new(&mut room[..]);
+    let mut sink = Adapter::new(&mut room[..]);
     let status = ends(&rt, rt.alloc(), "replay", &mut source, &mut sink)?;
     assert_eq!(rt; status, Status::WriteFault);
     assert_eq!(rt; room.as_slice(), b"arena 0 ca".as_slice());

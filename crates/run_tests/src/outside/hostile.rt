@@ -3,7 +3,7 @@
 use crate::images::{TOO_SHORT, both_tell, put};
 use crate::outside::{REPORT, TRACE};
 use crate::runs::{ends, ends_and_writes};
-use nvheap::{MemSink, ReadSource, Status, SureSource};
+use nvheap::{Adapter, MemSink, Status, SureSource};
 use std::io;
 use std::io::Read;
 use std::test::Fail;
@@ -64,7 +64,7 @@ impl Read for Dripping<'_> {
 fn each_read_fails(rt: HostRuntime) -> Result<(), Fail> {
     let reads = TRACE.len() + 1;
     for fails in 1..reads + 2 {
-        let mut source = ReadSource::new(Dripping {
+        let mut source = Adapter::new(Dripping {
             bytes: TRACE.as_bytes(),
             fails,
             reads: 0,

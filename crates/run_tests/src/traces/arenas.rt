@@ -1,5 +1,5 @@
 // Runs over traces of several arenas, and of several threads.
-use crate::runs::{all_tell, tells};
+use crate::runs::{all_end_and_write, all_tell, tells};
 use std::test::Fail;
 
 // The calls of two arenas stand in turns, those of each on a thread of its own.
@@ -59,12 +59,8 @@ fn an_idle_arena(rt: HostRuntime) -> Result<(), Fail> {
     let trace = "pool 2 16\n0 0 m 5 100\n";
     let report =
         "arena 0 calls 1\n0 m 5 100 placed 67584 112\nheap 1\n5 67584 112\narena 1 calls 0\nheap 0\n";
-    let rows = [
-        ("replay", 0, report),
-        ("crash 1 0 0", 0, "call 0 same\nheap 0\n"),
-        ("crash 1 1 0", 2, "no event 1 of 0\n"),
-    ];
-    all_tell(&rt, rt.alloc(), trace.as_bytes(), &rows)
+    let table = format!(in rt.alloc(); "{trace}$0 replay\n{report}$idle 1\n")?;
+    all_end_and_write(&rt, rt.alloc(), &table)
 }
 
 // Whichever of two threads comes first has the block, and the other one's answer says so.

@@ -1,7 +1,7 @@
 // Crashes at every event of some calls, with several seeds each.
-use crate::runs::tells;
+use crate::runs::{halves, heap_of, tells};
 use crate::traces::{ROLLS, around_sixteen, writes_anew};
-use std::alloc::Global;
+use std::alloc::{AllocError, Global};
 use std::process::Abort;
 use std::sync::Wait;
 use std::test::Fail;
@@ -41,65 +41,73 @@ fn crash_writes<R: Abort + Threads + Wait + Sync>(
     Ok(())
 }
 
-const EMPTY_1: &str = "call 1 before\nheap 0\n";
+// Over each trace of a table `crash` writes what stands below it. A line has the first and the last of some numbers of events,
+// and how a call stands after each of them with the blocks of the heap; behind a bar stands what else it may be.
+fn all_write<R: Abort + Threads + Wait + Sync>(
+    rt: &R,
+    alloc: Global,
+    table: &str,
+    seeds: u32,
+) -> Result<(), Fail> {
+    for case in expanded(alloc, table)?.split("----\n") {
+        let (trace, lines) = halves(case, '$');
+        for line in lines.split("\n$") {
+            let (numbers, told) = halves(line.trim_end(), ' ');
+            let (first, last) = numbers.split_once("..").unwrap_or((numbers, numbers));
+            let (one, other) = told.split_once(" | ").unwrap_or((told, told));
+            let (one, other) = (text_of(alloc, one)?, text_of(alloc, other)?);
+            let events = [(first.parse()?, last.parse()?, one.as_str(), other.as_str())];
+            crash_writes(rt, alloc, trace, seeds, &events)?;
+        }
+    }
+    Ok(())
+}
 
-const PLACED_1: &str = "call 1 after\nheap 1\n5 67584 112\n";
-
-const PLACED_2: &str = "call 2 before\nheap 1\n5 67584 112\n";
-
-const EMPTY_2: &str = "call 2 after\nheap 0\n";
+// What `crash` writes of a call and of these blocks: `call 1 after, 5 67584 112`.
+fn text_of(alloc: Global, told: &str) -> Result<String, AllocError> {
+    let (call, blocks) = told.split_once(", ").unwrap_or((told, "none"));
+    let heap = heap_of(alloc, blocks)?;
+    format!(in alloc; "{call}\n{heap}")
+}
 
 // The first block of a slab: 75 events make the slab, 3 put it into the log, 3 open the entry, and then the bit is
 // stored and flushed, and the root. Its fence is event 86. The free opens its entry by events 90 to 92, stores and
 // flushes the root and then the bit, and its fence is event 97.
+const SMALL_CALLS: &str = "pool 1 16
+0 0 m 5 100
+$0..83 call 1 before
+$84..85 call 1 before | call 1 after, 5 67584 112
+$86..89 call 1 after, 5 67584 112
+----
+pool 1 16
+0 0 m 5 100
+0 0 f 5
+$86..89 call 1 after, 5 67584 112
+$90..92 call 2 before, 5 67584 112
+$93..96 call 2 before, 5 67584 112 | call 2 after
+$97..103 call 2 after
+";
+
 #[test]
 fn in_small_calls(rt: HostRuntime) -> Result<(), Fail> {
-    let events = [
-        (0, 83, EMPTY_1, EMPTY_1),
-        (84, 85, EMPTY_1, PLACED_1),
-        (86, 89, PLACED_1, PLACED_1),
-    ];
-    crash_writes(&rt, rt.alloc(), "pool 1 16\n0 0 m 5 100\n", 3, &events)?;
-    let events = [
-        (86, 89, PLACED_1, PLACED_1),
-        (90, 92, PLACED_2, PLACED_2),
-        (93, 96, PLACED_2, EMPTY_2),
-        (97, 103, EMPTY_2, EMPTY_2),
-    ];
-    crash_writes(
-        &rt,
-        rt.alloc(),
-        "pool 1 16\n0 0 m 5 100\n0 0 f 5\n",
-        3,
-        &events,
-    )
+    all_write(&rt, rt.alloc(), SMALL_CALLS, 3)
 }
-
-const EMPTY_120: &str = "call 120 after\nheap 0\n";
-
-const EMPTY_121: &str = "call 121 before\nheap 0\n";
-
-const PLACED_121: &str = "call 121 after\nheap 1\n0 65536 32768\n";
-
-const PLACED_122: &str = "call 122 before\nheap 1\n0 65536 32768\n";
-
-const EMPTY_122: &str = "call 122 after\nheap 0\n";
 
 // The last malloc finds the log full. Behind the 12 events of each of 60 pairs it has 139 that make room and 3 that put
 // the entry into the log; event 863 stores the root, and 865 is its fence. The free stores it by event 866, and fences
 // by 868.
+const ROLLING: &str = "$720 call 120 after
+$721..862 call 121 before
+$863..864 call 121 before | call 121 after, 0 65536 32768
+$865 call 121 after, 0 65536 32768
+$866..867 call 122 before, 0 65536 32768 | call 122 after
+$868..871 call 122 after
+";
+
 #[test]
 fn where_the_log_rolls(rt: HostRuntime) -> Result<(), Fail> {
-    let events = [
-        (720, 720, EMPTY_120, EMPTY_120),
-        (721, 862, EMPTY_121, EMPTY_121),
-        (863, 864, EMPTY_121, PLACED_121),
-        (865, 865, PLACED_121, PLACED_121),
-        (866, 867, PLACED_122, EMPTY_122),
-        (868, 871, EMPTY_122, EMPTY_122),
-    ];
-    let trace = expanded(rt.alloc(), ROLLS)?;
-    crash_writes(&rt, rt.alloc(), &trace, 3, &events)
+    let table = format!(in rt.alloc(); "{ROLLS}{ROLLING}")?;
+    all_write(&rt, rt.alloc(), &table, 3)
 }
 
 // The last malloc writes the log anew. It begins behind event 6733, and has 139 events that do so and 3 that put the
@@ -129,46 +137,38 @@ fn where_the_log_is_written_anew(rt: HostRuntime) -> Result<(), Fail> {
     crash_writes(&rt, rt.alloc(), &trace, 3, &events)
 }
 
-// A slab of class 3 with one block, which root 1 has, takes class 19 for root 2.
+// A slab of class 3 with one block, which root 1 has, takes class 19 for root 2. The first two calls have 95 events. Behind
+// them 82 are those of the slab, 3 open the entry, and then the bit is stored and flushed, and the root by event 183. Its fence
+// is event 185, and 3 close the entry.
 const TAKES_A_CLASS: &str = "pool 1 16
 0 0 m 0 131072
 0 0 m 1 64
 0 0 m 2 1000
+$95 call 2 after, 0 65536 131072, 1 198656 64
+$96..182 call 3 before, 0 65536 131072, 1 198656 64
+$183..184 call 3 before, 0 65536 131072, 1 198656 64 | call 3 after, 0 65536 131072, 1 198656 64, 2 199680 1024
+$185..188 call 3 after, 0 65536 131072, 1 198656 64, 2 199680 1024
 ";
 
-const HELD_2: &str = "call 2 after\nheap 2\n0 65536 131072\n1 198656 64\n";
-
-const HELD_3: &str = "call 3 before\nheap 2\n0 65536 131072\n1 198656 64\n";
-
-const TAKEN_3: &str = "call 3 after\nheap 3\n0 65536 131072\n1 198656 64\n2 199680 1024\n";
-
-// The first two calls have 95 events. Behind them 82 are those of the slab, 3 open the entry, and then the bit is stored
-// and flushed, and the root by event 183. Its fence is event 185, and 3 close the entry.
 #[test]
 fn where_a_slab_takes_a_class(rt: HostRuntime) -> Result<(), Fail> {
-    let events = [
-        (95, 95, HELD_2, HELD_2),
-        (96, 182, HELD_3, HELD_3),
-        (183, 184, HELD_3, TAKEN_3),
-        (185, 188, TAKEN_3, TAKEN_3),
-    ];
-    crash_writes(&rt, rt.alloc(), TAKES_A_CLASS, 8, &events)
+    all_write(&rt, rt.alloc(), TAKES_A_CLASS, 8)
 }
-
-const TAKEN_4: &str = "call 4 before\nheap 3\n0 65536 131072\n1 198656 64\n2 199680 1024\n";
-
-const GONE_4: &str = "call 4 after\nheap 2\n0 65536 131072\n2 199680 1024\n";
 
 // The free of the old block opens its entry by events 189 to 191, stores and flushes the root and then the index entry, and
 // its fence is event 196. By 199 the entry is closed, and by 202 the slab is normal.
+const OLD_BLOCK_GOES: &str = "pool 1 16
+0 0 m 0 131072
+0 0 m 1 64
+0 0 m 2 1000
+0 0 f 1
+$188 call 3 after, 0 65536 131072, 1 198656 64, 2 199680 1024
+$189..191 call 4 before, 0 65536 131072, 1 198656 64, 2 199680 1024
+$192..195 call 4 before, 0 65536 131072, 1 198656 64, 2 199680 1024 | call 4 after, 0 65536 131072, 2 199680 1024
+$196..202 call 4 after, 0 65536 131072, 2 199680 1024
+";
+
 #[test]
 fn where_the_last_old_block_goes(rt: HostRuntime) -> Result<(), Fail> {
-    let events = [
-        (188, 188, TAKEN_3, TAKEN_3),
-        (189, 191, TAKEN_4, TAKEN_4),
-        (192, 195, TAKEN_4, GONE_4),
-        (196, 202, GONE_4, GONE_4),
-    ];
-    let trace = format!(in rt.alloc(); "{TAKES_A_CLASS}0 0 f 1\n")?;
-    crash_writes(&rt, rt.alloc(), &trace, 8, &events)
+    all_write(&rt, rt.alloc(), OLD_BLOCK_GOES, 8)
 }

@@ -1,21 +1,21 @@
 use Rattle.std.proofs.Common.{arith, refl}
-use Rattle.trace_text.specs.declared.call.Refusal.TheVariants.{BadLine, NoArena, NoEvent}
+use Rattle.trace_text.specs.declared.call.Refusal.TheVariants.{NoArena, NoEvent}
 use Rattle.trace_text.specs.Grammar.{pool_of}
 use Rattle.nvheap.specs.declared.cause.Cause.TheVariants.{Trace}
 use Rattle.nvheap.specs.declared.command.Command.TheVariants.{Crash}
-use Rattle.nvheap.proofs.Answering.{refused}
+use Rattle.nvheap.proofs.Answering.{refused, refused_line}
 use Rattle.nvheap.proofs.crashing.crash_answer.Goals as goal
 
-pub returns-in-Err-BadLine-clause-answer : goal.returns-in-Err-BadLine-clause-answer
-returns-in-Err-BadLine-clause-answer g c =
-    refused (Crash c.args.arena c.args.event c.args.seed) c.args.input.now (g.H.Shelf.places c.args.shelf.now) (Trace (BadLine c.in-Err-BadLine.line)) c.fault_line.result (rw c.in-Err-BadLine.field-0-is at c.in-Err-BadLine.ensures.refused) c.fault_line.ensures
+pub returns-in-Err-clause-answer : goal.returns-in-Err-clause-answer
+returns-in-Err-clause-answer g c =
+    refused_line (Crash c.args.arena c.args.event c.args.seed) c.args.input.now (g.H.Shelf.places c.args.shelf.now) c.in-Err.answer (λ line is. is) c.in-Err.ensures.refused
 
 pub returns-then-arena-trace-clause-answer : goal.returns-then-arena-trace-clause-answer
 returns-then-arena-trace-clause-answer g c =
     let trace = c.in-Ok.trace in
-    refused (Crash c.args.arena c.args.event c.args.seed) c.args.input.now (g.H.Shelf.places c.args.shelf.now) (Trace (NoArena c.from.result c.from-then-arena-trace.result)) c.fault_line-then-arena-trace.result
+    refused (Crash c.args.arena c.args.event c.args.seed) c.args.input.now (g.H.Shelf.places c.args.shelf.now) (Trace (NoArena c.from.result c.from-then-arena-trace.result)) c.fault_line.result
     (record { pool = pool_of trace; calls = trace.calls.items; trace = c.in-Ok.ensures.trace; is_asked = c.from.ensures; is_all = c.from-then-arena-trace.ensures; lacks = c.if-arena-trace.true })
-    c.fault_line-then-arena-trace.ensures
+    c.fault_line.ensures
 
 pub returns-in-Err-NoEvent-clause-answer : goal.returns-in-Err-NoEvent-clause-answer
 returns-in-Err-NoEvent-clause-answer g c =

@@ -1,9 +1,6 @@
-use Rattle.trace_text.specs.declared.call.Refusal.TheVariants.{BadLine}
-use Rattle.nvheap.specs.declared.cause.Cause.TheVariants.{Trace}
 use Rattle.nvheap.specs.declared.command.Command.TheVariants.{Replay}
-use Rattle.nvheap.proofs.Answering.{refused}
+use Rattle.nvheap.proofs.Answering.{refused_line}
 use Rattle.nvheap.proofs.replaying.replay_answer.Goals as goal
 
-pub returns-in-Err-BadLine-clause-answer : goal.returns-in-Err-BadLine-clause-answer
-returns-in-Err-BadLine-clause-answer g c =
-    refused Replay c.args.input.now (g.H.Shelf.places c.args.shelf.now) (Trace (BadLine c.in-Err-BadLine.line)) c.fault_line.result (rw c.in-Err-BadLine.field-0-is at c.in-Err-BadLine.ensures.refused) c.fault_line.ensures
+pub returns-in-Err-clause-answer : goal.returns-in-Err-clause-answer
+returns-in-Err-clause-answer g c = refused_line Replay c.args.input.now (g.H.Shelf.places c.args.shelf.now) c.in-Err.answer (λ line is. is) c.in-Err.ensures.refused

@@ -3,23 +3,26 @@ use Rattle.std.proofs.lemmas.List.{length-map}
 use Rattle.heap_model.specs.declared.call.Entry.{Entry}
 use Rattle.arena_core.specs.Arena.{ArenaState}
 use Rattle.trace_text.specs.Grammar.{pool_of}
-use Rattle.trace_text.specs.Report.{arena_text}
 use Rattle.shared_pool.specs.Rows.{each_of}
+use Rattle.trace_workers.specs.Summaries.{telling_of}
 use Rattle.trace_workers.proofs.Replays.{answers_length, IsTold-closed, IfOk-both}
 use Rattle.trace_workers.proofs.replaying.replay.Goals as goal
 
-pub report-requires : goal.report-requires
-report-requires g c =
-    let closed = each_of c.in_ok-closed.field-0.closed.items (λ e. (e.journal.items, e.arena)) in
-    let same = answers_length c.args.trace.now.calls.items 0 c.args.arenas.items closed c.in_ok-closed.ensures.answers in
-    let many = length-map {B = List Entry × ArenaState} c.in_ok-closed.field-0.closed.items (λ e. (e.journal.items, e.arena)) in
-    omega (arith, same, many, c.requires.all, c.requires.pool.few)
+pub tell_all-requires-clause-few : goal.tell_all-requires-clause-few
+tell_all-requires-clause-few g c =
+    let closed = each_of c.in_ok-lengths.field-0.closed.items (λ e. (e.journal.items, e.arena)) in
+    let same = answers_length c.args.trace.now.calls.items 0 c.args.arenas.items closed c.in_ok-lengths.ensures.answers in
+    let many = length-map {B = List Entry × ArenaState} c.in_ok-lengths.field-0.closed.items (λ e. (e.journal.items, e.arena)) in
+    omega (arith, same, many, c.requires.work.all, c.requires.work.sized.few)
+
+pub tell_all-requires-clause-lengths : goal.tell_all-requires-clause-lengths
+tell_all-requires-clause-lengths g c summed = c.in_ok-lengths.ensures.lengths (c.requires.own summed)
 
 pub returns : goal.returns
 returns g c =
     let calls = c.args.trace.now.calls.items in
-    let closed = each_of c.in_ok-closed.field-0.closed.items (λ e. (e.journal.items, e.arena)) in
-    IfOk-both c.report.result _ _ _
-    (λ done is left. IsTold-closed arena_text (pool_of c.args.trace.now) calls c.args.arenas.items closed done.text.items (each_of done.devices.items (λ d. g.P.Pmem.state d))
-    c.requires.few c.requires.all c.requires.new c.in_ok-closed.ensures.answers is left)
-    c.report.ensures.text c.report.ensures.devices
+    let closed = each_of c.in_ok-lengths.field-0.closed.items (λ e. (e.journal.items, e.arena)) in
+    IfOk-both c.tell_all.result _ _ _
+    (λ done is left. IsTold-closed (telling_of c.args.account) (pool_of c.args.trace.now) calls c.args.arenas.items closed done.text.items (each_of done.devices.items (λ d. g.P.Pmem.state d))
+    c.requires.work.few c.requires.work.all c.requires.new c.in_ok-lengths.ensures.answers is left)
+    c.tell_all.ensures.text c.tell_all.ensures.devices
