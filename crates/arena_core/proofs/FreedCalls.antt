@@ -1,5 +1,5 @@
 -- What a free has done, put together: by what the root held.
-use Rattle.std.proofs.Common.{◌≡◌, ◌*◌, ◌+◌, ◌%◌, ◌<◌, ◌++◌, ℕ, List, Some, refl, sym, ap, subst, ◌∙◌, arith, None}
+use Rattle.std.proofs.Common.{◌≡◌, [], Err, ◌*◌, ◌+◌, ◌%◌, ◌<◌, ◌++◌, ℕ, List, Some, refl, sym, ap, subst, ◌∙◌, arith, None}
 use Rattle.pmem_lines.specs.declared.event.Event.{Event}
 use Rattle.pmem_lines.specs.Events.{reading}
 use Rattle.pmem_lines.specs.Pmem.{PmemState, words_of}
@@ -18,17 +18,21 @@ use Rattle.attach_steps.specs.declared.block.SmallBlock.{SmallBlock}
 use Rattle.attach_steps.specs.declared.block.OldBlock.{OldBlock}
 use Rattle.attach_steps.specs.Steps.{detach_events, detach_old_events}
 use Rattle.arena_core.specs.declared.volatile.Volatile.{Volatile}
+use Rattle.arena_core.specs.Answer.{free_reply}
+use Rattle.arena_core.specs.declared.answer.Freed.{Freed}
+use Rattle.arena_core.specs.declared.answer.FreeRefusal.{FreeRefusal}
+use Rattle.arena_core.specs.declared.answer.FreeRefusal.TheVariants as refusals
 use Rattle.arena_core.specs.Arena.{IsArena}
 use Rattle.arena_core.specs.Call.{IsStepOf}
 use Rattle.arena_core.specs.Carried.{IsDone, IsTaken, IsTidied, IsCalled}
 use Rattle.arena_core.specs.Effect.{stacks_but}
-use Rattle.arena_core.specs.Events.{holds_none, take_events, freed_events, tidy_events, line_after}
-use Rattle.arena_core.specs.Plan.{IsTakable, IsNamedSmall, IsNamedOld, IsHeldBy, range_held}
+use Rattle.arena_core.specs.Events.{holds_none, take_events, freed_events, call_events, tidy_events, line_after}
+use Rattle.arena_core.specs.Plan.{IsTakable, IsNamedSmall, IsNamedOld, IsHeldBy, IsFreePlan, range_held}
 use Rattle.arena_core.specs.declared.plan.Held.{Held}
 use Rattle.heap_model.specs.declared.call.Call.{Call}
 use Rattle.arena_core.proofs.Blocks.{heap-takable}
-use Rattle.arena_core.proofs.CallEvents.{IsCalled-done, freed_large, line_freed, freed_there, start_is, line_small, named_class, named_inside, named_heap, named_new, old_heap, old_inside, old_differs, freed_old}
-use Rattle.arena_core.proofs.MachineSteps.{Returns, put_back_as, freed_step, large_stays, small_stays, large_returned, small_returned, old_returned}
+use Rattle.arena_core.proofs.CallEvents.{IsCalled-done, IsCalled-refused, freed_large, line_freed, freed_there, start_is, line_small, named_class, named_inside, named_heap, named_new, old_heap, old_inside, old_differs, freed_old}
+use Rattle.arena_core.proofs.MachineSteps.{Returns, refused_free, put_back_as, freed_step, large_stays, small_stays, large_returned, small_returned, old_returned}
 use Rattle.arena_core.proofs.TakenBlocks.{last_taken, done_taken}
 
 -- whole granules
@@ -98,3 +102,16 @@ held_now words root is = subst (IsHeldBy (bounds_of words) (tables_of words) roo
 
 pub freed_as : {old new : PmemState} {was left : Volatile} {seat : ℕ} {call : Call} {held named : Held} → held ≡ named → IsCalled old new was left seat call (replies.Freed (range_held named).at (range_held named).size) → IsCalled old new was left seat call (replies.Freed (range_held held).at (range_held held).size)
 freed_as {old} {new} {was} {left} {seat} {call} is called = subst (λ (h : Held). IsCalled old new was left seat call (replies.Freed (range_held h).at (range_held h).size)) (sym is) called
+
+-- and the answer tells it
+pub freed_told : {old new : PmemState} {was left : Volatile} {seat : ℕ} {call : Call} (held : Held) (answer : Freed) → answer.at ≡ (range_held held).at → answer.size ≡ (range_held held).size →
+    IsCalled old new was left seat call (replies.Freed (range_held held).at (range_held held).size) → IsCalled old new was left seat call (replies.Freed answer.at answer.size)
+freed_told {old} {new} {was} {left} {seat} {call} held answer at size = subst (λ (r : Range). IsCalled old new was left seat call (replies.Freed r.at r.size)) (λ i. record { at = sym at i; size = sym size i })
+
+-- a plan that refuses changes nothing
+pub refused_held : {old : PmemState} {was : Volatile} {seat root : ℕ} (refusal : FreeRefusal) → IsArena old was → IsFreePlan (bounds_of (words_of old)) (tables_of (words_of old)) root (Err refusal) → IsCalled old old was was seat (calls.Free root) (free_reply (Err refusal))
+refused_held {old} {was} {seat} {root} refusal arena plan = IsCalled-refused (calls.Free root) (free_reply (Err refusal)) arena (stays refusal).0 (stays refusal).1 (refused_free (words_of old) root refusal plan)
+  where
+    stays : (refusal : FreeRefusal) → (call_events (words_of old) was.line (calls.Free root) (free_reply (Err refusal)) ≡ []) × (line_after was.line (free_reply (Err refusal)) ≡ was.line)
+    stays refusals.NoRoot = (refl, refl)
+    stays refusals.Empty = (refl, refl)

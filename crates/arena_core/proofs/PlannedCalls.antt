@@ -1,10 +1,10 @@
 -- What an arena keeps behind the plan of a malloc: all but the supply is as it was.
-use Rattle.std.proofs.Common.{◌≡◌, true, ℕ, ◌<◌, Option, Some, None, Result, Ok, refl, sym, ap, ◌∙◌, subst, List, ◌+◌, ◌*◌, ◌%◌, ◌≤◌, ◌++◌, ◌≢◌, inl, inr, ⊎_elim, arith}
+use Rattle.std.proofs.Common.{◌≡◌, true, ℕ, ◌<◌, Option, Some, None, Result, Ok, Err, [], refl, sym, ap, ◌∙◌, subst, List, ◌+◌, ◌*◌, ◌%◌, ◌≤◌, ◌++◌, ◌≢◌, inl, inr, ⊎_elim, arith}
 use Rattle.arena_core.proofs.GivenBlocks.{done_behind}
-use Rattle.arena_core.proofs.MachineSteps.{IsServedAt, placed_reply, placed_step}
-use Rattle.arena_core.proofs.CallEvents.{IsCalled-done, small_attachable, placed_large, line_placed, placed_there, placed_morph, placed_fresh, start_is, line_small}
+use Rattle.arena_core.proofs.MachineSteps.{IsServedAt, placed_reply, placed_step, refused_malloc}
+use Rattle.arena_core.proofs.CallEvents.{IsCalled-done, IsCalled-refused, small_attachable, placed_large, line_placed, placed_there, placed_morph, placed_fresh, start_is, line_small}
 use Rattle.arena_core.proofs.Plans.{class_capacity-some, slab_parts}
-use Rattle.arena_core.specs.Events.{is_small, start_at, place_events, placed_events, line_after}
+use Rattle.arena_core.specs.Events.{is_small, start_at, place_events, placed_events, call_events, line_after}
 use Rattle.arena_core.specs.Effect.{IsSuppliedFresh, IsSuppliedMorph}
 use Rattle.heap_check.proofs.Sizes.{sizes_of}
 use Rattle.heap_check.specs.Heap.{slabs, IsUnusedIn}
@@ -35,8 +35,9 @@ use Rattle.arena_core.specs.declared.plan.Place.TheVariants.{Large, Small, Morph
 use Rattle.std.specs.Option.{ok_or}
 use Rattle.heap_check.specs.Image.{bounds_of}
 use Rattle.arena_core.specs.declared.answer.MallocRefusal.{MallocRefusal}
-use Rattle.arena_core.specs.declared.answer.MallocRefusal.TheVariants.{NoSpace}
+use Rattle.arena_core.specs.declared.answer.MallocRefusal.TheVariants.{NoRoot, Occupied, ZeroSize, TooLarge, NoSpace}
 use Rattle.arena_core.specs.declared.answer.Placed.{Placed}
+use Rattle.arena_core.specs.Answer.{malloc_reply}
 use Rattle.arena_core.specs.Carried.{IsCalled, IsHeldFor, MayOpen, MayTakeClass, IsDone, HasClassNow, IsSlabFor}
 use Rattle.attach_steps.specs.declared.block.SmallBlock.{SmallBlock}
 use Rattle.arena_core.specs.Arena.{IsArena}
@@ -152,6 +153,20 @@ planned_begun {device} begun {was} {now} {seat} {root} {size} {plan} is planned 
   rest = planned.rest;
   is = planned.is;
 })
+
+-- a plan that refuses changes nothing
+pub refused_plan : {old : PmemState} {was now : Volatile} {seat root size : ℕ} (refusal : MallocRefusal) → IsPlanned old was now seat root size (Err refusal) → IsCalled old old was now seat (calls.Malloc root size) (malloc_reply (Err refusal))
+refused_plan {old} {was} {now} {seat} {root} {size} refusal planned =
+    let words = words_of old in
+    subst (λ (v : Volatile). IsCalled old old was v seat (calls.Malloc root size) (malloc_reply (Err refusal))) (sym (all_same was now planned.rest planned.supplied))
+    (IsCalled-refused (calls.Malloc root size) (malloc_reply (Err refusal)) planned.arena (stays refusal).0 (stays refusal).1 (refused_malloc words root size refusal planned.arena.current.exact planned.is))
+  where
+    stays : (refusal : MallocRefusal) → (call_events (words_of old) was.line (calls.Malloc root size) (malloc_reply (Err refusal)) ≡ []) × (line_after was.line (malloc_reply (Err refusal)) ≡ was.line)
+    stays NoRoot = (refl, refl)
+    stays (Occupied at) = (refl, refl)
+    stays ZeroSize = (refl, refl)
+    stays TooLarge = (refl, refl)
+    stays NoSpace = (refl, refl)
 
 -- a block was placed at a site
 

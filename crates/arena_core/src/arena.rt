@@ -22,7 +22,7 @@ ghost use Rattle.arena_core.specs.Payload.{payload_events, IsWriteStep, IsWritte
 use crate::adopting::{read_image, read_lives, take_front};
 use crate::formatting::write_header;
 use crate::payload::{carry_out_write, plan_write};
-use crate::plan::granules_in;
+use crate::plan::{freed_of, granules_in};
 use crate::volatile::Volatile;
 use crate::{
     ArenaRoom, BlockRefusal, FreeRefusal, Freed, MallocRefusal, MoveRefusal, Moved, Placed,
@@ -132,8 +132,12 @@ impl<P: Pmem> Arena<P> {
     {
         let plan = self.volatile.plan_malloc(&self.device, seat, root, size);
         self.device.begin();
-        self.volatile
-            .carry_out_malloc(&mut self.device, seat, root, plan)
+        match plan {
+            Ok(place) => Ok(self
+                .volatile
+                .carry_out_place(&mut self.device, seat, root, place)),
+            Err(refusal) => Err(refusal),
+        }
     }
 
     /// Takes a root its block, and the block's slab out of the heap, and its blocks out of all stacks, where no other block
@@ -149,8 +153,14 @@ impl<P: Pmem> Arena<P> {
     {
         let plan = self.volatile.plan_free(&self.device, root);
         self.device.begin();
-        self.volatile
-            .carry_out_free(&mut self.device, seat, root, plan)
+        match plan {
+            Ok(held) => {
+                self.volatile
+                    .carry_out_held(&mut self.device, seat, root, held);
+                Ok(freed_of(held))
+            }
+            Err(refusal) => Err(refusal),
+        }
     }
 
     /// Moves the block of root `from` to root `to`. The answer is the machine's: `NoRoot` where one of the two is no such

@@ -25,9 +25,9 @@ ghost use Rattle.arena_core.specs.Effect.{IsLastOf, slabs_but, stacks_but, IsPut
 ghost use Rattle.arena_core.specs.Events.{place_events, take_events, fresh_events, morphed_events, unsmall_events, tidy_events, holds_none};
 ghost use Rattle.arena_core.specs.Plan.{IsBlockAs, number_of, IsGivable, IsTakable, IsNamedSmall, IsNamedOld, IsHeldBy, IsPlanned, IsFreePlan, range_held};
 
-use crate::plan::{Held, Place, freed_of, placed_large, placed_small};
+use crate::plan::{Held, Place, placed_large, placed_small};
 use crate::volatile::Volatile;
-use crate::{FreeRefusal, Freed, MallocRefusal, Placed};
+use crate::Placed;
 use attach_steps::{OldBlock, SmallBlock, attach, detach, detach_old, put_root};
 use block_supply::{BlockSupply, SlabAt, SlabBlock};
 use book_log::LogEntry;
@@ -43,27 +43,8 @@ use slab_morph::{covered_by, is_done, is_unused, used_blocks};
 use transition_steps::end_transition;
 
 impl Volatile {
-    /// Does what the plan of a malloc says, and answers the call.
-    pub(crate) fn carry_out_malloc<P: Pmem>(
-        &mut self,
-        device: &mut P,
-        seat: u32,
-        root: u32,
-        plan: Result<Place, MallocRefusal>,
-    ) -> Result<Placed, MallocRefusal>
-        requires fresh { (P.state device.old).events ≡ [] }
-        requires seat { seat < 64 }
-        requires planned { (was : Volatile) × (size : ℕ) × IsPlanned (P.state device.old) was self.old seat root size plan }
-        ensures { (was : Volatile) (size : ℕ) → IsPlanned (P.state device.old) was self.old seat root size plan → IsCalled (P.state device.old) (P.state device.new) was self.new seat (calls.Malloc root size) (malloc_reply result) }
-    {
-        match plan {
-            Ok(place) => Ok(self.carry_out_place(device, seat, root, place)),
-            Err(refusal) => Err(refusal),
-        }
-    }
-
-    // Gives a root of a seat the block at a place.
-    fn carry_out_place<P: Pmem>(
+    /// Gives a root of a seat the block at the place that was planned for it.
+    pub(crate) fn carry_out_place<P: Pmem>(
         &mut self,
         device: &mut P,
         seat: u32,
@@ -97,31 +78,8 @@ impl Volatile {
         }
     }
 
-    /// Does what the plan of a free says, and answers the call.
-    pub(crate) fn carry_out_free<P: Pmem>(
-        &mut self,
-        device: &mut P,
-        seat: u32,
-        root: u32,
-        plan: Result<Held, FreeRefusal>,
-    ) -> Result<Freed, FreeRefusal>
-        requires arena { IsArena (P.state device.old) self.old }
-        requires fresh { (P.state device.old).events ≡ [] }
-        requires seat { seat < 64 }
-        requires plan { IsFreePlan (bounds_of (words_of (P.state device.old))) (tables_of (words_of (P.state device.old))) root plan }
-        ensures { IsCalled (P.state device.old) (P.state device.new) self.old self.new seat (calls.Free root) (free_reply result) }
-    {
-        match plan {
-            Ok(held) => {
-                self.carry_out_held(device, seat, root, held);
-                Ok(freed_of(held))
-            }
-            Err(refusal) => Err(refusal),
-        }
-    }
-
-    // Takes what it holds from a root of a seat.
-    fn carry_out_held<P: Pmem>(&mut self, device: &mut P, seat: u32, root: u32, held: Held)
+    /// Takes what it holds from a root of a seat.
+    pub(crate) fn carry_out_held<P: Pmem>(&mut self, device: &mut P, seat: u32, root: u32, held: Held)
         requires arena { IsArena (P.state device.old) self.old }
         requires fresh { (P.state device.old).events ≡ [] }
         requires seat { seat < 64 }

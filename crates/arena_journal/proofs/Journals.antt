@@ -143,12 +143,7 @@ module _ (o : Opening) (journal : List Entry) (old new : ArenaState) (e : Entry)
 
     behind : IsBehindCall o (journal ++ e ∷ []) new
     behind = record {
-      before = journal;
-      entry = e;
-      reads = [];
-      is = refl;
-      begins = begins;
-      none = refl;
+      last = record { before = journal; entry = e; reads = []; is = refl; begins = begins; none = refl };
       machine = held.machine;
       stacks = stacks_of old.stacks;
       leads = held.leads;
@@ -178,12 +173,14 @@ module _ (o : Opening) (journal : List Entry) (old new : ArenaState) (e : Entry)
     last_read : IsUntouched o journal old ⊎ IsBehindCall o journal old → IsUntouched o (journal ++ e ∷ []) old ⊎ IsBehindCall o (journal ++ e ∷ []) old
     last_read (inl u) = inl (record { none = still_read journal ∙ u.none; same = u.same })
     last_read (inr c) = inr (record {
-      before = c.before;
-      entry = c.entry;
-      reads = c.reads ++ e ∷ [];
-      is = ap (λ (entries : List Entry). entries ++ e ∷ []) c.is ∙ append_assoc c.before (c.entry ∷ c.reads) (e ∷ []);
-      begins = c.begins;
-      none = still_read c.reads ∙ c.none;
+      last = record {
+        before = c.last.before;
+        entry = c.last.entry;
+        reads = c.last.reads ++ e ∷ [];
+        is = ap (λ (entries : List Entry). entries ++ e ∷ []) c.last.is ∙ append_assoc c.last.before (c.last.entry ∷ c.last.reads) (e ∷ []);
+        begins = c.last.begins;
+        none = still_read c.last.reads ∙ c.last.none;
+      };
       machine = c.machine;
       stacks = c.stacks;
       leads = c.leads;
@@ -207,7 +204,7 @@ none_of (x ∷ xs) ys e h = absurd (cc h)
 
 untouched : (o : Opening) (now : ArenaState) → IsUntouched o [] now ⊎ IsBehindCall o [] now → opened now ≡ o
 untouched o now (inl u) = ap opened u.same
-untouched o now (inr c) = absurd (none_of c.before c.reads c.entry c.is)
+untouched o now (inr c) = absurd (none_of c.last.before c.last.reads c.last.entry c.last.is)
 
 -- where no call was made the arena is as it was
 pub behind_still : (o : Opening) (now : ArenaState) → IsBehind o [] now → opened now ≡ o

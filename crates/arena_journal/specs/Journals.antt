@@ -60,24 +60,28 @@ pub record IsUntouched (o : Opening) (journal : List Entry) (now : ArenaState) :
   pub none : begun_by journal ≡ 0
   pub same : now ≡ arena_of o
 
--- The memory went through the last call that is no Read: its base is exact, with the state that the entries before lead
--- to, and its events are that call's, at the write-ahead line that those entries lead to. A crash within it leaves what one
--- within such a call leaves: the heap before it or after it, of a Write each word old or new, and of a Move its entry may be
--- open.
-pub record IsBehindCall (o : Opening) (journal : List Entry) (now : ArenaState) : Type 0 where
+-- the last entry of a journal that is no Read, with those before it, and the Reads behind it
+pub record LastBegun (journal : List Entry) : Type 0 where
   pub before : List Entry
   pub entry : Entry
   pub reads : List Entry
   pub is : journal ≡ before ++ entry ∷ reads
   pub begins : begins_call entry.call ≡ true
   pub none : begun_by reads ≡ 0
+
+-- The memory went through the last call that is no Read: its base is exact, with the state that the entries before lead
+-- to, and its events are that call's, at the write-ahead line that those entries lead to. A crash within it leaves what one
+-- within such a call leaves: the heap before it or after it, of a Write each word old or new, and of a Move its entry may be
+-- open.
+pub record IsBehindCall (o : Opening) (journal : List Entry) (now : ArenaState) : Type 0 where
+  pub last : LastBegun journal
   pub machine : Machine
   pub stacks : Stacks
-  pub leads : LeadsTo o before (record { machine = machine; stacks = stacks })
+  pub leads : LeadsTo o last.before (record { machine = machine; stacks = stacks })
   pub exact : IsExactImage now.device.base
   pub state : HasState now.device.base machine
-  pub events : now.device.events ≡ call_events now.device.base (line_behind o.next_line before) entry.call entry.reply
-  pub crash : CrashOnly now.device.base now.device.events (IsLeftBy entry.call now.device.base (words_of now.device))
+  pub events : now.device.events ≡ call_events now.device.base (line_behind o.next_line last.before) last.entry.call last.entry.reply
+  pub crash : CrashOnly now.device.base now.device.events (IsLeftBy last.entry.call now.device.base (words_of now.device))
 
 -- The journal leads from the opening to the arena as it is: to its blocks, slabs and words, with its stacks beside them, to
 -- its write-ahead line, to its words, word for word, and to its count of begun calls. No two blocks overlap, and the memory

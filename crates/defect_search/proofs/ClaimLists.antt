@@ -40,36 +40,27 @@ claims_skip t n claims none are = record {
   rising = are.rising;
 }
 
-one_more : (claims : List Claim) (claim : Claim) → length (claims ++ claim ∷ []) ≡ length claims + 1
-one_more claims claim = length-append claims (claim ∷ [])
-
-claim_front : (claims : List Claim) (claim : Claim) (i : ℕ) → i < length claims → claim_in (claims ++ claim ∷ []) i ≡ claim_in claims i
-claim_front claims claim i below = get_or_append_left claims (claim ∷ []) no_claim i below
-
-claim_last : (claims : List Claim) (claim : Claim) → claim_in (claims ++ claim ∷ []) (length claims) ≡ claim
-claim_last claims claim = get_or-append_seam claims claim [] no_claim
-
 root_of : Claim → ℕ
 root_of claim = claim.root
 
 pub claims_push : (t : Tables) (n : ℕ) (claims : List Claim) (claim : Claim) → IsClaimOf t n claim → AreClaimsBelow t n claims → AreClaimsBelow t (n + 1) (claims ++ claim ∷ [])
 claims_push t n claims claim is are = record {
   each = λ i below. ⊎_elim
-      (λ (same : i ≡ length claims). subst Good (sym (ap (claim_in new) same ∙ claim_last claims claim)) (subst (λ r. IsClaim t r (range_of claim)) (sym is.root_is) is.claim_is))
-      (λ (other : i ≢ length claims). let front : i < length claims = omega (arith, one_more claims claim) in subst Good (sym (claim_front claims claim i front)) (are.each i front))
+      (λ (same : i ≡ length claims). subst Good (sym (ap (claim_in new) same ∙ get_or-append_seam claims claim [] no_claim)) (subst (λ r. IsClaim t r (range_of claim)) (sym is.root_is) is.claim_is))
+      (λ (other : i ≢ length claims). let front : i < length claims = omega (arith, length-append claims (claim ∷ [])) in subst Good (sym (get_or_append_left claims (claim ∷ []) no_claim i front)) (are.each i front))
       (cases_eq i (length claims));
   before = λ i below. ⊎_elim
       (λ (same : i ≡ length claims). omega (arith, last i same, is.root_is))
-      (λ (other : i ≢ length claims). let low : i < length claims = omega (arith, one_more claims claim) in omega (arith, front i low, are.before i low))
+      (λ (other : i ≢ length claims). let low : i < length claims = omega (arith, length-append claims (claim ∷ [])) in omega (arith, front i low, are.before i low))
       (cases_eq i (length claims));
   all = λ root below some. ⊎_elim
-      (λ (same : root ≡ n). (length claims, omega (arith, one_more claims claim), last (length claims) refl ∙ is.root_is ∙ sym same))
-      (λ (other : root ≢ n). let found = are.all root (omega arith) some in (found.0, omega (arith, one_more claims claim, found.1), front found.0 found.1 ∙ found.2))
+      (λ (same : root ≡ n). (length claims, omega (arith, length-append claims (claim ∷ [])), last (length claims) refl ∙ is.root_is ∙ sym same))
+      (λ (other : root ≢ n). let found = are.all root (omega arith) some in (found.0, omega (arith, length-append claims (claim ∷ []), found.1), front found.0 found.1 ∙ found.2))
       (cases_eq root n);
   rising = λ i j less below. ⊎_elim
       (λ (same : j ≡ length claims). let low : i < length claims = omega (arith, less) in omega (arith, front i low, are.before i low, last j same, is.root_is))
       (λ (other : j ≢ length claims).
-      let back : j < length claims = omega (arith, one_more claims claim) in
+      let back : j < length claims = omega (arith, length-append claims (claim ∷ [])) in
       let low : i < length claims = omega (arith, less) in
       omega (arith, front i low, front j back, are.rising i j less back))
       (cases_eq j (length claims));
@@ -82,10 +73,10 @@ claims_push t n claims claim is are = record {
     Good c = IsClaim t c.root (range_of c)
 
     front : (i : ℕ) → i < length claims → (claim_in new i).root ≡ (claim_in claims i).root
-    front i low = ap (λ (c : Claim). c.root) (claim_front claims claim i low)
+    front i low = ap (λ (c : Claim). c.root) (get_or_append_left claims (claim ∷ []) no_claim i low)
 
     last : (i : ℕ) → i ≡ length claims → (claim_in new i).root ≡ claim.root
-    last i same = ap (λ (c : Claim). c.root) (ap (claim_in new) same ∙ claim_last claims claim)
+    last i same = ap (λ (c : Claim). c.root) (ap (claim_in new) same ∙ get_or-append_seam claims claim [] no_claim)
 
 -- a claim of a root has one block
 

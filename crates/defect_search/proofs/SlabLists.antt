@@ -31,37 +31,28 @@ slabs_skip words n slabs none are = record {
   rising = are.rising;
 }
 
-one_more : (slabs : List Slab) (slab : Slab) → length (slabs ++ slab ∷ []) ≡ length slabs + 1
-one_more slabs slab = length-append slabs (slab ∷ [])
-
-slab_front : (slabs : List Slab) (slab : Slab) (i : ℕ) → i < length slabs → slab_in (slabs ++ slab ∷ []) i ≡ slab_in slabs i
-slab_front slabs slab i below = get_or_append_left slabs (slab ∷ []) no_slab i below
-
-slab_last : (slabs : List Slab) (slab : Slab) → slab_in (slabs ++ slab ∷ []) (length slabs) ≡ slab
-slab_last slabs slab = get_or-append_seam slabs slab [] no_slab
-
 pub slabs_push : (words : List ℕ) (n : ℕ) (slabs : List Slab) (slab : Slab) → slab.start ≡ n → IsRead words slab → AreSlabsBelow words n slabs → AreSlabsBelow words (n + 1) (slabs ++ slab ∷ [])
 slabs_push words n slabs slab start read are = record {
   each = λ i below. ⊎_elim
-      (λ (same : i ≡ length slabs). subst (IsRead words) (sym (ap (slab_in (slabs ++ slab ∷ [])) same ∙ slab_last slabs slab)) read)
-      (λ (other : i ≢ length slabs). let front : i < length slabs = omega (arith, one_more slabs slab) in subst (IsRead words) (sym (slab_front slabs slab i front)) (are.each i front))
+      (λ (same : i ≡ length slabs). subst (IsRead words) (sym (ap (slab_in (slabs ++ slab ∷ [])) same ∙ get_or-append_seam slabs slab [] no_slab)) read)
+      (λ (other : i ≢ length slabs). let front : i < length slabs = omega (arith, length-append slabs (slab ∷ [])) in subst (IsRead words) (sym (get_or_append_left slabs (slab ∷ []) no_slab i front)) (are.each i front))
       (cases_eq i (length slabs));
   before = λ i below. ⊎_elim
-      (λ (same : i ≡ length slabs). omega (arith, ap (λ (s : Slab). s.start) (ap (slab_in (slabs ++ slab ∷ [])) same ∙ slab_last slabs slab), start))
-      (λ (other : i ≢ length slabs). let front : i < length slabs = omega (arith, one_more slabs slab) in omega (arith, ap (λ (s : Slab). s.start) (slab_front slabs slab i front), are.before i front))
+      (λ (same : i ≡ length slabs). omega (arith, ap (λ (s : Slab). s.start) (ap (slab_in (slabs ++ slab ∷ [])) same ∙ get_or-append_seam slabs slab [] no_slab), start))
+      (λ (other : i ≢ length slabs). let front : i < length slabs = omega (arith, length-append slabs (slab ∷ [])) in omega (arith, ap (λ (s : Slab). s.start) (get_or_append_left slabs (slab ∷ []) no_slab i front), are.before i front))
       (cases_eq i (length slabs));
   all = λ at below here. ⊎_elim
-      (λ (same : at ≡ n). (length slabs, omega (arith, one_more slabs slab), ap (λ (s : Slab). s.start) (slab_last slabs slab) ∙ start ∙ sym same))
-      (λ (other : at ≢ n). let found = are.all at (omega arith) here in (found.0, omega (arith, one_more slabs slab, found.1), ap (λ (s : Slab). s.start) (slab_front slabs slab found.0 found.1) ∙ found.2))
+      (λ (same : at ≡ n). (length slabs, omega (arith, length-append slabs (slab ∷ [])), ap (λ (s : Slab). s.start) (get_or-append_seam slabs slab [] no_slab) ∙ start ∙ sym same))
+      (λ (other : at ≢ n). let found = are.all at (omega arith) here in (found.0, omega (arith, length-append slabs (slab ∷ []), found.1), ap (λ (s : Slab). s.start) (get_or_append_left slabs (slab ∷ []) no_slab found.0 found.1) ∙ found.2))
       (cases_eq at n);
   rising = λ i j less below. ⊎_elim
       (λ (same : j ≡ length slabs).
       let front : i < length slabs = omega (arith, less) in
-      omega (arith, ap (λ (s : Slab). s.start) (slab_front slabs slab i front), are.before i front, ap (λ (s : Slab). s.start) (ap (slab_in (slabs ++ slab ∷ [])) same ∙ slab_last slabs slab), start))
+      omega (arith, ap (λ (s : Slab). s.start) (get_or_append_left slabs (slab ∷ []) no_slab i front), are.before i front, ap (λ (s : Slab). s.start) (ap (slab_in (slabs ++ slab ∷ [])) same ∙ get_or-append_seam slabs slab [] no_slab), start))
       (λ (other : j ≢ length slabs).
-      let back : j < length slabs = omega (arith, one_more slabs slab) in
+      let back : j < length slabs = omega (arith, length-append slabs (slab ∷ [])) in
       let front : i < length slabs = omega (arith, less) in
-      omega (arith, ap (λ (s : Slab). s.start) (slab_front slabs slab i front), ap (λ (s : Slab). s.start) (slab_front slabs slab j back), are.rising i j less back))
+      omega (arith, ap (λ (s : Slab). s.start) (get_or_append_left slabs (slab ∷ []) no_slab i front), ap (λ (s : Slab). s.start) (get_or_append_left slabs (slab ∷ []) no_slab j back), are.rising i j less back))
       (cases_eq j (length slabs));
 }
 

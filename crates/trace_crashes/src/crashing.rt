@@ -1,10 +1,9 @@
 // What a crash leaves after a chosen event of the calls of a trace.
-ghost use Rattle.std.specs.Prelude.{◌≡◌, ◌<◌, IfOk, IfErr};
-ghost use Rattle.std.specs.List.{All};
+ghost use Rattle.std.specs.Prelude.{◌≡◌, IfOk, IfErr};
 ghost use Rattle.heap_check.specs.Image.{IsSoundImage};
-ghost use Rattle.trace_text.specs.Grammar.{pool_of, IsPool, IsTraceCall};
+ghost use Rattle.trace_text.specs.Grammar.{pool_of};
 ghost use Rattle.trace_runs.specs.Arenas.{header_for};
-ghost use Rattle.trace_runs.specs.Calls.{calls_of};
+ghost use Rattle.trace_runs.specs.Calls.{calls_of, IsArenaOf};
 ghost use Rattle.trace_crashes.specs.declared.crashing.CrashFault.TheVariants as faults;
 ghost use Rattle.trace_crashes.specs.Crash.{left_of, IsCrashOf, IfNoEvent};
 
@@ -44,9 +43,7 @@ pub fn crash(
     event: u64,
     seed: u64,
 ) -> Result<Crashed, CrashFault>
-    requires pool { IsPool (pool_of trace.now) }
-    requires each { All (IsTraceCall trace.now.arenas) trace.now.calls.items }
-    requires inside { arena < trace.now.arenas }
+    requires { IsArenaOf (pool_of trace.now) trace.now.calls.items arena }
     ensures crashed { IfOk result (λ crashed. IsCrashOf (header_for (pool_of trace.now) arena) (calls_of arena trace.now.calls.items) event seed (left_of crashed)) }
     ensures sound { IfOk result (λ crashed. IsSoundImage crashed.image.items) }
     ensures fault { IfErr result (IfNoEvent (header_for (pool_of trace.now) arena) (calls_of arena trace.now.calls.items) event) }

@@ -3,9 +3,9 @@ ghost use Rattle.std.specs.Prelude.{◌≡◌, ◌<◌, if◌then◌else◌, len
 ghost use Rattle.std.specs.List.{All};
 ghost use Rattle.pool_layout.specs.declared.header.PoolHeader.{PoolHeader};
 ghost use Rattle.arena_journal.specs.Journals.{begins_call};
-ghost use Rattle.trace_text.specs.Grammar.{pool_of, IsPool, IsTraceCall};
+ghost use Rattle.trace_text.specs.Grammar.{pool_of};
 ghost use Rattle.trace_runs.specs.Arenas.{header_for, IsNewArena};
-ghost use Rattle.trace_runs.specs.Calls.{calls_of, CanBeMade};
+ghost use Rattle.trace_runs.specs.Calls.{calls_of, CanBeMade, IsArenaOf};
 ghost use Rattle.trace_crashes.specs.Seek.{IsSought, IsReportable};
 
 use crate::opening::format_new;
@@ -46,9 +46,7 @@ pub(crate) fn stop_at(
     arena: u32,
     event: u64,
 ) -> Result<Stopped, OutOfMemory>
-    requires pool { IsPool (pool_of trace.now) }
-    requires each { All (IsTraceCall trace.now.arenas) trace.now.calls.items }
-    requires inside { arena < trace.now.arenas }
+    requires { IsArenaOf (pool_of trace.now) trace.now.calls.items arena }
     ensures sought { IfOk result (λ s. IsSought (header_for (pool_of trace.now) arena) (calls_of arena trace.now.calls.items) event s.device s.sought) }
     ensures next { IfOk result (λ s. IsReportable s.device s.sought) }
 {

@@ -45,18 +45,13 @@ last_of header first now journal new (inl untouched) = inl (record {
   events = ap (λ (a : ArenaState). a.device.events) untouched.same ∙ new.events;
 })
 last_of header first now journal new (inr call) = inr (record {
-  before = call.before;
-  entry = call.entry;
-  reads = call.reads;
-  is = call.is;
-  begins = call.begins;
-  none = call.none;
+  last = call.last;
   machine = call.machine;
   stacks = call.stacks;
-  leads = IsJournal-opened header first call.before (record { machine = call.machine; stacks = call.stacks }) new call.leads;
+  leads = IsJournal-opened header first call.last.before (record { machine = call.machine; stacks = call.stacks }) new call.leads;
   exact = call.exact;
   state = call.state;
-  events = call.events ∙ ap (λ line. call_events now.device.base (line_behind line call.before) call.entry.call call.entry.reply) new.line;
+  events = call.events ∙ ap (λ line. call_events now.device.base (line_behind line call.last.before) call.last.entry.call call.last.entry.reply) new.line;
 })
 
 -- the device of an arena that is behind a journal from a new one

@@ -1,10 +1,13 @@
 -- The calls of a trace that are one arena's, and what an arena made of them.
 use Rattle.std.specs.Prelude.{◌≡◌, ◌==◌, ℕ, ◌<◌, List, [], ◌∷◌, if◌then◌else◌}
+use Rattle.std.specs.List.{All}
 use Rattle.heap_model.specs.declared.call.Entry.{Entry}
 use Rattle.heap_model.specs.Journal.{IsOfBlock}
 use Rattle.arena_core.specs.Arena.{ArenaState}
 use Rattle.arena_journal.specs.Journals.{opened, IsBehind}
+use Rattle.trace_text.specs.declared.call.PoolSize.{PoolSize}
 use Rattle.trace_text.specs.declared.call.TraceCall.{TraceCall}
+use Rattle.trace_text.specs.Grammar.{IsPool, IsTraceCall}
 
 -- the calls of one arena, in the order of the lines
 abbrev pub calls_of : ℕ → List TraceCall → List TraceCall
@@ -14,6 +17,12 @@ calls_of arena (call ∷ calls) = if call.arena == arena then call ∷ calls_of 
 -- a call that an arena may be asked: by one of 64 threads
 abbrev pub CanBeMade : TraceCall → Type 0
 CanBeMade call = call.thread < 64
+
+-- calls of a trace of this pool, and one of its arenas
+pub record IsArenaOf (pool : PoolSize) (calls : List TraceCall) (arena : ℕ) : Type 0 where
+  pub sized : IsPool pool
+  pub each : All (IsTraceCall pool.arenas) calls
+  pub inside : arena < pool.arenas
 
 -- a call that reads and writes no word
 abbrev pub IsOfBlocks : TraceCall → Type 0

@@ -11,7 +11,7 @@ use Rattle.heap_model.specs.Journal.{Leads, IsPlacedEntry}
 use Rattle.heap_check.specs.Image.{IsExactImage}
 use Rattle.heap_check.specs.State.{HasState}
 use Rattle.arena_core.specs.Events.{format_events, call_events}
-use Rattle.arena_journal.specs.Journals.{begins_call, begun_by, line_behind, words_along}
+use Rattle.arena_journal.specs.Journals.{begun_by, line_behind, words_along, LastBegun}
 use Rattle.trace_text.specs.declared.call.TraceCall.{TraceCall}
 use Rattle.trace_runs.specs.Arenas.{bounds_for, formatted}
 use Rattle.trace_runs.specs.Runs.{Stage, words_behind, IsRunOf}
@@ -31,18 +31,13 @@ pub record IsAsFormatted (header : PoolHeader) (device : PmemState) (journal : L
 -- the device went through the journal's last entry that is no Read: its base is exact, with the state that the entries
 -- before lead to, and its events are that call's, at the write-ahead line that those entries lead to
 pub record IsBehindLast (header : PoolHeader) (device : PmemState) (journal : List Entry) : Type 0 where
-  pub before : List Entry
-  pub entry : Entry
-  pub reads : List Entry
-  pub is : journal ≡ before ++ entry ∷ reads
-  pub begins : begins_call entry.call ≡ true
-  pub none : begun_by reads ≡ 0
+  pub last : LastBegun journal
   pub machine : Machine
   pub stacks : Stacks
-  pub leads : IsJournal header.granules before (record { machine = machine; stacks = stacks })
+  pub leads : IsJournal header.granules last.before (record { machine = machine; stacks = stacks })
   pub exact : IsExactImage device.base
   pub state : HasState device.base machine
-  pub events : device.events ≡ call_events device.base (line_behind 0 before) entry.call entry.reply
+  pub events : device.events ≡ call_events device.base (line_behind 0 last.before) last.entry.call last.entry.reply
 
 -- The device of an arena that was formatted with this header went through a legal journal to this state and some stacks, in
 -- which no two blocks overlap. It is quiet and exact, with that state. Its words are, word for word, those that the events of

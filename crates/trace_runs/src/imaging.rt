@@ -5,9 +5,9 @@ ghost use Rattle.pmem_lines.specs.Pmem.{words_of, IsZeroed};
 ghost use Rattle.pool_layout.specs.Layout.{layout_of};
 ghost use Rattle.heap_check.specs.Image.{IsExactImage};
 ghost use Rattle.arena_core.specs.Call.{IsReady};
-ghost use Rattle.trace_text.specs.Grammar.{pool_of, IsPool, IsTraceCall};
+ghost use Rattle.trace_text.specs.Grammar.{pool_of};
 ghost use Rattle.trace_runs.specs.Arenas.{header_for};
-ghost use Rattle.trace_runs.specs.Calls.{calls_of, CanBeMade, HasMadeAll};
+ghost use Rattle.trace_runs.specs.Calls.{calls_of, CanBeMade, IsArenaOf, HasMadeAll};
 ghost use Rattle.trace_runs.specs.Journals.{IsRunThrough};
 ghost use Rattle.trace_runs.specs.Runs.{GoesOn};
 
@@ -26,10 +26,8 @@ pub fn run_calls<P: Pmem + Drop>(
     arena: u32,
     device: P,
 ) -> Result<P, OutOfMemory>
-    requires pool { IsPool (pool_of trace.now) }
-    requires each { All (IsTraceCall trace.now.arenas) trace.now.calls.items }
+    requires arena { IsArenaOf (pool_of trace.now) trace.now.calls.items arena }
     requires few { length trace.now.calls.items < 2 ^ 32 }
-    requires inside { arena < trace.now.arenas }
     requires zeroed { IsZeroed (P.state device) (256 * trace.now.granules) (layout_of 1).room }
     ensures { IfOk result (λ left. IsRunThrough (header_for (pool_of trace.now) arena) (calls_of arena trace.now.calls.items) (P.state left)) }
 {
