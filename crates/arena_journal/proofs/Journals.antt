@@ -144,13 +144,15 @@ module _ (o : Opening) (journal : List Entry) (old new : ArenaState) (e : Entry)
     behind : IsBehindCall o (journal ++ e ∷ []) new
     behind = record {
       last = record { before = journal; entry = e; reads = []; is = refl; begins = begins; none = refl };
-      machine = held.machine;
-      stacks = stacks_of old.stacks;
-      leads = held.leads;
-      exact = subst IsExactImage base answered.was_exact;
-      state = subst (λ (words : List ℕ). HasState words held.machine) base held.state;
-      events = subst (λ (words : List ℕ). new.device.events ≡ call_events words (line_behind o.next_line journal) e.call e.reply) base events;
-      crash = subst (λ (words : List ℕ). CrashOnly new.device.base new.device.events (IsLeftBy e.call words (words_of new.device))) base did.crash;
+      through = record {
+        machine = held.machine;
+        stacks = stacks_of old.stacks;
+        leads = held.leads;
+        exact = subst IsExactImage base answered.was_exact;
+        state = subst (λ (words : List ℕ). HasState words held.machine) base held.state;
+        events = subst (λ (words : List ℕ). new.device.events ≡ call_events words (line_behind o.next_line journal) e.call e.reply) base events;
+        crash = subst (λ (words : List ℕ). CrashOnly new.device.base new.device.events (IsLeftBy e.call words (words_of new.device))) base did.crash;
+      };
     }
 
     count : begun_by (journal ++ e ∷ []) ≡ begun_by journal + 1
@@ -181,13 +183,7 @@ module _ (o : Opening) (journal : List Entry) (old new : ArenaState) (e : Entry)
         begins = c.last.begins;
         none = still_read c.last.reads ∙ c.last.none;
       };
-      machine = c.machine;
-      stacks = c.stacks;
-      leads = c.leads;
-      exact = c.exact;
-      state = c.state;
-      events = c.events;
-      crash = c.crash;
+      through = c.through;
     })
 
     behind_read : IsBehind o (journal ++ e ∷ []) new

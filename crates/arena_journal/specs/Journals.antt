@@ -32,11 +32,8 @@ arena_of o = record { device = record { base = o.base; events = o.events; room =
 
 -- the call begins one on the memory: all but a Read do
 abbrev pub begins_call : Call → Bool
-begins_call (Malloc root size) = true
-begins_call (Free root) = true
-begins_call (Write root index word) = true
 begins_call (Read root index) = false
-begins_call (Move from to) = true
+begins_call call = true
 
 -- how many entries are no Read
 abbrev pub begun_by : List Entry → ℕ
@@ -69,19 +66,22 @@ pub record LastBegun (journal : List Entry) : Type 0 where
   pub begins : begins_call entry.call ≡ true
   pub none : begun_by reads ≡ 0
 
--- The memory went through the last call that is no Read: its base is exact, with the state that the entries before lead
--- to, and its events are that call's, at the write-ahead line that those entries lead to. A crash within it leaves what one
--- within such a call leaves: the heap before it or after it, of a Write each word old or new, and of a Move its entry may be
--- open.
-pub record IsBehindCall (o : Opening) (journal : List Entry) (now : ArenaState) : Type 0 where
-  pub last : LastBegun journal
+-- The memory went through a call behind these entries: its base is exact, with the state that the entries lead to, and its
+-- events are the call's, at the write-ahead line that they lead to. A crash within it leaves what one within such a call
+-- leaves: the heap before it or after it, of a Write each word old or new, and of a Move its entry may be open.
+pub record WentThrough (o : Opening) (before : List Entry) (entry : Entry) (now : ArenaState) : Type 0 where
   pub machine : Machine
   pub stacks : Stacks
-  pub leads : LeadsTo o last.before (record { machine = machine; stacks = stacks })
+  pub leads : LeadsTo o before (record { machine = machine; stacks = stacks })
   pub exact : IsExactImage now.device.base
   pub state : HasState now.device.base machine
-  pub events : now.device.events ≡ call_events now.device.base (line_behind o.next_line last.before) last.entry.call last.entry.reply
-  pub crash : CrashOnly now.device.base now.device.events (IsLeftBy last.entry.call now.device.base (words_of now.device))
+  pub events : now.device.events ≡ call_events now.device.base (line_behind o.next_line before) entry.call entry.reply
+  pub crash : CrashOnly now.device.base now.device.events (IsLeftBy entry.call now.device.base (words_of now.device))
+
+-- the memory went through the last call that is no Read
+pub record IsBehindCall (o : Opening) (journal : List Entry) (now : ArenaState) : Type 0 where
+  pub last : LastBegun journal
+  pub through : WentThrough o last.before last.entry now
 
 -- The journal leads from the opening to the arena as it is: to its blocks, slabs and words, with its stacks beside them, to
 -- its write-ahead line, to its words, word for word, and to its count of begun calls. No two blocks overlap, and the memory

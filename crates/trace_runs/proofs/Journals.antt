@@ -44,15 +44,17 @@ last_of header first now journal new (inl untouched) = inl (record {
   base = ap (λ (a : ArenaState). a.device.base) untouched.same ∙ new.base;
   events = ap (λ (a : ArenaState). a.device.events) untouched.same ∙ new.events;
 })
-last_of header first now journal new (inr call) = inr (record {
-  last = call.last;
-  machine = call.machine;
-  stacks = call.stacks;
-  leads = IsJournal-opened header first call.last.before (record { machine = call.machine; stacks = call.stacks }) new call.leads;
-  exact = call.exact;
-  state = call.state;
-  events = call.events ∙ ap (λ line. call_events now.device.base (line_behind line call.last.before) call.last.entry.call call.last.entry.reply) new.line;
-})
+last_of header first now journal new (inr call) =
+    let through = call.through in
+    inr (record {
+      last = call.last;
+      machine = through.machine;
+      stacks = through.stacks;
+      leads = IsJournal-opened header first call.last.before (record { machine = through.machine; stacks = through.stacks }) new through.leads;
+      exact = through.exact;
+      state = through.state;
+      events = through.events ∙ ap (λ line. call_events now.device.base (line_behind line call.last.before) call.last.entry.call call.last.entry.reply) new.line;
+    })
 
 -- the device of an arena that is behind a journal from a new one
 pub HasRun-behind : (header : PoolHeader) (first now : ArenaState) (journal : List Entry) → IsNewArena header first → length journal < 2 ^ 63 → (behind : IsBehind (opened first) journal now) →
