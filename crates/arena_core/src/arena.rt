@@ -133,9 +133,10 @@ impl<P: Pmem> Arena<P> {
         let plan = self.volatile.plan_malloc(&self.device, seat, root, size);
         self.device.begin();
         match plan {
-            Ok(place) => Ok(self
-                .volatile
-                .carry_out_place(&mut self.device, seat, root, place)),
+            Ok(place) => Ok(
+                self.volatile
+                    .carry_out_place(&mut self.device, seat, root, place),
+            ),
             Err(refusal) => Err(refusal),
         }
     }

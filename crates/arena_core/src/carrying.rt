@@ -25,9 +25,9 @@ ghost use Rattle.arena_core.specs.Effect.{IsLastOf, slabs_but, stacks_but, IsPut
 ghost use Rattle.arena_core.specs.Events.{place_events, take_events, fresh_events, morphed_events, unsmall_events, tidy_events, holds_none};
 ghost use Rattle.arena_core.specs.Plan.{IsBlockAs, number_of, IsGivable, IsTakable, IsNamedSmall, IsNamedOld, IsHeldBy, IsPlanned, IsFreePlan, range_held};
 
+use crate::Placed;
 use crate::plan::{Held, Place, placed_large, placed_small};
 use crate::volatile::Volatile;
-use crate::Placed;
 use attach_steps::{OldBlock, SmallBlock, attach, detach, detach_old, put_root};
 use block_supply::{BlockSupply, SlabAt, SlabBlock};
 use book_log::LogEntry;
@@ -79,7 +79,13 @@ impl Volatile {
     }
 
     /// Takes what it holds from a root of a seat.
-    pub(crate) fn carry_out_held<P: Pmem>(&mut self, device: &mut P, seat: u32, root: u32, held: Held)
+    pub(crate) fn carry_out_held<P: Pmem>(
+        &mut self,
+        device: &mut P,
+        seat: u32,
+        root: u32,
+        held: Held,
+    )
         requires arena { IsArena (P.state device.old) self.old }
         requires fresh { (P.state device.old).events ≡ [] }
         requires seat { seat < 64 }

@@ -67,8 +67,8 @@ first_seat xs rest x n whole h = subst (λ l. FirstIs n l) whole h
 
 -- while not all were dealt, of those that are left there is one, and so many more
 pub one_left : {m n whole : ℕ} → n + m ≡ whole → n < whole → (k : ℕ) × (m ≡ suc k)
-one_left {zero} {n} all less = absurd (omega (arith, all, less))
-one_left {suc k} all less = (k, refl)
+one_left {m = zero} all less = absurd (omega (arith, all, less))
+one_left {m = suc k} all less = (k, refl)
 
 pub one_less : {A : Type 0} (xs ys : List A) (k : ℕ) → ys ≡ remove xs 0 → length xs ≡ suc k → length ys ≡ k
 one_less [] ys k e l = absurd (omega arith)
