@@ -28,15 +28,15 @@ front_of : (piece items : List ℕ) (size n : ℕ) → n ≤ size → n ≤ leng
 front_of piece items size n below inside = take-take n size (piece ++ drop (length piece) items) below ∙ take-append-le n piece (drop (length piece) items) inside
 
 -- the front of a buffer, which a source filled
-pub come_filled : (a b c : Option (List ℕ)) (old new : Input) (size n len : ℕ) (piece items lent : List ℕ) → HasCome a b old size → size % 8 ≡ 0 → lent ≡ take len (piece ++ drop (length piece) items) → n ≤ len → n ≤ length piece →
+pub come_filled : {a b c : Option (List ℕ)} {old new : Input} {size len : ℕ} {lent : List ℕ} (n : ℕ) (piece items : List ℕ) → HasCome a b old size → size % 8 ≡ 0 → lent ≡ take len (piece ++ drop (length piece) items) → n ≤ len → n ≤ length piece →
     Gives b c (take n piece) → ((bytes : List ℕ) → length bytes % 8 ≡ 0 → HasBytes old bytes → HasBytes new (bytes ++ take n lent)) → HasCome a c new (size + n)
-come_filled a b c old new size n len piece items lent come whole is below inside gives adds =
+come_filled {a} {b} {c} {old} {new} {size} {len} {lent} n piece items come whole is below inside gives adds =
     let front : take n lent ≡ take n piece = ap (take n) is ∙ front_of piece items len n below inside in
     come_more a b c old new size n (take n lent) come whole (subst (λ (bytes : List ℕ). Gives b c bytes) (sym front) gives) (ap length front ∙ length-take-le n piece inside) adds
 
 -- all has come
-pub come_all : (old new : Option (List ℕ)) (input : Input) (size limit : ℕ) → HasCome old new input size → size ≤ limit → IsAtEnd new → HasAllCome old new input limit
-come_all old new input size limit come few ended =
+pub come_all : {old new : Option (List ℕ)} {input : Input} {size : ℕ} (limit : ℕ) → HasCome old new input size → size ≤ limit → IsAtEnd new → HasAllCome old new input limit
+come_all limit come few ended =
     record { bytes = come.bytes; has = come.has; all = record { gives = come.gives; ended = ended }; few = omega (arith, come.count, few) }
 
 -- too much has come

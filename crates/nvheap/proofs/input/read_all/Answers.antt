@@ -29,33 +29,26 @@ returns-in_err-add-clause-fits g c command fits = c.in_err-add.ensures.fits comm
 
 pub returns-then-n-most-clause-all : goal.returns-then-n-most-clause-all
 returns-then-n-most-clause-all g c =
-    let left = g.S.Source.left in
-    let buffer = c.loop-size.invariant.buffer in
-    let count = c.in_ok-n.ensures.count in
-    let most = c.min-most.ensures in
-    let come = come_filled (left c.args.source.now) (left c.loop-size.source) (left c.fill.new.source) c.loop-size.input c.add.new.self c.loop-size.size c.in_ok-n.n c.loop-size.piece.len c.fill.new.piece c.loop-size.piece.items c.deref.result.now
-    c.loop-size.invariant.come (c.loop-size.invariant.whole c.loop-size-test.true) c.deref.ensures.value (omega (arith, buffer, count, most)) (omega (arith, buffer, count, most, c.in_ok-n.ensures.size, c.deref_mut.ensures.len)) c.in_ok-n.ensures.gives c.in_ok-add.ensures.bytes in
-    come_all (left c.args.source.now) (left c.fill.new.source) c.add.new.self (c.loop-size.size + c.in_ok-n.n) c.args.limit come (omega (arith, most, c.if-n-most.true, c.loop-size-test.true)) (c.in_ok-n.ensures.end c.if-n-most.true)
+    let inv = c.loop-size.invariant in
+    let come = come_filled c.in_ok-n.n c.fill.new.piece c.loop-size.piece.items inv.come (inv.whole c.loop-size-test.true) c.deref.ensures.value (omega (arith, inv.buffer, c.in_ok-n.ensures.count, c.min-most.ensures)) (omega (arith, inv.buffer, c.in_ok-n.ensures.count, c.min-most.ensures, c.in_ok-n.ensures.size, c.deref_mut.ensures.len)) c.in_ok-n.ensures.gives c.in_ok-add.ensures.bytes in
+    come_all c.args.limit come (omega (arith, c.min-most.ensures, c.if-n-most.true, c.loop-size-test.true)) (c.in_ok-n.ensures.end c.if-n-most.true)
 
 pub returns-then-n-most-clause-fits : goal.returns-then-n-most-clause-fits
 returns-then-n-most-clause-fits g c command fits = c.in_ok-add.ensures.fits command (c.loop-size.invariant.fits command fits)
 
 pub loop-size-preserved : goal.loop-size-preserved
 loop-size-preserved g c =
-    let left = g.S.Source.left in
-    let buffer = c.loop-size.invariant.buffer in
+    let inv = c.loop-size.invariant in
     let count = c.in_ok-n.ensures.count in
     let most = c.min-most.ensures in
-    let come = come_filled (left c.args.source.now) (left c.loop-size.source) (left c.fill.new.source) c.loop-size.input c.add.new.self c.loop-size.size c.in_ok-n.n c.loop-size.piece.len c.fill.new.piece c.loop-size.piece.items c.deref.result.now
-    c.loop-size.invariant.come (c.loop-size.invariant.whole c.loop-size-test.true) c.deref.ensures.value (omega (arith, buffer, count, most)) (omega (arith, buffer, count, most, c.in_ok-n.ensures.size, c.deref_mut.ensures.len)) c.in_ok-n.ensures.gives c.in_ok-add.ensures.bytes in
-    let whole = c.loop-size.invariant.whole c.loop-size-test.true in
-    let later = c.loop-size.invariant.later in
+    let whole = inv.whole c.loop-size-test.true in
+    let later = inv.later in
     record {
-      come = come;
+      come = come_filled c.in_ok-n.n c.fill.new.piece c.loop-size.piece.items inv.come whole c.deref.ensures.value (omega (arith, inv.buffer, count, most)) (omega (arith, inv.buffer, count, most, c.in_ok-n.ensures.size, c.deref_mut.ensures.len)) c.in_ok-n.ensures.gives c.in_ok-add.ensures.bytes;
       within = omega (arith, most, count, c.loop-size-test.true);
       whole = λ few. omega (arith, whole, most, count, c.if-n-most.false, few);
-      buffer = buffer;
-      fits = λ command fits. c.in_ok-add.ensures.fits command (c.loop-size.invariant.fits command fits);
+      buffer = inv.buffer;
+      fits = λ command fits. c.in_ok-add.ensures.fits command (inv.fits command fits);
       later = omega (arith, later, c.in_ok-n.ensures.later);
     }
 
