@@ -44,14 +44,14 @@ module _ (words : List ℕ) (line root : ℕ) (site : Site) (is : IsSite words r
 
   module _ (on : Bool) (word : ℕ) (entry : Option WalEntry) (image : List ℕ) (may : IsStage site.own site.block.at on word entry) (stage : IsStageOf words line root site on word entry image) where
     -- each is steady
-    steady : IsSteadyImage image
+    pub steady : IsSteadyImage image
     steady = record {
       formed = stage.formed;
       steady = subst (λ (b : Bounds). IsSteady b (tables_of image)) (sym stage.bounds) (subst (IsSteady (bounds_of words)) (sym stage.tables) (IsSteady-one is.one on word entry may));
     }
 
     -- keeps the words of blocks
-    keeps : KeepsBlocks words image
+    pub keeps : KeepsBlocks words image
     keeps = record {
       each = λ r other range k was _ within.
           let but = is.one.but in
@@ -75,7 +75,7 @@ module _ (words : List ℕ) (line root : ℕ) (site : Site) (is : IsSite words r
     heap_none none = ap (λ (x : Tables). heap x root) stage.tables ∙ ap (λ w. heap (tables_with words root site on w entry) root) none ∙ heap-one_none is.one on entry
 
   -- two stages in which the root has the block, or has none, have one heap
-  same_heap : (on other_on : Bool) (word other_word : ℕ) (entry other_entry : Option WalEntry) (image other : List ℕ) → IsStage site.own site.block.at on word entry → IsStage site.own site.block.at other_on other_word other_entry →
+  pub same_heap : (on other_on : Bool) (word other_word : ℕ) (entry other_entry : Option WalEntry) (image other : List ℕ) → IsStage site.own site.block.at on word entry → IsStage site.own site.block.at other_on other_word other_entry →
       IsStageOf words line root site on word entry image → IsStageOf words line root site other_on other_word other_entry other →
       ((word ≡ 0) × (other_word ≡ 0)) ⊎ ((word ≡ site.block.at) × (other_word ≡ site.block.at)) → HaveSameHeap other image
   same_heap on other_on word other_word entry other_entry image other first second here there both = record {
@@ -148,70 +148,3 @@ module _ (words : List ℕ) (line root : ℕ) (site : Site) (is : IsSite words r
   unmark_under made value under over image left =
       let kept = kept_by_root made left.between 0 left.first_word in
       header_under made left.between value false over kept.0 kept.1 (root_under made 0 (inl refl) under left.between left.first_word) image left.second_word
-
-  -- a sequence whole
-
-  -- From a stage with no entry to another: in each image of a crash between, the root has the block or not, and where it
-  -- is so, the heap is that of the old words or of the new.
-  module _ (new : List ℕ) (on new_on : Bool) (word new_word : ℕ) (begins : IsStageOf words line root site on word None words) (ends : IsStageOf words line root site new_on new_word None new)
-      (begins_may : IsStage site.own site.block.at on word None) (ends_may : IsStage site.own site.block.at new_on new_word None)
-      (ways : ((word ≡ 0) × (new_word ≡ site.block.at)) ⊎ ((word ≡ site.block.at) × (new_word ≡ 0))) where
-    heap_is : (image_on : Bool) (image_word : ℕ) (entry : Option WalEntry) (image : List ℕ) → (image_word ≡ 0) ⊎ (image_word ≡ site.block.at) → IsStage site.own site.block.at image_on image_word entry →
-        IsStageOf words line root site image_on image_word entry image → HaveSameHeap words image ⊎ HaveSameHeap new image
-    heap_is image_on image_word entry image either may stage =
-        let as_old = same_heap image_on on image_word word entry None image words may begins_may stage begins in
-        let as_new = same_heap image_on new_on image_word new_word entry None image new may ends_may stage ends in
-        ⊎_elim
-        (λ comes. ⊎_elim (λ none. inl (as_old (inl (none, comes.0)))) (λ has. inr (as_new (inr (has, comes.1)))) either)
-        (λ goes. ⊎_elim (λ none. inr (as_new (inl (none, goes.1)))) (λ has. inl (as_old (inr (has, goes.0)))) either)
-        ways
-
-    judged : (image_on : Bool) (image_word : ℕ) (entry : Option WalEntry) (image : List ℕ) → (image_word ≡ 0) ⊎ (image_word ≡ site.block.at) → IsStage site.own site.block.at image_on image_word entry →
-        IsStageOf words line root site image_on image_word entry image → IsEitherHeap words new image
-    judged image_on image_word entry image either may stage = record {
-      steady = steady image_on image_word entry image may stage;
-      heap = heap_is image_on image_word entry image either may stage;
-      words = keeps image_on image_word entry image may stage;
-      still = subst HasNoMove (sym (ap (λ (x : Tables). x.open_entry) stage.tables)) stage.plain;
-    }
-
-    word_either : (word ≡ 0) ⊎ (word ≡ site.block.at)
-    word_either = ⊎_elim (λ comes. inl comes.0) (λ goes. inr goes.0) ways
-
-    new_either : (new_word ≡ 0) ⊎ (new_word ≡ site.block.at)
-    new_either = ⊎_elim (λ comes. inr comes.1) (λ goes. inl goes.1) ways
-
-    under_judged : (image : List ℕ) → IsUnderEntry image → IsEitherHeap words new image
-    under_judged image under = judged under.on under.word (Some site.own) image under.either (while_open under.on under.word under.either) under.stage
-
-    -- opening
-    open_judged : (image : List ℕ) → OpensOrNot words line site.own image → IsEitherHeap words new image
-    open_judged image either = ⊎_elim
-        (λ (same : image ≡ words). subst (IsEitherHeap words new) (sym same) (judged on word None words word_either begins_may begins))
-        (λ opens. under_judged image (record {
-          on = on;
-          word = word;
-          either = word_either;
-          stage = stage_open words line root site is line_below on word None words begins image refl opens;
-        }))
-        either
-
-    -- closing
-    close_judged : (left : List ℕ) → IsStageOf words line root site new_on new_word (Some site.own) left → (image : List ℕ) → ClosesOrNot left line image → IsEitherHeap words new image
-    close_judged left stage image either = ⊎_elim
-        (λ (same : image ≡ left).
-        subst (IsEitherHeap words new) (sym same) (under_judged left (record { on = new_on; word = new_word; either = new_either; stage = stage })))
-        (λ closes. judged new_on new_word None image new_either ends_may (stage_close words line root site is line_below new_on new_word (Some site.own) left stage image closes))
-        either
-
-    -- all of it
-    pub sequence_step : {s t u v : PmemState} (first a second b : ℕ) (made left : List ℕ) → IsStageOf words line root site new_on new_word (Some site.own) left →
-        ((image : List ℕ) → IsOldOrNewPair made first a second b image → IsUnderEntry image) →
-        IsQuietStep s t (word_events (8 * wal_word line) (entry_word site.own)) (OpensOrNot words line site.own) →
-        IsQuietStep t u (pair_events first a second b) (IsOldOrNewPair made first a second b) →
-        IsQuietStep u v (word_events (8 * wal_word line) 0) (ClosesOrNot left line) →
-        IsQuietStep s v (under_entry line site.own (pair_events first a second b)) (IsEitherHeap words new)
-    sequence_step first a second b made left stage under opening putting closing =
-        let P : List ℕ → Type 0 = IsEitherHeap words new in
-        let marked = step_then P (λ ws. pair_events first a second b) opening putting open_judged (λ image is. under_judged image (under image is)) in
-        step_then P (λ ws. word_events (8 * wal_word line) 0) marked closing (λ image is. is) (close_judged left stage)

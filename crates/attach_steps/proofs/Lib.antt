@@ -1,5 +1,6 @@
 pub mod Stages
 pub mod Crashes
 pub mod Pairs
+pub mod Sequences
 pub mod ClassBlocks
 pub mod OldBlocks

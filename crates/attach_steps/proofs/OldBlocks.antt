@@ -18,20 +18,19 @@ use Rattle.slab_header.specs.Steps.{PutsIndexOver}
 use Rattle.attach_wal.specs.Entry.{entry_word}
 use Rattle.attach_wal.proofs.Words.{IsWalWord-entry}
 use Rattle.attach_wal.specs.Wal.{Opens, OpensOrNot, Closes, ClosesOrNot}
-use Rattle.heap_model.specs.Machine.{Bounds}
-use Rattle.heap_check.specs.Sound.{IsDoneSlab, IsExact, IsExactBut}
+use Rattle.heap_check.specs.Sound.{IsDoneSlab}
 use Rattle.heap_check.specs.Image.{bounds_of}
 use Rattle.heap_check.specs.State.{IsEitherHeap}
 use Rattle.heap_check.proofs.IndexForms.{IsFormed-put_index}
 use Rattle.heap_check.proofs.Geometry.{index_count_few}
 use Rattle.heap_check.proofs.Sizes.{sizes_of}
-use Rattle.heap_check.proofs.OneBlock.{IsOneBlock, IsExactBut-one, IsExact-one}
+use Rattle.heap_check.proofs.OneBlock.{IsOneBlock}
 use Rattle.heap_check.proofs.OldBlock.{IsOldPlace, IsOneBlock-old}
 use Rattle.attach_steps.specs.declared.block.OldBlock.{OldBlock}
 use Rattle.attach_steps.specs.Steps.{old_entry_for, dead_put, bury_events, detach_old_events, IsOldDetachable, IsOldDetached}
-use Rattle.attach_steps.proofs.Pairs.{reading_pair}
-use Rattle.attach_steps.proofs.Stages.{Site, IsSite, IsStageOf, stage_begin, stage_open, stage_close, stage_header, stage_root, made_slab, made_low, header_inside}
-use Rattle.attach_steps.proofs.Crashes.{PutsOver, with_none, with_both, heap_other, heap_none, unmark_under, kept_by_root, sequence_step}
+use Rattle.attach_steps.proofs.Stages.{Site, IsSite, IsStageOf, stage_begin, stage_header, made_slab, made_low, header_inside}
+use Rattle.attach_steps.proofs.Crashes.{PutsOver, with_none, heap_none}
+use Rattle.attach_steps.proofs.Sequences.{Leads, goes, unmarks, ends, exact_but, exact_end, gives_end, turn_step}
 
 -- its place: the word of its index entry, and the entry of its root
 abbrev pub old_site : Tables → ℕ → OldBlock → Site
@@ -108,51 +107,23 @@ module _ {words : List ℕ} {line root : ℕ} {block : OldBlock} (may : IsOldDet
   module _ {made left new : List ℕ} (opens : Opens words line (old_entry_for root block.at block.place) made) (long : length made ≡ length words)
       (over : PutsIndexOver made block.start block.place (record { live = false; number = (tables_of words).number block.start block.place }))
       (left_is : left ≡ reading made (bury_events (tables_of words) root block.start block.place)) (closes : Closes left line new) where
-    opened : IsStageOf words line root site true block.at (Some own) made
-    opened = stage_open words line root site IsSite-old line_below true block.at None words begins made refl opens
-
-    puts : PutsOver words line root site IsSite-old line_below made (dead_put t block.start block.place) false
-    puts = puts_over made long over
-
-    buried : IsStageOf words line root site false 0 (Some own) left
-    buried =
-        let between = put_word made (root_word root) 0 in
-        let kept = kept_by_root words line root site IsSite-old line_below made between 0 (record { is = inr (ap (λ i. put_word made i 0) (omega arith)) }) in
-        subst (λ (ws : List ℕ). IsStageOf words line root site false 0 (Some own) ws) (sym (left_is ∙ reading_pair made (root_word root) 0 (index_word block.start block.place) (dead_put t block.start block.place)))
-        (puts.each true 0 between kept.0 kept.1 (stage_root words line root site IsSite-old line_below true block.at (Some own) made opened 0))
-
-    closed : IsStageOf words line root site false 0 None new
-    closed = stage_close words line root site IsSite-old line_below false 0 (Some own) left buried new closes
+    leads : Leads IsSite-old line_below made left (8 * root_word root) 0 (8 * index_word block.start block.place) (dead_put t block.start block.place) true false block.at 0
+    leads = unmarks IsSite-old line_below made left (dead_put t block.start block.place) (puts_over made long over) left_is
 
     pub detached_old : IsOldDetached words line root block new
     detached_old =
         let none = with_none words line root site IsSite-old line_below in
+        let closed = ends IsSite-old line_below (goes IsSite-old line_below) begins opens leads closes in
         record {
-          image = record {
-            formed = closed.formed;
-            but = subst (λ (b : Bounds). IsExactBut b (tables_of new) block.start) (sym closed.bounds)
-                (subst (λ (x : Tables). IsExactBut (bounds_of words) x block.start) (sym closed.tables) (IsExactBut-one IsSite-old.one false 0 none));
-          };
-          exact = λ other lively. record {
-            formed = closed.formed;
-            exact = subst (λ (b : Bounds). IsExact b (tables_of new)) (sym closed.bounds)
-                (subst (IsExact (bounds_of words)) (sym closed.tables)
-                (IsExact-one IsSite-old.one false 0 none (λ done. lively (subst (λ (x : Tables). IsDoneSlab x block.start) (sym closed.tables) done)) (inr other)));
-          };
+          image = exact_but IsSite-old line_below none closed;
+          exact = λ other lively. exact_end IsSite-old line_below none closed (λ done. lively (subst (λ (x : Tables). IsDoneSlab x block.start) (sym closed.tables) done)) (inr other);
           bounds = closed.bounds;
           tables = closed.tables;
-          gives = record {
-            here = heap_none words line root site IsSite-old line_below false 0 None new none closed refl;
-            others = heap_other words line root site IsSite-old line_below false 0 None new none closed;
-          };
+          gives = gives_end IsSite-old line_below none closed None (heap_none words line root site IsSite-old line_below false 0 None new none closed refl);
           rest = closed.rest;
         }
 
     pub detach_old_step : {s t u v : PmemState} → IsQuietStep s t (word_events (8 * wal_word line) (entry_word (old_entry_for root block.at block.place))) (OpensOrNot words line (old_entry_for root block.at block.place)) →
         IsQuietStep t u (bury_events (tables_of words) root block.start block.place) (IsOldOrNewPair made (8 * root_word root) 0 (8 * index_word block.start block.place) (dead_put (tables_of words) block.start block.place)) →
         IsQuietStep u v (word_events (8 * wal_word line) 0) (ClosesOrNot left line) → IsQuietStep s v (detach_old_events (tables_of words) line root block.at block.start block.place) (IsEitherHeap words new)
-    detach_old_step {s} {t} {u} {v} opening putting closing =
-        sequence_step words line root site IsSite-old line_below new true false block.at 0 begins closed
-        (with_both words line root site IsSite-old line_below) (with_none words line root site IsSite-old line_below) (inr (refl, refl))
-        (8 * root_word root) 0 (8 * index_word block.start block.place) (dead_put (tables_of words) block.start block.place) made left buried
-        (unmark_under words line root site IsSite-old line_below made (dead_put (tables_of words) block.start block.place) (record { on = true; word = block.at; either = inr refl; stage = opened }) puts) opening putting closing
+    detach_old_step = turn_step IsSite-old line_below (goes IsSite-old line_below) begins opens leads closes
