@@ -1,5 +1,5 @@
 -- A block of a slab and its root come or go: the words of the log stay, and those of the other blocks.
-use Rattle.std.proofs.Common.{true, ◌≤◌, ◌+◌, ◌*◌, ◌≡◌, ℕ, ◌<◌, List, sym, ap, ◌∙◌, arith, true, ◌*◌}
+use Rattle.std.proofs.Common.{true, ◌≤◌, ◌+◌, ◌*◌, ◌≡◌, ℕ, ◌<◌, List, sym, ap, ◌∙◌, arith}
 use Rattle.pmem_lines.specs.Words.{word_at}
 use Rattle.pool_layout.specs.Places.{entry_word}
 use Rattle.pool_layout.specs.Header.{version_in}

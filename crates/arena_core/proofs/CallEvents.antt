@@ -5,8 +5,8 @@ use Rattle.std.proofs.lemmas.Nat.{div-mul-add}
 use Rattle.size_classes.specs.Classes.{class_size, class_capacity}
 use Rattle.size_classes.proofs.Spacing.{class_size-least, class_size-most, class_size-rises}
 use Rattle.pmem_lines.specs.declared.event.Event.{Event}
-use Rattle.pmem_lines.specs.Events.{CrashOnly, reading}
-use Rattle.pmem_lines.specs.Pmem.{PmemState, words_of, began, appended}
+use Rattle.pmem_lines.specs.Events.{reading}
+use Rattle.pmem_lines.specs.Pmem.{PmemState, words_of}
 use Rattle.pmem_lines.specs.Steps.{IsQuietStep}
 use Rattle.pmem_lines.proofs.Steps.{step_by, step_none}
 use Rattle.image_tables.specs.Tables.{Tables, tables_of}
@@ -26,10 +26,9 @@ use Rattle.attach_steps.specs.declared.block.SmallBlock.{SmallBlock}
 use Rattle.attach_steps.specs.Steps.{attach_events, IsAttachable, detach_old_events, IsDetachable, IsOldDetachable}
 use Rattle.heap_check.proofs.Loose.{IsExactBut-exact}
 use Rattle.heap_check.specs.Image.{bounds_of, IsExactImage}
-use Rattle.heap_check.specs.State.{KeepsBlocks, IsEitherHeap}
-use Rattle.arena_core.specs.Arena.{ArenaState, IsSlabsOf, live_in, AreLivesOf, IsCurrent, IsArena, old_range}
+use Rattle.heap_check.specs.State.{IsEitherHeap}
+use Rattle.arena_core.specs.Arena.{IsSlabsOf, live_in, AreLivesOf, IsCurrent, IsArena, old_range}
 use Rattle.arena_core.specs.declared.volatile.Volatile.{Volatile}
-use Rattle.arena_core.specs.Answered.{IsAnswered}
 use Rattle.arena_core.specs.Call.{IsStepOf, IsStepOfAny}
 use Rattle.arena_core.specs.Carried.{IsDone, IsCalled}
 use Rattle.arena_core.specs.Effect.{GivesRoot, KeepsSlabs}
@@ -329,32 +328,3 @@ IsCalled-refused {old} {was} {seat} call reply arena none stays step =
       step = step seat (stacks_of was.supply.stacks);
       keeps = record { each = λ r other range k here is word. refl };
     }
-
--- what an arena means
-abbrev pub meant : PmemState → Volatile → ArenaState
-meant device volatile = record { device = device; line = volatile.line; stacks = volatile.supply.stacks }
-
--- by what was done behind its begin
-answered : (device begun new : PmemState) (was left : Volatile) (seat : ℕ) (call : Call) (reply : Reply) → begun ≡ began device → IsExactImage (words_of device) → IsCalled begun new was left seat call reply → IsAnswered seat (meant device was) (meant new left) call reply
-answered device begun new was left seat call reply is exact called =
-    let same : words_of begun ≡ words_of device = ap (λ (s : PmemState). words_of s) is in
-    let state : new ≡ appended (began device) (call_events (words_of device) was.line call reply) =
-    called.carried.appends.state ∙ (λ i. appended (is i) (call_events (same i) was.line call reply)) in
-    record {
-      step = subst (λ (ws : List ℕ). IsStepOf seat ws (stacks_of was.supply.stacks) (words_of new) (stacks_of left.supply.stacks) call reply) same called.step;
-      device = state;
-      line = called.line_is;
-      keeps = subst (λ (ws : List ℕ). KeepsBlocks ws (words_of new)) same called.keeps;
-      was_exact = exact;
-      exact = called.arena.current.exact;
-      ready = called.arena.current.ready;
-      crash = subst (λ (s : PmemState). CrashOnly s.base s.events (IsEitherHeap (words_of device) (words_of new))) (sym state)
-          (subst (λ (ws : List ℕ). CrashOnly (words_of device) (call_events (words_of device) was.line call reply) (IsEitherHeap ws (words_of new))) same
-          (subst (λ (ws : List ℕ). CrashOnly ws (call_events ws was.line call reply) (IsEitherHeap (words_of begun) (words_of new))) same called.carried.crash));
-    }
-
--- of an arena by what it means
-pub answered_by : (device begun new : PmemState) (was left : Volatile) (now : ArenaState) (seat : ℕ) (call : Call) (reply : Reply) → meant device was ≡ now → begun ≡ began device →
-    IsExactImage (words_of device) → IsCalled begun new was left seat call reply → IsAnswered seat now (meant new left) call reply
-answered_by device begun new was left now seat call reply view is exact called =
-    subst (λ (s : ArenaState). IsAnswered seat s (meant new left) call reply) view (answered device begun new was left seat call reply is exact called)

@@ -5,30 +5,24 @@ use Rattle.std.proofs.lemmas.Bool.{cases_eq, cases_lt, cond-true, cond-false, eq
 use Rattle.size_classes.specs.Classes.{class_capacity}
 use Rattle.image_tables.specs.Forms.{morphing_kind, morphed_kind}
 use Rattle.image_tables.specs.Tables.{Tables, tables_of}
-use Rattle.image_tables.proofs.Headers.{SameLog-off_header}
 use Rattle.image_tables.proofs.Stores.{HasNoMove-closed}
 use Rattle.image_tables.proofs.Updates.{put_at-same, put_at-other}
-use Rattle.book_log.specs.Book.{Book}
-use Rattle.book_log.proofs.Books.{Reads-same}
 use Rattle.heap_model.specs.Machine.{Bounds, with_key}
 use Rattle.heap_model.proofs.Maps.{with_key-here, with_key-other}
-use Rattle.extent_index.specs.FreeSet.{FreeSet, IsFree}
 use Rattle.slab_index.specs.SlabSet.{class_in, IsSlab}
 use Rattle.slab_lives.specs.Lives.{Lives, calm_at}
 use Rattle.block_supply.specs.Supply.{Supply, IsOpen, IsClearOf, HasSlabMore, HasSlabLess}
 use Rattle.heap_check.specs.Heap.{slabs, IsUnusedIn}
-use Rattle.heap_check.specs.Sound.{IsVacant}
-use Rattle.heap_check.specs.Image.{bounds_of, IsExactImage}
+use Rattle.heap_check.specs.Image.{IsExactImage}
 use Rattle.heap_check.specs.State.{IsEitherHeap}
-use Rattle.heap_check.proofs.Geometry.{granules_at-slab, Covers-slab}
-use Rattle.heap_check.proofs.Sizes.{sizes_of}
-use Rattle.log_steps.specs.Log.{IsBookOf}
+use Rattle.heap_check.proofs.Geometry.{Covers-slab}
 use Rattle.slab_header.specs.Morph.{held_numbers}
-use Rattle.slab_morph.specs.SlabHeaders.{SlabHeader, header_of, put_header}
+use Rattle.slab_morph.specs.SlabHeaders.{SlabHeader, header_of}
 use Rattle.slab_morph.specs.Stages.{morphed, morph_count}
 use Rattle.class_steps.specs.Classes.{IsReadyFor, LeavesClosed, IsOfClass}
-use Rattle.arena_core.specs.Arena.{IsIndexOf, IsSlabsOf, AreCountsOf, AreLivesOf, calm_of}
+use Rattle.arena_core.specs.Arena.{IsSlabsOf, AreCountsOf, AreLivesOf, calm_of}
 use Rattle.arena_core.specs.Plan.{IsMorphable}
+use Rattle.arena_core.proofs.ChangedHeaders.{IsHeaderChange, row, unused_header}
 use Rattle.arena_core.proofs.LiveCounts.{counts_kept, live_same}
 use Rattle.arena_core.proofs.LiveSlabs.{calm_stirred, calm_header, calm_all_but, lives_put}
 use Rattle.arena_core.proofs.Plans.{slab_parts}
@@ -76,7 +70,7 @@ clear_without {set} {less} {words} start image were slab gone = record {
 
 -- behind
 
-module _ (words : List ℕ) (start class : ℕ) (may : IsMorphable (tables_of words) start class) (new : List ℕ) (taken : IsOfClass words start class new) where
+module _ {words : List ℕ} {start class : ℕ} {new : List ℕ} (may : IsMorphable (tables_of words) start class) (image : IsExactImage words) (taken : IsOfClass words start class new) where
   abbrev t : Tables
   t = tables_of words
 
@@ -86,49 +80,21 @@ module _ (words : List ℕ) (start class : ℕ) (may : IsMorphable (tables_of wo
   abbrev header : SlabHeader
   header = morphed (header_of (tables_of words) start) class
 
-  row : {X : Type 0} (f : Tables → X) → f after ≡ f (put_header t start header)
-  row f = ap f taken.tables
+  pub class_change : IsHeaderChange words start (morphed (header_of (tables_of words) start) class) new
+  class_change = record { sound = image.exact.sound; slab = may.slab; off = taken.off; bounds = taken.bounds; tables = taken.tables; held = taken.held }
 
   pub slab_now : (s : ℕ) → (tables_of new).slab s ≡ (tables_of words).slab s
-  slab_now s = row (λ x. x.slab s)
+  slab_now s = row class_change (λ x. x.slab s)
 
   pub class_now : (tables_of new).class start ≡ class
-  class_now = row (λ x. x.class start) ∙ put_at-same t.class start class
+  class_now = row class_change (λ x. x.class start) ∙ put_at-same t.class start class
 
   class_other : (s : ℕ) → s ≢ start → after.class s ≡ t.class s
-  class_other s differ = row (λ x. x.class s) ∙ put_at-other t.class start s class differ
+  class_other s differ = row class_change (λ x. x.class s) ∙ put_at-other t.class start s class differ
 
   -- a crash within it leaves the heap
   pub either_kept : (image : List ℕ) → LeavesClosed words image → IsEitherHeap words new image
   either_kept image left = record { steady = left.keeps.steady; heap = inl left.keeps.heap; words = left.keeps.blocks; still = HasNoMove-closed left.closed }
-
-  pub book_changed : IsExactImage words → (book : Book) → IsBookOf book words → IsBookOf book new
-  book_changed image book log =
-      let sizes = sizes_of words image.formed in
-      let four = granules_at-slab t start may.slab in
-      let lies = image.exact.sound.starts start (omega (arith, four)) in
-      record {
-        reads = Reads-same book words new (SameLog-off_header words new start (record { in_heap = lies.0; others = taken.off.others })) taken.off.same_length log.reads;
-        granules = log.granules ∙ ap (λ (b : Bounds). b.granules) (sym taken.bounds);
-      }
-
-  pub index_changed : (set : FreeSet) → IsIndexOf set words → IsIndexOf set new
-  index_changed set index = record {
-    granules = index.granules ∙ ap (λ (b : Bounds). b.granules) (sym taken.bounds);
-    each = λ k. subst (λ b. IsFree set k ↔ IsVacant b after k) (sym taken.bounds)
-        (subst (λ x. IsFree set k ↔ IsVacant (bounds_of words) x k) (sym taken.tables)
-        (iff_then (index.each k) (
-          λ vacant. record { low = vacant.low; high = vacant.high; none = λ other covers. vacant.none other (record { low = covers.low; high = covers.high }) },
-          λ vacant. record { low = vacant.low; high = vacant.high; none = λ other covers. vacant.none other (record { low = covers.low; high = covers.high }) },
-        )));
-  }
-
-  -- what each slab holds is the same, and so is what is unused
-  pub unused_now : (s c i : ℕ) → IsUnusedIn (tables_of words) s c i ↔ IsUnusedIn (tables_of new) s c i
-  unused_now s c i = (
-    λ unused. record { each = λ range holds. unused.each range ((taken.held.each s range).0 holds) },
-    λ unused. record { each = λ range holds. unused.each range ((taken.held.each s range).1 holds) },
-  )
 
   -- the slab has the class
   pub classes_changed : (s : ℕ) → slabs (tables_of new) s ≡ with_key (slabs (tables_of words)) start (Some class) s
@@ -146,8 +112,8 @@ module _ (words : List ℕ) (start class : ℕ) (may : IsMorphable (tables_of wo
     granules = more.granules;
     classes = more.classes;
     here = λ i. (
-      λ is. let both = (more.here i).0 is in (both.0, (unused_now start class i).1 ((here i both.0).0 both.1)),
-      λ both. (more.here i).1 (both.0, (here i both.0).1 ((unused_now start class i).0 both.1)),
+      λ is. let both = (more.here i).0 is in (both.0, (unused_header class_change start class i).1 ((here i both.0).0 both.1)),
+      λ both. (more.here i).1 (both.0, (here i both.0).1 ((unused_header class_change start class i).0 both.1)),
     );
     loose = more.loose;
     others = more.others;
@@ -177,7 +143,7 @@ module _ (words : List ℕ) (start class : ℕ) (may : IsMorphable (tables_of wo
         (λ (same : s ≡ start). subst (λ k. i < class_capacity (after.class k) → IsOpen mid k i ↔ IsUnusedIn after k (after.class k) i) (sym same) (λ within. own i within) below)
         (λ (differ : s ≢ start).
         let was = were.blocks s i (sym (slab_now s) ∙ slab) (subst (λ c. i < class_capacity c) (class_other s differ) below) in
-        iff_then (more.others s i differ) (iff_then (gone.others s i differ) (iff_then was (subst (λ c. IsUnusedIn t s (t.class s) i ↔ IsUnusedIn after s c i) (sym (class_other s differ)) (unused_now s (t.class s) i)))))
+        iff_then (more.others s i differ) (iff_then (gone.others s i differ) (iff_then was (subst (λ c. IsUnusedIn t s (t.class s) i ↔ IsUnusedIn after s c i) (sym (class_other s differ)) (unused_header class_change s (t.class s) i)))))
         (cases_eq s start);
   }
     where
@@ -185,8 +151,8 @@ module _ (words : List ℕ) (start class : ℕ) (may : IsMorphable (tables_of wo
       own i below =
           let within : i < class_capacity class = subst (λ c. i < class_capacity c) class_now below in
           iff_then (more.here i) (subst (λ c. ((i < class_capacity class) × IsUnusedIn t start class i) ↔ IsUnusedIn after start c i) (sym class_now) (
-            λ both. (unused_now start class i).0 both.1,
-            λ unused. (within, (unused_now start class i).1 unused),
+            λ both. (unused_header class_change start class i).0 both.1,
+            λ unused. (within, (unused_header class_change start class i).1 unused),
           ))
 
   -- as many blocks live in it as before, and it is calm no more
@@ -195,5 +161,5 @@ module _ (words : List ℕ) (start class : ℕ) (may : IsMorphable (tables_of wo
       let counts : AreCountsOf was.counts new = counts_kept words new was.counts (ap (λ (b : Bounds). b.granules) taken.bounds) (live_same words new taken.bounds slab_now taken.left.keeps.heap.each) were.counts in
       lives_put words new was next (subst (λ (n : List ℕ). AreCountsOf n new) (sym same) counts) were start None put
       (calm_all_but t after start None
-      (calm_stirred after start (λ normal. let kind : after.kind start ≡ morphed_kind = row (λ x. x.kind start) ∙ put_at-same t.kind start morphed_kind in omega (arith, normal, kind)))
-      (λ s differ. row (λ x. calm_of x s) ∙ calm_header t start header s differ))
+      (calm_stirred after start (λ normal. let kind : after.kind start ≡ morphed_kind = row class_change (λ x. x.kind start) ∙ put_at-same t.kind start morphed_kind in omega (arith, normal, kind)))
+      (λ s differ. row class_change (λ x. calm_of x s) ∙ calm_header t start header s differ))

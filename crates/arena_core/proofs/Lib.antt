@@ -19,6 +19,7 @@ pub mod HeldBlocks
 pub mod CoveredBlocks
 pub mod TakenBlocks
 pub mod SlabChanges
+pub mod ChangedHeaders
 pub mod ChangedClasses
 pub mod GivenBlocks
 pub mod LargeBlocks
@@ -31,10 +32,11 @@ pub mod PayloadImages
 pub mod PayloadRows
 pub mod PayloadStates
 pub mod PayloadCalls
-pub mod FreedCalls
-pub mod PlannedCalls
 pub mod MovesArenas
 pub mod MovesStates
 pub mod MovesCalls
+pub mod Answering
+pub mod FreedCalls
+pub mod PlannedCalls
 pub mod ByCall
 pub mod Readiness

@@ -1,19 +1,16 @@
--- A move put together: what it did, and what a crash within it leaves.
-use Rattle.std.proofs.Common.{◌≡◌, ◌+◌, ◌%◌, ℕ, List, [], Err, refl, sym, ap, subst, ◌∙◌, arith, inl}
+-- A move put together: what it did behind its begin.
+use Rattle.std.proofs.Common.{◌≡◌, ◌+◌, ◌%◌, ℕ, List, [], Err, refl, sym, ap, ◌∙◌, arith, inl}
 use Rattle.arena_core.proofs.Readiness.{ready_after}
-use Rattle.pmem_lines.specs.Events.{CrashOnly}
-use Rattle.pmem_lines.specs.Pmem.{PmemState, words_of, began, appended}
+use Rattle.pmem_lines.specs.Pmem.{PmemState, words_of}
 use Rattle.pmem_lines.specs.Steps.{IsQuietStep}
 use Rattle.pmem_lines.proofs.Steps.{step_by, step_none}
 use Rattle.image_tables.specs.Tables.{tables_of}
 use Rattle.image_tables.proofs.Stores.{HasNoMove-closed, roots_plain}
 use Rattle.attach_steps.specs.Steps.{move_events}
 use Rattle.heap_model.specs.declared.call.Call.TheVariants as calls
-use Rattle.heap_model.specs.declared.call.Reply.{Reply}
 use Rattle.heap_model.specs.declared.call.Reply.TheVariants as replies
 use Rattle.heap_model.specs.Machine.{Range}
 use Rattle.heap_check.specs.Image.{bounds_of, IsExactImage}
-use Rattle.heap_check.specs.State.{KeepsBlocks}
 use Rattle.heap_check.proofs.Blank.{law_of_steady}
 use Rattle.heap_check.proofs.Heaps.{heap-none}
 use Rattle.move_steps.specs.Moves.{IsMovable, IsMoved, IsEitherMoved}
@@ -21,15 +18,12 @@ use Rattle.arena_core.specs.declared.answer.MoveRefusal.{MoveRefusal}
 use Rattle.arena_core.specs.declared.answer.MoveRefusal.TheVariants.{NoRoot, Empty, Occupied}
 use Rattle.arena_core.specs.declared.volatile.Volatile.{Volatile}
 use Rattle.arena_core.specs.Answer.{move_reply}
-use Rattle.arena_core.specs.Arena.{ArenaState, IsArena}
-use Rattle.arena_core.specs.Call.{IsStepOfAny}
+use Rattle.arena_core.specs.Arena.{IsArena}
 use Rattle.arena_core.specs.Events.{call_events, line_after}
 use Rattle.arena_core.specs.Moving.{IsToMove, IsMovePlan, IsMoveCarried}
-use Rattle.block_supply.specs.Supply.{Supply}
 use Rattle.arena_core.proofs.Arenas.{slabs_kept}
-use Rattle.arena_core.proofs.CallEvents.{meant}
 use Rattle.arena_core.proofs.MovesArenas.{granules_moved, book_moved, index_moved, slabs_moved, lives_moved}
-use Rattle.arena_core.proofs.MovesStates.{any_seat, step_moved, step_unmoved}
+use Rattle.arena_core.proofs.MovesStates.{step_moved, step_unmoved}
 
 -- what is planned may move
 pub movable : {words : List ℕ} {from to : ℕ} {range : Range} → IsExactImage words → IsToMove words from to range → IsMovable words from to range.at
@@ -95,34 +89,3 @@ carried_unmoved {old} {was} {from} {to} refusal arena plan =
       step = step_unmoved refusal arena.current.exact plan;
       keeps = record { each = λ root other range k here is word. refl };
     }
-
--- a move that an arena answered
-pub record IsMoveAnswered (old new : ArenaState) (left : Volatile) (from to : ℕ) (reply : Reply) : Type 0 where
-  pub step : IsStepOfAny (words_of old.device) (words_of new.device) (calls.Move from to) reply
-  pub device : new.device ≡ appended (began old.device) (call_events (words_of old.device) old.line (calls.Move from to) reply)
-  pub line_is : new.line ≡ line_after old.line reply
-  pub stacks : new.stacks ≡ old.stacks
-  pub keeps : KeepsBlocks (words_of old.device) (words_of new.device)
-  pub arena : IsArena new.device left
-  pub crash : CrashOnly new.device.base new.device.events (IsEitherMoved (words_of old.device) (words_of new.device) to)
-
--- by what was done behind its begin
-answered : (device new : PmemState) (was left : Volatile) (from to : ℕ) (reply : Reply) → IsMoveCarried (began device) new was left from to reply → IsMoveAnswered (meant device was) (meant new left) left from to reply
-answered device new was left from to reply done =
-    let state : new ≡ appended (began device) (call_events (words_of device) was.line (calls.Move from to) reply) = done.carried.appends.state in
-    record {
-      step = any_seat (words_of device) (words_of new) from to reply done.step;
-      device = state;
-      line_is = done.line_is;
-      stacks = ap (λ (s : Supply). s.stacks) done.supply;
-      keeps = done.keeps;
-      arena = done.arena;
-      crash = subst (λ (s : PmemState). CrashOnly s.base s.events (IsEitherMoved (words_of device) (words_of new) to)) (sym state) done.carried.crash;
-    }
-
--- of an arena by what it means
-pub move_answered : (device begun new : PmemState) (was left : Volatile) (now : ArenaState) (from to : ℕ) (reply : Reply) → meant device was ≡ now → begun ≡ began device → IsMoveCarried begun new was left from to reply →
-    IsMoveAnswered now (meant new left) left from to reply
-move_answered device begun new was left now from to reply view is done =
-    subst (λ (s : ArenaState). IsMoveAnswered s (meant new left) left from to reply) view
-    (answered device new was left from to reply (subst (λ (s : PmemState). IsMoveCarried s new was left from to reply) is done))

@@ -1,10 +1,9 @@
--- Words that are written into a root's block, put together: what a write did, and what a crash within it leaves.
-use Rattle.std.proofs.Common.{◌≡◌, ◌<◌, ◌≤◌, ◌+◌, ◌-◌, ◌*◌, ◌/◌, ◌%◌, ℕ, List, [], length, Ok, Err, None, Result, refl, sym, ap, subst, ◌∙◌, arith, inl, inr, ⊎_elim}
+-- Words that are written into a root's block, put together: what a write did behind its begin.
+use Rattle.std.proofs.Common.{◌≡◌, ◌<◌, ◌≤◌, ◌+◌, ◌-◌, ◌*◌, ◌/◌, ◌%◌, ℕ, List, [], length, Ok, Err, None, refl, sym, ap, ◌∙◌, arith, inl, inr, ⊎_elim}
 use Rattle.arena_core.proofs.Readiness.{ready_after}
 use Rattle.std.proofs.lemmas.Bool.{cases_lt}
 use Rattle.pmem_lines.specs.Words.{word_at}
-use Rattle.pmem_lines.specs.Events.{CrashOnly}
-use Rattle.pmem_lines.specs.Pmem.{PmemState, words_of, began, appended}
+use Rattle.pmem_lines.specs.Pmem.{PmemState, words_of}
 use Rattle.pmem_lines.specs.Steps.{IsQuietStep}
 use Rattle.pmem_lines.proofs.Steps.{step_by, step_none, step_wider}
 use Rattle.durable_steps.specs.Rows.{IsOldOrNewRow}
@@ -24,14 +23,12 @@ use Rattle.arena_core.specs.declared.answer.BlockRefusal.{BlockRefusal}
 use Rattle.arena_core.specs.declared.answer.BlockRefusal.TheVariants.{NoRoot, Empty, OutOfRange}
 use Rattle.arena_core.specs.declared.plan.Held.{Held}
 use Rattle.arena_core.specs.declared.plan.Held.TheVariants as holding
-use Rattle.arena_core.specs.declared.volatile.Volatile.{Volatile}
 use Rattle.arena_core.specs.Answer.{write_reply}
-use Rattle.arena_core.specs.Arena.{ArenaState, IsArena}
 use Rattle.arena_core.specs.Call.{IsReady}
 use Rattle.arena_core.specs.Events.{write_events}
-use Rattle.arena_core.specs.Payload.{payload_events, IsWriteStep, IsNamedWord, HasWritten, IsWrittenBy, IsEitherWords, HasBlockAt, IsBlockPlan, IsWritable, IsWritePlan, IsWriteCarried}
+use Rattle.arena_core.specs.Payload.{payload_events, IsNamedWord, HasWritten, IsEitherWords, HasBlockAt, IsBlockPlan, IsWritable, IsWritePlan, IsWriteCarried}
 use Rattle.arena_core.specs.Plan.{IsHeldBy, range_held}
-use Rattle.arena_core.proofs.CallEvents.{held_heap, meant}
+use Rattle.arena_core.proofs.CallEvents.{held_heap}
 use Rattle.arena_core.proofs.PayloadImages.{IsSameOffBlock, bounds_kept, exact_kept, heap_kept, slabs_kept, IsArena-block}
 use Rattle.arena_core.proofs.PayloadRows.{off_write, in_write}
 use Rattle.arena_core.proofs.PayloadStates.{step_written, step_refused}
@@ -164,47 +161,3 @@ carried_none {old} {root} {from} {words} refusal image ready plan = record {
   step = step_refused (words_of old) root from words refusal plan;
   arena = λ volatile arena. arena;
 }
-
--- a write that an arena answered
-pub record IsWriteAnswered (old new : ArenaState) (left : Volatile) (root from : ℕ) (words : List ℕ) (result : Result (Unit {0}) BlockRefusal) : Type 0 where
-  pub step : IsWriteStep (words_of old.device) (words_of new.device) root from words (write_reply result)
-  pub device : new.device ≡ appended (began old.device) (payload_events (words_of old.device) root from words (write_reply result))
-  pub line_is : new.line ≡ old.line
-  pub written : IsWrittenBy (words_of old.device) root from words (words_of new.device) result
-  pub arena : IsArena new.device left
-  pub crash : CrashOnly new.device.base new.device.events (IsEitherWords (words_of old.device) (words_of new.device))
-
--- an arena that begins a call
-pub IsArena-began : {device : PmemState} {was : Volatile} → IsArena device was → IsArena (began device) was
-IsArena-began {device} {was} arena = record {
-  current = record {
-    ready = record { quiet = tt; room = arena.current.ready.room };
-    exact = arena.current.exact;
-    log = arena.current.log;
-    index = arena.current.index;
-  };
-  slabs = arena.slabs;
-  lives = arena.lives;
-  few = arena.few;
-}
-
--- by what was done behind its begin
-answered : (device new : PmemState) (was : Volatile) (root from : ℕ) (words : List ℕ) (result : Result (Unit {0}) BlockRefusal) → IsArena (began device) was → IsWriteCarried (began device) new root from words result →
-    IsWriteAnswered (meant device was) (meant new was) was root from words result
-answered device new was root from words result arena done =
-    let state : new ≡ appended (began device) (payload_events (words_of device) root from words (write_reply result)) = done.carried.appends.state in
-    record {
-      step = done.step;
-      device = state;
-      line_is = refl;
-      written = done.written;
-      arena = done.arena was arena;
-      crash = subst (λ (s : PmemState). CrashOnly s.base s.events (IsEitherWords (words_of device) (words_of new))) (sym state) done.carried.crash;
-    }
-
--- of an arena by what it means
-pub write_answered : (device begun new : PmemState) (was : Volatile) (now : ArenaState) (root from : ℕ) (words : List ℕ) (result : Result (Unit {0}) BlockRefusal) → meant device was ≡ now → begun ≡ began device → IsArena device was →
-    IsWriteCarried begun new root from words result → IsWriteAnswered now (meant new was) was root from words result
-write_answered device begun new was now root from words result view is arena done =
-    subst (λ (s : ArenaState). IsWriteAnswered s (meant new was) was root from words result) view
-    (answered device new was root from words result (IsArena-began arena) (subst (λ (s : PmemState). IsWriteCarried s new root from words result) is done))

@@ -42,7 +42,7 @@ use Rattle.arena_core.specs.Carried.{IsCalled, IsHeldFor, MayOpen, MayTakeClass,
 use Rattle.attach_steps.specs.declared.block.SmallBlock.{SmallBlock}
 use Rattle.arena_core.specs.Arena.{IsArena}
 use Rattle.arena_core.specs.Plan.{IsAskedOf, IsPlacing, IsFound, IsSuppliedAt, IsSuppliedFor, IsPlanned, tables_view, IsBlockAs, number_of}
-use Rattle.arena_core.proofs.PayloadCalls.{IsArena-began}
+use Rattle.arena_core.proofs.Answering.{IsArena-began}
 use Rattle.arena_core.proofs.SmallCalls.{slabs_without}
 
 -- the plan names the place that was found
@@ -146,13 +146,10 @@ morph_for {old} {mid} {was} {now} {part} {seat} {root} {size} {start} {class} pl
         (cases_eq s start)
 
 -- the plan is one for the state at the call's begin too
-pub planned_begun : {device : PmemState} (begun : PmemState) {was now : Volatile} {seat root size : ℕ} {plan : Result Place MallocRefusal} → begun ≡ began device → IsPlanned device was now seat root size plan → IsPlanned begun was now seat root size plan
-planned_begun {device} begun {was} {now} {seat} {root} {size} {plan} is planned = subst (λ (s : PmemState). IsPlanned s was now seat root size plan) (sym is) (record {
-  arena = IsArena-began planned.arena;
-  supplied = planned.supplied;
-  rest = planned.rest;
-  is = planned.is;
-})
+pub planned_begun : {device : PmemState} (begun : PmemState) {was now : Volatile} {seat root size : ℕ} {plan same : Result Place MallocRefusal} → begun ≡ began device → plan ≡ same → IsPlanned device was now seat root size plan → IsPlanned begun was now seat root size same
+planned_begun {device} begun {was} {now} {seat} {root} {size} {plan} is told planned =
+    subst (IsPlanned begun was now seat root size) told
+    (subst (λ (s : PmemState). IsPlanned s was now seat root size plan) (sym is) (record { arena = IsArena-began planned.arena; supplied = planned.supplied; rest = planned.rest; is = planned.is }))
 
 -- a plan that refuses changes nothing
 pub refused_plan : {old : PmemState} {was now : Volatile} {seat root size : ℕ} (refusal : MallocRefusal) → IsPlanned old was now seat root size (Err refusal) → IsCalled old old was now seat (calls.Malloc root size) (malloc_reply (Err refusal))

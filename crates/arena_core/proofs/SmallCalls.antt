@@ -1,5 +1,5 @@
 -- A small block and its root come or go: what an arena keeps holds again.
-use Rattle.std.proofs.Common.{refl, true, true≢false, ◌≡◌, ◌≢◌, ◌⊎◌, ◌↔◌, ℕ, ◌<◌, Bool, List, sym, ap, subst, ◌∙◌, arith, inl, inr, ⊎_elim, None, true}
+use Rattle.std.proofs.Common.{refl, true, true≢false, ◌≡◌, ◌≢◌, ◌⊎◌, ◌↔◌, ℕ, ◌<◌, Bool, List, sym, ap, subst, ◌∙◌, arith, inl, inr, ⊎_elim, None}
 use Rattle.std.proofs.lemmas.Bool.{cases_eq}
 use Rattle.size_classes.specs.Classes.{class_capacity}
 use Rattle.image_tables.specs.Tables.{Tables, tables_of}

@@ -7,25 +7,21 @@ use Rattle.pmem_lines.specs.Steps.{IsQuietStep}
 use Rattle.pmem_lines.proofs.Steps.{step_by, step_none, step_wider}
 use Rattle.image_tables.specs.Forms.{morphed_kind}
 use Rattle.image_tables.specs.Tables.{Tables, tables_of}
-use Rattle.image_tables.proofs.Headers.{SameLog-off_header}
-use Rattle.book_log.proofs.Books.{Reads-same}
 use Rattle.heap_model.specs.Machine.{Bounds, with_key}
 use Rattle.heap_model.specs.Below.{any_below}
 use Rattle.heap_check.specs.Heap.{slabs, IsUnusedIn, heap}
-use Rattle.heap_check.specs.Sound.{IsVacant, IsDoneSlab, IsInSlab}
+use Rattle.heap_check.specs.Sound.{IsDoneSlab, IsInSlab}
 use Rattle.heap_check.specs.Image.{bounds_of, IsExactImage, IsSteadyImage}
 use Rattle.heap_check.proofs.Blank.{IsSteady-but}
-use Rattle.heap_check.proofs.Geometry.{granules_at-slab}
-use Rattle.heap_check.proofs.Sizes.{sizes_of}
-use Rattle.log_steps.specs.Log.{IsBookOf}
 use Rattle.transition_steps.specs.Transitions.{end_events, IsEndable, LeavesEntry, IsEnded}
 use Rattle.arena_core.specs.declared.volatile.Volatile.{Volatile}
 use Rattle.slab_lives.specs.Lives.{Lives, calm_at}
-use Rattle.arena_core.specs.Arena.{IsIndexOf, IsSlabsOf, AreCountsOf, calm_of}
+use Rattle.arena_core.specs.Arena.{IsSlabsOf, AreCountsOf, calm_of}
 use Rattle.arena_core.specs.Carried.{IsUntidy, IsTidied}
 use Rattle.arena_core.specs.Effect.{slabs_but}
 use Rattle.arena_core.specs.Events.{holds_none, is_done, tidy_events}
 use Rattle.arena_core.proofs.Arenas.{same_heap}
+use Rattle.arena_core.proofs.ChangedHeaders.{IsHeaderChange, row, book_header, index_header, unused_header}
 use Rattle.arena_core.proofs.LastBlocks.{none_by_tests, some_by_tests, rooted_by_tests}
 use Rattle.arena_core.proofs.LiveCounts.{live_none, live_some, live_same, counts_kept}
 use Rattle.arena_core.proofs.LiveSlabs.{calm_normal, calm_header, calm_all_but, lives_put}
@@ -35,11 +31,10 @@ use Rattle.arena_core.proofs.Tests.{not_true}
 use Rattle.arena_core.proofs.UnusedBlocks.{iff_then}
 use Rattle.heap_model.specs.Slabs.{live_below}
 use Rattle.heap_check.proofs.SmallPlaces.{calm_but}
-use Rattle.slab_morph.specs.SlabHeaders.{header_of, put_header}
+use Rattle.slab_morph.specs.SlabHeaders.{header_of}
 use Rattle.slab_morph.specs.Stages.{settled}
 use Rattle.image_tables.proofs.Updates.{put_at-same, put_at-own}
 use Rattle.image_tables.proofs.Stores.{HasNoMove-closed}
-use Rattle.extent_index.specs.FreeSet.{IsFree}
 use Rattle.size_classes.specs.Classes.{class_capacity}
 
 -- the test of a slab that is done
@@ -112,18 +107,18 @@ module _ (s : PmemState) (volatile : Volatile) (start : ℕ) (untidy : IsUntidy 
     abbrev after : Tables
     after = tables_of new
 
-    row : {X : Type 0} (f : Tables → X) → f after ≡ f (put_header t start (settled (header_of t start)))
-    row f = ap f ended.tables
+    change : IsHeaderChange words start (settled (header_of t start)) new
+    change = record { sound = untidy.image.but.sound; slab = untidy.slab; off = ended.off; bounds = ended.bounds; tables = ended.tables; held = ended.held }
 
     closed : after.open_entry ≡ None
-    closed = row (λ x. x.open_entry) ∙ untidy.image.but.closed
+    closed = row change (λ x. x.open_entry) ∙ untidy.image.but.closed
 
     exact : IsExactImage new
     exact =
         let but = untidy.image.but in
         let rooted = rooted_by_tests start but untidy.slab (some_by_count some) in
-        let roots = row (λ x. x.root) in
-        let slab_same = row (λ x. x.slab) in
+        let roots = row change (λ x. x.root) in
+        let slab_same = row change (λ x. x.slab) in
         let live_roots : (other : ℕ) → (root : ℕ) × (t.root root ≢ 0) × IsInSlab t other (t.root root) → (root : ℕ) × (after.root root ≢ 0) × IsInSlab after other (after.root root) =
         λ other is.
         let word = ap (λ (f : ℕ → ℕ). f is.0) roots in
@@ -134,7 +129,7 @@ module _ (s : PmemState) (volatile : Volatile) (start : ℕ) (untidy : IsUntidy 
             sound = ended.image.sound;
             closed = closed;
             all_named = λ other live.
-                let large = ap (λ (f : ℕ → ℕ). f other) (row (λ x. x.large)) in
+                let large = ap (λ (f : ℕ → ℕ). f other) (row change (λ x. x.large)) in
                 let named = but.all_named other (omega (arith, live, large)) in
                 (named.0, ap (λ (f : ℕ → ℕ). f named.0) roots ∙ named.1);
             all_live = λ other is. ⊎_elim
@@ -144,67 +139,39 @@ module _ (s : PmemState) (volatile : Volatile) (start : ℕ) (untidy : IsUntidy 
             calm = λ other morphing. but.calm other (ended.loose.morphing other morphing);
             none_done = λ other is. ⊎_elim
                 (λ (same : other ≡ start).
-                let kind : after.kind start ≡ 1 = row (λ x. x.kind start) ∙ put_at-same t.kind start 1 in
+                let kind : after.kind start ≡ 1 = row change (λ x. x.kind start) ∙ put_at-same t.kind start 1 in
                 omega (arith, is.kind, ap after.kind same, kind))
                 (λ (differ : other ≢ start). but.none_done other differ (ended.loose.done other is))
                 (cases_eq other start);
           };
         }
 
-    book : IsBookOf volatile.log new
-    book =
-        let sizes = sizes_of words untidy.image.formed in
-        let four = granules_at-slab t start untidy.slab in
-        let lies = untidy.image.but.sound.starts start (omega (arith, four)) in
-        record {
-          reads = Reads-same volatile.log words new (SameLog-off_header words new start (record { in_heap = lies.0; others = ended.off.others })) ended.off.same_length untidy.log.reads;
-          granules = untidy.log.granules ∙ ap (λ (b : Bounds). b.granules) (sym ended.bounds);
-        }
-
-    index : IsIndexOf volatile.free new
-    index = record {
-      granules = untidy.index.granules ∙ ap (λ (b : Bounds). b.granules) (sym ended.bounds);
-      each = λ k. subst (λ b. IsFree volatile.free k ↔ IsVacant b after k) (sym ended.bounds)
-          (subst (λ x. IsFree volatile.free k ↔ IsVacant (bounds_of words) x k) (sym ended.tables)
-          (iff_then (untidy.index.each k) (
-            λ vacant. record { low = vacant.low; high = vacant.high; none = λ other covers. vacant.none other (record { low = covers.low; high = covers.high }) },
-            λ vacant. record { low = vacant.low; high = vacant.high; none = λ other covers. vacant.none other (record { low = covers.low; high = covers.high }) },
-          )));
-    }
-
-    -- what each slab holds is the same, and so is what is unused
-    unused_same : (o class i : ℕ) → IsUnusedIn t o class i ↔ IsUnusedIn after o class i
-    unused_same o class i = (
-      λ unused. record { each = λ range holds. unused.each range ((ended.held.each o range).0 holds) },
-      λ unused. record { each = λ range holds. unused.each range ((ended.held.each o range).1 holds) },
-    )
-
     pub slab_same : (o : ℕ) → (tables_of (words_of u)).slab o ≡ (tables_of (words_of s)).slab o
-    slab_same o = row (λ x. x.slab o)
+    slab_same o = row change (λ x. x.slab o)
 
     pub class_same : (o : ℕ) → (tables_of (words_of u)).class o ≡ (tables_of (words_of s)).class o
-    class_same o = row (λ x. x.class o) ∙ ap (λ (f : ℕ → ℕ). f o) (put_at-own t.class start)
+    class_same o = row change (λ x. x.class o) ∙ ap (λ (f : ℕ → ℕ). f o) (put_at-own t.class start)
 
     classes_ended : (o : ℕ) → slabs after o ≡ slabs t o
-    classes_ended o = λ i. if row (λ x. x.slab o) i then Some (class_same o i) else None
+    classes_ended o = λ i. if row change (λ x. x.slab o) i then Some (class_same o i) else None
 
     slabs_after : IsSlabsOf volatile.supply new
     slabs_after = record {
       granules = untidy.slabs.granules ∙ ap (λ (b : Bounds). b.granules) (sym ended.bounds);
       classes = λ o. untidy.slabs.classes o ∙ sym (classes_ended o);
       blocks = λ o i slab below.
-          let was = untidy.slabs.blocks o i (sym (row (λ x. x.slab o)) ∙ slab) (subst (λ c. i < class_capacity c) (class_same o) below) in
-          iff_then was (subst (λ c. IsUnusedIn t o (t.class o) i ↔ IsUnusedIn after o c i) (sym (class_same o)) (unused_same o (t.class o) i));
+          let was = untidy.slabs.blocks o i (sym (row change (λ x. x.slab o)) ∙ slab) (subst (λ c. i < class_capacity c) (class_same o) below) in
+          iff_then was (subst (λ c. IsUnusedIn t o (t.class o) i ↔ IsUnusedIn after o c i) (sym (class_same o)) (unused_header change o (t.class o) i));
     }
 
     counts : AreCountsOf volatile.lives.counts new
-    counts = counts_kept words new volatile.lives.counts (ap (λ (b : Bounds). b.granules) ended.bounds) (live_same words new ended.bounds (λ o. row (λ x. x.slab o)) ended.heap.each) untidy.lives.counts
+    counts = counts_kept words new volatile.lives.counts (ap (λ (b : Bounds). b.granules) ended.bounds) (live_same words new ended.bounds (λ o. row change (λ x. x.slab o)) ended.heap.each) untidy.lives.counts
 
     -- it is calm now
     calm_ended : (o : ℕ) → calm_of after o ≡ with_key (calm_of t) start (Some (t.class start)) o
     calm_ended = calm_all_but t after start (Some (t.class start))
-        (calm_normal after start (row (λ x. x.slab start) ∙ untidy.slab) (row (λ x. x.kind start) ∙ put_at-same t.kind start 1) ∙ ap (λ c. Some c) (class_same start))
-        (λ o differ. row (λ x. calm_of x o) ∙ calm_header t start (settled (header_of t start)) o differ)
+        (calm_normal after start (row change (λ x. x.slab start) ∙ untidy.slab) (row change (λ x. x.kind start) ∙ put_at-same t.kind start 1) ∙ ap (λ c. Some c) (class_same start))
+        (λ o differ. row change (λ x. calm_of x o) ∙ calm_header t start (settled (header_of t start)) o differ)
 
     pub tidied_ended : (next : Lives) → next.counts ≡ volatile.lives.counts → ((o : ℕ) → calm_at next o ≡ with_key (calm_at volatile.lives) start (Some ((tables_of (words_of s)).class start)) o) → IsTidied s u (record volatile { lives = next }) start
     tidied_ended next same put =
@@ -215,7 +182,7 @@ module _ (s : PmemState) (volatile : Volatile) (start : ℕ) (untidy : IsUntidy 
           step = step_by (end_events words start) (tidy_events words start) (sym events) (step_wider (λ image left.
               let kept = left.keeps steady in
               record { steady = kept.steady; heap = inl kept.heap; words = kept.blocks; still = HasNoMove-closed (left.entry ∙ untidy.image.but.closed) }) step);
-          current = record { ready = ready_after untidy.ready step.appends.room step.quiet untidy.image.formed exact.formed ended.bounds; exact = exact; log = book; index = index };
+          current = record { ready = ready_after untidy.ready step.appends.room step.quiet untidy.image.formed exact.formed ended.bounds; exact = exact; log = book_header change volatile.log untidy.log; index = index_header change volatile.free untidy.index };
           slabs = slabs_after;
           lives = lives_put words new volatile.lives next (subst (λ (n : List ℕ). AreCountsOf n new) (sym same) counts) untidy.lives start (Some (t.class start)) put calm_ended;
           bounds = ended.bounds;

@@ -10,14 +10,13 @@ ghost use Rattle.heap_model.specs.Machine.{no_heap};
 ghost use Rattle.heap_model.specs.Placement.{no_stacks};
 ghost use Rattle.thread_cache.specs.Stacks.{stacks_of};
 ghost use Rattle.heap_check.specs.Image.{IsExactImage};
-ghost use Rattle.heap_check.specs.State.{HasState, KeepsBlocks, IsEitherHeap};
-ghost use Rattle.move_steps.specs.Moves.{IsEitherMoved};
-ghost use Rattle.arena_core.specs.Answer.{malloc_reply, free_reply, move_reply, write_reply};
-ghost use Rattle.arena_core.specs.Answered.{IsAnswered};
+ghost use Rattle.heap_check.specs.State.{HasState};
+ghost use Rattle.arena_core.specs.Answer.{malloc_reply, free_reply, move_reply};
+ghost use Rattle.arena_core.specs.Answered.{IsAnswered, IsMoveAnswered, IsWriteAnswered};
 ghost use Rattle.arena_core.specs.Arena.{IsBlockOfRoot};
-ghost use Rattle.arena_core.specs.Call.{IsReady, IsStepOf, IsStepOfAny, IsFormattedOrNot};
-ghost use Rattle.arena_core.specs.Events.{call_events, line_after, format_events};
-ghost use Rattle.arena_core.specs.Payload.{payload_events, IsWriteStep, IsWrittenBy, IsEitherWords, IsViewOf};
+ghost use Rattle.arena_core.specs.Call.{IsReady, IsFormattedOrNot};
+ghost use Rattle.arena_core.specs.Events.{format_events};
+ghost use Rattle.arena_core.specs.Payload.{IsViewOf};
 
 use crate::adopting::{read_image, read_lives, take_front};
 use crate::formatting::write_header;
@@ -171,15 +170,7 @@ impl<P: Pmem> Arena<P> {
     /// then on. After a crash within it the heap is the one before the call or the one after it: one of the two roots has
     /// the block. It takes no memory.
     pub fn move_to(&mut self, from: u32, to: u32) -> Result<Moved, MoveRefusal>
-        ensures step { IsStepOfAny (words_of self.old.device) (words_of self.new.device) (calls.Move from to) (move_reply result) }
-        ensures device { self.new.device ≡ appended (began self.old.device) (call_events (words_of self.old.device) self.old.line (calls.Move from to) (move_reply result)) }
-        ensures line { self.new.line ≡ line_after self.old.line (move_reply result) }
-        ensures stacks { self.new.stacks ≡ self.old.stacks }
-        ensures keeps { KeepsBlocks (words_of self.old.device) (words_of self.new.device) }
-        ensures was_exact { IsExactImage (words_of self.old.device) }
-        ensures exact { IsExactImage (words_of self.new.device) }
-        ensures ready { IsReady self.new.device }
-        ensures crash { CrashOnly self.new.device.base self.new.device.events (IsEitherMoved (words_of self.old.device) (words_of self.new.device) to) }
+        ensures { IsMoveAnswered self.old self.new from to (move_reply result) }
     {
         let plan = self.volatile.plan_move(&self.device, from, to);
         self.device.begin();
@@ -194,16 +185,8 @@ impl<P: Pmem> Arena<P> {
     /// as before. After a crash within it each word of the range is old or new, and all else is as before. It takes no
     /// memory. `words` has at most 512 words.
     pub fn write(&mut self, root: u32, from: u32, words: &[u64]) -> Result<(), BlockRefusal>
-        requires few { length words.now ≤ 512 }
-        ensures step { IsWriteStep (words_of self.old.device) (words_of self.new.device) root from words.now (write_reply result) }
-        ensures device { self.new.device ≡ appended (began self.old.device) (payload_events (words_of self.old.device) root from words.now (write_reply result)) }
-        ensures line { self.new.line ≡ self.old.line }
-        ensures stacks { self.new.stacks ≡ self.old.stacks }
-        ensures written { IsWrittenBy (words_of self.old.device) root from words.now (words_of self.new.device) result }
-        ensures was_exact { IsExactImage (words_of self.old.device) }
-        ensures exact { IsExactImage (words_of self.new.device) }
-        ensures ready { IsReady self.new.device }
-        ensures crash { CrashOnly self.new.device.base self.new.device.events (IsEitherWords (words_of self.old.device) (words_of self.new.device)) }
+        requires { length words.now ≤ 512 }
+        ensures { IsWriteAnswered self.old self.new root from words.now result }
     {
         let block = self.volatile.block_of(&self.device, root);
         let plan = plan_write(block, from, words.len() as u64);

@@ -1,21 +1,18 @@
 -- What an arena answered to a write of one word, to a read of one, and to a move.
 use Rattle.std.proofs.Common.{◌≡◌, ◌∙◌, ℕ, List, [], ◌∷◌, Result, refl, ap, sym, subst}
 use Rattle.std.specs.Borrow.{Bor}
-use Rattle.pmem_lines.specs.Events.{CrashOnly}
 use Rattle.pmem_lines.specs.Pmem.{words_of, began, appended}
 use Rattle.heap_model.specs.declared.call.Call.TheVariants.{Write, Read, Move}
 use Rattle.heap_model.specs.declared.call.Reply.{Reply}
 use Rattle.thread_cache.specs.Stacks.{StackTable, stacks_of}
-use Rattle.heap_check.specs.State.{KeepsBlocks}
-use Rattle.move_steps.specs.Moves.{IsEitherMoved}
 use Rattle.heap_model.specs.declared.call.Call.{Call}
-use Rattle.arena_core.specs.Events.{call_events, line_after}
 use Rattle.heap_check.specs.Image.{IsExactImage}
 use Rattle.arena_core.specs.declared.answer.BlockRefusal.{BlockRefusal}
 use Rattle.arena_core.specs.Answer.{write_reply, read_reply}
+use Rattle.arena_core.specs.Answered.{IsMoveAnswered, IsWriteAnswered}
 use Rattle.arena_core.specs.Arena.{ArenaState}
 use Rattle.arena_core.specs.Call.{IsReady, IsStepOf, IsStepOfAny}
-use Rattle.arena_core.specs.Payload.{payload_events, IsWriteStep, IsWrittenBy, IsEitherWords, IsViewOf}
+use Rattle.arena_core.specs.Payload.{IsViewOf}
 use Rattle.arena_core.proofs.ByCall.{law_of_one_word, law_of_one_read, unwritten_blocks, unwritten_write}
 use Rattle.arena_journal.specs.Journals.{HasAnswered}
 
@@ -25,24 +22,17 @@ step_of_any : (seat : ℕ) (old new : ArenaState) (call : Call) (reply : Reply) 
 step_of_any seat old new call reply step same =
     subst (λ (table : StackTable). IsStepOf seat (words_of old.device) (stacks_of old.stacks) (words_of new.device) (stacks_of table) call reply) (sym same) (step seat (stacks_of old.stacks))
 
-pub HasAnswered-write : (seat : ℕ) (old new : ArenaState) (root index word : ℕ) (result : Result (Unit {0}) BlockRefusal) →
-    IsWriteStep (words_of old.device) (words_of new.device) root index (word ∷ []) (write_reply result) →
-    new.device ≡ appended (began old.device) (payload_events (words_of old.device) root index (word ∷ []) (write_reply result)) →
-    new.line ≡ old.line → new.stacks ≡ old.stacks →
-    IsWrittenBy (words_of old.device) root index (word ∷ []) (words_of new.device) result →
-    IsExactImage (words_of old.device) → IsExactImage (words_of new.device) → IsReady new.device →
-    CrashOnly new.device.base new.device.events (IsEitherWords (words_of old.device) (words_of new.device)) →
-    HasAnswered seat old new (Write root index word) (write_reply result)
-HasAnswered-write seat old new root index word result step device line stacks written was_exact exact ready crash =
-    let law = law_of_one_word (words_of old.device) (words_of new.device) old.line root index word (write_reply result) step in
+pub HasAnswered-write : (seat : ℕ) {old new : ArenaState} {root index word : ℕ} {result : Result (Unit {0}) BlockRefusal} → IsWriteAnswered old new root index (word ∷ []) result → HasAnswered seat old new (Write root index word) (write_reply result)
+HasAnswered-write seat {old} {new} {root} {index} {word} {result} wrote =
+    let law = law_of_one_word (words_of old.device) (words_of new.device) old.line root index word (write_reply result) wrote.step in
     record {
-      step = step_of_any seat old new (Write root index word) (write_reply result) law.0 stacks;
-      done = record { device = device ∙ ap (appended (began old.device)) law.1; crash = crash };
-      line = line ∙ sym law.2;
-      keeps = unwritten_write (words_of old.device) (words_of new.device) root index word result written;
-      was_exact = was_exact;
-      exact = exact;
-      ready = ready;
+      step = step_of_any seat old new (Write root index word) (write_reply result) law.0 wrote.stacks;
+      done = record { device = wrote.did.device ∙ ap (appended (began old.device)) law.1; crash = wrote.did.crash };
+      line = wrote.line ∙ sym law.2;
+      keeps = unwritten_write (words_of old.device) (words_of new.device) root index word result wrote.written;
+      was_exact = wrote.did.was_exact;
+      exact = wrote.did.exact;
+      ready = wrote.did.ready;
     }
 
 pub HasAnswered-read : (seat : ℕ) (arena : ArenaState) (root index : ℕ) (view : Result (Bor (List ℕ)) BlockRefusal) → IsViewOf (words_of arena.device) root view → IsExactImage (words_of arena.device) → IsReady arena.device →
@@ -59,16 +49,13 @@ HasAnswered-read seat arena root index view is exact ready =
       ready = ready;
     }
 
-pub HasAnswered-move : (seat : ℕ) (old new : ArenaState) (from to : ℕ) (reply : Reply) → IsStepOfAny (words_of old.device) (words_of new.device) (Move from to) reply →
-    new.device ≡ appended (began old.device) (call_events (words_of old.device) old.line (Move from to) reply) → new.line ≡ line_after old.line reply → new.stacks ≡ old.stacks →
-    KeepsBlocks (words_of old.device) (words_of new.device) → IsExactImage (words_of old.device) → IsExactImage (words_of new.device) → IsReady new.device →
-    CrashOnly new.device.base new.device.events (IsEitherMoved (words_of old.device) (words_of new.device) to) → HasAnswered seat old new (Move from to) reply
-HasAnswered-move seat old new from to reply step device line stacks keeps was_exact exact ready crash = record {
-  step = step_of_any seat old new (Move from to) reply step stacks;
-  done = record { device = device; crash = crash };
-  line = line;
-  keeps = unwritten_blocks (Move from to) (words_of old.device) (words_of new.device) keeps;
-  was_exact = was_exact;
-  exact = exact;
-  ready = ready;
+pub HasAnswered-move : (seat : ℕ) {old new : ArenaState} {from to : ℕ} {reply : Reply} → IsMoveAnswered old new from to reply → HasAnswered seat old new (Move from to) reply
+HasAnswered-move seat {old} {new} {from} {to} {reply} moved = record {
+  step = step_of_any seat old new (Move from to) reply moved.step moved.stacks;
+  done = record { device = moved.did.device; crash = moved.did.crash };
+  line = moved.line;
+  keeps = unwritten_blocks (Move from to) (words_of old.device) (words_of new.device) moved.keeps;
+  was_exact = moved.did.was_exact;
+  exact = moved.did.exact;
+  ready = moved.did.ready;
 }

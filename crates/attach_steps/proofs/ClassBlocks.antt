@@ -30,7 +30,7 @@ use Rattle.attach_steps.specs.Steps.{entry_for, bit_word, bit_put, mark_events, 
 use Rattle.attach_steps.proofs.Pairs.{opened_word}
 use Rattle.attach_steps.proofs.Stages.{Site, tables_with, IsSite, IsStageOf, stage_begin, stage_header, made_slab, made_low, few_entries}
 use Rattle.attach_steps.proofs.Crashes.{PutsOver, with_none, with_both, heap_none, heap_some}
-use Rattle.attach_steps.proofs.Sequences.{Leads, comes, goes, marks, unmarks, ends, exact_but, exact_end, gives_end, turn_step}
+use Rattle.attach_steps.proofs.Sequences.{Leads, comes, goes, marks, unmarks, ends, exact_but, exact_end, gives_end, sequence_step}
 
 -- a bit is put over any words that have the same word there
 pub PutsBitOver-same : (words made : List ℕ) (start i : ℕ) (on : Bool) → length made ≡ length words → word_at made (bitmap_word start i) ≡ word_at words (bitmap_word start i) → PutsBitOver made start i on → PutsBitOver words start i on
@@ -143,7 +143,7 @@ module _ {words : List ℕ} {line root : ℕ} {block : SmallBlock} (may : IsAtta
         let site = class_site (tables_of words) root block in
         subst (λ w. IsQuietStep s v (under_entry line (entry_for root block) (pair_events (8 * bit_word block) w (8 * root_word root) block.at)) (IsEitherHeap words new))
         (ap (λ w. with_bit w (block.number / 8 % 64) true) (opened_word words line root site coming line_below made opens))
-        (turn_step coming line_below (comes coming line_below) coming_begins opens marked closes opening putting closing)
+        (sequence_step coming line_below (comes coming line_below) coming_begins opens marked closes opening putting closing)
 
 -- it goes from its root
 module _ {words : List ℕ} {line root : ℕ} {block : SmallBlock} (may : IsDetachable words root block) (line_below : line < 8) where
@@ -178,4 +178,4 @@ module _ {words : List ℕ} {line root : ℕ} {block : SmallBlock} (may : IsDeta
         let site = class_site (tables_of words) root block in
         subst (λ w. IsQuietStep s v (under_entry line (entry_for root block) (pair_events (8 * root_word root) 0 (8 * bit_word block) w)) (IsEitherHeap words new))
         (ap (λ w. with_bit w (block.number / 8 % 64) false) (opened_word words line root site going line_below made opens))
-        (turn_step going line_below (goes going line_below) (class_begins may.block_in line_below going true block.at may.set may.named) opens unmarked closes opening putting closing)
+        (sequence_step going line_below (goes going line_below) (class_begins may.block_in line_below going true block.at may.set may.named) opens unmarked closes opening putting closing)

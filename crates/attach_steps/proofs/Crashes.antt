@@ -3,26 +3,19 @@ use Rattle.std.proofs.Common.{◌≡◌, ◌≢◌, ◌⊎◌, ℕ, ◌*◌, ◌
 use Rattle.std.proofs.lemmas.Bool.{cases_eq}
 use Rattle.pmem_lines.specs.Words.{word_at, put_word}
 use Rattle.pmem_lines.proofs.Words.{word_at-put_other, length-put_word}
-use Rattle.pmem_lines.specs.Pmem.{PmemState}
-use Rattle.pmem_lines.specs.Steps.{IsQuietStep}
-use Rattle.pmem_lines.proofs.Steps.{step_then}
-use Rattle.durable_steps.specs.Steps.{word_events, pair_events, IsOldOrNewWord, IsOldOrNewPair}
-use Rattle.pool_layout.specs.Places.{root_word, wal_word}
+use Rattle.durable_steps.specs.Steps.{IsOldOrNewWord, IsOldOrNewPair}
+use Rattle.pool_layout.specs.Places.{root_word}
 use Rattle.image_tables.specs.declared.entry.WalEntry.{WalEntry}
 use Rattle.image_tables.specs.Tables.{Tables, tables_of}
-use Rattle.image_tables.specs.Updates.{HasNoMove}
-use Rattle.attach_wal.specs.Entry.{entry_word}
-use Rattle.attach_wal.specs.Wal.{OpensOrNot, ClosesOrNot}
 use Rattle.heap_model.specs.Machine.{Bounds}
 use Rattle.heap_check.specs.Heap.{heap}
 use Rattle.heap_check.specs.Sound.{IsSteady}
 use Rattle.heap_check.specs.Image.{bounds_of, IsSteadyImage}
-use Rattle.heap_check.specs.State.{HaveSameHeap, KeepsBlocks, IsEitherHeap}
+use Rattle.heap_check.specs.State.{HaveSameHeap, KeepsBlocks}
 use Rattle.heap_check.proofs.Sizes.{sizes_of}
 use Rattle.heap_check.proofs.BlockWords.{block_word-heap, block_word-header}
 use Rattle.heap_check.proofs.OneBlock.{IsStage, IsSteady-one, heap-one_other, heap-one_some, heap-one_none}
-use Rattle.attach_steps.specs.Steps.{under_entry}
-use Rattle.attach_steps.proofs.Stages.{Site, tables_with, IsSite, IsStageOf, stage_open, stage_close, stage_root, root_low, start_low}
+use Rattle.attach_steps.proofs.Stages.{Site, tables_with, IsSite, IsStageOf, stage_root, root_low, start_low}
 
 module _ (words : List ℕ) (line root : ℕ) (site : Site) (is : IsSite words root site) (line_below : line < 8) where
   abbrev t : Tables

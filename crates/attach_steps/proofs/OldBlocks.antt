@@ -1,6 +1,5 @@
 -- An old block goes from its root: what the whole sequence leaves, and a crash within it.
 use Rattle.std.proofs.Common.{◌≡◌, ◌*◌, ℕ, ◌<◌, true, false, List, length, refl, sym, ap, subst, ◌∙◌, arith, inr, Some, None}
-use Rattle.pmem_lines.specs.Words.{put_word}
 use Rattle.pmem_lines.proofs.Words.{word_at-put_same}
 use Rattle.pmem_lines.specs.Events.{reading}
 use Rattle.pmem_lines.specs.Pmem.{PmemState}
@@ -30,7 +29,7 @@ use Rattle.attach_steps.specs.declared.block.OldBlock.{OldBlock}
 use Rattle.attach_steps.specs.Steps.{old_entry_for, dead_put, bury_events, detach_old_events, IsOldDetachable, IsOldDetached}
 use Rattle.attach_steps.proofs.Stages.{Site, IsSite, IsStageOf, stage_begin, stage_header, made_slab, made_low, header_inside}
 use Rattle.attach_steps.proofs.Crashes.{PutsOver, with_none, heap_none}
-use Rattle.attach_steps.proofs.Sequences.{Leads, goes, unmarks, ends, exact_but, exact_end, gives_end, turn_step}
+use Rattle.attach_steps.proofs.Sequences.{Leads, goes, unmarks, ends, exact_but, exact_end, gives_end, sequence_step}
 
 -- its place: the word of its index entry, and the entry of its root
 abbrev pub old_site : Tables → ℕ → OldBlock → Site
@@ -126,4 +125,4 @@ module _ {words : List ℕ} {line root : ℕ} {block : OldBlock} (may : IsOldDet
     pub detach_old_step : {s t u v : PmemState} → IsQuietStep s t (word_events (8 * wal_word line) (entry_word (old_entry_for root block.at block.place))) (OpensOrNot words line (old_entry_for root block.at block.place)) →
         IsQuietStep t u (bury_events (tables_of words) root block.start block.place) (IsOldOrNewPair made (8 * root_word root) 0 (8 * index_word block.start block.place) (dead_put (tables_of words) block.start block.place)) →
         IsQuietStep u v (word_events (8 * wal_word line) 0) (ClosesOrNot left line) → IsQuietStep s v (detach_old_events (tables_of words) line root block.at block.start block.place) (IsEitherHeap words new)
-    detach_old_step = turn_step IsSite-old line_below (goes IsSite-old line_below) begins opens leads closes
+    detach_old_step = sequence_step IsSite-old line_below (goes IsSite-old line_below) begins opens leads closes

@@ -28,15 +28,15 @@ module _ {words : List ℕ} {line root : ℕ} {site : Site} (is : IsSite words r
   at = site.block.at
 
   -- The slab holds the block or not, and the root has it or not, before a sequence and behind it.
-  pub record IsTurn (on new_on : Bool) (word new_word : ℕ) : Type 0 where
+  pub record IsPassage (on new_on : Bool) (word new_word : ℕ) : Type 0 where
     pub before : IsStage site.own site.block.at on word None
     pub behind : IsStage site.own site.block.at new_on new_word None
     pub ways : ((word ≡ 0) × (new_word ≡ site.block.at)) ⊎ ((word ≡ site.block.at) × (new_word ≡ 0))
 
-  pub comes : IsTurn false true 0 site.block.at
+  pub comes : IsPassage false true 0 site.block.at
   comes = record { before = with_none words line root site is line_below; behind = with_both words line root site is line_below; ways = inl (refl, refl) }
 
-  pub goes : IsTurn true false site.block.at 0
+  pub goes : IsPassage true false site.block.at 0
   goes = record { before = with_both words line root site is line_below; behind = with_none words line root site is line_below; ways = inr (refl, refl) }
 
   -- Two stores under one fence lead from the one stage to the other, and each crash within leaves some stage.
@@ -83,7 +83,7 @@ module _ {words : List ℕ} {line root : ℕ} {site : Site} (is : IsSite words r
     pub gives_end : (given : Option Range) → heap (tables_of new) root ≡ given → GivesOne words root given new
     gives_end given here = record { here = here; others = heap_other words line root site is line_below on word None new may ends }
 
-  module _ {on new_on : Bool} {word new_word : ℕ} (turn : IsTurn on new_on word new_word) (begins : IsStageOf words line root site on word None words) {made left new : List ℕ} (opens : Opens words line site.own made)
+  module _ {on new_on : Bool} {word new_word : ℕ} (passage : IsPassage on new_on word new_word) (begins : IsStageOf words line root site on word None words) {made left new : List ℕ} (opens : Opens words line site.own made)
       {first a second b : ℕ} (leads : Leads made left first a second b on new_on word new_word) (closes : Closes left line new) where
     led : IsStageOf words line root site new_on new_word (Some site.own) left
     led = leads.stage (stage_open words line root site is line_below on word None words begins made refl opens)
@@ -97,12 +97,12 @@ module _ {words : List ℕ} {line root : ℕ} {site : Site} (is : IsSite words r
     heap_is : (image_on : Bool) (image_word : ℕ) (entry : Option WalEntry) (image : List ℕ) → (image_word ≡ 0) ⊎ (image_word ≡ site.block.at) → IsStage site.own site.block.at image_on image_word entry →
         IsStageOf words line root site image_on image_word entry image → HaveSameHeap words image ⊎ HaveSameHeap new image
     heap_is image_on image_word entry image either may stage =
-        let as_old = same_heap words line root site is line_below image_on on image_word word entry None image words may turn.before stage begins in
-        let as_new = same_heap words line root site is line_below image_on new_on image_word new_word entry None image new may turn.behind stage ends in
+        let as_old = same_heap words line root site is line_below image_on on image_word word entry None image words may passage.before stage begins in
+        let as_new = same_heap words line root site is line_below image_on new_on image_word new_word entry None image new may passage.behind stage ends in
         ⊎_elim
         (λ coming. ⊎_elim (λ none. inl (as_old (inl (none, coming.0)))) (λ has. inr (as_new (inr (has, coming.1)))) either)
         (λ going. ⊎_elim (λ none. inr (as_new (inl (none, going.1)))) (λ has. inl (as_old (inr (has, going.0)))) either)
-        turn.ways
+        passage.ways
 
     judged : (image_on : Bool) (image_word : ℕ) (entry : Option WalEntry) (image : List ℕ) → (image_word ≡ 0) ⊎ (image_word ≡ site.block.at) → IsStage site.own site.block.at image_on image_word entry →
         IsStageOf words line root site image_on image_word entry image → IsEitherHeap words new image
@@ -114,10 +114,10 @@ module _ {words : List ℕ} {line root : ℕ} {site : Site} (is : IsSite words r
     }
 
     word_either : (word ≡ 0) ⊎ (word ≡ site.block.at)
-    word_either = ⊎_elim (λ coming. inl coming.0) (λ going. inr going.0) turn.ways
+    word_either = ⊎_elim (λ coming. inl coming.0) (λ going. inr going.0) passage.ways
 
     new_either : (new_word ≡ 0) ⊎ (new_word ≡ site.block.at)
-    new_either = ⊎_elim (λ coming. inr coming.1) (λ going. inl going.1) turn.ways
+    new_either = ⊎_elim (λ coming. inr coming.1) (λ going. inl going.1) passage.ways
 
     under_judged : (image : List ℕ) → IsUnderEntry words line root site is line_below image → IsEitherHeap words new image
     under_judged image under = judged under.on under.word (Some site.own) image under.either (while_open words line root site is line_below under.on under.word under.either) under.stage
@@ -127,21 +127,21 @@ module _ {words : List ℕ} {line root : ℕ} {site : Site} (is : IsSite words r
 
     open_judged : (image : List ℕ) → OpensOrNot words line site.own image → IsEitherHeap words new image
     open_judged image either = ⊎_elim
-        (λ (same : image ≡ words). subst (IsEitherHeap words new) (sym same) (judged on word None words word_either turn.before begins))
+        (λ (same : image ≡ words). subst (IsEitherHeap words new) (sym same) (judged on word None words word_either passage.before begins))
         (λ opens. under_judged image (opened_under image opens))
         either
 
     close_judged : (image : List ℕ) → ClosesOrNot left line image → IsEitherHeap words new image
     close_judged image either = ⊎_elim
         (λ (same : image ≡ left). subst (IsEitherHeap words new) (sym same) (under_judged left (record { on = new_on; word = new_word; either = new_either; stage = led })))
-        (λ closes. judged new_on new_word None image new_either turn.behind (stage_close words line root site is line_below new_on new_word (Some site.own) left led image closes))
+        (λ closes. judged new_on new_word None image new_either passage.behind (stage_close words line root site is line_below new_on new_word (Some site.own) left led image closes))
         either
 
-    pub turn_step : {s t u v : PmemState} → IsQuietStep s t (word_events (8 * wal_word line) (entry_word site.own)) (OpensOrNot words line site.own) →
+    pub sequence_step : {s t u v : PmemState} → IsQuietStep s t (word_events (8 * wal_word line) (entry_word site.own)) (OpensOrNot words line site.own) →
         IsQuietStep t u (pair_events first a second b) (IsOldOrNewPair made first a second b) →
         IsQuietStep u v (word_events (8 * wal_word line) 0) (ClosesOrNot left line) →
         IsQuietStep s v (under_entry line site.own (pair_events first a second b)) (IsEitherHeap words new)
-    turn_step opening putting closing =
+    sequence_step opening putting closing =
         let P : List ℕ → Type 0 = IsEitherHeap words new in
         let put = step_then P (λ ws. pair_events first a second b) opening putting open_judged (λ image is. under_judged image (leads.under (opened_under made opens) image is)) in
         step_then P (λ ws. word_events (8 * wal_word line) 0) put closing (λ image is. is) close_judged

@@ -1,15 +1,11 @@
 -- What the steps of a call of a stack did, from what the arena says of its calls.
 use Rattle.std.proofs.Common.{◌≡◌, ◌≢◌, ℕ, ◌<◌, ◌≤◌, List, length, Some, Result, Ok, Err, IsOk, refl, ap, ◌∙◌, subst}
-use Rattle.pmem_lines.specs.declared.event.Event.{Event}
-use Rattle.pmem_lines.specs.Events.{CrashOnly}
-use Rattle.pmem_lines.specs.Pmem.{PmemState, words_of, began, appended}
+use Rattle.pmem_lines.specs.Pmem.{words_of}
 use Rattle.heap_model.specs.declared.call.Call.TheVariants as calls
-use Rattle.heap_model.specs.declared.call.Call.{Call}
 use Rattle.heap_model.specs.declared.call.Reply.{Reply}
 use Rattle.heap_model.specs.declared.call.Reply.TheVariants as replies
-use Rattle.heap_model.specs.Placement.{Stacks}
-use Rattle.heap_check.specs.Image.{IsExactImage}
-use Rattle.heap_check.specs.State.{KeepsBlocks, IsEitherHeap}
+use Rattle.thread_cache.specs.Stacks.{stacks_of}
+use Rattle.heap_check.specs.State.{IsEitherHeap}
 use Rattle.move_steps.specs.Moves.{IsEitherMoved}
 use Rattle.arena_core.specs.declared.answer.Freed.{Freed}
 use Rattle.arena_core.specs.declared.answer.Moved.{Moved}
@@ -22,18 +18,13 @@ use Rattle.arena_core.specs.declared.answer.MoveRefusal.TheVariants as moves
 use Rattle.arena_core.specs.declared.answer.BlockRefusal.{BlockRefusal}
 use Rattle.arena_core.specs.declared.answer.BlockRefusal.TheVariants as blocks
 use Rattle.arena_core.specs.Answer.{malloc_reply, free_reply, move_reply, block_refusal, write_reply}
+use Rattle.arena_core.specs.Answered.{IsOneCall, IsAnswered, IsMoveAnswered, IsWriteAnswered}
 use Rattle.arena_core.specs.Arena.{ArenaState}
-use Rattle.arena_core.specs.Call.{IsReady, IsStepOf, IsStepOfAny}
 use Rattle.arena_core.specs.Events.{call_events, line_after}
-use Rattle.arena_core.specs.Payload.{payload_events, IsWriteStep, IsWrittenBy, HasWritten, IsEitherWords}
+use Rattle.arena_core.specs.Payload.{payload_events, IsWrittenBy, HasWritten, IsEitherWords}
 use Rattle.uses.specs.Stack.{stage, HasNone}
-use Rattle.uses.specs.Calls.{IsOneCall}
 use Rattle.uses.specs.Steps.{HasRecordBlock, HasSome, IsTaken, IsUntaken, IsFilled, IsShown, IsReleased}
 use Rattle.uses.proofs.Heaps.{given, lacking, no_space, lost, passed, wrote}
-
--- one call, as the arena says it
-one_call : (old new : PmemState) (events : List Event) (Left : List ℕ → Type 0) → new ≡ appended (began old) events → CrashOnly new.base new.events Left → IsOneCall old new events Left
-one_call old new events Left device crash = record { device = device; crash = subst (λ (s : PmemState). CrashOnly s.base s.events Left) device crash }
 
 -- answers
 
@@ -69,96 +60,78 @@ written_ok : (old new contents : List ℕ) (result : Result (Unit {0}) BlockRefu
 written_ok old new contents (Ok done) is written = written
 written_ok old new contents (Err refusal) is written = absurd (not_wrote refusal is)
 
--- steps
-module _ (old new : ArenaState) (was_exact : IsExactImage (words_of old.device)) (exact : IsExactImage (words_of new.device)) (ready : IsReady new.device) where
-  -- a step of the arena for the stack's seat
-  abbrev pub Stepped : Stacks → Stacks → Call → Reply → Type 0
-  Stepped was after call reply = IsStepOf 0 (words_of old.device) was (words_of new.device) after call reply
-
-  abbrev Began : List Event → Type 0
-  Began events = new.device ≡ appended (began old.device) events
-
-  abbrev Left : (List ℕ → Type 0) → Type 0
-  Left P = CrashOnly new.device.base new.device.events P
-
-  abbrev Either : Type 0
-  Either = Left (IsEitherHeap (words_of old.device) (words_of new.device))
-
-  pub taken : (was after : Stacks) (at size : ℕ) → Stepped was after (calls.Malloc stage 64) (replies.Placed at size) → Began (call_events (words_of old.device) old.line (calls.Malloc stage 64) (replies.Placed at size)) → new.line ≡ line_after old.line (replies.Placed at size) →
-      KeepsBlocks (words_of old.device) (words_of new.device) → Either → HasNone (words_of old.device) stage → IsTaken old new
-  taken was after at size step device line keeps crash none =
-      let g = given (words_of old.device) (words_of new.device) was after (replies.Placed at size) step was_exact none at size refl in
+-- calls
+module _ {old new : ArenaState} where
+  pub taken : {at size : ℕ} → IsAnswered 0 old new (calls.Malloc stage 64) (replies.Placed at size) → HasNone (words_of old.device) stage → IsTaken old new
+  taken {at} {size} e none =
+      let words = words_of old.device in
+      let g = given words (words_of new.device) (stacks_of old.stacks) (stacks_of new.stacks) (replies.Placed at size) e.step e.did.was_exact none at size refl in
       record {
         at = at;
-        call = one_call old.device new.device _ _ (subst (λ (s : ℕ). Began (call_events (words_of old.device) old.line (calls.Malloc stage 64) (replies.Placed at s))) g.size_is device) crash;
-        line = subst (λ (s : ℕ). new.line ≡ line_after old.line (replies.Placed at s)) g.size_is line;
+        call = subst (λ (s : ℕ). IsOneCall old.device new.device (call_events words old.line (calls.Malloc stage 64) (replies.Placed at s)) (IsEitherHeap words (words_of new.device))) g.size_is e.did;
+        line = subst (λ (s : ℕ). new.line ≡ line_after old.line (replies.Placed at s)) g.size_is e.line;
         here = g.here;
-        keeps = record { others = g.others; words = keeps };
-        whole = record { ready = ready; exact = exact };
+        keeps = record { others = g.others; words = e.keeps };
         place = g.place;
       }
 
-  pub untaken : (was after : Stacks) (reply : Reply) → ((at size : ℕ) → reply ≢ replies.Placed at size) → Stepped was after (calls.Malloc stage 64) reply → Began (call_events (words_of old.device) old.line (calls.Malloc stage 64) reply) → Either → HasNone (words_of old.device) stage → IsUntaken old new
-  untaken was after reply refused step device crash none =
-      let is : reply ≡ replies.NoSpace = no_space (words_of old.device) (words_of new.device) was after reply step was_exact none refused in
+  pub untaken : {reply : Reply} → ((at size : ℕ) → reply ≢ replies.Placed at size) → IsAnswered 0 old new (calls.Malloc stage 64) reply → HasNone (words_of old.device) stage → IsUntaken old new
+  untaken {reply} refused e none =
+      let words = words_of old.device in
+      let was = stacks_of old.stacks in
+      let after = stacks_of new.stacks in
+      let is : reply ≡ replies.NoSpace = no_space words (words_of new.device) was after reply e.step e.did.was_exact none refused in
       record {
-        call = one_call old.device new.device _ _ (subst (λ (r : Reply). Began (call_events (words_of old.device) old.line (calls.Malloc stage 64) r)) is device) crash;
-        whole = record { ready = ready; exact = exact };
-        no_place = lacking (words_of old.device) (words_of new.device) was after reply step was_exact none refused;
+        call = subst (λ (r : Reply). IsOneCall old.device new.device (call_events words old.line (calls.Malloc stage 64) r) (IsEitherHeap words (words_of new.device))) is e.did;
+        no_place = lacking words (words_of new.device) was after reply e.step e.did.was_exact none refused;
       }
 
-  module _ (root : ℕ) (low : root ≤ stage) (some : HasSome (words_of old.device) root) where
-    pub freed : (was after : Stacks) (reply : Reply) → Stepped was after (calls.Free root) reply → reply ≡ replies.Freed some.range.at some.range.size
-    freed was after reply step = (lost (words_of old.device) (words_of new.device) was after root reply step was_exact low some).is
+  module _ {root : ℕ} {reply : Reply} (low : root ≤ stage) (some : HasSome (words_of old.device) root) (e : IsAnswered 0 old new (calls.Free root) reply) where
+    pub freed : reply ≡ replies.Freed some.range.at some.range.size
+    freed = (lost (words_of old.device) (words_of new.device) (stacks_of old.stacks) (stacks_of new.stacks) root reply e.step e.did.was_exact low some).is
 
-    pub released : (was after : Stacks) (reply : Reply) → Stepped was after (calls.Free root) reply → Began (call_events (words_of old.device) old.line (calls.Free root) reply) → KeepsBlocks (words_of old.device) (words_of new.device) → Either → IsReleased old new root
-    released was after reply step device keeps crash =
-        let l = lost (words_of old.device) (words_of new.device) was after root reply step was_exact low some in
+    pub released : IsReleased old new root
+    released =
+        let words = words_of old.device in
+        let l = lost words (words_of new.device) (stacks_of old.stacks) (stacks_of new.stacks) root reply e.step e.did.was_exact low some in
         record {
           range = some.range;
           named = some.named;
-          call = one_call old.device new.device _ _ (subst (λ (r : Reply). Began (call_events (words_of old.device) old.line (calls.Free root) r)) l.is device) crash;
+          call = subst (λ (r : Reply). IsOneCall old.device new.device (call_events words old.line (calls.Free root) r) (IsEitherHeap words (words_of new.device))) l.is e.did;
           gone = l.gone;
-          keeps = record { others = l.others; words = keeps };
-          whole = record { ready = ready; exact = exact };
+          keeps = record { others = l.others; words = e.keeps };
         }
 
-  module _ (root : ℕ) (low : root < stage) (block : HasRecordBlock (words_of old.device) stage) (none : HasNone (words_of old.device) root) where
+  module _ {root : ℕ} {reply : Reply} (low : root < stage) (block : HasRecordBlock (words_of old.device) stage) (none : HasNone (words_of old.device) root) (e : IsMoveAnswered old new stage root reply) where
     abbrev some_block : HasSome (words_of old.device) stage
     some_block = record { range = block.range; named = block.named }
 
-    pub moved : (reply : Reply) → IsStepOfAny (words_of old.device) (words_of new.device) (calls.Move stage root) reply → reply ≡ replies.Moved block.range.at block.range.size
-    moved reply step = (passed (words_of old.device) (words_of new.device) root reply step was_exact low some_block none).is
+    pub moved : reply ≡ replies.Moved block.range.at block.range.size
+    moved = (passed (words_of old.device) (words_of new.device) root reply e.step e.did.was_exact low some_block none).is
 
-    pub shown : (reply : Reply) → IsStepOfAny (words_of old.device) (words_of new.device) (calls.Move stage root) reply → Began (call_events (words_of old.device) old.line (calls.Move stage root) reply) →
-        KeepsBlocks (words_of old.device) (words_of new.device) → Left (IsEitherMoved (words_of old.device) (words_of new.device) root) → IsShown old new root
-    shown reply step device keeps crash =
-        let p = passed (words_of old.device) (words_of new.device) root reply step was_exact low some_block none in
-        let size : some_block.range.size ≡ 64 = block.size in
-        let wide : block.range ≡ record { at = block.range.at; size = 64 } = λ i. record { at = block.range.at; size = size i } in
+    pub shown : IsShown old new root
+    shown =
+        let words = words_of old.device in
+        let p = passed words (words_of new.device) root reply e.step e.did.was_exact low some_block none in
+        let wide : block.range ≡ record { at = block.range.at; size = 64 } = λ i. record { at = block.range.at; size = block.size i } in
+        let is : reply ≡ replies.Moved block.range.at 64 = p.is ∙ ap (λ s. replies.Moved block.range.at s) block.size in
         record {
           at = block.range.at;
           named = block.named ∙ ap Some wide;
-          call = one_call old.device new.device _ _ (subst (λ (s : ℕ). Began (call_events (words_of old.device) old.line (calls.Move stage root) (replies.Moved block.range.at s))) size
-              (subst (λ (r : Reply). Began (call_events (words_of old.device) old.line (calls.Move stage root) r)) p.is device)) crash;
+          call = subst (λ (r : Reply). IsOneCall old.device new.device (call_events words old.line (calls.Move stage root) r) (IsEitherMoved words (words_of new.device) root)) is e.did;
           moves = p.moves;
-          words = keeps;
-          whole = record { ready = ready; exact = exact };
+          words = e.keeps;
         }
 
-  module _ (contents : List ℕ) (block : HasRecordBlock (words_of old.device) stage) (count : length contents ≡ 8) where
-    pub is_wrote : (reply : Reply) → IsWriteStep (words_of old.device) (words_of new.device) stage 0 contents reply → reply ≡ replies.Wrote
-    is_wrote reply step = wrote (words_of old.device) (words_of new.device) contents reply step was_exact block count
+  module _ {contents : List ℕ} {result : Result (Unit {0}) BlockRefusal} (block : HasRecordBlock (words_of old.device) stage) (count : length contents ≡ 8) (e : IsWriteAnswered old new stage 0 contents result) where
+    pub is_wrote : write_reply result ≡ replies.Wrote
+    is_wrote = wrote (words_of old.device) (words_of new.device) contents (write_reply result) e.step e.did.was_exact block count
 
-    pub filled : (result : Result (Unit {0}) BlockRefusal) → IsWriteStep (words_of old.device) (words_of new.device) stage 0 contents (write_reply result) →
-        Began (payload_events (words_of old.device) stage 0 contents (write_reply result)) → new.line ≡ old.line → IsWrittenBy (words_of old.device) stage 0 contents (words_of new.device) result →
-        Left (IsEitherWords (words_of old.device) (words_of new.device)) → IsFilled old new contents
-    filled result step device line written crash =
-        let is : write_reply result ≡ replies.Wrote = is_wrote (write_reply result) step in
+    pub filled : IsFilled old new contents
+    filled =
+        let words = words_of old.device in
         record {
-          call = one_call old.device new.device _ _ (subst (λ (r : Reply). Began (payload_events (words_of old.device) stage 0 contents r)) is device) crash;
-          line = line;
-          written = written_ok (words_of old.device) (words_of new.device) contents result is written;
-          was_exact = was_exact;
-          whole = record { ready = ready; exact = exact };
+          call = subst (λ (r : Reply). IsOneCall old.device new.device (payload_events words stage 0 contents r) (IsEitherWords words (words_of new.device))) is_wrote e.did;
+          line = e.line;
+          written = written_ok words (words_of new.device) contents result is_wrote e.written;
         }

@@ -18,7 +18,8 @@ use Rattle.arena_core.specs.Arena.{ArenaState}
 use Rattle.arena_core.specs.Events.{call_events, line_after}
 use Rattle.arena_core.specs.Payload.{HasWritten, IsNamedWord, IsEitherWords}
 use Rattle.uses.specs.Stack.{stage, HasNone, HasRecord, IsStack, IsSteadyStack, StackState, IsKept, records_in}
-use Rattle.uses.specs.Calls.{IsEitherStack, IsOneCall, HasPushed, IsRefused, IsPushedBy}
+use Rattle.arena_core.specs.Answered.{IsOneCall}
+use Rattle.uses.specs.Calls.{IsEitherStack, HasPushed, IsRefused, IsPushedBy}
 use Rattle.uses.specs.declared.refusal.PushRefusal.{PushRefusal}
 use Rattle.uses.specs.declared.refusal.PushRefusal.TheVariants.{Full, NoSpace}
 use Rattle.uses.specs.Steps.{HasRecordBlock, KeepsBut, IsTaken, IsUntaken, IsTakenBy, IsFilled, IsShown}
@@ -29,7 +30,7 @@ use Rattle.uses.proofs.Counted.{length-records_in, counted_same}
 
 -- a call of which each crash leaves more
 pub leaves : {old new : PmemState} {events : List Event} (P Q : List ℕ → Type 0) → ((image : List ℕ) → P image → Q image) → IsOneCall old new events P → IsOneCall old new events Q
-leaves P Q more call = record { device = call.device; crash = record { each = λ n image is. more image (call.crash.each n image is) } }
+leaves P Q more call = record { device = call.device; was_exact = call.was_exact; exact = call.exact; ready = call.ready; crash = record { each = λ n image is. more image (call.crash.each n image is) } }
 
 -- what a crash leaves while a block comes to the stage or goes from it
 pub left_stack : (old new image : List ℕ) (records : List (List ℕ)) → IsStack old records → KeepsBut old new stage → IsEitherHeap old new image → IsSteadyStack records image
@@ -146,8 +147,8 @@ module _ (old : ArenaState) (depth : ℕ) (kept : IsKept (state_of old depth)) w
   kept_refused new un =
       let same : words_of old.device ≡ words_of new.device = sym (ap (λ (s : PmemState). words_of s) un.call.device) in
       record {
-        ready = un.whole.ready;
-        exact = un.whole.exact;
+        ready = un.call.ready;
+        exact = un.call.exact;
         stack = subst (λ (words : List ℕ). IsStack words (records_in words depth)) same kept.stack;
         stage = subst (λ (words : List ℕ). HasNone words stage) same kept.stage;
       }
@@ -172,10 +173,10 @@ module _ (old : ArenaState) (depth : ℕ) (kept : IsKept (state_of old depth)) w
         (keeps_below (words_of old.device) (words_of mid.device) (λ root below. t.keeps.others root (λ is. omega (arith, is, below))) t.keeps.words)
 
     stack_full : IsStack (words_of full.device) records
-    stack_full = stack_kept (words_of mid.device) (words_of full.device) records stack_mid (written_below (words_of mid.device) f.was_exact (record { at = t.at; size = 64 }) t.here refl contents (words_of full.device) count f.written)
+    stack_full = stack_kept (words_of mid.device) (words_of full.device) records stack_mid (written_below (words_of mid.device) f.call.was_exact (record { at = t.at; size = 64 }) t.here refl contents (words_of full.device) count f.written)
 
     ready : HasRecord (words_of full.device) stage contents
-    ready = written_record (words_of mid.device) f.was_exact (record { at = t.at; size = 64 }) t.here refl contents (words_of full.device) count f.written
+    ready = written_record (words_of mid.device) f.call.was_exact (record { at = t.at; size = 64 }) t.here refl contents (words_of full.device) count f.written
 
     pub block_full : HasRecordBlock (words_of full.device) stage
     block_full = record { range = ready.range; named = ready.named; size = ready.size }
@@ -226,15 +227,15 @@ module _ (old : ArenaState) (depth : ℕ) (kept : IsKept (state_of old depth)) w
         take = leaves (IsEitherHeap (words_of old.device) (words_of mid.device)) (IsSteadyStack records)
             (λ image left. left_stack (words_of old.device) (words_of mid.device) image records kept.stack t.keeps left) t.call;
         fill = leaves (IsEitherWords (words_of mid.device) (words_of full.device)) (IsSteadyStack records)
-            (λ image left. left_written (words_of mid.device) f.was_exact (record { at = t.at; size = 64 }) t.here refl contents (words_of full.device) count f.written image records stack_mid left) f.call;
+            (λ image left. left_written (words_of mid.device) f.call.was_exact (record { at = t.at; size = 64 }) t.here refl contents (words_of full.device) count f.written image records stack_mid left) f.call;
         show = leaves (IsEitherMoved (words_of full.device) (words_of new.device) (length records)) (IsEitherStack records (records_in (words_of new.device) (depth + 1)))
             (λ image left. subst (λ (P : List ℕ → Type 0). P image) either (left_moved (words_of full.device) (words_of new.device) image records contents stack_full (omega (arith, count_is, low)) ready moves left)) show_at;
       }
 
       pub kept_pushed : IsKept (state_of new (depth + 1))
       kept_pushed = record {
-        ready = s.whole.ready;
-        exact = s.whole.exact;
+        ready = s.call.ready;
+        exact = s.call.exact;
         stack = subst (λ (after : List (List ℕ)). IsStack (words_of new.device) after) (sym records_are) stack_new;
         stage = moves.gone;
       }

@@ -16,7 +16,8 @@ use Rattle.arena_core.specs.Arena.{ArenaState}
 use Rattle.arena_core.specs.Payload.{AreWordsOf, IsViewOf}
 use Rattle.arena_core.specs.Events.{call_events}
 use Rattle.uses.specs.Stack.{stage, record_at, HasNone, HasRecord, IsStack, IsSteadyStack, IsKept, records_in}
-use Rattle.uses.specs.Calls.{IsEitherStack, IsOneCall, HasPopped, IsLast}
+use Rattle.arena_core.specs.Answered.{IsOneCall}
+use Rattle.uses.specs.Calls.{IsEitherStack, HasPopped, IsLast}
 use Rattle.uses.specs.Opening.{IsOpened}
 use Rattle.uses.specs.Steps.{HasSome, IsWhole, IsReleased, IsTidied, AreLeading, AreNone}
 use Rattle.uses.proofs.Stacks.{keeps_below, stack_kept, stack_less, records_less}
@@ -84,8 +85,8 @@ module _ (old new : ArenaState) (n : ℕ) (kept : IsKept (state_of old (n + 1)))
 
   pub kept_popped : n < stage → IsKept (state_of new n)
   kept_popped low = record {
-    ready = r.whole.ready;
-    exact = r.whole.exact;
+    ready = r.call.ready;
+    exact = r.call.exact;
     stack = subst (λ (after : List (List ℕ)). IsStack (words_of new.device) after) (sym records_are) stack_new;
     stage = r.keeps.others stage (λ is. omega (arith, is, low)) ∙ kept.stage;
   }
@@ -166,8 +167,8 @@ module _ (old new : ArenaState) (n : ℕ) (leading : AreLeading (words_of old.de
 
     pub kept_cleared : IsKept (state_of new n)
     kept_cleared = record {
-      ready = r.whole.ready;
-      exact = r.whole.exact;
+      ready = r.call.ready;
+      exact = r.call.exact;
       stack = subst (λ (records : List (List ℕ)). IsStack (words_of new.device) records) (sym same) behind;
       stage = r.gone;
     }

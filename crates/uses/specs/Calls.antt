@@ -1,9 +1,7 @@
 -- What the calls of a stack do. Each names the states that its memory went through, one behind each call of the arena, so
 -- that no other was passed; and what a crash at any event of them leaves.
 use Rattle.std.specs.Prelude.{◌≡◌, ◌⊎◌, ℕ, ◌<◌, List, [], ◌∷◌, ◌++◌, length, Result, Ok, Err}
-use Rattle.pmem_lines.specs.declared.event.Event.{Event}
-use Rattle.pmem_lines.specs.Events.{CrashOnly}
-use Rattle.pmem_lines.specs.Pmem.{PmemState, words_of, began, appended}
+use Rattle.pmem_lines.specs.Pmem.{PmemState, words_of}
 use Rattle.heap_model.specs.declared.call.Call.TheVariants as calls
 use Rattle.heap_model.specs.declared.call.Reply.TheVariants as replies
 use Rattle.heap_model.specs.Machine.{Machine}
@@ -11,6 +9,7 @@ use Rattle.heap_model.specs.Choice.{HasNoSite}
 use Rattle.heap_model.specs.Slabs.{view_of}
 use Rattle.heap_check.specs.Image.{bounds_of}
 use Rattle.heap_check.specs.State.{HasState}
+use Rattle.arena_core.specs.Answered.{IsOneCall}
 use Rattle.arena_core.specs.Events.{call_events, line_after}
 use Rattle.arena_core.specs.Payload.{payload_events}
 use Rattle.uses.specs.Stack.{stage, IsSteadyStack, StackState}
@@ -24,11 +23,6 @@ use Rattle.uses.specs.declared.refusal.PopRefusal.TheVariants.{Empty}
 -- a crash leaves a steady image that is the stack from before or the one from behind
 abbrev pub IsEitherStack : List (List ℕ) → List (List ℕ) → List ℕ → Type 0
 IsEitherStack before behind image = IsSteadyStack before image ⊎ IsSteadyStack behind image
-
--- One call began on the memory, and has exactly these events. A crash at any of them leaves this.
-pub record IsOneCall (old new : PmemState) (events : List Event) (Left : List ℕ → Type 0) : Type 0 where
-  pub device : new ≡ appended (began old) events
-  pub crash : CrashOnly (words_of old) events Left
 
 -- push
 

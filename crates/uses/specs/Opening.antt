@@ -6,7 +6,7 @@ use Rattle.heap_model.specs.declared.call.Reply.TheVariants as replies
 use Rattle.arena_core.specs.Arena.{ArenaState}
 use Rattle.arena_core.specs.Events.{call_events}
 use Rattle.uses.specs.Stack.{stage, HasNone, IsStack, IsSteadyStack, StackState}
-use Rattle.uses.specs.Calls.{IsOneCall}
+use Rattle.arena_core.specs.Answered.{IsOneCall}
 
 -- the block on the stage went, in one call of the arena, which leaves the stack
 pub record IsCleared (records : List (List ℕ)) (old : ArenaState) (new : PmemState) : Type 0 where

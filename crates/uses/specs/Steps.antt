@@ -9,12 +9,13 @@ use Rattle.heap_check.specs.Heap.{heap}
 use Rattle.heap_check.specs.Image.{IsExactImage}
 use Rattle.heap_check.specs.State.{KeepsBlocks, IsEitherHeap}
 use Rattle.move_steps.specs.Moves.{MovesOne, IsEitherMoved}
+use Rattle.arena_core.specs.Answered.{IsOneCall}
 use Rattle.arena_core.specs.Arena.{ArenaState}
 use Rattle.arena_core.specs.Call.{IsReady}
 use Rattle.arena_core.specs.Events.{call_events, line_after}
 use Rattle.arena_core.specs.Payload.{payload_events, HasWritten, IsEitherWords}
 use Rattle.uses.specs.Stack.{stage, HasNone}
-use Rattle.uses.specs.Calls.{IsOneCall, HasNoPlace}
+use Rattle.uses.specs.Calls.{HasNoPlace}
 use Rattle.uses.specs.declared.refusal.PushRefusal.{PushRefusal}
 use Rattle.uses.specs.declared.refusal.PushRefusal.TheVariants.{Full, NoSpace}
 
@@ -46,13 +47,11 @@ pub record IsTaken (old new : ArenaState) : Type 0 where
   pub line : new.line ≡ line_after old.line (replies.Placed at 64)
   pub here : heap (tables_of (words_of new.device)) stage ≡ Some (record { at = at; size = 64 })
   pub keeps : KeepsBut (words_of old.device) (words_of new.device) stage
-  pub whole : IsWhole new.device
   pub place : ¬ (HasNoPlace (words_of old.device))
 
 -- it took none, and the memory has the words that it had
 pub record IsUntaken (old new : ArenaState) : Type 0 where
   pub call : IsOneCall old.device new.device [] (IsEitherHeap (words_of old.device) (words_of new.device))
-  pub whole : IsWhole new.device
   pub no_place : HasNoPlace (words_of old.device)
 
 abbrev pub IsTakenBy : ArenaState → ArenaState → Result (Unit {0}) PushRefusal → Type 0
@@ -65,8 +64,6 @@ pub record IsFilled (old new : ArenaState) (contents : List ℕ) : Type 0 where
   pub call : IsOneCall old.device new.device (payload_events (words_of old.device) stage 0 contents replies.Wrote) (IsEitherWords (words_of old.device) (words_of new.device))
   pub line : new.line ≡ old.line
   pub written : HasWritten (words_of old.device) stage 0 contents (words_of new.device)
-  pub was_exact : IsExactImage (words_of old.device)
-  pub whole : IsWhole new.device
 
 -- the block of the stage, of 64 bytes, came to a root
 pub record IsShown (old new : ArenaState) (root : ℕ) : Type 0 where
@@ -75,7 +72,6 @@ pub record IsShown (old new : ArenaState) (root : ℕ) : Type 0 where
   pub call : IsOneCall old.device new.device (call_events (words_of old.device) old.line (calls.Move stage root) (replies.Moved at 64)) (IsEitherMoved (words_of old.device) (words_of new.device) root)
   pub moves : MovesOne (words_of old.device) stage root (words_of new.device)
   pub words : KeepsBlocks (words_of old.device) (words_of new.device)
-  pub whole : IsWhole new.device
 
 -- the block of a root went
 pub record IsReleased (old new : ArenaState) (root : ℕ) : Type 0 where
@@ -84,7 +80,6 @@ pub record IsReleased (old new : ArenaState) (root : ℕ) : Type 0 where
   pub call : IsOneCall old.device new.device (call_events (words_of old.device) old.line (calls.Free root) (replies.Freed range.at range.size)) (IsEitherHeap (words_of old.device) (words_of new.device))
   pub gone : HasNone (words_of new.device) root
   pub keeps : KeepsBut (words_of old.device) (words_of new.device) root
-  pub whole : IsWhole new.device
 
 -- the stage names no block any more: it named none, and nothing was done, or its block went
 abbrev pub IsTidied : ArenaState → ArenaState → Type 0

@@ -6,11 +6,9 @@ use Rattle.arena_journal.proofs.answering.answer.Goals as goal
 
 pub returns-in-Write-clause-answered : goal.returns-in-Write-clause-answered
 returns-in-Write-clause-answered g c =
-    let wrote = c.write.ensures in
     subst (λ (call : Call). HasAnswered c.args.seat c.args.arena.now c.write.new.self call c.write_reply-reply.result) (sym c.in-Write.is)
     (subst (HasAnswered c.args.seat c.args.arena.now c.write.new.self _) (sym c.write_reply-reply.ensures)
-    (HasAnswered-write c.args.seat c.args.arena.now c.write.new.self c.in-Write.root c.in-Write.index c.in-Write.value c.write.result
-    wrote.step wrote.device wrote.line wrote.stacks wrote.written wrote.was_exact wrote.exact wrote.ready wrote.crash))
+    (HasAnswered-write c.args.seat c.write.ensures))
 
 pub returns-in-Read-clause-answered : goal.returns-in-Read-clause-answered
 returns-in-Read-clause-answered g c =
@@ -20,8 +18,6 @@ returns-in-Read-clause-answered g c =
 
 pub returns-in-Move-clause-answered : goal.returns-in-Move-clause-answered
 returns-in-Move-clause-answered g c =
-    let moved = c.move_to.ensures in
     subst (λ (call : Call). HasAnswered c.args.seat c.args.arena.now c.move_to.new.self call c.move_reply-reply.result) (sym c.in-Move.is)
     (subst (HasAnswered c.args.seat c.args.arena.now c.move_to.new.self _) (sym c.move_reply-reply.ensures)
-    (HasAnswered-move c.args.seat c.args.arena.now c.move_to.new.self c.in-Move.from c.in-Move.to _
-    moved.step moved.device moved.line moved.stacks moved.keeps moved.was_exact moved.exact moved.ready moved.crash))
+    (HasAnswered-move c.args.seat c.move_to.ensures))

@@ -1,4 +1,4 @@
-use Rattle.std.proofs.Common.{◌≡◌, ◌∷◌, [], ap, List, ℕ, ◌∙◌, map, codes}
+use Rattle.std.proofs.Common.{◌≡◌, map, codes}
 use Rattle.std.specs.String.{string_bytes}
 use Rattle.nvheap.proofs.Commands.{one_word, three_words, four_words, crash_words, gen_words}
 use Rattle.nvheap.proofs.command.command_of.Goals as goal

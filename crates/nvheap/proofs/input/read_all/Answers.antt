@@ -1,4 +1,4 @@
-use Rattle.std.proofs.Common.{◌+◌, refl, arith}
+use Rattle.std.proofs.Common.{refl, arith}
 use Rattle.nvheap.proofs.Reading.{come_none, come_filled, come_all, come_too_much, come_few, Rose-before}
 use Rattle.nvheap.proofs.input.read_all.Goals as goal
 

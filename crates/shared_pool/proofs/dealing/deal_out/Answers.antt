@@ -1,4 +1,4 @@
-use Rattle.std.proofs.Common.{rules, arith, ◌≡◌, ◌<◌, ◌+◌, ◌++◌, [], ◌∷◌, ◌∙◌, ℕ, suc, ap, sym, subst, map, length, List}
+use Rattle.std.proofs.Common.{rules, arith, ◌≡◌, ◌+◌, ◌++◌, [], ◌∷◌, ◌∙◌, ℕ, suc, ap, sym, subst, map, length, List}
 use Rattle.std.specs.Vec.{vec_len, vec_capacity}
 use Rattle.shared_pool.specs.declared.pass.Spot.{Spot}
 use Rattle.shared_pool.specs.Closed.{tail_list}

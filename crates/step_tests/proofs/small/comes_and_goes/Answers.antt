@@ -1,9 +1,8 @@
-use Rattle.std.proofs.Common.{ℕ, List, sym, ap, subst, ◌∙◌, arith}
+use Rattle.std.proofs.Common.{ap, ◌∙◌, arith}
 use Rattle.pmem_lines.specs.Pmem.{PmemState, words_of}
 use Rattle.pool_layout.specs.Layout.{layout_of}
 use Rattle.book_log.proofs.Books.{Reads-same}
 use Rattle.book_log.proofs.Places.{within_heap}
-use Rattle.attach_steps.specs.Steps.{IsAttachable}
 use Rattle.step_tests.proofs.OneSlab.{formatted_by, log_by, same_log, attachable_by, detachable}
 use Rattle.step_tests.proofs.small.comes_and_goes.Goals as goal
 

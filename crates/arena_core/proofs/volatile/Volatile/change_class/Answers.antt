@@ -8,7 +8,8 @@ use Rattle.heap_model.proofs.Maps.{with_key-here}
 use Rattle.slab_index.specs.SlabSet.{class_in}
 use Rattle.heap_check.proofs.Geometry.{granules_at-slab}
 use Rattle.arena_core.proofs.HeldBlocks.{slab_here}
-use Rattle.arena_core.proofs.ChangedClasses.{ready_for, few_changes, is_slab, clear_without, slab_now, class_now, classes_changed, either_kept, came_back, book_changed, index_changed, slabs_changed, lives_changed}
+use Rattle.arena_core.proofs.ChangedClasses.{ready_for, few_changes, is_slab, clear_without, class_change, slab_now, class_now, classes_changed, either_kept, came_back, slabs_changed, lives_changed}
+use Rattle.arena_core.proofs.ChangedHeaders.{book_header, index_header}
 use Rattle.arena_core.proofs.volatile.Volatile.change_class.Goals as goal
 
 pub take_class-requires-clause-ready : goal.take_class-requires-clause-ready
@@ -27,7 +28,7 @@ used_blocks-used-requires g c =
     let words = words_of (g.P.Pmem.state c.args.device.now) in
     let new = words_of (g.P.Pmem.state c.take_class.new.p) in
     let taken = c.take_class.ensures.taken in
-    slab_here new c.args.start c.granule_at.result (omega (arith, c.granule_at.ensures)) taken.exact.formed taken.exact.exact.sound (slab_now words c.args.start c.args.class c.requires.may.morphable new taken c.args.start ∙ c.requires.may.morphable.slab)
+    slab_here new c.args.start c.granule_at.result (omega (arith, c.granule_at.ensures)) taken.exact.formed taken.exact.exact.sound (slab_now c.requires.may.morphable c.requires.may.arena.current.exact taken c.args.start ∙ c.requires.may.morphable.slab)
 
 pub add_used-requires-clause-inside : goal.add_used-requires-clause-inside
 add_used-requires-clause-inside g c =
@@ -58,22 +59,23 @@ returns g c =
     let step = c.take_class.ensures.step in
     let few = few_changes (tables_of words) start class may in
     let at : c.granule_at.result / 16384 ≡ start = omega (arith, c.granule_at.ensures) in
-    let more = came_back words start class may new taken (c.granule_at.result / 16384) at c.add_used.ensures c.used_blocks-used.ensures.unused in
+    let change = class_change may image taken in
+    let more = came_back may image taken (c.granule_at.result / 16384) at c.add_used.ensures c.used_blocks-used.ensures.unused in
     record {
       came = record {
-        step = step_wider (either_kept words start class may new taken) step;
+        step = step_wider (either_kept may image taken) step;
         arena = record {
           ready = ready_after arena.current.ready step.appends.room step.quiet image.formed taken.exact.formed taken.bounds;
           image = record { formed = taken.exact.formed; but = IsExactBut-exact taken.exact.exact start };
-          slab = slab_now words start class may new taken start ∙ may.slab;
-          log = book_changed words start class may new taken image c.args.self.now.log arena.current.log;
-          index = index_changed words start class may new taken c.args.self.now.free arena.current.index;
-          slabs = slabs_changed words start class may new taken arena.slabs c.remove.ensures more;
-          lives = lives_changed words start class may new taken c.args.self.now.lives c.stir.new.self c.stir.ensures.counts c.stir.ensures.calm arena.lives;
+          slab = slab_now may image taken start ∙ may.slab;
+          log = book_header change c.args.self.now.log arena.current.log;
+          index = index_header change c.args.self.now.free arena.current.index;
+          slabs = slabs_changed may image taken arena.slabs c.remove.ensures more;
+          lives = lives_changed may image taken c.args.self.now.lives c.stir.new.self c.stir.ensures.counts c.stir.ensures.calm arena.lives;
         };
         lively = taken.exact.exact.none_done start;
-        class_is = class_now words start class may new taken;
-        slabs = classes_changed words start class may new taken;
+        class_is = class_now may image taken;
+        slabs = classes_changed may image taken;
         heap = taken.left.keeps.heap;
         roots = λ root. ap (λ (x : Tables). x.root root) taken.tables;
         keeps = taken.left.keeps.blocks;
