@@ -4,7 +4,6 @@ use Rattle.pmem_lines.specs.Pmem.{words_of}
 use Rattle.heap_model.specs.declared.call.Call.TheVariants as calls
 use Rattle.heap_model.specs.declared.call.Reply.{Reply}
 use Rattle.heap_model.specs.declared.call.Reply.TheVariants as replies
-use Rattle.thread_cache.specs.Stacks.{stacks_of}
 use Rattle.heap_check.specs.State.{IsEitherHeap}
 use Rattle.move_steps.specs.Moves.{IsEitherMoved}
 use Rattle.arena_core.specs.declared.answer.Freed.{Freed}
@@ -65,7 +64,7 @@ module _ {old new : ArenaState} where
   pub taken : {at size : ℕ} → IsAnswered 0 old new (calls.Malloc stage 64) (replies.Placed at size) → HasNone (words_of old.device) stage → IsTaken old new
   taken {at} {size} e none =
       let words = words_of old.device in
-      let g = given words (words_of new.device) (stacks_of old.stacks) (stacks_of new.stacks) (replies.Placed at size) e.step e.did.was_exact none at size refl in
+      let g = given words (words_of new.device) _ _ (replies.Placed at size) e.step e.did.was_exact none at size refl in
       record {
         at = at;
         call = subst (λ (s : ℕ). IsOneCall old.device new.device (call_events words old.line (calls.Malloc stage 64) (replies.Placed at s)) (IsEitherHeap words (words_of new.device))) g.size_is e.did;
@@ -78,22 +77,20 @@ module _ {old new : ArenaState} where
   pub untaken : {reply : Reply} → ((at size : ℕ) → reply ≢ replies.Placed at size) → IsAnswered 0 old new (calls.Malloc stage 64) reply → HasNone (words_of old.device) stage → IsUntaken old new
   untaken {reply} refused e none =
       let words = words_of old.device in
-      let was = stacks_of old.stacks in
-      let after = stacks_of new.stacks in
-      let is : reply ≡ replies.NoSpace = no_space words (words_of new.device) was after reply e.step e.did.was_exact none refused in
+      let is : reply ≡ replies.NoSpace = no_space words (words_of new.device) _ _ reply e.step e.did.was_exact none refused in
       record {
         call = subst (λ (r : Reply). IsOneCall old.device new.device (call_events words old.line (calls.Malloc stage 64) r) (IsEitherHeap words (words_of new.device))) is e.did;
-        no_place = lacking words (words_of new.device) was after reply e.step e.did.was_exact none refused;
+        no_place = lacking words (words_of new.device) _ _ reply e.step e.did.was_exact none refused;
       }
 
   module _ {root : ℕ} {reply : Reply} (low : root ≤ stage) (some : HasSome (words_of old.device) root) (e : IsAnswered 0 old new (calls.Free root) reply) where
     pub freed : reply ≡ replies.Freed some.range.at some.range.size
-    freed = (lost (words_of old.device) (words_of new.device) (stacks_of old.stacks) (stacks_of new.stacks) root reply e.step e.did.was_exact low some).is
+    freed = (lost (words_of old.device) (words_of new.device) _ _ root reply e.step e.did.was_exact low some).is
 
     pub released : IsReleased old new root
     released =
         let words = words_of old.device in
-        let l = lost words (words_of new.device) (stacks_of old.stacks) (stacks_of new.stacks) root reply e.step e.did.was_exact low some in
+        let l = lost words (words_of new.device) _ _ root reply e.step e.did.was_exact low some in
         record {
           range = some.range;
           named = some.named;
