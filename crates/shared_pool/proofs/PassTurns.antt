@@ -5,15 +5,16 @@ use Rattle.heap_model.specs.declared.call.Entry.{Entry}
 use Rattle.arena_lock.specs.Journal.{calls_by, calls_of, owns}
 use Rattle.arena_lock.specs.Legality.{IsLegal}
 use Rattle.shared_pool.specs.Value.{Receives}
-use Rattle.shared_pool.specs.Passes.{Declined, PassState, PoolState, IsPassOf, nobody, first_calls, part_at, with_part, seen_at, mine_at, Called, Refused}
+use Rattle.shared_pool.specs.Passes.{Declined, PassState, PoolState, IsPassOf, nobody, first_calls, part_at, with_part, seen_at, mine_at, Called, Refused, HasCalled, HasTried}
 use Rattle.shared_pool.specs.Rows.{SameAnswer, part_of, AllTell}
-use Rattle.arena_lock.specs.Known.{Lock, Known, Turned}
+use Rattle.arena_lock.specs.Known.{Lock, Known, Turned, after_loss}
 use Rattle.arena_lock.proofs.Entries.{calls_by-append}
 use Rattle.shared_pool.specs.declared.job.Receipt.{Receipt}
 use Rattle.shared_pool.specs.declared.pass.Spot.{Spot}
 use Rattle.pmem_lines.specs.declared.pmem.OutOfMemory.{OutOfMemory}
 use Rattle.heap_model.specs.declared.call.Call.{Call}
 use Rattle.shared_pool.specs.declared.pool.TryRefusal.{TryRefusal}
+use Rattle.shared_pool.specs.declared.pool.TryRefusal.TheVariants.{Busy}
 use Rattle.shared_pool.proofs.PassParts.{Tells, tell_at, tell_set}
 
 part_here : (ss : List Spot) (k : ℕ) (d : Spot) → k < length ss → get_or (map part_of ss) k nobody ≡ (get_or ss k d).seat
@@ -82,13 +83,16 @@ module _ (n k : ℕ) (ss : List Spot) (s d : Spot) (room : k < length ss) (at : 
   pub still_of : (pool : PoolState) (pass : PassState) → P ≡ pass → s.seat.lock ≡ d.seat.lock → IsPassOf pool pass → IsPassOf pool Q
   still_of pool pass is same of = of ∙ (ap (λ (z : PassState). map (λ (t : Known). t.lock) z.parts) (sym is) ∙ sym (locks_set ss k s d room (same ∙ ap (λ (z : Spot). z.seat.lock) at)))
 
+  pub part_is : (pass : PassState) → P ≡ pass → part_at pass k ≡ d.seat
+  part_is pass is = ap (λ (z : PassState). part_at z k) (sym is) ∙ here
+
   abbrev Turns : {E : Type 0} → Call → Result Receipt E → ℕ → Type 0
   Turns {E} call r count = Turned n (λ before after (out : Result Receipt E × ℕ). Receives n call before after out.0 × (out.1 ≡ length after)) d.seat s.seat (r, count)
 
   own_before : (own : d.seat.numbers ≡ n ∷ []) (before : List Entry) → calls_of before d.seat.numbers ≡ d.seat.mine → calls_by n before ≡ mine_at P k
   own_before own before e = ap first_calls (ap (calls_of before) (sym own) ∙ e) ∙ ap (λ (z : Known). first_calls z.mine) (sym here)
 
-  pub called : {E : Type 0} (call : Call) (out : Result Receipt E) (count : ℕ) (own : d.seat.numbers ≡ n ∷ []) → Turns call out count → IfOk out (λ r. Called k call P Q r)
+  called : {E : Type 0} (call : Call) (out : Result Receipt E) (count : ℕ) (own : d.seat.numbers ≡ n ∷ []) → Turns call out count → IfOk out (λ r. Called k call P Q r)
   called call (Ok r) count own t =
       let got = t.relates.0 in
       let mine : calls_by n t.before ≡ mine_at P k = own_before own t.before t.begins.mine in
@@ -107,7 +111,7 @@ module _ (n k : ℕ) (ss : List Spot) (s d : Spot) (room : k < length ss) (at : 
       }
   called call (Err e) count own t = tt
 
-  pub refused : {E : Type 0} (call : Call) (out : Result Receipt E) (count : ℕ) (own : d.seat.numbers ≡ n ∷ []) → Turns call out count → IfErr out (λ _. Refused k P Q)
+  refused : {E : Type 0} (call : Call) (out : Result Receipt E) (count : ℕ) (own : d.seat.numbers ≡ n ∷ []) → Turns call out count → IfErr out (λ _. Refused k P Q)
   refused call (Ok r) count own t = tt
   refused call (Err e) count own t =
       let got = t.relates.0 in
@@ -124,8 +128,23 @@ module _ (n k : ℕ) (ss : List Spot) (s d : Spot) (room : k < length ss) (at : 
   pub tells_on : {E : Type 0} (call : Call) (out : Result Receipt E) (count : ℕ) (own : d.seat.numbers ≡ n ∷ []) → Turns call out count → s.seen ≡ count → AllTell n ss → AllTell n (set ss k s)
   tells_on call out count own t is all = tell_set n ss k s all (ap (λ (z : Known). z.numbers) t.seat ∙ own, sym (is ∙ t.relates.1))
 
-  pub part_is : (pass : PassState) → P ≡ pass → part_at pass k ≡ d.seat
-  part_is pass is = ap (λ (z : PassState). part_at z k) (sym is) ∙ here
+  -- a call came back from its turn
+  pub asked : (call : Call) (out : Result Receipt OutOfMemory) (count : ℕ) (own : d.seat.numbers ≡ n ∷ []) → Turns call out count → (pool : PoolState) (pass : PassState) → P ≡ pass → IsPassOf pool pass → HasCalled pool k call pass Q out
+  asked call out count own t pool pass is of = subst (λ (z : PassState). HasCalled pool k call z Q out) is (record {
+    pass = still_of pool pass is (ap (λ (z : Known). z.lock) t.seat) of;
+    number = refl;
+    called = called call out count own t;
+    refused = refused call out count own t;
+  })
+
+  -- or found the turn taken
+  pub busy : (call : Call) → s.seat ≡ after_loss d.seat → (pool : PoolState) (pass : PassState) → P ≡ pass → IsPassOf pool pass → HasTried pool k call pass Q (Err Busy)
+  busy call lost pool pass is of = subst (λ (z : PassState). HasTried pool k call z Q (Err Busy)) is (record {
+    pass = still_of pool pass is (ap (λ (z : Known). z.lock) lost) of;
+    number = refl;
+    called = tt;
+    refused = with_is after_loss lost;
+  })
 
 -- how much was seen, at one place
 pub seen_here : (ss : List Spot) (n k : ℕ) (d : Spot) (pass : PassState) → record { number = n; parts = map part_of ss } ≡ pass → k < length pass.parts → AllTell n ss → d ≡ get_or ss k d → d.seen ≡ length (seen_at pass k)
@@ -133,10 +152,14 @@ seen_here ss n k d pass is room tells at =
     let here : k < length ss = room_map part_of ss k (subst (λ (z : PassState). k < length z.parts) (sym is) room) in
     ap (λ (z : Spot). z.seen) at ∙ (sym (tell_at n ss k d here tells).1 ∙ (ap (λ (z : Known). length z.seen) (sym (part_here ss k d here)) ∙ ap (λ (z : PassState). length (seen_at z k)) is))
 
-pub ok_same : (P : Receipt → Type 0) (from : Result Receipt OutOfMemory) (out : Result Receipt TryRefusal) → SameAnswer from out → IfOk from P → IfOk out P
-ok_same P (Ok r) out e h = subst (λ z. IfOk z P) (sym e) h
-ok_same P (Err x) out e h = subst (λ z. IfOk z P) (sym e) tt
+-- what was asked in a turn was tried
+pub tried : {pool : PoolState} {a : ℕ} {call : Call} {p q : PassState} {from : Result Receipt OutOfMemory} {out : Result Receipt TryRefusal} → SameAnswer from out → HasCalled pool a call p q from → HasTried pool a call p q out
+tried {pool} {a} {call} {p} {q} {from} {out} same h = record { pass = h.pass; number = h.number; called = ok from out same h.called; refused = err from out same h.refused }
+  where
+    ok : (from : Result Receipt OutOfMemory) (out : Result Receipt TryRefusal) → SameAnswer from out → IfOk from (λ r. Called a call p q r) → IfOk out (λ r. Called a call p q r)
+    ok (Ok r) out e h = subst (λ z. IfOk z (λ r. Called a call p q r)) (sym e) h
+    ok (Err x) out e h = subst (λ z. IfOk z (λ r. Called a call p q r)) (sym e) tt
 
-pub err_same : (a : ℕ) (p q : PassState) (from : Result Receipt OutOfMemory) (out : Result Receipt TryRefusal) → SameAnswer from out → IfErr from (λ _. Refused a p q) → IfErr out (λ e. Declined a p q e)
-err_same a p q (Ok r) out e h = subst (λ z. IfErr z (λ x. Declined a p q x)) (sym e) tt
-err_same a p q (Err x) out e h = subst (λ z. IfErr z (λ y. Declined a p q y)) (sym e) h
+    err : (from : Result Receipt OutOfMemory) (out : Result Receipt TryRefusal) → SameAnswer from out → IfErr from (λ _. Refused a p q) → IfErr out (λ e. Declined a p q e)
+    err (Ok r) out e h = subst (λ z. IfErr z (λ x. Declined a p q x)) (sym e) tt
+    err (Err x) out e h = subst (λ z. IfErr z (λ y. Declined a p q y)) (sym e) h

@@ -1,6 +1,7 @@
 -- What a pool is, what a pass knows of each arena, and what each call makes of it.
-use Rattle.std.specs.Prelude.{◌≡◌, ℕ, zero, suc, ◌-◌, ◌^◌, ◌≤◌, List, [], ◌∷◌, ◌++◌, map, length, get_or, slice_set}
+use Rattle.std.specs.Prelude.{◌≡◌, ℕ, zero, suc, ◌-◌, ◌^◌, ◌<◌, ◌≤◌, List, [], ◌∷◌, ◌++◌, map, length, get_or, slice_set, Result, IfOk, IfErr}
 use mathlib.Core.List.{IsPrefix}
+use Rattle.pmem_lines.specs.declared.pmem.OutOfMemory.{OutOfMemory}
 use Rattle.heap_model.specs.declared.call.Entry.{Entry}
 use Rattle.heap_model.specs.declared.call.Call.{Call}
 use Rattle.arena_lock.specs.Journal.{calls_by}
@@ -64,6 +65,12 @@ fresh_passes locks n (suc count) = fresh_pass locks n ∷ fresh_passes locks (su
 
 -- calls
 
+-- A pass may ask for a call of an arena: it has a seat at each lock of the pool, and a turn left at the arena's.
+pub record MayAsk (pool : PoolState) (pass : PassState) (arena : ℕ) : Type 0 where
+  pub of_pool : IsPassOf pool pass
+  pub there : arena < length pool.locks
+  pub left : 0 < (part_at pass arena).turns
+
 -- A call of an arena was made. It stands at the receipt's place of a legal journal, which begins with all that the pass had
 -- seen, is as long as it knew, and had of its number just its own calls. The pass has seen up to the call's entry, which is
 -- one more of its own, and has spent a turn there; nothing else of it changed.
@@ -94,3 +101,18 @@ Missed arena p q = q ≡ with_part p arena (after_loss (part_at p arena))
 abbrev pub Declined : ℕ → PassState → PassState → TryRefusal → Type 0
 Declined arena p q (Memory e) = Refused arena p q
 Declined arena p q Busy = Missed arena p q
+
+-- A pass asked for a call of an arena, and has its number and its seats still: the call was made, or it was not, by its cause.
+pub record HasAsked {E : Type 0} (pool : PoolState) (arena : ℕ) (call : Call) (p q : PassState) (result : Result Receipt E) (Cause : E → Type 0) : Type 0 where
+  pub pass : IsPassOf pool q
+  pub number : q.number ≡ p.number
+  pub called : IfOk result (λ r. Called arena call p q r)
+  pub refused : IfErr result Cause
+
+-- in its turn, where want of memory is the one cause
+abbrev pub HasCalled : PoolState → ℕ → Call → PassState → PassState → Result Receipt OutOfMemory → Type 0
+HasCalled pool arena call p q result = HasAsked pool arena call p q result (λ _. Refused arena p q)
+
+-- by a try, which may be busy too
+abbrev pub HasTried : PoolState → ℕ → Call → PassState → PassState → Result Receipt TryRefusal → Type 0
+HasTried pool arena call p q result = HasAsked pool arena call p q result (λ e. Declined arena p q e)

@@ -4,7 +4,7 @@ ghost use Rattle.heap_model.specs.declared.call.Call.TheVariants as calls;
 ghost use Rattle.arena_lock.specs.Journal.{calls_by};
 ghost use Rattle.arena_lock.specs.Known.{Lock, after_read};
 ghost use Rattle.arena_journal.specs.Journals.{opened};
-ghost use Rattle.shared_pool.specs.Passes.{PassState, IsPassOf, part_at, with_part, seen_at, mine_at, fresh_passes, Called, Refused, Declined};
+ghost use Rattle.shared_pool.specs.Passes.{IsPassOf, part_at, with_part, seen_at, mine_at, fresh_passes, MayAsk, HasCalled, HasTried};
 ghost use Rattle.shared_pool.specs.Closed.{AllFitLocks, HasAll, AllClosed};
 ghost use Rattle.shared_pool.specs.Rows.{each_of, SameAnswer};
 
@@ -121,13 +121,8 @@ impl<P: Pmem> SharedPool<P> {
         root: u32,
         size: u64,
     ) -> Result<Receipt, OutOfMemory>
-        requires pass { IsPassOf self.now pass.old }
-        requires arena { arena < length self.now.locks }
-        requires left { 0 < (part_at pass.old arena).turns }
-        ensures pass { IsPassOf self.now pass.new }
-        ensures number { pass.new.number ≡ pass.old.number }
-        ensures called { IfOk result (λ r. Called arena (calls.Malloc root size) pass.old pass.new r) }
-        ensures refused { IfErr result (λ _. Refused arena pass.old pass.new) }
+        requires { MayAsk self.now pass.old arena }
+        ensures { HasCalled self.now arena (calls.Malloc root size) pass.old pass.new result }
     {
         self.call(rt, pass, arena, Call::Malloc { root, size })
     }
@@ -141,13 +136,8 @@ impl<P: Pmem> SharedPool<P> {
         arena: u32,
         root: u32,
     ) -> Result<Receipt, OutOfMemory>
-        requires pass { IsPassOf self.now pass.old }
-        requires arena { arena < length self.now.locks }
-        requires left { 0 < (part_at pass.old arena).turns }
-        ensures pass { IsPassOf self.now pass.new }
-        ensures number { pass.new.number ≡ pass.old.number }
-        ensures called { IfOk result (λ r. Called arena (calls.Free root) pass.old pass.new r) }
-        ensures refused { IfErr result (λ _. Refused arena pass.old pass.new) }
+        requires { MayAsk self.now pass.old arena }
+        ensures { HasCalled self.now arena (calls.Free root) pass.old pass.new result }
     {
         self.call(rt, pass, arena, Call::Free { root })
     }
@@ -163,13 +153,8 @@ impl<P: Pmem> SharedPool<P> {
         index: u32,
         value: u64,
     ) -> Result<Receipt, OutOfMemory>
-        requires pass { IsPassOf self.now pass.old }
-        requires arena { arena < length self.now.locks }
-        requires left { 0 < (part_at pass.old arena).turns }
-        ensures pass { IsPassOf self.now pass.new }
-        ensures number { pass.new.number ≡ pass.old.number }
-        ensures called { IfOk result (λ r. Called arena (calls.Write root index value) pass.old pass.new r) }
-        ensures refused { IfErr result (λ _. Refused arena pass.old pass.new) }
+        requires { MayAsk self.now pass.old arena }
+        ensures { HasCalled self.now arena (calls.Write root index value) pass.old pass.new result }
     {
         self.call(rt, pass, arena, Call::Write { root, index, value })
     }
@@ -186,13 +171,8 @@ impl<P: Pmem> SharedPool<P> {
         root: u32,
         index: u32,
     ) -> Result<Receipt, OutOfMemory>
-        requires pass { IsPassOf self.now pass.old }
-        requires arena { arena < length self.now.locks }
-        requires left { 0 < (part_at pass.old arena).turns }
-        ensures pass { IsPassOf self.now pass.new }
-        ensures number { pass.new.number ≡ pass.old.number }
-        ensures called { IfOk result (λ r. Called arena (calls.Read root index) pass.old pass.new r) }
-        ensures refused { IfErr result (λ _. Refused arena pass.old pass.new) }
+        requires { MayAsk self.now pass.old arena }
+        ensures { HasCalled self.now arena (calls.Read root index) pass.old pass.new result }
     {
         self.call(rt, pass, arena, Call::Read { root, index })
     }
@@ -208,13 +188,8 @@ impl<P: Pmem> SharedPool<P> {
         from: u32,
         to: u32,
     ) -> Result<Receipt, OutOfMemory>
-        requires pass { IsPassOf self.now pass.old }
-        requires arena { arena < length self.now.locks }
-        requires left { 0 < (part_at pass.old arena).turns }
-        ensures pass { IsPassOf self.now pass.new }
-        ensures number { pass.new.number ≡ pass.old.number }
-        ensures called { IfOk result (λ r. Called arena (calls.Move from to) pass.old pass.new r) }
-        ensures refused { IfErr result (λ _. Refused arena pass.old pass.new) }
+        requires { MayAsk self.now pass.old arena }
+        ensures { HasCalled self.now arena (calls.Move from to) pass.old pass.new result }
     {
         self.call(rt, pass, arena, Call::Move { from, to })
     }
@@ -227,13 +202,8 @@ impl<P: Pmem> SharedPool<P> {
         arena: u32,
         call: Call,
     ) -> Result<Receipt, OutOfMemory>
-        requires pass { IsPassOf self.now pass.old }
-        requires arena { arena < length self.now.locks }
-        requires left { 0 < (part_at pass.old arena).turns }
-        ensures pass { IsPassOf self.now pass.new }
-        ensures number { pass.new.number ≡ pass.old.number }
-        ensures called { IfOk result (λ r. Called arena call pass.old pass.new r) }
-        ensures refused { IfErr result (λ _. Refused arena pass.old pass.new) }
+        requires { MayAsk self.now pass.old arena }
+        ensures { HasCalled self.now arena call pass.old pass.new result }
     {
         let seat = pass.number;
         let spot = &mut pass.spots[arena as usize];
@@ -258,13 +228,8 @@ impl<P: Pmem> SharedPool<P> {
         root: u32,
         size: u64,
     ) -> Result<Receipt, TryRefusal>
-        requires pass { IsPassOf self.now pass.old }
-        requires arena { arena < length self.now.locks }
-        requires left { 0 < (part_at pass.old arena).turns }
-        ensures pass { IsPassOf self.now pass.new }
-        ensures number { pass.new.number ≡ pass.old.number }
-        ensures called { IfOk result (λ r. Called arena (calls.Malloc root size) pass.old pass.new r) }
-        ensures declined { IfErr result (λ e. Declined arena pass.old pass.new e) }
+        requires { MayAsk self.now pass.old arena }
+        ensures { HasTried self.now arena (calls.Malloc root size) pass.old pass.new result }
     {
         self.try_call(pass, arena, Call::Malloc { root, size })
     }
@@ -277,26 +242,16 @@ impl<P: Pmem> SharedPool<P> {
         arena: u32,
         root: u32,
     ) -> Result<Receipt, TryRefusal>
-        requires pass { IsPassOf self.now pass.old }
-        requires arena { arena < length self.now.locks }
-        requires left { 0 < (part_at pass.old arena).turns }
-        ensures pass { IsPassOf self.now pass.new }
-        ensures number { pass.new.number ≡ pass.old.number }
-        ensures called { IfOk result (λ r. Called arena (calls.Free root) pass.old pass.new r) }
-        ensures declined { IfErr result (λ e. Declined arena pass.old pass.new e) }
+        requires { MayAsk self.now pass.old arena }
+        ensures { HasTried self.now arena (calls.Free root) pass.old pass.new result }
     {
         self.try_call(pass, arena, Call::Free { root })
     }
 
     // One journal call that waits for nobody, whichever it is.
     fn try_call(&self, pass: &mut Pass, arena: u32, call: Call) -> Result<Receipt, TryRefusal>
-        requires pass { IsPassOf self.now pass.old }
-        requires arena { arena < length self.now.locks }
-        requires left { 0 < (part_at pass.old arena).turns }
-        ensures pass { IsPassOf self.now pass.new }
-        ensures number { pass.new.number ≡ pass.old.number }
-        ensures called { IfOk result (λ r. Called arena call pass.old pass.new r) }
-        ensures declined { IfErr result (λ e. Declined arena pass.old pass.new e) }
+        requires { MayAsk self.now pass.old arena }
+        ensures { HasTried self.now arena call pass.old pass.new result }
     {
         let seat = pass.number;
         let spot = &mut pass.spots[arena as usize];

@@ -8,16 +8,15 @@ use Rattle.trace_workers.proofs.Calls.{in_at, has_part, done_other, done_more, t
 use Rattle.trace_workers.proofs.working.work.Goals as goal
 use Rattle.trace_workers.proofs.working.work.Goals.{then-call-number+in_ok-call, else-call-number}
 
-pub call-requires-clause-arena : goal.call-requires-clause-arena
-call-requires-clause-arena g c =
-    let room : c.loop-k.k < length c.args.calls.now = search rules in
-    in_at (length c.args.pool.now.locks) c.args.calls.now c.loop-k.k (record { thread = 0; arena = 0; call = Malloc 0 0 }) room c.requires.arenas
-
-pub call-requires-clause-left : goal.call-requires-clause-left
-call-requires-clause-left g c =
+pub call-requires : goal.call-requires
+call-requires g c =
     let room : c.loop-k.k < length c.args.calls.now = search rules in
     let arena = in_at (length c.args.pool.now.locks) c.args.calls.now c.loop-k.k (record { thread = 0; arena = 0; call = Malloc 0 0 }) room c.requires.arenas in
-    turns_left c.loop-k.k (length c.args.calls.now) c.loop-k.pass _ (has_part c.args.pool.now c.loop-k.pass _ c.loop-k.invariant.0 arena) room c.requires.few c.loop-k.invariant.4
+    record {
+      of_pool = c.loop-k.invariant.0;
+      there = arena;
+      left = turns_left c.loop-k.k (length c.args.calls.now) c.loop-k.pass _ (has_part c.args.pool.now c.loop-k.pass _ c.loop-k.invariant.0 arena) room c.requires.few c.loop-k.invariant.4;
+    }
 
 pub after-requires : goal.after-requires
 after-requires g c =
