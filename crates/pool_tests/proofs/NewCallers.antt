@@ -1,9 +1,9 @@
--- New passes have all their turns, and a pass with turns left may ask for a call.
-use Rattle.std.proofs.Common.{◌≡◌, ◌≢◌, ℕ, zero, suc, ◌<◌, ◌≤◌, List, [], ◌∷◌, length, arith, subst, sym}
+-- New passes have all their turns.
+use Rattle.std.proofs.Common.{◌≡◌, ℕ, zero, suc, ◌<◌, ◌≤◌, List, [], ◌∷◌, length, arith, subst, sym}
 use Rattle.arena_lock.specs.Known.{Lock}
-use Rattle.shared_pool.specs.Passes.{PassState, PoolState, part_at, fresh_pass, MayAsk}
+use Rattle.shared_pool.specs.Passes.{PassState, PoolState, part_at, fresh_pass}
 use Rattle.shared_pool.proofs.AllPasses.{fresh_fits}
-use Rattle.pool_tests.specs.CallsLeft.{CallerState, CanCall}
+use Rattle.pool_tests.specs.CallsLeft.{CanCall}
 
 fresh_turns : (n left : ℕ) (locks : List Lock) → left ≤ 1000 → (a : ℕ) → a < length locks → left ≤ (part_at (fresh_pass locks n) a).turns
 fresh_turns n left [] few a l = absurd (omega arith)
@@ -13,7 +13,3 @@ fresh_turns n left (x ∷ xs) few (suc a) l = fresh_turns n left xs few a (omega
 -- so that a few calls may be made by each
 pub fresh_can : (n left : ℕ) (pool : PoolState) (pass : PassState) → left ≤ 1000 → pass ≡ fresh_pass pool.locks n → CanCall pool (record { pass = pass; left = left })
 fresh_can n left pool pass few is = subst (λ (p : PassState). CanCall pool (record { pass = p; left = left })) (sym is) (record { of = fresh_fits n pool.locks; turns = fresh_turns n left pool.locks few })
-
--- a pass that may make some calls may ask for one
-pub may_ask : {pool : PoolState} {c : CallerState} {a : ℕ} → CanCall pool c → a < length pool.locks → c.left ≢ 0 → MayAsk pool c.pass a
-may_ask {pool} {c} {a} can there some = record { of_pool = can.of; there = there; left = omega (arith, can.turns a there, some) }
