@@ -1,6 +1,6 @@
 -- The indexes take over a slab of an exact image, and how many live blocks each slab has.
-use Rattle.std.proofs.Common.{◌≡◌, ◌≢◌, ◌↔◌, ◌==◌, ◌+◌, ◌*◌, ◌/◌, ◌<◌, ◌≤◌, ℕ, Bool, true, false, true≢false, cond, eqb, List, length, slice_index, Option, Some, None, refl, sym, ap, subst, ◌∙◌, ⊎_elim, arith, if◌then◌else◌}
-use Rattle.std.proofs.lemmas.Bool.{cond-true, cond-false, cases_eq, cases_Bool, eq-eqb, ne_eqb, false_from_ne_true}
+use Rattle.std.proofs.Common.{◌≡◌, ◌≢◌, ◌↔◌, ◌==◌, ◌+◌, ◌*◌, ◌/◌, ◌<◌, ◌≤◌, ℕ, Bool, true, false, true≢false, cond, eqb, List, length, slice_index, Option, Some, None, refl, sym, ap, subst, ◌∙◌, arith, if◌then◌else◌}
+use Rattle.std.proofs.lemmas.Bool.{cond-true, cond-false, eq-eqb, ne_eqb, false_from_ne_true}
 use Rattle.size_classes.specs.Classes.{class_capacity}
 use Rattle.image_tables.specs.Tables.{Tables, is_slab, tables_of}
 use Rattle.image_tables.proofs.Tables.{slab_table}
@@ -13,7 +13,7 @@ use Rattle.heap_check.specs.Heap.{size_at, heap, slabs, IsUnusedIn}
 use Rattle.heap_check.proofs.Heaps.{heap-none}
 use Rattle.arena_core.specs.Adopting.{IsWithSlabOf, HasCounted}
 use Rattle.block_supply.specs.Supply.{Supply, IsInNoSlabOf, HasSlabMore}
-use Rattle.arena_core.proofs.LiveCounts.{one_if, live_next, live_below-most, begins_only}
+use Rattle.arena_core.proofs.LiveCounts.{one_if, live_next, live_below-most, begins_only, by_slab, more_by_slab, most_by_slab, put_one, begins_at}
 use Rattle.arena_core.proofs.UnusedBlocks.{iff_then}
 use Rattle.heap_check.specs.Sound.{IsInSlab, IsSound}
 use Rattle.heap_check.specs.Image.{bounds_of}
@@ -54,28 +54,21 @@ counted_in words n start = if (tables_of words).slab start then live_below (heap
 pub counted_none : (words : List ℕ) (counts : List ℕ) → length counts ≡ granules_in words → ((s : ℕ) → slice_index counts s ≡ 0) → HasCounted words counts 0
 counted_none words counts size zero = record {
   size = size;
-  each = λ s. zero s ∙ sym (⊎_elim
-      (λ slab. cond-true ((tables_of words).slab s) (live_below (heap (tables_of words)) s 0) 0 slab)
-      (λ no. cond-false ((tables_of words).slab s) (live_below (heap (tables_of words)) s 0) 0 no)
-      (cases_Bool ((tables_of words).slab s)));
+  each = λ s. zero s ∙ none ((tables_of words).slab s) s;
 }
+  where
+    none : (is : Bool) (s : ℕ) → 0 ≡ (if is then live_below (heap (tables_of words)) s 0 else 0)
+    none true s = refl
+    none false s = refl
 
 -- the next root has no block in a slab
 pub counted_same : (words : List ℕ) (counts : List ℕ) (root : ℕ) → ((s : ℕ) → (tables_of words).slab s ≡ true → begins_in s (heap (tables_of words) root) ≡ false) → HasCounted words counts root → HasCounted words counts (root + 1)
 counted_same words counts root elsewhere were = record {
   size = were.size;
-  each = λ s. were.each s ∙ ⊎_elim
-      (λ (slab : (tables_of words).slab s ≡ true).
-      let before : counted_in words root s ≡ live_below (heap (tables_of words)) s root = cond-true ((tables_of words).slab s) (live_below (heap (tables_of words)) s root) 0 slab in
-      let after : counted_in words (root + 1) s ≡ live_below (heap (tables_of words)) s (root + 1) = cond-true ((tables_of words).slab s) (live_below (heap (tables_of words)) s (root + 1)) 0 slab in
+  each = λ s. were.each s ∙ by_slab ((tables_of words).slab s) (live_below (heap (tables_of words)) s root) (live_below (heap (tables_of words)) s (root + 1)) (λ slab.
       let next = live_next (heap (tables_of words)) s root in
       let none : one_if (begins_in s (heap (tables_of words) root)) ≡ 0 = ap one_if (elsewhere s slab) in
-      omega (arith, before, after, next, none))
-      (λ (no : (tables_of words).slab s ≡ false).
-      let before : counted_in words root s ≡ 0 = cond-false ((tables_of words).slab s) (live_below (heap (tables_of words)) s root) 0 no in
-      let after : counted_in words (root + 1) s ≡ 0 = cond-false ((tables_of words).slab s) (live_below (heap (tables_of words)) s (root + 1)) 0 no in
-      omega (arith, before, after))
-      (cases_Bool ((tables_of words).slab s));
+      omega (arith, next, none));
 }
 
 -- it has one in the slab at a start
@@ -83,30 +76,12 @@ pub counted_more : (words : List ℕ) (counts next : List ℕ) (root start : ℕ
     length next ≡ length counts → ((s : ℕ) → slice_index next s ≡ (if s == start then slice_index counts s + 1 else slice_index counts s)) → HasCounted words counts root → HasCounted words next (root + 1)
 counted_more words counts next root start here only size put were = record {
   size = size ∙ were.size;
-  each = λ s. ⊎_elim
-      (λ (slab : (tables_of words).slab s ≡ true).
-      let before : slice_index counts s ≡ live_below (heap (tables_of words)) s root = were.each s ∙ cond-true ((tables_of words).slab s) (live_below (heap (tables_of words)) s root) 0 slab in
-      let after : counted_in words (root + 1) s ≡ live_below (heap (tables_of words)) s (root + 1) = cond-true ((tables_of words).slab s) (live_below (heap (tables_of words)) s (root + 1)) 0 slab in
-      let step = live_next (heap (tables_of words)) s root in
-      ⊎_elim
-      (λ (same : s ≡ start).
-      let test = eq-eqb s start same in
-      let now = put s ∙ cond-true (s == start) (slice_index counts s + 1) (slice_index counts s) test in
-      let one : one_if (begins_in s (heap (tables_of words) root)) ≡ 1 = ap one_if (only s slab ∙ test) in
-      omega (arith, now, before, after, step, one))
-      (λ (apart : s ≢ start).
-      let test = ne_eqb s start apart in
-      let now = put s ∙ cond-false (s == start) (slice_index counts s + 1) (slice_index counts s) test in
-      let none : one_if (begins_in s (heap (tables_of words) root)) ≡ 0 = ap one_if (only s slab ∙ test) in
-      omega (arith, now, before, after, step, none))
-      (cases_eq s start))
-      (λ (no : (tables_of words).slab s ≡ false).
-      let apart : s ≢ start = λ same. true≢false (sym here ∙ ap (tables_of words).slab (sym same) ∙ no) in
-      let now = put s ∙ cond-false (s == start) (slice_index counts s + 1) (slice_index counts s) (ne_eqb s start apart) in
-      let before : slice_index counts s ≡ 0 = were.each s ∙ cond-false ((tables_of words).slab s) (live_below (heap (tables_of words)) s root) 0 no in
-      let after : counted_in words (root + 1) s ≡ 0 = cond-false ((tables_of words).slab s) (live_below (heap (tables_of words)) s (root + 1)) 0 no in
-      omega (arith, now, before, after))
-      (cases_Bool ((tables_of words).slab s));
+  each = λ s. put s
+      ∙ put_one (s == start) (slice_index counts s)
+      ∙ ap (λ n. one_if (s == start) + n) (were.each s)
+      ∙ sym (more_by_slab ((tables_of words).slab s) (s == start) (live_below (heap (tables_of words)) s (root + 1)) (live_below (heap (tables_of words)) s root)
+      (λ slab. live_next (heap (tables_of words)) s root ∙ ap (λ is. one_if is + live_below (heap (tables_of words)) s root) (only s slab))
+      (λ no. ne_eqb s start (λ same. true≢false (sym here ∙ ap (tables_of words).slab (sym same) ∙ no))));
 }
 
 -- what begins in a slab is what a root's word lies in
@@ -120,19 +95,14 @@ begins_none t root s none = ap (begins_in s) (heap-none t root none)
 -- nor has one whose word lies in none
 pub begins_outside : (t : Tables) (root : ℕ) (classes : ℕ → Option ℕ) → ((s : ℕ) → classes s ≡ slabs t s) → t.root root ≢ 0 → IsInNoSlabOf classes (t.root root / 16384) → (s : ℕ) → t.slab s ≡ true → begins_in s (heap t root) ≡ false
 begins_outside t root classes are some outside s slab = begins_word t root s some ∙ false_from_ne_true (begins_in s (Some (record { at = t.root root; size = size_at t root (t.root root) }))) (λ is.
-    let begins = begins_in-true s (Some (record { at = t.root root; size = size_at t root (t.root root) })) is in
-    let same : (record { at = t.root root; size = size_at t root (t.root root) }) ≡ begins.range = cc (begins.named) in
-    let at = ap (λ (x : Range). x.at) same in
-    let none = sym (are s) ∙ outside.none s (omega (arith, at, begins.low)) (omega (arith, at, begins.high)) in
+    let at = begins_at s _ (begins_in-true s (Some (record { at = t.root root; size = size_at t root (t.root root) })) is) in
+    let none = sym (are s) ∙ outside.none s (omega (arith, at.0)) (omega (arith, at.1)) in
     let some_slab = cond-true (t.slab s) (Some (t.class s)) None slab in
     absurd (cc))
 
 -- the counts are small
 pub counted_few : (words : List ℕ) (counts : List ℕ) (root start : ℕ) → HasCounted words counts root → slice_index counts start ≤ root
-counted_few words counts root start were = ⊎_elim
-    (λ slab. let is = were.each start ∙ cond-true ((tables_of words).slab start) (live_below (heap (tables_of words)) start root) 0 slab in omega (arith, is, live_below-most (heap (tables_of words)) start root))
-    (λ no. let is = were.each start ∙ cond-false ((tables_of words).slab start) (live_below (heap (tables_of words)) start root) 0 no in omega (arith, is))
-    (cases_Bool ((tables_of words).slab start))
+counted_few words counts root start were = omega (arith, were.each start, most_by_slab ((tables_of words).slab start) (live_below-most (heap (tables_of words)) start root))
 
 -- the next root's word lies in a slab
 pub counted_word : (words : List ℕ) (counts next : List ℕ) (root start : ℕ) → IsSound (bounds_of words) (tables_of words) → (tables_of words).root root ≢ 0 → IsInSlab (tables_of words) start ((tables_of words).root root) → length next ≡ length counts →

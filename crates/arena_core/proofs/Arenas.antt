@@ -1,5 +1,5 @@
 -- What an arena keeps holds again once a block was given or taken.
-use Rattle.std.proofs.Common.{◌≡◌, ◌↔◌, ◌⊎◌, ℕ, ◌+◌, ◌<◌, ◌≤◌, List, cond, Some, None, refl, sym, ap, subst, ◌∙◌, inl, inr, ⊎_elim, arith}
+use Rattle.std.proofs.Common.{◌≡◌, ◌↔◌, ◌⊎◌, ℕ, ◌+◌, ◌<◌, ◌≤◌, List, cond, Some, None, refl, sym, ap, subst, ◌∙◌, inl, inr, ⊎_elim, arith, length}
 use Rattle.std.proofs.lemmas.List.Elements.{All-weaker}
 use Rattle.pmem_lines.specs.Words.{word_at, put_word}
 use Rattle.pool_layout.specs.Layout.{layout_of}
@@ -12,10 +12,10 @@ use Rattle.pool_layout.specs.Header.{version_in, granules_in}
 use Rattle.image_tables.specs.Tables.{Tables, tables_of}
 use Rattle.image_tables.proofs.Stores.{IsOffLog-root, granules_in-put_root, HasNoMove-closed}
 use Rattle.book_log.specs.Book.{Book}
-use Rattle.book_log.proofs.Books.{Reads-elsewhere}
+use Rattle.book_log.proofs.Books.{Reads-elsewhere, Reads-same}
 use Rattle.extent_index.specs.FreeSet.{FreeSet, IsFree}
 use Rattle.heap_model.specs.Machine.{Bounds}
-use Rattle.heap_check.specs.Sound.{IsVacant}
+use Rattle.heap_check.specs.Sound.{IsVacant, granules_at}
 use Rattle.heap_check.specs.Image.{bounds_of, IsExactImage}
 use Rattle.heap_check.specs.State.{IsEitherHeap}
 use Rattle.heap_check.proofs.Blank.{law_of_steady}
@@ -46,6 +46,9 @@ same_log words new front entries = record {
   chunks = All-weaker (λ c. c < 16) (SameChunk (version_in words) words new) (λ c few. record { each = λ e below. entries c e few below }) (active_chunks (word_at words directory_word)) (few_chunks (word_at words directory_word));
 }
 
+pub book_same : {words new : List ℕ} (book : Book) → SameLog words new → length new ≡ length words → bounds_of new ≡ bounds_of words → IsBookOf book words → IsBookOf book new
+book_same {words} {new} book same size bounds log = record { reads = Reads-same book words new same size log.reads; granules = log.granules ∙ ap (λ (b : Bounds). b.granules) (sym bounds) }
+
 -- at each stage the slabs are as before
 pub slabs_stage : {words : List ℕ} {root start here word : ℕ} {image : List ℕ} → IsStageOf words root start here word image → KeepsSlabs words image
 slabs_stage {words} {root} {start} {here} {word} {image} stage = record {
@@ -65,14 +68,24 @@ slabs_kept {words} {image} parts keeps granules index = record {
       (subst (λ c. IsUnusedIn (tables_of words) s ((tables_of words).class s) i ↔ IsUnusedIn (tables_of image) s c i) (sym same.class) (IsUnusedIn-same same ((tables_of words).class s) i));
 }
 
--- the index of a stage, by what is vacant there
+-- the index of an image, by what is vacant in it
+pub index_by : (words new : List ℕ) (set : FreeSet) → set.granules ≡ granules_in words → bounds_of new ≡ bounds_of words → ((k : ℕ) → IsFree set k ↔ IsVacant (bounds_of words) (tables_of new) k) → IsIndexOf set new
+index_by words new set granules bounds each = record {
+  granules = granules ∙ ap (λ (b : Bounds). b.granules) (sym bounds);
+  each = λ k. subst (λ b. IsFree set k ↔ IsVacant b (tables_of new) k) (sym bounds) (each k);
+}
+
+-- of other tables, in which the same granules are live
+pub index_as : {words new : List ℕ} (set : FreeSet) → bounds_of new ≡ bounds_of words → ((start : ℕ) → granules_at (tables_of new) start ≡ granules_at (tables_of words) start) → IsIndexOf set words → IsIndexOf set new
+index_as {words} {new} set bounds same index = index_by words new set index.granules bounds (λ k. iff_then (index.each k) (
+  λ vacant. record { low = vacant.low; high = vacant.high; none = λ start covers. vacant.none start (record { low = covers.low; high = omega (arith, covers.high, same start) }) },
+  λ vacant. record { low = vacant.low; high = vacant.high; none = λ start covers. vacant.none start (record { low = covers.low; high = omega (arith, covers.high, same start) }) },
+))
+
+-- of a stage
 pub index_stage : {words : List ℕ} {root start here word : ℕ} {image : List ℕ} (set : FreeSet) → IsStageOf words root start here word image → set.granules ≡ granules_in words →
     ((k : ℕ) → IsFree set k ↔ IsVacant (bounds_of words) (with_large (tables_of words) start here root word) k) → IsIndexOf set image
-index_stage {words} {root} {start} {here} {word} {image} set stage granules each = record {
-  granules = granules ∙ ap (λ (b : Bounds). b.granules) (sym stage.bounds);
-  each = λ k. subst (λ b. IsFree set k ↔ IsVacant b (tables_of image) k) (sym stage.bounds)
-      (subst (λ t. IsFree set k ↔ IsVacant (bounds_of words) t k) (sym stage.tables) (each k));
-}
+index_stage {words} {root} {start} {here} {word} {image} set stage granules each = index_by words image set granules stage.bounds (λ k. subst (λ t. IsFree set k ↔ IsVacant (bounds_of words) t k) (sym stage.tables) (each k))
 
 -- granules are taken out of the set
 pub index_less : (set new : FreeSet) (b : Bounds) (t after : Tables) (start count : ℕ) →

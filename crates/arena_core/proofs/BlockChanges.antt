@@ -1,5 +1,5 @@
 -- A block of a slab and its root come or go: the words of the log stay, and those of the other blocks.
-use Rattle.std.proofs.Common.{true, ◌≤◌, ◌+◌, ◌*◌, ◌≡◌, ℕ, ◌<◌, List, sym, ap, ◌∙◌, arith}
+use Rattle.std.proofs.Common.{true, ◌≤◌, ◌+◌, ◌*◌, ◌≡◌, ℕ, ◌<◌, List, arith}
 use Rattle.pmem_lines.specs.Words.{word_at}
 use Rattle.pool_layout.specs.Places.{entry_word}
 use Rattle.pool_layout.specs.Header.{version_in}
@@ -8,8 +8,6 @@ use Rattle.image_tables.proofs.Places.{log_word-low, entry_word-low, entry_word-
 use Rattle.image_tables.proofs.Logs.{SameLog}
 use Rattle.image_tables.proofs.Stores.{root_word-low}
 use Rattle.book_log.specs.Book.{Book}
-use Rattle.book_log.proofs.Books.{Reads-same}
-use Rattle.heap_model.specs.Machine.{Bounds}
 use Rattle.heap_check.specs.Image.{bounds_of, IsExactButImage}
 use Rattle.heap_check.specs.State.{KeepsBlocks}
 use Rattle.heap_check.proofs.BlockWords.{block_word-heap, block_word-header}
@@ -19,7 +17,7 @@ use Rattle.attach_steps.specs.declared.block.SmallBlock.{SmallBlock}
 use Rattle.attach_steps.specs.Steps.{KeepsOthers, IsBlockIn, bit_word, IsOldDetachable}
 use Rattle.heap_check.proofs.Geometry.{number_few, granules_at-slab, index_count_few}
 use Rattle.attach_steps.specs.declared.block.OldBlock.{OldBlock}
-use Rattle.arena_core.proofs.Arenas.{same_log}
+use Rattle.arena_core.proofs.Arenas.{same_log, book_same}
 
 -- One word of a slab's header changes with a root's word and a write-ahead line: where it lies.
 pub record IsBlockChange (words : List ℕ) (line root start k : ℕ) : Type 0 where
@@ -68,10 +66,7 @@ module _ {words : List ℕ} {line root start place : ℕ} (change : IsBlockChang
       (λ is. omega (arith, is, low, root_word-low version root change.rooted)))
 
   pub book_small : bounds_of new ≡ bounds_of words → (book : Book) → IsBookOf book words → IsBookOf book new
-  book_small bounds book log = record {
-    reads = Reads-same book words new log_small rest.same_length log.reads;
-    granules = log.granules ∙ ap (λ (b : Bounds). b.granules) (sym bounds);
-  }
+  book_small bounds book = book_same book log_small rest.same_length bounds
 
   pub keeps_small : KeepsBlocks words new
   keeps_small = record {

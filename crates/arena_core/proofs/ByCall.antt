@@ -80,42 +80,26 @@ is_write b m root index word reply next write = ⊎_elim
     ))
     write
 
--- the reply of a write is one of these
-abbrev IsWriteReply : Reply → Type 0
-IsWriteReply reply = (reply ≡ replies.NoRoot) ⊎ ((reply ≡ replies.Empty) ⊎ ((reply ≡ replies.OutOfRange) ⊎ (reply ≡ replies.Wrote)))
-
-reply_of : (b : Bounds) (m : Machine) (root index : ℕ) (words : List ℕ) (reply : Reply) (next : Machine) → IsWriteOf b m root index words reply next → IsWriteReply reply
-reply_of b m root index words reply next write = ⊎_elim
-    (λ past. inl past.1.0)
-    (λ rooted. ⊎_elim
-    (λ held. ⊎_elim
-    (λ many. inr (inr (inl many.1.0)))
-    (λ within. inr (inr (inr within.1.0)))
-    held.1)
-    (λ empty. inr (inl empty.1.0))
-    rooted.1)
-    write
-
--- so its events are those of the call, and the line stays
+-- what a write of one word does and answers: the events of the call, and the line stays
 abbrev HasEvents : List ℕ → ℕ → ℕ → ℕ → ℕ → Reply → Type 0
 HasEvents old line root index word reply = (payload_events old root index (word ∷ []) reply ≡ call_events old line (calls.Write root index word) reply) × (line_after line reply ≡ line)
 
-events_of : (old : List ℕ) (line root index word : ℕ) (reply : Reply) → IsWriteReply reply → HasEvents old line root index word reply
-events_of old line root index word reply is = ⊎_elim
-    (λ same. subst (HasEvents old line root index word) (sym same) (refl, refl))
-    (λ rest. ⊎_elim
-    (λ same. subst (HasEvents old line root index word) (sym same) (refl, refl))
-    (λ rest. ⊎_elim
-    (λ same. subst (HasEvents old line root index word) (sym same) (refl, refl))
-    (λ same. subst (HasEvents old line root index word) (sym same) (refl, refl))
-    rest)
-    rest)
-    is
+events_of : (b : Bounds) (m : Machine) (old : List ℕ) (line root index word : ℕ) (reply : Reply) (next : Machine) → IsWriteOf b m root index (word ∷ []) reply next → HasEvents old line root index word reply
+events_of b m old line root index word reply next write = ⊎_elim
+    (λ past. told past.1.0 (refl, refl))
+    (λ rooted. ⊎_elim
+    (λ held. ⊎_elim (λ many. told many.1.0 (refl, refl)) (λ within. told within.1.0 (refl, refl)) held.1)
+    (λ empty. told empty.1.0 (refl, refl))
+    rooted.1)
+    write
+  where
+    told : {is : Reply} → reply ≡ is → HasEvents old line root index word is → HasEvents old line root index word reply
+    told same = subst (HasEvents old line root index word) (sym same)
 
 events_by : (old new : List ℕ) (line root index word : ℕ) (reply : Reply) → IsWriteStep old new root index (word ∷ []) reply → HasEvents old line root index word reply
 events_by old new line root index word reply step =
     let made = step.each (bare_state old) (HasState-bare old) in
-    events_of old line root index word reply (reply_of (bounds_of old) (bare_state old) root index (word ∷ []) reply made.0 made.1)
+    events_of (bounds_of old) (bare_state old) old line root index word reply made.0 made.1
 
 pub law_of_one_word : LawOfOneWord
 law_of_one_word old new line root index word reply step = (

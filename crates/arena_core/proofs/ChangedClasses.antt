@@ -1,7 +1,7 @@
 -- A slab took another class: what stands beside the words of an arena holds again.
 use Rattle.std.proofs.Common.{◌≡◌, ◌≢◌, ◌==◌, ◌↔◌, ℕ, ◌+◌, ◌<◌, ◌≤◌, Bool, true, false, List, length, Some, None, sym, ap, ◌∙◌, subst, arith, inl, inr, ⊎_elim, if◌then◌else◌}
 use Rattle.std.proofs.Math.Nat.{min-le_right}
-use Rattle.std.proofs.lemmas.Bool.{cases_eq, cases_lt, cond-true, cond-false, eq-eqb, ne_eqb}
+use Rattle.std.proofs.lemmas.Bool.{cases_eq, cases_lt, cond-true, cond-false, ne_eqb}
 use Rattle.size_classes.specs.Classes.{class_capacity}
 use Rattle.image_tables.specs.Forms.{morphing_kind, morphed_kind}
 use Rattle.image_tables.specs.Tables.{Tables, tables_of}
@@ -24,9 +24,10 @@ use Rattle.arena_core.specs.Arena.{IsSlabsOf, AreCountsOf, AreLivesOf, calm_of}
 use Rattle.arena_core.specs.Plan.{IsMorphable}
 use Rattle.arena_core.proofs.ChangedHeaders.{IsHeaderChange, row, unused_header}
 use Rattle.arena_core.proofs.LiveCounts.{counts_kept, live_same}
-use Rattle.arena_core.proofs.LiveSlabs.{calm_stirred, calm_header, calm_all_but, lives_put}
+use Rattle.arena_core.proofs.LiveSlabs.{calm_stirred, calm_header, lives_put}
 use Rattle.arena_core.proofs.Plans.{slab_parts}
 use Rattle.arena_core.proofs.UnusedBlocks.{iff_then}
+use Rattle.arena_core.proofs.Maps.{with_key-is, with_key-twice}
 
 -- before
 
@@ -98,11 +99,8 @@ module _ {words : List ℕ} {start class : ℕ} {new : List ℕ} (may : IsMorpha
 
   -- the slab has the class
   pub classes_changed : (s : ℕ) → slabs (tables_of new) s ≡ with_key (slabs (tables_of words)) start (Some class) s
-  classes_changed s = ⊎_elim
-      (λ (same : s ≡ start).
-      ap (slabs after) same ∙ cond-true (after.slab start) (Some (after.class start)) None (slab_now start ∙ may.slab) ∙ ap (λ c. Some c) class_now ∙ sym (cond-true (s == start) (Some class) (slabs t s) (eq-eqb s start same)))
-      (λ (differ : s ≢ start). (λ i. if slab_now s i then Some (class_other s differ i) else None) ∙ sym (cond-false (s == start) (Some class) (slabs t s) (ne_eqb s start differ)))
-      (cases_eq s start)
+  classes_changed = with_key-is (slabs t) (slabs after) start (Some class) (cond-true (after.slab start) (Some (after.class start)) None (slab_now start ∙ may.slab) ∙ ap (λ c. Some c) class_now)
+      (λ s differ. λ i. if slab_now s i then Some (class_other s differ i) else None)
 
   -- it came back into the supply, with the blocks of the class that are unused
   pub came_back : {less mid : Supply} {used : ℕ → Bool} (k : ℕ) → k ≡ start → HasSlabMore less mid start class (λ i. (i < class_capacity class) × (used i ≡ false)) →
@@ -128,17 +126,11 @@ module _ {words : List ℕ} {start class : ℕ} {new : List ℕ} (may : IsMorpha
   pub slabs_changed : {set less mid : Supply} → IsSlabsOf set words → HasSlabLess set less start → HasSlabMore less mid start class (λ i. (i < class_capacity class) × IsUnusedIn (tables_of words) start class i) → IsSlabsOf mid new
   slabs_changed {set} {less} {mid} were gone more = record {
     granules = more.granules ∙ gone.granules ∙ were.granules ∙ ap (λ (b : Bounds). b.granules) (sym taken.bounds);
-    classes = λ s. ⊎_elim
-        (λ (same : s ≡ start).
-        more.classes s ∙ cond-true (s == start) (Some class) (class_in less.slabs s) (eq-eqb s start same) ∙ sym (classes_changed s ∙ cond-true (s == start) (Some class) (slabs t s) (eq-eqb s start same)))
-        (λ (differ : s ≢ start).
-        more.classes s
-        ∙ cond-false (s == start) (Some class) (class_in less.slabs s) (ne_eqb s start differ)
-        ∙ gone.classes s
-        ∙ cond-false (s == start) None (class_in set.slabs s) (ne_eqb s start differ)
-        ∙ were.classes s
-        ∙ sym (classes_changed s ∙ cond-false (s == start) (Some class) (slabs t s) (ne_eqb s start differ)))
-        (cases_eq s start);
+    classes = λ s. more.classes s
+        ∙ ap (λ x. if s == start then Some class else x) (gone.classes s)
+        ∙ with_key-twice (class_in set.slabs) start None (Some class) s
+        ∙ ap (λ x. if s == start then Some class else x) (were.classes s)
+        ∙ sym (classes_changed s);
     blocks = λ s i slab below. ⊎_elim
         (λ (same : s ≡ start). subst (λ k. i < class_capacity (after.class k) → IsOpen mid k i ↔ IsUnusedIn after k (after.class k) i) (sym same) (λ within. own i within) below)
         (λ (differ : s ≢ start).
@@ -160,6 +152,6 @@ module _ {words : List ℕ} {start class : ℕ} {new : List ℕ} (may : IsMorpha
   lives_changed was next same put were =
       let counts : AreCountsOf was.counts new = counts_kept words new was.counts (ap (λ (b : Bounds). b.granules) taken.bounds) (live_same words new taken.bounds slab_now taken.left.keeps.heap.each) were.counts in
       lives_put words new was next (subst (λ (n : List ℕ). AreCountsOf n new) (sym same) counts) were start None put
-      (calm_all_but t after start None
+      (with_key-is (calm_of t) (calm_of after) start None
       (calm_stirred after start (λ normal. let kind : after.kind start ≡ morphed_kind = row class_change (λ x. x.kind start) ∙ put_at-same t.kind start morphed_kind in omega (arith, normal, kind)))
       (λ s differ. row class_change (λ x. calm_of x s) ∙ calm_header t start header s differ))

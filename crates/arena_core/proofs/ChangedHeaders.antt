@@ -1,21 +1,19 @@
 -- The header of a slab changed, and each slab holds the blocks that it held: what stands beside the words and knows of the
 -- header no more than that holds again.
-use Rattle.std.proofs.Common.{◌≡◌, ◌↔◌, ℕ, true, List, sym, ap, ◌∙◌, subst, arith}
+use Rattle.std.proofs.Common.{◌≡◌, ◌↔◌, ℕ, true, List, ap, arith}
 use Rattle.image_tables.specs.Tables.{Tables, tables_of}
 use Rattle.image_tables.proofs.Headers.{SameLog-off_header}
 use Rattle.book_log.specs.Book.{Book}
-use Rattle.book_log.proofs.Books.{Reads-same}
-use Rattle.extent_index.specs.FreeSet.{FreeSet, IsFree}
-use Rattle.heap_model.specs.Machine.{Bounds}
+use Rattle.extent_index.specs.FreeSet.{FreeSet}
 use Rattle.heap_check.specs.Heap.{IsUnusedIn}
-use Rattle.heap_check.specs.Sound.{IsVacant, IsSound}
+use Rattle.heap_check.specs.Sound.{IsSound, granules_at}
 use Rattle.heap_check.specs.Image.{bounds_of}
 use Rattle.heap_check.proofs.Geometry.{granules_at-slab}
 use Rattle.log_steps.specs.Log.{IsBookOf}
 use Rattle.slab_morph.specs.SlabHeaders.{SlabHeader, put_header}
 use Rattle.slab_morph.specs.Stages.{IsOffHeader, AllHoldSame}
 use Rattle.arena_core.specs.Arena.{IsIndexOf}
-use Rattle.arena_core.proofs.UnusedBlocks.{iff_then}
+use Rattle.arena_core.proofs.Arenas.{index_as, book_same}
 
 pub record IsHeaderChange (words : List ℕ) (start : ℕ) (header : SlabHeader) (new : List ℕ) : Type 0 where
   pub sound : IsSound (bounds_of words) (tables_of words)
@@ -34,21 +32,10 @@ module _ {words : List ℕ} {start : ℕ} {header : SlabHeader} {new : List ℕ}
   book_header book log =
       let four = granules_at-slab (tables_of words) start change.slab in
       let lies = change.sound.starts start (omega (arith, four)) in
-      record {
-        reads = Reads-same book words new (SameLog-off_header words new start (record { in_heap = lies.0; others = change.off.others })) change.off.same_length log.reads;
-        granules = log.granules ∙ ap (λ (b : Bounds). b.granules) (sym change.bounds);
-      }
+      book_same book (SameLog-off_header words new start (record { in_heap = lies.0; others = change.off.others })) change.off.same_length change.bounds log
 
   pub index_header : (set : FreeSet) → IsIndexOf set words → IsIndexOf set new
-  index_header set index = record {
-    granules = index.granules ∙ ap (λ (b : Bounds). b.granules) (sym change.bounds);
-    each = λ k. subst (λ b. IsFree set k ↔ IsVacant b (tables_of new) k) (sym change.bounds)
-        (subst (λ x. IsFree set k ↔ IsVacant (bounds_of words) x k) (sym change.tables)
-        (iff_then (index.each k) (
-          λ vacant. record { low = vacant.low; high = vacant.high; none = λ other covers. vacant.none other (record { low = covers.low; high = covers.high }) },
-          λ vacant. record { low = vacant.low; high = vacant.high; none = λ other covers. vacant.none other (record { low = covers.low; high = covers.high }) },
-        )));
-  }
+  index_header set = index_as set change.bounds (λ other. row (λ x. granules_at x other))
 
   -- the same blocks are unused
   pub unused_header : (s class i : ℕ) → IsUnusedIn (tables_of words) s class i ↔ IsUnusedIn (tables_of new) s class i

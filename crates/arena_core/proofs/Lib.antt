@@ -1,4 +1,5 @@
 pub mod Tests
+pub mod Maps
 pub mod UnusedBlocks
 pub mod LastBlocks
 pub mod LiveCounts

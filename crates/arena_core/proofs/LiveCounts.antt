@@ -1,14 +1,13 @@
 -- How many live blocks the slabs of an arena have: once a root has another block, and once slabs come and go.
-use Rattle.std.proofs.Common.{◌≡◌, ◌≢◌, ◌==◌, ℕ, ◌+◌, ◌-◌, ◌*◌, ◌<◌, ◌≤◌, Bool, true, false, true≢false, cond, List, length, slice_index, Option, Some, None, sym, ap, ◌∙◌, arith, ⊎_elim, if◌then◌else◌, zero, suc}
-use Rattle.std.proofs.lemmas.Bool.{cases_eq, cases_lt, cases_Bool, cond-true, cond-false, eq-eqb, ne_eqb, false_from_ne_true}
+use Rattle.std.proofs.Common.{◌≡◌, ◌≢◌, ◌==◌, ℕ, ◌+◌, ◌-◌, ◌*◌, ◌<◌, ◌≤◌, Bool, true, false, true≢false, cond, List, length, slice_index, Option, Some, None, refl, sym, ap, ◌∙◌, arith, ⊎_elim, if◌then◌else◌, zero, suc}
+use Rattle.std.proofs.lemmas.Bool.{cases_eq, cases_lt, cases_Bool, eq-eqb, ne_eqb, false_from_ne_true}
 use Rattle.pool_layout.specs.Header.{granules_in}
 use Rattle.image_tables.specs.Tables.{Tables, tables_of}
 use Rattle.image_tables.proofs.Tables.{root_table-past}
-use Rattle.heap_model.specs.Machine.{Bounds, Range, with_key}
+use Rattle.heap_model.specs.Machine.{Bounds, Range}
 use Rattle.heap_model.specs.Slabs.{live_below, begins_in}
 use Rattle.heap_model.proofs.Counts.{live_below-with}
 use Rattle.heap_model.proofs.Freeing.{BeginsIn, begins_in-here, begins_in-true, live_below-some, live_below-none}
-use Rattle.heap_model.proofs.Maps.{with_key-here, with_key-other}
 use Rattle.heap_check.specs.Heap.{entry_at, heap, Holds}
 use Rattle.heap_check.specs.Sound.{IsInSlab, IsSound}
 use Rattle.heap_check.specs.Image.{bounds_of}
@@ -20,6 +19,7 @@ use Rattle.heap_check.proofs.Within.{IsInSlab-held}
 use Rattle.slab_lives.specs.Lives.{Lives, calm_at}
 use Rattle.arena_core.specs.Arena.{live_in, calm_of, AreCountsOf, AreLivesOf}
 use Rattle.arena_core.specs.Carried.{HaveOneMore}
+use Rattle.arena_core.proofs.Maps.{with_key-is}
 
 -- one, where something is so
 abbrev pub one_if : Bool → ℕ
@@ -32,13 +32,34 @@ live_next block s n = let next : n + 1 ≡ suc n = omega arith in ap (live_below
 -- a root without a block gets one
 pub live_given : (old new : ℕ → Option Range) (s roots root : ℕ) (range : Range) → root < roots → old root ≡ None → new root ≡ Some range → ((other : ℕ) → other ≢ root → new other ≡ old other) →
     live_below new s roots ≡ one_if (begins_in s (Some range)) + live_below old s roots
-live_given old new s roots root range below none given others = ap (λ h. live_below h s roots) (λ i k. same k i) ∙ live_below-with old s roots root range below none
-  where
-    same : (k : ℕ) → new k ≡ with_key old root (Some range) k
-    same k = ⊎_elim
-        (λ (here : k ≡ root). ap new here ∙ given ∙ sym (with_key-here old root (Some range)) ∙ ap (with_key old root (Some range)) (sym here))
-        (λ (apart : k ≢ root). others k apart ∙ sym (with_key-other old root k (Some range) apart))
-        (cases_eq k root)
+live_given old new s roots root range below none given others = ap (λ h. live_below h s roots) (λ i k. with_key-is old new root (Some range) given others k i) ∙ live_below-with old s roots root range below none
+
+-- where a block begins
+pub begins_at : (s : ℕ) (range : Range) → BeginsIn s (Some range) → (16384 * s ≤ range.at) × (range.at < 16384 * s + 65536)
+begins_at s range begins =
+    let same : range ≡ begins.range = cc (begins.named) in
+    let at = ap (λ (x : Range). x.at) same in
+    (omega (arith, at, begins.low), omega (arith, at, begins.high))
+
+-- numbers of slabs: where no slab begins they are 0
+
+pub by_slab : (is : Bool) (m n : ℕ) → (is ≡ true → m ≡ n) → (if is then m else 0) ≡ (if is then n else 0)
+by_slab true m n same = same refl
+by_slab false m n same = refl
+
+-- one more in one slab
+pub more_by_slab : (is here : Bool) (m n : ℕ) → (is ≡ true → m ≡ one_if here + n) → (is ≡ false → here ≡ false) → (if is then m else 0) ≡ one_if here + (if is then n else 0)
+more_by_slab true here m n more none = more refl
+more_by_slab false here m n more none = let off : one_if here ≡ 0 = ap one_if (none refl) in omega (arith, off)
+
+-- no more than of the others
+pub most_by_slab : (is : Bool) {m n : ℕ} → m ≤ n → (if is then m else 0) ≤ n
+most_by_slab true most = most
+most_by_slab false most = omega arith
+
+pub put_one : (is : Bool) (n : ℕ) → (if is then n + 1 else n) ≡ one_if is + n
+put_one true n = omega arith
+put_one false n = omega arith
 
 -- a slab that holds no block has no live one
 pub live_none : {b : Bounds} {t : Tables} → IsSound b t → t.open_entry ≡ None → (start : ℕ) → t.slab start ≡ true → ((range : Range) → ¬ (Holds t start range)) → (n : ℕ) → live_below (heap t) start n ≡ 0
@@ -80,20 +101,13 @@ pub record IsOneMore (without with_it : List ℕ) (root start : ℕ) (range : Ra
   pub begins : (s : ℕ) → (tables_of without).slab s ≡ true → begins_in s (Some range) ≡ (s == start)
 
 pub live_step : (without with_it : List ℕ) (root start : ℕ) (range : Range) → IsOneMore without with_it root start range → (s : ℕ) → live_in with_it s ≡ one_if (s == start) + live_in without s
-live_step without with_it root start range more s = ⊎_elim
-    (λ (slab : (tables_of without).slab s ≡ true).
-    cond-true ((tables_of with_it).slab s) (live_below (heap (tables_of with_it)) s (bounds_of with_it).roots) 0 (more.slabs s ∙ slab)
-    ∙ ap (λ (b : Bounds). live_below (heap (tables_of with_it)) s b.roots) more.bounds
-    ∙ live_given (heap (tables_of without)) (heap (tables_of with_it)) s ((bounds_of without).roots) root range more.rooted more.none more.some more.others
-    ∙ ap (λ is. one_if is + live_below (heap (tables_of without)) s ((bounds_of without).roots)) (more.begins s slab)
-    ∙ ap (λ n. one_if (s == start) + n) (sym (cond-true ((tables_of without).slab s) (live_below (heap (tables_of without)) s ((bounds_of without).roots)) 0 slab)))
-    (λ (no : (tables_of without).slab s ≡ false).
-    let apart : s ≢ start = λ same. true≢false (sym more.inside ∙ ap (tables_of without).slab (sym same) ∙ no) in
-    let before : live_in without s ≡ 0 = cond-false ((tables_of without).slab s) (live_below (heap (tables_of without)) s ((bounds_of without).roots)) 0 no in
-    let after : live_in with_it s ≡ 0 = cond-false ((tables_of with_it).slab s) (live_below (heap (tables_of with_it)) s (bounds_of with_it).roots) 0 (more.slabs s ∙ no) in
-    let none : one_if (s == start) ≡ 0 = ap one_if (ne_eqb s start apart) in
-    omega (arith, before, after, none))
-    (cases_Bool ((tables_of without).slab s))
+live_step without with_it root start range more s =
+    (λ i. if more.slabs s i then live_below (heap (tables_of with_it)) s (more.bounds i).roots else 0)
+    ∙ more_by_slab ((tables_of without).slab s) (s == start) (live_below (heap (tables_of with_it)) s (bounds_of without).roots) (live_below (heap (tables_of without)) s (bounds_of without).roots)
+    (λ slab.
+    live_given (heap (tables_of without)) (heap (tables_of with_it)) s (bounds_of without).roots root range more.rooted more.none more.some more.others
+    ∙ ap (λ is. one_if is + live_below (heap (tables_of without)) s (bounds_of without).roots) (more.begins s slab))
+    (λ no. ne_eqb s start (λ same. true≢false (sym more.inside ∙ ap (tables_of without).slab (sym same) ∙ no)))
 
 -- an address in a slab of sound tables lies in no other
 pub begins_only : {b : Bounds} {t : Tables} → IsSound b t → (start : ℕ) (range : Range) → IsInSlab t start range.at → (s : ℕ) → t.slab s ≡ true → begins_in s (Some range) ≡ (s == start)
@@ -101,10 +115,8 @@ begins_only {b} {t} sound start range inside s slab = ⊎_elim
     (λ (same : s ≡ start). begins_in-here s range (omega (arith, same, inside.low)) (omega (arith, same, inside.high)) ∙ sym (eq-eqb s start same))
     (λ (apart : s ≢ start).
     false_from_ne_true (begins_in s (Some range)) (λ is.
-    let begins = begins_in-true s (Some range) is in
-    let same : range ≡ begins.range = cc (begins.named) in
-    let at = ap (λ (x : Range). x.at) same in
-    apart (one_slab sound s start range.at (record { slab = slab; low = omega (arith, at, begins.low); high = omega (arith, at, begins.high) }) inside))
+    let at = begins_at s range (begins_in-true s (Some range) is) in
+    apart (one_slab sound s start range.at (record { slab = slab; low = at.0; high = at.1 }) inside))
     ∙ sym (ne_eqb s start apart))
     (cases_eq s start)
 
@@ -113,20 +125,7 @@ pub counts_raised : (without with_it : List ℕ) (root start : ℕ) (range : Ran
     ((s : ℕ) → slice_index next s ≡ (if s == start then slice_index counts s + 1 else slice_index counts s)) → AreCountsOf counts without → AreCountsOf next with_it
 counts_raised without with_it root start range counts next more size put were = record {
   size = size ∙ were.size ∙ sym (ap (λ (b : Bounds). b.granules) more.bounds);
-  each = λ s.
-      let step = live_step without with_it root start range more s in
-      ⊎_elim
-      (λ (same : s ≡ start).
-      let test = eq-eqb s start same in
-      let here = put s ∙ cond-true (s == start) (slice_index counts s + 1) (slice_index counts s) test in
-      let one = ap one_if test in
-      omega (arith, here, were.each s, step, one))
-      (λ (apart : s ≢ start).
-      let test = ne_eqb s start apart in
-      let here = put s ∙ cond-false (s == start) (slice_index counts s + 1) (slice_index counts s) test in
-      let none = ap one_if test in
-      omega (arith, here, were.each s, step, none))
-      (cases_eq s start);
+  each = λ s. put s ∙ put_one (s == start) (slice_index counts s) ∙ ap (λ n. one_if (s == start) + n) (were.each s) ∙ sym (live_step without with_it root start range more s);
 }
 
 -- the other way round, the counts from before are one more at the slab
@@ -135,13 +134,9 @@ pub one_more : {without with_it : List ℕ} {root start : ℕ} {range : Range} (
 one_more {without} {with_it} {root} {start} {range} lives more inside were calm = record {
   size = were.counts.size ∙ ap (λ (b : Bounds). b.granules) more.bounds;
   inside = inside;
-  each = λ s. were.counts.each s ∙ live_step without with_it root start range more s ∙ put_one (s == start) (live_in without s);
+  each = λ s. were.counts.each s ∙ live_step without with_it root start range more s ∙ sym (put_one (s == start) (live_in without s));
   calm = λ s. were.calm s ∙ calm s;
 }
-  where
-    put_one : (is : Bool) (n : ℕ) → one_if is + n ≡ (if is then n + 1 else n)
-    put_one true n = omega arith
-    put_one false n = omega arith
 
 -- once it is one less, they are those of the image
 pub one_less : {lives next : Lives} {words : List ℕ} {start : ℕ} → HaveOneMore lives words start → length next.counts ≡ length lives.counts →
@@ -163,10 +158,7 @@ live_below-most block s (suc n) =
     ⊎_elim (λ is. let one : one_if (begins_in s (block n)) ≡ 1 = ap one_if is in omega (arith, rest, one)) (λ is. let none : one_if (begins_in s (block n)) ≡ 0 = ap one_if is in omega (arith, rest, none)) (cases_Bool (begins_in s (block n)))
 
 pub live_most : (words : List ℕ) (start : ℕ) → live_in words start ≤ (bounds_of words).roots
-live_most words start = ⊎_elim
-    (λ slab. let is = cond-true ((tables_of words).slab start) (live_below (heap (tables_of words)) start (bounds_of words).roots) 0 slab in omega (arith, is, live_below-most (heap (tables_of words)) start (bounds_of words).roots))
-    (λ no. let is = cond-false ((tables_of words).slab start) (live_below (heap (tables_of words)) start (bounds_of words).roots) 0 no in omega (arith, is))
-    (cases_Bool ((tables_of words).slab start))
+live_most words start = most_by_slab ((tables_of words).slab start) (live_below-most (heap (tables_of words)) start (bounds_of words).roots)
 
 -- where the slabs and the heap are the same, so are the numbers
 pub live_same : (words new : List ℕ) → bounds_of new ≡ bounds_of words → ((s : ℕ) → (tables_of new).slab s ≡ (tables_of words).slab s) → ((root : ℕ) → heap (tables_of new) root ≡ heap (tables_of words) root) → (s : ℕ) → live_in new s ≡ live_in words s
@@ -176,26 +168,12 @@ live_same words new bounds slabs heaps s = λ i. if slabs s i then live_below (�
 pub live_large : (without with_it : List ℕ) (root start count : ℕ) → IsSound (bounds_of with_it) (tables_of with_it) → (tables_of with_it).large start ≡ count → 0 < count → root < (bounds_of without).roots → bounds_of with_it ≡ bounds_of without →
     ((s : ℕ) → (tables_of with_it).slab s ≡ (tables_of without).slab s) → heap (tables_of without) root ≡ None → heap (tables_of with_it) root ≡ Some (record { at = 16384 * start; size = 16384 * count }) →
     ((other : ℕ) → other ≢ root → heap (tables_of with_it) other ≡ heap (tables_of without) other) → (s : ℕ) → live_in with_it s ≡ live_in without s
-live_large without with_it root start count sound live many rooted bounds slabs none some others s = ⊎_elim
-    (λ (slab : (tables_of without).slab s ≡ true).
-    let roots = (bounds_of without).roots in
+live_large without with_it root start count sound live many rooted bounds slabs none some others s =
     let range : Range = record { at = 16384 * start; size = 16384 * count } in
-    let before : live_in without s ≡ live_below (heap (tables_of without)) s roots = cond-true ((tables_of without).slab s) (live_below (heap (tables_of without)) s roots) 0 slab in
-    let after : live_in with_it s ≡ live_below (heap (tables_of with_it)) s roots =
-    cond-true ((tables_of with_it).slab s) (live_below (heap (tables_of with_it)) s (bounds_of with_it).roots) 0 (slabs s ∙ slab) ∙ ap (λ (b : Bounds). live_below (heap (tables_of with_it)) s b.roots) bounds in
-    let given = live_given (heap (tables_of without)) (heap (tables_of with_it)) s roots root range rooted none some others in
-    let off : one_if (begins_in s (Some range)) ≡ 0 = ap one_if (elsewhere slab) in
-    omega (arith, before, after, given, off))
-    (λ (no : (tables_of without).slab s ≡ false).
-    let before : live_in without s ≡ 0 = cond-false ((tables_of without).slab s) (live_below (heap (tables_of without)) s (bounds_of without).roots) 0 no in
-    let after : live_in with_it s ≡ 0 = cond-false ((tables_of with_it).slab s) (live_below (heap (tables_of with_it)) s (bounds_of with_it).roots) 0 (slabs s ∙ no) in
-    omega (arith, before, after))
-    (cases_Bool ((tables_of without).slab s))
-  where
-    elsewhere : (tables_of without).slab s ≡ true → begins_in s (Some (record { at = 16384 * start; size = 16384 * count })) ≡ false
-    elsewhere slab = false_from_ne_true (begins_in s (Some (record { at = 16384 * start; size = 16384 * count }))) (λ is.
-        let begins = begins_in-true s (Some (record { at = 16384 * start; size = 16384 * count })) is in
-        let same : (record { at = 16384 * start; size = 16384 * count }) ≡ begins.range = cc (begins.named) in
-        let at = ap (λ (x : Range). x.at) same in
-        let inside : IsInSlab (tables_of with_it) s (16384 * start) = record { slab = slabs s ∙ slab; low = omega (arith, at, begins.low); high = omega (arith, at, begins.high) } in
-        true≢false (sym (is_large-start (tables_of with_it).large start (omega (arith, live, many))) ∙ is_large-slab sound s (16384 * start) inside))
+    (λ i. if slabs s i then live_below (heap (tables_of with_it)) s (bounds i).roots else 0)
+    ∙ by_slab ((tables_of without).slab s) (live_below (heap (tables_of with_it)) s (bounds_of without).roots) (live_below (heap (tables_of without)) s (bounds_of without).roots) (λ slab.
+    let given = live_given (heap (tables_of without)) (heap (tables_of with_it)) s (bounds_of without).roots root range rooted none some others in
+    let off : one_if (begins_in s (Some range)) ≡ 0 = ap one_if (false_from_ne_true (begins_in s (Some range)) (λ is.
+    let at = begins_at s range (begins_in-true s (Some range) is) in
+    true≢false (sym (is_large-start (tables_of with_it).large start (omega (arith, live, many))) ∙ is_large-slab sound s (16384 * start) (record { slab = slabs s ∙ slab; low = at.0; high = at.1 })))) in
+    omega (arith, given, off))

@@ -1,12 +1,11 @@
 -- The counts of live blocks and the calm slabs together, as blocks and slabs come and go.
 use Rattle.std.proofs.Common.{◌≡◌, ◌≢◌, ◌==◌, ◌&&◌, ℕ, true, false, List, Option, Some, None, sym, ap, ◌∙◌, ⊎_elim, if◌then◌else◌}
-use Rattle.std.proofs.lemmas.Bool.{cases_Bool, cases_eq, cond-true, cond-false, eq-eqb, eqb-true, ne_eqb, and_parts, and_from, and_left}
+use Rattle.std.proofs.lemmas.Bool.{cases_Bool, cond-true, cond-false, eq-eqb, eqb-true, ne_eqb, and_parts, and_from, and_left}
 use Rattle.image_tables.specs.Forms.{normal_kind}
 use Rattle.image_tables.specs.Tables.{Tables, tables_of}
 use Rattle.image_tables.proofs.Updates.{put_at-other}
 use Rattle.slab_morph.specs.SlabHeaders.{SlabHeader, put_header}
 use Rattle.heap_model.specs.Machine.{with_key}
-use Rattle.heap_model.proofs.Maps.{with_key-here, with_key-other}
 use Rattle.heap_check.specs.Slabs.{IsSameSlab}
 use Rattle.slab_lives.specs.Lives.{Lives, calm_at}
 use Rattle.arena_core.specs.Arena.{AreCountsOf, calm_of, AreLivesOf}
@@ -46,13 +45,6 @@ calm_same t new s same = λ i. if same.slab i && (same.kind i == normal_kind) th
 -- a header that changed makes a difference to its own slab alone
 pub calm_header : (t : Tables) (start : ℕ) (h : SlabHeader) (s : ℕ) → s ≢ start → calm_of (put_header t start h) s ≡ calm_of t s
 calm_header t start h s differ = λ i. if t.slab s && (put_at-other t.kind start s h.kind differ i == normal_kind) then Some (put_at-other t.class start s h.class differ i) else None
-
--- all but one are
-pub calm_all_but : (t new : Tables) (start : ℕ) (class : Option ℕ) → calm_of new start ≡ class → ((s : ℕ) → s ≢ start → calm_of new s ≡ calm_of t s) → (s : ℕ) → calm_of new s ≡ with_key (calm_of t) start class s
-calm_all_but t new start class here others s = ⊎_elim
-    (λ (same : s ≡ start). ap (calm_of new) same ∙ here ∙ sym (with_key-here (calm_of t) start class) ∙ ap (with_key (calm_of t) start class) (sym same))
-    (λ (differ : s ≢ start). others s differ ∙ sym (with_key-other (calm_of t) start s class differ))
-    (cases_eq s start)
 
 -- what is kept beside the words
 

@@ -1,22 +1,20 @@
 -- A block moved from a root to another: what stands beside the words is what they say still.
-use Rattle.std.proofs.Common.{◌≡◌, ◌≢◌, ◌↔◌, ℕ, ◌+◌, ◌<◌, List, Option, Some, None, sym, ap, subst, ◌∙◌, arith, ⊎_elim, if◌then◌else◌}
+use Rattle.std.proofs.Common.{◌≡◌, ◌≢◌, ℕ, ◌+◌, ◌<◌, List, Option, Some, None, sym, ap, ◌∙◌, arith, ⊎_elim, if◌then◌else◌}
 use Rattle.std.proofs.lemmas.Bool.{cases_eq}
 use Rattle.pmem_lines.specs.Words.{word_at}
 use Rattle.pool_layout.specs.Places.{entry_word}
 use Rattle.pool_layout.specs.Header.{version_in, granules_in}
 use Rattle.image_tables.specs.Tables.{Tables, tables_of}
-use Rattle.image_tables.specs.Updates.{with_root}
 use Rattle.image_tables.proofs.Places.{log_word-low, entry_word-low}
 use Rattle.image_tables.proofs.Logs.{SameLog}
 use Rattle.image_tables.proofs.Stores.{root_word-low}
 use Rattle.book_log.specs.Book.{Book}
-use Rattle.book_log.proofs.Books.{Reads-same}
-use Rattle.extent_index.specs.FreeSet.{FreeSet, IsFree}
+use Rattle.extent_index.specs.FreeSet.{FreeSet}
 use Rattle.heap_model.specs.Machine.{Bounds, Range, with_key}
 use Rattle.heap_model.specs.Slabs.{live_below, begins_in}
 use Rattle.heap_model.proofs.Maps.{with_key-here, with_key-other}
 use Rattle.heap_check.specs.Heap.{heap}
-use Rattle.heap_check.specs.Sound.{IsVacant}
+use Rattle.heap_check.specs.Sound.{granules_at}
 use Rattle.heap_check.specs.Image.{bounds_of}
 use Rattle.heap_check.proofs.Heaps.{heap-none}
 use Rattle.log_steps.specs.Log.{IsBookOf}
@@ -24,16 +22,9 @@ use Rattle.move_steps.specs.Moves.{IsMovable, IsMoved}
 use Rattle.slab_lives.specs.Lives.{Lives, calm_at}
 use Rattle.arena_core.specs.Arena.{IsIndexOf, live_in, AreLivesOf}
 use Rattle.arena_core.specs.Effect.{KeepsSlabs}
-use Rattle.arena_core.proofs.Arenas.{same_log}
+use Rattle.arena_core.proofs.Arenas.{same_log, index_as, book_same}
 use Rattle.arena_core.proofs.LiveCounts.{one_if, live_given, counts_kept}
 use Rattle.arena_core.proofs.LiveSlabs.{calm_same, lives_kept}
-
--- other words of two roots make no difference to what is vacant
-vacant_roots : (b : Bounds) (t : Tables) (to at from k : ℕ) → IsVacant b (with_root (with_root t to at) from 0) k ↔ IsVacant b t k
-vacant_roots b t to at from k = (
-  λ vacant. record { low = vacant.low; high = vacant.high; none = λ start covers. vacant.none start (record { low = covers.low; high = covers.high }) },
-  λ vacant. record { low = vacant.low; high = vacant.high; none = λ start covers. vacant.none start (record { low = covers.low; high = covers.high }) },
-)
 
 -- As many blocks begin in a slab once a root's block is another's.
 pub live_moved : (old new : ℕ → Option Range) (s roots from to : ℕ) (range : Range) → from < roots → to < roots → from ≢ to → old from ≡ Some range → old to ≡ None → new to ≡ Some range → new from ≡ None →
@@ -79,18 +70,11 @@ module _ {words new : List ℕ} {line from to at : ℕ} (may : IsMovable words f
   granules_moved = ap (λ (b : Bounds). b.granules) moved.bounds
 
   pub book_moved : (book : Book) → IsBookOf book words → IsBookOf book new
-  book_moved book log = record { reads = Reads-same book words new log_moved moved.rest.same_length log.reads; granules = log.granules ∙ sym granules_moved }
+  book_moved book = book_same book log_moved moved.rest.same_length moved.bounds
 
   -- the same granules are vacant
   pub index_moved : (set : FreeSet) → IsIndexOf set words → IsIndexOf set new
-  index_moved set index = record {
-    granules = index.granules ∙ sym granules_moved;
-    each = λ k.
-        let same = vacant_roots (bounds_of words) t to at from k in
-        subst (λ b. IsFree set k ↔ IsVacant b (tables_of new) k) (sym moved.bounds)
-        (subst (λ x. IsFree set k ↔ IsVacant (bounds_of words) x k) (sym moved.tables)
-        (λ free. same.1 ((index.each k).0 free), λ vacant. (index.each k).1 (same.0 vacant)));
-  }
+  index_moved set = index_as set moved.bounds (λ start. ap (λ (x : Tables). granules_at x start) moved.tables)
 
   -- the slabs are the same
   pub slabs_moved : KeepsSlabs words new

@@ -41,6 +41,10 @@ handed value from to other index word is = ⊎_elim
     (cases_eq other from))
     (cases_eq other to)
 
+-- both are roots of the arena
+in_arena : {words : List ℕ} {from to : ℕ} → AreRoots words from to → ¬ (((bounds_of words).roots ≤ from) ⊎ ((bounds_of words).roots ≤ to))
+in_arena {words} {from} {to} roots past = ⊎_elim (λ x. omega (arith, x, roots.first)) (λ x. omega (arith, x, roots.second)) past
+
 module _ {words new : List ℕ} {line from to at : ℕ} (may : IsMovable words from to at) (few : line < 8) (moved : IsMoved words line from to at new) (range : Range) (named : heap (tables_of words) from ≡ Some range) (m : Machine)
     (state : HasState words m) where
   abbrev next : Machine
@@ -107,13 +111,9 @@ module _ {words new : List ℕ} {line from to at : ℕ} (may : IsMovable words f
         (handed m.value from to other index word is);
   }
 
-  -- both are roots of the arena
-  two_roots : ¬ (((bounds_of words).roots ≤ from) ⊎ ((bounds_of words).roots ≤ to))
-  two_roots past = ⊎_elim (λ x. omega (arith, x, may.from_rooted)) (λ x. omega (arith, x, may.to_rooted)) past
-
   move_is : IsMove (bounds_of words) m from to (replies.Moved range.at range.size) (with_moved m from to range)
   move_is = inr (
-    two_roots,
+    in_arena (record { first = may.from_rooted; second = may.to_rooted }),
     inl (
       record { range = range; named = sym (state.blocks from) ∙ named },
       inr ((λ (has : HasBlock m to). let none = sym (state.blocks to) ∙ heap-none (tables_of words) to may.none in let some = has.named in absurd (cc)), (refl, refl)),
@@ -127,10 +127,6 @@ step_moved {words} {new} {line} {from} {to} {at} may few moved range named = rec
   bounds = moved.bounds;
   each = λ m state. (with_moved m from to range, move_is may few moved range named m state, state_moved may few moved range named m state);
 }
-
--- both are roots of the arena
-in_arena : {words : List ℕ} {from to : ℕ} → AreRoots words from to → ¬ (((bounds_of words).roots ≤ from) ⊎ ((bounds_of words).roots ≤ to))
-in_arena {words} {from} {to} roots past = ⊎_elim (λ x. omega (arith, x, roots.first)) (λ x. omega (arith, x, roots.second)) past
 
 -- a move is refused
 pub step_unmoved : {words : List ℕ} {from to : ℕ} (refusal : MoveRefusal) → IsExactImage words → IsMovePlan words from to (Err refusal) → IsMoveStep words words from to (move_reply (Err refusal))

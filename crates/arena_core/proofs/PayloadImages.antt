@@ -13,20 +13,20 @@ use Rattle.image_tables.proofs.Extents.{extent_at-same}
 use Rattle.image_tables.proofs.Tables.{slab_table, slab_fields}
 use Rattle.image_tables.proofs.Stores.{root_word-low, wal_word-low, log_word-high, live_at-same, number_at-same, bit_at-same, slab_bit-same, roots-same, entry_among-same, tables_by}
 use Rattle.book_log.specs.Book.{Book}
-use Rattle.book_log.proofs.Books.{HasLog-same, Reads-same}
-use Rattle.extent_index.specs.FreeSet.{FreeSet, IsFree}
+use Rattle.book_log.proofs.Books.{HasLog-same}
+use Rattle.extent_index.specs.FreeSet.{FreeSet}
 use Rattle.block_supply.specs.Supply.{Supply, IsOpen}
 use Rattle.heap_model.specs.Machine.{Bounds, Range}
 use Rattle.heap_model.specs.Slabs.{live_below}
 use Rattle.heap_check.specs.Heap.{heap, slabs, IsUnusedIn}
-use Rattle.heap_check.specs.Sound.{IsVacant, IsExact}
+use Rattle.heap_check.specs.Sound.{IsExact, granules_at}
 use Rattle.heap_check.specs.Image.{bounds_of, IsFormed, IsExactImage}
 use Rattle.heap_check.specs.State.{IsWordOf, HaveSameHeap}
 use Rattle.heap_check.proofs.BlockWords.{block_word-heap, block_word-header}
 use Rattle.heap_check.proofs.Forms.{IsFormed-same, HasWal-same, bounds_of-same}
 use Rattle.heap_check.proofs.Geometry.{index_count_few}
 use Rattle.log_steps.specs.Log.{IsBookOf}
-use Rattle.arena_core.proofs.Arenas.{same_log}
+use Rattle.arena_core.proofs.Arenas.{same_log, index_as, book_same}
 use Rattle.arena_core.specs.declared.volatile.Volatile.{Volatile}
 use Rattle.slab_lives.specs.Lives.{Lives, calm_at}
 use Rattle.arena_core.specs.Arena.{IsIndexOf, IsSlabsOf, live_in, calm_of, AreLivesOf, IsArena}
@@ -122,15 +122,10 @@ module _ {words new : List ℕ} {range : Range} (image : IsExactImage words) (ro
   granules = ap (λ (b : Bounds). b.granules) bounds_kept
 
   pub book_kept : (book : Book) → IsBookOf book words → IsBookOf book new
-  book_kept book was = record { reads = Reads-same book words new log same.same_length was.reads; granules = was.granules ∙ sym granules }
+  book_kept book = book_same book log same.same_length bounds_kept
 
   pub index_kept : (set : FreeSet) → IsIndexOf set words → IsIndexOf set new
-  index_kept set was = record {
-    granules = was.granules ∙ sym granules;
-    each = λ k.
-        subst (λ (b : Bounds). IsFree set k ↔ IsVacant b (tables_of new) k) (sym bounds_kept)
-        (subst (λ (t : Tables). IsFree set k ↔ IsVacant (bounds_of words) t k) (sym tables_kept) (was.each k));
-  }
+  index_kept set = index_as set bounds_kept (λ start. ap (λ (t : Tables). granules_at t start) tables_kept)
 
   pub classes_kept : (set : Supply) → IsSlabsOf set words → IsSlabsOf set new
   classes_kept set was = record {

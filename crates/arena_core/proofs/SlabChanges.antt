@@ -1,6 +1,6 @@
 -- A slab comes or goes: what an arena keeps holds again.
 use Rattle.std.proofs.Common.{◌≡◌, ◌≢◌, ◌⊎◌, ◌↔◌, ◌==◌, ℕ, ◌+◌, ◌<◌, ◌≤◌, true, true≢false, List, sym, ap, subst, ◌∙◌, arith, inl, inr, ⊎_elim, Some, None, if◌then◌else◌, slice_index}
-use Rattle.std.proofs.lemmas.Bool.{cases_eq, cases_lt, eq-eqb, ne_eqb, cond-true, cond-false}
+use Rattle.std.proofs.lemmas.Bool.{cases_eq, cases_lt, cond-true, cond-false}
 use Rattle.size_classes.specs.Classes.{class_capacity}
 use Rattle.image_tables.specs.Tables.{Tables, tables_of}
 use Rattle.extent_index.specs.FreeSet.{FreeSet, IsFree, IsHeldRow}
@@ -8,7 +8,7 @@ use Rattle.slab_index.specs.SlabSet.{class_in}
 use Rattle.block_supply.specs.Supply.{Supply, IsOpen, IsClearOf, HasSlabMore, HasSlabLess}
 use Rattle.heap_model.specs.Machine.{Bounds, with_key}
 use Rattle.heap_check.specs.Heap.{slabs, IsUnusedIn, heap}
-use Rattle.heap_check.specs.Sound.{IsVacant, IsInSlab, IsEmptySlab, IsExactBut, IsDoneSlab}
+use Rattle.heap_check.specs.Sound.{IsInSlab, IsEmptySlab, IsExactBut, IsDoneSlab}
 use Rattle.heap_check.specs.Slabs.{IsSlabMore, IsWithSlab}
 use Rattle.heap_check.specs.Image.{bounds_of, IsExactImage, IsExactButImage}
 use Rattle.heap_check.specs.State.{KeepsBlocks}
@@ -21,14 +21,16 @@ use Rattle.heap_check.proofs.Slabs.{IsSlabPlace, holds_none-fresh}
 use Rattle.extent_steps.specs.Slabs.{IsOpened, IsDropped}
 use Rattle.extent_steps.proofs.Images.{keeps_blocks}
 use Rattle.slab_lives.specs.Lives.{Lives, calm_at}
-use Rattle.arena_core.specs.Arena.{IsIndexOf, IsSlabsOf, AreCountsOf, AreLivesOf, live_in}
+use Rattle.arena_core.specs.Arena.{IsIndexOf, IsSlabsOf, AreCountsOf, AreLivesOf, live_in, calm_of}
 use Rattle.arena_core.specs.Plan.{IsVacantRow}
 use Rattle.arena_core.proofs.Plans.{slab_parts}
 use Rattle.arena_core.proofs.UnusedBlocks.{iff_then, iff_back}
 use Rattle.heap_check.proofs.SameSlabs.{IsUnusedIn-same}
 use Rattle.arena_core.proofs.LiveCounts.{counts_kept, live_none}
-use Rattle.arena_core.proofs.LiveSlabs.{calm_normal, calm_none, calm_same, calm_all_but, lives_put}
+use Rattle.arena_core.proofs.LiveSlabs.{calm_normal, calm_none, calm_same, lives_put}
 use Rattle.heap_model.specs.Slabs.{live_below}
+use Rattle.arena_core.proofs.Arenas.{index_by, index_less, index_more}
+use Rattle.arena_core.proofs.Maps.{with_key-is}
 
 -- a slab is opened
 module _ (words : List ℕ) (start class : ℕ) (exact : IsExactImage words) (row : IsVacantRow (bounds_of words) (tables_of words) start 4) (class_below : class < 36) (new : List ℕ) (opened : IsOpened words start class new) where
@@ -45,20 +47,10 @@ module _ (words : List ℕ) (start class : ℕ) (exact : IsExactImage words) (ro
   open_place = IsSlabPlace-vacant exact.exact.sound exact.exact.closed (omega (arith, (sizes_of words exact.formed).first)) opened.slab row.vacant
 
   pub classes_opened : (s : ℕ) → slabs (tables_of new) s ≡ with_key (slabs (tables_of words)) start (Some class) s
-  classes_opened s = ⊎_elim
-      (λ (same : s ≡ start). ap (slabs after) same ∙ slabs-slab open_place class with_it.fresh ∙ sym (cond-true (s == start) (Some class) (slabs t s) (eq-eqb s start same)))
-      (λ (differ : s ≢ start). slabs-other open_place s differ ∙ sym (cond-false (s == start) (Some class) (slabs t s) (ne_eqb s start differ)))
-      (cases_eq s start)
+  classes_opened = with_key-is (slabs t) (slabs after) start (Some class) (slabs-slab open_place class with_it.fresh) (slabs-other open_place)
 
   pub index_opened : (set less : FreeSet) → less.granules ≡ set.granules → ((k : ℕ) → IsFree less k ↔ (IsFree set k × ((k < start) ⊎ (start + 4 ≤ k)))) → IsIndexOf set words → IsIndexOf less new
-  index_opened set less granules taken index = record {
-    granules = granules ∙ index.granules ∙ ap (λ (b : Bounds). b.granules) (sym opened.bounds);
-    each = λ k. let vacant = IsVacant-slab open_place k in
-        subst (λ b. IsFree less k ↔ IsVacant b after k) (sym opened.bounds) (
-          λ free. let both = (taken k).0 free in vacant.1 ((index.each k).0 both.0, both.1),
-          λ is. let both = vacant.0 is in (taken k).1 ((index.each k).1 both.0, both.1),
-        );
-  }
+  index_opened set less granules taken index = index_by words new less (granules ∙ index.granules) opened.bounds (index_less set less (bounds_of words) t after start 4 index.each taken (IsVacant-slab open_place))
 
   -- no slab has one of the granules
   pub clear_opened : (set : Supply) → IsSlabsOf set words → IsClearOf set start
@@ -83,10 +75,7 @@ module _ (words : List ℕ) (start class : ℕ) (exact : IsExactImage words) (ro
   pub slabs_opened : (set more : Supply) → HasSlabMore set more start class (λ i. i < class_capacity class) → IsSlabsOf set words → IsSlabsOf more new
   slabs_opened set more added was = record {
     granules = added.granules ∙ was.granules ∙ ap (λ (b : Bounds). b.granules) (sym opened.bounds);
-    classes = λ s. ⊎_elim
-        (λ (same : s ≡ start). added.classes s ∙ cond-true (s == start) (Some class) (class_in set.slabs s) (eq-eqb s start same) ∙ sym (slabs-slab open_place class with_it.fresh) ∙ ap (slabs after) (sym same))
-        (λ (differ : s ≢ start). added.classes s ∙ cond-false (s == start) (Some class) (class_in set.slabs s) (ne_eqb s start differ) ∙ was.classes s ∙ sym (slabs-other open_place s differ))
-        (cases_eq s start);
+    classes = λ s. added.classes s ∙ ap (λ x. if s == start then Some class else x) (was.classes s) ∙ sym (classes_opened s);
     blocks = λ s i slab below. ⊎_elim
         (λ (same : s ≡ start). subst (λ k. after.slab k ≡ true → i < class_capacity (after.class k) → IsOpen more k i ↔ IsUnusedIn after k (after.class k) i) (sym same) (fresh_block more added i) slab below)
         (λ (differ : s ≢ start).
@@ -119,7 +108,7 @@ module _ (words : List ℕ) (start class : ℕ) (exact : IsExactImage words) (ro
   -- and it is calm
   pub lives_opened : (was next : Lives) → next.counts ≡ was.counts → ((s : ℕ) → calm_at next s ≡ with_key (calm_at was) start (Some class) s) → AreLivesOf was words → AreLivesOf next new
   lives_opened was next same put were = lives_put words new was next (subst (λ (n : List ℕ). AreCountsOf n new) (sym same) (counts_opened was.counts were.counts)) were start (Some class) put
-      (calm_all_but t after start (Some class) (calm_normal after start with_it.more.slab with_it.fresh.kind ∙ ap (λ c. Some c) with_it.fresh.class_is) (λ s differ. calm_same t after s (with_it.more.others s differ)))
+      (with_key-is (calm_of t) (calm_of after) start (Some class) (calm_normal after start with_it.more.slab with_it.fresh.kind ∙ ap (λ c. Some c) with_it.fresh.class_is) (λ s differ. calm_same t after s (with_it.more.others s differ)))
 
   pub keeps_opened : KeepsBlocks words new
   keeps_opened = keeps_blocks words start new exact.formed exact.exact.sound exact.exact.closed
@@ -144,24 +133,14 @@ module _ (words : List ℕ) (start : ℕ) (image : IsExactButImage words start) 
   drop_place = IsSlabPlace-empty but.sound but.closed (omega (arith, (sizes_of words image.formed).first)) it empty
 
   pub classes_dropped : (s : ℕ) → slabs (tables_of new) s ≡ with_key (slabs (tables_of words)) start None s
-  classes_dropped s = ⊎_elim
-      (λ (same : s ≡ start). ap (slabs less) same ∙ slabs-none drop_place ∙ sym (cond-true (s == start) None (slabs full s) (eq-eqb s start same)))
-      (λ (differ : s ≢ start). sym (slabs-other drop_place s differ) ∙ sym (cond-false (s == start) None (slabs full s) (ne_eqb s start differ)))
-      (cases_eq s start)
+  classes_dropped = with_key-is (slabs full) (slabs less) start None (slabs-none drop_place) (λ s differ. sym (slabs-other drop_place s differ))
 
   -- the start is no slab any more
   other_slab : (s : ℕ) → less.slab s ≡ true → s ≢ start
   other_slab s slab same = true≢false (sym slab ∙ ap less.slab same ∙ it.none)
 
   pub index_dropped : (set more : FreeSet) → more.granules ≡ set.granules → ((k : ℕ) → IsFree more k ↔ (IsFree set k ⊎ ((start ≤ k) × (k < start + 4)))) → IsIndexOf set words → IsIndexOf more new
-  index_dropped set more granules given index = record {
-    granules = granules ∙ index.granules ∙ ap (λ (b : Bounds). b.granules) (sym dropped.bounds);
-    each = λ k. let vacant = IsVacant-no_slab drop_place k in
-        subst (λ b. IsFree more k ↔ IsVacant b less k) (sym dropped.bounds) (
-          λ free. vacant.1 (⊎_elim (λ was. inl ((index.each k).0 was)) (λ within. inr within) ((given k).0 free)),
-          λ is. (given k).1 (⊎_elim (λ was. inl ((index.each k).1 was)) (λ within. inr within) (vacant.0 is)),
-        );
-  }
+  index_dropped set more granules given index = index_by words new more (granules ∙ index.granules) dropped.bounds (index_more set more (bounds_of words) full less start 4 index.each given (IsVacant-no_slab drop_place))
 
   pub slabs_dropped : (set fewer : Supply) → HasSlabLess set fewer start → IsSlabsOf set words → IsSlabsOf fewer new
   slabs_dropped set fewer removed was = record {
@@ -188,7 +167,7 @@ module _ (words : List ℕ) (start : ℕ) (image : IsExactButImage words start) 
   -- and it is calm no more
   pub lives_dropped : (was next : Lives) → next.counts ≡ was.counts → ((s : ℕ) → calm_at next s ≡ with_key (calm_at was) start None s) → slice_index was.counts start ≡ 0 → AreLivesOf was words → AreLivesOf next new
   lives_dropped was next same put zero were = lives_put words new was next (subst (λ (n : List ℕ). AreCountsOf n new) (sym same) (counts_dropped was.counts zero were.counts)) were start None put
-      (calm_all_but full less start None (calm_none less start it.none) (λ s differ. sym (calm_same less full s (it.others s differ))))
+      (with_key-is (calm_of full) (calm_of less) start None (calm_none less start it.none) (λ s differ. sym (calm_same less full s (it.others s differ))))
 
   pub keeps_dropped : KeepsBlocks words new
   keeps_dropped = keeps_blocks words start new image.formed but.sound but.closed

@@ -19,9 +19,10 @@ use Rattle.arena_core.specs.Arena.{IsIndexOf, IsSlabsOf, AreSlabsLess}
 use Rattle.heap_check.specs.Slabs.{IsSameSlab}
 use Rattle.heap_check.proofs.OneBlock.{stage_of, IsVacant-one}
 use Rattle.size_classes.proofs.Spacing.{class_size-least}
-use Rattle.arena_core.proofs.UnusedBlocks.{iff_then, unused_apart, unused_freed}
+use Rattle.arena_core.proofs.UnusedBlocks.{iff_then, unused_apart, unused_freed, iff_back}
 use Rattle.heap_check.proofs.SmallPlaces.{IsSmallPlace-named, clear_unused, calm_but}
 use Rattle.heap_check.proofs.SameSlabs.{IsUnusedIn-same}
+use Rattle.arena_core.proofs.Arenas.{index_by}
 
 -- the tables are others in which a block is held or not, with its root's word
 module _ (words : List ℕ) (bits lives : Bool → ℕ → ℕ → Bool) (root : ℕ) (on : Bool) (word : ℕ) (new : List ℕ) (bounds : bounds_of new ≡ bounds_of words) (tables : tables_of new ≡ stage_of (tables_of words) bits lives root on word None) where
@@ -29,13 +30,8 @@ module _ (words : List ℕ) (bits lives : Bool → ℕ → ℕ → Bool) (root :
   classes_small s = ap (λ (x : Tables). slabs x s) tables
 
   pub index_small : (set : FreeSet) → IsIndexOf set words → IsIndexOf set new
-  index_small set index = record {
-    granules = index.granules ∙ ap (λ (b : Bounds). b.granules) (sym bounds);
-    each = λ k. let same = IsVacant-one (bounds_of words) (tables_of words) bits lives root on word None k in
-        subst (λ b. IsFree set k ↔ IsVacant b (tables_of new) k) (sym bounds)
-        (subst (λ x. IsFree set k ↔ IsVacant (bounds_of words) x k) (sym tables)
-        (λ free. same.1 ((index.each k).0 free), λ vacant. (index.each k).1 (same.0 vacant)));
-  }
+  index_small set index = index_by words new set index.granules bounds (λ k. subst (λ x. IsFree set k ↔ IsVacant (bounds_of words) x k) (sym tables)
+      (iff_then (index.each k) (iff_back (IsVacant-one (bounds_of words) (tables_of words) bits lives root on word None k))))
 
 -- of a block of its slab's class it is the bit
 abbrev pub bits_with : Tables → ℕ → ℕ → Bool → ℕ → ℕ → Bool

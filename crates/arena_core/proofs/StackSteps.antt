@@ -1,6 +1,6 @@
 -- What a malloc takes of the stacks, and what a free puts back, is what the placement says.
 use Rattle.std.proofs.Common.{◌≡◌, ◌≢◌, ◌==◌, ◌&&◌, ◌||◌, not, ℕ, zero, suc, ◌+◌, ◌*◌, ◌<◌, ◌≤◌, ◌⊎◌, ◌↔◌, Bool, true, false, List, [], ◌∷◌, length, Option, Some, None, if◌then◌else◌, refl, sym, ap, ◌∙◌, subst, arith, inl, inr, ⊎_elim}
-use Rattle.std.proofs.lemmas.Bool.{cases_eq, cases_Bool, cases_lt, cond-true, cond-false, and_from, and_left, le-leb, lt-ltb}
+use Rattle.std.proofs.lemmas.Bool.{cases_eq, cases_lt, cond-true, cond-false, and_from, and_left, le-leb, lt-ltb}
 use Rattle.std.specs.List.{filter}
 use Rattle.size_classes.specs.Classes.{class_size, class_capacity}
 use Rattle.size_classes.proofs.Spacing.{class_size-least, class_size-most, class_size-rises}
@@ -23,6 +23,7 @@ use Rattle.block_supply.proofs.Views.{AgreeOnBlocks, AgreeOnBlocks-back, HasAvai
 use Rattle.image_tables.specs.Tables.{Tables}
 use Rattle.heap_check.specs.Heap.{IsUnusedIn}
 use Rattle.arena_core.specs.Effect.{stacks_but, IsPutBack, IsSuppliedFresh, IsSuppliedMorph}
+use Rattle.arena_core.proofs.Maps.{with_key-twice}
 
 -- malloc
 
@@ -104,8 +105,8 @@ module _ (b : Bounds) (m : Machine) (was next : Supply) (seat class : ℕ) (agre
       let gone = supplied.gone in
       let stacks : stacks_of mid.stacks ≡ without_slab (stacks_of was.stacks) start = ap stacks_of more.stacks ∙ gone.stacks in
       let bare : (other : ℕ) → stacks_of mid.stacks other class ≡ [] = λ other. ap (λ (s : Stacks). s other class) stacks ∙ ap (filter (λ at. not (is_within start at))) (none.empty other) in
-      let classes : (s : ℕ) → class_in mid.slabs s ≡ with_key (class_in was.slabs) start (Some class) s = λ s. more.classes s ∙ ap (λ (x : Option ℕ). if s == start then Some class else x) (gone.classes s) ∙ twice (class_in was.slabs) start (Some class) s in
-      let refill = refill_anew start number mid classes
+      let refill = refill_anew start number mid
+      (λ s. more.classes s ∙ ap (λ (x : Option ℕ). if s == start then Some class else x) (gone.classes s) ∙ with_key-twice (class_in was.slabs) start None (Some class) s)
       (λ n within. (λ is. (unused n within).0 ((more.here n).0 is).1, λ is. (more.here n).1 (within, (unused n within).1 is)))
       (λ s n differ. (λ is. (gone.others s n differ).0 ((more.others s n differ).0 is), λ is. (more.others s n differ).1 ((gone.others s n differ).1 is)))
       bare supplied.anew.took in
@@ -114,14 +115,6 @@ module _ (b : Bounds) (m : Machine) (was next : Supply) (seat class : ℕ) (agre
         best = best;
         refill = subst (λ (s : Stacks). IsRefill (view_of b (with_class m start class)) s seat class (slab_block start class number).at (stacks_of next.stacks)) stacks refill;
       }))
-    where
-      -- a slab that went and came has what it came with
-      twice : (f : ℕ → Option ℕ) (k : ℕ) (x : Option ℕ) (s : ℕ) → (if s == k then x else with_key f k None s) ≡ with_key f k x s
-      twice f k x s = ⊎_elim
-          (λ (same : (s == k) ≡ true). cond-true (s == k) x (with_key f k None s) same ∙ sym (cond-true (s == k) x (f s) same))
-          (λ (differ : (s == k) ≡ false). cond-false (s == k) x (with_key f k None s) differ ∙ cond-false (s == k) None (f s) differ ∙ sym (cond-false (s == k) x (f s) differ))
-          (cases_Bool (s == k))
-
 -- free
 
 filter_all : (p : ℕ → Bool) (xs : List ℕ) → ((at : ℕ) → p at ≡ true) → filter p xs ≡ xs

@@ -16,8 +16,10 @@ use Rattle.heap_model.specs.Runs.{IsBestFit}
 use Rattle.heap_model.proofs.Fits.{fit_free}
 use Rattle.heap_model.proofs.Placing.{rows_apart}
 use Rattle.heap_model.proofs.Slabbing.{LiesIn-block}
-use Rattle.heap_model.proofs.Maps.{with_key-here, with_key-other}
-use Rattle.heap_model.proofs.Freeing.{BeginsIn, slabs_stay, slabs_stay-away, slabs_leave}
+use Rattle.heap_model.proofs.Maps.{with_key-other}
+use Rattle.arena_core.proofs.Maps.{with_key-is}
+use Rattle.heap_model.proofs.Freeing.{slabs_stay, slabs_stay-away, slabs_leave}
+use Rattle.arena_core.proofs.LiveCounts.{begins_at}
 use Rattle.heap_check.specs.Heap.{is_large, entry_at, heap, slabs, IsClaim, Holds, HoldsBit, HoldsOld, IsUnusedIn}
 use Rattle.heap_check.specs.Sound.{granules_at, Covers, IsVacant, IsInSlab, IsSound, HasOther}
 use Rattle.heap_check.specs.Image.{bounds_of, IsExactImage}
@@ -63,10 +65,7 @@ module _ {words : List ℕ} {m : Machine} (state : HasState words m) where
       ((other : ℕ) → other ≢ root → heap (tables_of new) other ≡ heap (tables_of words) other) → ((start : ℕ) → slabs (tables_of new) start ≡ slab start) → KeepsBlocks words new →
       HasState new (record { block = with_key m.block root block; slab = slab; value = forgotten m.value root })
   after_call root block slab new here others slabs_are keeps = record {
-    blocks = λ other. ⊎_elim
-        (λ (same : other ≡ root). subst (λ (r : ℕ). heap (tables_of new) r ≡ with_key m.block root block r) (sym same) (here ∙ sym (with_key-here m.block root block)))
-        (λ (differ : other ≢ root). others other differ ∙ state.blocks other ∙ sym (with_key-other m.block root other block differ))
-        (cases_eq other root);
+    blocks = with_key-is m.block (heap (tables_of new)) root block here (λ other differ. others other differ ∙ state.blocks other);
     slabs = slabs_are;
     values = λ other index word is.
         let kept = not_forgotten m.value root other index word is in
@@ -181,14 +180,8 @@ module _ {words : List ℕ} (image : IsExactImage words) {m : Machine} (state : 
   -- a slab stays once a root has lost its block where that does not lie in it
   slab_elsewhere : (root : ℕ) (range : Range) (s : ℕ) → ¬ (IsInSlab t s range.at) → slabs_without b m root range s ≡ m.slab s
   slab_elsewhere root range s outside = slabs_stay-away b m root range s (λ class slab begins.
-      let at = begins_at begins in
+      let at = begins_at s range begins in
       outside (record { slab = (slab_named state s class slab).0; low = at.0; high = at.1 }))
-    where
-      begins_at : BeginsIn s (Some range) → (16384 * s ≤ range.at) × (range.at < 16384 * s + 65536)
-      begins_at begins =
-          let same : range ≡ begins.range = cc (begins.named) in
-          let at = ap (λ (x : Range). x.at) same in
-          (omega (arith, at, begins.low), omega (arith, at, begins.high))
 
   -- the slabs are as before once a root has lost the block of a large extent
   pub slabs_without-large : (root : ℕ) (range : Range) → m.block root ≡ Some range → is_large (tables_of words).large ((tables_of words).root root) ≡ true → (s : ℕ) →
@@ -211,17 +204,12 @@ module _ {words : List ℕ} (image : IsExactImage words) {m : Machine} (state : 
   pub slabs_without-none : (root start : ℕ) (range : Range) → IsInSlab (tables_of words) start range.at →
       ((other : ℕ) → other ≢ root → (tables_of words).root other ≢ 0 → ¬ (IsInSlab (tables_of words) start ((tables_of words).root other))) → (s : ℕ) →
       slabs_without (bounds_of words) m root range s ≡ with_key m.slab start None s
-  slabs_without-none root start range inside none s = ⊎_elim
-      (λ (same : s ≡ start).
-      subst (λ k. slabs_without b m root range k ≡ with_key m.slab start None k) (sym same)
+  slabs_without-none root start range inside none = with_key-is m.slab (slabs_without b m root range) start None
       (slabs_leave b m root range start (record { range = range; named = refl; low = inside.low; high = inside.high }) (λ other below differ begins.
       let word = block_word other begins.range begins.named in
       let claimed = IsNamed-claim t other begins.range (unnamed other) (claim other begins.range begins.named) in
-      none other differ (λ zero. claimed.some (sym word ∙ zero)) (record { slab = inside.slab; low = omega (arith, word, begins.low); high = omega (arith, word, begins.high) }))
-      ∙ sym (with_key-here m.slab start None)))
-      (λ (differ : s ≢ start).
-      slab_elsewhere root range s (λ there. differ (one_slab sound s start range.at there inside)) ∙ sym (with_key-other m.slab start s None differ))
-      (cases_eq s start)
+      none other differ (λ zero. claimed.some (sym word ∙ zero)) (record { slab = inside.slab; low = omega (arith, word, begins.low); high = omega (arith, word, begins.high) })))
+      (λ s differ. slab_elsewhere root range s (λ there. differ (one_slab sound s start range.at there inside)))
 
   -- a block of a class in a slab is unused where the state says so
   unused_agrees : (start class number : ℕ) → t.slab start ≡ true → number < class_capacity class → IsUnusedIn t start class number ↔ IsUnused m (slab_block start class number)
