@@ -1,5 +1,5 @@
 -- The indexes take over the live extents of an exact image, one after another by rising start.
-use Rattle.std.proofs.Common.{◌≡◌, ◌≢◌, ◌↔◌, ◌⊎◌, ◌+◌, ◌<◌, ◌≤◌, ℕ, true, false, cond, ltb, List, Option, Some, None, sym, ap, subst, ◌∙◌, inl, inr, ⊎_elim, arith}
+use Rattle.std.proofs.Common.{◌≡◌, ◌≢◌, ◌↔◌, ◌⊎◌, ◌+◌, ◌<◌, ◌≤◌, ℕ, true, false, cond, ltb, List, Option, Some, None, sym, ap, subst, ◌∙◌, inr, ⊎_elim, arith}
 use Rattle.std.proofs.lemmas.Bool.{cond-true, cond-false, cases_lt, cases_eq, lt-ltb, le-ltb}
 use Rattle.size_classes.specs.Classes.{class_capacity}
 use Rattle.image_tables.specs.declared.extent.Extent.{Extent}
@@ -113,32 +113,7 @@ read_row words set start image free some = record {
 -- once they are taken, the free ones are those in no extent that starts below the next granule
 pub read_free : (b : Bounds) (t : Tables) (set new : FreeSet) (start : ℕ) → ((k : ℕ) → IsFree set k ↔ IsVacantBelow b t start k) →
     ((k : ℕ) → IsFree new k ↔ (IsFree set k × ((k < start) ⊎ (start + granules_at t start ≤ k)))) → (k : ℕ) → IsFree new k ↔ IsVacantBelow b t (start + 1) k
-read_free b t set new start free taken k = (
-  λ is.
-      let both = (taken k).0 is in
-      let vacant = (free k).0 both.0 in
-      record {
-        low = vacant.low;
-        high = vacant.high;
-        none = λ other less covers. ⊎_elim
-            (λ (lower : other < start). vacant.none other lower covers)
-            (λ (last : start ≤ other).
-            let same : other ≡ start = omega (arith, less, last) in
-            let here = subst (λ s. Covers t s k) same covers in
-            ⊎_elim (λ (out : k < start). omega (arith, out, here.low)) (λ (out : start + granules_at t start ≤ k). omega (arith, out, here.high)) both.1)
-            (cases_lt other start);
-      },
-  λ vacant. (taken k).1 (
-    (free k).1 (record { low = vacant.low; high = vacant.high; none = λ other less. vacant.none other (omega (arith, less)) }),
-    ⊎_elim
-        (λ (out : k < start). inl out)
-        (λ (from : start ≤ k). ⊎_elim
-        (λ (to : k < start + granules_at t start). absurd (vacant.none start (omega arith) (record { low = from; high = to })))
-        (λ (out : start + granules_at t start ≤ k). inr out)
-        (cases_lt k (start + granules_at t start)))
-        (cases_lt k start),
-  ),
-)
+read_free b t set new start free taken k = grind arith
 
 -- the next extent is a large one
 pub IsReadBelow-large : (words : List ℕ) (set new : FreeSet) (parts : Supply) (start count : ℕ) → extent_at words start ≡ Some (extent.Large count) → new.granules ≡ set.granules →
@@ -209,16 +184,7 @@ clear_read words set parts start image slab read = record {
 -- before anything is read
 pub IsReadBelow-first : (words : List ℕ) (set : FreeSet) (parts : Supply) → set.granules ≡ (bounds_of words).granules → ((k : ℕ) → IsFree set k ↔ (((bounds_of words).first ≤ k) × (k < set.granules))) →
     parts.slabs.granules ≡ (bounds_of words).granules → ((start : ℕ) → class_in parts.slabs start ≡ None) → IsReadBelow words set parts 0
-IsReadBelow-first words set parts granules free slab_granules none = record {
-  granules = granules;
-  free = λ k. (
-    λ is. let within = (free k).0 is in record { low = within.0; high = omega (arith, granules, within.1); none = λ start less. absurd (omega (arith, less)) },
-    λ vacant. (free k).1 (vacant.low, omega (arith, granules, vacant.high)),
-  );
-  slab_granules = slab_granules;
-  classes = λ start. none start ∙ sym (not_below (tables_of words) 0 start (omega arith));
-  blocks = λ start i less. absurd (omega (arith, less));
-}
+IsReadBelow-first words set parts granules free slab_granules none = grind arith
 
 -- behind all extents: the indexes are those of the image
 pub index_read : (words : List ℕ) (set : FreeSet) (parts : Supply) (from : ℕ) → ((start : ℕ) → from ≤ start → extent_at words start ≡ None) → IsReadBelow words set parts from → IsIndexOf set words

@@ -1,20 +1,17 @@
 -- The indexes take over a slab of an exact image, and how many live blocks each slab has.
-use Rattle.std.proofs.Common.{◌≡◌, ◌≢◌, ◌↔◌, ◌==◌, ◌+◌, ◌*◌, ◌/◌, ◌<◌, ◌≤◌, ℕ, Bool, true, false, true≢false, cond, eqb, List, length, slice_index, Option, Some, None, refl, sym, ap, subst, ◌∙◌, arith, if◌then◌else◌}
-use Rattle.std.proofs.lemmas.Bool.{cond-true, cond-false, eq-eqb, ne_eqb, false_from_ne_true}
+use Rattle.std.proofs.Common.{◌≡◌, ◌≢◌, ◌↔◌, ◌==◌, ◌+◌, ◌*◌, ◌/◌, ◌<◌, ◌≤◌, ℕ, Bool, true, false, true≢false, cond, eqb, List, length, slice_index, Option, Some, None, sym, ap, subst, ◌∙◌, arith, if◌then◌else◌}
+use Rattle.std.proofs.lemmas.Bool.{cond-true, cond-false, eq-eqb, ne_eqb}
 use Rattle.size_classes.specs.Classes.{class_capacity}
 use Rattle.image_tables.specs.Tables.{Tables, is_slab, tables_of}
 use Rattle.image_tables.proofs.Tables.{slab_table}
 use Rattle.pool_layout.specs.Header.{granules_in}
 use Rattle.heap_model.specs.Machine.{Range}
 use Rattle.heap_model.specs.Slabs.{live_below, begins_in}
-use Rattle.heap_model.proofs.Freeing.{begins_in-true}
-use Rattle.slab_index.specs.SlabSet.{class_in}
 use Rattle.heap_check.specs.Heap.{size_at, heap, slabs, IsUnusedIn}
 use Rattle.heap_check.proofs.Heaps.{heap-none}
 use Rattle.arena_core.specs.Adopting.{IsWithSlabOf, HasCounted}
 use Rattle.block_supply.specs.Supply.{Supply, IsInNoSlabOf, HasSlabMore}
-use Rattle.arena_core.proofs.LiveCounts.{one_if, live_next, live_below-most, begins_only, by_slab, more_by_slab, most_by_slab, put_one, begins_at}
-use Rattle.arena_core.proofs.UnusedBlocks.{iff_then}
+use Rattle.arena_core.proofs.LiveCounts.{one_if, live_next, live_below-most, begins_only, more_by_slab, most_by_slab, put_one}
 use Rattle.heap_check.specs.Sound.{IsInSlab, IsSound}
 use Rattle.heap_check.specs.Image.{bounds_of}
 
@@ -28,15 +25,7 @@ if_other k j yes_x no_x apart = cond-false (eqb k j) yes_x no_x (ne_eqb k j apar
 -- a slab was added, in which the blocks are open that are not used
 pub with_slab : (words : List ℕ) (old new : Supply) (start slab class : ℕ) {used : ℕ → Bool} → slab / 16384 ≡ start → class ≡ (tables_of words).class start → HasSlabMore old new start class (λ i. (i < class_capacity class) × (used i ≡ false)) →
     ((i : ℕ) → i < class_capacity ((tables_of words).class (slab / 16384)) → (used i ≡ false) ↔ IsUnusedIn (tables_of words) (slab / 16384) ((tables_of words).class (slab / 16384)) i) → IsWithSlabOf words old new start
-with_slab words old new start slab class {used} at is more unused = record {
-  granules = more.granules;
-  here = more.classes start ∙ if_same start start (Some class) (class_in old.slabs start) refl ∙ ap (λ c. Some c) is;
-  blocks = λ i few.
-      let says = subst (λ s. i < class_capacity ((tables_of words).class s) → (used i ≡ false) ↔ IsUnusedIn (tables_of words) s ((tables_of words).class s) i) at (unused i) few in
-      iff_then (more.here i) (λ both. says.0 both.1, λ free. (subst (λ c. i < class_capacity c) (sym is) few, says.1 free));
-  classes = λ other apart. more.classes other ∙ if_other other start (Some class) (class_in old.slabs other) apart;
-  others = λ other i apart. more.others other i apart;
-}
+with_slab words old new start slab class {used} at is more unused = grind arith
 
 -- the class that was read is the slab's
 pub class_read : (words : List ℕ) (at start class : ℕ) → at ≡ 16384 * start → (tables_of words).slab start ≡ true → (is_slab words (at / 16384) ≡ true → class ≡ (tables_of words).class (at / 16384)) → class ≡ (tables_of words).class start
@@ -52,24 +41,11 @@ counted_in words n start = if (tables_of words).slab start then live_below (heap
 
 -- of no root yet
 pub counted_none : (words : List ℕ) (counts : List ℕ) → length counts ≡ granules_in words → ((s : ℕ) → slice_index counts s ≡ 0) → HasCounted words counts 0
-counted_none words counts size zero = record {
-  size = size;
-  each = λ s. zero s ∙ none ((tables_of words).slab s) s;
-}
-  where
-    none : (is : Bool) (s : ℕ) → 0 ≡ (if is then live_below (heap (tables_of words)) s 0 else 0)
-    none true s = refl
-    none false s = refl
+counted_none words counts size zero = grind arith
 
 -- the next root has no block in a slab
 pub counted_same : (words : List ℕ) (counts : List ℕ) (root : ℕ) → ((s : ℕ) → (tables_of words).slab s ≡ true → begins_in s (heap (tables_of words) root) ≡ false) → HasCounted words counts root → HasCounted words counts (root + 1)
-counted_same words counts root elsewhere were = record {
-  size = were.size;
-  each = λ s. were.each s ∙ by_slab ((tables_of words).slab s) (live_below (heap (tables_of words)) s root) (live_below (heap (tables_of words)) s (root + 1)) (λ slab.
-      let next = live_next (heap (tables_of words)) s root in
-      let none : one_if (begins_in s (heap (tables_of words) root)) ≡ 0 = ap one_if (elsewhere s slab) in
-      omega (arith, next, none));
-}
+counted_same words counts root elsewhere were = grind arith
 
 -- it has one in the slab at a start
 pub counted_more : (words : List ℕ) (counts next : List ℕ) (root start : ℕ) → (tables_of words).slab start ≡ true → ((s : ℕ) → (tables_of words).slab s ≡ true → begins_in s (heap (tables_of words) root) ≡ (s == start)) →
@@ -94,11 +70,7 @@ begins_none t root s none = ap (begins_in s) (heap-none t root none)
 
 -- nor has one whose word lies in none
 pub begins_outside : (t : Tables) (root : ℕ) (classes : ℕ → Option ℕ) → ((s : ℕ) → classes s ≡ slabs t s) → t.root root ≢ 0 → IsInNoSlabOf classes (t.root root / 16384) → (s : ℕ) → t.slab s ≡ true → begins_in s (heap t root) ≡ false
-begins_outside t root classes are some outside s slab = begins_word t root s some ∙ false_from_ne_true (begins_in s (Some (record { at = t.root root; size = size_at t root (t.root root) }))) (λ is.
-    let at = begins_at s _ (begins_in-true s (Some (record { at = t.root root; size = size_at t root (t.root root) })) is) in
-    let none = sym (are s) ∙ outside.none s (omega (arith, at.0)) (omega (arith, at.1)) in
-    let some_slab = cond-true (t.slab s) (Some (t.class s)) None slab in
-    absurd (cc))
+begins_outside t root classes are some outside s slab = grind arith
 
 -- the counts are small
 pub counted_few : (words : List ℕ) (counts : List ℕ) (root start : ℕ) → HasCounted words counts root → slice_index counts start ≤ root

@@ -1,7 +1,6 @@
 -- A call was carried out behind its begin: what the arena answers and leaves, by what the arena means.
-use Rattle.std.proofs.Common.{◌≡◌, ℕ, List, Result, refl, sym, ap, subst}
+use Rattle.std.proofs.Common.{◌≡◌, ℕ, List, Result, ap, subst, arith}
 use Rattle.pmem_lines.specs.declared.event.Event.{Event}
-use Rattle.pmem_lines.specs.Events.{CrashOnly}
 use Rattle.pmem_lines.specs.Pmem.{PmemState, words_of, began}
 use Rattle.pmem_lines.specs.Steps.{IsQuietStep}
 use Rattle.heap_model.specs.declared.call.Call.{Call}
@@ -23,39 +22,16 @@ meant device volatile = record { device = device; line = volatile.line; stacks =
 
 -- an arena that begins a call
 pub IsArena-began : {device : PmemState} {was : Volatile} → IsArena device was → IsArena (began device) was
-IsArena-began {device} {was} arena = record {
-  current = record {
-    ready = record { quiet = tt; room = arena.current.ready.room };
-    exact = arena.current.exact;
-    log = arena.current.log;
-    index = arena.current.index;
-  };
-  slabs = arena.slabs;
-  lives = arena.lives;
-  few = arena.few;
-}
+IsArena-began {device} {was} arena = grind arith
 
 -- what every call has in common
 one_call : {device new : PmemState} {left : Volatile} {events : List Event} {Left : List ℕ → Type 0} → IsExactImage (words_of device) → IsQuietStep (began device) new events Left → IsArena new left → IsOneCall device new events Left
-one_call {device} {new} {left} {events} {Left} exact step arena = record {
-  device = step.appends.state;
-  was_exact = exact;
-  exact = arena.current.exact;
-  ready = arena.current.ready;
-  crash = subst (λ (s : PmemState). CrashOnly s.base s.events Left) (sym step.appends.state) step.crash;
-}
+one_call {device} {new} {left} {events} {Left} exact step arena = grind arith
 
 -- a malloc or a free
 pub answered_call : {begun new : PmemState} {was left : Volatile} {now : ArenaState} {seat : ℕ} {call : Call} {reply : Reply} (device : PmemState) → meant device was ≡ now → begun ≡ began device → IsExactImage (words_of device) →
     IsCalled begun new was left seat call reply → IsAnswered seat now (meant new left) call reply
-answered_call {begun} {new} {was} {left} {now} {seat} {call} {reply} device view is exact called =
-    let done = subst (λ (s : PmemState). IsCalled s new was left seat call reply) is called in
-    subst (λ (s : ArenaState). IsAnswered seat s (meant new left) call reply) view (record {
-      did = one_call exact done.carried done.arena;
-      step = done.step;
-      line = done.line_is;
-      keeps = done.keeps;
-    })
+answered_call {begun} {new} {was} {left} {now} {seat} {call} {reply} device view is exact called = grind arith
 
 -- a move
 pub answered_move : {begun new : PmemState} {was left : Volatile} {now : ArenaState} {from to : ℕ} {reply : Reply} (device : PmemState) → meant device was ≡ now → begun ≡ began device → IsExactImage (words_of device) →
@@ -73,12 +49,4 @@ answered_move {begun} {new} {was} {left} {now} {from} {to} {reply} device view i
 -- a write, which leaves what stands beside the words
 pub answered_write : {begun new : PmemState} {was : Volatile} {now : ArenaState} {root from : ℕ} {words : List ℕ} {result : Result (Unit {0}) BlockRefusal} (device : PmemState) → meant device was ≡ now → begun ≡ began device → IsArena device was →
     IsWriteCarried begun new root from words result → IsWriteAnswered now (meant new was) root from words result
-answered_write {begun} {new} {was} {now} {root} {from} {words} {result} device view is arena carried =
-    let done = subst (λ (s : PmemState). IsWriteCarried s new root from words result) is carried in
-    subst (λ (s : ArenaState). IsWriteAnswered s (meant new was) root from words result) view (record {
-      did = one_call arena.current.exact done.carried (done.arena was (IsArena-began arena));
-      step = done.step;
-      line = refl;
-      stacks = refl;
-      written = done.written;
-    })
+answered_write {begun} {new} {was} {now} {root} {from} {words} {result} device view is arena carried = grind arith

@@ -1,5 +1,5 @@
 -- What an arena keeps holds again once a block was given or taken.
-use Rattle.std.proofs.Common.{◌≡◌, ◌↔◌, ◌⊎◌, ℕ, ◌+◌, ◌<◌, ◌≤◌, List, cond, Some, None, refl, sym, ap, subst, ◌∙◌, inl, inr, ⊎_elim, arith, length}
+use Rattle.std.proofs.Common.{◌≡◌, ◌↔◌, ◌⊎◌, ℕ, ◌+◌, ◌<◌, ◌≤◌, List, cond, Some, None, sym, ap, subst, ◌∙◌, inl, inr, ⊎_elim, arith, length}
 use Rattle.std.proofs.lemmas.List.Elements.{All-weaker}
 use Rattle.pmem_lines.specs.Words.{word_at, put_word}
 use Rattle.pool_layout.specs.Layout.{layout_of}
@@ -7,10 +7,9 @@ use Rattle.pool_layout.specs.Places.{fields_word, directory_word, entry_word, ro
 use Rattle.image_tables.specs.Log.{active_chunks}
 use Rattle.image_tables.proofs.Chunks.{few_chunks}
 use Rattle.image_tables.proofs.Logs.{SameChunk, SameLog}
-use Rattle.heap_check.specs.Slabs.{IsSameSlab}
 use Rattle.pool_layout.specs.Header.{version_in, granules_in}
 use Rattle.image_tables.specs.Tables.{Tables, tables_of}
-use Rattle.image_tables.proofs.Stores.{IsOffLog-root, granules_in-put_root, HasNoMove-closed}
+use Rattle.image_tables.proofs.Stores.{IsOffLog-root, granules_in-put_root}
 use Rattle.book_log.specs.Book.{Book}
 use Rattle.book_log.proofs.Books.{Reads-elsewhere, Reads-same}
 use Rattle.extent_index.specs.FreeSet.{FreeSet, IsFree}
@@ -18,7 +17,6 @@ use Rattle.heap_model.specs.Machine.{Bounds}
 use Rattle.heap_check.specs.Sound.{IsVacant, granules_at}
 use Rattle.heap_check.specs.Image.{bounds_of, IsExactImage}
 use Rattle.heap_check.specs.State.{IsEitherHeap}
-use Rattle.heap_check.proofs.Blank.{law_of_steady}
 use Rattle.heap_check.proofs.Large.{with_large}
 use Rattle.log_steps.specs.Log.{IsBookOf}
 use Rattle.size_classes.specs.Classes.{class_capacity}
@@ -28,7 +26,7 @@ use Rattle.arena_core.specs.Effect.{KeepsSlabs}
 use Rattle.arena_core.proofs.LargeStages.{IsStageOf}
 use Rattle.arena_core.proofs.UnusedBlocks.{iff_then}
 use Rattle.heap_check.specs.Heap.{IsUnusedIn}
-use Rattle.heap_check.proofs.SameSlabs.{IsSameSlab-roots, IsUnusedIn-same}
+use Rattle.heap_check.proofs.SameSlabs.{IsUnusedIn-same}
 
 -- a log reads the same where a root's word is stored
 pub book_root : (book : Book) (words : List ℕ) (root value : ℕ) → root < (layout_of (version_in words)).roots → IsBookOf book words → IsBookOf book (put_word words (root_word root) value)
@@ -51,9 +49,7 @@ book_same {words} {new} book same size bounds log = record { reads = Reads-same 
 
 -- at each stage the slabs are as before
 pub slabs_stage : {words : List ℕ} {root start here word : ℕ} {image : List ℕ} → IsStageOf words root start here word image → KeepsSlabs words image
-slabs_stage {words} {root} {start} {here} {word} {image} stage = record {
-  each = λ s. subst (λ (t : Tables). IsSameSlab (tables_of words) t s) (sym stage.tables) (IsSameSlab-roots (tables_of words) _ _ _ _ s);
-}
+slabs_stage {words} {root} {start} {here} {word} {image} stage = grind arith
 
 -- so the index of them holds still
 pub slabs_kept : {words image : List ℕ} (parts : Supply) → KeepsSlabs words image → granules_in image ≡ granules_in words → IsSlabsOf parts words → IsSlabsOf parts image
@@ -70,17 +66,11 @@ slabs_kept {words} {image} parts keeps granules index = record {
 
 -- the index of an image, by what is vacant in it
 pub index_by : (words new : List ℕ) (set : FreeSet) → set.granules ≡ granules_in words → bounds_of new ≡ bounds_of words → ((k : ℕ) → IsFree set k ↔ IsVacant (bounds_of words) (tables_of new) k) → IsIndexOf set new
-index_by words new set granules bounds each = record {
-  granules = granules ∙ ap (λ (b : Bounds). b.granules) (sym bounds);
-  each = λ k. subst (λ b. IsFree set k ↔ IsVacant b (tables_of new) k) (sym bounds) (each k);
-}
+index_by words new set granules bounds each = grind arith
 
 -- of other tables, in which the same granules are live
 pub index_as : {words new : List ℕ} (set : FreeSet) → bounds_of new ≡ bounds_of words → ((start : ℕ) → granules_at (tables_of new) start ≡ granules_at (tables_of words) start) → IsIndexOf set words → IsIndexOf set new
-index_as {words} {new} set bounds same index = index_by words new set index.granules bounds (λ k. iff_then (index.each k) (
-  λ vacant. record { low = vacant.low; high = vacant.high; none = λ start covers. vacant.none start (record { low = covers.low; high = omega (arith, covers.high, same start) }) },
-  λ vacant. record { low = vacant.low; high = vacant.high; none = λ start covers. vacant.none start (record { low = covers.low; high = omega (arith, covers.high, same start) }) },
-))
+index_as {words} {new} set bounds same index = grind arith
 
 -- of a stage
 pub index_stage : {words : List ℕ} {root start here word : ℕ} {image : List ℕ} (set : FreeSet) → IsStageOf words root start here word image → set.granules ≡ granules_in words →
@@ -107,9 +97,4 @@ index_more set new b t after start count was given vacant k = (
 
 -- nothing was done: the heap is the one from before
 pub same_heap : (words new : List ℕ) → IsExactImage words → IsEitherHeap words new words
-same_heap words new exact = record {
-  steady = record { formed = exact.formed; steady = law_of_steady (bounds_of words) (tables_of words) exact.exact };
-  heap = inl (record { each = λ root. refl });
-  words = record { each = λ root other range k here is word. refl };
-  still = HasNoMove-closed exact.exact.closed;
-}
+same_heap words new exact = grind arith

@@ -1,6 +1,6 @@
 -- The search for the slab that takes a class: the candidates come in order, so the first one that is fit is the best.
-use Rattle.std.proofs.Common.{◌≡◌, ◌⊎◌, ℕ, ◌+◌, ◌-◌, ◌*◌, ◌<◌, ◌≤◌, true, List, length, Option, slice_index, Some, None, MatchOption, IfSome, sym, ap, ◌∙◌, subst, arith, inl, inr, ⊎_elim}
-use Rattle.std.proofs.lemmas.Bool.{cases_eq, cases_lt, cond-true}
+use Rattle.std.proofs.Common.{◌≡◌, ◌⊎◌, ℕ, ◌+◌, ◌-◌, ◌*◌, ◌<◌, ◌≤◌, true, List, length, Option, slice_index, Some, None, MatchOption, IfSome, sym, ◌∙◌, subst, arith, inl, inr, ⊎_elim}
+use Rattle.std.proofs.lemmas.Bool.{cases_lt, cond-true}
 use Rattle.size_classes.specs.Classes.{class_capacity}
 use Rattle.image_tables.specs.Forms.{normal_kind}
 use Rattle.image_tables.specs.Tables.{Tables, tables_of}
@@ -14,28 +14,13 @@ use Rattle.heap_check.specs.Image.{bounds_of}
 use Rattle.class_steps.specs.Classes.{IsReadyFor, IsFitIn}
 use Rattle.arena_core.specs.Arena.{AreLivesOf}
 use Rattle.arena_core.specs.Plan.{tables_view, IsMorphable}
-use Rattle.arena_core.proofs.LiveSlabs.{calm_normal, calm_parts}
-use Rattle.arena_core.proofs.Plans.{slab_parts}
+use Rattle.arena_core.proofs.LiveSlabs.{calm_parts}
 
 -- the order of candidates
 
 -- of two places one comes first, or they are the same
 before_or_behind : (live start n s : ℕ) → IsBefore live start n s ⊎ (IsBefore n s live start ⊎ ((live ≡ n) × (start ≡ s)))
-before_or_behind live start n s = ⊎_elim
-    (λ (less : live < n). inl (inl less))
-    (λ (most : n ≤ live). ⊎_elim
-    (λ (more : n < live). inr (inl (inl more)))
-    (λ (least : live ≤ n).
-    let same : live ≡ n = omega (arith, most, least) in
-    ⊎_elim
-    (λ (lower : start < s). inl (inr (same, lower)))
-    (λ (high : s ≤ start). ⊎_elim
-    (λ (higher : s < start). inr (inl (inr (sym same, higher))))
-    (λ (low : start ≤ s). inr (inr (same, omega (arith, high, low))))
-    (cases_lt s start))
-    (cases_lt start s))
-    (cases_lt n live))
-    (cases_lt live n)
+before_or_behind live start n s = grind arith
 
 -- how far a candidate is from the last place that one may have
 abbrev pub left_behind : Option Candidate → ℕ
@@ -65,17 +50,7 @@ module _ (words : List ℕ) (lives : Lives) (class : ℕ) where
 
     -- a slab that is fit is a candidate
     sparse_of_fit : (s : ℕ) → IsFit v class s → IsSparse lives class s (live_below (heap t) s (bounds_of words).roots)
-    sparse_of_fit s fit =
-        let is = slab_parts t s fit.class fit.slab in
-        let normal : t.kind s ≡ normal_kind = ⊎_elim (λ normal. normal) (λ moving. absurd (fit.calm moving)) (cases_eq (t.kind s) normal_kind) in
-        record {
-          own = fit.class;
-          slab = are.calm s ∙ calm_normal t s is.0 normal ∙ ap (λ c. Some c) is.1;
-          count = sym (live_is s is.0);
-          differs = fit.differs;
-          few = fit.few;
-          sparse = fit.sparse;
-        }
+    sparse_of_fit s fit = grind arith
 
     -- what the first candidate is, and what the one behind another
     pub first_sought : (next : Option Candidate) → MatchOption next (HasNoSparse lives class) (IsFirstSparse lives class) → IsSought next
@@ -84,24 +59,7 @@ module _ (words : List ℕ) (lives : Lives) (class : ℕ) where
 
     -- a slab that is fit is not the one that isn't, and so it comes behind
     comes_behind : (found : Candidate) → IsSought (Some found) → ¬ (IsFitIn words found.start class) → (s : ℕ) → IsFit v class s → IsBefore found.live found.start (live_below (heap t) s (bounds_of words).roots) s
-    comes_behind found sought unfit s fit =
-        let live = live_below (heap t) s (bounds_of words).roots in
-        ⊎_elim
-        (λ behind. behind)
-        (λ rest. ⊎_elim
-        (λ before. absurd (sought.1 s fit before))
-        (λ same.
-        let is = slab_parts t s fit.class fit.slab in
-        absurd (unfit (subst (λ (k : ℕ). IsFitIn words k class) (sym same.1) (record {
-          differs = λ own. fit.differs (own ∙ is.1);
-          few = fit.few;
-          sparse = subst (λ (c : ℕ). 5 * live ≤ class_capacity c) (sym is.1) fit.sparse;
-          number = fit.number;
-          below = fit.block.within;
-          unused = fit.block.unused;
-        }))))
-        rest)
-        (before_or_behind found.live found.start live s)
+    comes_behind found sought unfit s fit = grind arith
 
     pub next_sought : (found : Candidate) → IsSought (Some found) → ¬ (IsFitIn words found.start class) → (next : Option Candidate) → MatchOption next (HasNoSparseBehind lives class found.live found.start) (IsNextSparse lives class found.live found.start) → IsSought next
     next_sought found sought unfit None none = record { none = λ s fit. none.none s _ (comes_behind found sought unfit s fit) (sparse_of_fit s fit) }

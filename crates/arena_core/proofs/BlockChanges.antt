@@ -15,7 +15,7 @@ use Rattle.heap_check.proofs.Sizes.{sizes_of}
 use Rattle.log_steps.specs.Log.{IsBookOf}
 use Rattle.attach_steps.specs.declared.block.SmallBlock.{SmallBlock}
 use Rattle.attach_steps.specs.Steps.{KeepsOthers, IsBlockIn, bit_word, IsOldDetachable}
-use Rattle.heap_check.proofs.Geometry.{number_few, granules_at-slab, index_count_few}
+use Rattle.heap_check.proofs.Geometry.{granules_at-slab}
 use Rattle.attach_steps.specs.declared.block.OldBlock.{OldBlock}
 use Rattle.arena_core.proofs.Arenas.{same_log, book_same}
 
@@ -30,14 +30,7 @@ pub record IsBlockChange (words : List ℕ) (line root start k : ℕ) : Type 0 w
 
 -- where it is the bit of a block
 pub change_bit : {words : List ℕ} {line root : ℕ} {block : SmallBlock} → IsBlockIn words root block → line < 8 → IsBlockChange words line root block.start (bit_word block)
-change_bit {words} {line} {root} {block} block_in few = record {
-  image = block_in.image;
-  slab = block_in.slab;
-  rooted = block_in.rooted;
-  low = omega arith;
-  high = omega (arith, number_few ((tables_of words).class block.start) block.number (block_in.image.but.sound.slabs block.start block_in.slab).state.is_class block_in.below);
-  few = few;
-}
+change_bit {words} {line} {root} {block} block_in few = grind arith
 
 -- the words of the log and of blocks are the same
 module _ {words : List ℕ} {line root start place : ℕ} (change : IsBlockChange words line root start place) (new : List ℕ) (rest : KeepsOthers words line root place new) where
@@ -83,11 +76,4 @@ module _ {words : List ℕ} {line root start place : ℕ} (change : IsBlockChang
 
 -- where it is the entry of an old block in the index table
 pub change_index : {words : List ℕ} {line root : ℕ} {block : OldBlock} → IsOldDetachable words root block → line < 8 → IsBlockChange words line root block.start (index_word block.start block.place)
-change_index {words} {line} {root} {block} may few = record {
-  image = may.image;
-  slab = may.slab;
-  rooted = may.rooted;
-  low = omega arith;
-  high = let most = index_count_few (may.image.but.sound.slabs block.start may.slab) in omega (arith, may.below, most);
-  few = few;
-}
+change_index {words} {line} {root} {block} may few = grind arith

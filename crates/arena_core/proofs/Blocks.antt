@@ -1,13 +1,13 @@
 -- What the roots of an exact image without slabs name: large extents, each of two granules at least, in the heap.
-use Rattle.std.proofs.Common.{MatchOption, ◌≡◌, ◌≢◌, ◌*◌, ◌/◌, ◌<◌, ℕ, true, List, Option, Some, None, refl, sym, ap, ◌∙◌, subst, arith, ⊎_elim}
-use Rattle.std.proofs.lemmas.Bool.{ne_eqb, cases_eq}
+use Rattle.std.proofs.Common.{MatchOption, ◌≡◌, ◌≢◌, ◌*◌, ◌/◌, ◌<◌, ℕ, true, List, Option, Some, None, refl, sym, ap, ◌∙◌, subst, arith}
+use Rattle.std.proofs.lemmas.Bool.{ne_eqb}
 use Rattle.image_tables.specs.declared.extent.Extent.{Extent}
 use Rattle.image_tables.specs.declared.extent.Extent.TheVariants as extent
 use Rattle.image_tables.specs.Extents.{extent_at}
 use Rattle.image_tables.specs.Tables.{Tables, tables_of}
 use Rattle.book_log.specs.declared.entry.LogEntry.{LogEntry}
 use Rattle.book_log.specs.declared.entry.LogEntry.TheVariants as entry
-use Rattle.book_log.specs.Entry.{start_of, extent_of}
+use Rattle.book_log.specs.Entry.{extent_of}
 use Rattle.book_log.specs.Table.{IsNextLive, IsNoneLive}
 use Rattle.heap_model.specs.Machine.{Bounds}
 use Rattle.heap_check.specs.Heap.{is_large, heap}
@@ -17,10 +17,7 @@ use Rattle.arena_core.specs.Plan.{IsTakable}
 
 -- the entry of the next live extent, where one starts right here
 next_here : (table : ℕ → Option Extent) (start : ℕ) (extent : Extent) (next : LogEntry) → table start ≡ Some extent → IsNextLive table start next → extent_of next ≡ Some extent
-next_here table start extent next is live = ⊎_elim
-    (λ (here : start ≡ start_of next). live.says ∙ sym live.live ∙ ap table (sym here) ∙ is)
-    (λ (apart : start ≢ start_of next). absurd (let none : table start ≡ None = live.least start (omega arith) (omega (arith, apart, live.at_least)) in cc))
-    (cases_eq start (start_of next))
+next_here table start extent next is live = grind arith
 
 large_entry : (next : LogEntry) (granules : ℕ) → extent_of next ≡ Some (extent.Large granules) → (start : ℕ) × (next ≡ entry.Large start granules)
 large_entry (entry.Large start size) granules is = (start, let same : size ≡ granules = cc in ap (entry.Large start) same)

@@ -85,16 +85,7 @@ abbrev HasEvents : List ℕ → ℕ → ℕ → ℕ → ℕ → Reply → Type 0
 HasEvents old line root index word reply = (payload_events old root index (word ∷ []) reply ≡ call_events old line (calls.Write root index word) reply) × (line_after line reply ≡ line)
 
 events_of : (b : Bounds) (m : Machine) (old : List ℕ) (line root index word : ℕ) (reply : Reply) (next : Machine) → IsWriteOf b m root index (word ∷ []) reply next → HasEvents old line root index word reply
-events_of b m old line root index word reply next write = ⊎_elim
-    (λ past. told past.1.0 (refl, refl))
-    (λ rooted. ⊎_elim
-    (λ held. ⊎_elim (λ many. told many.1.0 (refl, refl)) (λ within. told within.1.0 (refl, refl)) held.1)
-    (λ empty. told empty.1.0 (refl, refl))
-    rooted.1)
-    write
-  where
-    told : {is : Reply} → reply ≡ is → HasEvents old line root index word is → HasEvents old line root index word reply
-    told same = subst (HasEvents old line root index word) (sym same)
+events_of b m old line root index word reply next write = grind arith
 
 events_by : (old new : List ℕ) (line root index word : ℕ) (reply : Reply) → IsWriteStep old new root index (word ∷ []) reply → HasEvents old line root index word reply
 events_by old new line root index word reply step =

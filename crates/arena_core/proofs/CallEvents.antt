@@ -1,7 +1,6 @@
 -- What a call has done, put together: by the place of its block.
 use Rattle.std.proofs.Common.{◌==◌, ◌≡◌, ◌≢◌, ◌*◌, ◌/◌, ◌+◌, ◌-◌, ◌%◌, ◌<◌, ◌≤◌, ℕ, true, false, cond, leb, List, [], Option, Some, refl, sym, ap, subst, ◌∙◌, arith, ◌++◌, ◌&&◌, ⊎_elim, Bool}
-use Rattle.std.proofs.lemmas.Bool.{cond-true, cond-false, eq-eqb, ne_eqb, le-leb, lt-leb, false_from_ne_true, and_from, and_parts, eqb-true, cases_Bool}
-use Rattle.std.proofs.lemmas.Nat.{div-mul-add}
+use Rattle.std.proofs.lemmas.Bool.{cond-true, cond-false, eq-eqb, ne_eqb, le-leb, lt-leb, and_from, and_parts, eqb-true, cases_Bool}
 use Rattle.size_classes.specs.Classes.{class_size, class_capacity}
 use Rattle.size_classes.proofs.Spacing.{class_size-least, class_size-most, class_size-rises}
 use Rattle.pmem_lines.specs.declared.event.Event.{Event}
@@ -17,14 +16,13 @@ use Rattle.heap_model.specs.declared.call.Reply.{Reply}
 use Rattle.heap_model.specs.declared.call.Reply.TheVariants as replies
 use Rattle.heap_model.specs.Machine.{Bounds, Range, slab_block}
 use Rattle.heap_model.proofs.Slabbing.{LiesIn-block}
-use Rattle.heap_check.specs.Heap.{is_old, slab_of, heap, slabs, Holds, IsUnusedIn}
+use Rattle.heap_check.specs.Heap.{is_old, slab_of, heap, slabs, Holds}
 use Rattle.heap_check.specs.Sound.{IsVacant, IsInSlab, IsSound}
-use Rattle.heap_check.proofs.Geometry.{Covers-slab, slab_of-here, granules_at-slab}
+use Rattle.heap_check.proofs.Geometry.{slab_of-here, granules_at-slab}
 use Rattle.heap_check.proofs.Within.{IsInSlab-held}
 use Rattle.log_steps.proofs.Entries.{first_zero-is}
 use Rattle.attach_steps.specs.declared.block.SmallBlock.{SmallBlock}
 use Rattle.attach_steps.specs.Steps.{attach_events, IsAttachable, detach_old_events, IsDetachable, IsOldDetachable}
-use Rattle.heap_check.proofs.Loose.{IsExactBut-exact}
 use Rattle.heap_check.specs.Image.{bounds_of, IsExactImage}
 use Rattle.heap_check.specs.State.{IsEitherHeap}
 use Rattle.arena_core.specs.Arena.{IsSlabsOf, live_in, AreLivesOf, IsCurrent, IsArena, old_range}
@@ -49,22 +47,13 @@ use Rattle.heap_check.proofs.Small.{one_number, is_old-held}
 
 -- equal ends
 pub IsCalled-same : {old new device : PmemState} {was next left : Volatile} {seat : ℕ} {call : Call} {reply answer : Reply} → device ≡ new → left ≡ next → answer ≡ reply → IsCalled old new was next seat call reply → IsCalled old device was left seat call answer
-IsCalled-same {old} {new} {device} {was} {next} {left} {seat} {call} {reply} {answer} d v r called =
-    subst (λ (x : PmemState). IsCalled old x was left seat call answer) (sym d)
-    (subst (λ (x : Volatile). IsCalled old new was x seat call answer) (sym v)
-    (subst (λ (x : Reply). IsCalled old new was next seat call x) (sym r) called))
+IsCalled-same {old} {new} {device} {was} {next} {left} {seat} {call} {reply} {answer} d v r called = grind arith
 
 -- a call that placed or freed a block, by its events
 pub IsCalled-done : {old new : PmemState} {was done_left left : Volatile} {seat root : ℕ} {block : Option Range} {slab : ℕ → Option ℕ} {events : List Event} (call : Call) (reply : Reply) →
     IsDone old new done_left root block slab events → events ≡ call_events (words_of old) was.line call reply → left ≡ record done_left { line = left.line } → left.line ≡ line_after was.line reply → left.line < 8 →
     IsStepOf seat (words_of old) (stacks_of was.supply.stacks) (words_of new) (stacks_of done_left.supply.stacks) call reply → IsCalled old new was left seat call reply
-IsCalled-done {old} {new} {was} {done_left} {left} {seat} {root} {block} {slab} {events} call reply done same left_is line_is few step = record {
-  carried = step_by events (call_events (words_of old) was.line call reply) same done.step;
-  arena = subst (IsArena new) (sym left_is) (record { current = record { ready = done.current.ready; exact = done.current.exact; log = done.current.log; index = done.current.index }; slabs = done.slabs; lives = done.lives; few = few });
-  line_is = line_is;
-  step = subst (λ (v : Volatile). IsStepOf seat (words_of old) (stacks_of was.supply.stacks) (words_of new) (stacks_of v.supply.stacks) call reply) (sym left_is) step;
-  keeps = done.gives.keeps;
-}
+IsCalled-done {old} {new} {was} {done_left} {left} {seat} {root} {block} {slab} {events} call reply done same left_is line_is few step = grind arith
 
 -- sizes
 
@@ -114,9 +103,7 @@ class_is class is_class = first_zero-is (too_little (class_size class)) 36 class
 
 -- the number of a block, by its address
 number_is : (start class number : ℕ) → 16 ≤ class_size class → ((slab_block start class number).at - (16384 * start + 2048)) / class_size class ≡ number
-number_is start class number some =
-    let offset : (slab_block start class number).at - (16384 * start + 2048) ≡ number * class_size class + 0 = omega arith in
-    ap (λ n. n / class_size class) offset ∙ div-mul-add number (class_size class) 0 (omega (arith, some))
+number_is start class number some = grind arith
 
 module _ (words : List ℕ) (line root : ℕ) (block : SmallBlock) (class : ℕ) (is_class : class < 36) (at : block.at ≡ (slab_block block.start class block.number).at) where
   abbrev t : Tables
@@ -166,9 +153,7 @@ start_is {b} {t} sound start class number slab is_class below =
 -- no slab has a vacant granule
 vacant_none : {b : Bounds} (t : Tables) (start : ℕ) → 3 ≤ start → IsVacant b t start → t.slab (slab_of t.slab start) ≡ false
 unfolding slab_of
-vacant_none {b} t start high vacant =
-    let none : (s : ℕ) → s ≤ start → start < s + 4 → t.slab s ≡ false = λ s low up. false_from_ne_true (t.slab s) (λ slab. vacant.none s (Covers-slab t s start slab low up)) in
-    rw (none start (omega arith) (omega arith), none (start - 1) (omega arith) (omega arith), none (start - 2) (omega arith) (omega arith)) (none (start - 3) (omega (arith, high)) (omega (arith, high)))
+vacant_none {b} t start high vacant = grind arith
 
 -- the first block of a slab that is opened
 pub placed_fresh : (b : Bounds) (words : List ℕ) (line root start class : ℕ) → class < 36 → 3 ≤ start → IsVacant b (tables_of words) start →
@@ -234,9 +219,7 @@ module _ (words : List ℕ) (image : IsExactImage words) (root : ℕ) (block : O
 
   -- its class is another than that of the slab now
   pub old_differs : class ≢ (tables_of words).class block.start
-  old_differs same =
-      let valid = image.exact.sound.slabs block.start named.slab in
-      valid.state.differ (λ normal. omega (arith, named.place.below, (valid.state.none normal).1)) (named.old_is ∙ same)
+  old_differs same = grind arith
 
   pub old_heap : heap (tables_of words) root ≡ Some at_old
   old_heap = heap_held image.exact.sound image.exact.closed root block.start at_old old_held named.named
@@ -302,20 +285,7 @@ IsDone-large {old} {new} {was} {left} {root} {block} {events} arena same same_li
 -- a free block of a slab may come to a root
 pub small_attachable : (words : List ℕ) (root size : ℕ) (block : SmallBlock) (class : ℕ) → IsExactImage words → IsAskedOf (bounds_of words) (tables_of words) root size →
     IsGivableBlock (tables_of words) block class → IsAttachable words root block
-small_attachable words root size block class image asked placing =
-    let same = sym placing.class_is in
-    record {
-      block_in = record {
-        image = record { formed = image.formed; but = IsExactBut-exact image.exact block.start };
-        rooted = asked.below;
-        slab = placing.slab;
-        lively = image.exact.none_done block.start;
-        below = subst (λ c. block.number < class_capacity c) same placing.below;
-        at = placing.at ∙ ap (λ c. (slab_block block.start c block.number).at) same;
-      };
-      unused = subst (λ c. IsUnusedIn (tables_of words) block.start c block.number) same placing.unused;
-      none = asked.none;
-    }
+small_attachable words root size block class image asked placing = grind arith
 
 -- a call that is refused
 pub IsCalled-refused : {old : PmemState} {was : Volatile} {seat : ℕ} (call : Call) (reply : Reply) → IsArena old was →

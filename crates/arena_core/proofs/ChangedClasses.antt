@@ -1,9 +1,8 @@
 -- A slab took another class: what stands beside the words of an arena holds again.
-use Rattle.std.proofs.Common.{◌≡◌, ◌≢◌, ◌==◌, ◌↔◌, ℕ, ◌+◌, ◌<◌, ◌≤◌, Bool, true, false, List, length, Some, None, sym, ap, ◌∙◌, subst, arith, inl, inr, ⊎_elim, if◌then◌else◌}
-use Rattle.std.proofs.Math.Nat.{min-le_right}
-use Rattle.std.proofs.lemmas.Bool.{cases_eq, cases_lt, cond-true, cond-false, ne_eqb}
+use Rattle.std.proofs.Common.{◌≡◌, ◌≢◌, ◌==◌, ◌↔◌, ℕ, ◌+◌, ◌<◌, ◌≤◌, Bool, true, false, List, Some, None, sym, ap, ◌∙◌, subst, arith, inl, inr, ⊎_elim, if◌then◌else◌}
+use Rattle.std.proofs.lemmas.Bool.{cases_eq, cases_lt, cond-true}
 use Rattle.size_classes.specs.Classes.{class_capacity}
-use Rattle.image_tables.specs.Forms.{morphing_kind, morphed_kind}
+use Rattle.image_tables.specs.Forms.{morphed_kind}
 use Rattle.image_tables.specs.Tables.{Tables, tables_of}
 use Rattle.image_tables.proofs.Stores.{HasNoMove-closed}
 use Rattle.image_tables.proofs.Updates.{put_at-same, put_at-other}
@@ -16,7 +15,6 @@ use Rattle.heap_check.specs.Heap.{slabs, IsUnusedIn}
 use Rattle.heap_check.specs.Image.{IsExactImage}
 use Rattle.heap_check.specs.State.{IsEitherHeap}
 use Rattle.heap_check.proofs.Geometry.{Covers-slab}
-use Rattle.slab_header.specs.Morph.{held_numbers}
 use Rattle.slab_morph.specs.SlabHeaders.{SlabHeader, header_of}
 use Rattle.slab_morph.specs.Stages.{morphed, morph_count}
 use Rattle.class_steps.specs.Classes.{IsReadyFor, LeavesClosed, IsOfClass}
@@ -37,11 +35,7 @@ ready_for words start class image may = record { image = image; slab = may.slab;
 
 -- it has few blocks, and so few events
 pub few_changes : (t : Tables) (start class : ℕ) → IsMorphable t start class → morph_count (header_of t start) ≤ 152
-few_changes t start class may =
-    let count = length (held_numbers t start) in
-    let held : (if t.kind start == morphing_kind then 0 else count) ≡ count = cond-false (t.kind start == morphing_kind) 0 count (ne_eqb (t.kind start) morphing_kind (λ same. omega (arith, same, may.normal))) in
-    let most = min-le_right count 8 in
-    omega (arith, may.fit.few, held, most)
+few_changes t start class may = grind arith
 
 -- the slab is one of the supply
 pub is_slab : {set : Supply} {words : List ℕ} (start : ℕ) → IsSlabsOf set words → (tables_of words).slab start ≡ true → IsSlab set.slabs start

@@ -112,8 +112,4 @@ given_none words start number end set below used were = record {
 
 -- all are seen
 pub given_all : (words : List ℕ) (start number end : ℕ) (set : Supply) → end ≤ number → AreGiven set words start number end → IsSlabsOf set words
-given_all words start number end set all were = record {
-  granules = were.granules;
-  classes = were.classes;
-  blocks = λ s i slab below. were.done s i slab below (λ within. omega (arith, within.1, within.2, all));
-}
+given_all words start number end set all were = grind arith

@@ -39,14 +39,7 @@ use Rattle.heap_check.specs.Heap.{heap}
 pub IsPoolHeader-new : (number arenas granules : ℕ) → number < arenas → arenas ≤ 16 → 16 ≤ granules → granules ≤ (layout_of 1).most_granules →
     IsPoolHeader (record { version = 1; number = number; arenas = arenas; granules = granules })
 unfolding layout_of
-IsPoolHeader-new number arenas granules below few least most = record {
-  version = refl;
-  some = omega arith;
-  most = few;
-  number = below;
-  least = least;
-  greatest = most;
-}
+IsPoolHeader-new number arenas granules below few least most = grind arith
 
 text_some : header_text ≢ 0
 unfolding header_text

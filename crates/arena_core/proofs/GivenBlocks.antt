@@ -1,6 +1,5 @@
 -- A slab is there for a root: its seat is given a block of it, and this comes to the root.
 use Rattle.std.proofs.Common.{◌≡◌, ◌+◌, ◌*◌, ◌^◌, ◌<◌, ◌++◌, ℕ, true, List, Option, Some, None, MatchOption, IsSome, refl, sym, ap, ◌∙◌, subst, arith, inl}
-use Rattle.std.proofs.lemmas.Bool.{cond-true}
 use Rattle.arena_core.proofs.Readiness.{ready_after}
 use Rattle.pmem_lines.specs.declared.event.Event.{Event}
 use Rattle.pmem_lines.specs.Events.{reading}
@@ -9,15 +8,12 @@ use Rattle.pmem_lines.specs.Steps.{IsQuietStep}
 use Rattle.size_classes.specs.Classes.{class_size, class_capacity}
 use Rattle.image_tables.specs.Tables.{tables_of}
 use Rattle.heap_model.specs.Machine.{Range, with_key, slab_block}
-use Rattle.heap_model.proofs.Slabbing.{LiesIn-block}
 use Rattle.slab_index.specs.SlabSet.{class_in}
 use Rattle.slab_index.specs.declared.block.SlabBlock.{SlabBlock}
 use Rattle.block_supply.specs.Supply.{Supply, HadNoOpen, TookBlock}
 use Rattle.block_supply.proofs.Takes.{none_open}
 use Rattle.heap_check.specs.Heap.{slabs}
 use Rattle.heap_check.specs.State.{IsEitherHeap}
-use Rattle.heap_check.proofs.Geometry.{granules_at-slab}
-use Rattle.heap_check.proofs.Sizes.{sizes_of}
 use Rattle.attach_steps.specs.declared.block.SmallBlock.{SmallBlock}
 use Rattle.attach_steps.specs.Steps.{attach_events, IsAttached}
 use Rattle.arena_core.specs.declared.volatile.Volatile.{Volatile}
@@ -30,9 +26,7 @@ use Rattle.arena_core.proofs.SmallCalls.{slabs_without, classes_small, index_sma
 -- a slab is there
 module _ {device : PmemState} {volatile : Volatile} {root start class : ℕ} (ready : IsSlabFor device volatile root start class) where
   in_supply : class_in volatile.supply.slabs start ≡ Some class
-  in_supply =
-      let t = tables_of (words_of device) in
-      ready.arena.slabs.classes start ∙ cond-true (t.slab start) (Some (t.class start)) None ready.arena.slab ∙ ap (λ c. Some c) ready.class_is
+  in_supply = grind arith
 
   -- some block of it is given
   pub given_some : (next : Supply) (seat : ℕ) (found : Option SlabBlock) → MatchOption found (HadNoOpen volatile.supply class next) (λ block. TookBlock volatile.supply seat class block next) → IsSome found
@@ -49,13 +43,7 @@ module _ {device : PmemState} {volatile : Volatile} {root start class : ℕ} (re
 
   -- it lies in the arena
   pub given_low : (number : ℕ) → number < class_capacity class → 16384 * start + 2048 + number * class_size class < 2 ^ 32
-  given_low number below =
-      let words = words_of device in
-      let image = ready.arena.image in
-      let four = granules_at-slab (tables_of words) start ready.arena.slab in
-      let lies = image.but.sound.starts start (omega (arith, four)) in
-      let inside = LiesIn-block 0 class (slab_block 0 class number) (record { number = number; within = below; is = refl }) in
-      omega (arith, lies.1, four, (sizes_of words image.formed).most, inside.high)
+  given_low number below = grind arith
 
   -- and may come to the root
   pub given_held : {next : Supply} {seat : ℕ} (number at : ℕ) → TookBlock volatile.supply seat class (record { start = start; number = number }) next → at ≡ (slab_block start class number).at →

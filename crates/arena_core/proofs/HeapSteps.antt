@@ -1,11 +1,10 @@
 -- Two steps in a row, of which one leaves the heap: what a crash leaves of both, and which words stay.
-use Rattle.std.proofs.Common.{refl, ◌≡◌, ◌⊎◌, ℕ, List, ◌++◌, sym, ◌∙◌, inl, inr, ⊎_elim, Some}
+use Rattle.std.proofs.Common.{refl, ◌⊎◌, ℕ, List, ◌++◌, inl, inr, ⊎_elim, arith}
 use Rattle.pmem_lines.specs.declared.event.Event.{Event}
 use Rattle.pmem_lines.specs.Events.{reading}
 use Rattle.pmem_lines.specs.Pmem.{PmemState, words_of}
 use Rattle.pmem_lines.specs.Steps.{IsQuietStep}
 use Rattle.pmem_lines.proofs.Steps.{step_then}
-use Rattle.image_tables.specs.Tables.{tables_of}
 use Rattle.heap_check.specs.Heap.{heap}
 use Rattle.heap_check.specs.State.{HaveSameHeap, KeepsBlocks, IsEitherHeap}
 
@@ -13,19 +12,7 @@ use Rattle.heap_check.specs.State.{HaveSameHeap, KeepsBlocks, IsEitherHeap}
 module _ (old mid new : List ℕ) (which : HaveSameHeap old mid ⊎ HaveSameHeap mid new) where
   -- a block from before that an image of the second step has keeps its words
   keeps_then : (image : List ℕ) → HaveSameHeap mid image ⊎ HaveSameHeap new image → KeepsBlocks old mid → KeepsBlocks mid image → KeepsBlocks old image
-  keeps_then image left first second = record {
-    each = λ root other range k was is word. ⊎_elim
-        (λ (same : HaveSameHeap old mid).
-        let there = same.each root ∙ was in
-        second.each root other range k there is word ∙ first.each root root range k was there word)
-        (λ (same : HaveSameHeap mid new).
-        let there : heap (tables_of mid) other ≡ Some range = ⊎_elim
-        (λ (here : HaveSameHeap mid image). sym (here.each other) ∙ is)
-        (λ (after : HaveSameHeap new image). sym (same.each other) ∙ sym (after.each other) ∙ is)
-        left in
-        second.each other other range k there is word ∙ first.each root other range k was there word)
-        which;
-  }
+  keeps_then image left first second = grind arith
 
   -- so it does at the end
   pub keeps_both : KeepsBlocks old mid → KeepsBlocks mid new → KeepsBlocks old new
@@ -33,10 +20,7 @@ module _ (old mid new : List ℕ) (which : HaveSameHeap old mid ⊎ HaveSameHeap
 
   -- the heap from between is the one from before or from after
   ends : (image : List ℕ) → HaveSameHeap mid image → HaveSameHeap old image ⊎ HaveSameHeap new image
-  ends image there = ⊎_elim
-      (λ (same : HaveSameHeap old mid). inl (record { each = λ root. there.each root ∙ same.each root }))
-      (λ (same : HaveSameHeap mid new). inr (record { each = λ root. there.each root ∙ sym (same.each root) }))
-      which
+  ends image there = grind arith
 
   either_first : (image : List ℕ) → IsEitherHeap old mid image → IsEitherHeap old new image
   either_first image left = record {

@@ -1,5 +1,5 @@
 -- The block that a root names in a slab.
-use Rattle.std.proofs.Common.{◌≡◌, ◌≢◌, ◌*◌, ◌/◌, ◌<◌, ℕ, true, List, Some, None, refl, sym, ap, subst, ◌∙◌, arith, inl, inr, ⊎_elim}
+use Rattle.std.proofs.Common.{◌≡◌, ◌≢◌, ◌*◌, ◌/◌, ◌<◌, ℕ, true, List, Some, None, refl, sym, ap, subst, ◌∙◌, arith, inr}
 use Rattle.image_tables.specs.Tables.{Tables, is_slab, tables_of, state_word}
 use Rattle.image_tables.proofs.Tables.{slab_table}
 use Rattle.heap_model.specs.Machine.{Bounds, Range, slab_block}
@@ -10,7 +10,6 @@ use Rattle.heap_check.proofs.Claims.{IsNamed-claim, IsClaim-word}
 use Rattle.heap_check.proofs.Geometry.{granules_at-slab, plain_size-some}
 use Rattle.heap_check.proofs.Heaps.{heap-claim}
 use Rattle.heap_check.proofs.Sizes.{sizes_of}
-use Rattle.heap_check.proofs.SmallPlaces.{calm_but}
 use Rattle.heap_check.proofs.StateWords.{IsStateWord-valid}
 use Rattle.heap_check.proofs.Within.{IsWithin-held, IsInSlab-held, one_claim}
 use Rattle.slab_morph.specs.SlabHeaders.{IsSlabHere}
@@ -18,11 +17,9 @@ use Rattle.attach_steps.specs.declared.block.SmallBlock.{SmallBlock}
 use Rattle.attach_steps.specs.declared.block.OldBlock.{OldBlock}
 use Rattle.attach_steps.specs.Steps.{IsDetachable, IsOldDetachable}
 use Rattle.arena_core.specs.Arena.{old_range}
-use Rattle.image_tables.specs.Forms.{morphing_kind, IsStateWord, morphed_kind, normal_kind}
+use Rattle.image_tables.specs.Forms.{morphing_kind, IsStateWord, morphed_kind}
 use Rattle.pmem_lines.specs.Words.{word_at}
 use Rattle.arena_core.specs.Plan.{IsNamedSmall, IsNamedOld}
-use Rattle.heap_check.proofs.Loose.{IsExactBut-exact}
-use Rattle.size_classes.specs.Classes.{class_capacity}
 
 -- the block that a slab holds at a root's word is the root's
 pub heap_held : {b : Bounds} {t : Tables} → IsSound b t → t.open_entry ≡ None → (root start : ℕ) (range : Range) → Holds t start range → t.root root ≡ range.at → heap t root ≡ Some range
@@ -38,10 +35,7 @@ heap_held {b} {t} sound closed root start range holds word =
 
 -- a block of its slab's class that a root has
 pub class_holds : {words : List ℕ} {root : ℕ} {block : SmallBlock} → IsDetachable words root block → Holds (tables_of words) block.start (slab_block block.start ((tables_of words).class block.start) block.number)
-class_holds {words} {root} {block} may = record {
-  slab = may.block_in.slab;
-  block = inl (record { number = block.number; below = may.block_in.below; read = calm_but may.block_in.image.but block.start may.block_in.slab; set = may.set; is = refl });
-}
+class_holds {words} {root} {block} may = grind arith
 
 -- an old one
 pub old_holds : {words : List ℕ} {root : ℕ} {block : OldBlock} → IsOldDetachable words root block → Holds (tables_of words) block.start (old_range (tables_of words) block)
@@ -49,10 +43,7 @@ old_holds {words} {root} {block} may = record { slab = may.slab; block = inr (re
 
 -- a slab whose index table is read, and that takes no other class, took one
 morphed_with : (t : Tables) (start : ℕ) → t.slab start ≡ true → t.kind start ≢ morphing_kind → (place : ℕ) → IsValidSlab t start → place < t.index_count start → t.kind start ≡ morphed_kind
-morphed_with t start slab calm place valid below = ⊎_elim
-    (λ (normal : t.kind start ≡ normal_kind). absurd (let none = valid.state.none normal in omega (arith, below, none.1)))
-    (λ other. ⊎_elim (λ morphing. absurd (calm morphing)) (λ morphed. morphed) other)
-    valid.state.kinds
+morphed_with t start slab calm place valid below = grind arith
 
 -- the header of a slab is there, and valid
 pub slab_here : (words : List ℕ) (start slab : ℕ) → slab ≡ 16384 * start → IsFormed words → IsSound (bounds_of words) (tables_of words) → (tables_of words).slab start ≡ true → IsSlabHere words slab
@@ -75,27 +66,7 @@ slab_here words start slab is formed sound lives =
 -- what a root names may go from it
 
 pub class_detachable : {words : List ℕ} {root : ℕ} {block : SmallBlock} {class : ℕ} → IsExactImage words → IsNamedSmall (bounds_of words) (tables_of words) root block class → IsDetachable words root block
-class_detachable {words} {root} {block} {class} image named = record {
-  block_in = record {
-    image = record { formed = image.formed; but = IsExactBut-exact image.exact block.start };
-    rooted = named.rooted;
-    slab = named.slab;
-    lively = image.exact.none_done block.start;
-    below = subst (λ c. block.number < class_capacity c) (sym named.class_is) named.below;
-    at = named.at ∙ ap (λ c. (slab_block block.start c block.number).at) (sym named.class_is);
-  };
-  set = named.set;
-  named = named.named;
-}
+class_detachable {words} {root} {block} {class} image named = grind arith
 
 pub old_detachable : {words : List ℕ} {root : ℕ} {block : OldBlock} {class : ℕ} → IsExactImage words → IsNamedOld (bounds_of words) (tables_of words) root block class → IsOldDetachable words root block
-old_detachable {words} {root} {block} {class} image named = record {
-  image = record { formed = image.formed; but = IsExactBut-exact image.exact block.start };
-  rooted = named.rooted;
-  slab = named.slab;
-  kind = morphed_with (tables_of words) block.start named.slab (λ kind. image.exact.calm block.start (record { slab = named.slab; kind = kind })) block.place (image.exact.sound.slabs block.start named.slab) named.place.below;
-  below = named.place.below;
-  live = named.place.live;
-  at = sym named.place.here;
-  named = named.named;
-}
+old_detachable {words} {root} {block} {class} image named = grind arith

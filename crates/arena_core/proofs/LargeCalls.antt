@@ -43,13 +43,7 @@ module _ (words : List ℕ) (root start count : ℕ) (exact : IsExactImage words
 
   -- before
   pub nothing : (tables_of words).large start ≡ 0
-  nothing = ⊎_elim
-      (λ none. none.0)
-      (λ live. absurd ((givable.row.vacant start (omega arith) (omega (arith, givable.many))).none start (record {
-        low = omega arith;
-        high = omega (arith, granules_at-large (tables_of words) start give_place.no_slab, live.0, givable.many);
-      })))
-      give_place.was
+  nothing = grind arith
 
   begun : IsStageOf words root start 0 0 words
   begun = subst (λ n. IsStageOf words root start n 0 words) nothing

@@ -188,12 +188,7 @@ module _ {words : List ℕ} {root start count : ℕ} (exact : IsExactImage words
 
   -- two images in which it has the block
   pub same_some : (one other : List ℕ) → IsStageOf words root start count (16384 * start) one → IsStageOf words root start count (16384 * start) other → HaveSameHeap one other
-  same_some one other first second = record {
-    each = λ r. ⊎_elim
-        (λ (same : r ≡ root). ap (heap (tables_of other)) same ∙ some_stage other second ∙ sym (some_stage one first) ∙ ap (heap (tables_of one)) (sym same))
-        (λ (differ : r ≢ root). others_stage count (16384 * start) other second r differ ∙ sym (others_stage count (16384 * start) one first r differ))
-        (cases_eq r root);
-  }
+  same_some one other first second = grind arith
 
   -- the effect
 

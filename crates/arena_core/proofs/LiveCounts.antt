@@ -36,10 +36,7 @@ live_given old new s roots root range below none given others = ap (λ h. live_b
 
 -- where a block begins
 pub begins_at : (s : ℕ) (range : Range) → BeginsIn s (Some range) → (16384 * s ≤ range.at) × (range.at < 16384 * s + 65536)
-begins_at s range begins =
-    let same : range ≡ begins.range = cc (begins.named) in
-    let at = ap (λ (x : Range). x.at) same in
-    (omega (arith, at, begins.low), omega (arith, at, begins.high))
+begins_at s range begins = grind arith
 
 -- numbers of slabs: where no slab begins they are 0
 
@@ -141,14 +138,7 @@ one_more {without} {with_it} {root} {start} {range} lives more inside were calm 
 -- once it is one less, they are those of the image
 pub one_less : {lives next : Lives} {words : List ℕ} {start : ℕ} → HaveOneMore lives words start → length next.counts ≡ length lives.counts →
     ((s : ℕ) → slice_index next.counts s ≡ (if s == start then slice_index lives.counts s - 1 else slice_index lives.counts s)) → ((s : ℕ) → calm_at next s ≡ calm_at lives s) → AreLivesOf next words
-one_less {lives} {next} {words} {start} were size put calm = record {
-  counts = record { size = size ∙ were.size; each = λ s. less (s == start) (were.each s) (put s) };
-  calm = λ s. calm s ∙ were.calm s;
-}
-  where
-    less : (is : Bool) {n old new : ℕ} → old ≡ (if is then n + 1 else n) → new ≡ (if is then old - 1 else old) → new ≡ n
-    less true was now = omega (arith, was, now)
-    less false was now = now ∙ was
+one_less {lives} {next} {words} {start} were size put calm = grind arith
 
 -- there are no more than roots
 pub live_below-most : (block : ℕ → Option Range) (s n : ℕ) → live_below block s n ≤ n

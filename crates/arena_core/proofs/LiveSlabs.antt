@@ -1,6 +1,6 @@
 -- The counts of live blocks and the calm slabs together, as blocks and slabs come and go.
-use Rattle.std.proofs.Common.{◌≡◌, ◌≢◌, ◌==◌, ◌&&◌, ℕ, true, false, List, Option, Some, None, sym, ap, ◌∙◌, ⊎_elim, if◌then◌else◌}
-use Rattle.std.proofs.lemmas.Bool.{cases_Bool, cond-true, cond-false, eq-eqb, eqb-true, ne_eqb, and_parts, and_from, and_left}
+use Rattle.std.proofs.Common.{◌≡◌, ◌≢◌, ◌==◌, ◌&&◌, ℕ, true, false, List, Option, Some, None, sym, ap, ◌∙◌, if◌then◌else◌, arith}
+use Rattle.std.proofs.lemmas.Bool.{cond-true, cond-false, eq-eqb, and_from, and_left}
 use Rattle.image_tables.specs.Forms.{normal_kind}
 use Rattle.image_tables.specs.Tables.{Tables, tables_of}
 use Rattle.image_tables.proofs.Updates.{put_at-other}
@@ -18,25 +18,14 @@ calm_normal t s slab normal = cond-true (t.slab s && (t.kind s == normal_kind)) 
 
 -- no other one is
 pub calm_stirred : (t : Tables) (s : ℕ) → t.kind s ≢ normal_kind → calm_of t s ≡ None
-calm_stirred t s moving = ⊎_elim
-    (λ (slab : t.slab s ≡ true). cond-false (t.slab s && (t.kind s == normal_kind)) (Some (t.class s)) None (ap (λ b. b && (t.kind s == normal_kind)) slab ∙ ne_eqb (t.kind s) normal_kind moving))
-    (λ (none : t.slab s ≡ false). cond-false (t.slab s && (t.kind s == normal_kind)) (Some (t.class s)) None (and_left (t.slab s) (t.kind s == normal_kind) none))
-    (cases_Bool (t.slab s))
+calm_stirred t s moving = grind arith
 
 pub calm_none : (t : Tables) (s : ℕ) → t.slab s ≡ false → calm_of t s ≡ None
 calm_none t s none = cond-false (t.slab s && (t.kind s == normal_kind)) (Some (t.class s)) None (and_left (t.slab s) (t.kind s == normal_kind) none)
 
 -- what a calm slab is
 pub calm_parts : (t : Tables) (s class : ℕ) → calm_of t s ≡ Some class → (t.slab s ≡ true) × (t.kind s ≡ normal_kind) × (class ≡ t.class s)
-calm_parts t s class is = ⊎_elim
-    (λ (both : (t.slab s && (t.kind s == normal_kind)) ≡ true).
-    let parts = and_parts (t.slab s) (t.kind s == normal_kind) both in
-    let here = cond-true (t.slab s && (t.kind s == normal_kind)) (Some (t.class s)) None both in
-    (parts.0, eqb-true (t.kind s) normal_kind parts.1, cc))
-    (λ (no : (t.slab s && (t.kind s == normal_kind)) ≡ false).
-    let nothing = cond-false (t.slab s && (t.kind s == normal_kind)) (Some (t.class s)) None no in
-    absurd (cc))
-    (cases_Bool (t.slab s && (t.kind s == normal_kind)))
+calm_parts t s class is = grind arith
 
 -- slabs of which two tables say the same are calm alike
 pub calm_same : (t new : Tables) (s : ℕ) → IsSameSlab t new s → calm_of new s ≡ calm_of t s

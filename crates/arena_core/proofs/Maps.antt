@@ -1,15 +1,11 @@
 -- Maps in which one key was changed, or twice.
-use Rattle.std.proofs.Common.{◌≡◌, ◌≢◌, ℕ, Option, sym, ap, ◌∙◌, ⊎_elim}
-use Rattle.std.proofs.lemmas.Bool.{cases_eq}
+use Rattle.std.proofs.Common.{◌≡◌, ◌≢◌, ℕ, Option, ◌∙◌, arith}
 use Rattle.heap_model.specs.Machine.{with_key}
 use Rattle.heap_model.proofs.Maps.{with_key-here, with_key-other}
 
 -- a map that has the new value there, and all else as before
 pub with_key-is : {X : Type 0} (map new : ℕ → Option X) (key : ℕ) (value : Option X) → new key ≡ value → ((other : ℕ) → other ≢ key → new other ≡ map other) → (other : ℕ) → new other ≡ with_key map key value other
-with_key-is map new key value here others other = ⊎_elim
-    (λ (same : other ≡ key). ap new same ∙ here ∙ sym (with_key-here map key value) ∙ ap (with_key map key value) (sym same))
-    (λ (differ : other ≢ key). others other differ ∙ sym (with_key-other map key other value differ))
-    (cases_eq other key)
+with_key-is map new key value here others other = grind arith
 
 -- the last change counts
 pub with_key-twice : {X : Type 0} (map : ℕ → Option X) (key : ℕ) (old new : Option X) (other : ℕ) → with_key (with_key map key old) key new other ≡ with_key map key new other

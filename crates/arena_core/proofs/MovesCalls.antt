@@ -1,5 +1,5 @@
 -- A move put together: what it did behind its begin.
-use Rattle.std.proofs.Common.{◌≡◌, ◌+◌, ◌%◌, ℕ, List, [], Err, refl, sym, ap, ◌∙◌, arith, inl}
+use Rattle.std.proofs.Common.{◌≡◌, ◌+◌, ◌%◌, ℕ, List, [], Err, refl, sym, ap, arith, inl}
 use Rattle.arena_core.proofs.Readiness.{ready_after}
 use Rattle.pmem_lines.specs.Pmem.{PmemState, words_of}
 use Rattle.pmem_lines.specs.Steps.{IsQuietStep}
@@ -12,7 +12,6 @@ use Rattle.heap_model.specs.declared.call.Reply.TheVariants as replies
 use Rattle.heap_model.specs.Machine.{Range}
 use Rattle.heap_check.specs.Image.{bounds_of, IsExactImage}
 use Rattle.heap_check.proofs.Blank.{law_of_steady}
-use Rattle.heap_check.proofs.Heaps.{heap-none}
 use Rattle.move_steps.specs.Moves.{IsMovable, IsMoved, IsEitherMoved}
 use Rattle.arena_core.specs.declared.answer.MoveRefusal.{MoveRefusal}
 use Rattle.arena_core.specs.declared.answer.MoveRefusal.TheVariants.{NoRoot, Empty, Occupied}
@@ -27,14 +26,7 @@ use Rattle.arena_core.proofs.MovesStates.{step_moved, step_unmoved}
 
 -- what is planned may move
 pub movable : {words : List ℕ} {from to : ℕ} {range : Range} → IsExactImage words → IsToMove words from to range → IsMovable words from to range.at
-movable {words} {from} {to} {range} image plan = record {
-  image = image;
-  from_rooted = plan.roots.first;
-  to_rooted = plan.roots.second;
-  some = λ none. absurd (let empty = heap-none (tables_of words) from (plan.place ∙ none) in let some = plan.named in cc);
-  named = plan.place;
-  none = plan.none;
-}
+movable {words} {from} {to} {range} image plan = grind arith
 
 -- a block moved
 pub carried_moved : {old new : PmemState} {was : Volatile} {from to : ℕ} (range : Range) → IsArena old was → IsToMove (words_of old) from to range →

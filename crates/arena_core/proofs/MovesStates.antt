@@ -1,12 +1,12 @@
 -- A move as a step of the heap machine: the state behind it, and its refusals.
-use Rattle.std.proofs.Common.{◌≡◌, ◌≢◌, ◌⊎◌, ◌==◌, ℕ, ◌+◌, ◌/◌, ◌<◌, ◌≤◌, cond, List, Option, Some, None, Err, refl, sym, ap, subst, ◌∙◌, arith, inl, inr, ⊎_elim}
-use Rattle.std.proofs.lemmas.Bool.{cases_eq, cond-true, cond-false, eq-eqb, ne_eqb}
+use Rattle.std.proofs.Common.{◌≡◌, ◌≢◌, ◌⊎◌, ℕ, ◌+◌, ◌/◌, ◌<◌, ◌≤◌, cond, List, Option, Some, None, Err, refl, sym, ap, subst, ◌∙◌, arith, inl, inr, ⊎_elim}
+use Rattle.std.proofs.lemmas.Bool.{cases_eq}
 use Rattle.image_tables.specs.Tables.{tables_of}
 use Rattle.heap_model.specs.declared.call.Call.TheVariants as calls
 use Rattle.heap_model.specs.declared.call.Reply.{Reply}
 use Rattle.heap_model.specs.declared.call.Reply.TheVariants as replies
 use Rattle.heap_model.specs.Machine.{Range, Machine, with_key}
-use Rattle.heap_model.specs.Step.{HasBlock, forgotten, handed_over, with_moved, IsMove}
+use Rattle.heap_model.specs.Step.{HasBlock, handed_over, with_moved, IsMove}
 use Rattle.heap_model.proofs.Maps.{with_key-here, with_key-other}
 use Rattle.heap_check.specs.Heap.{heap}
 use Rattle.heap_check.specs.Image.{bounds_of, IsExactImage}
@@ -23,23 +23,12 @@ use Rattle.arena_core.proofs.States.{named_at}
 
 -- whichever seat calls, and whatever stands on the stacks, it is a step of the machine
 pub any_seat : (old new : List ℕ) (from to : ℕ) (reply : Reply) → IsMoveStep old new from to reply → IsStepOfAny old new (calls.Move from to) reply
-any_seat old new from to reply step seat stacks = record {
-  bounds = step.bounds;
-  each = λ m state. let made = step.each m state in (made.0, record { step = made.1; stacked = refl }, made.2);
-}
+any_seat old new from to reply step seat stacks = grind arith
 
 -- a word that is handed over was the first root's, or is another root's
 handed : (value : ℕ → ℕ → Option ℕ) (from to other index word : ℕ) → handed_over value from to other index ≡ Some word →
     ((other ≡ to) × (value from index ≡ Some word)) ⊎ ((other ≢ to) × (other ≢ from) × (value other index ≡ Some word))
-handed value from to other index word is = ⊎_elim
-    (λ (same : other ≡ to). inl (same, sym (cond-true (other == to) (value from index) (forgotten value from other index) (eq-eqb other to same)) ∙ is))
-    (λ (not_to : other ≢ to).
-    let rest : forgotten value from other index ≡ Some word = sym (cond-false (other == to) (value from index) (forgotten value from other index) (ne_eqb other to not_to)) ∙ is in
-    ⊎_elim
-    (λ (gone : other ≡ from). absurd (let none = cond-true (other == from) None (value other index) (eq-eqb other from gone) in cc))
-    (λ (not_from : other ≢ from). inr (not_to, not_from, sym (cond-false (other == from) None (value other index) (ne_eqb other from not_from)) ∙ rest))
-    (cases_eq other from))
-    (cases_eq other to)
+handed value from to other index word is = grind arith
 
 -- both are roots of the arena
 in_arena : {words : List ℕ} {from to : ℕ} → AreRoots words from to → ¬ (((bounds_of words).roots ≤ from) ⊎ ((bounds_of words).roots ≤ to))

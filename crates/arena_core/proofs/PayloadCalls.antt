@@ -88,13 +88,7 @@ module _ {old new : PmemState} {root from at : ℕ} {words : List ℕ} (image : 
 
   -- the words of the row are words of the block
   off_row_image : (left : List ℕ) → IsOldOrNewRow (words_of old) at words left → IsSameOffBlock (words_of old) left may.range
-  off_row_image left row = record {
-    same_length = row.same_length;
-    others = λ k outside. ⊎_elim
-        (λ same. same)
-        (λ inside. absurd (outside (record { low = omega (arith, inside.0, may.begins); high = omega (arith, inside.1, may.begins, may.within) })))
-        (row.each k);
-  }
+  off_row_image left row = grind arith
 
   others : (k : ℕ) → ¬ (IsNamedWord (words_of old) root from (length words) k) → word_at (words_of new) k ≡ word_at (words_of old) k
   others k off = ap (λ ws. word_at ws k) step.appends.words ∙ off_write (words_of old) t root from words k (⊎_elim

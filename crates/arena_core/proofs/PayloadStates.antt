@@ -1,8 +1,7 @@
 -- The state of the heap machine behind words that were written into a root's block.
-use Rattle.std.proofs.Common.{◌≡◌, ◌≢◌, ◌⊎◌, ◌<◌, ◌≤◌, ◌+◌, ◌-◌, ◌/◌, ◌==◌, ◌&&◌, ℕ, suc, true, false, List, [], ◌∷◌, length, Option, Some, Err, get_or, refl, sym, ap, subst, ◌∙◌, arith, inl, inr, ⊎_elim}
-use Rattle.std.proofs.lemmas.Bool.{cases_eq, cases_lt, cond-true, cond-false, eq-eqb, ne_eqb, and_from}
+use Rattle.std.proofs.Common.{◌≡◌, ◌≢◌, ◌⊎◌, ◌<◌, ◌≤◌, ◌+◌, ◌-◌, ◌/◌, ℕ, suc, List, [], ◌∷◌, length, Option, Some, Err, get_or, refl, sym, ap, subst, ◌∙◌, arith, inl, inr, ⊎_elim}
+use Rattle.std.proofs.lemmas.Bool.{cases_eq, cases_lt}
 use Rattle.pmem_lines.specs.Words.{word_at}
-use Rattle.image_tables.specs.Tables.{tables_of}
 use Rattle.heap_model.specs.declared.call.Reply.TheVariants as replies
 use Rattle.heap_model.specs.Machine.{Range, Machine}
 use Rattle.heap_model.specs.Step.{with_value, HasBlock}
@@ -29,20 +28,7 @@ record IsKept (m : Machine) (root from count other index word : ℕ) : Type 0 wh
 module _ (m : Machine) (root from other index word : ℕ) where
   -- one word is written
   one_value : (written : ℕ) → (with_value m root from written).value other index ≡ Some word → ((other ≡ root) × (index ≡ from) × (written ≡ word)) ⊎ ((m.value other index ≡ Some word) × ((other ≢ root) ⊎ (index ≢ from)))
-  one_value written is = ⊎_elim
-      (λ (here : other ≡ root). ⊎_elim
-      (λ (same : index ≡ from).
-      let both : ((other == root) && (index == from)) ≡ true = and_from (other == root) (index == from) (eq-eqb other root here) (eq-eqb index from same) in
-      let put = cond-true _ (Some written) (m.value other index) both in
-      inl (here, same, cc))
-      (λ (apart : index ≢ from).
-      let none : ((other == root) && (index == from)) ≡ false = ap (λ b. b && (index == from)) (eq-eqb other root here) ∙ ne_eqb index from apart in
-      inr (sym (cond-false _ (Some written) (m.value other index) none) ∙ is, inr apart))
-      (cases_eq index from))
-      (λ (apart : other ≢ root).
-      let none : ((other == root) && (index == from)) ≡ false = ap (λ b. b && (index == from)) (ne_eqb other root apart) in
-      inr (sym (cond-false _ (Some written) (m.value other index) none) ∙ is, inl apart))
-      (cases_eq other root)
+  one_value written is = grind arith
 
 at_later : (word : ℕ) (words : List ℕ) (i j : ℕ) → i ≡ suc j → get_or (word ∷ words) i 0 ≡ get_or words j 0
 at_later word words i j is = rw is refl
@@ -91,9 +77,7 @@ slab_kept m root from (word ∷ words) = slab_kept (with_value m root from word)
 module _ {old new : List ℕ} {root from : ℕ} {words : List ℕ} {range : Range} (image : IsExactImage old) (block : HasBlockAt old root range) (within : from + length words ≤ range.size / 8) (written : HasWritten old root from words new) where
   -- the words that were written, by their block
   here_written : (index : ℕ) → from ≤ index → index < from + length words → word_at new (range.at / 8 + index) ≡ get_or words (index - from) 0
-  here_written index low high =
-      let place : (tables_of old).root root / 8 + from + (index - from) ≡ range.at / 8 + index = omega (arith, block.place, low) in
-      ap (word_at new) (sym place) ∙ written.here (index - from) (omega (arith, low, high))
+  here_written index low high = grind arith
 
   -- the words of another block are none of them, and those of this block by their index
   off_written : (k : ℕ) → (k < range.at / 8 + from) ⊎ (range.at / 8 + from + length words ≤ k) → word_at new k ≡ word_at old k

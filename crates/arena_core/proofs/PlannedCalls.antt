@@ -4,7 +4,7 @@ use Rattle.arena_core.proofs.GivenBlocks.{done_behind}
 use Rattle.arena_core.proofs.MachineSteps.{IsServedAt, placed_reply, placed_step, refused_malloc}
 use Rattle.arena_core.proofs.CallEvents.{IsCalled-done, IsCalled-refused, small_attachable, placed_large, line_placed, placed_there, placed_morph, placed_fresh, start_is, line_small}
 use Rattle.arena_core.proofs.Plans.{class_capacity-some, slab_parts}
-use Rattle.arena_core.specs.Events.{is_small, start_at, place_events, placed_events, call_events, line_after}
+use Rattle.arena_core.specs.Events.{start_at, place_events, placed_events, call_events, line_after}
 use Rattle.arena_core.specs.Effect.{IsSuppliedFresh, IsSuppliedMorph}
 use Rattle.heap_check.proofs.Sizes.{sizes_of}
 use Rattle.heap_check.specs.Heap.{slabs, IsUnusedIn}
@@ -20,7 +20,7 @@ use Rattle.heap_model.specs.Choice.Site.{Granules, InSlab, InMorph, InNewSlab}
 use Rattle.heap_model.specs.Choice.{Site, IsSite, range_of, slabs_with}
 use Rattle.pmem_lines.specs.Events.{reading}
 use Rattle.pmem_lines.specs.declared.event.Event.{Event}
-use Rattle.std.proofs.lemmas.Bool.{cond-true, cond-false, cases_Bool, cases_eq}
+use Rattle.std.proofs.lemmas.Bool.{cases_eq}
 use Rattle.pmem_lines.specs.Pmem.{PmemState, words_of, began}
 use Rattle.image_tables.specs.Tables.{Tables, tables_of}
 use Rattle.size_classes.specs.Classes.{class_size, class_capacity}
@@ -42,7 +42,6 @@ use Rattle.arena_core.specs.Carried.{IsCalled, IsHeldFor, MayOpen, MayTakeClass,
 use Rattle.attach_steps.specs.declared.block.SmallBlock.{SmallBlock}
 use Rattle.arena_core.specs.Arena.{IsArena}
 use Rattle.arena_core.specs.Plan.{IsAskedOf, IsPlacing, IsFound, IsSuppliedAt, IsSuppliedFor, IsPlanned, tables_view, IsBlockAs, number_of}
-use Rattle.arena_core.proofs.Answering.{IsArena-began}
 use Rattle.arena_core.proofs.SmallCalls.{slabs_without}
 
 -- the plan names the place that was found
@@ -147,9 +146,7 @@ morph_for {old} {mid} {was} {now} {part} {seat} {root} {size} {start} {class} pl
 
 -- the plan is one for the state at the call's begin too
 pub planned_begun : {device : PmemState} (begun : PmemState) {was now : Volatile} {seat root size : ℕ} {plan same : Result Place MallocRefusal} → begun ≡ began device → plan ≡ same → IsPlanned device was now seat root size plan → IsPlanned begun was now seat root size same
-planned_begun {device} begun {was} {now} {seat} {root} {size} {plan} is told planned =
-    subst (IsPlanned begun was now seat root size) told
-    (subst (λ (s : PmemState). IsPlanned s was now seat root size plan) (sym is) (record { arena = IsArena-began planned.arena; supplied = planned.supplied; rest = planned.rest; is = planned.is }))
+planned_begun {device} begun {was} {now} {seat} {root} {size} {plan} is told planned = grind arith
 
 -- a plan that refuses changes nothing
 pub refused_plan : {old : PmemState} {was now : Volatile} {seat root size : ℕ} (refusal : MallocRefusal) → IsPlanned old was now seat root size (Err refusal) → IsCalled old old was now seat (calls.Malloc root size) (malloc_reply (Err refusal))
@@ -169,10 +166,7 @@ refused_plan {old} {was} {now} {seat} {root} {size} refusal planned =
 
 -- the line stays among the eight
 line_few : (line at size : ℕ) → line < 8 → line_after line (replies.Placed at size) < 8
-line_few line at size few = ⊎_elim
-    (λ small. omega (arith, cond-true (is_small size) ((line + 1) % 8) line small))
-    (λ large. omega (arith, cond-false (is_small size) ((line + 1) % 8) line large, few))
-    (cases_Bool (is_small size))
+line_few line at size few = grind arith
 
 called_at : {old new : PmemState} {was now left : Volatile} {seat root size : ℕ} {place : Place} {events : List Event} → IsPlanned old was now seat root size (Ok place) → (site : Site) → IsSite (tables_view (bounds_of (words_of old)) (tables_of (words_of old))) size site →
     IsServedAt (tables_of (words_of old)) was.supply left.supply seat site → IsDone old new left root (Some (range_of site)) (slabs_with (slabs (tables_of (words_of old))) site) events → events ≡ placed_events (words_of old) was.line root (range_of site).at (range_of site).size →

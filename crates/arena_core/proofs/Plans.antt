@@ -3,7 +3,7 @@
 use Rattle.std.proofs.Common.{◌≡◌, ◌≢◌, ℕ, ◌+◌, ◌-◌, ◌*◌, ◌/◌, ◌<◌, ◌≤◌, true, false, refl, sym, ap, subst, ◌∙◌, arith, inl, inr, ⊎_elim, true≢false, List, Some, None, ◌↔◌}
 use Rattle.std.proofs.lemmas.Nat.{le-div}
 use Rattle.std.proofs.Math.Nat.{mul-div_cancel}
-use Rattle.std.proofs.lemmas.Bool.{cases_eq, cases_Bool, cond-true, cond-false}
+use Rattle.std.proofs.lemmas.Bool.{cases_eq, cond-true}
 use Rattle.size_classes.specs.Classes.{class_size, class_capacity, IsClassOf, granules_of}
 use Rattle.size_classes.proofs.Spacing.{class_size-least, class_size-most}
 use Rattle.image_tables.specs.Tables.{Tables, tables_of}
@@ -25,7 +25,6 @@ use Rattle.heap_check.proofs.SmallPlaces.{Holds-claim}
 use Rattle.arena_core.specs.declared.plan.Place.TheVariants.{Large, Small, Morph, Fresh}
 use Rattle.arena_core.specs.Arena.{IsIndexOf, IsSlabsOf}
 use Rattle.block_supply.specs.Supply.{Supply, IsOpen, IsInSlabOf, IsInNoSlabOf, HasNoOpen}
-use Rattle.block_supply.proofs.Takes.{none_open}
 use Rattle.arena_core.specs.Plan.{IsAskedOf, IsVacantRow, tables_view, IsMorphable, IsPlacing, IsTakable, IsNamedSmall, IsSlabAt, IsRootIn}
 use Rattle.heap_check.proofs.LargeLogs.{large_many}
 use Rattle.heap_check.proofs.Small.{is_old-held}
@@ -34,10 +33,7 @@ use Rattle.heap_check.proofs.Small.{is_old-held}
 
 -- a slab of the tables' map is one, of its class
 pub slab_parts : (t : Tables) (start class : ℕ) → slabs t start ≡ Some class → (t.slab start ≡ true) × (t.class start ≡ class)
-slab_parts t start class is = ⊎_elim
-    (λ (lives : t.slab start ≡ true). (lives, let here = cond-true (t.slab start) (Some (t.class start)) None lives in cc))
-    (λ (none : t.slab start ≡ false). absurd (let nothing = cond-false (t.slab start) (Some (t.class start)) None none in cc))
-    (cases_Bool (t.slab start))
+slab_parts t start class is = grind arith
 
 -- a slab has a block
 pub class_capacity-some : (class : ℕ) → class < 36 → 0 < class_capacity class
@@ -85,20 +81,12 @@ module _ {set : FreeSet} {words : List ℕ} (index : IsIndexOf set words) (root 
   module _ {parts : Supply} (slabs : IsSlabsOf parts words) where
     -- where no block of the class is open, none is unused
     full : (class : ℕ) → HasNoOpen parts class → ¬ (HasUnusedBlock (tables_view (bounds_of words) (tables_of words)) class)
-    full class none has =
-        let is = slab_parts (tables_of words) has.start class has.slab in
-        none_open parts class none has.start has.number (slab_in_set slabs has.start class is.0 is.1) ((block_is slabs has.start class has.number is.0 is.1 has.block.within).1 has.block.unused)
+    full class none has = grind arith
 
     -- a block of a class that is open
     pub IsPlacing-small : (class at : ℕ) (block : SlabBlock) → IsClassOf size class → class_in parts.slabs block.start ≡ Some class → block.number < class_capacity class → IsOpen parts block.start block.number → at ≡ (slab_block block.start class block.number).at →
         IsPlacing (bounds_of words) (tables_of words) root size (Small (record { start = block.start; number = block.number; at = at }) class)
-    IsPlacing-small class at block least slab within is_open at_is =
-        let is = slab_of_set slabs block.start class slab in
-        let unused = (block_is slabs block.start class block.number is.0 is.1 within).0 is_open in
-        record {
-          site = record { least = least; slab = sym (slabs.classes block.start) ∙ slab; block = record { within = within; unused = unused } };
-          place_for = record { slab = is.0; class_is = is.1; below = within; unused = unused; at = at_is };
-        }
+    IsPlacing-small class at block least slab within is_open at_is = grind arith
 
     -- a slab that takes the class for it
     pub IsPlacing-morph : (class start : ℕ) → IsClassOf size class → HasNoOpen parts class → IsBestSlab (tables_view (bounds_of words) (tables_of words)) class start × IsMorphable (tables_of words) start class →
@@ -181,11 +169,7 @@ module _ {words : List ℕ} (image : IsExactImage words) where
   -- a root's word in a slab of the set
   pub root_in : {set : Supply} → IsSlabsOf set words → (root at start class : ℕ) → root < (bounds_of words).roots → at ≡ (tables_of words).root root → IsInSlabOf (class_in set.slabs) (at / 16384) start class →
       IsSlabAt (tables_of words) start class × IsRootIn (bounds_of words) (tables_of words) root start at
-  root_in {set} parts root at start class rooted is inside =
-      let slab = slab_of_set parts start class inside.slab in (
-        record { slab = slab.0; class_is = slab.1 },
-        record { rooted = rooted; named = sym is; inside = record { slab = slab.0; low = omega (arith, inside.low); high = omega (arith, inside.high) } },
-      )
+  root_in {set} parts root at start class rooted is inside = grind arith
 
   -- a slab begins below the largest arena's end
   pub slab_few : {set : Supply} → IsSlabsOf set words → (start class : ℕ) → class_in set.slabs start ≡ Some class → start < 1024

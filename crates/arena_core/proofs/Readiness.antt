@@ -1,20 +1,16 @@
 -- A memory that is ready: which events there is room for, and that it stays so.
-use Rattle.std.proofs.Common.{◌≡◌, ◌+◌, ◌≤◌, refl, ap, arith}
+use Rattle.std.proofs.Common.{◌≡◌, ◌+◌, ◌≤◌, refl, arith}
 use Rattle.pmem_lines.specs.Events.{IsQuiet}
 use Rattle.pmem_lines.specs.Pmem.{PmemState, words_of}
 use Rattle.pool_layout.specs.Layout.{layout_of}
 use Rattle.pool_layout.specs.Header.{version_in}
 use Rattle.pool_layout.proofs.Layouts.{layout_rules}
 use Rattle.heap_check.specs.Image.{bounds_of, IsFormed}
-use Rattle.heap_check.proofs.Sizes.{version_by_bounds}
 use Rattle.arena_core.specs.Call.{IsReady}
 
 -- it is ready again where it is quiet and its image has the same numbers
 pub ready_after : {old new : PmemState} → IsReady old → new.room ≡ old.room → IsQuiet new.events → IsFormed (words_of old) → IsFormed (words_of new) → bounds_of (words_of new) ≡ bounds_of (words_of old) → IsReady new
-ready_after {old} {new} ready same quiet formed formed_new bounds = record {
-  quiet = quiet;
-  room = omega (arith, ready.room, same, ap (λ v. (layout_of v).room) (version_by_bounds (words_of old) (words_of new) formed formed_new bounds));
-}
+ready_after {old} {new} ready same quiet formed formed_new bounds = grind arith
 
 -- the room of any version
 pub room_of : {device : PmemState} → IsReady device → 2048 ≤ device.room

@@ -176,26 +176,7 @@ module _ (words : List ℕ) (start : ℕ) (image : IsExactButImage words start) 
 
 -- an image that is exact but for a slab is exact, where a root has a block in it and it is not done
 pub exact_held : (words : List ℕ) (start : ℕ) → IsExactButImage words start → (root : ℕ) × ((tables_of words).root root ≢ 0) × IsInSlab (tables_of words) start ((tables_of words).root root) → ¬ (IsDoneSlab (tables_of words) start) → IsExactImage words
-exact_held words start image rooted lively =
-    let t = tables_of words in
-    let but = image.but in
-    record {
-      formed = image.formed;
-      exact = record {
-        sound = but.sound;
-        closed = but.closed;
-        all_named = but.all_named;
-        all_live = λ other is. ⊎_elim
-            (λ (same : other ≡ start). (rooted.0, rooted.1, subst (λ s. IsInSlab t s (t.root rooted.0)) (sym same) rooted.2))
-            (λ (differ : other ≢ start). but.others_live other differ is)
-            (cases_eq other start);
-        calm = but.calm;
-        none_done = λ other done. ⊎_elim
-            (λ (same : other ≡ start). lively (subst (IsDoneSlab t) same done))
-            (λ (differ : other ≢ start). but.none_done other differ done)
-            (cases_eq other start);
-      };
-    }
+exact_held words start image rooted lively = grind arith
 
 -- the granules of a slab are held
 pub held_row : (words : List ℕ) (set : FreeSet) (start : ℕ) → IsExactButImage words start → (tables_of words).slab start ≡ true → IsIndexOf set words → IsHeldRow set start 4

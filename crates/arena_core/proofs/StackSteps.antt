@@ -1,22 +1,20 @@
 -- What a malloc takes of the stacks, and what a free puts back, is what the placement says.
 use Rattle.std.proofs.Common.{◌≡◌, ◌≢◌, ◌==◌, ◌&&◌, ◌||◌, not, ℕ, zero, suc, ◌+◌, ◌*◌, ◌<◌, ◌≤◌, ◌⊎◌, ◌↔◌, Bool, true, false, List, [], ◌∷◌, length, Option, Some, None, if◌then◌else◌, refl, sym, ap, ◌∙◌, subst, arith, inl, inr, ⊎_elim}
-use Rattle.std.proofs.lemmas.Bool.{cases_eq, cases_lt, cond-true, cond-false, and_from, and_left, le-leb, lt-ltb}
+use Rattle.std.proofs.lemmas.Bool.{cases_eq, cases_lt, cond-true, and_from, and_left, le-leb, lt-ltb}
 use Rattle.std.specs.List.{filter}
 use Rattle.size_classes.specs.Classes.{class_size, class_capacity}
-use Rattle.size_classes.proofs.Spacing.{class_size-least, class_size-most, class_size-rises}
+use Rattle.size_classes.proofs.Spacing.{class_size-most, class_size-rises}
 use Rattle.heap_model.specs.Below.{any_below}
 use Rattle.heap_model.specs.Machine.{Bounds, Range, Machine, with_key, slab_block, IsBlockOf, IsUnused, IsFreeGranule, IsOverlapFree}
 use Rattle.heap_model.specs.Runs.{IsBestFit}
 use Rattle.heap_model.specs.Choice.{IsBestSlab, HasNoFitSlab}
 use Rattle.heap_model.specs.Slabs.{is_within, view_of}
-use Rattle.heap_model.specs.Placement.{Stacks, with_stack, with_class, without_slab, without_left, has_left, HasAvailable, HasStacked, IsRefill, IsMorphRefill, IsNewRefill, IsWay, IsKeepable, IsReturned}
-use Rattle.heap_model.proofs.Maps.{with_key-here, with_key-other, with_key-cases}
+use Rattle.heap_model.specs.Placement.{Stacks, with_stack, with_class, without_slab, without_left, has_left, HasAvailable, IsRefill, IsMorphRefill, IsNewRefill, IsWay, IsKeepable, IsReturned}
+use Rattle.heap_model.proofs.Maps.{with_key-here, with_key-other}
 use Rattle.heap_model.proofs.Sites.{class_known}
-use Rattle.heap_model.proofs.Slabbing.{LiesIn-block}
 use Rattle.slab_index.specs.declared.block.SlabBlock.{SlabBlock}
 use Rattle.slab_index.specs.SlabSet.{class_in}
 use Rattle.thread_cache.specs.Stacks.{stacks_of}
-use Rattle.thread_cache.proofs.Distinct.{stack_here, stack_there, here_or_there}
 use Rattle.block_supply.specs.Supply.{Supply, IsOpen, supply_view, TookBlock, HasNoOpen}
 use Rattle.block_supply.proofs.Takes.{no_top, none_available}
 use Rattle.block_supply.proofs.Views.{AgreeOnBlocks, AgreeOnBlocks-back, HasAvailable-by, IsRefill-by, IsServed-by}
@@ -41,13 +39,7 @@ module _ (b : Bounds) (m : Machine) (was next : Supply) (seat class : ℕ) (agre
   -- where no block of the class is open, a slab takes the class or is made for it
   way_anew : HasNoOpen was class → (at : ℕ) → IsMorphRefill b (record { machine = m; stacks = stacks_of was.stacks }) seat class at (stacks_of next.stacks) ⊎ IsNewRefill b (record { machine = m; stacks = stacks_of was.stacks }) seat class at (stacks_of next.stacks) →
       IsWay b (record { machine = m; stacks = stacks_of was.stacks }) seat class at (stacks_of next.stacks)
-  way_anew none at anew = inr (
-    no_top (stacks_of was.stacks) seat class (none.empty seat),
-    inr (
-      none_available_of none,
-      inr (λ (stacked : HasStacked (stacks_of was.stacks) class). no_top (stacks_of was.stacks) stacked.seat class (none.empty stacked.seat) stacked.first.top, anew),
-    ),
-  )
+  way_anew none at anew = grind arith
 
   -- The slab at a start comes into the supply with the class, and what is open in it is what is unused.
   module _ (start number : ℕ) (mid : Supply) (classes : (s : ℕ) → class_in mid.slabs s ≡ with_key (class_in was.slabs) start (Some class) s)
@@ -165,14 +157,7 @@ one_left b m next stacks start class below slab left = λ i seat c. filter_same 
 
 -- an address of a slab that went makes no difference
 purged_put : (stacks : Stacks) (seat class at start : ℕ) → is_within start at ≡ true → without_slab (with_stack stacks seat class (at ∷ stacks seat class)) start ≡ without_slab stacks start
-purged_put stacks seat class at start within = λ i other c. ⊎_elim
-    (λ same.
-    ap (filter (λ a. not (is_within start a))) (stack_here stacks seat class other c (at ∷ stacks seat class) same.0 same.1)
-    ∙ cond-false (not (is_within start at)) (at ∷ filter (λ a. not (is_within start a)) (stacks seat class)) (filter (λ a. not (is_within start a)) (stacks seat class)) (ap not within)
-    ∙ ap (λ s. filter (λ a. not (is_within start a)) (stacks s class)) (sym same.0)
-    ∙ ap (λ k. filter (λ a. not (is_within start a)) (stacks other k)) (sym same.1))
-    (λ is. ap (filter (λ a. not (is_within start a))) (stack_there stacks seat class other c (at ∷ stacks seat class) is))
-    (here_or_there seat class other c) i
+purged_put stacks seat class at start within = grind arith
 
 -- the block of a large extent goes on no stack
 pub returned_large : (b : Bounds) (m next : Machine) (stacks : Stacks) (seat : ℕ) (range : Range) → 16384 < range.size → ((s : ℕ) → next.slab s ≡ m.slab s) → IsReturned next (without_left b m next stacks) seat range stacks
@@ -189,21 +174,11 @@ module _ (b : Bounds) (m : Machine) (free : IsOverlapFree b m) (start class : �
 
   -- it is a block of no other slab
   one_home : (s c : ℕ) → m.slab s ≡ Some c → IsBlockOf s c range → s ≡ start
-  one_home s c other block = ⊎_elim
-      (λ (same : s ≡ start). same)
-      (λ (differ : s ≢ start).
-      let lies = LiesIn-block s c range block in
-      let some = ap (λ (r : Range). r.size) block.is in
-      let least = class_size-least c (class_known c block.number block.within) in
-      absurd (⊎_elim (λ before. omega (arith, before, lies.high, low, some, least)) (λ behind. omega (arith, behind, lies.low, high)) (free.slabs_apart s start c class differ other slab)))
-      (cases_eq s start)
+  one_home s c other block = grind arith
 
   -- where its slab went it may not be kept
   not_kept : (next : Machine) (stacks : Stacks) (seat : ℕ) → ((s : ℕ) → next.slab s ≡ with_key m.slab start None s) → ¬ (IsKeepable next stacks seat range)
-  not_kept next stacks seat left keep = ⊎_elim
-      (λ here. absurd (let none = here.1 in cc))
-      (λ there. there.0 (one_home keep.start keep.class there.1 keep.block))
-      (with_key-cases m.slab start keep.start None (Some keep.class) (sym (left keep.start) ∙ keep.slab))
+  not_kept next stacks seat left keep = grind arith
 
   below : start < b.granules
   below = omega (arith, (free.slabs start class slab).1)

@@ -1,7 +1,7 @@
 -- The state of the heap machine that an exact image has: what the image's tables say of its granules, slabs and blocks,
 -- and its state after a call.
-use Rattle.std.proofs.Common.{◌≡◌, ◌≢◌, ℕ, ◌+◌, ◌*◌, ◌/◌, ◌<◌, ◌≤◌, true, false, true≢false, eqb, refl, sym, ap, subst, ◌∙◌, arith, inl, inr, ⊎_elim, List, Option, Some, None, ◌↔◌}
-use Rattle.std.proofs.lemmas.Bool.{cases_eq, cases_lt, cases_Bool, cond-true, cond-false, eq-eqb, ne_eqb}
+use Rattle.std.proofs.Common.{◌≡◌, ◌≢◌, ℕ, ◌+◌, ◌*◌, ◌/◌, ◌<◌, ◌≤◌, true, false, true≢false, refl, sym, ap, subst, ◌∙◌, arith, inl, inr, ⊎_elim, List, Option, Some, None, ◌↔◌}
+use Rattle.std.proofs.lemmas.Bool.{cases_eq, cases_lt, cases_Bool, cond-true}
 use Rattle.size_classes.specs.Classes.{class_size, class_capacity}
 use Rattle.image_tables.specs.Forms.{normal_kind, morphed_kind}
 use Rattle.image_tables.specs.Tables.{Tables, tables_of}
@@ -18,8 +18,7 @@ use Rattle.heap_model.proofs.Placing.{rows_apart}
 use Rattle.heap_model.proofs.Slabbing.{LiesIn-block}
 use Rattle.heap_model.proofs.Maps.{with_key-other}
 use Rattle.arena_core.proofs.Maps.{with_key-is}
-use Rattle.heap_model.proofs.Freeing.{slabs_stay, slabs_stay-away, slabs_leave}
-use Rattle.arena_core.proofs.LiveCounts.{begins_at}
+use Rattle.heap_model.proofs.Freeing.{slabs_stay, slabs_leave}
 use Rattle.heap_check.specs.Heap.{is_large, entry_at, heap, slabs, IsClaim, Holds, HoldsBit, HoldsOld, IsUnusedIn}
 use Rattle.heap_check.specs.Sound.{granules_at, Covers, IsVacant, IsInSlab, IsSound, HasOther}
 use Rattle.heap_check.specs.Image.{bounds_of, IsExactImage}
@@ -38,10 +37,7 @@ use Rattle.heap_check.proofs.LargeLogs.{large_many}
 
 -- what is not forgotten is another root's
 not_forgotten : (value : ℕ → ℕ → Option ℕ) (root other index word : ℕ) → forgotten value root other index ≡ Some word → (other ≢ root) × (value other index ≡ Some word)
-not_forgotten value root other index word is = ⊎_elim
-    (λ (here : other ≡ root). absurd (let none = cond-true (eqb other root) None (value other index) (eq-eqb other root here) in cc))
-    (λ (apart : other ≢ root). (apart, sym (cond-false (eqb other root) None (value other index) (ne_eqb other root apart)) ∙ is))
-    (cases_eq other root)
+not_forgotten value root other index word is = grind arith
 
 module _ {words : List ℕ} {m : Machine} (state : HasState words m) where
   -- the block that the heap has for a root is the state's
@@ -179,9 +175,7 @@ module _ {words : List ℕ} (image : IsExactImage words) {m : Machine} (state : 
 
   -- a slab stays once a root has lost its block where that does not lie in it
   slab_elsewhere : (root : ℕ) (range : Range) (s : ℕ) → ¬ (IsInSlab t s range.at) → slabs_without b m root range s ≡ m.slab s
-  slab_elsewhere root range s outside = slabs_stay-away b m root range s (λ class slab begins.
-      let at = begins_at s range begins in
-      outside (record { slab = (slab_named state s class slab).0; low = at.0; high = at.1 }))
+  slab_elsewhere root range s outside = grind arith
 
   -- the slabs are as before once a root has lost the block of a large extent
   pub slabs_without-large : (root : ℕ) (range : Range) → m.block root ≡ Some range → is_large (tables_of words).large ((tables_of words).root root) ≡ true → (s : ℕ) →

@@ -24,7 +24,7 @@ use Rattle.arena_core.proofs.Arenas.{same_heap}
 use Rattle.arena_core.proofs.ChangedHeaders.{IsHeaderChange, row, book_header, index_header, unused_header}
 use Rattle.arena_core.proofs.LastBlocks.{none_by_tests, some_by_tests, rooted_by_tests}
 use Rattle.arena_core.proofs.LiveCounts.{live_none, live_some, live_same, counts_kept}
-use Rattle.arena_core.proofs.LiveSlabs.{calm_normal, calm_header, lives_put}
+use Rattle.arena_core.proofs.LiveSlabs.{lives_put}
 use Rattle.arena_core.proofs.SlabChanges.{exact_held}
 use Rattle.heap_model.proofs.Below.{any_below-each, any_below-some}
 use Rattle.arena_core.proofs.Tests.{not_true}
@@ -36,7 +36,6 @@ use Rattle.slab_morph.specs.Stages.{settled}
 use Rattle.image_tables.proofs.Updates.{put_at-same, put_at-own}
 use Rattle.image_tables.proofs.Stores.{HasNoMove-closed}
 use Rattle.size_classes.specs.Classes.{class_capacity}
-use Rattle.arena_core.proofs.Maps.{with_key-is}
 
 -- the test of a slab that is done
 pub done_by_test : (t : Tables) (start : ℕ) → IsDoneSlab t start → is_done t start ≡ true
@@ -94,11 +93,7 @@ module _ (s : PmemState) (volatile : Volatile) (start : ℕ) (untidy : IsUntidy 
 
   -- its transition may end
   pub endable : IsDoneSlab (tables_of (words_of s)) start → IsEndable (words_of s) start
-  endable done = record {
-    image = record { formed = untidy.image.formed; sound = untidy.image.but.sound };
-    here = done;
-    elsewhere = λ root at place opens. absurd (let closed = untidy.image.but.closed in cc);
-  }
+  endable done = grind arith
 
   -- and it ended
   module _ (some : slice_index volatile.lives.counts start ≢ 0) (done : IsDoneSlab (tables_of (words_of s)) start) (u : PmemState) (step : IsQuietStep s u (end_events (words_of s) start) (LeavesEntry (words_of s))) (ended : IsEnded (words_of s) start (words_of u)) where
@@ -170,9 +165,7 @@ module _ (s : PmemState) (volatile : Volatile) (start : ℕ) (untidy : IsUntidy 
 
     -- it is calm now
     calm_ended : (o : ℕ) → calm_of after o ≡ with_key (calm_of t) start (Some (t.class start)) o
-    calm_ended = with_key-is (calm_of t) (calm_of after) start (Some (t.class start))
-        (calm_normal after start (row change (λ x. x.slab start) ∙ untidy.slab) (row change (λ x. x.kind start) ∙ put_at-same t.kind start 1) ∙ ap (λ c. Some c) (class_same start))
-        (λ o differ. row change (λ x. calm_of x o) ∙ calm_header t start (settled (header_of t start)) o differ)
+    calm_ended = grind arith
 
     pub tidied_ended : (next : Lives) → next.counts ≡ volatile.lives.counts → ((o : ℕ) → calm_at next o ≡ with_key (calm_at volatile.lives) start (Some ((tables_of (words_of s)).class start)) o) → IsTidied s u (record volatile { lives = next }) start
     tidied_ended next same put =
