@@ -1,31 +1,15 @@
 -- The indexes take over the live extents of an exact image, one after another by rising start.
 use Rattle.std.proofs.Common.{◌≡◌, ◌≢◌, ◌↔◌, ◌⊎◌, ◌+◌, ◌<◌, ◌≤◌, ℕ, true, false, cond, ltb, List, Option, Some, None, sym, ap, subst, ◌∙◌, inr, ⊎_elim, arith}
-use Rattle.std.proofs.lemmas.Bool.{cond-true, cond-false, cases_lt, cases_eq, lt-ltb, le-ltb}
-use Rattle.size_classes.specs.Classes.{class_capacity}
+use Rattle.arena_core.proofs.Common.{cond-true, cond-false, cases_lt, cases_eq, lt-ltb, le-ltb, class_capacity, Tables, large_of, is_slab_of, tables_of, large_table, slab_table, granules_in, Large, start_of, extent_of, Bounds, IsFreeRow, FreeSet, IsFree, class_in, Supply, IsOpen, IsClearOf, slabs, IsUnusedIn, granules_at, Covers, bounds_of, IsExactImage, granules_at-slab, granules_at-large, Covers-slab, sizes_of, IsIndexOf, IsSlabsOf, IsReadBelow, IsWithSlabOf}
 use Rattle.image_tables.specs.declared.extent.Extent.{Extent}
 use Rattle.image_tables.specs.declared.extent.Extent.TheVariants as extent
 use Rattle.image_tables.specs.Extents.{extent_at}
-use Rattle.image_tables.specs.Tables.{Tables, large_of, is_slab_of, tables_of}
-use Rattle.image_tables.proofs.Tables.{large_table, slab_table}
-use Rattle.pool_layout.specs.Header.{granules_in}
 use Rattle.book_log.specs.declared.entry.LogEntry.{LogEntry}
-use Rattle.book_log.specs.declared.entry.LogEntry.TheVariants.{Large, Slab}
+use Rattle.book_log.specs.declared.entry.LogEntry.TheVariants.{Slab}
 use Rattle.book_log.specs.Book.{chunks_of}
-use Rattle.book_log.specs.Entry.{start_of, extent_of}
 use Rattle.book_log.specs.Table.{IsNextLive}
 use Rattle.book_log.proofs.LiveExtents.{live_extents}
-use Rattle.heap_model.specs.Machine.{Bounds}
-use Rattle.heap_model.specs.Runs.{IsFreeRow}
-use Rattle.extent_index.specs.FreeSet.{FreeSet, IsFree}
-use Rattle.slab_index.specs.SlabSet.{class_in}
-use Rattle.block_supply.specs.Supply.{Supply, IsOpen, IsClearOf}
-use Rattle.heap_check.specs.Heap.{slabs, IsUnusedIn}
-use Rattle.heap_check.specs.Sound.{granules_at, Covers}
-use Rattle.heap_check.specs.Image.{bounds_of, IsExactImage}
-use Rattle.heap_check.proofs.Geometry.{granules_at-slab, granules_at-large, Covers-slab}
-use Rattle.heap_check.proofs.Sizes.{sizes_of}
-use Rattle.arena_core.specs.Arena.{IsIndexOf, IsSlabsOf}
-use Rattle.arena_core.specs.Adopting.{IsVacantBelow, slabs_below, IsReadBelow, IsWithSlabOf, IsNextRead}
+use Rattle.arena_core.specs.Adopting.{IsVacantBelow, slabs_below, IsNextRead}
 use Rattle.arena_core.proofs.Plans.{slab_parts}
 use Rattle.arena_core.proofs.UnusedBlocks.{iff_then}
 

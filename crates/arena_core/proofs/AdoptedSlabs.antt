@@ -1,26 +1,8 @@
 -- The indexes take over a slab of an exact image, and how many live blocks each slab has.
-use Rattle.std.proofs.Common.{◌≡◌, ◌≢◌, ◌↔◌, ◌==◌, ◌+◌, ◌*◌, ◌/◌, ◌<◌, ◌≤◌, ℕ, Bool, true, false, true≢false, cond, eqb, List, length, slice_index, Option, Some, None, sym, ap, subst, ◌∙◌, arith, if◌then◌else◌}
-use Rattle.std.proofs.lemmas.Bool.{cond-true, cond-false, eq-eqb, ne_eqb}
-use Rattle.size_classes.specs.Classes.{class_capacity}
-use Rattle.image_tables.specs.Tables.{Tables, is_slab, tables_of}
-use Rattle.image_tables.proofs.Tables.{slab_table}
-use Rattle.pool_layout.specs.Header.{granules_in}
-use Rattle.heap_model.specs.Machine.{Range}
-use Rattle.heap_model.specs.Slabs.{live_below, begins_in}
-use Rattle.heap_check.specs.Heap.{size_at, heap, slabs, IsUnusedIn}
-use Rattle.heap_check.proofs.Heaps.{heap-none}
-use Rattle.arena_core.specs.Adopting.{IsWithSlabOf, HasCounted}
-use Rattle.block_supply.specs.Supply.{Supply, IsInNoSlabOf, HasSlabMore}
+use Rattle.std.proofs.Common.{◌≡◌, ◌≢◌, ◌↔◌, ◌==◌, ◌+◌, ◌*◌, ◌/◌, ◌<◌, ◌≤◌, ℕ, Bool, true, false, true≢false, List, length, slice_index, Option, Some, None, sym, ap, subst, ◌∙◌, arith, if◌then◌else◌}
+use Rattle.arena_core.proofs.Common.{cond-false, ne_eqb, class_capacity, Tables, is_slab, tables_of, slab_table, granules_in, Range, live_below, begins_in, heap, slabs, IsUnusedIn, heap-none, IsWithSlabOf, HasCounted, Supply, IsInNoSlabOf, HasSlabMore, IsInSlab, IsSound, bounds_of}
+use Rattle.heap_check.specs.Heap.{size_at}
 use Rattle.arena_core.proofs.LiveCounts.{one_if, live_next, live_below-most, begins_only, more_by_slab, most_by_slab, put_one}
-use Rattle.heap_check.specs.Sound.{IsInSlab, IsSound}
-use Rattle.heap_check.specs.Image.{bounds_of}
-
--- a condition that holds, and one that doesn't
-if_same : {X : Type 0} (k j : ℕ) (yes_x no_x : X) → k ≡ j → cond (eqb k j) yes_x no_x ≡ yes_x
-if_same k j yes_x no_x same = cond-true (eqb k j) yes_x no_x (eq-eqb k j same)
-
-if_other : {X : Type 0} (k j : ℕ) (yes_x no_x : X) → k ≢ j → cond (eqb k j) yes_x no_x ≡ no_x
-if_other k j yes_x no_x apart = cond-false (eqb k j) yes_x no_x (ne_eqb k j apart)
 
 -- a slab was added, in which the blocks are open that are not used
 pub with_slab : (words : List ℕ) (old new : Supply) (start slab class : ℕ) {used : ℕ → Bool} → slab / 16384 ≡ start → class ≡ (tables_of words).class start → HasSlabMore old new start class (λ i. (i < class_capacity class) × (used i ≡ false)) →

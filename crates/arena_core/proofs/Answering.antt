@@ -1,19 +1,7 @@
 -- A call was carried out behind its begin: what the arena answers and leaves, by what the arena means.
 use Rattle.std.proofs.Common.{◌≡◌, ℕ, List, Result, ap, subst, arith}
-use Rattle.pmem_lines.specs.declared.event.Event.{Event}
-use Rattle.pmem_lines.specs.Pmem.{PmemState, words_of, began}
-use Rattle.pmem_lines.specs.Steps.{IsQuietStep}
-use Rattle.heap_model.specs.declared.call.Call.{Call}
-use Rattle.heap_model.specs.declared.call.Reply.{Reply}
-use Rattle.block_supply.specs.Supply.{Supply}
-use Rattle.heap_check.specs.Image.{IsExactImage}
-use Rattle.arena_core.specs.declared.answer.BlockRefusal.{BlockRefusal}
-use Rattle.arena_core.specs.declared.volatile.Volatile.{Volatile}
+use Rattle.arena_core.proofs.Common.{Event, PmemState, words_of, began, IsQuietStep, Call, Reply, Supply, IsExactImage, BlockRefusal, Volatile, ArenaState, IsArena, IsCalled, IsMoveCarried, IsWriteCarried}
 use Rattle.arena_core.specs.Answered.{IsOneCall, IsAnswered, IsMoveAnswered, IsWriteAnswered}
-use Rattle.arena_core.specs.Arena.{ArenaState, IsArena}
-use Rattle.arena_core.specs.Carried.{IsCalled}
-use Rattle.arena_core.specs.Moving.{IsMoveCarried}
-use Rattle.arena_core.specs.Payload.{IsWriteCarried}
 use Rattle.arena_core.proofs.MovesStates.{any_seat}
 
 -- what an arena means

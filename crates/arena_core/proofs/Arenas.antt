@@ -1,32 +1,14 @@
 -- What an arena keeps holds again once a block was given or taken.
 use Rattle.std.proofs.Common.{◌≡◌, ◌↔◌, ◌⊎◌, ℕ, ◌+◌, ◌<◌, ◌≤◌, List, cond, Some, None, sym, ap, subst, ◌∙◌, inl, inr, ⊎_elim, arith, length}
+use Rattle.arena_core.proofs.Common.{word_at, put_word, layout_of, fields_word, directory_word, entry_word, root_word, SameLog, version_in, granules_in, Tables, tables_of, Book, FreeSet, IsFree, Bounds, IsVacant, granules_at, bounds_of, IsExactImage, IsEitherHeap, with_large, IsBookOf, class_capacity, Supply, IsIndexOf, IsSlabsOf, KeepsSlabs, IsUnusedIn, IsUnusedIn-same}
 use Rattle.std.proofs.lemmas.List.Elements.{All-weaker}
-use Rattle.pmem_lines.specs.Words.{word_at, put_word}
-use Rattle.pool_layout.specs.Layout.{layout_of}
-use Rattle.pool_layout.specs.Places.{fields_word, directory_word, entry_word, root_word}
 use Rattle.image_tables.specs.Log.{active_chunks}
 use Rattle.image_tables.proofs.Chunks.{few_chunks}
-use Rattle.image_tables.proofs.Logs.{SameChunk, SameLog}
-use Rattle.pool_layout.specs.Header.{version_in, granules_in}
-use Rattle.image_tables.specs.Tables.{Tables, tables_of}
+use Rattle.image_tables.proofs.Logs.{SameChunk}
 use Rattle.image_tables.proofs.Stores.{IsOffLog-root, granules_in-put_root}
-use Rattle.book_log.specs.Book.{Book}
 use Rattle.book_log.proofs.Books.{Reads-elsewhere, Reads-same}
-use Rattle.extent_index.specs.FreeSet.{FreeSet, IsFree}
-use Rattle.heap_model.specs.Machine.{Bounds}
-use Rattle.heap_check.specs.Sound.{IsVacant, granules_at}
-use Rattle.heap_check.specs.Image.{bounds_of, IsExactImage}
-use Rattle.heap_check.specs.State.{IsEitherHeap}
-use Rattle.heap_check.proofs.Large.{with_large}
-use Rattle.log_steps.specs.Log.{IsBookOf}
-use Rattle.size_classes.specs.Classes.{class_capacity}
-use Rattle.block_supply.specs.Supply.{Supply}
-use Rattle.arena_core.specs.Arena.{IsIndexOf, IsSlabsOf}
-use Rattle.arena_core.specs.Effect.{KeepsSlabs}
 use Rattle.arena_core.proofs.LargeStages.{IsStageOf}
 use Rattle.arena_core.proofs.UnusedBlocks.{iff_then}
-use Rattle.heap_check.specs.Heap.{IsUnusedIn}
-use Rattle.heap_check.proofs.SameSlabs.{IsUnusedIn-same}
 
 -- a log reads the same where a root's word is stored
 pub book_root : (book : Book) (words : List ℕ) (root value : ℕ) → root < (layout_of (version_in words)).roots → IsBookOf book words → IsBookOf book (put_word words (root_word root) value)

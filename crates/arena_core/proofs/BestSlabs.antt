@@ -1,26 +1,14 @@
 -- The search for the slab that takes a class: the candidates come in order, so the first one that is fit is the best.
 use Rattle.std.proofs.Common.{◌≡◌, ◌⊎◌, ℕ, ◌+◌, ◌-◌, ◌*◌, ◌<◌, ◌≤◌, true, List, length, Option, slice_index, Some, None, MatchOption, IfSome, sym, ◌∙◌, subst, arith, inl, inr, ⊎_elim}
-use Rattle.std.proofs.lemmas.Bool.{cases_lt, cond-true}
-use Rattle.size_classes.specs.Classes.{class_capacity}
-use Rattle.image_tables.specs.Forms.{normal_kind}
-use Rattle.image_tables.specs.Tables.{Tables, tables_of}
-use Rattle.heap_model.specs.Choice.{View, IsFit, IsBestSlab, HasNoFitSlab}
-use Rattle.heap_model.specs.Slabs.{live_below}
+use Rattle.arena_core.proofs.Common.{cases_lt, cond-true, class_capacity, normal_kind, Tables, tables_of, IsBestSlab, HasNoFitSlab, live_below, Lives, heap, bounds_of, AreLivesOf, tables_view, IsMorphable}
+use Rattle.heap_model.specs.Choice.{View, IsFit}
 use Rattle.slab_index.specs.declared.candidates.Candidate.{Candidate}
 use Rattle.slab_index.specs.Candidates.{IsBefore}
-use Rattle.slab_lives.specs.Lives.{Lives, IsSparse, HasNoSparse, IsFirstSparse, HasNoSparseBehind, IsNextSparse}
-use Rattle.heap_check.specs.Heap.{heap}
-use Rattle.heap_check.specs.Image.{bounds_of}
+use Rattle.slab_lives.specs.Lives.{IsSparse, HasNoSparse, IsFirstSparse, HasNoSparseBehind, IsNextSparse}
 use Rattle.class_steps.specs.Classes.{IsReadyFor, IsFitIn}
-use Rattle.arena_core.specs.Arena.{AreLivesOf}
-use Rattle.arena_core.specs.Plan.{tables_view, IsMorphable}
 use Rattle.arena_core.proofs.LiveSlabs.{calm_parts}
 
 -- the order of candidates
-
--- of two places one comes first, or they are the same
-before_or_behind : (live start n s : ℕ) → IsBefore live start n s ⊎ (IsBefore n s live start ⊎ ((live ≡ n) × (start ≡ s)))
-before_or_behind live start n s = grind arith
 
 -- how far a candidate is from the last place that one may have
 abbrev pub left_behind : Option Candidate → ℕ

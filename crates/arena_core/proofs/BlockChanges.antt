@@ -1,22 +1,9 @@
 -- A block of a slab and its root come or go: the words of the log stay, and those of the other blocks.
 use Rattle.std.proofs.Common.{true, ◌≤◌, ◌+◌, ◌*◌, ◌≡◌, ℕ, ◌<◌, List, arith}
-use Rattle.pmem_lines.specs.Words.{word_at}
-use Rattle.pool_layout.specs.Places.{entry_word}
-use Rattle.pool_layout.specs.Header.{version_in}
-use Rattle.image_tables.specs.Tables.{tables_of, index_word}
+use Rattle.arena_core.proofs.Common.{word_at, entry_word, version_in, tables_of, index_word, SameLog, root_word-low, Book, bounds_of, IsExactButImage, KeepsBlocks, sizes_of, IsBookOf, SmallBlock, KeepsOthers, IsBlockIn, IsOldDetachable, granules_at-slab, OldBlock}
 use Rattle.image_tables.proofs.Places.{log_word-low, entry_word-low, entry_word-high}
-use Rattle.image_tables.proofs.Logs.{SameLog}
-use Rattle.image_tables.proofs.Stores.{root_word-low}
-use Rattle.book_log.specs.Book.{Book}
-use Rattle.heap_check.specs.Image.{bounds_of, IsExactButImage}
-use Rattle.heap_check.specs.State.{KeepsBlocks}
 use Rattle.heap_check.proofs.BlockWords.{block_word-heap, block_word-header}
-use Rattle.heap_check.proofs.Sizes.{sizes_of}
-use Rattle.log_steps.specs.Log.{IsBookOf}
-use Rattle.attach_steps.specs.declared.block.SmallBlock.{SmallBlock}
-use Rattle.attach_steps.specs.Steps.{KeepsOthers, IsBlockIn, bit_word, IsOldDetachable}
-use Rattle.heap_check.proofs.Geometry.{granules_at-slab}
-use Rattle.attach_steps.specs.declared.block.OldBlock.{OldBlock}
+use Rattle.attach_steps.specs.Steps.{bit_word}
 use Rattle.arena_core.proofs.Arenas.{same_log, book_same}
 
 -- One word of a slab's header changes with a root's word and a write-ahead line: where it lies.

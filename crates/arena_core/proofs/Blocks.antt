@@ -1,19 +1,13 @@
 -- What the roots of an exact image without slabs name: large extents, each of two granules at least, in the heap.
 use Rattle.std.proofs.Common.{MatchOption, ◌≡◌, ◌≢◌, ◌*◌, ◌/◌, ◌<◌, ℕ, true, List, Option, Some, None, refl, sym, ap, ◌∙◌, subst, arith}
-use Rattle.std.proofs.lemmas.Bool.{ne_eqb}
+use Rattle.arena_core.proofs.Common.{ne_eqb, Tables, tables_of, extent_of, Bounds, is_large, heap, is_large-start, IsTakable}
 use Rattle.image_tables.specs.declared.extent.Extent.{Extent}
 use Rattle.image_tables.specs.declared.extent.Extent.TheVariants as extent
 use Rattle.image_tables.specs.Extents.{extent_at}
-use Rattle.image_tables.specs.Tables.{Tables, tables_of}
 use Rattle.book_log.specs.declared.entry.LogEntry.{LogEntry}
 use Rattle.book_log.specs.declared.entry.LogEntry.TheVariants as entry
-use Rattle.book_log.specs.Entry.{extent_of}
 use Rattle.book_log.specs.Table.{IsNextLive, IsNoneLive}
-use Rattle.heap_model.specs.Machine.{Bounds}
-use Rattle.heap_check.specs.Heap.{is_large, heap}
 use Rattle.heap_check.proofs.LargeLogs.{live_large}
-use Rattle.heap_check.proofs.Geometry.{is_large-start}
-use Rattle.arena_core.specs.Plan.{IsTakable}
 
 -- the entry of the next live extent, where one starts right here
 next_here : (table : ℕ → Option Extent) (start : ℕ) (extent : Extent) (next : LogEntry) → table start ≡ Some extent → IsNextLive table start next → extent_of next ≡ Some extent

@@ -1,28 +1,12 @@
 -- The laws of the calls on one word, and of what crashes leave.
 use Rattle.std.proofs.Common.{◌≡◌, ◌⊎◌, ◌<◌, ◌≤◌, ◌+◌, ◌/◌, ℕ, ltb, List, [], ◌∷◌, length, Option, Some, None, Ok, Err, Result, get_or, refl, sym, ap, subst, ◌∙◌, arith, inl, inr, ⊎_elim}
-use Rattle.std.proofs.lemmas.Bool.{cases_lt, lt-ltb, le-ltb, cond-true, cond-false}
-use Rattle.pmem_lines.specs.Words.{word_at}
+use Rattle.arena_core.proofs.Common.{cases_lt, lt-ltb, le-ltb, cond-true, cond-false, word_at, tables_of, HasNoMove, roots_plain, root_table-past, Call, Reply, Bounds, Range, Machine, HasBlock, heap, slabs, bounds_of, HasState, KeepsBlocks, law_of_steady, heap-none, BlockRefusal, IsStepOfAny, call_events, line_after, payload_events, IsWriteStep, AreWordsOf}
 use Rattle.pmem_lines.proofs.Words.{get_or-words_at}
-use Rattle.image_tables.specs.Tables.{tables_of}
-use Rattle.image_tables.specs.Updates.{HasNoMove}
-use Rattle.image_tables.proofs.Stores.{roots_plain}
-use Rattle.image_tables.proofs.Tables.{root_table-past}
-use Rattle.heap_model.specs.declared.call.Call.{Call}
 use Rattle.heap_model.specs.declared.call.Call.TheVariants as calls
-use Rattle.heap_model.specs.declared.call.Reply.{Reply}
 use Rattle.heap_model.specs.declared.call.Reply.TheVariants as replies
-use Rattle.heap_model.specs.Machine.{Bounds, Range, Machine}
-use Rattle.heap_model.specs.Step.{HasBlock, IsWrite, IsRead, IsValueOf}
-use Rattle.heap_check.specs.Heap.{heap, slabs}
-use Rattle.heap_check.specs.Image.{bounds_of}
-use Rattle.heap_check.specs.State.{HasState, KeepsBlocks}
-use Rattle.heap_check.proofs.Blank.{law_of_steady}
-use Rattle.heap_check.proofs.Heaps.{heap-none}
-use Rattle.arena_core.specs.declared.answer.BlockRefusal.{BlockRefusal}
+use Rattle.heap_model.specs.Step.{IsWrite, IsRead, IsValueOf}
 use Rattle.arena_core.specs.declared.answer.BlockRefusal.TheVariants.{NoRoot, Empty, OutOfRange}
-use Rattle.arena_core.specs.Call.{IsStepOfAny}
-use Rattle.arena_core.specs.Events.{call_events, line_after}
-use Rattle.arena_core.specs.Payload.{payload_events, IsWriteOf, IsWriteStep, IsWrittenBy, AreWordsOf}
+use Rattle.arena_core.specs.Payload.{IsWriteOf, IsWrittenBy}
 use Rattle.arena_core.specs.ByCall.{LawOfCrashes, KeepsUnwritten, HasWord, IsWordRead, LawOfOneWord, LawOfOneRead}
 
 -- crashes

@@ -1,53 +1,24 @@
 -- What a call has done, put together: by the place of its block.
 use Rattle.std.proofs.Common.{◌==◌, ◌≡◌, ◌≢◌, ◌*◌, ◌/◌, ◌+◌, ◌-◌, ◌%◌, ◌<◌, ◌≤◌, ℕ, true, false, cond, leb, List, [], Option, Some, refl, sym, ap, subst, ◌∙◌, arith, ◌++◌, ◌&&◌, ⊎_elim, Bool}
-use Rattle.std.proofs.lemmas.Bool.{cond-true, cond-false, eq-eqb, ne_eqb, le-leb, lt-leb, and_from, and_parts, eqb-true, cases_Bool}
-use Rattle.size_classes.specs.Classes.{class_size, class_capacity}
-use Rattle.size_classes.proofs.Spacing.{class_size-least, class_size-most, class_size-rises}
-use Rattle.pmem_lines.specs.declared.event.Event.{Event}
-use Rattle.pmem_lines.specs.Events.{reading}
-use Rattle.pmem_lines.specs.Pmem.{PmemState, words_of}
-use Rattle.pmem_lines.specs.Steps.{IsQuietStep}
-use Rattle.pmem_lines.proofs.Steps.{step_by, step_none}
-use Rattle.image_tables.specs.Tables.{Tables, tables_of}
-use Rattle.thread_cache.specs.Stacks.{stacks_of}
-use Rattle.block_supply.specs.Supply.{Supply}
-use Rattle.heap_model.specs.declared.call.Call.{Call}
-use Rattle.heap_model.specs.declared.call.Reply.{Reply}
+use Rattle.arena_core.proofs.Common.{cond-true, cond-false, eq-eqb, ne_eqb, le-leb, and_from, and_parts, eqb-true, cases_Bool, class_size, class_capacity, class_size-least, class_size-most, class_size-rises, Event, reading, PmemState, words_of, IsQuietStep, step_by, step_none, Tables, tables_of, stacks_of, Supply, Call, Reply, Bounds, Range, slab_block, is_old, heap, slabs, Holds, IsVacant, IsInSlab, IsSound, granules_at-slab, IsInSlab-held, SmallBlock, attach_events, detach_old_events, IsDetachable, IsOldDetachable, bounds_of, IsExactImage, IsEitherHeap, IsSlabsOf, live_in, AreLivesOf, IsCurrent, IsArena, old_range, Volatile, IsStepOf, IsStepOfAny, IsDone, IsCalled, GivesRoot, KeepsSlabs, IsAskedOf, IsNamedSmall, IsHeldBy, range_held, IsNamedOld, sizes_of, start_at, place_events, take_events, placed_events, freed_events, call_events, line_after, tidy_events, OldBlock, Lives}
+use Rattle.std.proofs.lemmas.Bool.{lt-leb}
 use Rattle.heap_model.specs.declared.call.Reply.TheVariants as replies
-use Rattle.heap_model.specs.Machine.{Bounds, Range, slab_block}
 use Rattle.heap_model.proofs.Slabbing.{LiesIn-block}
-use Rattle.heap_check.specs.Heap.{is_old, slab_of, heap, slabs, Holds}
-use Rattle.heap_check.specs.Sound.{IsVacant, IsInSlab, IsSound}
-use Rattle.heap_check.proofs.Geometry.{slab_of-here, granules_at-slab}
-use Rattle.heap_check.proofs.Within.{IsInSlab-held}
+use Rattle.heap_check.specs.Heap.{slab_of}
+use Rattle.heap_check.proofs.Geometry.{slab_of-here}
 use Rattle.log_steps.proofs.Entries.{first_zero-is}
-use Rattle.attach_steps.specs.declared.block.SmallBlock.{SmallBlock}
-use Rattle.attach_steps.specs.Steps.{attach_events, IsAttachable, detach_old_events, IsDetachable, IsOldDetachable}
-use Rattle.heap_check.specs.Image.{bounds_of, IsExactImage}
-use Rattle.heap_check.specs.State.{IsEitherHeap}
-use Rattle.arena_core.specs.Arena.{IsSlabsOf, live_in, AreLivesOf, IsCurrent, IsArena, old_range}
-use Rattle.arena_core.specs.declared.volatile.Volatile.{Volatile}
-use Rattle.arena_core.specs.Call.{IsStepOf, IsStepOfAny}
-use Rattle.arena_core.specs.Carried.{IsDone, IsCalled}
-use Rattle.arena_core.specs.Effect.{GivesRoot, KeepsSlabs}
+use Rattle.attach_steps.specs.Steps.{IsAttachable}
 use Rattle.arena_core.specs.declared.plan.Held.{Held}
 use Rattle.arena_core.specs.declared.plan.Held.TheVariants as holding
-use Rattle.arena_core.specs.Plan.{IsAskedOf, IsGivableBlock, IsNamedSmall, IsHeldBy, range_held, IsNamedOld}
-use Rattle.heap_check.proofs.Sizes.{sizes_of}
+use Rattle.arena_core.specs.Plan.{IsGivableBlock}
 use Rattle.arena_core.proofs.Blocks.{heap-takable}
 use Rattle.arena_core.proofs.Arenas.{slabs_kept, same_heap}
-use Rattle.arena_core.specs.Events.{is_small, class_for, start_at, in_slab, block_at, place_events, take_events, fresh_events, morphed_events, unsmall_events, placed_events, freed_events, call_events, line_after, old_place, tidy_events, unold_events}
+use Rattle.arena_core.specs.Events.{is_small, class_for, in_slab, block_at, fresh_events, morphed_events, unsmall_events, old_place, unold_events}
 use Rattle.heap_check.proofs.SmallPlaces.{no_old-held}
-use Rattle.attach_steps.specs.declared.block.OldBlock.{OldBlock}
 use Rattle.arena_core.proofs.HeldBlocks.{heap_held, class_holds, old_holds, class_detachable, old_detachable}
-use Rattle.slab_lives.specs.Lives.{Lives}
 use Rattle.arena_core.proofs.LiveCounts.{counts_kept}
 use Rattle.arena_core.proofs.LiveSlabs.{calm_same, lives_kept}
 use Rattle.heap_check.proofs.Small.{one_number, is_old-held}
-
--- equal ends
-pub IsCalled-same : {old new device : PmemState} {was next left : Volatile} {seat : ℕ} {call : Call} {reply answer : Reply} → device ≡ new → left ≡ next → answer ≡ reply → IsCalled old new was next seat call reply → IsCalled old device was left seat call answer
-IsCalled-same {old} {new} {device} {was} {next} {left} {seat} {call} {reply} {answer} d v r called = grind arith
 
 -- a call that placed or freed a block, by its events
 pub IsCalled-done : {old new : PmemState} {was done_left left : Volatile} {seat root : ℕ} {block : Option Range} {slab : ℕ → Option ℕ} {events : List Event} (call : Call) (reply : Reply) →

@@ -1,25 +1,9 @@
 -- A slab took another class: what stands beside the words of an arena holds again.
 use Rattle.std.proofs.Common.{◌≡◌, ◌≢◌, ◌==◌, ◌↔◌, ℕ, ◌+◌, ◌<◌, ◌≤◌, Bool, true, false, List, Some, None, sym, ap, ◌∙◌, subst, arith, inl, inr, ⊎_elim, if◌then◌else◌}
-use Rattle.std.proofs.lemmas.Bool.{cases_eq, cases_lt, cond-true}
-use Rattle.size_classes.specs.Classes.{class_capacity}
-use Rattle.image_tables.specs.Forms.{morphed_kind}
-use Rattle.image_tables.specs.Tables.{Tables, tables_of}
-use Rattle.image_tables.proofs.Stores.{HasNoMove-closed}
-use Rattle.image_tables.proofs.Updates.{put_at-same, put_at-other}
-use Rattle.heap_model.specs.Machine.{Bounds, with_key}
-use Rattle.heap_model.proofs.Maps.{with_key-here, with_key-other}
-use Rattle.slab_index.specs.SlabSet.{class_in, IsSlab}
-use Rattle.slab_lives.specs.Lives.{Lives, calm_at}
-use Rattle.block_supply.specs.Supply.{Supply, IsOpen, IsClearOf, HasSlabMore, HasSlabLess}
-use Rattle.heap_check.specs.Heap.{slabs, IsUnusedIn}
-use Rattle.heap_check.specs.Image.{IsExactImage}
-use Rattle.heap_check.specs.State.{IsEitherHeap}
-use Rattle.heap_check.proofs.Geometry.{Covers-slab}
-use Rattle.slab_morph.specs.SlabHeaders.{SlabHeader, header_of}
+use Rattle.arena_core.proofs.Common.{cases_eq, cases_lt, cond-true, class_capacity, morphed_kind, Tables, tables_of, HasNoMove-closed, put_at-same, put_at-other, Bounds, with_key, with_key-here, with_key-other, class_in, Lives, calm_at, Supply, IsOpen, IsClearOf, HasSlabMore, HasSlabLess, slabs, IsUnusedIn, IsExactImage, IsEitherHeap, Covers-slab, SlabHeader, header_of, IsSlabsOf, AreCountsOf, AreLivesOf, calm_of, IsMorphable}
+use Rattle.slab_index.specs.SlabSet.{IsSlab}
 use Rattle.slab_morph.specs.Stages.{morphed, morph_count}
 use Rattle.class_steps.specs.Classes.{IsReadyFor, LeavesClosed, IsOfClass}
-use Rattle.arena_core.specs.Arena.{IsSlabsOf, AreCountsOf, AreLivesOf, calm_of}
-use Rattle.arena_core.specs.Plan.{IsMorphable}
 use Rattle.arena_core.proofs.ChangedHeaders.{IsHeaderChange, row, unused_header}
 use Rattle.arena_core.proofs.LiveCounts.{counts_kept, live_same}
 use Rattle.arena_core.proofs.LiveSlabs.{calm_stirred, calm_header, lives_put}

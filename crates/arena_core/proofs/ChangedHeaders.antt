@@ -1,18 +1,9 @@
 -- The header of a slab changed, and each slab holds the blocks that it held: what stands beside the words and knows of the
 -- header no more than that holds again.
 use Rattle.std.proofs.Common.{◌≡◌, ◌↔◌, ℕ, true, List, ap, arith}
-use Rattle.image_tables.specs.Tables.{Tables, tables_of}
+use Rattle.arena_core.proofs.Common.{Tables, tables_of, Book, FreeSet, IsUnusedIn, IsSound, granules_at, bounds_of, granules_at-slab, IsBookOf, SlabHeader, put_header, IsIndexOf}
 use Rattle.image_tables.proofs.Headers.{SameLog-off_header}
-use Rattle.book_log.specs.Book.{Book}
-use Rattle.extent_index.specs.FreeSet.{FreeSet}
-use Rattle.heap_check.specs.Heap.{IsUnusedIn}
-use Rattle.heap_check.specs.Sound.{IsSound, granules_at}
-use Rattle.heap_check.specs.Image.{bounds_of}
-use Rattle.heap_check.proofs.Geometry.{granules_at-slab}
-use Rattle.log_steps.specs.Log.{IsBookOf}
-use Rattle.slab_morph.specs.SlabHeaders.{SlabHeader, put_header}
 use Rattle.slab_morph.specs.Stages.{IsOffHeader, AllHoldSame}
-use Rattle.arena_core.specs.Arena.{IsIndexOf}
 use Rattle.arena_core.proofs.Arenas.{index_as, book_same}
 
 pub record IsHeaderChange (words : List ℕ) (start : ℕ) (header : SlabHeader) (new : List ℕ) : Type 0 where

@@ -1,23 +1,11 @@
 -- The blocks that an old block covered are given out again, where nothing else covers them.
 use Rattle.std.proofs.Common.{◌≡◌, ◌≢◌, ◌⊎◌, ◌↔◌, ℕ, ◌+◌, ◌<◌, ◌≤◌, true, false, List, None, refl, sym, ap, subst, ◌∙◌, arith, inl, inr, ⊎_elim}
-use Rattle.std.proofs.lemmas.Bool.{cases_eq, cases_lt}
-use Rattle.pool_layout.specs.Header.{granules_in}
-use Rattle.size_classes.specs.Classes.{class_capacity}
-use Rattle.image_tables.specs.Tables.{Tables, tables_of}
-use Rattle.image_tables.specs.Updates.{put_at, with_old}
-use Rattle.image_tables.proofs.Updates.{put_at-other}
-use Rattle.slab_index.specs.SlabSet.{class_in}
-use Rattle.block_supply.specs.Supply.{Supply, IsOpen, IsWith}
+use Rattle.arena_core.proofs.Common.{cases_eq, cases_lt, granules_in, class_capacity, Tables, tables_of, put_at, put_at-other, class_in, Supply, IsOpen, IsWith, Bounds, AreApart, slab_block, slabs, IsUnusedIn, IsSameSlab, IsUnusedIn-same, OldBlock, IsOldDetachable, IsOldDetached, old_range, IsSlabsOf}
+use Rattle.image_tables.specs.Updates.{with_old}
 use Rattle.arena_core.proofs.SmallCalls.{here_or_else}
-use Rattle.heap_model.specs.Machine.{Bounds, AreApart, slab_block}
-use Rattle.heap_check.specs.Heap.{slabs, IsUnusedIn}
-use Rattle.heap_check.specs.Slabs.{IsSameSlab}
 use Rattle.heap_check.proofs.OldBlock.{Holds-relived, Holds-relived_back}
-use Rattle.heap_check.proofs.SameSlabs.{IsUnusedIn-same}
 use Rattle.slab_morph.specs.Overlaps.{IsOverlapRange}
-use Rattle.attach_steps.specs.declared.block.OldBlock.{OldBlock}
-use Rattle.attach_steps.specs.Steps.{IsOldDetachable, IsOldDetached}
-use Rattle.arena_core.specs.Arena.{old_range, IsSlabsOf, AreSlabsBut}
+use Rattle.arena_core.specs.Arena.{AreSlabsBut}
 use Rattle.arena_core.proofs.HeldBlocks.{old_holds}
 use Rattle.arena_core.proofs.UnusedBlocks.{iff_then, unused_apart}
 

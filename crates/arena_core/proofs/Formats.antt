@@ -1,39 +1,25 @@
 -- An arena is formatted: the words that its header line leaves, and those that a crash leaves.
 use Rattle.std.proofs.Common.{◌≡◌, ◌≢◌, ◌↔◌, ℕ, zero, suc, ◌*◌, ◌<◌, ◌≤◌, List, [], ◌∷◌, length, take, true, true≢false, Some, None, refl, sym, ap, subst, ◌∙◌, arith, inl, inr, slice_index}
-use Rattle.pool_layout.proofs.Layouts.{layout_rules}
-use Rattle.std.proofs.lemmas.Bool.{cond-false}
-use Rattle.pmem_lines.specs.Words.{word_at, put_word, AreZeros}
+use Rattle.arena_core.proofs.Common.{layout_rules, cond-false, word_at, put_word, reading, IsQuiet, PmemState, words_of, began, length-put_word, word_at-put_other, text_word, fields_word, directory_word, granules_in, tables_of, IsExactImage, bounds_of, HasState, IsFree, class_in, granules_at-large, Volatile, calm_at, IsArena, IsReady, heap_inside, live_below, heap}
+use Rattle.pmem_lines.specs.Words.{AreZeros}
 use Rattle.pmem_lines.specs.declared.event.Event.TheVariants.{Flush, Fence}
-use Rattle.pmem_lines.specs.Events.{reading, IsQuiet, CrashOnly}
-use Rattle.pmem_lines.specs.Pmem.{PmemState, words_of, began, appended, Appends}
+use Rattle.pmem_lines.specs.Events.{CrashOnly}
+use Rattle.pmem_lines.specs.Pmem.{appended, Appends}
 use Rattle.pmem_lines.proofs.States.{quiet_after}
-use Rattle.pmem_lines.proofs.Words.{length-put_word, word_at-put_same, word_at-put_other}
+use Rattle.pmem_lines.proofs.Words.{word_at-put_same}
 use Rattle.pmem_lines.proofs.Images.{by_prefixes}
 use Rattle.pool_layout.specs.declared.header.PoolHeader.{PoolHeader}
 use Rattle.pool_layout.specs.declared.defect.Defect.TheVariants.{BadHeader}
 use Rattle.pool_layout.specs.Layout.{layout_of}
-use Rattle.pool_layout.specs.Places.{text_word, fields_word, directory_word}
-use Rattle.pool_layout.specs.Header.{granules_in, header_text, header_word, IsPoolHeader}
-use Rattle.image_tables.specs.Tables.{tables_of}
+use Rattle.pool_layout.specs.Header.{header_text, header_word, IsPoolHeader}
 use Rattle.book_log.specs.Book.{HasLog, AreWithin, Reads}
 use Rattle.book_log.proofs.Places.{within_heap}
 use Rattle.heap_model.specs.Machine.{no_heap}
-use Rattle.heap_check.specs.Image.{IsExactImage, bounds_of}
-use Rattle.heap_check.specs.State.{HasState}
-use Rattle.extent_index.specs.FreeSet.{IsFree}
-use Rattle.slab_index.specs.SlabSet.{class_in}
 use Rattle.heap_check.specs.Formatted.{IsFormatted}
-use Rattle.heap_check.proofs.Geometry.{granules_at-large}
 use Rattle.heap_check.proofs.Formatted.{AreBlank-formatted, header_in-formatted, IsFormed-formatted, law_of_formatted}
-use Rattle.arena_core.specs.declared.volatile.Volatile.{Volatile}
-use Rattle.slab_lives.specs.Lives.{calm_at}
-use Rattle.arena_core.specs.Arena.{IsArena}
 use Rattle.arena_core.proofs.LiveSlabs.{calm_none}
-use Rattle.arena_core.specs.Call.{IsReady, IsFormattedOrNot}
+use Rattle.arena_core.specs.Call.{IsFormattedOrNot}
 use Rattle.arena_core.specs.Events.{format_events}
-use Rattle.heap_check.proofs.Sizes.{heap_inside}
-use Rattle.heap_model.specs.Slabs.{live_below}
-use Rattle.heap_check.specs.Heap.{heap}
 
 -- the header of an arena of version 1
 pub IsPoolHeader-new : (number arenas granules : ℕ) → number < arenas → arenas ≤ 16 → 16 ≤ granules → granules ≤ (layout_of 1).most_granules →

@@ -1,35 +1,13 @@
 -- What a free has done, put together: by what the root held.
 use Rattle.std.proofs.Common.{◌≡◌, [], Err, ◌*◌, ◌+◌, ◌%◌, ◌<◌, ◌++◌, ℕ, List, Some, refl, sym, ap, subst, ◌∙◌, arith, None}
-use Rattle.pmem_lines.specs.declared.event.Event.{Event}
-use Rattle.pmem_lines.specs.Events.{reading}
-use Rattle.pmem_lines.specs.Pmem.{PmemState, words_of}
-use Rattle.size_classes.specs.Classes.{class_size}
-use Rattle.image_tables.specs.Tables.{tables_of}
-use Rattle.thread_cache.specs.Stacks.{stacks_of, StackTable}
-use Rattle.block_supply.specs.Supply.{Supply, IsPutOn}
+use Rattle.arena_core.proofs.Common.{Event, reading, PmemState, words_of, class_size, tables_of, stacks_of, Supply, IsPutOn, Range, slab_block, heap, slabs, IsInSlab, bounds_of, sizes_of, SmallBlock, OldBlock, detach_events, detach_old_events, Volatile, free_reply, IsArena, IsStepOf, IsDone, IsTaken, IsTidied, IsCalled, stacks_but, holds_none, take_events, freed_events, call_events, tidy_events, line_after, IsTakable, IsNamedSmall, IsNamedOld, IsHeldBy, IsFreePlan, range_held, Call}
+use Rattle.thread_cache.specs.Stacks.{StackTable}
 use Rattle.heap_model.specs.declared.call.Call.TheVariants as calls
 use Rattle.heap_model.specs.declared.call.Reply.TheVariants as replies
-use Rattle.heap_model.specs.Machine.{Range, slab_block}
-use Rattle.heap_check.specs.Heap.{heap, slabs}
-use Rattle.heap_check.specs.Sound.{IsInSlab}
-use Rattle.heap_check.specs.Image.{bounds_of}
-use Rattle.heap_check.proofs.Sizes.{sizes_of}
-use Rattle.attach_steps.specs.declared.block.SmallBlock.{SmallBlock}
-use Rattle.attach_steps.specs.declared.block.OldBlock.{OldBlock}
-use Rattle.attach_steps.specs.Steps.{detach_events, detach_old_events}
-use Rattle.arena_core.specs.declared.volatile.Volatile.{Volatile}
-use Rattle.arena_core.specs.Answer.{free_reply}
 use Rattle.arena_core.specs.declared.answer.Freed.{Freed}
 use Rattle.arena_core.specs.declared.answer.FreeRefusal.{FreeRefusal}
 use Rattle.arena_core.specs.declared.answer.FreeRefusal.TheVariants as refusals
-use Rattle.arena_core.specs.Arena.{IsArena}
-use Rattle.arena_core.specs.Call.{IsStepOf}
-use Rattle.arena_core.specs.Carried.{IsDone, IsTaken, IsTidied, IsCalled}
-use Rattle.arena_core.specs.Effect.{stacks_but}
-use Rattle.arena_core.specs.Events.{holds_none, take_events, freed_events, call_events, tidy_events, line_after}
-use Rattle.arena_core.specs.Plan.{IsTakable, IsNamedSmall, IsNamedOld, IsHeldBy, IsFreePlan, range_held}
 use Rattle.arena_core.specs.declared.plan.Held.{Held}
-use Rattle.heap_model.specs.declared.call.Call.{Call}
 use Rattle.arena_core.proofs.Blocks.{heap-takable}
 use Rattle.arena_core.proofs.CallEvents.{IsCalled-done, IsCalled-refused, freed_large, line_freed, freed_there, start_is, line_small, named_class, named_inside, named_heap, named_new, old_heap, old_inside, old_differs, freed_old}
 use Rattle.arena_core.proofs.MachineSteps.{Returns, refused_free, put_back_as, freed_step, large_stays, small_stays, large_returned, small_returned, old_returned}

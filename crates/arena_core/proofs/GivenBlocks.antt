@@ -1,24 +1,9 @@
 -- A slab is there for a root: its seat is given a block of it, and this comes to the root.
 use Rattle.std.proofs.Common.{◌≡◌, ◌+◌, ◌*◌, ◌^◌, ◌<◌, ◌++◌, ℕ, true, List, Option, Some, None, MatchOption, IsSome, refl, sym, ap, ◌∙◌, subst, arith, inl}
+use Rattle.arena_core.proofs.Common.{Event, reading, PmemState, words_of, IsQuietStep, class_size, class_capacity, tables_of, Range, with_key, slab_block, class_in, SlabBlock, Supply, HadNoOpen, TookBlock, slabs, IsEitherHeap, SmallBlock, attach_events, Volatile, IsSlabsOf, AreLivesOf, IsCurrent, IsHeldFor, IsSlabFor, HasClassNow, IsDone}
 use Rattle.arena_core.proofs.Readiness.{ready_after}
-use Rattle.pmem_lines.specs.declared.event.Event.{Event}
-use Rattle.pmem_lines.specs.Events.{reading}
-use Rattle.pmem_lines.specs.Pmem.{PmemState, words_of}
-use Rattle.pmem_lines.specs.Steps.{IsQuietStep}
-use Rattle.size_classes.specs.Classes.{class_size, class_capacity}
-use Rattle.image_tables.specs.Tables.{tables_of}
-use Rattle.heap_model.specs.Machine.{Range, with_key, slab_block}
-use Rattle.slab_index.specs.SlabSet.{class_in}
-use Rattle.slab_index.specs.declared.block.SlabBlock.{SlabBlock}
-use Rattle.block_supply.specs.Supply.{Supply, HadNoOpen, TookBlock}
 use Rattle.block_supply.proofs.Takes.{none_open}
-use Rattle.heap_check.specs.Heap.{slabs}
-use Rattle.heap_check.specs.State.{IsEitherHeap}
-use Rattle.attach_steps.specs.declared.block.SmallBlock.{SmallBlock}
-use Rattle.attach_steps.specs.Steps.{attach_events, IsAttached}
-use Rattle.arena_core.specs.declared.volatile.Volatile.{Volatile}
-use Rattle.arena_core.specs.Arena.{IsSlabsOf, AreLivesOf, IsCurrent}
-use Rattle.arena_core.specs.Carried.{IsHeldFor, IsSlabFor, HasClassNow, IsDone}
+use Rattle.attach_steps.specs.Steps.{IsAttached}
 use Rattle.arena_core.proofs.BlockChanges.{change_bit, book_small, keeps_small}
 use Rattle.arena_core.proofs.HeapSteps.{keeps_both, steps_then}
 use Rattle.arena_core.proofs.SmallCalls.{slabs_without, classes_small, index_small, bits_with, lives_as}

@@ -1,12 +1,6 @@
 -- Two steps in a row, of which one leaves the heap: what a crash leaves of both, and which words stay.
 use Rattle.std.proofs.Common.{refl, ◌⊎◌, ℕ, List, ◌++◌, inl, inr, ⊎_elim, arith}
-use Rattle.pmem_lines.specs.declared.event.Event.{Event}
-use Rattle.pmem_lines.specs.Events.{reading}
-use Rattle.pmem_lines.specs.Pmem.{PmemState, words_of}
-use Rattle.pmem_lines.specs.Steps.{IsQuietStep}
-use Rattle.pmem_lines.proofs.Steps.{step_then}
-use Rattle.heap_check.specs.Heap.{heap}
-use Rattle.heap_check.specs.State.{HaveSameHeap, KeepsBlocks, IsEitherHeap}
+use Rattle.arena_core.proofs.Common.{Event, reading, PmemState, words_of, IsQuietStep, step_then, heap, HaveSameHeap, KeepsBlocks, IsEitherHeap}
 
 -- two steps, of which one leaves the heap
 module _ (old mid new : List ℕ) (which : HaveSameHeap old mid ⊎ HaveSameHeap mid new) where

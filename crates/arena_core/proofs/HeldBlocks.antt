@@ -1,25 +1,12 @@
 -- The block that a root names in a slab.
-use Rattle.std.proofs.Common.{◌≡◌, ◌≢◌, ◌*◌, ◌/◌, ◌<◌, ℕ, true, List, Some, None, refl, sym, ap, subst, ◌∙◌, arith, inr}
-use Rattle.image_tables.specs.Tables.{Tables, is_slab, tables_of, state_word}
-use Rattle.image_tables.proofs.Tables.{slab_table}
-use Rattle.heap_model.specs.Machine.{Bounds, Range, slab_block}
-use Rattle.heap_check.specs.Heap.{entry_at, heap, Holds, IsClaim}
-use Rattle.heap_check.specs.Sound.{IsInSlab, IsSound, IsValidSlab}
-use Rattle.heap_check.specs.Image.{bounds_of, IsFormed, IsExactImage}
-use Rattle.heap_check.proofs.Claims.{IsNamed-claim, IsClaim-word}
-use Rattle.heap_check.proofs.Geometry.{granules_at-slab, plain_size-some}
-use Rattle.heap_check.proofs.Heaps.{heap-claim}
-use Rattle.heap_check.proofs.Sizes.{sizes_of}
+use Rattle.std.proofs.Common.{◌≡◌, ◌≢◌, ◌*◌, ◌/◌, ℕ, true, List, Some, None, refl, sym, ap, subst, ◌∙◌, arith, inr}
+use Rattle.arena_core.proofs.Common.{Tables, is_slab, tables_of, state_word, slab_table, Bounds, Range, slab_block, entry_at, heap, Holds, IsClaim, IsInSlab, IsSound, bounds_of, IsFormed, IsExactImage, IsNamed-claim, IsClaim-word, granules_at-slab, heap-claim, sizes_of, IsInSlab-held, SmallBlock, OldBlock, IsDetachable, IsOldDetachable, old_range, word_at, IsNamedSmall, IsNamedOld}
+use Rattle.heap_check.specs.Sound.{IsValidSlab}
+use Rattle.heap_check.proofs.Geometry.{plain_size-some}
 use Rattle.heap_check.proofs.StateWords.{IsStateWord-valid}
-use Rattle.heap_check.proofs.Within.{IsWithin-held, IsInSlab-held, one_claim}
+use Rattle.heap_check.proofs.Within.{IsWithin-held, one_claim}
 use Rattle.slab_morph.specs.SlabHeaders.{IsSlabHere}
-use Rattle.attach_steps.specs.declared.block.SmallBlock.{SmallBlock}
-use Rattle.attach_steps.specs.declared.block.OldBlock.{OldBlock}
-use Rattle.attach_steps.specs.Steps.{IsDetachable, IsOldDetachable}
-use Rattle.arena_core.specs.Arena.{old_range}
-use Rattle.image_tables.specs.Forms.{morphing_kind, IsStateWord, morphed_kind}
-use Rattle.pmem_lines.specs.Words.{word_at}
-use Rattle.arena_core.specs.Plan.{IsNamedSmall, IsNamedOld}
+use Rattle.image_tables.specs.Forms.{IsStateWord}
 
 -- the block that a slab holds at a root's word is the root's
 pub heap_held : {b : Bounds} {t : Tables} → IsSound b t → t.open_entry ≡ None → (root start : ℕ) (range : Range) → Holds t start range → t.root root ≡ range.at → heap t root ≡ Some range
@@ -40,10 +27,6 @@ class_holds {words} {root} {block} may = grind arith
 -- an old one
 pub old_holds : {words : List ℕ} {root : ℕ} {block : OldBlock} → IsOldDetachable words root block → Holds (tables_of words) block.start (old_range (tables_of words) block)
 old_holds {words} {root} {block} may = record { slab = may.slab; block = inr (record { place = block.place; below = may.below; live = may.live; is = refl }) }
-
--- a slab whose index table is read, and that takes no other class, took one
-morphed_with : (t : Tables) (start : ℕ) → t.slab start ≡ true → t.kind start ≢ morphing_kind → (place : ℕ) → IsValidSlab t start → place < t.index_count start → t.kind start ≡ morphed_kind
-morphed_with t start slab calm place valid below = grind arith
 
 -- the header of a slab is there, and valid
 pub slab_here : (words : List ℕ) (start slab : ℕ) → slab ≡ 16384 * start → IsFormed words → IsSound (bounds_of words) (tables_of words) → (tables_of words).slab start ≡ true → IsSlabHere words slab

@@ -1,32 +1,9 @@
 -- A large block came to a root, or went from it: what an arena keeps holds again.
 use Rattle.std.proofs.Common.{◌≡◌, ◌↔◌, ◌⊎◌, ◌+◌, ◌*◌, ◌<◌, ◌≤◌, ℕ, List, Some, None, refl, sym, ap, subst, ◌∙◌, inl, inr}
+use Rattle.arena_core.proofs.Common.{put_word, PmemState, words_of, IsQuietStep, layout_of, root_word, version_in, tables_of, Tables, put_at-same, Book, Large, Tomb, FreeSet, IsFree, Bounds, slabs, bounds_of, IsEitherHeap, with_large, IsBookOf, IsLogged, IsLoggedOrNot, IsExtentGone, root_events, PutsRootOrNot, Volatile, IsArena, IsDone, place_events, take_events, IsGivable, IsTakable}
 use Rattle.arena_core.proofs.Readiness.{ready_after}
-use Rattle.pmem_lines.specs.Words.{put_word}
-use Rattle.pmem_lines.specs.Pmem.{PmemState, words_of}
-use Rattle.pmem_lines.specs.Steps.{IsQuietStep}
-use Rattle.pool_layout.specs.Layout.{layout_of}
-use Rattle.pool_layout.specs.Places.{root_word}
-use Rattle.pool_layout.specs.Header.{version_in}
-use Rattle.image_tables.specs.Tables.{tables_of, Tables}
-use Rattle.image_tables.proofs.Updates.{put_at-same}
-use Rattle.book_log.specs.Book.{Book}
-use Rattle.book_log.specs.declared.entry.LogEntry.TheVariants.{Large, Tomb}
-use Rattle.extent_index.specs.FreeSet.{FreeSet, IsFree}
-use Rattle.heap_model.specs.Machine.{Bounds}
-use Rattle.heap_check.specs.Heap.{slabs}
-use Rattle.heap_check.specs.Image.{bounds_of}
-use Rattle.heap_check.specs.State.{IsEitherHeap}
-use Rattle.heap_check.proofs.Large.{with_large}
 use Rattle.heap_check.proofs.LargeHeaps.{IsVacant-placed, IsVacant-freed}
 use Rattle.log_steps.specs.Events.{log_events}
-use Rattle.log_steps.specs.Log.{IsBookOf, IsLogged, IsLoggedOrNot}
-use Rattle.extent_steps.specs.Large.{IsExtentGone}
-use Rattle.attach_steps.specs.Steps.{root_events, PutsRootOrNot}
-use Rattle.arena_core.specs.declared.volatile.Volatile.{Volatile}
-use Rattle.arena_core.specs.Arena.{IsArena}
-use Rattle.arena_core.specs.Carried.{IsDone}
-use Rattle.arena_core.specs.Events.{place_events, take_events}
-use Rattle.arena_core.specs.Plan.{IsGivable, IsTakable}
 use Rattle.arena_core.proofs.Arenas.{book_root, slabs_stage, index_stage, index_less, index_more}
 use Rattle.arena_core.proofs.CallEvents.{IsDone-large}
 use Rattle.arena_core.proofs.LargeCalls.{give_place, nothing, given_extent, given, give_step, live_given_large, take_place, taken_root, take_step, live_taken_large}

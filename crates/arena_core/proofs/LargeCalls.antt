@@ -1,41 +1,13 @@
 -- A large block is given to a root, or taken from it: the image at each of the stores, and what a crash leaves.
 use Rattle.std.proofs.Common.{ap, ◌∙◌, ◌≡◌, ◌≢◌, ◌⊎◌, ℕ, ◌*◌, List, ◌++◌, refl, sym, subst, arith, inl, inr, ⊎_elim, ◌+◌, ◌<◌, ◌≤◌, Some, None}
-use Rattle.std.proofs.lemmas.Bool.{cases_eq}
-use Rattle.pmem_lines.specs.Words.{put_word}
-use Rattle.pmem_lines.specs.Events.{reading}
-use Rattle.pmem_lines.specs.Pmem.{PmemState, words_of}
-use Rattle.pmem_lines.specs.Steps.{IsQuietStep}
-use Rattle.pmem_lines.proofs.Steps.{step_by, step_then, step_wider}
-use Rattle.pool_layout.specs.Places.{root_word}
-use Rattle.image_tables.specs.Tables.{Tables, tables_of}
-use Rattle.image_tables.specs.Updates.{put_at}
-use Rattle.image_tables.proofs.Updates.{put_at-same, put_at-other}
-use Rattle.extent_steps.specs.Large.{IsLooseExtent}
+use Rattle.arena_core.proofs.Common.{cases_eq, put_word, reading, PmemState, words_of, IsQuietStep, step_by, step_then, step_wider, root_word, Tables, tables_of, put_at, put_at-same, put_at-other, IsLooseExtent, Large, Tomb, bounds_of, IsExactImage, AreSlabsInHeap-sound, granules_at-large, IsLargePlace, HaveSameHeap, KeepsBlocks, IsEitherHeap, root_events, PutsRootOrNot, place_events, take_events, IsLogged, IsLoggedOrNot, IsGivable, IsTakable, sizes_of, root_inside, HasNoMove-closed, Covers, GivesRoot, KeepsSlabs, slabs, live_in, heap-none, Bounds}
 use Rattle.arena_core.proofs.Arenas.{same_heap}
 use Rattle.arena_core.proofs.HeapSteps.{steps_then}
-use Rattle.book_log.specs.declared.entry.LogEntry.TheVariants.{Large, Tomb}
-use Rattle.heap_check.specs.Image.{bounds_of, IsExactImage}
-use Rattle.heap_check.proofs.Forms.{AreSlabsInHeap-sound}
-use Rattle.heap_check.proofs.Geometry.{granules_at-large}
-use Rattle.heap_check.proofs.Large.{IsLargePlace}
 use Rattle.heap_check.proofs.LargePlaces.{IsLargePlace-vacant, IsLargePlace-named}
-use Rattle.heap_check.specs.State.{HaveSameHeap, KeepsBlocks, IsEitherHeap}
 use Rattle.log_steps.specs.Events.{log_events}
-use Rattle.attach_steps.specs.Steps.{root_events, PutsRootOrNot}
-use Rattle.arena_core.specs.Events.{place_events, take_events}
-use Rattle.log_steps.specs.Log.{IsLogged, IsLoggedOrNot}
-use Rattle.arena_core.specs.Plan.{IsGivable, IsTakable}
-use Rattle.heap_check.proofs.Sizes.{sizes_of, root_inside}
-use Rattle.image_tables.proofs.Stores.{HasNoMove-closed}
 use Rattle.arena_core.proofs.LargeStages.{IsStageOf, stage_none, stage_root, stage_same, stage_entry, steady_stage, same_none, same_some, keeps_stage, still_stage}
-use Rattle.heap_check.specs.Sound.{Covers}
-use Rattle.arena_core.specs.Effect.{GivesRoot, KeepsSlabs}
-use Rattle.heap_check.specs.Heap.{slabs}
-use Rattle.arena_core.specs.Arena.{live_in}
 use Rattle.arena_core.proofs.LiveCounts.{live_large}
-use Rattle.heap_check.proofs.Heaps.{heap-none}
 use Rattle.arena_core.proofs.Blocks.{heap-takable}
-use Rattle.heap_model.specs.Machine.{Bounds}
 
 module _ (words : List ℕ) (root start count : ℕ) (exact : IsExactImage words) (givable : IsGivable (bounds_of words) (tables_of words) root start count) where
   pub give_place : IsLargePlace (bounds_of words) (tables_of words) root start count

@@ -1,36 +1,19 @@
 -- A large extent and its root come and go: the words of the image at each stage.
 use Rattle.std.proofs.Common.{◌≡◌, ◌≢◌, ℕ, ◌*◌, ◌<◌, ◌≤◌, false, List, length, refl, sym, ap, subst, ◌∙◌, arith, ⊎_elim, Some, None}
-use Rattle.std.proofs.lemmas.Bool.{cases_eq}
-use Rattle.pmem_lines.specs.Words.{word_at, put_word}
-use Rattle.pmem_lines.proofs.Words.{length-put_word}
-use Rattle.pool_layout.specs.Layout.{layout_of}
-use Rattle.pool_layout.specs.Places.{root_word, heap_word}
-use Rattle.pool_layout.specs.Header.{version_in}
+use Rattle.arena_core.proofs.Common.{cases_eq, word_at, put_word, length-put_word, layout_of, root_word, heap_word, version_in, Tables, large_of, is_slab_of, is_slab, tables_of, put_at, HasNoMove, put_at-same, put_at-own, roots_plain, large_table, slab_table, start_of, extent_of, Bounds, Range, heap, slabs, IsExact, bounds_of, IsFormed, IsExactImage, IsSteadyImage, IsWordOf, HaveSameHeap, KeepsBlocks, law_of_steady, IsClaim-heap, IsWithin-claim, with_large, IsLargePlace, GivesRoot, AreSlabsInHeap-sound, IsExtentGone}
 use Rattle.image_tables.specs.Extents.{extent_at}
-use Rattle.image_tables.specs.Tables.{Tables, large_of, is_slab_of, is_slab, AreSlabsInHeap, tables_of}
-use Rattle.image_tables.specs.Updates.{put_at, with_root, HasNoMove}
-use Rattle.image_tables.proofs.Updates.{put_at-same, put_at-twice, put_at-own}
-use Rattle.image_tables.proofs.Stores.{version_in-off_log, heap_word-off_log, tables_off_log, roots_plain, version_in-put_root, heap_word-put_root, extent_at-put_root, tables_put_root}
-use Rattle.image_tables.proofs.Tables.{large_table, slab_table}
+use Rattle.image_tables.specs.Tables.{AreSlabsInHeap}
+use Rattle.image_tables.specs.Updates.{with_root}
+use Rattle.image_tables.proofs.Updates.{put_at-twice}
+use Rattle.image_tables.proofs.Stores.{version_in-off_log, heap_word-off_log, tables_off_log, version_in-put_root, heap_word-put_root, extent_at-put_root, tables_put_root}
 use Rattle.book_log.specs.declared.entry.LogEntry.{LogEntry}
-use Rattle.book_log.specs.Entry.{start_of, extent_of}
-use Rattle.heap_model.specs.Machine.{Bounds, Range}
-use Rattle.heap_check.specs.Heap.{heap, slabs}
-use Rattle.heap_check.specs.Sound.{IsExact, IsSteady}
-use Rattle.heap_check.specs.Image.{bounds_of, IsFormed, IsExactImage, IsSteadyImage}
-use Rattle.heap_check.specs.State.{IsWordOf, HaveSameHeap, KeepsBlocks}
+use Rattle.heap_check.specs.Sound.{IsSteady}
 use Rattle.heap_check.proofs.Forms.{bounds_of-off_log, IsFormed-off_log, bounds_of-put_root, IsFormed-put_root}
-use Rattle.heap_check.proofs.Blank.{law_of_steady}
-use Rattle.heap_check.proofs.Heaps.{IsClaim-heap}
-use Rattle.heap_check.proofs.Within.{IsWithin-claim}
-use Rattle.heap_check.proofs.Large.{with_large, large_block, IsLargePlace, IsLargeStage, entry_at-none}
+use Rattle.heap_check.proofs.Large.{large_block, IsLargeStage, entry_at-none}
 use Rattle.heap_check.proofs.LargeSound.{IsLargeEnd, IsSteady-large, IsExact-large}
 use Rattle.heap_check.proofs.LargeHeaps.{heap-large_other, heap-large_none, heap-large_some}
-use Rattle.arena_core.specs.Effect.{GivesRoot}
 use Rattle.log_steps.specs.Log.{KeepsRest, HasSameExtents, HasExtentsWith}
-use Rattle.heap_check.proofs.Forms.{AreSlabsInHeap-sound}
 use Rattle.log_steps.proofs.Entries.{off_log}
-use Rattle.extent_steps.specs.Large.{IsExtentGone}
 use Rattle.log_steps.proofs.LargeEntries.{slab_entry, large_entry}
 
 -- The image is as the words are, but that the extent at a start has so many granules, and a root this word.

@@ -1,18 +1,8 @@
 -- Whether a slab keeps a block once one of its blocks goes.
 use Rattle.std.proofs.Common.{◌≡◌, ◌≢◌, ◌||◌, ℕ, true, false, true≢false, refl, sym, ap, subst, ◌∙◌, inl, inr, ⊎_elim, Bool, arith}
-use Rattle.std.proofs.lemmas.Bool.{cases_Bool, or_parts, or_cases}
-use Rattle.size_classes.specs.Classes.{class_capacity}
+use Rattle.arena_core.proofs.Common.{cases_Bool, class_capacity, Tables, Bounds, Range, slab_block, any_below, entry_at, Holds, HoldsBit, HoldsOld, IsInSlab, IsEmptySlab, IsExactBut, plain_size, IsNamed-claim, IsClaim-word, Holds-claim, calm_but, IsInSlab-held, IsLastOf, holds_none}
+use Rattle.std.proofs.lemmas.Bool.{or_parts, or_cases}
 use Rattle.image_tables.specs.Forms.{morphing_kind}
-use Rattle.image_tables.specs.Tables.{Tables}
-use Rattle.heap_model.specs.Machine.{Bounds, Range, slab_block}
-use Rattle.heap_model.specs.Below.{any_below}
-use Rattle.heap_check.specs.Heap.{entry_at, Holds, HoldsBit, HoldsOld}
-use Rattle.heap_check.specs.Sound.{IsInSlab, IsEmptySlab, IsExactBut}
-use Rattle.heap_check.proofs.Claims.{plain_size, IsNamed-claim, IsClaim-word}
-use Rattle.heap_check.proofs.SmallPlaces.{Holds-claim, calm_but}
-use Rattle.heap_check.proofs.Within.{IsInSlab-held}
-use Rattle.arena_core.specs.Effect.{IsLastOf}
-use Rattle.arena_core.specs.Events.{holds_none}
 use Rattle.heap_model.proofs.Below.{any_below-each, any_below-some}
 use Rattle.arena_core.proofs.Tests.{not_true, not_false}
 

@@ -1,3 +1,4 @@
+pub mod Common
 pub mod Tests
 pub mod Maps
 pub mod UnusedBlocks

@@ -1,24 +1,8 @@
 -- How many live blocks the slabs of an arena have: once a root has another block, and once slabs come and go.
 use Rattle.std.proofs.Common.{◌≡◌, ◌≢◌, ◌==◌, ℕ, ◌+◌, ◌-◌, ◌*◌, ◌<◌, ◌≤◌, Bool, true, false, true≢false, cond, List, length, slice_index, Option, Some, None, refl, sym, ap, ◌∙◌, arith, ⊎_elim, if◌then◌else◌, zero, suc}
-use Rattle.std.proofs.lemmas.Bool.{cases_eq, cases_lt, cases_Bool, eq-eqb, ne_eqb, false_from_ne_true}
-use Rattle.pool_layout.specs.Header.{granules_in}
-use Rattle.image_tables.specs.Tables.{Tables, tables_of}
-use Rattle.image_tables.proofs.Tables.{root_table-past}
-use Rattle.heap_model.specs.Machine.{Bounds, Range}
-use Rattle.heap_model.specs.Slabs.{live_below, begins_in}
+use Rattle.arena_core.proofs.Common.{cases_eq, cases_lt, cases_Bool, eq-eqb, ne_eqb, false_from_ne_true, granules_in, Tables, tables_of, root_table-past, Bounds, Range, live_below, begins_in, entry_at, heap, Holds, IsInSlab, IsSound, bounds_of, IsNamed-claim, one_slab, is_large-slab, is_large-start, heap-claim, IsClaim-heap, Holds-claim, IsInSlab-held, Lives, calm_at, live_in, calm_of, AreCountsOf, AreLivesOf, HaveOneMore}
 use Rattle.heap_model.proofs.Counts.{live_below-with}
 use Rattle.heap_model.proofs.Freeing.{BeginsIn, begins_in-here, begins_in-true, live_below-some, live_below-none}
-use Rattle.heap_check.specs.Heap.{entry_at, heap, Holds}
-use Rattle.heap_check.specs.Sound.{IsInSlab, IsSound}
-use Rattle.heap_check.specs.Image.{bounds_of}
-use Rattle.heap_check.proofs.Claims.{IsNamed-claim}
-use Rattle.heap_check.proofs.Geometry.{one_slab, is_large-slab, is_large-start}
-use Rattle.heap_check.proofs.Heaps.{heap-claim, IsClaim-heap}
-use Rattle.heap_check.proofs.SmallPlaces.{Holds-claim}
-use Rattle.heap_check.proofs.Within.{IsInSlab-held}
-use Rattle.slab_lives.specs.Lives.{Lives, calm_at}
-use Rattle.arena_core.specs.Arena.{live_in, calm_of, AreCountsOf, AreLivesOf}
-use Rattle.arena_core.specs.Carried.{HaveOneMore}
 use Rattle.arena_core.proofs.Maps.{with_key-is}
 
 -- one, where something is so

@@ -1,14 +1,6 @@
 -- The counts of live blocks and the calm slabs together, as blocks and slabs come and go.
 use Rattle.std.proofs.Common.{◌≡◌, ◌≢◌, ◌==◌, ◌&&◌, ℕ, true, false, List, Option, Some, None, sym, ap, ◌∙◌, if◌then◌else◌, arith}
-use Rattle.std.proofs.lemmas.Bool.{cond-true, cond-false, eq-eqb, and_from, and_left}
-use Rattle.image_tables.specs.Forms.{normal_kind}
-use Rattle.image_tables.specs.Tables.{Tables, tables_of}
-use Rattle.image_tables.proofs.Updates.{put_at-other}
-use Rattle.slab_morph.specs.SlabHeaders.{SlabHeader, put_header}
-use Rattle.heap_model.specs.Machine.{with_key}
-use Rattle.heap_check.specs.Slabs.{IsSameSlab}
-use Rattle.slab_lives.specs.Lives.{Lives, calm_at}
-use Rattle.arena_core.specs.Arena.{AreCountsOf, calm_of, AreLivesOf}
+use Rattle.arena_core.proofs.Common.{cond-true, cond-false, eq-eqb, and_from, and_left, normal_kind, Tables, tables_of, put_at-other, SlabHeader, put_header, with_key, IsSameSlab, Lives, calm_at, AreCountsOf, calm_of, AreLivesOf}
 
 -- what the tables say
 

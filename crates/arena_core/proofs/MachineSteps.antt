@@ -1,41 +1,23 @@
 -- What a call means to the heap machine: the step from the state that the old words have to one that the new words have.
 use Rattle.std.proofs.Common.{◌≡◌, ◌≢◌, ◌*◌, ◌<◌, ◌≤◌, ℕ, Bool, true, List, Option, Some, None, Err, refl, sym, ap, ◌∙◌, subst, arith, inl, inr, ⊎_elim}
-use Rattle.image_tables.specs.Tables.{Tables, tables_of}
-use Rattle.heap_model.specs.declared.call.Call.{Call}
+use Rattle.arena_core.proofs.Common.{Tables, tables_of, Call, Reply, Bounds, Range, Machine, with_key, view_of, Site, IsSite, range_of, slabs_with, HasBlock, slabs_without, forgotten, class_size, class_capacity, slab_block, class_small, stacks_of, Supply, supply_view, TookBlock, HasNoOpen, IsSlabsOf, is_large, heap, slabs, IsInSlab, bounds_of, IsExactImage, HasState, is_large-start, malloc_reply, free_reply, IsStepOf, IsStepOfAny, slabs_but, stacks_but, IsPutBack, IsSuppliedFresh, IsSuppliedMorph, IsLastOf, GivesRoot, IsAskedOf, tables_view, IsTakable, IsFreePlan}
 use Rattle.heap_model.specs.declared.call.Call.TheVariants as calls
-use Rattle.heap_model.specs.declared.call.Reply.{Reply}
 use Rattle.heap_model.specs.declared.call.Reply.TheVariants as replies
-use Rattle.heap_model.specs.Machine.{Bounds, Range, Machine, with_key}
-use Rattle.heap_model.specs.Slabs.{view_of}
-use Rattle.heap_model.specs.Choice.{Site, IsSite, range_of, slabs_with}
 use Rattle.heap_model.specs.Choice.Site.{Granules, InSlab, InMorph, InNewSlab}
-use Rattle.heap_model.specs.Step.{HasBlock, with_block, without_block, slabs_without, forgotten, IsStep}
-use Rattle.size_classes.specs.Classes.{class_size, class_capacity}
-use Rattle.heap_model.specs.Machine.{slab_block}
+use Rattle.heap_model.specs.Step.{with_block, without_block, IsStep}
 use Rattle.heap_model.specs.Placement.{Stacks, without_left, IsWay, IsStacked, IsReturned}
-use Rattle.heap_model.proofs.Sites.{class_small, IsStep-granted}
+use Rattle.heap_model.proofs.Sites.{IsStep-granted}
 use Rattle.heap_model.proofs.Views.{IsSite-same, HasNoSite-same}
-use Rattle.thread_cache.specs.Stacks.{stacks_of}
-use Rattle.block_supply.specs.Supply.{Supply, supply_view, TookBlock, HasNoOpen}
 use Rattle.block_supply.proofs.Views.{AgreeOnBlocks}
 use Rattle.heap_check.proofs.ExactStates.{law_of_exact_state}
-use Rattle.arena_core.specs.Arena.{IsSlabsOf}
 use Rattle.arena_core.proofs.Plans.{slab_of_set, block_is}
 use Rattle.arena_core.proofs.StackSteps.{way_there, way_fresh, way_morph, returned_large, returned_small, returned_old}
 use Rattle.arena_core.proofs.UnusedBlocks.{iff_then}
-use Rattle.heap_check.specs.Heap.{is_large, heap, slabs}
-use Rattle.heap_check.specs.Sound.{IsInSlab}
-use Rattle.heap_check.specs.Image.{bounds_of, IsExactImage}
-use Rattle.heap_check.specs.State.{HasState}
-use Rattle.heap_check.proofs.Geometry.{is_large-start}
 use Rattle.arena_core.specs.declared.answer.MallocRefusal.{MallocRefusal}
 use Rattle.arena_core.specs.declared.answer.MallocRefusal.TheVariants.{NoRoot, Occupied, ZeroSize, TooLarge, NoSpace}
 use Rattle.arena_core.specs.declared.answer.FreeRefusal.{FreeRefusal}
 use Rattle.arena_core.specs.declared.answer.FreeRefusal.TheVariants as refusals
-use Rattle.arena_core.specs.Answer.{malloc_reply, free_reply}
-use Rattle.arena_core.specs.Call.{IsStepOf, IsStepOfAny}
-use Rattle.arena_core.specs.Effect.{slabs_but, stacks_but, IsPutBack, IsSuppliedFresh, IsSuppliedMorph, IsLastOf, GivesRoot}
-use Rattle.arena_core.specs.Plan.{IsAskedOf, tables_view, IsMallocPlan, IsTakable, IsFreePlan}
+use Rattle.arena_core.specs.Plan.{IsMallocPlan}
 use Rattle.arena_core.proofs.States.{naming, naming_slab, nameless, after_call, named_at, fit_clear, tables_agree, slabs_without-large, slabs_without-other, slabs_without-none}
 
 -- the new words have the state in which the root has this block, and these are the slabs

@@ -1,7 +1,6 @@
 -- Maps in which one key was changed, or twice.
 use Rattle.std.proofs.Common.{◌≡◌, ◌≢◌, ℕ, Option, ◌∙◌, arith}
-use Rattle.heap_model.specs.Machine.{with_key}
-use Rattle.heap_model.proofs.Maps.{with_key-here, with_key-other}
+use Rattle.arena_core.proofs.Common.{with_key, with_key-here, with_key-other}
 
 -- a map that has the new value there, and all else as before
 pub with_key-is : {X : Type 0} (map new : ℕ → Option X) (key : ℕ) (value : Option X) → new key ≡ value → ((other : ℕ) → other ≢ key → new other ≡ map other) → (other : ℕ) → new other ≡ with_key map key value other

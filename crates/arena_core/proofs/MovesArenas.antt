@@ -1,27 +1,8 @@
 -- A block moved from a root to another: what stands beside the words is what they say still.
 use Rattle.std.proofs.Common.{◌≡◌, ◌≢◌, ℕ, ◌+◌, ◌<◌, List, Option, Some, None, sym, ap, ◌∙◌, arith, ⊎_elim, if◌then◌else◌}
-use Rattle.std.proofs.lemmas.Bool.{cases_eq}
-use Rattle.pmem_lines.specs.Words.{word_at}
-use Rattle.pool_layout.specs.Places.{entry_word}
-use Rattle.pool_layout.specs.Header.{version_in, granules_in}
-use Rattle.image_tables.specs.Tables.{Tables, tables_of}
+use Rattle.arena_core.proofs.Common.{cases_eq, word_at, entry_word, version_in, granules_in, Tables, tables_of, SameLog, root_word-low, Book, FreeSet, Bounds, Range, with_key, live_below, begins_in, with_key-here, with_key-other, heap, granules_at, bounds_of, heap-none, IsBookOf, Lives, calm_at, IsIndexOf, live_in, AreLivesOf, KeepsSlabs}
 use Rattle.image_tables.proofs.Places.{log_word-low, entry_word-low}
-use Rattle.image_tables.proofs.Logs.{SameLog}
-use Rattle.image_tables.proofs.Stores.{root_word-low}
-use Rattle.book_log.specs.Book.{Book}
-use Rattle.extent_index.specs.FreeSet.{FreeSet}
-use Rattle.heap_model.specs.Machine.{Bounds, Range, with_key}
-use Rattle.heap_model.specs.Slabs.{live_below, begins_in}
-use Rattle.heap_model.proofs.Maps.{with_key-here, with_key-other}
-use Rattle.heap_check.specs.Heap.{heap}
-use Rattle.heap_check.specs.Sound.{granules_at}
-use Rattle.heap_check.specs.Image.{bounds_of}
-use Rattle.heap_check.proofs.Heaps.{heap-none}
-use Rattle.log_steps.specs.Log.{IsBookOf}
 use Rattle.move_steps.specs.Moves.{IsMovable, IsMoved}
-use Rattle.slab_lives.specs.Lives.{Lives, calm_at}
-use Rattle.arena_core.specs.Arena.{IsIndexOf, live_in, AreLivesOf}
-use Rattle.arena_core.specs.Effect.{KeepsSlabs}
 use Rattle.arena_core.proofs.Arenas.{same_log, index_as, book_same}
 use Rattle.arena_core.proofs.LiveCounts.{one_if, live_given, counts_kept}
 use Rattle.arena_core.proofs.LiveSlabs.{calm_same, lives_kept}

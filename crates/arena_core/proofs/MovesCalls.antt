@@ -1,25 +1,13 @@
 -- A move put together: what it did behind its begin.
 use Rattle.std.proofs.Common.{◌≡◌, ◌+◌, ◌%◌, ℕ, List, [], Err, refl, sym, ap, arith, inl}
+use Rattle.arena_core.proofs.Common.{PmemState, words_of, IsQuietStep, step_by, step_none, tables_of, HasNoMove-closed, roots_plain, Range, bounds_of, IsExactImage, law_of_steady, Volatile, move_reply, IsArena, call_events, line_after, IsToMove, IsMovePlan, IsMoveCarried}
 use Rattle.arena_core.proofs.Readiness.{ready_after}
-use Rattle.pmem_lines.specs.Pmem.{PmemState, words_of}
-use Rattle.pmem_lines.specs.Steps.{IsQuietStep}
-use Rattle.pmem_lines.proofs.Steps.{step_by, step_none}
-use Rattle.image_tables.specs.Tables.{tables_of}
-use Rattle.image_tables.proofs.Stores.{HasNoMove-closed, roots_plain}
 use Rattle.attach_steps.specs.Steps.{move_events}
 use Rattle.heap_model.specs.declared.call.Call.TheVariants as calls
 use Rattle.heap_model.specs.declared.call.Reply.TheVariants as replies
-use Rattle.heap_model.specs.Machine.{Range}
-use Rattle.heap_check.specs.Image.{bounds_of, IsExactImage}
-use Rattle.heap_check.proofs.Blank.{law_of_steady}
 use Rattle.move_steps.specs.Moves.{IsMovable, IsMoved, IsEitherMoved}
 use Rattle.arena_core.specs.declared.answer.MoveRefusal.{MoveRefusal}
 use Rattle.arena_core.specs.declared.answer.MoveRefusal.TheVariants.{NoRoot, Empty, Occupied}
-use Rattle.arena_core.specs.declared.volatile.Volatile.{Volatile}
-use Rattle.arena_core.specs.Answer.{move_reply}
-use Rattle.arena_core.specs.Arena.{IsArena}
-use Rattle.arena_core.specs.Events.{call_events, line_after}
-use Rattle.arena_core.specs.Moving.{IsToMove, IsMovePlan, IsMoveCarried}
 use Rattle.arena_core.proofs.Arenas.{slabs_kept}
 use Rattle.arena_core.proofs.MovesArenas.{granules_moved, book_moved, index_moved, slabs_moved, lives_moved}
 use Rattle.arena_core.proofs.MovesStates.{step_moved, step_unmoved}

@@ -1,23 +1,13 @@
 -- A move as a step of the heap machine: the state behind it, and its refusals.
 use Rattle.std.proofs.Common.{◌≡◌, ◌≢◌, ◌⊎◌, ℕ, ◌+◌, ◌/◌, ◌<◌, ◌≤◌, cond, List, Option, Some, None, Err, refl, sym, ap, subst, ◌∙◌, arith, inl, inr, ⊎_elim}
-use Rattle.std.proofs.lemmas.Bool.{cases_eq}
-use Rattle.image_tables.specs.Tables.{tables_of}
+use Rattle.arena_core.proofs.Common.{cases_eq, tables_of, Reply, Range, Machine, with_key, HasBlock, with_key-here, with_key-other, heap, bounds_of, IsExactImage, HasValue, HasState, heap-none, move_reply, IsStepOfAny, AreRoots, IsMovePlan}
 use Rattle.heap_model.specs.declared.call.Call.TheVariants as calls
-use Rattle.heap_model.specs.declared.call.Reply.{Reply}
 use Rattle.heap_model.specs.declared.call.Reply.TheVariants as replies
-use Rattle.heap_model.specs.Machine.{Range, Machine, with_key}
-use Rattle.heap_model.specs.Step.{HasBlock, handed_over, with_moved, IsMove}
-use Rattle.heap_model.proofs.Maps.{with_key-here, with_key-other}
-use Rattle.heap_check.specs.Heap.{heap}
-use Rattle.heap_check.specs.Image.{bounds_of, IsExactImage}
-use Rattle.heap_check.specs.State.{HasValue, HasState}
-use Rattle.heap_check.proofs.Heaps.{heap-none}
+use Rattle.heap_model.specs.Step.{handed_over, with_moved, IsMove}
 use Rattle.move_steps.specs.Moves.{IsMovable, IsMoved}
 use Rattle.arena_core.specs.declared.answer.MoveRefusal.{MoveRefusal}
 use Rattle.arena_core.specs.declared.answer.MoveRefusal.TheVariants.{NoRoot, Empty, Occupied}
-use Rattle.arena_core.specs.Answer.{move_reply}
-use Rattle.arena_core.specs.Call.{IsStepOfAny}
-use Rattle.arena_core.specs.Moving.{IsMoveStep, AreRoots, IsMovePlan}
+use Rattle.arena_core.specs.Moving.{IsMoveStep}
 use Rattle.arena_core.proofs.MovesArenas.{from_to}
 use Rattle.arena_core.proofs.States.{named_at}
 

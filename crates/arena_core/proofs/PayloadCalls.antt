@@ -1,33 +1,14 @@
 -- Words that are written into a root's block, put together: what a write did behind its begin.
 use Rattle.std.proofs.Common.{◌≡◌, ◌<◌, ◌≤◌, ◌+◌, ◌-◌, ◌*◌, ◌/◌, ◌%◌, ℕ, List, [], length, Ok, Err, None, refl, sym, ap, ◌∙◌, arith, inl, inr, ⊎_elim}
+use Rattle.arena_core.proofs.Common.{cases_lt, word_at, PmemState, words_of, IsQuietStep, step_by, step_none, step_wider, Tables, tables_of, HasNoMove-closed, class_size, slab_block, root_table-past, entry_at, heap, bounds_of, IsExactImage, IsNamed-claim, heap-none, IsClaim-heap, sizes_of, IsWithin-claim, BlockRefusal, IsReady, write_events, payload_events, HasWritten, HasBlockAt, IsWritable, IsWritePlan, IsWriteCarried, IsHeldBy, range_held}
 use Rattle.arena_core.proofs.Readiness.{ready_after}
-use Rattle.std.proofs.lemmas.Bool.{cases_lt}
-use Rattle.pmem_lines.specs.Words.{word_at}
-use Rattle.pmem_lines.specs.Pmem.{PmemState, words_of}
-use Rattle.pmem_lines.specs.Steps.{IsQuietStep}
-use Rattle.pmem_lines.proofs.Steps.{step_by, step_none, step_wider}
 use Rattle.durable_steps.specs.Rows.{IsOldOrNewRow}
-use Rattle.image_tables.specs.Tables.{Tables, tables_of}
-use Rattle.image_tables.proofs.Stores.{HasNoMove-closed}
-use Rattle.size_classes.specs.Classes.{class_size}
 use Rattle.size_classes.proofs.Spacing.{class_size-aligned}
-use Rattle.heap_model.specs.Machine.{slab_block}
-use Rattle.image_tables.proofs.Tables.{root_table-past}
-use Rattle.heap_check.specs.Heap.{entry_at, heap}
-use Rattle.heap_check.specs.Image.{bounds_of, IsExactImage}
-use Rattle.heap_check.proofs.Claims.{IsNamed-claim}
-use Rattle.heap_check.proofs.Heaps.{heap-none, IsClaim-heap}
-use Rattle.heap_check.proofs.Sizes.{sizes_of}
-use Rattle.heap_check.proofs.Within.{IsWithin-claim}
-use Rattle.arena_core.specs.declared.answer.BlockRefusal.{BlockRefusal}
 use Rattle.arena_core.specs.declared.answer.BlockRefusal.TheVariants.{NoRoot, Empty, OutOfRange}
 use Rattle.arena_core.specs.declared.plan.Held.{Held}
 use Rattle.arena_core.specs.declared.plan.Held.TheVariants as holding
 use Rattle.arena_core.specs.Answer.{write_reply}
-use Rattle.arena_core.specs.Call.{IsReady}
-use Rattle.arena_core.specs.Events.{write_events}
-use Rattle.arena_core.specs.Payload.{payload_events, IsNamedWord, HasWritten, IsEitherWords, HasBlockAt, IsBlockPlan, IsWritable, IsWritePlan, IsWriteCarried}
-use Rattle.arena_core.specs.Plan.{IsHeldBy, range_held}
+use Rattle.arena_core.specs.Payload.{IsNamedWord, IsEitherWords, IsBlockPlan}
 use Rattle.arena_core.proofs.CallEvents.{held_heap}
 use Rattle.arena_core.proofs.PayloadImages.{IsSameOffBlock, bounds_kept, exact_kept, heap_kept, slabs_kept, IsArena-block}
 use Rattle.arena_core.proofs.PayloadRows.{off_write, in_write}

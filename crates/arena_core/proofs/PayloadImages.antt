@@ -1,36 +1,19 @@
 -- Words that differ within the block of a root alone: the image says the same of everything, and what stands beside the
 -- words of an arena stays what they say.
 use Rattle.std.proofs.Common.{◌≡◌, ◌<◌, ◌≤◌, ◌↔◌, ◌+◌, ◌*◌, ℕ, true, List, length, Some, sym, ap, subst, ◌∙◌, arith, ⊎_elim, cond}
-use Rattle.size_classes.specs.Classes.{class_capacity}
-use Rattle.pmem_lines.specs.Words.{word_at}
-use Rattle.pmem_lines.specs.Pmem.{PmemState, words_of}
-use Rattle.pool_layout.specs.Places.{text_word, root_word, wal_word, entry_word, granule_word, heap_word, blocks_place}
-use Rattle.pool_layout.specs.Header.{version_field, version_in, granules_in}
-use Rattle.image_tables.specs.Tables.{Tables, root_in, open_entry_in, wal_lines, large_of, is_slab_of, is_slab, state_word, bitmap_word, index_word, bit_at, live_at, number_at, tables_of}
+use Rattle.arena_core.proofs.Common.{class_capacity, word_at, PmemState, words_of, text_word, root_word, entry_word, heap_word, version_in, granules_in, Tables, large_of, is_slab_of, is_slab, state_word, index_word, SameLog, slab_table, root_word-low, Book, FreeSet, Supply, IsOpen, Bounds, Range, live_below, heap, slabs, IsUnusedIn, IsExact, granules_at, bounds_of, IsFormed, IsExactImage, IsWordOf, HaveSameHeap, IsBookOf, Volatile, Lives, calm_at, IsIndexOf, IsSlabsOf, live_in, calm_of, AreLivesOf, IsArena, IsReady}
+use Rattle.pool_layout.specs.Places.{wal_word, granule_word, blocks_place}
+use Rattle.pool_layout.specs.Header.{version_field}
+use Rattle.image_tables.specs.Tables.{root_in, open_entry_in, wal_lines, bitmap_word, bit_at, live_at, number_at, tables_of}
 use Rattle.image_tables.proofs.Places.{log_word-low, entry_word-high}
-use Rattle.image_tables.proofs.Logs.{SameLog}
 use Rattle.image_tables.proofs.Extents.{extent_at-same}
-use Rattle.image_tables.proofs.Tables.{slab_table, slab_fields}
-use Rattle.image_tables.proofs.Stores.{root_word-low, wal_word-low, log_word-high, live_at-same, number_at-same, bit_at-same, slab_bit-same, roots-same, entry_among-same, tables_by}
-use Rattle.book_log.specs.Book.{Book}
+use Rattle.image_tables.proofs.Tables.{slab_fields}
+use Rattle.image_tables.proofs.Stores.{wal_word-low, log_word-high, live_at-same, number_at-same, bit_at-same, slab_bit-same, roots-same, entry_among-same, tables_by}
 use Rattle.book_log.proofs.Books.{HasLog-same}
-use Rattle.extent_index.specs.FreeSet.{FreeSet}
-use Rattle.block_supply.specs.Supply.{Supply, IsOpen}
-use Rattle.heap_model.specs.Machine.{Bounds, Range}
-use Rattle.heap_model.specs.Slabs.{live_below}
-use Rattle.heap_check.specs.Heap.{heap, slabs, IsUnusedIn}
-use Rattle.heap_check.specs.Sound.{IsExact, granules_at}
-use Rattle.heap_check.specs.Image.{bounds_of, IsFormed, IsExactImage}
-use Rattle.heap_check.specs.State.{IsWordOf, HaveSameHeap}
 use Rattle.heap_check.proofs.BlockWords.{block_word-heap, block_word-header}
 use Rattle.heap_check.proofs.Forms.{IsFormed-same, HasWal-same, bounds_of-same}
 use Rattle.heap_check.proofs.Geometry.{index_count_few}
-use Rattle.log_steps.specs.Log.{IsBookOf}
 use Rattle.arena_core.proofs.Arenas.{same_log, index_as, book_same}
-use Rattle.arena_core.specs.declared.volatile.Volatile.{Volatile}
-use Rattle.slab_lives.specs.Lives.{Lives, calm_at}
-use Rattle.arena_core.specs.Arena.{IsIndexOf, IsSlabsOf, live_in, calm_of, AreLivesOf, IsArena}
-use Rattle.arena_core.specs.Call.{IsReady}
 use Rattle.arena_core.proofs.LiveCounts.{counts_kept}
 use Rattle.arena_core.proofs.LiveSlabs.{lives_kept}
 

@@ -1,14 +1,10 @@
 -- What is read behind a row of words, and its events.
 use Rattle.std.proofs.Common.{◌≡◌, ◌⊎◌, ◌<◌, ◌≤◌, ◌+◌, ◌-◌, ◌*◌, ◌/◌, ℕ, List, [], ◌∷◌, ◌++◌, length, get_or, refl, ap, ◌∙◌, arith, inl, inr, ⊎_elim}
-use Rattle.pmem_lines.specs.Words.{word_at, put_word}
-use Rattle.pmem_lines.proofs.Words.{word_at-put_other}
+use Rattle.arena_core.proofs.Common.{word_at, put_word, word_at-put_other, reading, Tables, write_events}
 use Rattle.pmem_lines.specs.declared.event.Event.TheVariants.{Fence}
-use Rattle.pmem_lines.specs.Events.{reading}
 use Rattle.pmem_lines.proofs.Images.{reading-append}
 use Rattle.durable_steps.specs.Rows.{stores_at, flushes_of, lines_of, row_events}
 use Rattle.durable_steps.proofs.Rows.{row_word, reading-flushes}
-use Rattle.image_tables.specs.Tables.{Tables}
-use Rattle.arena_core.specs.Events.{write_events}
 
 -- a word that is none of those that are stored
 off_stores : (base : List ℕ) (at : ℕ) (words : List ℕ) (k : ℕ) → (k < at / 8) ⊎ (at / 8 + length words ≤ k) → word_at (reading base (stores_at at words)) k ≡ word_at base k
@@ -30,15 +26,6 @@ off_row base at words k off = ap (λ ws. word_at ws k) (reading-row base at word
 
 pub in_row : (base : List ℕ) (at : ℕ) (words : List ℕ) (k : ℕ) → at / 8 ≤ k → k < at / 8 + length words → k < length base → word_at (reading base (row_events at words)) k ≡ get_or words (k - at / 8) 0
 in_row base at words k low high inside = ap (λ ws. word_at ws k) (reading-row base at words) ∙ row_word base at words k low high inside
-
--- the events of a write, where there are words
-pub write_events-some : (t : Tables) (root from : ℕ) (words : List ℕ) → 0 < length words → write_events t root from words ≡ row_events (t.root root + 8 * from) words
-write_events-some t root from [] some = absurd (omega (arith, some))
-write_events-some t root from (word ∷ words) some = refl
-
-pub write_events-none : (t : Tables) (root from : ℕ) (words : List ℕ) → length words ≡ 0 → write_events t root from words ≡ []
-write_events-none t root from [] none = refl
-write_events-none t root from (word ∷ words) none = absurd (omega (arith, none))
 
 -- what is read behind a write
 pub off_write : (base : List ℕ) (t : Tables) (root from : ℕ) (words : List ℕ) (k : ℕ) → (k < t.root root / 8 + from) ⊎ (t.root root / 8 + from + length words ≤ k) → word_at (reading base (write_events t root from words)) k ≡ word_at base k

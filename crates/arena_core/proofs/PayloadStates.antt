@@ -1,17 +1,12 @@
 -- The state of the heap machine behind words that were written into a root's block.
 use Rattle.std.proofs.Common.{◌≡◌, ◌≢◌, ◌⊎◌, ◌<◌, ◌≤◌, ◌+◌, ◌-◌, ◌/◌, ℕ, suc, List, [], ◌∷◌, length, Option, Some, Err, get_or, refl, sym, ap, subst, ◌∙◌, arith, inl, inr, ⊎_elim}
-use Rattle.std.proofs.lemmas.Bool.{cases_eq, cases_lt}
-use Rattle.pmem_lines.specs.Words.{word_at}
+use Rattle.arena_core.proofs.Common.{cases_eq, cases_lt, word_at, Range, Machine, HasBlock, bounds_of, IsExactImage, HasValue, HasState, BlockRefusal, IsWriteStep, HasWritten, HasBlockAt, IsWritable, IsWritePlan}
 use Rattle.heap_model.specs.declared.call.Reply.TheVariants as replies
-use Rattle.heap_model.specs.Machine.{Range, Machine}
-use Rattle.heap_model.specs.Step.{with_value, HasBlock}
-use Rattle.heap_check.specs.Image.{bounds_of, IsExactImage}
-use Rattle.heap_check.specs.State.{HasValue, HasState}
+use Rattle.heap_model.specs.Step.{with_value}
 use Rattle.heap_check.proofs.ExactStates.{law_of_exact_state}
-use Rattle.arena_core.specs.declared.answer.BlockRefusal.{BlockRefusal}
 use Rattle.arena_core.specs.declared.answer.BlockRefusal.TheVariants.{NoRoot, Empty, OutOfRange}
 use Rattle.arena_core.specs.Answer.{block_refusal}
-use Rattle.arena_core.specs.Payload.{with_values, IsWriteStep, HasWritten, HasBlockAt, IsWritable, IsWritePlan}
+use Rattle.arena_core.specs.Payload.{with_values}
 
 -- the word of a root and index is one of these, which begin at an index
 record IsPut (root from : ℕ) (words : List ℕ) (other index word : ℕ) : Type 0 where

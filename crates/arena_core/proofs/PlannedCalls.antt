@@ -1,47 +1,25 @@
 -- What an arena keeps behind the plan of a malloc: all but the supply is as it was.
 use Rattle.std.proofs.Common.{◌≡◌, true, ℕ, ◌<◌, Option, Some, None, Result, Ok, Err, [], refl, sym, ap, ◌∙◌, subst, List, ◌+◌, ◌*◌, ◌%◌, ◌≤◌, ◌++◌, ◌≢◌, inl, inr, ⊎_elim, arith}
+use Rattle.arena_core.proofs.Common.{start_at, place_events, placed_events, call_events, line_after, IsSuppliedFresh, IsSuppliedMorph, sizes_of, slabs, IsUnusedIn, attach_events, SlabBlock, class_in, with_key-here, with_key-other, Site, IsSite, range_of, slabs_with, reading, Event, cases_eq, PmemState, words_of, began, Tables, tables_of, class_size, class_capacity, Bounds, slab_block, with_key, class_small, Supply, HasNoOpen, HadNoOpen, IsOpen, HasSlabMore, HasSlabLess, TookBlock, Volatile, bounds_of, malloc_reply, IsCalled, IsHeldFor, IsDone, HasClassNow, IsSlabFor, SmallBlock, IsArena, IsAskedOf, IsPlacing, tables_view}
 use Rattle.arena_core.proofs.GivenBlocks.{done_behind}
 use Rattle.arena_core.proofs.MachineSteps.{IsServedAt, placed_reply, placed_step, refused_malloc}
 use Rattle.arena_core.proofs.CallEvents.{IsCalled-done, IsCalled-refused, small_attachable, placed_large, line_placed, placed_there, placed_morph, placed_fresh, start_is, line_small}
 use Rattle.arena_core.proofs.Plans.{class_capacity-some, slab_parts}
-use Rattle.arena_core.specs.Events.{start_at, place_events, placed_events, call_events, line_after}
-use Rattle.arena_core.specs.Effect.{IsSuppliedFresh, IsSuppliedMorph}
-use Rattle.heap_check.proofs.Sizes.{sizes_of}
-use Rattle.heap_check.specs.Heap.{slabs, IsUnusedIn}
-use Rattle.attach_steps.specs.Steps.{attach_events}
 use Rattle.extent_steps.specs.Slabs.{open_events}
 use Rattle.block_supply.proofs.Firsts.{in_new, first_of}
 use Rattle.block_supply.proofs.Takes.{none_open}
-use Rattle.slab_index.specs.declared.block.SlabBlock.{SlabBlock}
-use Rattle.slab_index.specs.SlabSet.{class_in}
 use Rattle.slab_header.specs.Morph.{morph_events}
-use Rattle.heap_model.proofs.Maps.{with_key-here, with_key-other}
 use Rattle.heap_model.specs.Choice.Site.{Granules, InSlab, InMorph, InNewSlab}
-use Rattle.heap_model.specs.Choice.{Site, IsSite, range_of, slabs_with}
-use Rattle.pmem_lines.specs.Events.{reading}
-use Rattle.pmem_lines.specs.declared.event.Event.{Event}
-use Rattle.std.proofs.lemmas.Bool.{cases_eq}
-use Rattle.pmem_lines.specs.Pmem.{PmemState, words_of, began}
-use Rattle.image_tables.specs.Tables.{Tables, tables_of}
-use Rattle.size_classes.specs.Classes.{class_size, class_capacity}
 use Rattle.heap_model.specs.declared.call.Call.TheVariants as calls
 use Rattle.heap_model.specs.declared.call.Reply.TheVariants as replies
-use Rattle.heap_model.specs.Machine.{Bounds, slab_block, with_key}
-use Rattle.heap_model.proofs.Sites.{class_small}
-use Rattle.block_supply.specs.Supply.{Supply, HasNoOpen, HadNoOpen, IsOpen, HasSlabMore, HasSlabLess, TookBlock}
-use Rattle.arena_core.specs.declared.volatile.Volatile.{Volatile}
 use Rattle.arena_core.specs.declared.plan.Place.{Place}
 use Rattle.arena_core.specs.declared.plan.Place.TheVariants.{Large, Small, Morph, Fresh}
 use Rattle.std.specs.Option.{ok_or}
-use Rattle.heap_check.specs.Image.{bounds_of}
 use Rattle.arena_core.specs.declared.answer.MallocRefusal.{MallocRefusal}
 use Rattle.arena_core.specs.declared.answer.MallocRefusal.TheVariants.{NoRoot, Occupied, ZeroSize, TooLarge, NoSpace}
 use Rattle.arena_core.specs.declared.answer.Placed.{Placed}
-use Rattle.arena_core.specs.Answer.{malloc_reply}
-use Rattle.arena_core.specs.Carried.{IsCalled, IsHeldFor, MayOpen, MayTakeClass, IsDone, HasClassNow, IsSlabFor}
-use Rattle.attach_steps.specs.declared.block.SmallBlock.{SmallBlock}
-use Rattle.arena_core.specs.Arena.{IsArena}
-use Rattle.arena_core.specs.Plan.{IsAskedOf, IsPlacing, IsFound, IsSuppliedAt, IsSuppliedFor, IsPlanned, tables_view, IsBlockAs, number_of}
+use Rattle.arena_core.specs.Carried.{MayOpen, MayTakeClass}
+use Rattle.arena_core.specs.Plan.{IsFound, IsSuppliedAt, IsSuppliedFor, IsPlanned, IsBlockAs, number_of}
 use Rattle.arena_core.proofs.SmallCalls.{slabs_without}
 
 -- the plan names the place that was found

@@ -1,31 +1,17 @@
 -- What the reads before a call say of the tables of an exact image: the slabs of the set, the best fits of the vacant
 -- granules, and what a root names.
 use Rattle.std.proofs.Common.{◌≡◌, ◌≢◌, ℕ, ◌+◌, ◌-◌, ◌*◌, ◌/◌, ◌<◌, ◌≤◌, true, false, refl, sym, ap, subst, ◌∙◌, arith, inl, inr, ⊎_elim, true≢false, List, Some, None, ◌↔◌}
+use Rattle.arena_core.proofs.Common.{cases_eq, cond-true, class_size, class_capacity, class_size-least, class_size-most, Tables, tables_of, Bounds, Range, slab_block, IsBestSlab, HasNoFitSlab, IsBestFit, HasNoFit, SlabBlock, class_in, FreeSet, IsFree, is_large, entry_at, slabs, HoldsBit, IsUnusedIn, is_old, granules_at, IsVacant, IsInSlab, IsExact, bounds_of, IsExactImage, sizes_of, plain_size, IsClaim-word, granules_at-slab, granules_at-live, IsInSlab-held, IsWithin-claim, Holds-claim, IsIndexOf, IsSlabsOf, Supply, IsOpen, IsInNoSlabOf, HasNoOpen, IsAskedOf, IsVacantRow, tables_view, IsMorphable, IsPlacing, IsTakable, IsNamedSmall}
 use Rattle.std.proofs.lemmas.Nat.{le-div}
 use Rattle.std.proofs.Math.Nat.{mul-div_cancel}
-use Rattle.std.proofs.lemmas.Bool.{cases_eq, cond-true}
-use Rattle.size_classes.specs.Classes.{class_size, class_capacity, IsClassOf, granules_of}
-use Rattle.size_classes.proofs.Spacing.{class_size-least, class_size-most}
-use Rattle.image_tables.specs.Tables.{Tables, tables_of}
-use Rattle.heap_model.specs.Machine.{Bounds, Range, slab_block}
-use Rattle.heap_model.specs.Choice.{HasUnusedBlock, IsBestSlab, HasNoFitSlab, HasNoSite}
+use Rattle.size_classes.specs.Classes.{IsClassOf, granules_of}
+use Rattle.heap_model.specs.Choice.{HasUnusedBlock, HasNoSite}
 use Rattle.heap_model.proofs.Fits.{IsBestFit-same, HasNoFit-same, fit_free}
-use Rattle.heap_model.specs.Runs.{IsBestFit, HasNoFit}
-use Rattle.slab_index.specs.declared.block.SlabBlock.{SlabBlock}
-use Rattle.slab_index.specs.SlabSet.{class_in}
-use Rattle.extent_index.specs.FreeSet.{FreeSet, IsFree}
-use Rattle.heap_check.specs.Heap.{is_large, entry_at, slabs, HoldsBit, IsUnusedIn, is_old}
-use Rattle.heap_check.specs.Sound.{granules_at, IsVacant, IsInSlab, IsHeld, IsExact}
-use Rattle.heap_check.specs.Image.{bounds_of, IsExactImage}
-use Rattle.heap_check.proofs.Sizes.{sizes_of}
-use Rattle.heap_check.proofs.Claims.{plain_size, IsClaim-word}
-use Rattle.heap_check.proofs.Geometry.{granules_at-slab, granules_at-live, is_large-parts}
-use Rattle.heap_check.proofs.Within.{IsInSlab-held, IsWithin-claim}
-use Rattle.heap_check.proofs.SmallPlaces.{Holds-claim}
+use Rattle.heap_check.specs.Sound.{IsHeld}
+use Rattle.heap_check.proofs.Geometry.{is_large-parts}
 use Rattle.arena_core.specs.declared.plan.Place.TheVariants.{Large, Small, Morph, Fresh}
-use Rattle.arena_core.specs.Arena.{IsIndexOf, IsSlabsOf}
-use Rattle.block_supply.specs.Supply.{Supply, IsOpen, IsInSlabOf, IsInNoSlabOf, HasNoOpen}
-use Rattle.arena_core.specs.Plan.{IsAskedOf, IsVacantRow, tables_view, IsMorphable, IsPlacing, IsTakable, IsNamedSmall, IsSlabAt, IsRootIn}
+use Rattle.block_supply.specs.Supply.{IsInSlabOf}
+use Rattle.arena_core.specs.Plan.{IsSlabAt, IsRootIn}
 use Rattle.heap_check.proofs.LargeLogs.{large_many}
 use Rattle.heap_check.proofs.Small.{is_old-held}
 

@@ -1,12 +1,7 @@
 -- A memory that is ready: which events there is room for, and that it stays so.
 use Rattle.std.proofs.Common.{◌≡◌, ◌+◌, ◌≤◌, refl, arith}
-use Rattle.pmem_lines.specs.Events.{IsQuiet}
-use Rattle.pmem_lines.specs.Pmem.{PmemState, words_of}
+use Rattle.arena_core.proofs.Common.{IsQuiet, PmemState, words_of, version_in, layout_rules, bounds_of, IsFormed, IsReady}
 use Rattle.pool_layout.specs.Layout.{layout_of}
-use Rattle.pool_layout.specs.Header.{version_in}
-use Rattle.pool_layout.proofs.Layouts.{layout_rules}
-use Rattle.heap_check.specs.Image.{bounds_of, IsFormed}
-use Rattle.arena_core.specs.Call.{IsReady}
 
 -- it is ready again where it is quiet and its image has the same numbers
 pub ready_after : {old new : PmemState} → IsReady old → new.room ≡ old.room → IsQuiet new.events → IsFormed (words_of old) → IsFormed (words_of new) → bounds_of (words_of new) ≡ bounds_of (words_of old) → IsReady new

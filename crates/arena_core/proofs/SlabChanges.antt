@@ -1,34 +1,18 @@
 -- A slab comes or goes: what an arena keeps holds again.
 use Rattle.std.proofs.Common.{◌≡◌, ◌≢◌, ◌⊎◌, ◌↔◌, ◌==◌, ℕ, ◌+◌, ◌<◌, ◌≤◌, true, true≢false, List, sym, ap, subst, ◌∙◌, arith, inl, inr, ⊎_elim, Some, None, if◌then◌else◌, slice_index}
-use Rattle.std.proofs.lemmas.Bool.{cases_eq, cases_lt, cond-true, cond-false}
-use Rattle.size_classes.specs.Classes.{class_capacity}
-use Rattle.image_tables.specs.Tables.{Tables, tables_of}
-use Rattle.extent_index.specs.FreeSet.{FreeSet, IsFree, IsHeldRow}
-use Rattle.slab_index.specs.SlabSet.{class_in}
-use Rattle.block_supply.specs.Supply.{Supply, IsOpen, IsClearOf, HasSlabMore, HasSlabLess}
-use Rattle.heap_model.specs.Machine.{Bounds, with_key}
-use Rattle.heap_check.specs.Heap.{slabs, IsUnusedIn, heap}
-use Rattle.heap_check.specs.Sound.{IsInSlab, IsEmptySlab, IsExactBut, IsDoneSlab}
+use Rattle.arena_core.proofs.Common.{cases_eq, cases_lt, cond-true, cond-false, class_capacity, Tables, tables_of, FreeSet, IsFree, Supply, IsOpen, IsClearOf, HasSlabMore, HasSlabLess, Bounds, with_key, slabs, IsUnusedIn, heap, IsInSlab, IsEmptySlab, IsExactBut, IsDoneSlab, bounds_of, IsExactImage, IsExactButImage, KeepsBlocks, granules_at-slab, Covers-slab, sizes_of, Lives, calm_at, IsIndexOf, IsSlabsOf, AreCountsOf, AreLivesOf, live_in, calm_of, IsVacantRow, IsUnusedIn-same, live_below}
+use Rattle.extent_index.specs.FreeSet.{IsHeldRow}
 use Rattle.heap_check.specs.Slabs.{IsSlabMore, IsWithSlab}
-use Rattle.heap_check.specs.Image.{bounds_of, IsExactImage, IsExactButImage}
-use Rattle.heap_check.specs.State.{KeepsBlocks}
 use Rattle.heap_check.proofs.BlockWords.{block_word-header, block_word-vacant}
-use Rattle.heap_check.proofs.Geometry.{granules_at-slab, Covers-slab}
-use Rattle.heap_check.proofs.Sizes.{sizes_of}
 use Rattle.heap_check.proofs.SlabHeaps.{slabs-slab, slabs-none, slabs-other, IsVacant-slab, IsVacant-no_slab}
 use Rattle.heap_check.proofs.SlabPlaces.{IsSlabPlace-vacant, IsSlabPlace-empty}
 use Rattle.heap_check.proofs.Slabs.{IsSlabPlace, holds_none-fresh}
 use Rattle.extent_steps.specs.Slabs.{IsOpened, IsDropped}
 use Rattle.extent_steps.proofs.Images.{keeps_blocks}
-use Rattle.slab_lives.specs.Lives.{Lives, calm_at}
-use Rattle.arena_core.specs.Arena.{IsIndexOf, IsSlabsOf, AreCountsOf, AreLivesOf, live_in, calm_of}
-use Rattle.arena_core.specs.Plan.{IsVacantRow}
 use Rattle.arena_core.proofs.Plans.{slab_parts}
 use Rattle.arena_core.proofs.UnusedBlocks.{iff_then, iff_back}
-use Rattle.heap_check.proofs.SameSlabs.{IsUnusedIn-same}
 use Rattle.arena_core.proofs.LiveCounts.{counts_kept, live_none}
 use Rattle.arena_core.proofs.LiveSlabs.{calm_normal, calm_none, calm_same, lives_put}
-use Rattle.heap_model.specs.Slabs.{live_below}
 use Rattle.arena_core.proofs.Arenas.{index_by, index_less, index_more}
 use Rattle.arena_core.proofs.Maps.{with_key-is}
 
@@ -68,9 +52,6 @@ module _ (words : List ℕ) (start class : ℕ) (exact : IsExactImage words) (ro
         (λ (far : start + 4 ≤ other). inl far)
         (cases_lt other (start + 4));
   }
-
-  pub fresh_opened : (set : Supply) → IsSlabsOf set words → class_in set.slabs start ≡ None
-  fresh_opened set was = was.classes start ∙ cond-false (t.slab start) (Some (t.class start)) None with_it.more.none
 
   pub slabs_opened : (set more : Supply) → HasSlabMore set more start class (λ i. i < class_capacity class) → IsSlabsOf set words → IsSlabsOf more new
   slabs_opened set more added was = record {

@@ -1,27 +1,14 @@
 -- A small block and its root come or go: what an arena keeps holds again.
 use Rattle.std.proofs.Common.{refl, true, true≢false, ◌≡◌, ◌≢◌, ◌⊎◌, ◌↔◌, ℕ, ◌<◌, Bool, List, sym, ap, subst, ◌∙◌, arith, inl, inr, ⊎_elim, None}
-use Rattle.std.proofs.lemmas.Bool.{cases_eq}
-use Rattle.size_classes.specs.Classes.{class_capacity}
-use Rattle.image_tables.specs.Tables.{Tables, tables_of}
+use Rattle.arena_core.proofs.Common.{cases_eq, class_capacity, Tables, tables_of, put_at-other, FreeSet, IsFree, Supply, IsOpen, IsWith, Bounds, slab_block, Range, slabs, IsUnusedIn, Holds, IsVacant, bounds_of, sizes_of, SmallBlock, IsBlockIn, IsDetachable, IsDetached, IsIndexOf, IsSlabsOf, IsSameSlab, class_size-least, calm_but, IsUnusedIn-same}
 use Rattle.image_tables.specs.Updates.{with_small, put_in}
-use Rattle.image_tables.proofs.Updates.{put_in-same, put_at-other}
-use Rattle.extent_index.specs.FreeSet.{FreeSet, IsFree}
-use Rattle.block_supply.specs.Supply.{Supply, IsOpen, IsWithout, IsWith}
-use Rattle.heap_model.specs.Machine.{Bounds, slab_block, Range}
-use Rattle.heap_check.specs.Heap.{slabs, IsUnusedIn, Holds}
-use Rattle.heap_check.specs.Sound.{IsVacant}
-use Rattle.heap_check.specs.Image.{bounds_of}
-use Rattle.heap_check.proofs.Sizes.{sizes_of}
+use Rattle.image_tables.proofs.Updates.{put_in-same}
+use Rattle.block_supply.specs.Supply.{IsWithout}
 use Rattle.heap_check.proofs.Small.{Holds-back, Holds-forth, blocks_apart}
-use Rattle.attach_steps.specs.declared.block.SmallBlock.{SmallBlock}
-use Rattle.attach_steps.specs.Steps.{IsBlockIn, IsDetachable, IsDetached}
-use Rattle.arena_core.specs.Arena.{IsIndexOf, IsSlabsOf, AreSlabsLess}
-use Rattle.heap_check.specs.Slabs.{IsSameSlab}
+use Rattle.arena_core.specs.Arena.{AreSlabsLess}
 use Rattle.heap_check.proofs.OneBlock.{stage_of, IsVacant-one}
-use Rattle.size_classes.proofs.Spacing.{class_size-least}
 use Rattle.arena_core.proofs.UnusedBlocks.{iff_then, unused_apart, unused_freed, iff_back}
-use Rattle.heap_check.proofs.SmallPlaces.{IsSmallPlace-named, clear_unused, calm_but}
-use Rattle.heap_check.proofs.SameSlabs.{IsUnusedIn-same}
+use Rattle.heap_check.proofs.SmallPlaces.{IsSmallPlace-named, clear_unused}
 use Rattle.arena_core.proofs.Arenas.{index_by}
 
 -- the tables are others in which a block is held or not, with its root's word

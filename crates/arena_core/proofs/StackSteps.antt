@@ -1,26 +1,12 @@
 -- What a malloc takes of the stacks, and what a free puts back, is what the placement says.
 use Rattle.std.proofs.Common.{◌≡◌, ◌≢◌, ◌==◌, ◌&&◌, ◌||◌, not, ℕ, zero, suc, ◌+◌, ◌*◌, ◌<◌, ◌≤◌, ◌⊎◌, ◌↔◌, Bool, true, false, List, [], ◌∷◌, length, Option, Some, None, if◌then◌else◌, refl, sym, ap, ◌∙◌, subst, arith, inl, inr, ⊎_elim}
-use Rattle.std.proofs.lemmas.Bool.{cases_eq, cases_lt, cond-true, and_from, and_left, le-leb, lt-ltb}
+use Rattle.arena_core.proofs.Common.{cases_eq, cases_lt, cond-true, and_from, and_left, le-leb, lt-ltb, class_size, class_capacity, class_size-most, class_size-rises, any_below, Bounds, Range, Machine, with_key, slab_block, IsUnused, IsFreeGranule, IsBestFit, IsBestSlab, HasNoFitSlab, view_of, with_key-here, with_key-other, class_known, SlabBlock, class_in, stacks_of, Supply, IsOpen, supply_view, TookBlock, HasNoOpen, Tables, IsUnusedIn, stacks_but, IsPutBack, IsSuppliedFresh, IsSuppliedMorph}
 use Rattle.std.specs.List.{filter}
-use Rattle.size_classes.specs.Classes.{class_size, class_capacity}
-use Rattle.size_classes.proofs.Spacing.{class_size-most, class_size-rises}
-use Rattle.heap_model.specs.Below.{any_below}
-use Rattle.heap_model.specs.Machine.{Bounds, Range, Machine, with_key, slab_block, IsBlockOf, IsUnused, IsFreeGranule, IsOverlapFree}
-use Rattle.heap_model.specs.Runs.{IsBestFit}
-use Rattle.heap_model.specs.Choice.{IsBestSlab, HasNoFitSlab}
-use Rattle.heap_model.specs.Slabs.{is_within, view_of}
-use Rattle.heap_model.specs.Placement.{Stacks, with_stack, with_class, without_slab, without_left, has_left, HasAvailable, IsRefill, IsMorphRefill, IsNewRefill, IsWay, IsKeepable, IsReturned}
-use Rattle.heap_model.proofs.Maps.{with_key-here, with_key-other}
-use Rattle.heap_model.proofs.Sites.{class_known}
-use Rattle.slab_index.specs.declared.block.SlabBlock.{SlabBlock}
-use Rattle.slab_index.specs.SlabSet.{class_in}
-use Rattle.thread_cache.specs.Stacks.{stacks_of}
-use Rattle.block_supply.specs.Supply.{Supply, IsOpen, supply_view, TookBlock, HasNoOpen}
-use Rattle.block_supply.proofs.Takes.{no_top, none_available}
-use Rattle.block_supply.proofs.Views.{AgreeOnBlocks, AgreeOnBlocks-back, HasAvailable-by, IsRefill-by, IsServed-by}
-use Rattle.image_tables.specs.Tables.{Tables}
-use Rattle.heap_check.specs.Heap.{IsUnusedIn}
-use Rattle.arena_core.specs.Effect.{stacks_but, IsPutBack, IsSuppliedFresh, IsSuppliedMorph}
+use Rattle.heap_model.specs.Machine.{IsBlockOf, IsOverlapFree}
+use Rattle.heap_model.specs.Slabs.{is_within}
+use Rattle.heap_model.specs.Placement.{Stacks, with_stack, with_class, without_slab, without_left, has_left, IsRefill, IsMorphRefill, IsNewRefill, IsWay, IsKeepable, IsReturned}
+use Rattle.block_supply.proofs.Takes.{no_top}
+use Rattle.block_supply.proofs.Views.{AgreeOnBlocks, IsRefill-by, IsServed-by}
 use Rattle.arena_core.proofs.Maps.{with_key-twice}
 
 -- malloc
@@ -32,9 +18,6 @@ module _ (b : Bounds) (m : Machine) (was next : Supply) (seat class : ℕ) (agre
       (λ own. inl own)
       (λ rest. inr (rest.0, ⊎_elim (λ some. inl some) (λ none. inr (none.0, inl none.1)) rest.1))
       (IsServed-by (supply_view was) (view_of b m) agree (stacks_of was.stacks) seat class (slab_block block.start class block.number).at (stacks_of next.stacks) took.served)
-
-  none_available_of : HasNoOpen was class → ¬ (HasAvailable (view_of b m) (stacks_of was.stacks) class)
-  none_available_of none has = none_available was class none.used (HasAvailable-by (view_of b m) (supply_view was) (AgreeOnBlocks-back (supply_view was) (view_of b m) agree) (stacks_of was.stacks) class has)
 
   -- where no block of the class is open, a slab takes the class or is made for it
   way_anew : HasNoOpen was class → (at : ℕ) → IsMorphRefill b (record { machine = m; stacks = stacks_of was.stacks }) seat class at (stacks_of next.stacks) ⊎ IsNewRefill b (record { machine = m; stacks = stacks_of was.stacks }) seat class at (stacks_of next.stacks) →

@@ -1,36 +1,14 @@
 -- A block of a slab came to a root, or went from it: what an arena keeps holds again.
 use Rattle.std.proofs.Common.{◌≡◌, ℕ, [], ◌+◌, ◌%◌, ◌<◌, ◌≤◌, Bool, true, false, List, length, slice_index, Some, None, refl, sym, ap, subst, ◌∙◌, arith, ◌++◌, inr}
+use Rattle.arena_core.proofs.Common.{Event, reading, PmemState, words_of, IsQuietStep, Tables, tables_of, put_at-same, put_at-other, Supply, IsWith, Bounds, Range, slab_block, heap, slabs, IsInSlab, IsSound, bounds_of, IsExactButImage, IsEitherHeap, granules_at-slab, sizes_of, KeepsOthers, IsDetachable, IsDetached, IsOldDetachable, IsOldDetached, detach_events, detach_old_events, Volatile, Lives, IsSlabsOf, IsCurrent, live_in, AreLivesOf, old_range, IsArena, calm_of, IsDone, IsTaken, IsTidied, HaveOneMore, IsLastOf, slabs_but, holds_none, tidy_events, SmallBlock, OldBlock, IsInSlab-held}
 use Rattle.arena_core.proofs.Readiness.{ready_after}
-use Rattle.pmem_lines.specs.declared.event.Event.{Event}
-use Rattle.pmem_lines.specs.Events.{reading}
-use Rattle.pmem_lines.specs.Pmem.{PmemState, words_of}
-use Rattle.pmem_lines.specs.Steps.{IsQuietStep}
-use Rattle.image_tables.specs.Tables.{Tables, tables_of}
-use Rattle.image_tables.proofs.Updates.{put_at-same, put_at-other}
-use Rattle.block_supply.specs.Supply.{Supply, IsWith}
-use Rattle.heap_model.specs.Machine.{Bounds, Range, slab_block}
-use Rattle.heap_check.specs.Heap.{heap, slabs}
-use Rattle.heap_check.specs.Sound.{IsInSlab, IsSound}
-use Rattle.heap_check.specs.Image.{bounds_of, IsExactButImage}
-use Rattle.heap_check.specs.State.{IsEitherHeap}
-use Rattle.heap_check.proofs.Geometry.{granules_at-slab}
 use Rattle.heap_check.proofs.OneBlock.{stage_of}
-use Rattle.heap_check.proofs.Sizes.{sizes_of}
-use Rattle.attach_steps.specs.Steps.{KeepsOthers, GivesOne, IsDetachable, IsDetached, IsOldDetachable, IsOldDetached, detach_events, detach_old_events}
-use Rattle.arena_core.specs.declared.volatile.Volatile.{Volatile}
-use Rattle.slab_lives.specs.Lives.{Lives}
-use Rattle.arena_core.specs.Arena.{IsSlabsOf, IsCurrent, live_in, AreLivesOf, old_range, IsArena, calm_of}
-use Rattle.arena_core.specs.Carried.{IsDone, IsTaken, IsTidied, HaveOneMore}
-use Rattle.arena_core.specs.Effect.{IsLastOf, slabs_but}
-use Rattle.arena_core.specs.Events.{holds_none, tidy_events}
+use Rattle.attach_steps.specs.Steps.{GivesOne}
 use Rattle.arena_core.proofs.BlockChanges.{IsBlockChange, book_small, keeps_small, change_bit, change_index}
 use Rattle.arena_core.proofs.HeapSteps.{keeps_both, steps_then}
 use Rattle.arena_core.proofs.LastBlocks.{last_of}
 use Rattle.arena_core.proofs.LiveCounts.{IsOneMore, begins_only, live_most, one_more}
 use Rattle.arena_core.proofs.SmallCalls.{classes_small, index_small, bits_with, lives_as, bits_as, lives_with, slabs_with, slabs_less, slabs_missing, named_used, unused_taken}
-use Rattle.attach_steps.specs.declared.block.SmallBlock.{SmallBlock}
-use Rattle.attach_steps.specs.declared.block.OldBlock.{OldBlock}
-use Rattle.heap_check.proofs.Within.{IsInSlab-held}
 use Rattle.arena_core.proofs.HeldBlocks.{heap_held, class_holds, old_holds}
 
 -- a slab lies in the arena, so its number of live blocks is one of the counts, and small

@@ -1,25 +1,10 @@
 -- Behind a block that went its slab is dropped where it holds none, and its transition ends where no old one is left.
 use Rattle.std.proofs.Common.{◌≡◌, ◌≢◌, ◌↔◌, ◌==◌, ℕ, ◌<◌, Bool, true, false, true≢false, not, List, [], slice_index, refl, sym, ap, subst, ◌∙◌, arith, inl, ⊎_elim, Some, None, if◌then◌else◌}
+use Rattle.arena_core.proofs.Common.{cases_Bool, cases_eq, cond-true, cond-false, eq-eqb, eqb-true, and_from, and_parts, false_from_ne_true, PmemState, words_of, IsQuietStep, step_by, step_none, step_wider, morphed_kind, Tables, tables_of, Bounds, with_key, any_below, slabs, IsUnusedIn, heap, IsDoneSlab, IsInSlab, bounds_of, IsExactImage, IsSteadyImage, IsSteady-but, Volatile, Lives, calm_at, IsSlabsOf, AreCountsOf, calm_of, IsTidied, slabs_but, holds_none, tidy_events, live_below, calm_but, header_of, put_at-same, put_at-own, HasNoMove-closed, class_capacity}
 use Rattle.arena_core.proofs.Readiness.{ready_after}
-use Rattle.std.proofs.lemmas.Bool.{cases_Bool, cases_eq, cond-true, cond-false, eq-eqb, eqb-true, and_from, and_parts, false_from_ne_true}
-use Rattle.pmem_lines.specs.Pmem.{PmemState, words_of}
-use Rattle.pmem_lines.specs.Steps.{IsQuietStep}
-use Rattle.pmem_lines.proofs.Steps.{step_by, step_none, step_wider}
-use Rattle.image_tables.specs.Forms.{morphed_kind}
-use Rattle.image_tables.specs.Tables.{Tables, tables_of}
-use Rattle.heap_model.specs.Machine.{Bounds, with_key}
-use Rattle.heap_model.specs.Below.{any_below}
-use Rattle.heap_check.specs.Heap.{slabs, IsUnusedIn, heap}
-use Rattle.heap_check.specs.Sound.{IsDoneSlab, IsInSlab}
-use Rattle.heap_check.specs.Image.{bounds_of, IsExactImage, IsSteadyImage}
-use Rattle.heap_check.proofs.Blank.{IsSteady-but}
 use Rattle.transition_steps.specs.Transitions.{end_events, IsEndable, LeavesEntry, IsEnded}
-use Rattle.arena_core.specs.declared.volatile.Volatile.{Volatile}
-use Rattle.slab_lives.specs.Lives.{Lives, calm_at}
-use Rattle.arena_core.specs.Arena.{IsSlabsOf, AreCountsOf, calm_of}
-use Rattle.arena_core.specs.Carried.{IsUntidy, IsTidied}
-use Rattle.arena_core.specs.Effect.{slabs_but}
-use Rattle.arena_core.specs.Events.{holds_none, is_done, tidy_events}
+use Rattle.arena_core.specs.Carried.{IsUntidy}
+use Rattle.arena_core.specs.Events.{is_done}
 use Rattle.arena_core.proofs.Arenas.{same_heap}
 use Rattle.arena_core.proofs.ChangedHeaders.{IsHeaderChange, row, book_header, index_header, unused_header}
 use Rattle.arena_core.proofs.LastBlocks.{none_by_tests, some_by_tests, rooted_by_tests}
@@ -29,13 +14,7 @@ use Rattle.arena_core.proofs.SlabChanges.{exact_held}
 use Rattle.heap_model.proofs.Below.{any_below-each, any_below-some}
 use Rattle.arena_core.proofs.Tests.{not_true}
 use Rattle.arena_core.proofs.UnusedBlocks.{iff_then}
-use Rattle.heap_model.specs.Slabs.{live_below}
-use Rattle.heap_check.proofs.SmallPlaces.{calm_but}
-use Rattle.slab_morph.specs.SlabHeaders.{header_of}
 use Rattle.slab_morph.specs.Stages.{settled}
-use Rattle.image_tables.proofs.Updates.{put_at-same, put_at-own}
-use Rattle.image_tables.proofs.Stores.{HasNoMove-closed}
-use Rattle.size_classes.specs.Classes.{class_capacity}
 
 -- the test of a slab that is done
 pub done_by_test : (t : Tables) (start : ℕ) → IsDoneSlab t start → is_done t start ≡ true

@@ -1,14 +1,6 @@
 -- Which blocks of a slab's class are unused once one of its blocks comes or goes.
-use Rattle.std.proofs.Common.{◌≡◌, ◌≢◌, ◌⊎◌, ◌↔◌, ℕ, ◌<◌, Bool, true, false, None, sym, ap, subst, ◌∙◌, ⊎_elim, arith}
-use Rattle.std.proofs.lemmas.Bool.{cases_eq}
-use Rattle.size_classes.specs.Classes.{class_capacity}
-use Rattle.image_tables.specs.Forms.{normal_kind}
-use Rattle.image_tables.specs.Tables.{Tables}
-use Rattle.heap_model.specs.Machine.{Bounds, Range, AreApart, slab_block}
-use Rattle.heap_check.specs.Heap.{entry_at, heap, IsClaim, Holds, IsUnusedIn}
-use Rattle.heap_check.specs.Sound.{IsSound}
-use Rattle.heap_check.proofs.Heaps.{heap-claim, IsClaim-heap}
-use Rattle.slab_morph.proofs.UnusedBlocks.{unused_by}
+use Rattle.std.proofs.Common.{◌≡◌, ◌≢◌, ◌⊎◌, ◌↔◌, ℕ, None, sym, ap, subst, ◌∙◌, ⊎_elim}
+use Rattle.arena_core.proofs.Common.{cases_eq, Tables, Bounds, Range, AreApart, slab_block, entry_at, heap, IsClaim, Holds, IsUnusedIn, IsSound, heap-claim, IsClaim-heap}
 
 -- one claim follows from another and back
 pub iff_then : {A B C : Type 0} → A ↔ B → B ↔ C → A ↔ C
@@ -17,10 +9,6 @@ iff_then one two = (λ a. two.0 (one.0 a), λ c. one.1 (two.1 c))
 -- the other way round
 pub iff_back : {A B : Type 0} → A ↔ B → B ↔ A
 iff_back iff = (iff.1, iff.0)
-
--- a test with the same answer
-pub iff_same : {A : Type 0} {x y : Bool} → x ≡ y → (y ≡ true) ↔ A → (x ≡ true) ↔ A
-iff_same same iff = (λ is. iff.0 (sym same ∙ is), λ a. same ∙ iff.1 a)
 
 -- What a slab holds is the same but for one block: a block that is apart from it is unused before and after, or neither.
 pub unused_apart : {t new : Tables} {start : ℕ} {block : Range} → ((range : Range) → Holds new start range → Holds t start range ⊎ (range ≡ block)) →
@@ -43,11 +31,3 @@ unused_freed {b} {t} {new} sound new_closed closed root block gone others apart 
     (λ (own : owner.0 ≡ root). absurd (let none : heap new owner.0 ≡ None = ap (heap new) own ∙ gone in cc))
     (λ (differ : owner.0 ≢ root). apart owner.0 range differ (IsClaim-heap t owner.0 range (ap (λ e. entry_at e owner.0) closed) (sym (others owner.0 differ) ∙ named)))
     (cases_eq owner.0 root)
-
--- in a normal slab the bit alone says it
-pub unused_normal : {b : Bounds} {t : Tables} → IsSound b t → (start number : ℕ) → t.slab start ≡ true → t.kind start ≡ normal_kind → number < class_capacity (t.class start) → t.bit start number ≡ false →
-    IsUnusedIn t start (t.class start) number
-unused_normal {b} {t} sound start number slab normal below clear =
-    let valid = sound.slabs start slab in
-    let none = (valid.state.none normal).1 in
-    unused_by t start number slab valid below (λ calm. clear) (λ place under live. absurd (omega (arith, under, none)))

@@ -1,14 +1,8 @@
 use Rattle.std.proofs.Common.{◌/◌, sym, subst, ◌∙◌, arith}
-use Rattle.pmem_lines.specs.Pmem.{words_of}
-use Rattle.image_tables.specs.Tables.{tables_of}
-use Rattle.slab_index.specs.SlabSet.{class_in}
-use Rattle.heap_check.proofs.Geometry.{granules_at-slab}
-use Rattle.heap_check.proofs.Sizes.{sizes_of}
-use Rattle.block_supply.specs.Supply.{IsInNoSlabOf}
+use Rattle.arena_core.proofs.Common.{words_of, tables_of, class_in, granules_at-slab, sizes_of, IsInNoSlabOf, IsInSlab}
 use Rattle.arena_core.proofs.AdoptedSlabs.{counted_same, counted_word, counted_few, begins_none, begins_outside}
 use Rattle.arena_core.proofs.Plans.{root_in}
 use Rattle.arena_core.proofs.adopting.count_root.Goals as goal
-use Rattle.heap_check.specs.Sound.{IsInSlab}
 
 pub raise-requires-clause-inside : goal.raise-requires-clause-inside
 raise-requires-clause-inside g c =

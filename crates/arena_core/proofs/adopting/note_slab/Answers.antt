@@ -1,5 +1,5 @@
 use Rattle.std.proofs.Common.{sym, arith}
-use Rattle.pmem_lines.specs.Pmem.{words_of}
+use Rattle.arena_core.proofs.Common.{words_of}
 use Rattle.arena_core.proofs.HeldBlocks.{slab_here}
 use Rattle.arena_core.proofs.Plans.{slab_of_set}
 use Rattle.arena_core.proofs.adopting.note_slab.Goals as goal

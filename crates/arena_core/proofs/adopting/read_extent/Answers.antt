@@ -1,11 +1,6 @@
 use Rattle.std.proofs.Common.{◌+◌, ◌∙◌, Some, sym, subst, arith}
-use Rattle.pmem_lines.specs.Pmem.{words_of}
+use Rattle.arena_core.proofs.Common.{words_of, tables_of, start_of, IsFreeRow, IsFree, IsReadBelow}
 use Rattle.image_tables.specs.declared.extent.Extent.TheVariants as extent
-use Rattle.image_tables.specs.Tables.{tables_of}
-use Rattle.book_log.specs.Entry.{start_of}
-use Rattle.heap_model.specs.Runs.{IsFreeRow}
-use Rattle.extent_index.specs.FreeSet.{IsFree}
-use Rattle.arena_core.specs.Adopting.{IsReadBelow}
 use Rattle.arena_core.proofs.AdoptedExtents.{clear_read, not_below, next_large, next_slab, extent_some, large_size, slab_size, slab_is, read_row, IsReadBelow-large, IsReadBelow-slab}
 use Rattle.arena_core.proofs.adopting.read_extent.Goals as goal
 

@@ -1,12 +1,5 @@
 use Rattle.std.proofs.Common.{◌≡◌, ◌↔◌, ◌+◌, ◌<◌, ◌≤◌, ℕ, subst, sym, ap, refl, ◌∙◌, arith}
-use Rattle.pmem_lines.specs.Pmem.{words_of}
-use Rattle.pool_layout.specs.declared.layout.Layout.{Layout}
-use Rattle.pool_layout.specs.Layout.{layout_of}
-use Rattle.pool_layout.specs.Header.{version_in}
-use Rattle.pool_layout.proofs.Layouts.{layout_rules}
-use Rattle.extent_index.specs.FreeSet.{IsFree}
-use Rattle.arena_core.specs.Adopting.{IsReadBelow}
-use Rattle.heap_check.proofs.Sizes.{sizes_of}
+use Rattle.arena_core.proofs.Common.{words_of, Layout, layout_of, version_in, layout_rules, IsFree, IsReadBelow, sizes_of}
 use Rattle.arena_core.proofs.AdoptedExtents.{IsReadBelow-first, extent_below, index_read, slabs_read}
 use Rattle.arena_core.proofs.adopting.read_image.Given as given
 use Rattle.arena_core.proofs.adopting.read_image.Goals as goal

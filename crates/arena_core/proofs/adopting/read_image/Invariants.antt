@@ -1,6 +1,5 @@
 use Rattle.std.proofs.Common.{◌≡◌, ◌-◌, ◌≤◌}
-use Rattle.pmem_lines.specs.Pmem.{words_of}
-use Rattle.arena_core.specs.Adopting.{IsReadBelow}
+use Rattle.arena_core.proofs.Common.{words_of, IsReadBelow}
 use Rattle.arena_core.proofs.adopting.read_image.Given as goal
 
 abbrev pub invariant-loop-extent : goal.invariant-loop-extent

@@ -1,8 +1,6 @@
 use Rattle.std.proofs.Common.{◌≡◌, ℕ, None}
-use Rattle.pmem_lines.specs.Pmem.{words_of}
-use Rattle.slab_lives.specs.Lives.{calm_at}
-use Rattle.arena_core.specs.Arena.{AreCountsOf}
-use Rattle.arena_core.specs.Adopting.{HasCounted, HasNoted}
+use Rattle.arena_core.proofs.Common.{words_of, calm_at, AreCountsOf, HasCounted}
+use Rattle.arena_core.specs.Adopting.{HasNoted}
 use Rattle.arena_core.proofs.adopting.read_lives.Given as goal
 
 abbrev pub invariant-loop-root : goal.invariant-loop-root

@@ -1,5 +1,5 @@
 use Rattle.std.proofs.Common.{◌≡◌, ◌/◌, arith}
-use Rattle.pmem_lines.specs.Pmem.{words_of}
+use Rattle.arena_core.proofs.Common.{words_of}
 use Rattle.arena_core.proofs.AdoptedSlabs.{class_read, with_slab}
 use Rattle.arena_core.proofs.HeldBlocks.{slab_here}
 use Rattle.arena_core.proofs.adopting.read_slab.Goals as goal

@@ -1,5 +1,5 @@
 use Rattle.std.proofs.Common.{◌==◌, refl, ◌∙◌, arith}
-use Rattle.std.proofs.lemmas.Bool.{cond-true, eq-eqb}
+use Rattle.arena_core.proofs.Common.{cond-true, eq-eqb}
 use Rattle.arena_core.proofs.LiveCounts.{one_less}
 use Rattle.arena_core.proofs.carrying.lower.Goals as goal
 

@@ -1,10 +1,5 @@
 use Rattle.std.proofs.Common.{◌≡◌, ◌↔◌, IsTrue, ◌+◌, ◌/◌, ◌≤◌, true≢false, Some, None, refl, sym, ap, subst, ◌∙◌, arith}
-use Rattle.std.proofs.lemmas.Bool.{cond-true}
-use Rattle.pmem_lines.specs.Pmem.{words_of}
-use Rattle.size_classes.specs.Classes.{class_capacity}
-use Rattle.image_tables.specs.Tables.{tables_of}
-use Rattle.block_supply.specs.Supply.{Supply}
-use Rattle.heap_check.specs.Heap.{IsUnusedIn}
+use Rattle.arena_core.proofs.Common.{cond-true, words_of, class_capacity, tables_of, Supply, IsUnusedIn}
 use Rattle.slab_morph.specs.Overlaps.{IsOverlapRange}
 use Rattle.arena_core.proofs.CoveredBlocks.{AreGiven, given_first, given_next, given_none, given_all}
 use Rattle.arena_core.proofs.HeldBlocks.{slab_here}

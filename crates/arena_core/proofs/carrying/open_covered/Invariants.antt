@@ -1,5 +1,5 @@
 use Rattle.std.proofs.Common.{◌≡◌}
-use Rattle.pmem_lines.specs.Pmem.{words_of}
+use Rattle.arena_core.proofs.Common.{words_of}
 use Rattle.arena_core.proofs.CoveredBlocks.{AreGiven}
 use Rattle.arena_core.proofs.carrying.open_covered.Given as goal
 

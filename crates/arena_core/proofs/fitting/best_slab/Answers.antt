@@ -1,7 +1,6 @@
 use Rattle.std.proofs.Common.{◌<◌, Option, Some, IfSome, subst, sym, arith, length}
+use Rattle.arena_core.proofs.Common.{sizes_of, words_of}
 use Rattle.slab_index.specs.declared.candidates.Candidate.{Candidate}
-use Rattle.heap_check.proofs.Sizes.{sizes_of}
-use Rattle.pmem_lines.specs.Pmem.{words_of}
 use Rattle.arena_core.proofs.BestSlabs.{IsSought, left_behind, first_sought, next_sought, best_sought, sparse_slab, smaller}
 use Rattle.arena_core.proofs.fitting.best_slab.Given as given
 use Rattle.arena_core.proofs.fitting.best_slab.Goals as goal

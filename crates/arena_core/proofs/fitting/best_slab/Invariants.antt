@@ -1,5 +1,5 @@
 use Rattle.std.proofs.Common.{◌<◌, IfSome, length}
-use Rattle.pmem_lines.specs.Pmem.{words_of}
+use Rattle.arena_core.proofs.Common.{words_of}
 use Rattle.arena_core.proofs.BestSlabs.{IsSought, left_behind}
 use Rattle.arena_core.proofs.fitting.best_slab.Given as goal
 

@@ -1,7 +1,5 @@
 use Rattle.std.proofs.Common.{length, subst, arith}
-use Rattle.pmem_lines.specs.Pmem.{words_of}
-use Rattle.image_tables.specs.Tables.{tables_of}
-use Rattle.arena_core.specs.Payload.{IsWritable, IsWritePlan}
+use Rattle.arena_core.proofs.Common.{words_of, tables_of, IsWritable, IsWritePlan}
 use Rattle.arena_core.proofs.PayloadCalls.{carried_words, carried_none}
 use Rattle.arena_core.proofs.payload.carry_out_write.Goals as goal
 

@@ -1,6 +1,5 @@
 use Rattle.std.proofs.Common.{subst}
-use Rattle.arena_core.specs.Plan.{IsHeldBy}
-use Rattle.heap_model.proofs.Sites.{class_known}
+use Rattle.arena_core.proofs.Common.{IsHeldBy, class_known}
 use Rattle.arena_core.proofs.plan.freed_of.Goals as goal
 
 -- a slab has blocks of a class alone

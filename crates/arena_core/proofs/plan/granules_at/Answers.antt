@@ -1,6 +1,5 @@
 use Rattle.std.proofs.Common.{◌≡◌, rules}
-use Rattle.image_tables.specs.Tables.{tables_of}
-use Rattle.book_log.specs.declared.entry.LogEntry.TheVariants.{Large}
+use Rattle.arena_core.proofs.Common.{tables_of, Large}
 use Rattle.arena_core.proofs.Blocks.{next_large}
 use Rattle.arena_core.proofs.plan.granules_at.Goals as goal
 

@@ -1,7 +1,5 @@
 use Rattle.std.proofs.Common.{◌≡◌, ◌/◌, false, sym, ap, subst, ◌∙◌, arith}
-use Rattle.pmem_lines.specs.Pmem.{words_of}
-use Rattle.image_tables.specs.Tables.{tables_of}
-use Rattle.heap_check.specs.Heap.{is_old}
+use Rattle.arena_core.proofs.Common.{words_of, tables_of, is_old}
 use Rattle.slab_morph.specs.SlabHeaders.{IsOldAt}
 use Rattle.arena_core.proofs.HeldBlocks.{slab_here}
 use Rattle.arena_core.proofs.Plans.{block_at_root, IsNamedSmall-block}

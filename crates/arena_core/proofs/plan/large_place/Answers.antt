@@ -1,6 +1,5 @@
 use Rattle.std.proofs.Common.{subst}
-use Rattle.heap_model.specs.Runs.{HasNoFit}
-use Rattle.extent_index.specs.FreeSet.{IsFree}
+use Rattle.arena_core.proofs.Common.{HasNoFit, IsFree}
 use Rattle.arena_core.proofs.Plans.{IsPlacing-large, HasNoSite-large}
 use Rattle.arena_core.proofs.plan.large_place.Goals as goal
 

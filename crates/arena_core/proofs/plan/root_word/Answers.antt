@@ -1,11 +1,6 @@
 use Rattle.std.proofs.Common.{◌≡◌, ◌/◌, sym, ap, ◌∙◌, arith}
-use Rattle.pmem_lines.specs.Words.{word_at}
-use Rattle.pmem_lines.specs.Pmem.{words_of}
-use Rattle.pool_layout.specs.Places.{root_word}
-use Rattle.image_tables.specs.Tables.{tables_of}
-use Rattle.heap_check.proofs.Sizes.{sizes_of, root_inside}
+use Rattle.arena_core.proofs.Common.{word_at, words_of, root_word, tables_of, sizes_of, root_inside, HasNoMove-closed}
 use Rattle.image_tables.proofs.Tables.{root_table}
-use Rattle.image_tables.proofs.Stores.{HasNoMove-closed}
 use Rattle.arena_core.proofs.Plans.{word-small}
 use Rattle.arena_core.proofs.plan.root_word.Goals as goal
 

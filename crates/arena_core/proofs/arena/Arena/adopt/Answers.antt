@@ -1,6 +1,5 @@
-use Rattle.pmem_lines.specs.Pmem.{words_of}
+use Rattle.arena_core.proofs.Common.{words_of, heap_inside}
 use Rattle.book_log.proofs.Places.{within_heap}
-use Rattle.heap_check.proofs.Sizes.{heap_inside}
 use Rattle.arena_core.proofs.arena.Arena.adopt.Goals as goal
 
 pub load-requires-clause-inside : goal.load-requires-clause-inside

@@ -1,9 +1,6 @@
 use Rattle.std.proofs.Common.{◌≡◌, Some, None, refl, subst}
-use Rattle.pmem_lines.specs.Pmem.{words_of}
-use Rattle.image_tables.specs.Tables.{tables_of}
-use Rattle.heap_check.specs.Heap.{heap}
-use Rattle.arena_core.specs.Arena.{ArenaState, IsBlockOfRoot}
-use Rattle.arena_core.specs.Payload.{HasBlockAt, range_of_block}
+use Rattle.arena_core.proofs.Common.{words_of, tables_of, heap, ArenaState, HasBlockAt, range_of_block}
+use Rattle.arena_core.specs.Arena.{IsBlockOfRoot}
 use Rattle.arena_core.proofs.PayloadCalls.{block_refused}
 use Rattle.arena_core.proofs.arena.Arena.block.Goals as goal
 

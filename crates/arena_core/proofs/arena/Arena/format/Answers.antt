@@ -1,10 +1,7 @@
 use Rattle.std.proofs.Common.{◌↔◌, ◌<◌, ◌≤◌, ℕ, ◌∙◌, sym, ap, subst, arith}
-use Rattle.pmem_lines.specs.Pmem.{PmemState, HasRoom}
-use Rattle.pool_layout.specs.declared.layout.Layout.{Layout}
-use Rattle.pool_layout.specs.Layout.{layout_of}
-use Rattle.pool_layout.proofs.Layouts.{layout_rules}
+use Rattle.arena_core.proofs.Common.{PmemState, Layout, layout_of, layout_rules, IsFree}
+use Rattle.pmem_lines.specs.Pmem.{HasRoom}
 use Rattle.pool_layout.specs.declared.header.PoolHeader.{PoolHeader}
-use Rattle.extent_index.specs.FreeSet.{IsFree}
 use Rattle.arena_core.proofs.Formats.{IsPoolHeader-new, IsWritten, formatted_device, formatted_crash, formatted_ready, formatted_exact, formatted_log, formatted_inside, formatted_arena}
 use Rattle.arena_core.proofs.arena.Arena.format.Given as given
 use Rattle.arena_core.proofs.arena.Arena.format.Goals as goal

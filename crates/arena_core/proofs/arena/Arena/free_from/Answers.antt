@@ -1,11 +1,6 @@
 use Rattle.std.proofs.Common.{Err, sym, subst, arith}
-use Rattle.pmem_lines.specs.Pmem.{PmemState, words_of}
-use Rattle.image_tables.specs.Tables.{tables_of}
+use Rattle.arena_core.proofs.Common.{PmemState, words_of, tables_of, bounds_of, sizes_of, free_reply, IsCalled}
 use Rattle.heap_model.specs.declared.call.Call.TheVariants as calls
-use Rattle.heap_check.specs.Image.{bounds_of}
-use Rattle.heap_check.proofs.Sizes.{sizes_of}
-use Rattle.arena_core.specs.Answer.{free_reply}
-use Rattle.arena_core.specs.Carried.{IsCalled}
 use Rattle.arena_core.proofs.Answering.{IsArena-began, answered_call}
 use Rattle.arena_core.proofs.FreedCalls.{freed_told, refused_held}
 use Rattle.arena_core.proofs.arena.Arena.free_from.Goals as goal

@@ -1,6 +1,5 @@
 use Rattle.std.proofs.Common.{sym, subst}
-use Rattle.pmem_lines.specs.Pmem.{PmemState, words_of}
-use Rattle.arena_core.specs.Moving.{IsMovePlan}
+use Rattle.arena_core.proofs.Common.{PmemState, words_of, IsMovePlan}
 use Rattle.arena_core.proofs.Answering.{answered_move}
 use Rattle.arena_core.proofs.arena.Arena.move_to.Goals as goal
 

@@ -1,8 +1,6 @@
 use Rattle.std.proofs.Common.{◌/◌, length, ap, ◌∙◌, subst, arith}
-use Rattle.pmem_lines.specs.Pmem.{words_of}
+use Rattle.arena_core.proofs.Common.{words_of, ArenaState, AreWordsOf, HasBlockAt, range_of_block}
 use Rattle.pmem_lines.proofs.Words.{length-words_at}
-use Rattle.arena_core.specs.Arena.{ArenaState}
-use Rattle.arena_core.specs.Payload.{AreWordsOf, HasBlockAt, range_of_block}
 use Rattle.arena_core.proofs.arena.Arena.view.Goals as goal
 
 pub returns-in-Ok-clause-view : goal.returns-in-Ok-clause-view

@@ -1,7 +1,5 @@
 use Rattle.std.proofs.Common.{length, sym, subst}
-use Rattle.pmem_lines.specs.Pmem.{PmemState, words_of}
-use Rattle.arena_core.specs.Arena.{IsArena}
-use Rattle.arena_core.specs.Payload.{IsWritePlan, IsWriteCarried}
+use Rattle.arena_core.proofs.Common.{PmemState, words_of, IsArena, IsWritePlan, IsWriteCarried}
 use Rattle.arena_core.proofs.Answering.{IsArena-began, answered_write}
 use Rattle.arena_core.proofs.arena.Arena.write.Given as given
 use Rattle.arena_core.proofs.arena.Arena.write.Goals as goal

@@ -1,6 +1,6 @@
 use Rattle.std.proofs.Common.{ℕ, ap, arith, length}
+use Rattle.arena_core.proofs.Common.{words_of}
 use Rattle.arena_core.proofs.Readiness.{ready_after, slab_room}
-use Rattle.pmem_lines.specs.Pmem.{words_of}
 use Rattle.arena_core.proofs.SlabChanges.{clear_opened, lives_opened, index_opened, slabs_opened, classes_opened, keeps_opened}
 use Rattle.arena_core.proofs.volatile.Volatile.add_slab.Goals as goal
 

@@ -1,10 +1,5 @@
 use Rattle.std.proofs.Common.{ap, arith, sym, subst}
-use Rattle.pmem_lines.specs.Pmem.{words_of}
-use Rattle.pool_layout.specs.declared.layout.Layout.{Layout}
-use Rattle.image_tables.specs.Tables.{tables_of}
-use Rattle.heap_check.specs.Image.{bounds_of}
-use Rattle.heap_check.proofs.Sizes.{sizes_of}
-use Rattle.arena_core.specs.Payload.{HasBlockAt}
+use Rattle.arena_core.proofs.Common.{words_of, Layout, tables_of, bounds_of, sizes_of, HasBlockAt}
 use Rattle.arena_core.proofs.PayloadCalls.{HasBlockAt-held}
 use Rattle.arena_core.proofs.volatile.Volatile.block_of.Goals as goal
 

@@ -1,8 +1,5 @@
 use Rattle.std.proofs.Common.{sym, subst}
-use Rattle.pmem_lines.specs.Pmem.{words_of}
-use Rattle.image_tables.specs.Tables.{tables_of}
-use Rattle.heap_check.specs.Image.{bounds_of}
-use Rattle.arena_core.specs.Plan.{IsNamedSmall}
+use Rattle.arena_core.proofs.Common.{words_of, tables_of, bounds_of, IsNamedSmall}
 use Rattle.arena_core.proofs.FreedCalls.{held_now, freed_as, freed_granules, freed_small, freed_old_block}
 use Rattle.arena_core.proofs.HeldBlocks.{class_detachable, old_detachable}
 use Rattle.arena_core.proofs.volatile.Volatile.carry_out_held.Goals as goal

@@ -1,6 +1,5 @@
 use Rattle.std.proofs.Common.{ap, subst, arith, length}
-use Rattle.pmem_lines.specs.Pmem.{words_of}
-use Rattle.arena_core.specs.Moving.{IsMovePlan}
+use Rattle.arena_core.proofs.Common.{words_of, IsMovePlan}
 use Rattle.arena_core.proofs.Readiness.{room_of}
 use Rattle.arena_core.proofs.MovesCalls.{movable, carried_moved, carried_unmoved}
 use Rattle.arena_core.proofs.volatile.Volatile.carry_out_move.Goals as goal

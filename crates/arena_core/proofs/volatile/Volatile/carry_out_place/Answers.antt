@@ -1,7 +1,6 @@
 use Rattle.std.proofs.Common.{ap, arith, length}
+use Rattle.arena_core.proofs.Common.{words_of, sizes_of}
 use Rattle.arena_core.proofs.Readiness.{room_of}
-use Rattle.pmem_lines.specs.Pmem.{words_of}
-use Rattle.heap_check.proofs.Sizes.{sizes_of}
 use Rattle.arena_core.proofs.PlannedCalls.{planned_at, arena_same, planned_held, may_open, may_take_class, fresh_for, morph_for, called_large, called_small, called_morph, called_fresh}
 use Rattle.arena_core.proofs.volatile.Volatile.carry_out_place.Goals as goal
 

@@ -1,12 +1,7 @@
 use Rattle.std.proofs.Common.{◌≡◌, ◌/◌, length, ap, ◌∙◌, arith}
+use Rattle.arena_core.proofs.Common.{words_of, step_wider, Tables, tables_of, with_key-here, class_in, granules_at-slab}
 use Rattle.arena_core.proofs.Readiness.{ready_after, room_of}
-use Rattle.pmem_lines.specs.Pmem.{words_of}
-use Rattle.pmem_lines.proofs.Steps.{step_wider}
-use Rattle.image_tables.specs.Tables.{Tables, tables_of}
 use Rattle.heap_check.proofs.Loose.{IsExactBut-exact}
-use Rattle.heap_model.proofs.Maps.{with_key-here}
-use Rattle.slab_index.specs.SlabSet.{class_in}
-use Rattle.heap_check.proofs.Geometry.{granules_at-slab}
 use Rattle.arena_core.proofs.HeldBlocks.{slab_here}
 use Rattle.arena_core.proofs.ChangedClasses.{ready_for, few_changes, is_slab, clear_without, class_change, slab_now, class_now, classes_changed, either_kept, came_back, slabs_changed, lives_changed}
 use Rattle.arena_core.proofs.ChangedHeaders.{book_header, index_header}

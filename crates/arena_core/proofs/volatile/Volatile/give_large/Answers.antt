@@ -1,8 +1,7 @@
 use Rattle.std.proofs.Common.{length, ap, arith}
+use Rattle.arena_core.proofs.Common.{words_of, sizes_of, root_inside}
 use Rattle.arena_core.proofs.Readiness.{entry_room}
-use Rattle.pmem_lines.specs.Pmem.{words_of}
 use Rattle.log_steps.proofs.Disjoint.{disjoint_of}
-use Rattle.heap_check.proofs.Sizes.{sizes_of, root_inside}
 use Rattle.arena_core.proofs.LargeBlocks.{large_given}
 use Rattle.arena_core.proofs.volatile.Volatile.give_large.Goals as goal
 

@@ -1,8 +1,5 @@
 use Rattle.std.proofs.Common.{◌≡◌, ◌+◌, ◌*◌, sym, ap, subst, arith, refl}
-use Rattle.size_classes.specs.Classes.{class_size}
-use Rattle.heap_model.specs.Machine.{slab_block}
-use Rattle.block_supply.specs.Supply.{Supply, TookBlock}
-use Rattle.arena_core.specs.declared.volatile.Volatile.{Volatile}
+use Rattle.arena_core.proofs.Common.{class_size, slab_block, Supply, TookBlock, Volatile}
 use Rattle.arena_core.proofs.GivenBlocks.{given_some, given_here, given_low, given_held}
 use Rattle.arena_core.proofs.volatile.Volatile.give_of.Given as given
 use Rattle.arena_core.proofs.volatile.Volatile.give_of.Goals as goal

@@ -1,16 +1,10 @@
 use Rattle.std.proofs.Common.{◌+◌, ◌%◌, true, sym, ap, subst, arith}
-use Rattle.pmem_lines.specs.Pmem.{words_of}
-use Rattle.image_tables.specs.Tables.{Tables, tables_of}
-use Rattle.heap_model.specs.Machine.{slab_block}
-use Rattle.heap_check.specs.Heap.{IsUnusedIn}
-use Rattle.heap_check.proofs.Heaps.{heap-none}
+use Rattle.arena_core.proofs.Common.{words_of, Tables, tables_of, slab_block, IsUnusedIn, heap-none, calm_of, IsSlabsOf, AreLivesOf}
 use Rattle.heap_check.proofs.SmallPlaces.{IsWithin-block, in_slab}
-use Rattle.arena_core.specs.Arena.{calm_of}
 use Rattle.arena_core.proofs.LiveCounts.{counts_raised}
 use Rattle.arena_core.proofs.LiveSlabs.{lives_kept}
 use Rattle.arena_core.proofs.SmallCalls.{slabs_less, slabs_used, used_given}
 use Rattle.arena_core.proofs.TakenBlocks.{counted, more_given}
-use Rattle.arena_core.specs.Arena.{IsSlabsOf, AreLivesOf}
 use Rattle.arena_core.proofs.GivenBlocks.{given_done}
 use Rattle.arena_core.proofs.volatile.Volatile.give_small.Given as given
 use Rattle.arena_core.proofs.volatile.Volatile.give_small.Goals as goal

@@ -1,10 +1,5 @@
 use Rattle.std.proofs.Common.{◌≡◌, ◌/◌, sym, ◌∙◌, subst, arith}
-use Rattle.pmem_lines.specs.Pmem.{words_of}
-use Rattle.image_tables.specs.Tables.{tables_of}
-use Rattle.slab_index.specs.SlabSet.{class_in}
-use Rattle.heap_check.specs.Image.{bounds_of}
-use Rattle.block_supply.specs.Supply.{IsInNoSlabOf}
-use Rattle.arena_core.specs.Plan.{IsTakable}
+use Rattle.arena_core.proofs.Common.{words_of, tables_of, class_in, bounds_of, IsInNoSlabOf, IsTakable}
 use Rattle.arena_core.proofs.Plans.{root_in, takable_outside}
 use Rattle.arena_core.proofs.volatile.Volatile.held_by.Goals as goal
 

@@ -1,7 +1,5 @@
 use Rattle.std.proofs.Common.{◌<◌, refl, ⊎_elim}
-use Rattle.pmem_lines.specs.Pmem.{words_of}
-use Rattle.image_tables.specs.Tables.{tables_of}
-use Rattle.heap_check.specs.Image.{bounds_of}
+use Rattle.arena_core.proofs.Common.{words_of, tables_of, bounds_of}
 use Rattle.arena_core.proofs.PlannedCalls.{supplied_found}
 use Rattle.arena_core.proofs.volatile.Volatile.place_for.Given as given
 use Rattle.arena_core.proofs.volatile.Volatile.place_for.Goals as goal

@@ -1,12 +1,5 @@
 use Rattle.std.proofs.Common.{◌≡◌, ◌≢◌, ◌<◌, ◌≤◌, ◌-◌, ◌*◌, ℕ, List, sym, ap, ◌∙◌, arith}
-use Rattle.pmem_lines.specs.Pmem.{words_of}
-use Rattle.pool_layout.specs.declared.layout.Layout.{Layout}
-use Rattle.pool_layout.specs.Layout.{layout_of}
-use Rattle.pool_layout.specs.Header.{version_in, granules_in}
-use Rattle.image_tables.specs.Tables.{tables_of}
-use Rattle.heap_check.specs.Image.{bounds_of}
-use Rattle.arena_core.specs.Plan.{IsAskedOf}
-use Rattle.heap_check.proofs.Sizes.{sizes_of}
+use Rattle.arena_core.proofs.Common.{words_of, Layout, layout_of, version_in, granules_in, tables_of, bounds_of, IsAskedOf, sizes_of}
 use Rattle.arena_core.proofs.PlannedCalls.{planned_found}
 use Rattle.arena_core.proofs.volatile.Volatile.plan_malloc.Goals as goal
 

@@ -1,13 +1,5 @@
 use Rattle.std.proofs.Common.{◌≡◌, ◌<◌, ℕ, List, ap, arith, sym, subst, ◌∙◌}
-use Rattle.pmem_lines.specs.Pmem.{words_of}
-use Rattle.pool_layout.specs.declared.layout.Layout.{Layout}
-use Rattle.pool_layout.specs.Layout.{layout_of}
-use Rattle.pool_layout.specs.Header.{version_in}
-use Rattle.image_tables.specs.Tables.{tables_of}
-use Rattle.heap_check.specs.Image.{bounds_of}
-use Rattle.heap_check.proofs.Sizes.{sizes_of}
-use Rattle.arena_core.specs.Moving.{AreRoots, IsToMove}
-use Rattle.arena_core.specs.Plan.{range_held}
+use Rattle.arena_core.proofs.Common.{words_of, Layout, layout_of, version_in, tables_of, bounds_of, sizes_of, AreRoots, IsToMove, range_held}
 use Rattle.arena_core.proofs.PayloadCalls.{HasBlockAt-held}
 use Rattle.arena_core.proofs.volatile.Volatile.plan_move.Goals as goal
 

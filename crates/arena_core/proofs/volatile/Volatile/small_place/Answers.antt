@@ -1,7 +1,6 @@
 use Rattle.std.proofs.Common.{◌≡◌, ◌*◌, refl, ap, arith}
-use Rattle.heap_model.specs.Machine.{slab_block}
+use Rattle.arena_core.proofs.Common.{slab_block, class_size}
 use Rattle.heap_model.proofs.Slabbing.{LiesIn-block}
-use Rattle.size_classes.specs.Classes.{class_size}
 use Rattle.arena_core.proofs.Plans.{slab_few, IsPlacing-small, IsPlacing-morph, IsPlacing-fresh, HasNoSite-small}
 use Rattle.arena_core.proofs.volatile.Volatile.small_place.Goals as goal
 

@@ -1,10 +1,6 @@
 use Rattle.std.proofs.Common.{ℕ, sym, subst, ◌∙◌, arith, Some, None, ap, length}
+use Rattle.arena_core.proofs.Common.{cond-true, words_of, tables_of, stacks_of, IsPutOn}
 use Rattle.arena_core.proofs.Readiness.{room_of}
-use Rattle.std.proofs.lemmas.Bool.{cond-true}
-use Rattle.pmem_lines.specs.Pmem.{words_of}
-use Rattle.image_tables.specs.Tables.{tables_of}
-use Rattle.thread_cache.specs.Stacks.{stacks_of}
-use Rattle.block_supply.specs.Supply.{IsPutOn}
 use Rattle.arena_core.proofs.SmallCalls.{named_used}
 use Rattle.arena_core.proofs.TakenBlocks.{class_one_more, class_taken}
 use Rattle.arena_core.proofs.volatile.Volatile.take_block.Goals as goal

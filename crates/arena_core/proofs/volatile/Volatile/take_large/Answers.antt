@@ -1,10 +1,7 @@
 use Rattle.std.proofs.Common.{ℕ, List, length, sym, ap, subst, arith}
+use Rattle.arena_core.proofs.Common.{words_of, layout_of, sizes_of, root_inside, IsBookOf, IsLooseExtent}
 use Rattle.arena_core.proofs.Readiness.{room_of, entry_room}
-use Rattle.pmem_lines.specs.Pmem.{words_of}
-use Rattle.pool_layout.specs.Layout.{layout_of}
-use Rattle.heap_check.proofs.Sizes.{sizes_of, root_inside, version_by_bounds}
-use Rattle.log_steps.specs.Log.{IsBookOf}
-use Rattle.extent_steps.specs.Large.{IsLooseExtent}
+use Rattle.heap_check.proofs.Sizes.{version_by_bounds}
 use Rattle.arena_core.proofs.Arenas.{book_root}
 use Rattle.arena_core.proofs.LargeStages.{IsStageOf}
 use Rattle.arena_core.proofs.LargeCalls.{taken_root, taken_loose, taken_covers}

@@ -1,7 +1,6 @@
 use Rattle.std.proofs.Common.{ap, ◌∙◌, arith, length}
+use Rattle.arena_core.proofs.Common.{words_of, Tables}
 use Rattle.arena_core.proofs.Readiness.{room_of}
-use Rattle.pmem_lines.specs.Pmem.{words_of}
-use Rattle.image_tables.specs.Tables.{Tables}
 use Rattle.arena_core.proofs.CoveredBlocks.{slabs_old}
 use Rattle.arena_core.proofs.TakenBlocks.{old_one_more, old_taken}
 use Rattle.arena_core.proofs.volatile.Volatile.take_old_block.Goals as goal

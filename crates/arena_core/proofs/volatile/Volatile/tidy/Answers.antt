@@ -1,21 +1,10 @@
 use Rattle.std.proofs.Common.{◌≡◌, ◌≢◌, ◌↔◌, ◌/◌, ℕ, Some, slice_index, IsTrue, true≢false, sym, ap, subst, ◌∙◌, arith}
+use Rattle.arena_core.proofs.Common.{cond-true, words_of, step_by, tables_of, stacks_of, slabs, IsDoneSlab, IsSteady-but, slabs_but, stacks_but, holds_none, tidy_events, with_key, calm_at}
 use Rattle.arena_core.proofs.Readiness.{ready_after, room_of, entry_room}
-use Rattle.std.proofs.lemmas.Bool.{cond-true}
-use Rattle.pmem_lines.specs.Pmem.{words_of}
-use Rattle.pmem_lines.proofs.Steps.{step_by}
-use Rattle.image_tables.specs.Tables.{tables_of}
-use Rattle.thread_cache.specs.Stacks.{stacks_of}
-use Rattle.heap_check.specs.Heap.{slabs}
-use Rattle.heap_check.specs.Sound.{IsDoneSlab}
-use Rattle.heap_check.proofs.Blank.{IsSteady-but}
 use Rattle.extent_steps.specs.Slabs.{drop_events}
-use Rattle.arena_core.specs.Effect.{slabs_but, stacks_but}
-use Rattle.arena_core.specs.Events.{holds_none, tidy_events}
 use Rattle.arena_core.proofs.HeldBlocks.{slab_here}
 use Rattle.arena_core.proofs.LastBlocks.{empty_by_tests}
 use Rattle.arena_core.proofs.SlabChanges.{held_row, classes_dropped, index_dropped, slabs_dropped, lives_dropped, keeps_dropped}
-use Rattle.heap_model.specs.Machine.{with_key}
-use Rattle.slab_lives.specs.Lives.{calm_at}
 use Rattle.arena_core.proofs.AdoptedSlabs.{class_read}
 use Rattle.arena_core.proofs.TakenBlocks.{counted}
 use Rattle.arena_core.proofs.Tidying.{none_by_count, some_by_count, tidied_none, endable, slab_same, class_same, tidied_ended}
