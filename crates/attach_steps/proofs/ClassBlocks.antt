@@ -1,32 +1,18 @@
 -- A block of its slab's class comes or goes: what the whole sequence leaves, and a crash within it.
 use Rattle.std.proofs.Common.{◌≡◌, ◌*◌, ◌/◌, ◌%◌, ℕ, ◌<◌, Bool, true, false, List, length, refl, sym, ap, subst, ◌∙◌, arith, inl, inr, Some, None}
-use Rattle.pmem_lines.specs.Words.{word_at, put_word}
-use Rattle.pmem_lines.specs.Events.{reading}
-use Rattle.pmem_lines.specs.Pmem.{PmemState}
-use Rattle.pmem_lines.specs.Steps.{IsQuietStep}
-use Rattle.durable_steps.specs.Steps.{word_events, pair_events, IsOldOrNewPair}
+use Rattle.attach_steps.proofs.Common.{word_at, put_word, reading, PmemState, IsQuietStep, word_events, pair_events, IsOldOrNewPair, root_word, wal_word, Tables, bitmap_word, tables_of, put_in, with_root, put_in-twice, put_in-own, with_bit, PutsBitOver, entry_word, Opens, OpensOrNot, Closes, ClosesOrNot, IsDoneSlab, bounds_of, IsEitherHeap, sizes_of, IsOneBlock, entry_for, bit_word, bit_put, under_entry}
 use Rattle.size_classes.specs.Classes.{class_size}
-use Rattle.pool_layout.specs.Places.{root_word, wal_word}
 use Rattle.image_tables.specs.declared.entry.WalEntry.TheVariants.{Place}
-use Rattle.image_tables.specs.Tables.{Tables, bitmap_word, tables_of}
-use Rattle.image_tables.specs.Updates.{put_in, put_bit, with_root}
-use Rattle.image_tables.proofs.Updates.{put_in-twice, put_in-own}
-use Rattle.slab_header.specs.Steps.{with_bit, PutsBit, PutsBitOver}
-use Rattle.attach_wal.specs.Entry.{entry_word}
+use Rattle.image_tables.specs.Updates.{put_bit}
+use Rattle.slab_header.specs.Steps.{PutsBit}
 use Rattle.attach_wal.proofs.Words.{IsWalWord-entry}
-use Rattle.attach_wal.specs.Wal.{Opens, OpensOrNot, Closes, ClosesOrNot}
 use Rattle.heap_model.specs.Machine.{slab_block}
-use Rattle.heap_check.specs.Sound.{IsDoneSlab}
-use Rattle.heap_check.specs.Image.{bounds_of}
-use Rattle.heap_check.specs.State.{IsEitherHeap}
 use Rattle.heap_check.proofs.Forms.{IsFormed-put_bitmap}
 use Rattle.heap_check.proofs.Geometry.{number_few}
-use Rattle.heap_check.proofs.Sizes.{sizes_of}
-use Rattle.heap_check.proofs.OneBlock.{IsOneBlock}
 use Rattle.heap_check.proofs.Small.{IsSmallPlace, IsOneBlock-small}
 use Rattle.heap_check.proofs.SmallPlaces.{clear_unused, calm_but, IsSmallPlace-unused, IsSmallPlace-named}
 use Rattle.attach_steps.specs.declared.block.SmallBlock.{SmallBlock}
-use Rattle.attach_steps.specs.Steps.{entry_for, bit_word, bit_put, mark_events, unmark_events, attach_events, detach_events, under_entry, IsBlockIn, IsAttachable, IsDetachable, IsAttached, IsDetached}
+use Rattle.attach_steps.specs.Steps.{mark_events, unmark_events, attach_events, detach_events, IsBlockIn, IsAttachable, IsDetachable, IsAttached, IsDetached}
 use Rattle.attach_steps.proofs.Pairs.{opened_word}
 use Rattle.attach_steps.proofs.Stages.{Site, tables_with, IsSite, IsStageOf, stage_begin, stage_header, made_slab, made_low, few_entries}
 use Rattle.attach_steps.proofs.Crashes.{PutsOver, with_none, with_both, heap_none, heap_some}

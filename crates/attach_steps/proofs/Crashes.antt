@@ -1,20 +1,14 @@
 -- A block of a slab comes or goes with its root's word: what each image of a crash is.
 use Rattle.std.proofs.Common.{◌≡◌, ◌≢◌, ◌⊎◌, ℕ, ◌*◌, ◌/◌, ◌<◌, Bool, true, false, List, length, refl, sym, ap, subst, ◌∙◌, arith, inl, inr, ⊎_elim, Option, Some, None}
+use Rattle.attach_steps.proofs.Common.{word_at, put_word, word_at-put_other, length-put_word, IsOldOrNewPair, root_word, WalEntry, Tables, tables_of, Bounds, bounds_of, HaveSameHeap, sizes_of, IsStage}
 use Rattle.std.proofs.lemmas.Bool.{cases_eq}
-use Rattle.pmem_lines.specs.Words.{word_at, put_word}
-use Rattle.pmem_lines.proofs.Words.{word_at-put_other, length-put_word}
-use Rattle.durable_steps.specs.Steps.{IsOldOrNewWord, IsOldOrNewPair}
-use Rattle.pool_layout.specs.Places.{root_word}
-use Rattle.image_tables.specs.declared.entry.WalEntry.{WalEntry}
-use Rattle.image_tables.specs.Tables.{Tables, tables_of}
-use Rattle.heap_model.specs.Machine.{Bounds}
+use Rattle.durable_steps.specs.Steps.{IsOldOrNewWord}
 use Rattle.heap_check.specs.Heap.{heap}
 use Rattle.heap_check.specs.Sound.{IsSteady}
-use Rattle.heap_check.specs.Image.{bounds_of, IsSteadyImage}
-use Rattle.heap_check.specs.State.{HaveSameHeap, KeepsBlocks}
-use Rattle.heap_check.proofs.Sizes.{sizes_of}
+use Rattle.heap_check.specs.Image.{IsSteadyImage}
+use Rattle.heap_check.specs.State.{KeepsBlocks}
 use Rattle.heap_check.proofs.BlockWords.{block_word-heap, block_word-header}
-use Rattle.heap_check.proofs.OneBlock.{IsStage, IsSteady-one, heap-one_other, heap-one_some, heap-one_none}
+use Rattle.heap_check.proofs.OneBlock.{IsSteady-one, heap-one_other, heap-one_some, heap-one_none}
 use Rattle.attach_steps.proofs.Stages.{Site, tables_with, IsSite, IsStageOf, stage_root, root_low, start_low}
 
 module _ (words : List ℕ) (line root : ℕ) (site : Site) (is : IsSite words root site) (line_below : line < 8) where

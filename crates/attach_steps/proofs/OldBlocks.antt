@@ -1,29 +1,13 @@
 -- An old block goes from its root: what the whole sequence leaves, and a crash within it.
 use Rattle.std.proofs.Common.{◌≡◌, ◌*◌, ℕ, ◌<◌, true, false, List, length, refl, sym, ap, subst, ◌∙◌, arith, inr, Some, None}
+use Rattle.attach_steps.proofs.Common.{reading, PmemState, IsQuietStep, word_events, IsOldOrNewPair, root_word, wal_word, WalEntry, Tables, index_word, tables_of, put_in, with_root, put_in-twice, put_in-own, PutsIndexOver, entry_word, Opens, OpensOrNot, Closes, ClosesOrNot, IsDoneSlab, bounds_of, IsEitherHeap, index_count_few, sizes_of, IsOneBlock}
 use Rattle.pmem_lines.proofs.Words.{word_at-put_same}
-use Rattle.pmem_lines.specs.Events.{reading}
-use Rattle.pmem_lines.specs.Pmem.{PmemState}
-use Rattle.pmem_lines.specs.Steps.{IsQuietStep}
-use Rattle.durable_steps.specs.Steps.{word_events, IsOldOrNewPair}
 use Rattle.size_classes.specs.Classes.{class_size}
-use Rattle.pool_layout.specs.Places.{root_word, wal_word}
-use Rattle.image_tables.specs.declared.entry.WalEntry.{WalEntry}
 use Rattle.image_tables.specs.declared.entry.WalEntry.TheVariants.{Place}
 use Rattle.image_tables.specs.Forms.{IsIndexWord}
-use Rattle.image_tables.specs.Tables.{Tables, index_word, tables_of}
-use Rattle.image_tables.specs.Updates.{put_in, put_index, with_root}
-use Rattle.image_tables.proofs.Updates.{put_in-twice, put_in-own}
-use Rattle.slab_header.specs.Steps.{PutsIndexOver}
-use Rattle.attach_wal.specs.Entry.{entry_word}
+use Rattle.image_tables.specs.Updates.{put_index}
 use Rattle.attach_wal.proofs.Words.{IsWalWord-entry}
-use Rattle.attach_wal.specs.Wal.{Opens, OpensOrNot, Closes, ClosesOrNot}
-use Rattle.heap_check.specs.Sound.{IsDoneSlab}
-use Rattle.heap_check.specs.Image.{bounds_of}
-use Rattle.heap_check.specs.State.{IsEitherHeap}
 use Rattle.heap_check.proofs.IndexForms.{IsFormed-put_index}
-use Rattle.heap_check.proofs.Geometry.{index_count_few}
-use Rattle.heap_check.proofs.Sizes.{sizes_of}
-use Rattle.heap_check.proofs.OneBlock.{IsOneBlock}
 use Rattle.heap_check.proofs.OldBlock.{IsOldPlace, IsOneBlock-old}
 use Rattle.attach_steps.specs.declared.block.OldBlock.{OldBlock}
 use Rattle.attach_steps.specs.Steps.{old_entry_for, dead_put, bury_events, detach_old_events, IsOldDetachable, IsOldDetached}

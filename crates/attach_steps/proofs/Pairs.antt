@@ -1,17 +1,10 @@
 -- What is read behind the stores of a sequence.
 use Rattle.std.proofs.Common.{◌≡◌, ℕ, ◌*◌, ◌/◌, ◌<◌, List, ap, subst, ◌∙◌, arith}
-use Rattle.pmem_lines.specs.Words.{word_at, put_word}
-use Rattle.pmem_lines.proofs.Words.{word_at-put_other}
+use Rattle.attach_steps.proofs.Common.{word_at, put_word, word_at-put_other, PmemState, words_of, Appends, reading, IsQuietStep, pair_events, IsOldOrNewPair, wal_word, entry_word, Opens}
 use Rattle.pmem_lines.specs.declared.event.Event.{Event}
-use Rattle.pmem_lines.specs.Pmem.{PmemState, words_of, Appends}
-use Rattle.pmem_lines.specs.Events.{reading, IsQuiet}
-use Rattle.pmem_lines.specs.Steps.{IsQuietStep}
+use Rattle.pmem_lines.specs.Events.{IsQuiet}
 use Rattle.pmem_lines.proofs.Steps.{step_of}
 use Rattle.durable_steps.proofs.Steps.{IsQuiet-pair, pair_crash}
-use Rattle.durable_steps.specs.Steps.{pair_events, IsOldOrNewPair}
-use Rattle.pool_layout.specs.Places.{wal_word}
-use Rattle.attach_wal.specs.Entry.{entry_word}
-use Rattle.attach_wal.specs.Wal.{Opens}
 use Rattle.attach_steps.proofs.Stages.{Site, IsSite, start_low}
 
 -- behind a pair of stores

@@ -1,24 +1,12 @@
 -- A block of a slab comes to its root, or goes from it, under an entry: the sequence whole, what it leaves, and a crash within.
 use Rattle.std.proofs.Common.{◌≡◌, ◌⊎◌, ℕ, ◌*◌, ◌<◌, Bool, true, false, List, refl, sym, ap, subst, ◌∙◌, arith, inl, inr, ⊎_elim, Option, Some, None}
-use Rattle.pmem_lines.specs.Words.{put_word}
-use Rattle.pmem_lines.specs.Events.{reading}
-use Rattle.pmem_lines.specs.Pmem.{PmemState}
-use Rattle.pmem_lines.specs.Steps.{IsQuietStep}
+use Rattle.attach_steps.proofs.Common.{put_word, reading, PmemState, IsQuietStep, word_events, pair_events, IsOldOrNewPair, root_word, wal_word, WalEntry, Tables, tables_of, HasNoMove, entry_word, Opens, OpensOrNot, Closes, ClosesOrNot, Bounds, Range, IsDoneSlab, bounds_of, HaveSameHeap, IsEitherHeap, IsStage, under_entry}
 use Rattle.pmem_lines.proofs.Steps.{step_then}
-use Rattle.durable_steps.specs.Steps.{word_events, pair_events, IsOldOrNewPair}
-use Rattle.pool_layout.specs.Places.{root_word, wal_word}
-use Rattle.image_tables.specs.declared.entry.WalEntry.{WalEntry}
-use Rattle.image_tables.specs.Tables.{Tables, tables_of}
-use Rattle.image_tables.specs.Updates.{HasNoMove}
-use Rattle.attach_wal.specs.Entry.{entry_word}
-use Rattle.attach_wal.specs.Wal.{Opens, OpensOrNot, Closes, ClosesOrNot}
-use Rattle.heap_model.specs.Machine.{Bounds, Range}
 use Rattle.heap_check.specs.Heap.{heap}
-use Rattle.heap_check.specs.Sound.{IsDoneSlab, IsExact, IsExactBut, HasOther}
-use Rattle.heap_check.specs.Image.{bounds_of, IsExactImage, IsExactButImage}
-use Rattle.heap_check.specs.State.{HaveSameHeap, IsEitherHeap}
-use Rattle.heap_check.proofs.OneBlock.{IsStage, IsExactBut-one, IsExact-one}
-use Rattle.attach_steps.specs.Steps.{under_entry, GivesOne}
+use Rattle.heap_check.specs.Sound.{IsExact, IsExactBut, HasOther}
+use Rattle.heap_check.specs.Image.{IsExactImage, IsExactButImage}
+use Rattle.heap_check.proofs.OneBlock.{IsExactBut-one, IsExact-one}
+use Rattle.attach_steps.specs.Steps.{GivesOne}
 use Rattle.attach_steps.proofs.Pairs.{reading_pair}
 use Rattle.attach_steps.proofs.Stages.{Site, tables_with, IsSite, IsStageOf, stage_open, stage_close, stage_root}
 use Rattle.attach_steps.proofs.Crashes.{IsUnderEntry, PutsOver, while_open, with_none, with_both, steady, keeps, heap_other, same_heap, mark_under, unmark_under, kept_by_root}

@@ -1,28 +1,24 @@
 -- A block of a slab comes or goes with its root's word: the image at each of the stores.
 use Rattle.std.proofs.Common.{◌≡◌, ◌≢◌, ◌⊎◌, ℕ, ◌+◌, ◌*◌, ◌<◌, ◌≤◌, Bool, true, List, length, refl, sym, ap, subst, ◌∙◌, arith, inl, inr, ⊎_elim, Option, Some, None}
-use Rattle.pmem_lines.specs.Words.{put_word}
-use Rattle.pmem_lines.proofs.Words.{word_at-put_other, length-put_word}
+use Rattle.attach_steps.proofs.Common.{put_word, word_at-put_other, length-put_word, root_word, wal_word, WalEntry, Tables, tables_of, with_root, HasNoMove, entry_word, Opens, Closes, Bounds, Range, bounds_of, index_count_few, sizes_of, IsOneBlock}
 use Rattle.pool_layout.specs.Layout.{layout_of}
-use Rattle.pool_layout.specs.Places.{fields_word, root_word, wal_word}
+use Rattle.pool_layout.specs.Places.{fields_word}
 use Rattle.pool_layout.specs.Header.{version_in}
-use Rattle.image_tables.specs.declared.entry.WalEntry.{WalEntry}
 use Rattle.image_tables.specs.Forms.{IsWalWord}
-use Rattle.image_tables.specs.Tables.{held_of, Tables, AreSlabsInHeap, is_slab, is_slab_of, state_field, wal_lines, tables_of}
-use Rattle.image_tables.specs.Updates.{put_at, with_root, with_open_entry, HasNoMove}
+use Rattle.image_tables.specs.Tables.{held_of, AreSlabsInHeap, is_slab, is_slab_of, state_field, wal_lines}
+use Rattle.image_tables.specs.Updates.{put_at, with_open_entry}
 use Rattle.image_tables.proofs.Updates.{put_at-twice, put_at-own}
 use Rattle.image_tables.proofs.Extents.{extent_at-elsewhere}
 use Rattle.image_tables.proofs.Headers.{IsSameOffHeader-put, is_slab-off_header}
 use Rattle.image_tables.proofs.Stores.{few_lines, closed_words, HasNoMove-closed, held_of-plain, roots_plain, extent_at-put_root, wal_word-put_root, IsOffLog-wal, tables_put_root}
 use Rattle.image_tables.proofs.Tables.{slab_table, slab_fields}
-use Rattle.attach_wal.specs.Entry.{entry_word}
-use Rattle.attach_wal.specs.Wal.{HasNoOther, Opens, Closes}
-use Rattle.heap_model.specs.Machine.{Bounds, Range}
+use Rattle.attach_wal.specs.Wal.{HasNoOther}
 use Rattle.heap_check.specs.Sound.{IsSound}
-use Rattle.heap_check.specs.Image.{bounds_of, IsFormed}
+use Rattle.heap_check.specs.Image.{IsFormed}
 use Rattle.heap_check.proofs.Forms.{AreSlabsInHeap-sound, bounds_of-put_word, IsFormed-put_root, IsFormed-put_wal}
-use Rattle.heap_check.proofs.Geometry.{granules_at-slab, index_count_few}
-use Rattle.heap_check.proofs.Sizes.{sizes_of, root_inside}
-use Rattle.heap_check.proofs.OneBlock.{stage_of, IsOneBlock}
+use Rattle.heap_check.proofs.Geometry.{granules_at-slab}
+use Rattle.heap_check.proofs.Sizes.{root_inside}
+use Rattle.heap_check.proofs.OneBlock.{stage_of}
 use Rattle.attach_steps.specs.Steps.{AreInside, KeepsOthers}
 
 -- What a sequence on a root and a block changes besides the root's word: a word of the header of the block's slab, by which

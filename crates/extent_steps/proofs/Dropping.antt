@@ -1,33 +1,17 @@
 -- A slab is dropped: the image afterwards, and what a crash leaves.
 use Rattle.std.proofs.Common.{◌≡◌, ◌≢◌, ◌==◌, ℕ, ◌+◌, ◌<◌, ◌≤◌, true, true≢false, List, refl, sym, ap, subst, ◌∙◌, arith, inl, ⊎_elim, Option, Some, None}
-use Rattle.std.proofs.lemmas.Bool.{cases_eq, cond-true, cond-false, eq-eqb, ne_eqb}
-use Rattle.pool_layout.specs.Layout.{layout_of}
-use Rattle.pool_layout.specs.Header.{version_in, granules_in}
+use Rattle.extent_steps.proofs.Common.{cases_eq, cond-true, cond-false, eq-eqb, ne_eqb, layout_of, version_in, granules_in, extent_at, Tables, AreSlabsInHeap, large_of, is_slab_of, is_slab, tables_of, IsSameOffLog, slab_table, Tomb, AreDisjoint, KeepsRest, IsLogged, IsLoggedOrNot, off_log, disjoint_of, Bounds, IsSound, IsExact, IsSteady, bounds_of, IsFormed, IsEitherHeap, AreSlabsInHeap-sound, bounds_of-off_log, IsFormed-logged, sizes_of, KeepsOthers}
 use Rattle.image_tables.specs.declared.extent.Extent.{Extent}
 use Rattle.image_tables.specs.declared.extent.Extent.TheVariants as extent
-use Rattle.image_tables.specs.Extents.{extent_at}
-use Rattle.image_tables.specs.Tables.{Tables, AreSlabsInHeap, large_of, is_slab_of, is_slab, tables_of}
-use Rattle.image_tables.proofs.Stores.{IsSameOffLog, IsSameOffLog-back, version_in-off_log}
-use Rattle.image_tables.proofs.Tables.{slab_table}
-use Rattle.book_log.specs.declared.entry.LogEntry.TheVariants.{Tomb}
-use Rattle.book_log.specs.Live.{AreDisjoint}
-use Rattle.log_steps.specs.Log.{KeepsRest, IsLogged, IsLoggedOrNot}
-use Rattle.log_steps.proofs.Entries.{off_log}
-use Rattle.log_steps.proofs.Disjoint.{disjoint_of}
-use Rattle.heap_model.specs.Machine.{Bounds}
-use Rattle.heap_check.specs.Sound.{IsSound, IsExact, IsSteady}
+use Rattle.image_tables.proofs.Stores.{IsSameOffLog-back, version_in-off_log}
 use Rattle.heap_check.specs.Slabs.{IsSlabMore}
-use Rattle.heap_check.specs.Image.{bounds_of, IsFormed}
-use Rattle.heap_check.specs.State.{IsEitherHeap}
-use Rattle.heap_check.proofs.Forms.{AreSlabsInHeap-sound, bounds_of-off_log, IsFormed-logged}
 use Rattle.heap_check.proofs.Geometry.{granules_at-slab}
-use Rattle.heap_check.proofs.Sizes.{sizes_of}
 use Rattle.heap_check.proofs.SlabHeaps.{heap-slab}
 use Rattle.heap_check.proofs.SlabLogs.{IsSlabMore-logged}
 use Rattle.heap_check.proofs.SlabPlaces.{IsSlabPlace-empty}
 use Rattle.heap_check.proofs.Slabs.{IsSlabPlace}
 use Rattle.heap_check.proofs.SlabSound.{IsSteady-less, loosens_nothing, IsExact-less}
-use Rattle.extent_steps.specs.Slabs.{IsDroppable, KeepsOthers, IsDropped}
+use Rattle.extent_steps.specs.Slabs.{IsDroppable, IsDropped}
 use Rattle.extent_steps.proofs.Images.{IsNear, keeps_off_log, still_either, either}
 
 slab_extent : (x : Option Extent) → is_slab_of x ≡ true → x ≡ Some extent.Slab

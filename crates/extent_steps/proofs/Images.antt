@@ -1,22 +1,11 @@
 -- Images while an extent comes or goes: what is the same of them.
 use Rattle.std.proofs.Common.{◌≡◌, ◌⊎◌, ℕ, ◌+◌, ◌<◌, ◌≤◌, true, List, sym, ap, subst, ◌∙◌, arith, inl, inr, Some, None}
+use Rattle.extent_steps.proofs.Common.{extent_at, Tables, is_slab_of, is_slab, state_field, tables_of, slab_table, slab_fields, HasNoMove-closed, tables_off_log-same, Bounds, Range, heap, IsSound, IsSteady, bounds_of, IsFormed, IsWordOf, IsEitherHeap, AreSlabsInHeap-sound, bounds_of-off_log, IsFormed-off_log, KeepsRest, off_log, sizes_of, KeepsOthers}
 use Rattle.pool_layout.specs.Places.{granule_word}
-use Rattle.image_tables.specs.Extents.{extent_at}
-use Rattle.image_tables.specs.Tables.{Tables, is_slab_of, is_slab, state_field, tables_of}
-use Rattle.image_tables.proofs.Tables.{slab_table, slab_fields}
-use Rattle.image_tables.proofs.Stores.{HasNoMove-closed, tables_off_log-same}
-use Rattle.heap_model.specs.Machine.{Bounds, Range}
-use Rattle.heap_check.specs.Heap.{heap}
-use Rattle.heap_check.specs.Sound.{IsSound, IsSteady}
-use Rattle.heap_check.specs.Image.{bounds_of, IsFormed, IsSteadyImage}
-use Rattle.heap_check.specs.State.{IsWordOf, KeepsBlocks, IsEitherHeap}
-use Rattle.heap_check.proofs.Forms.{AreSlabsInHeap-sound, bounds_of-off_log, IsFormed-off_log}
+use Rattle.heap_check.specs.Image.{IsSteadyImage}
+use Rattle.heap_check.specs.State.{KeepsBlocks}
 use Rattle.heap_check.proofs.Geometry.{index_count_few}
-use Rattle.log_steps.specs.Log.{KeepsRest}
-use Rattle.log_steps.proofs.Entries.{off_log}
-use Rattle.heap_check.proofs.Sizes.{sizes_of}
 use Rattle.heap_check.proofs.BlockWords.{block_word-heap}
-use Rattle.extent_steps.specs.Slabs.{KeepsOthers}
 
 -- what an image keeps of the words
 pub record IsNear (words : List ℕ) (start : ℕ) (image : List ℕ) : Type 0 where

@@ -1,27 +1,13 @@
 -- A large extent is dropped: the image afterwards, and what a crash leaves.
 use Rattle.std.proofs.Common.{◌≡◌, ℕ, ◌<◌, ◌≤◌, false, List, refl, sym, ap, subst, ◌∙◌, arith, ⊎_elim}
-use Rattle.std.proofs.lemmas.Bool.{cond-false, le-ltb, false_from_ne_true}
-use Rattle.pool_layout.specs.Layout.{layout_of}
-use Rattle.pool_layout.specs.Header.{version_in, granules_in}
-use Rattle.image_tables.specs.Extents.{extent_at}
-use Rattle.image_tables.specs.Tables.{Tables, AreSlabsInHeap, is_slab_of, is_slab, large_of, tables_of}
+use Rattle.extent_steps.proofs.Common.{cond-false, false_from_ne_true, layout_of, version_in, granules_in, extent_at, Tables, AreSlabsInHeap, is_slab_of, is_slab, large_of, IsSameOffLog, HasNoMove-closed, slab_table, Tomb, AreDisjoint, Bounds, IsSound, IsSteady, heap, bounds_of, IsFormed, IsEitherHeap, AreSlabsInHeap-sound, bounds_of-off_log, IsFormed-off_log, sizes_of, IsLogged, IsLoggedOrNot, disjoint_of, off_log}
+use Rattle.std.proofs.lemmas.Bool.{le-ltb}
+use Rattle.image_tables.specs.Tables.{tables_of}
 use Rattle.image_tables.specs.Updates.{put_at}
-use Rattle.image_tables.proofs.Stores.{IsSameOffLog, HasNoMove-closed, roots_plain, tables_off_log}
-use Rattle.image_tables.proofs.Tables.{slab_table}
-use Rattle.book_log.specs.declared.entry.LogEntry.TheVariants.{Tomb}
-use Rattle.book_log.specs.Live.{AreDisjoint}
-use Rattle.heap_model.specs.Machine.{Bounds}
-use Rattle.heap_check.specs.Sound.{LoosensNothing, IsSound, IsSteady}
-use Rattle.heap_check.specs.Heap.{heap}
-use Rattle.heap_check.specs.Image.{bounds_of, IsFormed}
-use Rattle.heap_check.specs.State.{IsEitherHeap}
-use Rattle.heap_check.proofs.Forms.{AreSlabsInHeap-sound, bounds_of-off_log, IsFormed-off_log}
+use Rattle.image_tables.proofs.Stores.{roots_plain, tables_off_log}
+use Rattle.heap_check.specs.Sound.{LoosensNothing}
 use Rattle.heap_check.proofs.Geometry.{granules_at-live}
 use Rattle.heap_check.proofs.LooseExtents.{IsSteady-loose_gone, heap-loose_gone, loosens_no_other}
-use Rattle.heap_check.proofs.Sizes.{sizes_of}
-use Rattle.log_steps.specs.Log.{IsLogged, IsLoggedOrNot}
-use Rattle.log_steps.proofs.Disjoint.{disjoint_of}
-use Rattle.log_steps.proofs.Entries.{off_log}
 use Rattle.log_steps.proofs.LargeEntries.{slab_entry, large_entry}
 use Rattle.extent_steps.specs.Large.{IsLooseExtent, IsExtentGone}
 use Rattle.extent_steps.proofs.Images.{keeps_off_log, still_either, either}

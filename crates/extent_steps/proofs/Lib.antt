@@ -1,3 +1,4 @@
+pub mod Common
 pub mod Images
 pub mod Opening
 pub mod Dropping

@@ -1,41 +1,32 @@
 -- A slab is opened: the image at each of its steps, and what a crash leaves.
 use Rattle.std.proofs.Common.{◌≡◌, ◌≢◌, ◌⊎◌, ◌==◌, ℕ, ◌+◌, ◌*◌, ◌/◌, ◌%◌, ◌^◌, ◌<◌, ◌≤◌, true, false, List, refl, sym, ap, subst, ◌∙◌, arith, inl, inr, ⊎_elim, Some}
-use Rattle.std.proofs.lemmas.Bool.{cases_eq, cases_lt, cond-true, cond-false, eq-eqb, ne_eqb, false_from_ne_true}
+use Rattle.extent_steps.proofs.Common.{cases_eq, cond-true, cond-false, eq-eqb, ne_eqb, false_from_ne_true, layout_of, version_in, granules_in, extent_at, Tables, AreSlabsInHeap, is_slab_of, is_slab, state_field, tables_of, IsSameOffLog, tables_off_log-same, slab_table, slab_fields, Slab, AreDisjoint, KeepsRest, IsLogged, IsLoggedOrNot, off_log, disjoint_of, Bounds, Range, heap, IsSound, IsExact, IsSteady, bounds_of, IsFormed, IsWordOf, IsEitherHeap, AreSlabsInHeap-sound, bounds_of-off_log, IsFormed-off_log, IsFormed-logged, sizes_of, KeepsOthers}
+use Rattle.std.proofs.lemmas.Bool.{cases_lt}
 use Rattle.pmem_lines.specs.Words.{word_at}
-use Rattle.pool_layout.specs.Layout.{layout_of}
 use Rattle.pool_layout.specs.Places.{fields_word, granule_word, log_word, heap_word}
-use Rattle.pool_layout.specs.Header.{version_field, version_in, granules_in}
+use Rattle.pool_layout.specs.Header.{version_field}
 use Rattle.image_tables.specs.declared.extent.Extent.TheVariants as extent
-use Rattle.image_tables.specs.Extents.{extent_at}
-use Rattle.image_tables.specs.Tables.{Tables, AreSlabsInHeap, is_slab_of, is_slab, state_word, bitmap_word, state_field, tables_of}
+use Rattle.image_tables.specs.Tables.{state_word, bitmap_word}
 use Rattle.image_tables.proofs.Headers.{IsSameOffHeader, SameLog-off_header}
-use Rattle.image_tables.proofs.Stores.{IsSameOffLog, heap_word-off_log, slab_bit-same, tables_off_log-same}
-use Rattle.image_tables.proofs.Tables.{slab_table, large_table, bit_table, slab_fields}
+use Rattle.image_tables.proofs.Stores.{heap_word-off_log, slab_bit-same}
+use Rattle.image_tables.proofs.Tables.{large_table, bit_table}
 use Rattle.slab_header.specs.Steps.{KeepsOutside, IsMade}
-use Rattle.book_log.specs.declared.entry.LogEntry.TheVariants.{Slab}
 use Rattle.book_log.specs.Book.{Book}
 use Rattle.book_log.proofs.Books.{Reads-same}
-use Rattle.book_log.specs.Live.{AreDisjoint}
-use Rattle.log_steps.specs.Log.{KeepsRest, IsLogged, IsLoggedOrNot, IsBookOf}
-use Rattle.log_steps.proofs.Entries.{off_log}
-use Rattle.log_steps.proofs.Disjoint.{disjoint_of}
-use Rattle.heap_model.specs.Machine.{Bounds, Range}
-use Rattle.heap_check.specs.Heap.{heap}
-use Rattle.heap_check.specs.Sound.{IsVacant, IsSound, IsExact, IsExactBut, IsSteady}
+use Rattle.log_steps.specs.Log.{IsBookOf}
+use Rattle.heap_check.specs.Sound.{IsVacant, IsExactBut}
 use Rattle.heap_check.specs.Slabs.{IsSlabMore, IsWithSlab}
-use Rattle.heap_check.specs.Image.{bounds_of, HasSlabHeader, IsFormed}
-use Rattle.heap_check.specs.State.{IsWordOf, IsEitherHeap}
+use Rattle.heap_check.specs.Image.{HasSlabHeader}
 use Rattle.heap_check.proofs.Blank.{law_of_steady, IsSteady-but}
 use Rattle.heap_check.proofs.BlockWords.{block_word-vacant}
-use Rattle.heap_check.proofs.Forms.{AreSlabsInHeap-sound, bounds_of-same, bounds_of-off_log, IsFormed-off_log, IsFormed-logged, IsFormed-off_header}
+use Rattle.heap_check.proofs.Forms.{bounds_of-same, IsFormed-off_header}
 use Rattle.heap_check.proofs.Geometry.{Covers-slab, granules_at-large, number_few}
-use Rattle.heap_check.proofs.Sizes.{sizes_of}
 use Rattle.heap_check.proofs.SlabHeaps.{heap-slab}
 use Rattle.heap_check.proofs.SlabLogs.{IsSlabMore-logged}
 use Rattle.heap_check.proofs.SlabPlaces.{IsSlabPlace-vacant}
 use Rattle.heap_check.proofs.Slabs.{IsSlabPlace}
 use Rattle.heap_check.proofs.SlabSound.{IsExactBut-slab}
-use Rattle.extent_steps.specs.Slabs.{IsOpenable, KeepsOthers, IsOpened}
+use Rattle.extent_steps.specs.Slabs.{IsOpenable, IsOpened}
 use Rattle.extent_steps.proofs.Images.{IsNear, IsSame, few_entries, keeps_blocks, either}
 
 -- the fields of a slab's state word

@@ -1,8 +1,5 @@
 use Rattle.std.proofs.Common.{◌≡◌, ◌/◌, ◌%◌, ◌*◌, ℕ, subst, arith}
-use Rattle.pmem_lines.specs.Words.{word_at}
-use Rattle.pmem_lines.specs.Pmem.{words_of, Appends}
-use Rattle.image_tables.specs.Tables.{bitmap_word}
-use Rattle.slab_header.specs.Steps.{put_events, with_bit, PutsBitOver}
+use Rattle.attach_steps.proofs.Common.{word_at, words_of, Appends, bitmap_word, put_events, with_bit, PutsBitOver}
 use Rattle.attach_steps.proofs.bit.put_block_bit.Given as given
 use Rattle.attach_steps.proofs.bit.put_block_bit.Goals as goal
 

@@ -1,11 +1,6 @@
 use Rattle.std.proofs.Common.{◌≡◌, ◌*◌, ◌/◌, false, [], ◌∷◌, ◌++◌, subst, arith}
-use Rattle.pmem_lines.specs.declared.event.Event.TheVariants.{Store, Flush, Fence}
-use Rattle.pmem_lines.specs.Pmem.{words_of}
-use Rattle.pmem_lines.proofs.States.{then_step}
-use Rattle.pool_layout.specs.Places.{root_word}
-use Rattle.image_tables.specs.Tables.{index_word}
+use Rattle.attach_steps.proofs.Common.{Store, Flush, Fence, words_of, then_step, root_word, index_word, put_events, PutsIndexOver}
 use Rattle.slab_header.specs.Index.{word_of_index}
-use Rattle.slab_header.specs.Steps.{put_events, PutsIndexOver}
 use Rattle.attach_steps.proofs.Pairs.{pair_step}
 use Rattle.attach_steps.proofs.old.bury.Given as given
 use Rattle.attach_steps.proofs.old.bury.Goals as goal

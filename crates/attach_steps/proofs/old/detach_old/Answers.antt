@@ -1,12 +1,7 @@
 use Rattle.std.proofs.Common.{◌≡◌, ◌*◌, false, sym, subst, ◌∙◌, arith}
-use Rattle.pmem_lines.specs.Pmem.{words_of}
-use Rattle.pmem_lines.specs.Steps.{IsQuietStep}
-use Rattle.durable_steps.specs.Steps.{pair_events, IsOldOrNewPair}
-use Rattle.pool_layout.specs.Places.{root_word}
-use Rattle.image_tables.specs.Tables.{index_word, tables_of}
+use Rattle.attach_steps.proofs.Common.{words_of, IsQuietStep, pair_events, IsOldOrNewPair, root_word, index_word, tables_of, PutsIndexOver}
 use Rattle.image_tables.proofs.Tables.{slab_table, number_table}
 use Rattle.slab_header.specs.Index.{word_of_index}
-use Rattle.slab_header.specs.Steps.{PutsIndexOver}
 use Rattle.attach_steps.proofs.Stages.{root_low, inside}
 use Rattle.attach_steps.proofs.OldBlocks.{place_low, IsSite-old, detached_old, detach_old_step}
 use Rattle.attach_steps.proofs.old.detach_old.Given as given

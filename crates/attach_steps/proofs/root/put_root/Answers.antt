@@ -1,7 +1,5 @@
 use Rattle.std.proofs.Common.{◌≡◌, ◌*◌, ◌/◌, ◌∙◌, ⊎_elim, inl, inr, ap, arith}
-use Rattle.pmem_lines.specs.Words.{put_word}
-use Rattle.pmem_lines.specs.Pmem.{words_of}
-use Rattle.pool_layout.specs.Places.{root_word}
+use Rattle.attach_steps.proofs.Common.{put_word, words_of, root_word}
 use Rattle.durable_steps.proofs.Steps.{word_step}
 use Rattle.attach_steps.proofs.root.put_root.Given as given
 use Rattle.attach_steps.proofs.root.put_root.Goals as goal

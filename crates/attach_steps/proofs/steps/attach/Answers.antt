@@ -1,12 +1,5 @@
 use Rattle.std.proofs.Common.{◌*◌, refl, sym, subst, arith}
-use Rattle.pmem_lines.specs.Pmem.{words_of}
-use Rattle.pmem_lines.specs.Steps.{IsQuietStep}
-use Rattle.durable_steps.specs.Steps.{word_events}
-use Rattle.pool_layout.specs.Places.{wal_word}
-use Rattle.image_tables.specs.declared.entry.WalEntry.{WalEntry}
-use Rattle.attach_wal.specs.Entry.{entry_word, FitsWord}
-use Rattle.attach_wal.specs.Wal.{Opens, OpensOrNot}
-use Rattle.attach_steps.specs.Steps.{entry_for}
+use Rattle.attach_steps.proofs.Common.{words_of, IsQuietStep, word_events, wal_word, WalEntry, entry_word, FitsWord, Opens, OpensOrNot, entry_for}
 use Rattle.attach_steps.proofs.Stages.{root_low, inside}
 use Rattle.attach_steps.proofs.ClassBlocks.{number_low, coming, attached, attach_step}
 use Rattle.attach_steps.proofs.steps.attach.Given as given

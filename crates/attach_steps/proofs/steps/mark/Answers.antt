@@ -1,10 +1,5 @@
 use Rattle.std.proofs.Common.{◌*◌, ◌/◌, true, [], ◌∷◌, ◌++◌}
-use Rattle.pmem_lines.specs.declared.event.Event.TheVariants.{Store, Flush, Fence}
-use Rattle.pmem_lines.specs.Pmem.{words_of}
-use Rattle.pmem_lines.proofs.States.{then_step}
-use Rattle.pool_layout.specs.Places.{root_word}
-use Rattle.slab_header.specs.Steps.{put_events}
-use Rattle.attach_steps.specs.Steps.{bit_word, bit_put}
+use Rattle.attach_steps.proofs.Common.{Store, Flush, Fence, words_of, then_step, root_word, put_events, bit_word, bit_put}
 use Rattle.attach_steps.proofs.Pairs.{pair_step}
 use Rattle.attach_steps.proofs.steps.mark.Goals as goal
 

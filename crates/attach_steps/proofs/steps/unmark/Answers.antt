@@ -1,12 +1,5 @@
 use Rattle.std.proofs.Common.{◌≡◌, ◌*◌, ◌/◌, ◌%◌, ℕ, false, List, [], ◌∷◌, ◌++◌, ap, ◌∙◌, arith}
-use Rattle.pmem_lines.specs.Words.{word_at}
-use Rattle.pmem_lines.proofs.Words.{word_at-put_other}
-use Rattle.pmem_lines.specs.declared.event.Event.TheVariants.{Store, Flush, Fence}
-use Rattle.pmem_lines.specs.Pmem.{words_of}
-use Rattle.pmem_lines.proofs.States.{then_step}
-use Rattle.pool_layout.specs.Places.{root_word}
-use Rattle.slab_header.specs.Steps.{put_events, with_bit}
-use Rattle.attach_steps.specs.Steps.{bit_word, bit_put}
+use Rattle.attach_steps.proofs.Common.{word_at, word_at-put_other, Store, Flush, Fence, words_of, then_step, root_word, put_events, with_bit, bit_word, bit_put}
 use Rattle.attach_steps.proofs.Pairs.{pair_step}
 use Rattle.attach_steps.proofs.ClassBlocks.{PutsBitOver-same}
 use Rattle.attach_steps.proofs.steps.unmark.Given as given

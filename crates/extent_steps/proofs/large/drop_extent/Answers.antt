@@ -1,5 +1,4 @@
-use Rattle.pmem_lines.specs.Pmem.{words_of}
-use Rattle.pmem_lines.proofs.Steps.{step_wider}
+use Rattle.extent_steps.proofs.Common.{words_of, step_wider}
 use Rattle.extent_steps.proofs.LargeDrops.{loose_disjoint, loose_lies, extent_gone, gone_or_not}
 use Rattle.extent_steps.proofs.large.drop_extent.Goals as goal
 

@@ -1,5 +1,4 @@
-use Rattle.pmem_lines.specs.Pmem.{words_of}
-use Rattle.pmem_lines.proofs.Steps.{step_wider}
+use Rattle.extent_steps.proofs.Common.{words_of, step_wider}
 use Rattle.extent_steps.proofs.Dropping.{drop_disjoint, drop_low, drop_high, dropped, dropped_or_not}
 use Rattle.extent_steps.proofs.slab.drop_slab.Goals as goal
 

@@ -1,5 +1,5 @@
 use Rattle.std.proofs.Common.{◌≡◌, ◌*◌, ◌/◌, ℕ, subst, arith}
-use Rattle.pmem_lines.specs.Pmem.{words_of}
+use Rattle.extent_steps.proofs.Common.{words_of}
 use Rattle.pmem_lines.specs.Steps.{IsQuietStep}
 use Rattle.slab_header.specs.Steps.{make_events, KeepsOutside, IsMade}
 use Rattle.extent_steps.proofs.slab.make_header.Given as given

@@ -1,12 +1,7 @@
 use Rattle.std.proofs.Common.{◌≡◌, ◌≤◌, ◌+◌, ℕ, List, ap, arith}
-use Rattle.pmem_lines.specs.Pmem.{words_of}
+use Rattle.extent_steps.proofs.Common.{words_of, layout_of, version_in, Bounds, IsEitherHeap, Slab}
 use Rattle.pmem_lines.proofs.Steps.{step_then}
-use Rattle.pool_layout.specs.Layout.{layout_of}
-use Rattle.pool_layout.specs.Header.{version_in}
 use Rattle.pool_layout.proofs.Layouts.{layout_rules}
-use Rattle.heap_model.specs.Machine.{Bounds}
-use Rattle.heap_check.specs.State.{IsEitherHeap}
-use Rattle.book_log.specs.declared.entry.LogEntry.TheVariants.{Slab}
 use Rattle.log_steps.specs.Events.{log_events}
 use Rattle.extent_steps.proofs.Opening.{in_heap, start_high, made_version, made_same, made_book, made_disjoint, made_either, logged_either, opened}
 use Rattle.extent_steps.proofs.slab.open_slab.Goals as goal
