@@ -30,10 +30,7 @@ slab_size words start is = granules_at-slab (tables_of words) start (slab_is wor
 
 -- where nothing starts, no granule is covered
 covers_none : (words : List ℕ) (start k : ℕ) → extent_at words start ≡ None → ¬ (Covers (tables_of words) start k)
-covers_none words start k none covers =
-    let t = tables_of words in
-    let size : granules_at t start ≡ 0 = granules_at-large t start (slab_is words start None none) ∙ large_is words start None none in
-    omega (arith, size, covers.low, covers.high)
+covers_none words start k none covers = grind (arith, granules_at-large, slab_is, large_is)
 
 slabs_none : (words : List ℕ) (start : ℕ) → extent_at words start ≡ None → slabs (tables_of words) start ≡ None
 slabs_none words start none = ap (λ b. cond b (Some ((tables_of words).class start)) None) (slab_is words start None none)
@@ -221,7 +218,4 @@ extent_some words start extent.Slab image is =
 
 -- it ends in the heap
 pub extent_below : (words : List ℕ) (from : ℕ) (next : LogEntry) → IsExactImage words → IsNextLive (extent_at words) from next → start_of next < granules_in words
-extent_below words from next image live =
-    let some = extent_some words (start_of next) live.extent image live.live in
-    let inside = (image.exact.sound.starts (start_of next) some).1 in
-    omega (arith, some, inside)
+extent_below words from next image live = grind (arith, extent_some)

@@ -1,8 +1,8 @@
 -- The indexes take over a slab of an exact image, and how many live blocks each slab has.
-use Rattle.std.proofs.Common.{◌≡◌, ◌≢◌, ◌↔◌, ◌==◌, ◌+◌, ◌*◌, ◌/◌, ◌<◌, ◌≤◌, ℕ, Bool, true, false, true≢false, List, length, slice_index, Option, Some, None, sym, ap, subst, ◌∙◌, arith, if◌then◌else◌}
+use Rattle.std.proofs.Common.{◌≡◌, ◌≢◌, ◌↔◌, ◌==◌, ◌+◌, ◌*◌, ◌/◌, ◌<◌, ◌≤◌, ℕ, Bool, true, false, List, length, slice_index, Option, Some, None, ap, ◌∙◌, arith, if◌then◌else◌}
 use Rattle.arena_core.proofs.Common.{cond-false, ne_eqb, class_capacity, Tables, is_slab, tables_of, slab_table, granules_in, Range, live_below, begins_in, heap, slabs, IsUnusedIn, heap-none, IsWithSlabOf, HasCounted, Supply, IsInNoSlabOf, HasSlabMore, IsInSlab, IsSound, bounds_of}
 use Rattle.heap_check.specs.Heap.{size_at}
-use Rattle.arena_core.proofs.LiveCounts.{one_if, live_next, live_below-most, begins_only, more_by_slab, most_by_slab, put_one}
+use Rattle.arena_core.proofs.LiveCounts.{live_next, live_below-most, begins_only, more_by_slab, most_by_slab, put_one}
 
 -- a slab was added, in which the blocks are open that are not used
 pub with_slab : (words : List ℕ) (old new : Supply) (start slab class : ℕ) {used : ℕ → Bool} → slab / 16384 ≡ start → class ≡ (tables_of words).class start → HasSlabMore old new start class (λ i. (i < class_capacity class) × (used i ≡ false)) →
@@ -11,9 +11,7 @@ with_slab words old new start slab class {used} at is more unused = grind arith
 
 -- the class that was read is the slab's
 pub class_read : (words : List ℕ) (at start class : ℕ) → at ≡ 16384 * start → (tables_of words).slab start ≡ true → (is_slab words (at / 16384) ≡ true → class ≡ (tables_of words).class (at / 16384)) → class ≡ (tables_of words).class start
-class_read words at start class is slab read =
-    let same : at / 16384 ≡ start = omega (arith, is) in
-    subst (λ s. is_slab words s ≡ true → class ≡ (tables_of words).class s) same read (sym (slab_table words start) ∙ slab)
+class_read words at start class is slab read = grind (arith, slab_table)
 
 -- the live blocks of the slabs are counted, root by root
 
@@ -32,15 +30,7 @@ counted_same words counts root elsewhere were = grind arith
 -- it has one in the slab at a start
 pub counted_more : (words : List ℕ) (counts next : List ℕ) (root start : ℕ) → (tables_of words).slab start ≡ true → ((s : ℕ) → (tables_of words).slab s ≡ true → begins_in s (heap (tables_of words) root) ≡ (s == start)) →
     length next ≡ length counts → ((s : ℕ) → slice_index next s ≡ (if s == start then slice_index counts s + 1 else slice_index counts s)) → HasCounted words counts root → HasCounted words next (root + 1)
-counted_more words counts next root start here only size put were = record {
-  size = size ∙ were.size;
-  each = λ s. put s
-      ∙ put_one (s == start) (slice_index counts s)
-      ∙ ap (λ n. one_if (s == start) + n) (were.each s)
-      ∙ sym (more_by_slab ((tables_of words).slab s) (s == start) (live_below (heap (tables_of words)) s (root + 1)) (live_below (heap (tables_of words)) s root)
-      (λ slab. live_next (heap (tables_of words)) s root ∙ ap (λ is. one_if is + live_below (heap (tables_of words)) s root) (only s slab))
-      (λ no. ne_eqb s start (λ same. true≢false (sym here ∙ ap (tables_of words).slab (sym same) ∙ no))));
-}
+counted_more words counts next root start here only size put were = grind (arith, put_one, more_by_slab, live_next)
 
 -- what begins in a slab is what a root's word lies in
 pub begins_word : (t : Tables) (root s : ℕ) → t.root root ≢ 0 → begins_in s (heap t root) ≡ begins_in s (Some (record { at = t.root root; size = size_at t root (t.root root) }))

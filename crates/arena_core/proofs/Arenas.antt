@@ -1,10 +1,8 @@
 -- What an arena keeps holds again once a block was given or taken.
 use Rattle.std.proofs.Common.{◌≡◌, ◌↔◌, ◌⊎◌, ℕ, ◌+◌, ◌<◌, ◌≤◌, List, cond, Some, None, sym, ap, subst, ◌∙◌, inl, inr, ⊎_elim, arith, length}
-use Rattle.arena_core.proofs.Common.{word_at, put_word, layout_of, fields_word, directory_word, entry_word, root_word, SameLog, version_in, granules_in, Tables, tables_of, Book, FreeSet, IsFree, Bounds, IsVacant, granules_at, bounds_of, IsExactImage, IsEitherHeap, with_large, IsBookOf, class_capacity, Supply, IsIndexOf, IsSlabsOf, KeepsSlabs, IsUnusedIn, IsUnusedIn-same}
+use Rattle.arena_core.proofs.Common.{word_at, put_word, layout_of, entry_word, root_word, SameLog, version_in, granules_in, Tables, tables_of, Book, FreeSet, IsFree, Bounds, IsVacant, granules_at, bounds_of, IsExactImage, IsEitherHeap, with_large, IsBookOf, class_capacity, Supply, IsIndexOf, IsSlabsOf, KeepsSlabs, IsUnusedIn, IsUnusedIn-same}
 use Rattle.std.proofs.lemmas.List.Elements.{All-weaker}
-use Rattle.image_tables.specs.Log.{active_chunks}
 use Rattle.image_tables.proofs.Chunks.{few_chunks}
-use Rattle.image_tables.proofs.Logs.{SameChunk}
 use Rattle.image_tables.proofs.Stores.{IsOffLog-root, granules_in-put_root}
 use Rattle.book_log.proofs.Books.{Reads-elsewhere, Reads-same}
 use Rattle.arena_core.proofs.LargeStages.{IsStageOf}
@@ -20,11 +18,7 @@ book_root book words root value below log = record {
 -- and where the front words stay and those of the chunks' entries
 pub same_log : (words new : List ℕ) → ((k : ℕ) → k < 64 → word_at new k ≡ word_at words k) →
     ((c e : ℕ) → c < 16 → e < (layout_of (version_in words)).chunk_entries → word_at new (entry_word (version_in words) c e) ≡ word_at words (entry_word (version_in words) c e)) → SameLog words new
-same_log words new front entries = record {
-  fields = front fields_word (omega arith);
-  directory = front directory_word (omega arith);
-  chunks = All-weaker (λ c. c < 16) (SameChunk (version_in words) words new) (λ c few. record { each = λ e below. entries c e few below }) (active_chunks (word_at words directory_word)) (few_chunks (word_at words directory_word));
-}
+same_log words new front entries = grind (arith, All-weaker, few_chunks)
 
 pub book_same : {words new : List ℕ} (book : Book) → SameLog words new → length new ≡ length words → bounds_of new ≡ bounds_of words → IsBookOf book words → IsBookOf book new
 book_same {words} {new} book same size bounds log = record { reads = Reads-same book words new same size log.reads; granules = log.granules ∙ ap (λ (b : Bounds). b.granules) (sym bounds) }

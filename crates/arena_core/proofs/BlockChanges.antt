@@ -22,10 +22,7 @@ change_bit {words} {line} {root} {block} block_in few = grind arith
 -- the words of the log and of blocks are the same
 module _ {words : List ℕ} {line root start place : ℕ} (change : IsBlockChange words line root start place) (new : List ℕ) (rest : KeepsOthers words line root place new) where
   start_low : 4 ≤ start
-  start_low =
-      let sizes = sizes_of words change.image.formed in
-      let four = granules_at-slab (tables_of words) start change.slab in
-      omega (arith, sizes.first, (change.image.but.sound.starts start (omega (arith, four))).0)
+  start_low = grind (arith, sizes_of, granules_at-slab)
 
   root_low : root < 4096
   root_low = omega (arith, (sizes_of words change.image.formed).roots, change.rooted)

@@ -1,6 +1,6 @@
 -- What the roots of an exact image without slabs name: large extents, each of two granules at least, in the heap.
-use Rattle.std.proofs.Common.{MatchOption, ◌≡◌, ◌≢◌, ◌*◌, ◌/◌, ◌<◌, ℕ, true, List, Option, Some, None, refl, sym, ap, ◌∙◌, subst, arith}
-use Rattle.arena_core.proofs.Common.{ne_eqb, Tables, tables_of, extent_of, Bounds, is_large, heap, is_large-start, IsTakable}
+use Rattle.std.proofs.Common.{MatchOption, ◌≡◌, ◌*◌, ◌<◌, ℕ, List, Option, Some, None, ap, arith}
+use Rattle.arena_core.proofs.Common.{Tables, tables_of, extent_of, Bounds, heap, is_large-start, IsTakable}
 use Rattle.image_tables.specs.declared.extent.Extent.{Extent}
 use Rattle.image_tables.specs.declared.extent.Extent.TheVariants as extent
 use Rattle.image_tables.specs.Extents.{extent_at}
@@ -31,9 +31,4 @@ next_large words start (Some next) some live =
 
 -- the block of a root that names a large extent
 pub heap-takable : (b : Bounds) (t : Tables) (root start count : ℕ) → 0 < b.first → IsTakable b t root start count → heap t root ≡ Some (record { at = 16384 * start; size = 16384 * count })
-heap-takable b t root start count first takable =
-    let some : t.root root ≢ 0 = λ none. omega (arith, none, first, takable.named, takable.low) in
-    let large : is_large t.large (t.root root) ≡ true = subst (λ at. is_large t.large at ≡ true) (sym takable.named) (is_large-start t.large start (omega (arith, takable.live, takable.many))) in
-    let here : t.root root / 16384 ≡ start = omega (arith, takable.named) in
-    let size : 16384 * t.large (t.root root / 16384) ≡ 16384 * count = ap (λ k. 16384 * t.large k) here ∙ ap (λ n. 16384 * n) takable.live in
-    rw (ne_eqb (t.root root) 0 some, large, size, takable.named) refl
+heap-takable b t root start count first takable = grind (arith, is_large-start)

@@ -116,12 +116,7 @@ module _ (words : List ℕ) (line root index : ℕ) (view : List ℕ) (are : Are
   word_is below = sym (ap (λ ws. get_or ws index 0) are.is ∙ get_or-words_at words (are.range.at / 8) (are.range.size / 8) index (omega (arith, below, are.count)))
 
   word_of : index < length view → HasWord words root index (get_or view index 0)
-  word_of below = record {
-    range = are.range;
-    named = are.named;
-    within = omega (arith, below, are.count);
-    here = word_is below;
-  }
+  word_of below = grind (arith, word_is)
 
   within_block : index < length view → ReadsAs words line root index (replies.Value (get_or view index 0))
   within_block below = (

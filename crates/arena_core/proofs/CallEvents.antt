@@ -98,10 +98,7 @@ module _ (words : List ℕ) (line root : ℕ) (block : SmallBlock) (class : ℕ)
     found = ap (λ s. block_at s range.at (class_size class)) here ∙ block_is
 
     pub placed_there : t.slab block.start ≡ true → t.class block.start ≡ class → attach_events words line root block ≡ placed_events words line root range.at (class_size class)
-    placed_there slab of_class =
-        let inside : in_slab t range.at ≡ true = ap t.slab here ∙ slab in
-        let same : (t.class (start_at t range.at) == class_for (class_size class)) ≡ true = eq-eqb _ _ (ap t.class here ∙ of_class ∙ sym (class_is class is_class)) in
-        sym (cond-true (is_small (class_size class)) _ _ little ∙ cond-true (in_slab t range.at) _ _ inside ∙ cond-true _ _ _ same ∙ ap (attach_events words line root) found)
+    placed_there slab of_class = grind (arith, class_is, little, found)
 
     pub placed_morph : t.slab block.start ≡ true → t.class block.start ≢ class → morphed_events words line root block class ≡ placed_events words line root range.at (class_size class)
     placed_morph slab of_other =
@@ -110,9 +107,7 @@ module _ (words : List ℕ) (line root : ℕ) (block : SmallBlock) (class : ℕ)
         sym (cond-true (is_small (class_size class)) _ _ little ∙ cond-true (in_slab t range.at) _ _ inside ∙ cond-false _ _ _ differ ∙ (λ i. morphed_events words line root (found i) (class_is class is_class i)))
 
     pub freed_there : is_old t block.start range.at ≡ false → unsmall_events words line root block ≡ freed_events words line root range.at (class_size class)
-    freed_there new =
-        let none : is_old t (start_at t range.at) range.at ≡ false = ap (λ s. is_old t s range.at) here ∙ new in
-        sym (cond-true (is_small (class_size class)) _ _ little ∙ cond-false (is_old t (start_at t range.at) range.at) _ _ none ∙ ap (unsmall_events words line root) found)
+    freed_there new = grind (arith, little, found)
 
 -- the slab of a block
 pub start_is : {b : Bounds} {t : Tables} → IsSound b t → (start class number : ℕ) → t.slab start ≡ true → class < 36 → number < class_capacity class → start_at t (slab_block start class number).at ≡ start
@@ -140,9 +135,7 @@ placed_fresh b words line root start class is_class high vacant =
 
 -- the line behind a small block
 pub line_small : (line at class : ℕ) → class < 36 → (line_after line (replies.Placed at (class_size class)) ≡ (line + 1) % 8) × (line_after line (replies.Freed at (class_size class)) ≡ (line + 1) % 8)
-line_small line at class is_class =
-    let small = small_size (class_size class) (class_size-most class is_class) in
-    (cond-true (is_small (class_size class)) _ _ small, cond-true (is_small (class_size class)) _ _ small)
+line_small line at class is_class = grind (arith, small_size, class_size-most)
 
 -- what a root names
 

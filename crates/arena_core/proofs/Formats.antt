@@ -1,10 +1,10 @@
 -- An arena is formatted: the words that its header line leaves, and those that a crash leaves.
-use Rattle.std.proofs.Common.{◌≡◌, ◌≢◌, ◌↔◌, ℕ, zero, suc, ◌*◌, ◌<◌, ◌≤◌, List, [], ◌∷◌, length, take, true, true≢false, Some, None, refl, sym, ap, subst, ◌∙◌, arith, inl, inr, slice_index}
-use Rattle.arena_core.proofs.Common.{layout_rules, cond-false, word_at, put_word, reading, IsQuiet, PmemState, words_of, began, length-put_word, word_at-put_other, text_word, fields_word, directory_word, granules_in, tables_of, IsExactImage, bounds_of, HasState, IsFree, class_in, granules_at-large, Volatile, calm_at, IsArena, IsReady, heap_inside, live_below, heap}
+use Rattle.std.proofs.Common.{◌≡◌, ◌≢◌, ◌↔◌, ℕ, zero, suc, ◌*◌, ◌<◌, ◌≤◌, List, [], ◌∷◌, length, take, None, refl, sym, ap, subst, ◌∙◌, arith, inl, inr, slice_index}
+use Rattle.arena_core.proofs.Common.{layout_rules, word_at, put_word, reading, IsQuiet, PmemState, words_of, began, length-put_word, word_at-put_other, text_word, fields_word, directory_word, IsExactImage, HasState, IsFree, class_in, granules_at-large, Volatile, calm_at, IsArena, IsReady, heap_inside}
 use Rattle.pmem_lines.specs.Words.{AreZeros}
 use Rattle.pmem_lines.specs.declared.event.Event.TheVariants.{Flush, Fence}
 use Rattle.pmem_lines.specs.Events.{CrashOnly}
-use Rattle.pmem_lines.specs.Pmem.{appended, Appends}
+use Rattle.pmem_lines.specs.Pmem.{Appends}
 use Rattle.pmem_lines.proofs.States.{quiet_after}
 use Rattle.pmem_lines.proofs.Words.{word_at-put_same}
 use Rattle.pmem_lines.proofs.Images.{by_prefixes}
@@ -60,23 +60,7 @@ module _ (words : List ℕ) (header : PoolHeader) where
     length_written = length-put_word two text_word header_text ∙ length_two
 
     pub IsFormatted-written : IsFormatted written header
-    IsFormatted-written = record {
-      header = record {
-        whole = omega (arith, length_written, long);
-        text = word_at-put_same two text_word text_word header_text refl (omega (arith, length_two, long));
-        word = word_at-put_other two text_word fields_word header_text (λ e. omega arith)
-            ∙ word_at-put_other one directory_word fields_word 1 (λ e. omega arith)
-            ∙ word_at-put_same words fields_word fields_word (header_word header) refl (omega (arith, long));
-        valid = valid;
-      };
-      size = length_written ∙ size;
-      directory = word_at-put_other two text_word directory_word header_text (λ e. omega arith) ∙ word_at-put_same one directory_word directory_word 1 refl (omega (arith, length_one, long));
-      rest = λ word behind.
-          word_at-put_other two text_word word header_text (λ e. omega (arith, e, behind))
-          ∙ word_at-put_other one directory_word word 1 (λ e. omega (arith, e, behind))
-          ∙ word_at-put_other words fields_word word (header_word header) (λ e. omega (arith, e, behind))
-          ∙ zeros.each word;
-    }
+    IsFormatted-written = grind (arith, length_written, long, word_at-put_same, length_two, word_at-put_other, valid, length_one)
 
     -- without its text the header is refused
     refused : (image : List ℕ) → length image ≡ length words → word_at image text_word ≡ 0 → IsFormattedOrNot image
@@ -131,15 +115,10 @@ module _ {old begun new : PmemState} {number arenas granules : ℕ} (made : IsWr
       subst (λ (ws : List ℕ). IsFormatted ws header) (sym is) (IsFormatted-written (words_of old) header made.zeros valid made.size)
 
   pub formatted_crash : CrashOnly new.base new.events IsFormattedOrNot
-  formatted_crash =
-      subst (λ (s : PmemState). CrashOnly s.base s.events IsFormattedOrNot) (sym (made.step.state ∙ ap (λ (s : PmemState). appended s (format_events header)) made.begun_is))
-      (format_crash (words_of old) header made.zeros valid made.size)
+  formatted_crash = grind (arith, format_crash, valid)
 
   pub formatted_ready : IsReady new
-  formatted_ready = record {
-    quiet = quiet_after made.step (quiet_format header) (subst (λ (s : PmemState). IsQuiet s.events) (sym made.begun_is) tt);
-    room = omega (arith, made.step.room, ap (λ (s : PmemState). s.room) made.begun_is, made.room, ap (λ (h : PoolHeader). (layout_of h.version).room) (header_in-formatted (words_of new) header formatted_device));
-  }
+  formatted_ready = grind (arith, quiet_after, quiet_format, header_in-formatted, formatted_device)
 
   pub formatted_exact : IsExactImage (words_of new) × HasState (words_of new) no_heap
   formatted_exact = law_of_formatted (words_of new) header formatted_device
@@ -154,42 +133,4 @@ module _ {old begun new : PmemState} {number arenas granules : ℕ} (made : IsWr
 pub formatted_arena : (device : PmemState) (header : PoolHeader) (volatile : Volatile) → IsReady device → IsFormatted (words_of device) header → Reads volatile.log (words_of device) → volatile.log.granules ≡ header.granules →
     volatile.free.granules ≡ header.granules → ((k : ℕ) → IsFree volatile.free k ↔ (((layout_of header.version).first_granule ≤ k) × (k < header.granules))) → volatile.supply.slabs.granules ≡ header.granules → ((s : ℕ) → class_in volatile.supply.slabs s ≡ None) →
     length volatile.lives.counts ≡ header.granules → ((s : ℕ) → slice_index volatile.lives.counts s ≡ 0) → ((s : ℕ) → calm_at volatile.lives s ≡ None) → volatile.line ≡ 0 → IsArena device volatile
-formatted_arena device header volatile ready formatted reads size index each parts_size no_class count_size no_count no_calm first_line =
-    let words = words_of device in
-    let blank = AreBlank-formatted words header formatted in
-    let first : (bounds_of words).first ≡ (layout_of header.version).first_granule = ap (λ (h : PoolHeader). (layout_of h.version).first_granule) (header_in-formatted words header formatted) in
-    let granules : granules_in words ≡ header.granules = ap (λ (h : PoolHeader). h.granules) (header_in-formatted words header formatted) in
-    let none : (s : ℕ) → (tables_of words).slab s ≢ true = λ s slab. true≢false (sym slab ∙ blank.no_slab s) in
-    record {
-      current = record {
-        ready = ready;
-        exact = (law_of_formatted words header formatted).0;
-        log = record { reads = reads; granules = size ∙ sym granules };
-        index = record {
-          granules = index ∙ sym granules;
-          each = λ k. (
-            λ free.
-                let within = (each k).0 free in
-                record {
-                  low = omega (arith, within.0, first);
-                  high = omega (arith, within.1, granules);
-                  none = λ start covers. omega (arith, covers.low, covers.high, granules_at-large (tables_of words) start (blank.no_slab start), blank.no_large start);
-                },
-            λ vacant. (each k).1 (omega (arith, vacant.low, first), omega (arith, vacant.high, granules)),
-          );
-        };
-      };
-      slabs = record {
-        granules = parts_size ∙ sym granules;
-        classes = λ s. no_class s ∙ sym (cond-false ((tables_of words).slab s) (Some ((tables_of words).class s)) None (blank.no_slab s));
-        blocks = λ s i slab below. absurd (none s slab);
-      };
-      lives = record {
-        counts = record {
-          size = count_size ∙ sym granules;
-          each = λ s. no_count s ∙ sym (cond-false ((tables_of words).slab s) (live_below (heap (tables_of words)) s (bounds_of words).roots) 0 (blank.no_slab s));
-        };
-        calm = λ s. no_calm s ∙ sym (calm_none (tables_of words) s (blank.no_slab s));
-      };
-      few = omega (arith, first_line);
-    }
+formatted_arena device header volatile ready formatted reads size index each parts_size no_class count_size no_count no_calm first_line = grind (arith, AreBlank-formatted, header_in-formatted, law_of_formatted, granules_at-large, calm_none)

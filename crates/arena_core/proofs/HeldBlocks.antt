@@ -1,12 +1,10 @@
 -- The block that a root names in a slab.
-use Rattle.std.proofs.Common.{◌≡◌, ◌≢◌, ◌*◌, ◌/◌, ℕ, true, List, Some, None, refl, sym, ap, subst, ◌∙◌, arith, inr}
-use Rattle.arena_core.proofs.Common.{Tables, is_slab, tables_of, state_word, slab_table, Bounds, Range, slab_block, entry_at, heap, Holds, IsClaim, IsInSlab, IsSound, bounds_of, IsFormed, IsExactImage, IsNamed-claim, IsClaim-word, granules_at-slab, heap-claim, sizes_of, IsInSlab-held, SmallBlock, OldBlock, IsDetachable, IsOldDetachable, old_range, word_at, IsNamedSmall, IsNamedOld}
-use Rattle.heap_check.specs.Sound.{IsValidSlab}
+use Rattle.std.proofs.Common.{◌≡◌, ◌≢◌, ◌*◌, ℕ, true, List, Some, None, refl, sym, ap, subst, ◌∙◌, arith, inr}
+use Rattle.arena_core.proofs.Common.{Tables, tables_of, slab_table, Bounds, Range, slab_block, entry_at, heap, Holds, IsClaim, IsInSlab, IsSound, bounds_of, IsFormed, IsExactImage, IsNamed-claim, IsClaim-word, granules_at-slab, heap-claim, sizes_of, IsInSlab-held, SmallBlock, OldBlock, IsDetachable, IsOldDetachable, old_range, IsNamedSmall, IsNamedOld}
 use Rattle.heap_check.proofs.Geometry.{plain_size-some}
 use Rattle.heap_check.proofs.StateWords.{IsStateWord-valid}
 use Rattle.heap_check.proofs.Within.{IsWithin-held, one_claim}
 use Rattle.slab_morph.specs.SlabHeaders.{IsSlabHere}
-use Rattle.image_tables.specs.Forms.{IsStateWord}
 
 -- the block that a slab holds at a root's word is the root's
 pub heap_held : {b : Bounds} {t : Tables} → IsSound b t → t.open_entry ≡ None → (root start : ℕ) (range : Range) → Holds t start range → t.root root ≡ range.at → heap t root ≡ Some range
@@ -30,21 +28,7 @@ old_holds {words} {root} {block} may = record { slab = may.slab; block = inr (re
 
 -- the header of a slab is there, and valid
 pub slab_here : (words : List ℕ) (start slab : ℕ) → slab ≡ 16384 * start → IsFormed words → IsSound (bounds_of words) (tables_of words) → (tables_of words).slab start ≡ true → IsSlabHere words slab
-slab_here words start slab is formed sound lives =
-    let sizes = sizes_of words formed in
-    let four = granules_at-slab (tables_of words) start lives in
-    let lies = sound.starts start (omega (arith, four)) in
-    let same : start ≡ slab / 16384 = omega (arith, is) in
-    let there : is_slab words start ≡ true = sym (slab_table words start) ∙ lives in
-    let word = IsStateWord-valid words start there (formed.slabs start there).state (sound.slabs start lives) in
-    record {
-      aligned = omega (arith, is);
-      small = omega (arith, is, lies.1, four, sizes.most);
-      inside = omega (arith, is, lies.1, four, sizes.size);
-      there = subst (λ s. is_slab words s ≡ true) same there;
-      word = subst (λ s. IsStateWord (word_at words (state_word s))) same word;
-      valid = subst (IsValidSlab (tables_of words)) same (sound.slabs start lives);
-    }
+slab_here words start slab is formed sound lives = grind (arith, sizes_of, granules_at-slab, slab_table, IsStateWord-valid)
 
 -- what a root names may go from it
 

@@ -1,5 +1,5 @@
 -- A large extent and its root come and go: the words of the image at each stage.
-use Rattle.std.proofs.Common.{◌≡◌, ◌≢◌, ℕ, ◌*◌, ◌<◌, ◌≤◌, false, List, length, refl, sym, ap, subst, ◌∙◌, arith, ⊎_elim, Some, None}
+use Rattle.std.proofs.Common.{◌≡◌, ◌≢◌, ℕ, ◌*◌, ◌<◌, ◌≤◌, false, List, length, sym, ap, subst, ◌∙◌, arith, ⊎_elim, Some, None}
 use Rattle.arena_core.proofs.Common.{cases_eq, word_at, put_word, length-put_word, layout_of, root_word, heap_word, version_in, Tables, large_of, is_slab_of, is_slab, tables_of, put_at, HasNoMove, put_at-same, put_at-own, roots_plain, large_table, slab_table, start_of, extent_of, Bounds, Range, heap, slabs, IsExact, bounds_of, IsFormed, IsExactImage, IsSteadyImage, IsWordOf, HaveSameHeap, KeepsBlocks, law_of_steady, IsClaim-heap, IsWithin-claim, with_large, IsLargePlace, GivesRoot, AreSlabsInHeap-sound, IsExtentGone}
 use Rattle.image_tables.specs.Extents.{extent_at}
 use Rattle.image_tables.specs.Tables.{AreSlabsInHeap}
@@ -28,18 +28,7 @@ pub record IsStageOf (words : List ℕ) (root start here word : ℕ) (image : Li
 
 -- the words as they are
 pub stage_none : (words : List ℕ) (root start : ℕ) → IsFormed words → AreSlabsInHeap words → HasNoMove (tables_of words).open_entry → IsStageOf words root start ((tables_of words).large start) ((tables_of words).root root) words
-stage_none words root start formed slabs unmoved =
-    let t = tables_of words in
-    let own_word : put_at t.word root (t.root root) ≡ t.word = ap (λ (held : ℕ → ℕ). put_at t.word root (held root)) (roots_plain words unmoved) ∙ put_at-own t.word root in
-    record {
-      formed = formed;
-      bounds = refl;
-      slabs = slabs;
-      size = refl;
-      unmoved = unmoved;
-      tables = sym (λ i. record t { large = put_at-own t.large start i; word = own_word i; root = put_at-own t.root root i });
-      heap = λ k high. refl;
-    }
+stage_none words root start formed slabs unmoved = grind (arith, roots_plain, put_at-own)
 
 -- the heap begins at the same word
 same_heap_word : (words made : List ℕ) → bounds_of made ≡ bounds_of words → heap_word (version_in made) ≡ heap_word (version_in words)
@@ -111,19 +100,7 @@ stage_entry words root start here word made image entry after stage rest extents
 
 -- a loose extent is gone
 pub stage_gone : (words : List ℕ) (root start here word : ℕ) (made image : List ℕ) → IsStageOf words root start here word made → IsExtentGone made start image → IsStageOf words root start 0 word image
-stage_gone words root start here word made image stage gone =
-    let t = tables_of words in
-    record {
-      formed = gone.image.formed;
-      bounds = gone.bounds ∙ stage.bounds;
-      slabs = AreSlabsInHeap-sound image gone.image.steady.sound;
-      size = gone.rest.same_length ∙ stage.size;
-      unmoved = stage.unmoved;
-      tables = gone.tables
-          ∙ ap (λ (s : Tables). record s { large = put_at s.large start 0 }) stage.tables
-          ∙ ap (λ (larges : ℕ → ℕ). record (with_root t root word) { large = larges }) (put_at-twice t.large start here 0);
-      heap = λ k high. heap_word-off_log made image k (off_log made image gone.rest) (omega (arith, high, same_heap_word words made stage.bounds)) ∙ stage.heap k high;
-    }
+stage_gone words root start here word made image stage gone = grind (arith, AreSlabsInHeap-sound, put_at-twice, heap_word-off_log, off_log, same_heap_word)
 
 -- no move entry is open in it
 pub still_stage : {words : List ℕ} {root start here word : ℕ} {image : List ℕ} → IsStageOf words root start here word image → HasNoMove (tables_of image).open_entry

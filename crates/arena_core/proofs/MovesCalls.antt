@@ -1,6 +1,6 @@
 -- A move put together: what it did behind its begin.
-use Rattle.std.proofs.Common.{◌≡◌, ◌+◌, ◌%◌, ℕ, List, [], Err, refl, sym, ap, arith, inl}
-use Rattle.arena_core.proofs.Common.{PmemState, words_of, IsQuietStep, step_by, step_none, tables_of, HasNoMove-closed, roots_plain, Range, bounds_of, IsExactImage, law_of_steady, Volatile, move_reply, IsArena, call_events, line_after, IsToMove, IsMovePlan, IsMoveCarried}
+use Rattle.std.proofs.Common.{◌≡◌, ◌+◌, ◌%◌, ℕ, List, [], Err, refl, sym, arith}
+use Rattle.arena_core.proofs.Common.{PmemState, words_of, IsQuietStep, step_by, step_none, HasNoMove-closed, roots_plain, Range, IsExactImage, law_of_steady, Volatile, move_reply, IsArena, call_events, line_after, IsToMove, IsMovePlan, IsMoveCarried}
 use Rattle.arena_core.proofs.Readiness.{ready_after}
 use Rattle.attach_steps.specs.Steps.{move_events}
 use Rattle.heap_model.specs.declared.call.Call.TheVariants as calls
@@ -43,12 +43,7 @@ carried_moved {old} {new} {was} {from} {to} range arena plan step moved =
 
 -- a crash in which nothing is done
 IsEitherMoved-same : (words : List ℕ) (to : ℕ) → IsExactImage words → IsEitherMoved words words to words
-IsEitherMoved-same words to image = record {
-  steady = record { formed = image.formed; steady = law_of_steady (bounds_of words) (tables_of words) image.exact };
-  heap = inl (record { each = λ root. refl });
-  words = record { each = λ root other range k was is word. refl };
-  held = ap (λ (f : ℕ → ℕ). f to) (roots_plain words (HasNoMove-closed image.exact.closed));
-}
+IsEitherMoved-same words to image = grind (arith, law_of_steady, roots_plain, HasNoMove-closed)
 
 -- a refusal has no event, and leaves the line
 pub none_moved : (words : List ℕ) (line from to : ℕ) (refusal : MoveRefusal) → (call_events words line (calls.Move from to) (move_reply (Err refusal)) ≡ []) × (line_after line (move_reply (Err refusal)) ≡ line)

@@ -1,6 +1,6 @@
 -- Words that are written into a root's block, put together: what a write did behind its begin.
-use Rattle.std.proofs.Common.{◌≡◌, ◌<◌, ◌≤◌, ◌+◌, ◌-◌, ◌*◌, ◌/◌, ◌%◌, ℕ, List, [], length, Ok, Err, None, refl, sym, ap, ◌∙◌, arith, inl, inr, ⊎_elim}
-use Rattle.arena_core.proofs.Common.{cases_lt, word_at, PmemState, words_of, IsQuietStep, step_by, step_none, step_wider, Tables, tables_of, HasNoMove-closed, class_size, slab_block, root_table-past, entry_at, heap, bounds_of, IsExactImage, IsNamed-claim, heap-none, IsClaim-heap, sizes_of, IsWithin-claim, BlockRefusal, IsReady, write_events, payload_events, HasWritten, HasBlockAt, IsWritable, IsWritePlan, IsWriteCarried, IsHeldBy, range_held}
+use Rattle.std.proofs.Common.{◌≡◌, ◌<◌, ◌+◌, ◌-◌, ◌*◌, ◌/◌, ◌%◌, ℕ, List, [], length, Ok, Err, None, refl, sym, ap, ◌∙◌, arith, inl, inr, ⊎_elim}
+use Rattle.arena_core.proofs.Common.{word_at, PmemState, words_of, IsQuietStep, step_by, step_none, step_wider, Tables, tables_of, HasNoMove-closed, class_size, slab_block, root_table-past, entry_at, heap, bounds_of, IsExactImage, IsNamed-claim, heap-none, IsClaim-heap, sizes_of, IsWithin-claim, BlockRefusal, IsReady, write_events, payload_events, HasWritten, HasBlockAt, IsWritable, IsWritePlan, IsWriteCarried, IsHeldBy, range_held}
 use Rattle.arena_core.proofs.Readiness.{ready_after}
 use Rattle.durable_steps.specs.Rows.{IsOldOrNewRow}
 use Rattle.size_classes.proofs.Spacing.{class_size-aligned}
@@ -72,19 +72,10 @@ module _ {old new : PmemState} {root from at : ℕ} {words : List ℕ} (image : 
   off_row_image left row = grind arith
 
   others : (k : ℕ) → ¬ (IsNamedWord (words_of old) root from (length words) k) → word_at (words_of new) k ≡ word_at (words_of old) k
-  others k off = ap (λ ws. word_at ws k) step.appends.words ∙ off_write (words_of old) t root from words k (⊎_elim
-      (λ (before : k < t.root root / 8 + from). inl before)
-      (λ (behind : t.root root / 8 + from ≤ k). ⊎_elim
-      (λ (within : k < t.root root / 8 + from + length words). absurd (off (record { low = behind; high = within })))
-      (λ (past : t.root root / 8 + from + length words ≤ k). inr past)
-      (cases_lt k (t.root root / 8 + from + length words)))
-      (cases_lt k (t.root root / 8 + from)))
+  others k off = grind (arith, off_write)
 
   off_block : IsSameOffBlock (words_of old) (words_of new) may.range
-  off_block = record {
-    same_length = step.appends.size;
-    others = λ k outside. others k (λ named. outside (record { low = omega (arith, named.low, may.block.place); high = omega (arith, named.high, may.block.place, may.within) }));
-  }
+  off_block = grind (arith, others)
 
   written : HasWritten (words_of old) root from words (words_of new)
   written = record {

@@ -1,7 +1,7 @@
 -- Words that differ within the block of a root alone: the image says the same of everything, and what stands beside the
 -- words of an arena stays what they say.
 use Rattle.std.proofs.Common.{◌≡◌, ◌<◌, ◌≤◌, ◌↔◌, ◌+◌, ◌*◌, ℕ, true, List, length, Some, sym, ap, subst, ◌∙◌, arith, ⊎_elim, cond}
-use Rattle.arena_core.proofs.Common.{class_capacity, word_at, PmemState, words_of, text_word, root_word, entry_word, heap_word, version_in, granules_in, Tables, large_of, is_slab_of, is_slab, state_word, index_word, SameLog, slab_table, root_word-low, Book, FreeSet, Supply, IsOpen, Bounds, Range, live_below, heap, slabs, IsUnusedIn, IsExact, granules_at, bounds_of, IsFormed, IsExactImage, IsWordOf, HaveSameHeap, IsBookOf, Volatile, Lives, calm_at, IsIndexOf, IsSlabsOf, live_in, calm_of, AreLivesOf, IsArena, IsReady}
+use Rattle.arena_core.proofs.Common.{class_capacity, word_at, PmemState, words_of, text_word, root_word, entry_word, heap_word, version_in, granules_in, Tables, large_of, is_slab_of, is_slab, state_word, index_word, SameLog, slab_table, root_word-low, Book, FreeSet, Supply, IsOpen, Bounds, Range, live_below, heap, slabs, IsUnusedIn, granules_at, bounds_of, IsFormed, IsExactImage, IsWordOf, HaveSameHeap, IsBookOf, Volatile, Lives, calm_at, IsIndexOf, IsSlabsOf, live_in, calm_of, AreLivesOf, IsArena, IsReady}
 use Rattle.pool_layout.specs.Places.{wal_word, granule_word, blocks_place}
 use Rattle.pool_layout.specs.Header.{version_field}
 use Rattle.image_tables.specs.Tables.{root_in, open_entry_in, wal_lines, bitmap_word, bit_at, live_at, number_at, tables_of}
@@ -88,10 +88,7 @@ module _ {words new : List ℕ} {range : Range} (image : IsExactImage words) (ro
 
   -- so the image is exact
   pub exact_kept : IsExactImage new
-  exact_kept = record {
-    formed = formed;
-    exact = subst (λ (b : Bounds). IsExact b (tables_of new)) (sym bounds_kept) (subst (IsExact (bounds_of words)) (sym tables_kept) image.exact);
-  }
+  exact_kept = grind (arith, formed, bounds_kept, tables_kept)
 
   pub heap_kept : HaveSameHeap words new
   heap_kept = record { each = λ r. ap (λ (t : Tables). heap t r) tables_kept }

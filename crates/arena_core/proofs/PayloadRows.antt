@@ -1,9 +1,8 @@
 -- What is read behind a row of words, and its events.
-use Rattle.std.proofs.Common.{◌≡◌, ◌⊎◌, ◌<◌, ◌≤◌, ◌+◌, ◌-◌, ◌*◌, ◌/◌, ℕ, List, [], ◌∷◌, ◌++◌, length, get_or, refl, ap, ◌∙◌, arith, inl, inr, ⊎_elim}
+use Rattle.std.proofs.Common.{◌≡◌, ◌⊎◌, ◌<◌, ◌≤◌, ◌+◌, ◌-◌, ◌*◌, ◌/◌, ℕ, List, [], ◌∷◌, length, get_or, refl, ap, ◌∙◌, arith, inl, inr, ⊎_elim}
 use Rattle.arena_core.proofs.Common.{word_at, put_word, word_at-put_other, reading, Tables, write_events}
-use Rattle.pmem_lines.specs.declared.event.Event.TheVariants.{Fence}
 use Rattle.pmem_lines.proofs.Images.{reading-append}
-use Rattle.durable_steps.specs.Rows.{stores_at, flushes_of, lines_of, row_events}
+use Rattle.durable_steps.specs.Rows.{stores_at, row_events}
 use Rattle.durable_steps.proofs.Rows.{row_word, reading-flushes}
 
 -- a word that is none of those that are stored
@@ -15,11 +14,7 @@ off_stores base at (word ∷ words) k off =
 
 -- the flushes and the fence of a row change no word
 reading-row : (base : List ℕ) (at : ℕ) (words : List ℕ) → reading base (row_events at words) ≡ reading base (stores_at at words)
-reading-row base at words =
-    let lines = lines_of at (length words) in
-    reading-append base (stores_at at words ++ flushes_of (at / 64) lines) (Fence ∷ [])
-    ∙ reading-append base (stores_at at words) (flushes_of (at / 64) lines)
-    ∙ reading-flushes (reading base (stores_at at words)) (at / 64) lines
+reading-row base at words = grind (arith, reading-append, reading-flushes)
 
 pub off_row : (base : List ℕ) (at : ℕ) (words : List ℕ) (k : ℕ) → (k < at / 8) ⊎ (at / 8 + length words ≤ k) → word_at (reading base (row_events at words)) k ≡ word_at base k
 off_row base at words k off = ap (λ ws. word_at ws k) (reading-row base at words) ∙ off_stores base at words k off

@@ -111,12 +111,7 @@ module _ {old new : List ℕ} {root from : ℕ} {words : List ℕ} {range : Rang
         }
 
     put_word : (other index word : ℕ) → IsPut root from words other index word → HasValue new (with_values m root from words) other index word
-    put_word other index word put = record {
-      range = range;
-      named = ap (λ (f : ℕ → Option Range). f other) (block_kept m root from words) ∙ ap m.block put.root_is ∙ named;
-      within = omega (arith, put.high, within);
-      here = here_written index put.low put.high ∙ put.is;
-    }
+    put_word other index word put = grind (arith, named, block_kept, here_written)
 
     pub state_written : HasState new (with_values m root from words)
     state_written = record {

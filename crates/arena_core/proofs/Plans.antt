@@ -23,10 +23,7 @@ slab_parts t start class is = grind arith
 
 -- a slab has a block
 pub class_capacity-some : (class : ℕ) → class < 36 → 0 < class_capacity class
-class_capacity-some class is_class = some (class_size class) (class_size-least class is_class) (class_size-most class is_class)
-  where
-    some : (size : ℕ) → 16 ≤ size → size ≤ 16384 → 0 < 63488 / size
-    some size least most = le-div 1 63488 size (omega (arith, least)) (omega (arith, most))
+class_capacity-some class is_class = grind (arith, class_size-least, class_size-most, le-div)
 
 module _ {set : Supply} {words : List ℕ} (parts : IsSlabsOf set words) where
   -- a slab of the supply is one of the tables
@@ -159,10 +156,7 @@ module _ {words : List ℕ} (image : IsExactImage words) where
 
   -- a slab begins below the largest arena's end
   pub slab_few : {set : Supply} → IsSlabsOf set words → (start class : ℕ) → class_in set.slabs start ≡ Some class → start < 1024
-  slab_few parts start class is =
-      let four = granules_at-slab t start (slab_of_set parts start class is).0 in
-      let lies = image.exact.sound.starts start (omega (arith, four)) in
-      omega (arith, four, lies.1, (sizes_of words image.formed).most)
+  slab_few parts start class is = grind (arith, granules_at-slab, slab_of_set, sizes_of)
 
   -- so the root names it
   pub IsNamedSmall-block : (root at start class base size : ℕ) → root < (bounds_of words).roots → at ≡ (tables_of words).root root → base ≡ 16384 * start + 2048 → size ≡ class_size class → IsBlockAt root start class →

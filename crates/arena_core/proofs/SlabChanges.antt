@@ -161,14 +161,4 @@ exact_held words start image rooted lively = grind arith
 
 -- the granules of a slab are held
 pub held_row : (words : List ℕ) (set : FreeSet) (start : ℕ) → IsExactButImage words start → (tables_of words).slab start ≡ true → IsIndexOf set words → IsHeldRow set start 4
-held_row words set start image slab index =
-    let t = tables_of words in
-    let four = granules_at-slab t start slab in
-    let lies = image.but.sound.starts start (omega (arith, four)) in
-    record {
-      each = λ k low high. (
-        omega (arith, low, lies.0, (sizes_of words image.formed).first),
-        omega (arith, high, lies.1, four, index.granules),
-        λ free. ((index.each k).0 free).none start (Covers-slab t start k slab low high),
-      );
-    }
+held_row words set start image slab index = grind (arith, granules_at-slab, sizes_of, Covers-slab)

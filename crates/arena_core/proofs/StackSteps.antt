@@ -49,13 +49,7 @@ module _ (b : Bounds) (m : Machine) (was next : Supply) (seat class : ℕ) (agre
 
     -- so the seat is given a block of it by a refill
     refill_anew : TookBlock mid seat class (record { start = start; number = number }) next → IsRefill (view_of b (with_class m start class)) (stacks_of mid.stacks) seat class (slab_block start class number).at (stacks_of next.stacks)
-    refill_anew took = IsRefill-by (supply_view mid) (view_of b (with_class m start class)) agree_more (stacks_of mid.stacks) seat class (slab_block start class number).at (stacks_of next.stacks) refill
-      where
-        refill : IsRefill (supply_view mid) (stacks_of mid.stacks) seat class (slab_block start class number).at (stacks_of next.stacks)
-        refill = ⊎_elim
-            (λ own. absurd (no_top (stacks_of mid.stacks) seat class (bare seat) own.0))
-            (λ rest. ⊎_elim (λ some. some.1) (λ last. absurd (no_top (stacks_of mid.stacks) last.1.0.seat class (bare last.1.0.seat) last.1.0.first.top)) rest.1)
-            took.served
+    refill_anew took = grind (arith, IsRefill-by, agree_more, no_top)
 
   -- the first one of a new slab
   pub way_fresh : (start : ℕ) → HasNoOpen was class → HasNoFitSlab (view_of b m) class → IsSuppliedFresh was next seat start class → ((n : ℕ) → n < class_capacity class → IsUnused m (slab_block start class n)) → IsBestFit (IsFreeGranule b m) 4 start →

@@ -109,21 +109,7 @@ module _ {words : List ℕ} (image : IsExactImage words) {m : Machine} (state : 
 
   -- a granule that is free in the state is vacant
   free_is_vacant : (k : ℕ) → IsFreeGranule b m k → IsVacant b t k
-  free_is_vacant k free = record { low = free.low; high = free.high; none = none }
-    where
-      none : (start : ℕ) → ¬ (Covers t start k)
-      none start covers = ⊎_elim
-          (λ (slab : t.slab start ≡ true).
-          let size = granules_at-slab t start slab in
-          ⊎_elim (λ x. omega (arith, x, covers.low)) (λ x. omega (arith, x, covers.high, size)) (free.no_slab start (t.class start) (naming_slab state start slab)))
-          (λ (no_slab : t.slab start ≡ false).
-          let size = granules_at-large t start no_slab in
-          let live : 0 < t.large start = omega (arith, size, covers.low, covers.high) in
-          let rooted = large_named start live in
-          free.no_block rooted.0 (record { at = 16384 * start; size = 16384 * t.large start }) rooted.1
-          (omega (arith, large_many words start (omega (arith, (sizes_of words image.formed).most)) image.formed.log live))
-          (record { begins = omega (arith, covers.low); ends = omega (arith, covers.high, size) }))
-          (cases_Bool (t.slab start))
+  free_is_vacant k free = grind (arith, granules_at-slab, naming_slab, granules_at-large, large_named, large_many, sizes_of)
 
   -- and a vacant one is free
   vacant_is_free : (k : ℕ) → IsVacant b t k → IsFreeGranule b m k

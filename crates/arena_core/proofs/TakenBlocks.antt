@@ -13,12 +13,7 @@ use Rattle.arena_core.proofs.HeldBlocks.{heap_held, class_holds, old_holds}
 
 -- a slab lies in the arena, so its number of live blocks is one of the counts, and small
 pub counted : (words : List ℕ) (start : ℕ) (lives : Lives) → IsExactButImage words start → (tables_of words).slab start ≡ true → AreLivesOf lives words → (start < length lives.counts) × (slice_index lives.counts start ≡ live_in words start) × (live_in words start < 5000)
-counted words start lives image slab were =
-    let sizes = sizes_of words image.formed in
-    let four = granules_at-slab (tables_of words) start slab in
-    let lies = image.but.sound.starts start (omega (arith, four)) in
-    let most = live_most words start in
-    (omega (arith, lies.1, four, were.counts.size), were.counts.each start, omega (arith, most, sizes.roots))
+counted words start lives image slab were = grind (arith, sizes_of, granules_at-slab, live_most)
 
 -- the new image has one block more, or one less
 module _ (words new : List ℕ) (root start : ℕ) (range : Range) (rooted : root < (bounds_of words).roots) (bounds : bounds_of new ≡ bounds_of words) (slab_same : (s : ℕ) → (tables_of new).slab s ≡ (tables_of words).slab s)

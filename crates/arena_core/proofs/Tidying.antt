@@ -1,6 +1,6 @@
 -- Behind a block that went its slab is dropped where it holds none, and its transition ends where no old one is left.
-use Rattle.std.proofs.Common.{◌≡◌, ◌≢◌, ◌↔◌, ◌==◌, ℕ, ◌<◌, Bool, true, false, true≢false, not, List, [], slice_index, refl, sym, ap, subst, ◌∙◌, arith, inl, ⊎_elim, Some, None, if◌then◌else◌}
-use Rattle.arena_core.proofs.Common.{cases_Bool, cases_eq, cond-true, cond-false, eq-eqb, eqb-true, and_from, and_parts, false_from_ne_true, PmemState, words_of, IsQuietStep, step_by, step_none, step_wider, morphed_kind, Tables, tables_of, Bounds, with_key, any_below, slabs, IsUnusedIn, heap, IsDoneSlab, IsInSlab, bounds_of, IsExactImage, IsSteadyImage, IsSteady-but, Volatile, Lives, calm_at, IsSlabsOf, AreCountsOf, calm_of, IsTidied, slabs_but, holds_none, tidy_events, live_below, calm_but, header_of, put_at-same, put_at-own, HasNoMove-closed, class_capacity}
+use Rattle.std.proofs.Common.{◌≡◌, ◌≢◌, ◌↔◌, ◌==◌, ℕ, ◌<◌, Bool, true, false, not, List, [], slice_index, refl, sym, ap, subst, ◌∙◌, arith, inl, ⊎_elim, Some, None, if◌then◌else◌}
+use Rattle.arena_core.proofs.Common.{cases_Bool, cases_eq, cond-true, cond-false, eqb-true, and_from, and_parts, false_from_ne_true, PmemState, words_of, IsQuietStep, step_by, step_none, step_wider, morphed_kind, Tables, tables_of, Bounds, with_key, any_below, slabs, IsUnusedIn, heap, IsDoneSlab, IsInSlab, bounds_of, IsExactImage, IsSteadyImage, IsSteady-but, Volatile, Lives, calm_at, IsSlabsOf, AreCountsOf, calm_of, IsTidied, slabs_but, holds_none, tidy_events, live_below, calm_but, header_of, put_at-same, put_at-own, HasNoMove-closed, class_capacity}
 use Rattle.arena_core.proofs.Readiness.{ready_after}
 use Rattle.transition_steps.specs.Transitions.{end_events, IsEndable, LeavesEntry, IsEnded}
 use Rattle.arena_core.specs.Carried.{IsUntidy}
@@ -18,9 +18,7 @@ use Rattle.slab_morph.specs.Stages.{settled}
 
 -- the test of a slab that is done
 pub done_by_test : (t : Tables) (start : ℕ) → IsDoneSlab t start → is_done t start ≡ true
-done_by_test t start done =
-    and_from (t.kind start == morphed_kind) (not (any_below (t.live start) (t.index_count start))) (eq-eqb (t.kind start) morphed_kind done.kind)
-    (ap not (false_from_ne_true (any_below (t.live start) (t.index_count start)) (λ some. let found = any_below-some (t.live start) (t.index_count start) some in true≢false (sym found.2 ∙ done.none found.0 found.1))))
+done_by_test t start done = grind (arith, and_from, false_from_ne_true, any_below-some)
 
 pub not_done_by_test : (t : Tables) (start : ℕ) → t.slab start ≡ true → ¬ (IsDoneSlab t start) → is_done t start ≡ false
 not_done_by_test t start slab lively = false_from_ne_true (is_done t start) (λ is.
