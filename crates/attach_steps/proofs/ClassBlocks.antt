@@ -1,10 +1,9 @@
 -- A block of its slab's class comes or goes: what the whole sequence leaves, and a crash within it.
 use Rattle.std.proofs.Common.{◌≡◌, ◌*◌, ◌/◌, ◌%◌, ℕ, ◌<◌, Bool, true, false, List, length, refl, sym, ap, subst, ◌∙◌, arith, inl, inr, Some, None}
-use Rattle.attach_steps.proofs.Common.{word_at, put_word, reading, PmemState, IsQuietStep, word_events, pair_events, IsOldOrNewPair, root_word, wal_word, Tables, bitmap_word, tables_of, put_in, with_root, put_in-twice, put_in-own, with_bit, PutsBitOver, entry_word, Opens, OpensOrNot, Closes, ClosesOrNot, IsDoneSlab, bounds_of, IsEitherHeap, sizes_of, IsOneBlock, entry_for, bit_word, bit_put, under_entry}
+use Rattle.attach_steps.proofs.Common.{word_at, reading, PmemState, IsQuietStep, word_events, pair_events, IsOldOrNewPair, root_word, wal_word, Tables, bitmap_word, tables_of, put_in, with_root, put_in-twice, put_in-own, with_bit, PutsBitOver, entry_word, Opens, OpensOrNot, Closes, ClosesOrNot, IsDoneSlab, bounds_of, IsEitherHeap, sizes_of, IsOneBlock, entry_for, bit_word, bit_put, under_entry}
 use Rattle.size_classes.specs.Classes.{class_size}
 use Rattle.image_tables.specs.declared.entry.WalEntry.TheVariants.{Place}
 use Rattle.image_tables.specs.Updates.{put_bit}
-use Rattle.slab_header.specs.Steps.{PutsBit}
 use Rattle.attach_wal.proofs.Words.{IsWalWord-entry}
 use Rattle.heap_model.specs.Machine.{slab_block}
 use Rattle.heap_check.proofs.Forms.{IsFormed-put_bitmap}
@@ -20,10 +19,7 @@ use Rattle.attach_steps.proofs.Sequences.{Leads, comes, goes, marks, unmarks, en
 
 -- a bit is put over any words that have the same word there
 pub PutsBitOver-same : (words made : List ℕ) (start i : ℕ) (on : Bool) → length made ≡ length words → word_at made (bitmap_word start i) ≡ word_at words (bitmap_word start i) → PutsBitOver made start i on → PutsBitOver words start i on
-PutsBitOver-same words made start i on size word over = record {
-  each = λ image long same.
-      subst (λ w. PutsBit image (put_word image (bitmap_word start i) (with_bit w (i / 8 % 64) on)) start i on) word (over.each image (long ∙ sym size) (same ∙ sym word));
-}
+PutsBitOver-same words made start i on size word over = grind arith
 
 -- its place: the word with its bit, and the entry of its root
 abbrev pub class_site : Tables → ℕ → SmallBlock → Site

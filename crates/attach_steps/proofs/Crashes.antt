@@ -94,10 +94,7 @@ module _ (words : List ℕ) (line root : ℕ) (site : Site) (is : IsSite words r
 
   -- a word is put, or not
   put_or_not : (made : List ℕ) (k value : ℕ) (image : List ℕ) → IsUnderEntry made → IsUnderEntry (put_word made k value) → IsOldOrNewWord made (8 * k) value image → IsUnderEntry image
-  put_or_not made k value image old new either = ⊎_elim
-      (λ (same : image ≡ made). subst IsUnderEntry (sym same) old)
-      (λ (put : image ≡ put_word made (8 * k / 8) value). subst IsUnderEntry (sym (put ∙ ap (λ i. put_word made i value) (omega arith))) new)
-      either.is
+  put_or_not made k value image old new either = grind arith
 
   header_under : (made between : List ℕ) (value : ℕ) (new_on : Bool) → PutsOver made value new_on → length between ≡ length made → word_at between site.k ≡ word_at made site.k → IsUnderEntry between →
       (image : List ℕ) → IsOldOrNewWord between (8 * site.k) value image → IsUnderEntry image

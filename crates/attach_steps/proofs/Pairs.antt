@@ -1,5 +1,5 @@
 -- What is read behind the stores of a sequence.
-use Rattle.std.proofs.Common.{◌≡◌, ℕ, ◌*◌, ◌/◌, ◌<◌, List, ap, subst, ◌∙◌, arith}
+use Rattle.std.proofs.Common.{◌≡◌, ℕ, ◌*◌, ◌<◌, List, ap, subst, ◌∙◌, arith}
 use Rattle.attach_steps.proofs.Common.{word_at, put_word, word_at-put_other, PmemState, words_of, Appends, reading, IsQuietStep, pair_events, IsOldOrNewPair, wal_word, entry_word, Opens}
 use Rattle.pmem_lines.specs.declared.event.Event.{Event}
 use Rattle.pmem_lines.specs.Events.{IsQuiet}
@@ -9,10 +9,7 @@ use Rattle.attach_steps.proofs.Stages.{Site, IsSite, start_low}
 
 -- behind a pair of stores
 pub reading_pair : (words : List ℕ) (a x b y : ℕ) → reading words (pair_events (8 * a) x (8 * b) y) ≡ put_word (put_word words a x) b y
-reading_pair words a x b y =
-    let first : 8 * a / 8 ≡ a = omega arith in
-    let second : 8 * b / 8 ≡ b = omega arith in
-    λ i. put_word (put_word words (first i) x) (second i) y
+reading_pair words a x b y = grind arith
 
 -- a pair of stores under one fence is a step
 pub pair_step : {s t : PmemState} {events : List Event} (at value after word : ℕ) → events ≡ pair_events at value after word → Appends s t events → IsQuiet s.events → IsQuietStep s t (pair_events at value after word) (IsOldOrNewPair (words_of s) at value after word)

@@ -1,12 +1,11 @@
 -- A block of a slab comes or goes with its root's word: the image at each of the stores.
-use Rattle.std.proofs.Common.{◌≡◌, ◌≢◌, ◌⊎◌, ℕ, ◌+◌, ◌*◌, ◌<◌, ◌≤◌, Bool, true, List, length, refl, sym, ap, subst, ◌∙◌, arith, inl, inr, ⊎_elim, Option, Some, None}
+use Rattle.std.proofs.Common.{◌≡◌, ◌≢◌, ◌⊎◌, ℕ, ◌+◌, ◌*◌, ◌<◌, ◌≤◌, Bool, true, List, length, refl, sym, ap, subst, ◌∙◌, arith, inl, inr, Option, Some, None}
 use Rattle.attach_steps.proofs.Common.{put_word, word_at-put_other, length-put_word, root_word, wal_word, WalEntry, Tables, tables_of, with_root, HasNoMove, entry_word, Opens, Closes, Bounds, Range, bounds_of, index_count_few, sizes_of, IsOneBlock}
 use Rattle.pool_layout.specs.Layout.{layout_of}
-use Rattle.pool_layout.specs.Places.{fields_word}
 use Rattle.pool_layout.specs.Header.{version_in}
 use Rattle.image_tables.specs.Forms.{IsWalWord}
-use Rattle.image_tables.specs.Tables.{held_of, AreSlabsInHeap, is_slab, is_slab_of, state_field, wal_lines}
-use Rattle.image_tables.specs.Updates.{put_at, with_open_entry}
+use Rattle.image_tables.specs.Tables.{AreSlabsInHeap, is_slab, is_slab_of, state_field, wal_lines}
+use Rattle.image_tables.specs.Updates.{with_open_entry}
 use Rattle.image_tables.proofs.Updates.{put_at-twice, put_at-own}
 use Rattle.image_tables.proofs.Extents.{extent_at-elsewhere}
 use Rattle.image_tables.proofs.Headers.{IsSameOffHeader-put, is_slab-off_header}
@@ -84,26 +83,13 @@ module _ (words : List ℕ) (line root : ℕ) (site : Site) (is : IsSite words r
   start_low = let sizes = sizes_of words is.formed in omega (arith, sizes.first, (AreSlabsInHeap-sound words sound).low site.start (sym (slab_table words site.start) ∙ slab))
 
   pub start_high : site.start + 4 ≤ 1024
-  start_high =
-      let sizes = sizes_of words is.formed in
-      let four = granules_at-slab t site.start slab in
-      omega (arith, sizes.most, (sound.starts site.start (omega (arith, four))).1, four)
+  start_high = grind (arith, sizes_of, granules_at-slab, slab, sound)
 
   pub header_inside : 2048 * site.start + 256 ≤ length words
-  header_inside =
-      let sizes = sizes_of words is.formed in
-      let four = granules_at-slab t site.start slab in
-      omega (arith, sizes.size, (sound.starts site.start (omega (arith, four))).1, four)
+  header_inside = grind arith
 
   pub inside : (made : List ℕ) → length made ≡ length words → AreInside made root site.start
-  inside made size =
-      let sizes = sizes_of words is.formed in record {
-        small = omega (arith, start_high);
-        header = omega (arith, header_inside, size);
-        root_low = omega (arith, root_low);
-        root_inside = omega (arith, root_inside words root is.formed is.rooted, size);
-        before = omega (arith, root_low, start_low);
-      }
+  inside made size = grind (arith, sizes_of, start_high, header_inside, root_low, root_inside, start_low)
 
   -- before, each root holds its word
   plain_roots : t.root ≡ t.word
@@ -111,55 +97,14 @@ module _ (words : List ℕ) (line root : ℕ) (site : Site) (is : IsSite words r
 
   -- the words as they are
   pub stage_begin : (on : Bool) (word : ℕ) → site.bits on ≡ t.bit → site.lives on ≡ t.live → t.root root ≡ word → IsStageOf words line root site on word None words
-  stage_begin on word bits lives named =
-      let closed = is.one.but.closed in
-      record {
-        formed = is.formed;
-        bounds = refl;
-        slabs = AreSlabsInHeap-sound words sound;
-        alone = record { closed = λ other below apart. closed_words words closed other below };
-        plain = tt;
-        tables = sym (λ i. record t {
-          bit = bits i;
-          live = lives i;
-          word = own_word i;
-          root = own_root i;
-          open_entry = sym closed i;
-        });
-        rest = record { same_length = refl; others = λ k wal own root. refl };
-      }
-    where
-      own_root : put_at t.root root word ≡ t.root
-      own_root = ap (put_at t.root root) (sym named) ∙ put_at-own t.root root
-
-      own_word : put_at t.word root word ≡ t.word
-      own_word = ap (λ (held : ℕ → ℕ). put_at held root word) (sym plain_roots) ∙ own_root ∙ plain_roots
+  stage_begin on word bits lives named = grind (arith, AreSlabsInHeap-sound, sound, closed_words, put_at-own, plain_roots)
 
   -- one store of the sequence
   pub stage_put : (on new_on : Bool) (word new_word : ℕ) (entry new_entry : Option WalEntry) (made : List ℕ) (k value : ℕ) → IsStageOf words line root site on word entry made → IsOneOf line root site k →
       IsFormed (put_word made k value) → ((other : ℕ) → is_slab (put_word made k value) other ≡ is_slab made other) → HasNoOther (put_word made k value) line → HasNoMove new_entry →
       tables_of (put_word made k value) ≡ tables_with words root site new_on new_word new_entry →
       IsStageOf words line root site new_on new_word new_entry (put_word made k value)
-  stage_put on new_on word new_word entry new_entry made k value stage one well slab_is alone plain tables =
-      let bounds = bounds_of-put_word made k value (λ e. not_fields k one e) in
-      record {
-        formed = well;
-        bounds = bounds ∙ stage.bounds;
-        slabs = record { low = λ other there. subst (λ (b : Bounds). b.first ≤ other) (sym bounds) (stage.slabs.low other (sym (slab_is other) ∙ there)) };
-        alone = alone;
-        plain = plain;
-        tables = tables;
-        rest = record {
-          same_length = length-put_word made k value ∙ stage.rest.same_length;
-          others = λ j wal own root. word_at-put_other made k j value (λ e. other_than k j one wal own root e) ∙ stage.rest.others j wal own root;
-        };
-      }
-    where
-      not_fields : (k : ℕ) → IsOneOf line root site k → fields_word ≢ k
-      not_fields k one e = ⊎_elim (λ x. omega (arith, x, e)) (λ y. ⊎_elim (λ x. omega (arith, x, e, start_low, is.low)) (λ x. omega (arith, x, e)) y) one
-
-      other_than : (k j : ℕ) → IsOneOf line root site k → j ≢ wal_word line → j ≢ site.k → j ≢ root_word root → j ≢ k
-      other_than k j one wal own root e = ⊎_elim (λ x. wal (e ∙ x)) (λ y. ⊎_elim (λ x. own (e ∙ x)) (λ x. root (e ∙ x)) y) one
+  stage_put on new_on word new_word entry new_entry made k value stage one well slab_is alone plain tables = grind (arith, bounds_of-put_word, length-put_word, word_at-put_other, start_low)
 
   module _ (on : Bool) (word : ℕ) (entry : Option WalEntry) (made : List ℕ) (stage : IsStageOf words line root site on word entry made) where
     made_size : length made ≡ length words
@@ -177,9 +122,7 @@ module _ (words : List ℕ) (line root : ℕ) (site : Site) (is : IsSite words r
 
     -- the open entry is another
     entry_stage : (new_entry : Option WalEntry) → HasNoMove new_entry → with_open_entry (tables_with words root site on word entry) new_entry ≡ tables_with words root site on word new_entry
-    entry_stage new_entry plain =
-        let held : held_of new_entry (put_at t.word root word) ≡ put_at t.root root word = held_of-plain new_entry (put_at t.word root word) plain ∙ ap (λ (f : ℕ → ℕ). put_at f root word) (sym plain_roots) in
-        λ i. record t { bit = site.bits on; live = site.lives on; word = put_at t.word root word; root = held i; open_entry = new_entry }
+    entry_stage new_entry plain = grind (arith, held_of-plain, plain_roots)
 
     -- the entry is open
     pub stage_open : (image : List ℕ) → entry ≡ None → Opens made line site.own image → IsStageOf words line root site on word (Some site.own) image

@@ -1,11 +1,10 @@
 -- A slab is dropped: the image afterwards, and what a crash leaves.
 use Rattle.std.proofs.Common.{◌≡◌, ◌≢◌, ◌==◌, ℕ, ◌+◌, ◌<◌, ◌≤◌, true, true≢false, List, refl, sym, ap, subst, ◌∙◌, arith, inl, ⊎_elim, Option, Some, None}
-use Rattle.extent_steps.proofs.Common.{cases_eq, cond-true, cond-false, eq-eqb, ne_eqb, layout_of, version_in, granules_in, extent_at, Tables, AreSlabsInHeap, large_of, is_slab_of, is_slab, tables_of, IsSameOffLog, slab_table, Tomb, AreDisjoint, KeepsRest, IsLogged, IsLoggedOrNot, off_log, disjoint_of, Bounds, IsSound, IsExact, IsSteady, bounds_of, IsFormed, IsEitherHeap, AreSlabsInHeap-sound, bounds_of-off_log, IsFormed-logged, sizes_of, KeepsOthers}
+use Rattle.extent_steps.proofs.Common.{cond-true, cond-false, eq-eqb, ne_eqb, layout_of, version_in, granules_in, extent_at, Tables, AreSlabsInHeap, large_of, is_slab_of, is_slab, tables_of, IsSameOffLog, slab_table, Tomb, AreDisjoint, KeepsRest, IsLogged, IsLoggedOrNot, off_log, disjoint_of, Bounds, IsSound, IsExact, IsSteady, bounds_of, IsFormed, IsEitherHeap, AreSlabsInHeap-sound, bounds_of-off_log, IsFormed-logged, sizes_of, KeepsOthers}
 use Rattle.image_tables.specs.declared.extent.Extent.{Extent}
 use Rattle.image_tables.specs.declared.extent.Extent.TheVariants as extent
 use Rattle.image_tables.proofs.Stores.{IsSameOffLog-back, version_in-off_log}
 use Rattle.heap_check.specs.Slabs.{IsSlabMore}
-use Rattle.heap_check.proofs.Geometry.{granules_at-slab}
 use Rattle.heap_check.proofs.SlabHeaps.{heap-slab}
 use Rattle.heap_check.proofs.SlabLogs.{IsSlabMore-logged}
 use Rattle.heap_check.proofs.SlabPlaces.{IsSlabPlace-empty}
@@ -39,10 +38,7 @@ module _ {words : List ℕ} {start : ℕ} (may : IsDroppable words start) where
   is_here = sym (slab_table words start) ∙ may.empty.slab
 
   bounds_here : ((bounds_of words).first ≤ start) × (start + 4 ≤ (bounds_of words).granules)
-  bounds_here =
-      let four = granules_at-slab t start may.empty.slab in
-      let lies = sound.starts start (omega (arith, four)) in
-      (lies.0, omega (arith, lies.1, four))
+  bounds_here = grind arith
 
   pub drop_low : (layout_of (version_in words)).first_granule ≤ start
   drop_low = bounds_here.0
@@ -66,10 +62,7 @@ module _ {words : List ℕ} {start : ℕ} (may : IsDroppable words start) where
     others_here other differ = logged.extents other ∙ cond-false (other == start) None (extent_at words other) (ne_eqb other start differ)
 
     was_slab : (other : ℕ) → is_slab image other ≡ true → is_slab words other ≡ true
-    was_slab other is = ⊎_elim
-        (λ (same : other ≡ start). absurd (true≢false (sym is ∙ ap (is_slab image) same ∙ ap is_slab_of none_here)))
-        (λ (differ : other ≢ start). sym (ap is_slab_of (others_here other differ)) ∙ is)
-        (cases_eq other start)
+    was_slab other is = grind arith
 
     without_it : IsSlabMore (tables_of image) t start
     without_it =

@@ -1,6 +1,6 @@
 -- Images while an extent comes or goes: what is the same of them.
-use Rattle.std.proofs.Common.{◌≡◌, ◌⊎◌, ℕ, ◌+◌, ◌<◌, ◌≤◌, true, List, sym, ap, subst, ◌∙◌, arith, inl, inr, Some, None}
-use Rattle.extent_steps.proofs.Common.{extent_at, Tables, is_slab_of, is_slab, state_field, tables_of, slab_table, slab_fields, HasNoMove-closed, tables_off_log-same, Bounds, Range, heap, IsSound, IsSteady, bounds_of, IsFormed, IsWordOf, IsEitherHeap, AreSlabsInHeap-sound, bounds_of-off_log, IsFormed-off_log, KeepsRest, off_log, sizes_of, KeepsOthers}
+use Rattle.std.proofs.Common.{◌≡◌, ◌⊎◌, ℕ, ◌+◌, ◌<◌, ◌≤◌, true, List, sym, ap, subst, ◌∙◌, arith, inr, Some, None}
+use Rattle.extent_steps.proofs.Common.{extent_at, Tables, is_slab_of, is_slab, state_field, tables_of, slab_table, slab_fields, tables_off_log-same, Range, heap, IsSound, IsSteady, bounds_of, IsFormed, IsWordOf, IsEitherHeap, AreSlabsInHeap-sound, bounds_of-off_log, IsFormed-off_log, KeepsRest, off_log, sizes_of, KeepsOthers}
 use Rattle.pool_layout.specs.Places.{granule_word}
 use Rattle.heap_check.specs.Image.{IsSteadyImage}
 use Rattle.heap_check.specs.State.{KeepsBlocks}
@@ -35,21 +35,11 @@ keeps_blocks words start image formed sound closed off rest = record {
 -- an image that has the heap of the words, and is steady, is one that a crash may leave
 pub either : (words : List ℕ) (start : ℕ) (new image : List ℕ) → IsNear words start image → IsSteady (bounds_of words) (tables_of image) → ((root : ℕ) → heap (tables_of image) root ≡ heap (tables_of words) root) → KeepsBlocks words image →
     (tables_of image).open_entry ≡ None → IsEitherHeap words new image
-either words start new image near steady same keeps closed = record {
-  steady = record { formed = near.formed; steady = subst (λ (b : Bounds). IsSteady b (tables_of image)) (sym near.bounds) steady };
-  heap = inl (record { each = same });
-  words = keeps;
-  still = HasNoMove-closed closed;
-}
+either words start new image near steady same keeps closed = grind arith
 
 -- where all but the log is the same, blocks have their words
 pub keeps_off_log : (words image : List ℕ) → IsSteadyImage words → (tables_of words).open_entry ≡ None → KeepsRest words image → KeepsBlocks words image
-keeps_off_log words image steady closed rest = record {
-  each = λ root other range k was is word.
-      let sizes = sizes_of words steady.formed in
-      let high = block_word-heap steady.steady.sound closed root range was k word in
-      rest.others k (λ e. omega (arith, e, high, sizes.first)) (inr (omega (arith, high)));
-}
+keeps_off_log words image steady closed rest = grind (arith, sizes_of, block_word-heap)
 
 -- where the extents are the same too, the image is one that a crash may leave
 pub still_either : (words : List ℕ) (start : ℕ) (new image : List ℕ) → IsSteadyImage words → (tables_of words).open_entry ≡ None → KeepsRest words image → ((other : ℕ) → extent_at image other ≡ extent_at words other) → IsEitherHeap words new image

@@ -6,7 +6,6 @@ use Rattle.image_tables.specs.Tables.{tables_of}
 use Rattle.image_tables.specs.Updates.{put_at}
 use Rattle.image_tables.proofs.Stores.{roots_plain, tables_off_log}
 use Rattle.heap_check.specs.Sound.{LoosensNothing}
-use Rattle.heap_check.proofs.Geometry.{granules_at-live}
 use Rattle.heap_check.proofs.LooseExtents.{IsSteady-loose_gone, heap-loose_gone, loosens_no_other}
 use Rattle.log_steps.proofs.LargeEntries.{slab_entry, large_entry}
 use Rattle.extent_steps.specs.Large.{IsLooseExtent, IsExtentGone}
@@ -28,10 +27,7 @@ module _ {words : List ℕ} {start : ℕ} (may : IsLooseExtent words start) wher
   loose_disjoint = disjoint_of words may.image.formed sound
 
   pub loose_lies : ((layout_of (version_in words)).first_granule ≤ start) × (start < granules_in words)
-  loose_lies =
-      let whole = granules_at-live sound start may.loose.live in
-      let lies = sound.starts start (omega (arith, whole, may.loose.live)) in
-      (lies.0, omega (arith, lies.1, whole, may.loose.live))
+  loose_lies = grind arith
 
   no_slab : is_slab words start ≡ false
   no_slab = sym (slab_table words start) ∙ false_from_ne_true (t.slab start) (λ slab. omega (arith, sound.one_kind start slab, may.loose.live))
@@ -84,13 +80,7 @@ module _ {words : List ℕ} {start : ℕ} (may : IsLooseExtent words start) wher
     }
 
     gone_either : (new : List ℕ) → IsEitherHeap words new image
-    gone_either new = either words start new image
-        (record {
-          formed = gone_formed;
-          bounds = gone_bounds;
-          rest = record { same_length = logged.rest.same_length; others = λ k apart outside header. logged.rest.others k apart outside };
-        })
-        gone_steady gone_heap (keeps_off_log words image may.image may.closed logged.rest) (ap (λ (x : Tables). x.open_entry) gone_tables ∙ may.closed)
+    gone_either new = grind (arith, either, gone_formed, gone_bounds, gone_steady, gone_heap, keeps_off_log, gone_tables)
 
   pub gone_or_not : (new image : List ℕ) → IsLoggedOrNot words (Tomb start) image → IsEitherHeap words new image
   gone_or_not new image left = ⊎_elim

@@ -1,9 +1,8 @@
 -- A slab is opened: the image at each of its steps, and what a crash leaves.
 use Rattle.std.proofs.Common.{◌≡◌, ◌≢◌, ◌⊎◌, ◌==◌, ℕ, ◌+◌, ◌*◌, ◌/◌, ◌%◌, ◌^◌, ◌<◌, ◌≤◌, true, false, List, refl, sym, ap, subst, ◌∙◌, arith, inl, inr, ⊎_elim, Some}
 use Rattle.extent_steps.proofs.Common.{cases_eq, cond-true, cond-false, eq-eqb, ne_eqb, false_from_ne_true, layout_of, version_in, granules_in, extent_at, Tables, AreSlabsInHeap, is_slab_of, is_slab, state_field, tables_of, IsSameOffLog, tables_off_log-same, slab_table, slab_fields, Slab, AreDisjoint, KeepsRest, IsLogged, IsLoggedOrNot, off_log, disjoint_of, Bounds, Range, heap, IsSound, IsExact, IsSteady, bounds_of, IsFormed, IsWordOf, IsEitherHeap, AreSlabsInHeap-sound, bounds_of-off_log, IsFormed-off_log, IsFormed-logged, sizes_of, KeepsOthers}
-use Rattle.std.proofs.lemmas.Bool.{cases_lt}
 use Rattle.pmem_lines.specs.Words.{word_at}
-use Rattle.pool_layout.specs.Places.{fields_word, granule_word, log_word, heap_word}
+use Rattle.pool_layout.specs.Places.{fields_word, granule_word, heap_word}
 use Rattle.pool_layout.specs.Header.{version_field}
 use Rattle.image_tables.specs.declared.extent.Extent.TheVariants as extent
 use Rattle.image_tables.specs.Tables.{state_word, bitmap_word}
@@ -20,7 +19,7 @@ use Rattle.heap_check.specs.Image.{HasSlabHeader}
 use Rattle.heap_check.proofs.Blank.{law_of_steady, IsSteady-but}
 use Rattle.heap_check.proofs.BlockWords.{block_word-vacant}
 use Rattle.heap_check.proofs.Forms.{bounds_of-same, IsFormed-off_header}
-use Rattle.heap_check.proofs.Geometry.{Covers-slab, granules_at-large, number_few}
+use Rattle.heap_check.proofs.Geometry.{Covers-slab, number_few}
 use Rattle.heap_check.proofs.SlabHeaps.{heap-slab}
 use Rattle.heap_check.proofs.SlabLogs.{IsSlabMore-logged}
 use Rattle.heap_check.proofs.SlabPlaces.{IsSlabPlace-vacant}
@@ -53,10 +52,7 @@ module _ (words : List ℕ) (start class : ℕ) (may : IsOpenable words start) (
   words_none = sym (slab_table words start) ∙ no_slab
 
   no_large : t.large start ≡ 0
-  no_large = ⊎_elim
-      (λ (live : 0 < t.large start). absurd (here.none start (record { low = omega arith; high = omega (arith, live, granules_at-large t start no_slab) })))
-      (λ (nothing : t.large start ≤ 0). omega arith)
-      (cases_lt 0 (t.large start))
+  no_large = grind arith
 
   pub in_heap : (layout_of (version_in words)).first_granule ≤ start
   in_heap = here.low
@@ -82,14 +78,7 @@ module _ (words : List ℕ) (start class : ℕ) (may : IsOpenable words start) (
     made_version = ap version_field same_fields
 
     pub made_same : IsSame words start image
-    made_same = record {
-      near = record {
-        formed = IsFormed-off_header words image start formed off keeps.same_length words_none (few_entries words exact.sound);
-        bounds = bounds_of-same words image same_fields;
-        rest = record { same_length = keeps.same_length; others = λ k apart log outside. off.others k outside };
-      };
-      tables = keeps.tables in_heap words_none;
-    }
+    made_same = grind (arith, formed, IsFormed-off_header, off, words_none, few_entries, exact, bounds_of-same, same_fields, in_heap)
 
     pub made_book : (book : Book) → IsBookOf book words → IsBookOf book image
     made_book book log = record {
@@ -132,16 +121,7 @@ module _ (words : List ℕ) (start class : ℕ) (may : IsOpenable words start) (
     same_heap_word = ap (λ (b : Bounds). 2048 * b.first) was.near.bounds
 
     rest_then : (image : List ℕ) → KeepsRest made image → KeepsOthers words start image
-    rest_then image rest =
-        let version : log_word (version_in made) ≡ log_word (version_in words) = ap (λ w. log_word w) same_version in
-        record {
-          same_length = rest.same_length ∙ was.near.rest.same_length;
-          others = λ k apart outside header.
-              rest.others k apart (⊎_elim (λ x. inl (omega (arith, x, version))) (λ x. inr (omega (arith, x, same_heap_word))) outside) ∙ was.near.rest.others k apart outside header;
-        }
-      where
-        same_version : version_in made ≡ version_in words
-        same_version = ap (λ w. w % 2 ^ 16) (same_fields made kept)
+    rest_then image rest = grind (arith, version_in, was, same_heap_word, same_fields, kept)
 
     -- the log is changed, and the extents are as before
     log_same : (image : List ℕ) → KeepsRest made image → ((other : ℕ) → extent_at image other ≡ extent_at made other) → IsSame words start image
@@ -205,10 +185,7 @@ module _ (words : List ℕ) (start class : ℕ) (may : IsOpenable words start) (
       open_place = IsSlabPlace-vacant exact.sound exact.closed (omega (arith, (sizes_of words formed).first)) with_it may.vacant
 
       header_here : HasSlabHeader image start
-      header_here = record {
-        state = omega (arith, state_here, is_made.says.form.small);
-        index = λ place among. absurd (omega (arith, among, field_here 24 0 is_made.says.entries));
-      }
+      header_here = grind (arith, state_here, field_here)
 
       open_near : IsNear words start image
       open_near = record {

@@ -1,12 +1,11 @@
 -- An entry is put into the log behind the events that make room for it.
-use Rattle.std.proofs.Common.{◌≡◌, ◌≢◌, ◌<◌, ◌≤◌, ◌+◌, ◌*◌, ⊎_elim, inl, inr, ℕ, zero, suc, true≢false, cond, eqb, ltb, List, ◌++◌, length, refl, sym, ap, subst, ◌∙◌, arith, Option, Some, None, IsSome}
+use Rattle.std.proofs.Common.{◌≡◌, ◌≢◌, ◌<◌, ◌≤◌, ◌+◌, ⊎_elim, inl, inr, ℕ, zero, suc, true≢false, cond, eqb, ltb, List, ◌++◌, length, refl, sym, ap, subst, ◌∙◌, arith, Option, Some, None, IsSome}
 use Rattle.std.proofs.lemmas.Bool.{cases_eq, cond-true, cond-false, eq-eqb, ne_eqb, lt-ltb, le-ltb}
 use Rattle.pmem_lines.specs.Words.{word_at, put_word}
 use Rattle.pmem_lines.specs.Events.{reading}
 use Rattle.pmem_lines.proofs.Words.{word_at-put_other, length-put_word}
-use Rattle.durable_steps.specs.Steps.{word_events}
 use Rattle.pool_layout.specs.Layout.{layout_of}
-use Rattle.pool_layout.specs.Places.{log_word, entry_word, heap_word}
+use Rattle.pool_layout.specs.Places.{entry_word}
 use Rattle.pool_layout.specs.Header.{version_in, granules_in}
 use Rattle.image_tables.specs.Extents.{extent_at}
 use Rattle.image_tables.proofs.Stores.{IsSameOffLog, version_in-off_log}
@@ -62,9 +61,7 @@ next_of words (Some place) some is =
 pub events_of_entry : (book made_book : Book) (words made : List ℕ) (entry : LogEntry) → book.granules ≡ granules_in words → made ≡ reading words (room_events book.granules words) →
     Reads made_book made → IsSome made_book.next → room_events book.granules words ++ append_events made_book made entry ≡ log_events words entry
 unfolding log_events
-events_of_entry book made_book words made entry granules is reads some =
-    ap (λ k. room_events book.granules words ++ word_events (8 * k) (word_of_entry entry)) (next_of made made_book.next some reads.next ∙ ap next_entry_word is)
-    ∙ ap (λ n. room_events n words ++ word_events (8 * next_entry_word (reading words (room_events n words))) (word_of_entry entry)) granules
+events_of_entry book made_book words made entry granules is reads some = grind (arith, next_of)
 
 -- what stays
 
@@ -72,25 +69,12 @@ pub off_log : (words image : List ℕ) → KeepsRest words image → IsSameOffLo
 off_log words image rest = record { same_length = rest.same_length; others = rest.others }
 
 pub rest_made : (granules : ℕ) (words image : List ℕ) → granules ≡ granules_in words → KeepsLog granules words image → KeepsRest words image
-rest_made granules words image same keeps = record {
-  same_length = keeps.same_length;
-  others = keeps.others;
-  log = subst (λ n. HasLog n image) same keeps.log;
-}
+rest_made granules words image same keeps = grind arith
 
 -- one more word of the log is changed
 rest_then : (words made image : List ℕ) (k : ℕ) → KeepsRest words made → IsInLog (version_in made) k → length image ≡ length made →
     ((other : ℕ) → other ≢ k → word_at image other ≡ word_at made other) → HasLog (granules_in words) image → KeepsRest words image
-rest_then words made image k rest place size others log =
-    let version = version_in-off_log words made (off_log words made rest) in
-    let low : log_word (version_in words) < k = subst (λ v. log_word v < k) version place.low in
-    let high : k < heap_word (version_in words) = subst (λ v. k < heap_word v) version place.high in
-    record {
-      same_length = size ∙ rest.same_length;
-      others = λ other apart outside.
-          others other (λ same. ⊎_elim (λ before. omega (arith, before, same, low)) (λ behind. omega (arith, behind, same, high)) outside) ∙ rest.others other apart outside;
-      log = log;
-    }
+rest_then words made image k rest place size others log = grind (arith, version_in-off_log, off_log)
 
 -- room was made, and then the entry was put
 module _ (granules : ℕ) (words made : List ℕ) (k : ℕ) (entry : LogEntry) (same : granules ≡ granules_in words) (keeps : KeepsLog granules words made) (place : IsInLog (version_in made) k) where

@@ -1,6 +1,6 @@
 -- An entry that names no slab is done: the tables of slabs and of large extents then.
-use Rattle.std.proofs.Common.{◌≡◌, ◌≢◌, ⊎_elim, ℕ, eqb, false, List, sym, ap, ◌∙◌}
-use Rattle.std.proofs.lemmas.Bool.{cases_eq, cond-true, cond-false, eq-eqb, ne_eqb}
+use Rattle.std.proofs.Common.{◌≡◌, ◌≢◌, ℕ, eqb, false, List, arith}
+use Rattle.std.proofs.lemmas.Bool.{cond-true, cond-false, eq-eqb, ne_eqb}
 use Rattle.image_tables.specs.Extents.{extent_at}
 use Rattle.image_tables.specs.Tables.{large_of, is_slab_of, is_slab, tables_of}
 use Rattle.image_tables.specs.Updates.{put_at}
@@ -19,18 +19,8 @@ module _ (words : List ℕ) (entry : LogEntry) (other : ℕ) where
 
   -- the slabs are the same, where none starts at its start
   pub slab_entry : is_slab_of (extent_of entry) ≡ false → is_slab words (start_of entry) ≡ false → is_slab_of (with_entry (extent_at words) entry other) ≡ is_slab words other
-  slab_entry no_slab none = ⊎_elim
-      (λ (same : other ≡ start_of entry). ap is_slab_of (with_here same) ∙ no_slab ∙ sym (ap (is_slab words) same ∙ none))
-      (λ (differ : other ≢ start_of entry). ap is_slab_of (with_there differ))
-      (cases_eq other (start_of entry))
+  slab_entry no_slab none = grind arith
 
   -- and of large extents, what starts there is changed
   pub large_entry : large_of (with_entry (extent_at words) entry other) ≡ put_at (tables_of words).large (start_of entry) (large_of (extent_of entry)) other
-  large_entry =
-      let large = (tables_of words).large in
-      let after = large_of (extent_of entry) in
-      ⊎_elim
-      (λ (same : other ≡ start_of entry).
-      ap large_of (with_here same) ∙ sym (put_at-same large (start_of entry) after) ∙ ap (put_at large (start_of entry) after) (sym same))
-      (λ (differ : other ≢ start_of entry). ap large_of (with_there differ) ∙ sym (large_table words other) ∙ sym (put_at-other large (start_of entry) other after differ))
-      (cases_eq other (start_of entry))
+  large_entry = grind (arith, with_here, put_at-same, with_there, large_table, put_at-other)
