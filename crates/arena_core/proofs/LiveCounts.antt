@@ -39,8 +39,7 @@ most_by_slab true most = most
 most_by_slab false most = omega arith
 
 pub put_one : (is : Bool) (n : ℕ) → (if is then n + 1 else n) ≡ one_if is + n
-put_one true n = omega arith
-put_one false n = omega arith
+put_one is n = grind arith
 
 -- a slab that holds no block has no live one
 pub live_none : {b : Bounds} {t : Tables} → IsSound b t → t.open_entry ≡ None → (start : ℕ) → t.slab start ≡ true → ((range : Range) → ¬ (Holds t start range)) → (n : ℕ) → live_below (heap t) start n ≡ 0

@@ -7,7 +7,6 @@ use Rattle.heap_model.specs.declared.call.Call.TheVariants as calls
 use Rattle.heap_model.specs.declared.call.Reply.TheVariants as replies
 use Rattle.move_steps.specs.Moves.{IsMovable, IsMoved, IsEitherMoved}
 use Rattle.arena_core.specs.declared.answer.MoveRefusal.{MoveRefusal}
-use Rattle.arena_core.specs.declared.answer.MoveRefusal.TheVariants.{NoRoot, Empty, Occupied}
 use Rattle.arena_core.proofs.Arenas.{slabs_kept}
 use Rattle.arena_core.proofs.MovesArenas.{granules_moved, book_moved, index_moved, slabs_moved, lives_moved}
 use Rattle.arena_core.proofs.MovesStates.{step_moved, step_unmoved}
@@ -47,9 +46,7 @@ IsEitherMoved-same words to image = grind (arith, law_of_steady, roots_plain, Ha
 
 -- a refusal has no event, and leaves the line
 pub none_moved : (words : List ℕ) (line from to : ℕ) (refusal : MoveRefusal) → (call_events words line (calls.Move from to) (move_reply (Err refusal)) ≡ []) × (line_after line (move_reply (Err refusal)) ≡ line)
-none_moved words line from to NoRoot = (refl, refl)
-none_moved words line from to Empty = (refl, refl)
-none_moved words line from to (Occupied at) = (refl, refl)
+none_moved words line from to refusal = grind arith
 
 -- it is refused
 pub carried_unmoved : {old : PmemState} {was : Volatile} {from to : ℕ} (refusal : MoveRefusal) → IsArena old was → IsMovePlan (words_of old) from to (Err refusal) → IsMoveCarried old old was was from to (move_reply (Err refusal))

@@ -98,8 +98,7 @@ none_below p zero none = refl
 none_below p (suc n) none = ap (λ b. b || any_below p n) (none n) ∙ none_below p n none
 
 stays : (x : Option ℕ) → has_left x x ≡ false
-stays None = refl
-stays (Some class) = refl
+stays x = grind arith
 
 -- where no slab left, none loses its addresses
 pub none_left : (b : Bounds) (m next : Machine) (stacks : Stacks) → ((s : ℕ) → next.slab s ≡ m.slab s) → without_left b m next stacks ≡ stacks

@@ -1,12 +1,11 @@
 -- In a sound image no two live extents share a granule.
-use Rattle.std.proofs.Common.{◌≡◌, ◌+◌, ◌<◌, ◌≤◌, ⊎_elim, ℕ, Some, List, ap, ◌∙◌, arith}
+use Rattle.std.proofs.Common.{◌≡◌, ◌+◌, ◌<◌, ◌≤◌, ⊎_elim, ℕ, Some, List, arith}
 use Rattle.std.proofs.lemmas.Bool.{cases_lt}
 use Rattle.pool_layout.specs.Layout.{layout_of}
 use Rattle.pool_layout.specs.Header.{version_in, granules_in}
 use Rattle.image_tables.specs.declared.extent.Extent.{Extent}
-use Rattle.image_tables.specs.declared.extent.Extent.TheVariants.{Large, Slab}
 use Rattle.image_tables.specs.Extents.{extent_at}
-use Rattle.image_tables.specs.Tables.{large_of, is_slab_of, tables_of}
+use Rattle.image_tables.specs.Tables.{tables_of}
 use Rattle.image_tables.proofs.Tables.{large_table, slab_table}
 use Rattle.book_log.specs.Book.{chunks_of}
 use Rattle.book_log.specs.Live.{AreLive, AreDisjoint, granules_of}
@@ -22,9 +21,7 @@ live_of words formed = live_extents (granules_in words) words (chunks_of words) 
 
 -- an extent has the granules that the tables say
 granules_table : (words : List ℕ) (start : ℕ) (extent : Extent) → extent_at words start ≡ Some extent → granules_at (tables_of words) start ≡ granules_of extent
-granules_table words start (Large n) is =
-    granules_at-large (tables_of words) start (slab_table words start ∙ ap is_slab_of is) ∙ large_table words start ∙ ap large_of is
-granules_table words start Slab is = granules_at-slab (tables_of words) start (slab_table words start ∙ ap is_slab_of is)
+granules_table words start extent is = grind (arith, granules_at-large, slab_table, large_table, granules_at-slab)
 
 pub disjoint_of : (words : List ℕ) → IsFormed words → IsSound (bounds_of words) (tables_of words) → AreDisjoint (extent_at words)
 disjoint_of words formed sound = record {
