@@ -84,6 +84,7 @@ module _ (b : Bounds) (m : Machine) (was next : Supply) (seat class : ℕ) (agre
         best = best;
         refill = subst (λ (s : Stacks). IsRefill (view_of b (with_class m start class)) s seat class (slab_block start class number).at (stacks_of next.stacks)) stacks refill;
       }))
+
 -- free
 
 filter_all : (p : ℕ → Bool) (xs : List ℕ) → ((at : ℕ) → p at ≡ true) → filter p xs ≡ xs
