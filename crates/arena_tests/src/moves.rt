@@ -7,6 +7,7 @@ use pmem_lines::{Event, OutOfMemory, Pmem, SimPmem};
 use rand_core::SeedableRng;
 use rand_xoshiro::SplitMix64;
 use std::alloc::Global;
+use std::process::Abort;
 use std::test::Fail;
 
 const SMALL: Moved = Moved {
@@ -73,28 +74,21 @@ fn block_of(arena: &Arena<SimPmem>, root: u32) -> Option<Moved> {
     }
 }
 
-// A small block, that one again, and a large one: on lines 1, 2 and 3.
-#[test]
-fn blocks_move(rt: HostRuntime) -> Result<(), Fail> {
+// A small block, that one again, and a large one: on lines 1, 2 and 3. The arena is lent to what is tested of it, here and
+// below: who has one in hand lets it go at each way out, and each of these is dear to prove.
+fn all_move<R: Abort>(rt: &R, arena: &mut Arena<SimPmem>) -> Result<(), Fail> {
     let table = [
         (5, 9, SMALL, 1, 0x0009_0005_0005),
         (9, 2, SMALL, 2, 0x0002_0009_0005),
         (7, 5, LARGE, 3, 0x0005_0007_0005),
     ];
-    let Some(mut arena) = arena_of_two(rt.alloc())? else {
-        return Ok(assert!(rt; false, "no arena of two blocks"));
-    };
-    assert_eq!(rt; write(&mut arena, 5, 0, &[31, 32]), Ok(()));
+    assert_eq!(rt; write(arena, 5, 0, &[31, 32]), Ok(()));
     for (from, to, block, line, entry) in table {
-        assert_eq!(rt;
-            moved(&mut arena, from, to),
-            Ok(block),
-            "from {from} to {to}"
-        );
+        assert_eq!(rt; moved(arena, from, to), Ok(block), "from {from} to {to}");
         let events = events_of(line, entry, from, to, u64::from(block.at));
-        assert!(rt; had(&arena, &events), "events from {from} to {to}");
+        assert!(rt; had(arena, &events), "events from {from} to {to}");
         assert_eq!(rt;
-            (block_of(&arena, from), block_of(&arena, to)),
+            (block_of(arena, from), block_of(arena, to)),
             (None, Some(block))
         );
     }
@@ -103,15 +97,22 @@ fn blocks_move(rt: HostRuntime) -> Result<(), Fail> {
         Err(_) => None,
     };
     assert_eq!(rt; first, Some(32));
-    assert!(rt; freed(&mut arena, 0, 2));
-    assert!(rt; freed(&mut arena, 0, 5));
+    assert!(rt; freed(arena, 0, 2));
+    assert!(rt; freed(arena, 0, 5));
     assert_eq!(rt; arena.pmem().event_count(), 6);
     Ok(())
 }
 
-// Of two reasons the first is answered. A refusal has no event.
 #[test]
-fn refusals_in_their_order(rt: HostRuntime) -> Result<(), Fail> {
+fn blocks_move(rt: HostRuntime) -> Result<(), Fail> {
+    let Some(mut arena) = arena_of_two(rt.alloc())? else {
+        return Ok(assert!(rt; false, "no arena of two blocks"));
+    };
+    all_move(&rt, &mut arena)
+}
+
+// Of two reasons the first is answered. A refusal has no event.
+fn all_refused<R: Abort>(rt: &R, arena: &mut Arena<SimPmem>) -> Result<(), Fail> {
     let table = [
         (4096, 4096, MoveRefusal::NoRoot),
         (4096, 5, MoveRefusal::NoRoot),
@@ -124,22 +125,23 @@ fn refusals_in_their_order(rt: HostRuntime) -> Result<(), Fail> {
         (5, 7, MoveRefusal::Occupied { at: 131072 }),
         (7, 5, MoveRefusal::Occupied { at: 67584 }),
     ];
-    let Some(mut arena) = arena_of_two(rt.alloc())? else {
-        return Ok(assert!(rt; false, "no arena of two blocks"));
-    };
     for (from, to, refusal) in table {
-        assert_eq!(rt;
-            moved(&mut arena, from, to),
-            Err(refusal),
-            "from {from} to {to}"
-        );
+        assert_eq!(rt; moved(arena, from, to), Err(refusal), "from {from} to {to}");
         assert_eq!(rt; arena.pmem().event_count(), 0);
     }
     assert_eq!(rt;
-        (block_of(&arena, 5), block_of(&arena, 7)),
+        (block_of(arena, 5), block_of(arena, 7)),
         (Some(SMALL), Some(LARGE))
     );
     Ok(())
+}
+
+#[test]
+fn refusals_in_their_order(rt: HostRuntime) -> Result<(), Fail> {
+    let Some(mut arena) = arena_of_two(rt.alloc())? else {
+        return Ok(assert!(rt; false, "no arena of two blocks"));
+    };
+    all_refused(&rt, &mut arena)
 }
 
 // A word, where there is one.
@@ -166,18 +168,18 @@ fn holder(words: &[u64], at: u64) -> Option<u32> {
 }
 
 // After each number of events: the first three are of the entry, and after the sixth the new root's word is durable.
-#[test]
-fn crashes_within(rt: HostRuntime) -> Result<(), Fail> {
-    let Some(mut arena) = arena_of_two(rt.alloc())? else {
-        return Ok(assert!(rt; false, "no arena of two blocks"));
-    };
-    assert_eq!(rt; moved(&mut arena, 5, 9), Ok(SMALL));
+fn held_after_each<R: Abort>(
+    rt: &R,
+    alloc: Global,
+    arena: &mut Arena<SimPmem>,
+) -> Result<(), Fail> {
+    assert_eq!(rt; moved(arena, 5, 9), Ok(SMALL));
     for k in 0..=12 {
         for seed in 0..16u64 {
             let mut picks = SplitMix64::from_seed(seed.to_le_bytes());
             let device = arena.pmem();
             if k <= device.event_count() {
-                let words = device.image(rt.alloc(), k, &mut picks)?;
+                let words = device.image(alloc, k, &mut picks)?;
                 let held = holder(&words, 67584);
                 let before = k <= 5 && held == Some(5);
                 let after = k >= 4 && held == Some(9);
@@ -186,4 +188,12 @@ fn crashes_within(rt: HostRuntime) -> Result<(), Fail> {
         }
     }
     Ok(())
+}
+
+#[test]
+fn crashes_within(rt: HostRuntime) -> Result<(), Fail> {
+    let Some(mut arena) = arena_of_two(rt.alloc())? else {
+        return Ok(assert!(rt; false, "no arena of two blocks"));
+    };
+    held_after_each(&rt, rt.alloc(), &mut arena)
 }

@@ -4,6 +4,7 @@ use crate::arenas::{freed, gave, had, new_arena, write};
 use arena_core::{Arena, BlockRefusal};
 use pmem_lines::{Event, SimPmem};
 use std::alloc::Global;
+use std::process::Abort;
 use std::test::Fail;
 
 // The words that a root's block has.
@@ -21,13 +22,13 @@ fn arena_of_one(alloc: Global) -> Result<Arena<SimPmem>, Fail> {
     Ok(arena)
 }
 
-#[test]
-fn across_two_lines(rt: HostRuntime) -> Result<(), Fail> {
-    let mut arena = arena_of_one(rt.alloc())?;
-    assert_eq!(rt; write(&mut arena, 5, 6, &[1, 2, 3, 4]), Ok(()));
+// Four words on two lines. An arena is lent to what is tested of it, here and below: who has one in hand lets it go at each way
+// out, and each of these is dear to prove.
+fn lie_across_two_lines<R: Abort>(rt: &R, arena: &mut Arena<SimPmem>) -> Result<(), Fail> {
+    assert_eq!(rt; write(arena, 5, 6, &[1, 2, 3, 4]), Ok(()));
     assert!(rt;
         had(
-            &arena,
+            arena,
             &[
                 Event::Store {
                     at: 67632,
@@ -51,18 +52,22 @@ fn across_two_lines(rt: HostRuntime) -> Result<(), Fail> {
             ],
         )
     );
-    assert!(rt; has(&arena, 5, &[0, 0, 0, 0, 0, 0, 1, 2, 3, 4, 0, 0, 0, 0]));
+    assert!(rt; has(arena, 5, &[0, 0, 0, 0, 0, 0, 1, 2, 3, 4, 0, 0, 0, 0]));
     Ok(())
 }
 
-// What lies past the end is refused, with no event, also where no words are written.
 #[test]
-fn at_the_end(rt: HostRuntime) -> Result<(), Fail> {
+fn across_two_lines(rt: HostRuntime) -> Result<(), Fail> {
     let mut arena = arena_of_one(rt.alloc())?;
-    assert_eq!(rt; write(&mut arena, 5, 12, &[8, 9]), Ok(()));
+    lie_across_two_lines(&rt, &mut arena)
+}
+
+// What lies past the end is refused, with no event, also where no words are written.
+fn end_with_their_block<R: Abort>(rt: &R, arena: &mut Arena<SimPmem>) -> Result<(), Fail> {
+    assert_eq!(rt; write(arena, 5, 12, &[8, 9]), Ok(()));
     assert!(rt;
         had(
-            &arena,
+            arena,
             &[
                 Event::Store {
                     at: 67680,
@@ -85,35 +90,43 @@ fn at_the_end(rt: HostRuntime) -> Result<(), Fail> {
         (15, 0, Err(BlockRefusal::OutOfRange)),
     ] {
         assert_eq!(rt;
-            write(&mut arena, 5, from, &[1, 2][..count]),
+            write(arena, 5, from, &[1, 2][..count]),
             wanted,
             "{count} at {from}"
         );
-        assert!(rt; had(&arena, &[]), "{count} at {from}");
+        assert!(rt; had(arena, &[]), "{count} at {from}");
     }
-    assert!(rt; has(&arena, 5, &[0, 0, 0, 0, 0, 0, 0, 0, 0, 0, 0, 0, 8, 9]));
+    assert!(rt; has(arena, 5, &[0, 0, 0, 0, 0, 0, 0, 0, 0, 0, 0, 0, 8, 9]));
+    Ok(())
+}
+
+#[test]
+fn at_the_end(rt: HostRuntime) -> Result<(), Fail> {
+    let mut arena = arena_of_one(rt.alloc())?;
+    end_with_their_block(&rt, &mut arena)
+}
+
+fn have_no_block<R: Abort>(rt: &R, arena: &mut Arena<SimPmem>) -> Result<(), Fail> {
+    assert_eq!(rt; write(arena, 4096, 0, &[1]), Err(BlockRefusal::NoRoot));
+    assert_eq!(rt;
+        write(arena, 4095, 4294967295, &[1]),
+        Err(BlockRefusal::Empty)
+    );
+    assert!(rt; matches!(arena.view(4096), Err(BlockRefusal::NoRoot)));
+    assert!(rt; matches!(arena.view(4095), Err(BlockRefusal::Empty)));
+    assert!(rt; had(arena, &[]));
     Ok(())
 }
 
 #[test]
 fn no_block(rt: HostRuntime) -> Result<(), Fail> {
     let mut arena = new_arena(rt.alloc())?;
-    assert_eq!(rt; write(&mut arena, 4096, 0, &[1]), Err(BlockRefusal::NoRoot));
-    assert_eq!(rt;
-        write(&mut arena, 4095, 4294967295, &[1]),
-        Err(BlockRefusal::Empty)
-    );
-    assert!(rt; matches!(arena.view(4096), Err(BlockRefusal::NoRoot)));
-    assert!(rt; matches!(arena.view(4095), Err(BlockRefusal::Empty)));
-    assert!(rt; had(&arena, &[]));
-    Ok(())
+    have_no_block(&rt, &mut arena)
 }
 
-#[test]
-fn the_longest(rt: HostRuntime) -> Result<(), Fail> {
-    let mut arena = new_arena(rt.alloc())?;
-    assert!(rt; gave(&mut arena, 0, 7, 20000));
-    assert_eq!(rt; write(&mut arena, 7, 1, &[3; 512]), Ok(()));
+fn are_the_longest<R: Abort>(rt: &R, arena: &mut Arena<SimPmem>) -> Result<(), Fail> {
+    assert!(rt; gave(arena, 0, 7, 20000));
+    assert_eq!(rt; write(arena, 7, 1, &[3; 512]), Ok(()));
     assert_eq!(rt; arena.pmem().event_count(), 578);
     match arena.view(7) {
         Ok(view) => {
@@ -129,19 +142,29 @@ fn the_longest(rt: HostRuntime) -> Result<(), Fail> {
 }
 
 #[test]
-fn others_come_and_go(rt: HostRuntime) -> Result<(), Fail> {
+fn the_longest(rt: HostRuntime) -> Result<(), Fail> {
     let mut arena = new_arena(rt.alloc())?;
-    assert!(rt; gave(&mut arena, 0, 5, 16));
-    assert_eq!(rt; write(&mut arena, 5, 0, &[11, 12]), Ok(()));
-    assert!(rt; gave(&mut arena, 1, 6, 16));
-    assert_eq!(rt; write(&mut arena, 6, 0, &[13, 14]), Ok(()));
-    assert!(rt; gave(&mut arena, 0, 7, 40000));
-    assert!(rt; freed(&mut arena, 0, 6));
-    assert!(rt; gave(&mut arena, 0, 8, 16));
-    assert_eq!(rt; write(&mut arena, 8, 1, &[15]), Ok(()));
-    assert!(rt; freed(&mut arena, 0, 7));
-    assert!(rt; has(&arena, 5, &[11, 12]));
-    assert!(rt; has(&arena, 8, &[13, 15]));
+    are_the_longest(&rt, &mut arena)
+}
+
+fn stay_while_others_come_and_go<R: Abort>(rt: &R, arena: &mut Arena<SimPmem>) -> Result<(), Fail> {
+    assert!(rt; gave(arena, 0, 5, 16));
+    assert_eq!(rt; write(arena, 5, 0, &[11, 12]), Ok(()));
+    assert!(rt; gave(arena, 1, 6, 16));
+    assert_eq!(rt; write(arena, 6, 0, &[13, 14]), Ok(()));
+    assert!(rt; gave(arena, 0, 7, 40000));
+    assert!(rt; freed(arena, 0, 6));
+    assert!(rt; gave(arena, 0, 8, 16));
+    assert_eq!(rt; write(arena, 8, 1, &[15]), Ok(()));
+    assert!(rt; freed(arena, 0, 7));
+    assert!(rt; has(arena, 5, &[11, 12]));
+    assert!(rt; has(arena, 8, &[13, 15]));
     assert!(rt; matches!(arena.view(6), Err(BlockRefusal::Empty)));
     Ok(())
+}
+
+#[test]
+fn others_come_and_go(rt: HostRuntime) -> Result<(), Fail> {
+    let mut arena = new_arena(rt.alloc())?;
+    stay_while_others_come_and_go(&rt, &mut arena)
 }
