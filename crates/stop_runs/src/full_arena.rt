@@ -19,13 +19,18 @@ const SEED: u64 = 4;
 
 /// The calls: five seats ask for blocks for 30 roots of an arena of 16 granules, free them, move them, and write to them.
 pub(crate) fn full_arena(alloc: Global) -> Result<Vec<(u32, Call)>, OutOfMemory> {
-    let mut picks = SplitMix64::seed_from_u64(SEED);
     let mut arena = new_arena(alloc, 16)?;
+    calls_on(alloc, &mut arena)
+}
+
+// The calls, as they are made.
+fn calls_on(alloc: Global, arena: &mut Arena<SimPmem>) -> Result<Vec<(u32, Call)>, OutOfMemory> {
+    let mut picks = SplitMix64::seed_from_u64(SEED);
     let mut calls = Vec::new(alloc);
     for _ in 0..CALLS {
         let seat = (picks.next_word() % SEATS) as u32;
-        let call = drawn(&arena, picks.next_word(), picks.next_word());
-        answer(&mut arena, seat, call);
+        let call = drawn(arena, picks.next_word(), picks.next_word());
+        answer(arena, seat, call);
         calls.push((seat, call))?;
     }
     Ok(calls)

@@ -58,6 +58,26 @@ struct Sides<'a> {
     behind: &'a [Held],
 }
 
+// A stop: behind so many of the events of a call, of which there are `count`, or at which event of the script that is, and the
+// seed that picks the image.
+#[derive(Clone, Copy)]
+struct Stop {
+    k: u32,
+    count: u32,
+    event: u64,
+    seed: u64,
+}
+
+impl Stop {
+    // The call was stopped there, and what was left is neither heap.
+    fn fault(self) -> StopFault {
+        StopFault::Call {
+            event: self.event,
+            seed: self.seed,
+        }
+    }
+}
+
 /// Makes the calls of a script, and stops those from one on. A call is stopped at each of its events, the first one stopped
 /// also at its begin, with each of the seeds: recovery comes to the heap before the call or to the one behind it, and to the
 /// latter at the call's last event. With the first seed recovery too is stopped at each of its events, and what is left is
@@ -67,21 +87,32 @@ pub(crate) fn stop_calls(
     script: &Script,
     first: usize,
 ) -> Result<Counts, StopFault> {
-    let (made, stopped) = script.calls.split_at(first.min(script.calls.len()));
     let mut arena = new_arena(alloc, script.granules)?;
+    stop_calls_of(alloc, &mut arena, script, first)
+}
+
+// The same on an arena that is lent, as arenas are from here on: who has one in hand lets it go at each way out, and each of
+// these is dear to prove.
+fn stop_calls_of(
+    alloc: Global,
+    arena: &mut Arena<SimPmem>,
+    script: &Script,
+    first: usize,
+) -> Result<Counts, StopFault> {
+    let (made, stopped) = script.calls.split_at(first.min(script.calls.len()));
     let mut counts = Counts {
         events: 0,
         stops: 0,
         recovered: 0,
     };
     for (seat, call) in made {
-        answer(&mut arena, *seat % 64, *call);
+        answer(arena, *seat % 64, *call);
         counts.add_events(arena.pmem());
     }
-    let mut before = heap_of(alloc, &arena, script.roots)?;
+    let mut before = heap_of(alloc, arena, script.roots)?;
     for (seat, call) in stopped {
-        answer(&mut arena, *seat % 64, *call);
-        let behind = heap_of(alloc, &arena, script.roots)?;
+        answer(arena, *seat % 64, *call);
+        let behind = heap_of(alloc, arena, script.roots)?;
         let sides = Sides {
             before: &before,
             behind: &behind,
@@ -90,7 +121,7 @@ pub(crate) fn stop_calls(
         counts.add_events(arena.pmem());
         before = behind;
     }
-    compare_all_roots(alloc, &arena, &before)?;
+    compare_all_roots(alloc, arena, &before)?;
     Ok(counts)
 }
 
@@ -104,29 +135,62 @@ fn stop_call(
 ) -> Result<(), StopFault> {
     // Behind none of its events a call leaves what the one before it left behind all of them.
     let first = if counts.stops == 0 { 0 } else { 1 };
-    for k in first..=device.event_count() {
+    let count = device.event_count();
+    for k in first..=count {
         let event = counts.events.saturating_add(u64::from(k));
         for seed in 0..SEEDS {
-            let Some(arena) = recovered(alloc, device, k, seed)? else {
-                return Err(StopFault::Call { event, seed });
+            let stop = Stop {
+                k,
+                count,
+                event,
+                seed,
             };
-            let heap = heap_of(alloc, &arena, roots)?;
-            if !may_be_left(sides, &heap, k, device.event_count()) {
-                return Err(StopFault::Call { event, seed });
-            }
-            counts.stops = counts.stops.saturating_add(1);
-            counts.recovered = counts.recovered.saturating_add(1);
-            if seed == 0 {
-                stop_recovery(alloc, arena.pmem(), roots, &heap, event, counts)?;
-            }
+            stop_at(alloc, device, roots, sides, stop, counts)?;
         }
     }
     Ok(())
 }
 
-// A heap is one that may be left behind `k` of a call's events: behind none the first of two, and behind all the second.
-fn may_be_left(sides: Sides<'_>, heap: &[Held], k: u32, count: u32) -> bool {
-    k < count && heap == sides.before || (k > 0 || count == 0) && heap == sides.behind
+// Stops it there, and recovers what is left.
+fn stop_at(
+    alloc: Global,
+    device: &SimPmem,
+    roots: u32,
+    sides: Sides<'_>,
+    stop: Stop,
+    counts: &mut Counts,
+) -> Result<(), StopFault> {
+    match recovered(alloc, device, stop.k, stop.seed)? {
+        Some(arena) => compare_sides(alloc, &arena, roots, sides, stop, counts),
+        None => Err(stop.fault()),
+    }
+}
+
+// Compares the heap that a stop is recovered to, and with the first seed stops that recovery too.
+fn compare_sides(
+    alloc: Global,
+    arena: &Arena<SimPmem>,
+    roots: u32,
+    sides: Sides<'_>,
+    stop: Stop,
+    counts: &mut Counts,
+) -> Result<(), StopFault> {
+    let heap = heap_of(alloc, arena, roots)?;
+    if !may_be_left(sides, &heap, stop) {
+        return Err(stop.fault());
+    }
+    counts.stops = counts.stops.saturating_add(1);
+    counts.recovered = counts.recovered.saturating_add(1);
+    if stop.seed == 0 {
+        stop_recovery(alloc, arena.pmem(), roots, &heap, stop.event, counts)?;
+    }
+    Ok(())
+}
+
+// A heap is one that may be left by a stop: behind no event the one before the call, and behind all the one behind it.
+fn may_be_left(sides: Sides<'_>, heap: &[Held], stop: Stop) -> bool {
+    stop.k < stop.count && heap == sides.before
+        || (stop.k > 0 || stop.count == 0) && heap == sides.behind
 }
 
 // Stops the recovery that a device carried out, of a call that was stopped at an event, at each of its own events: what is
@@ -140,9 +204,8 @@ fn stop_recovery(
     counts: &mut Counts,
 ) -> Result<(), StopFault> {
     for again in 1..=device.event_count() {
-        match recovered(alloc, device, again, 0)? {
-            Some(arena) if heap_of(alloc, &arena, roots)?.as_slice() == heap => {}
-            _ => return Err(StopFault::Recovery { event, again }),
+        if !recovers(alloc, device, again, roots, heap)? {
+            return Err(StopFault::Recovery { event, again });
         }
         counts.recovered = counts.recovered.saturating_add(1);
     }
@@ -155,14 +218,37 @@ fn compare_all_roots(
     arena: &Arena<SimPmem>,
     heap: &[Held],
 ) -> Result<(), StopFault> {
-    let all = heap_of(alloc, arena, ALL_ROOTS)?;
     let device = arena.pmem();
-    match recovered(alloc, device, device.event_count(), 0)? {
-        Some(again)
-            if all.as_slice() == heap && heap_of(alloc, &again, ALL_ROOTS)?.as_slice() == heap => {
-            Ok(())
-        }
-        _ => Err(StopFault::Roots),
+    if has_heap(alloc, arena, ALL_ROOTS, heap)?
+        && recovers(alloc, device, device.event_count(), ALL_ROOTS, heap)?
+    {
+        Ok(())
+    } else {
+        Err(StopFault::Roots)
+    }
+}
+
+// Whether the roots below a number hold this.
+fn has_heap(
+    alloc: Global,
+    arena: &Arena<SimPmem>,
+    roots: u32,
+    heap: &[Held],
+) -> Result<bool, OutOfMemory> {
+    Ok(heap_of(alloc, arena, roots)?.as_slice() == heap)
+}
+
+// Whether they do in the arena that is recovered from the image behind the first `k` events of a device, with the first seed.
+fn recovers(
+    alloc: Global,
+    device: &SimPmem,
+    k: u32,
+    roots: u32,
+    heap: &[Held],
+) -> Result<bool, OutOfMemory> {
+    match recovered(alloc, device, k, 0)? {
+        Some(arena) => has_heap(alloc, &arena, roots, heap),
+        None => Ok(false),
     }
 }
 
