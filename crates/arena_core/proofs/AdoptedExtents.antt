@@ -10,8 +10,8 @@ use Rattle.book_log.specs.Book.{chunks_of}
 use Rattle.book_log.specs.Table.{IsNextLive}
 use Rattle.book_log.proofs.LiveExtents.{live_extents}
 use Rattle.arena_core.specs.Adopting.{IsVacantBelow, slabs_below, IsNextRead}
-use Rattle.arena_core.proofs.Plans.{slab_parts}
-use Rattle.arena_core.proofs.UnusedBlocks.{iff_then}
+use Rattle.heap_check.proofs.States.{slab_parts}
+use Rattle.heap_check.proofs.UnusedBlocks.{iff_then}
 
 -- what the tables say of a granule by its extent
 

@@ -2,7 +2,8 @@
 use Rattle.std.proofs.Common.{◌≡◌, ◌≢◌, ◌↔◌, ◌==◌, ◌+◌, ◌*◌, ◌/◌, ◌<◌, ◌≤◌, ℕ, Bool, true, false, List, length, slice_index, Option, Some, None, ap, ◌∙◌, arith, if◌then◌else◌}
 use Rattle.arena_core.proofs.Common.{cond-false, ne_eqb, class_capacity, Tables, is_slab, tables_of, slab_table, granules_in, Range, live_below, begins_in, heap, slabs, IsUnusedIn, heap-none, IsWithSlabOf, HasCounted, Supply, IsInNoSlabOf, HasSlabMore, IsInSlab, IsSound, bounds_of}
 use Rattle.heap_check.specs.Heap.{size_at}
-use Rattle.arena_core.proofs.LiveCounts.{live_next, live_below-most, begins_only, more_by_slab, most_by_slab, put_one}
+use Rattle.heap_model.proofs.Counts.{live_next, live_below-most}
+use Rattle.heap_check.proofs.LiveCounts.{begins_only, more_by_slab, most_by_slab, put_one}
 
 -- a slab was added, in which the blocks are open that are not used
 pub with_slab : (words : List ℕ) (old new : Supply) (start slab class : ℕ) {used : ℕ → Bool} → slab / 16384 ≡ start → class ≡ (tables_of words).class start → HasSlabMore old new start class (λ i. (i < class_capacity class) × (used i ≡ false)) →

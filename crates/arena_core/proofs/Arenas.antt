@@ -1,12 +1,10 @@
 -- What an arena keeps holds again once a block was given or taken.
 use Rattle.std.proofs.Common.{◌≡◌, ◌↔◌, ◌⊎◌, ℕ, ◌+◌, ◌<◌, ◌≤◌, List, cond, Some, None, sym, ap, subst, ◌∙◌, inl, inr, ⊎_elim, arith, length}
-use Rattle.arena_core.proofs.Common.{word_at, put_word, layout_of, entry_word, root_word, SameLog, version_in, granules_in, Tables, tables_of, Book, FreeSet, IsFree, Bounds, IsVacant, granules_at, bounds_of, IsExactImage, IsEitherHeap, with_large, IsBookOf, class_capacity, Supply, IsIndexOf, IsSlabsOf, KeepsSlabs, IsUnusedIn, IsUnusedIn-same}
-use Rattle.std.proofs.lemmas.List.Elements.{All-weaker}
-use Rattle.image_tables.proofs.Chunks.{few_chunks}
+use Rattle.arena_core.proofs.Common.{put_word, layout_of, root_word, SameLog, version_in, granules_in, Tables, tables_of, Book, FreeSet, IsFree, Bounds, IsVacant, granules_at, bounds_of, with_large, IsBookOf, class_capacity, Supply, IsIndexOf, IsSlabsOf, KeepsSlabs, IsUnusedIn, IsUnusedIn-same}
 use Rattle.image_tables.proofs.Stores.{IsOffLog-root, granules_in-put_root}
 use Rattle.book_log.proofs.Books.{Reads-elsewhere, Reads-same}
-use Rattle.arena_core.proofs.LargeStages.{IsStageOf}
-use Rattle.arena_core.proofs.UnusedBlocks.{iff_then}
+use Rattle.heap_check.proofs.LargeImages.{IsStageOf}
+use Rattle.heap_check.proofs.UnusedBlocks.{iff_then}
 
 -- a log reads the same where a root's word is stored
 pub book_root : (book : Book) (words : List ℕ) (root value : ℕ) → root < (layout_of (version_in words)).roots → IsBookOf book words → IsBookOf book (put_word words (root_word root) value)
@@ -15,11 +13,7 @@ book_root book words root value below log = record {
   granules = log.granules ∙ sym (granules_in-put_root words root value);
 }
 
--- and where the front words stay and those of the chunks' entries
-pub same_log : (words new : List ℕ) → ((k : ℕ) → k < 64 → word_at new k ≡ word_at words k) →
-    ((c e : ℕ) → c < 16 → e < (layout_of (version_in words)).chunk_entries → word_at new (entry_word (version_in words) c e) ≡ word_at words (entry_word (version_in words) c e)) → SameLog words new
-same_log words new front entries = grind (arith, All-weaker, few_chunks)
-
+-- and where its words stay
 pub book_same : {words new : List ℕ} (book : Book) → SameLog words new → length new ≡ length words → bounds_of new ≡ bounds_of words → IsBookOf book words → IsBookOf book new
 book_same {words} {new} book same size bounds log = record { reads = Reads-same book words new same size log.reads; granules = log.granules ∙ ap (λ (b : Bounds). b.granules) (sym bounds) }
 
@@ -70,7 +64,3 @@ index_more set new b t after start count was given vacant k = (
   λ free. ⊎_elim (λ old. (vacant k).1 (inl ((was k).0 old))) (λ more. (vacant k).1 (inr more)) ((given k).0 free),
   λ is. ⊎_elim (λ old. (given k).1 (inl ((was k).1 old))) (λ more. (given k).1 (inr more)) ((vacant k).0 is),
 )
-
--- nothing was done: the heap is the one from before
-pub same_heap : (words new : List ℕ) → IsExactImage words → IsEitherHeap words new words
-same_heap words new exact = grind arith

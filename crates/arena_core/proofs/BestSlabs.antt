@@ -6,7 +6,7 @@ use Rattle.slab_index.specs.declared.candidates.Candidate.{Candidate}
 use Rattle.slab_index.specs.Candidates.{IsBefore}
 use Rattle.slab_lives.specs.Lives.{IsSparse, HasNoSparse, IsFirstSparse, HasNoSparseBehind, IsNextSparse}
 use Rattle.class_steps.specs.Classes.{IsReadyFor, IsFitIn}
-use Rattle.arena_core.proofs.LiveSlabs.{calm_parts}
+use Rattle.heap_check.proofs.CalmSlabs.{calm_parts}
 
 -- the order of candidates
 

@@ -4,7 +4,8 @@ use Rattle.arena_core.proofs.Common.{word_at, entry_word, version_in, tables_of,
 use Rattle.image_tables.proofs.Places.{log_word-low, entry_word-low, entry_word-high}
 use Rattle.heap_check.proofs.BlockWords.{block_word-heap, block_word-header}
 use Rattle.attach_steps.specs.Steps.{bit_word}
-use Rattle.arena_core.proofs.Arenas.{same_log, book_same}
+use Rattle.arena_core.proofs.Arenas.{book_same}
+use Rattle.image_tables.proofs.Logs.{same_log}
 
 -- One word of a slab's header changes with a root's word and a write-ahead line: where it lies.
 pub record IsBlockChange (words : List ℕ) (line root start k : ℕ) : Type 0 where

@@ -11,14 +11,16 @@ use Rattle.attach_steps.specs.Steps.{IsAttachable}
 use Rattle.arena_core.specs.declared.plan.Held.{Held}
 use Rattle.arena_core.specs.declared.plan.Held.TheVariants as holding
 use Rattle.arena_core.specs.Plan.{IsGivableBlock}
-use Rattle.arena_core.proofs.Blocks.{heap-takable}
-use Rattle.arena_core.proofs.Arenas.{slabs_kept, same_heap}
+use Rattle.arena_core.proofs.Arenas.{slabs_kept}
 use Rattle.arena_core.specs.Events.{is_small, class_for, in_slab, block_at, fresh_events, morphed_events, unsmall_events, old_place, unold_events}
 use Rattle.heap_check.proofs.SmallPlaces.{no_old-held}
 use Rattle.arena_core.proofs.HeldBlocks.{heap_held, class_holds, old_holds, class_detachable, old_detachable}
-use Rattle.arena_core.proofs.LiveCounts.{counts_kept}
-use Rattle.arena_core.proofs.LiveSlabs.{calm_same, lives_kept}
+use Rattle.arena_core.proofs.LiveSlabs.{lives_kept}
 use Rattle.heap_check.proofs.Small.{one_number, is_old-held}
+use Rattle.arena_core.proofs.LargeStages.{heap-takable}
+use Rattle.heap_check.proofs.HeapSteps.{same_heap}
+use Rattle.heap_check.proofs.LiveCounts.{counts_kept}
+use Rattle.heap_check.proofs.CalmSlabs.{calm_same}
 
 -- a call that placed or freed a block, by its events
 pub IsCalled-done : {old new : PmemState} {was done_left left : Volatile} {seat root : ℕ} {block : Option Range} {slab : ℕ → Option ℕ} {events : List Event} (call : Call) (reply : Reply) →

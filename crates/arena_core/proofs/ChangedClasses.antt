@@ -5,11 +5,12 @@ use Rattle.slab_index.specs.SlabSet.{IsSlab}
 use Rattle.slab_morph.specs.Stages.{morphed, morph_count}
 use Rattle.class_steps.specs.Classes.{IsReadyFor, LeavesClosed, IsOfClass}
 use Rattle.arena_core.proofs.ChangedHeaders.{IsHeaderChange, row, unused_header}
-use Rattle.arena_core.proofs.LiveCounts.{counts_kept, live_same}
-use Rattle.arena_core.proofs.LiveSlabs.{calm_stirred, calm_header, lives_put}
-use Rattle.arena_core.proofs.Plans.{slab_parts}
-use Rattle.arena_core.proofs.UnusedBlocks.{iff_then}
-use Rattle.arena_core.proofs.Maps.{with_key-is, with_key-twice}
+use Rattle.arena_core.proofs.LiveSlabs.{calm_header, lives_put}
+use Rattle.heap_check.proofs.LiveCounts.{counts_kept, live_same}
+use Rattle.heap_check.proofs.CalmSlabs.{calm_stirred}
+use Rattle.heap_check.proofs.States.{slab_parts}
+use Rattle.heap_check.proofs.UnusedBlocks.{iff_then}
+use Rattle.heap_model.proofs.Maps.{with_key-is, with_key-twice}
 
 -- before
 

@@ -63,13 +63,14 @@ pub use Rattle.attach_steps.specs.declared.block.OldBlock.{OldBlock}
 pub use Rattle.attach_steps.specs.declared.block.SmallBlock.{SmallBlock}
 pub use Rattle.arena_core.specs.Adopting.{IsWithSlabOf, HasCounted, IsReadBelow}
 pub use Rattle.arena_core.specs.Answer.{malloc_reply, free_reply, move_reply}
-pub use Rattle.arena_core.specs.Arena.{IsSlabsOf, AreCountsOf, calm_of, IsIndexOf, live_in, AreLivesOf, IsCurrent, old_range, IsArena, ArenaState}
+pub use Rattle.arena_core.specs.Arena.{IsSlabsOf, IsIndexOf, AreLivesOf, IsCurrent, old_range, IsArena, ArenaState}
 pub use Rattle.arena_core.specs.Call.{IsStepOfAny, IsReady, IsStepOf}
 pub use Rattle.arena_core.specs.Carried.{IsTidied, IsDone, IsTaken, HaveOneMore, IsCalled, IsHeldFor, HasClassNow, IsSlabFor}
 pub use Rattle.arena_core.specs.Effect.{slabs_but, KeepsSlabs, stacks_but, IsPutBack, IsSuppliedFresh, IsSuppliedMorph, IsLastOf, GivesRoot}
 pub use Rattle.arena_core.specs.Events.{holds_none, tidy_events, call_events, line_after, write_events, take_events, freed_events, start_at, place_events, placed_events}
 pub use Rattle.arena_core.specs.Moving.{AreRoots, IsMovePlan, IsToMove, IsMoveCarried}
 pub use Rattle.arena_core.specs.Payload.{payload_events, IsWriteStep, AreWordsOf, HasWritten, HasBlockAt, IsWritable, IsWritePlan, IsWriteCarried, range_of_block}
-pub use Rattle.arena_core.specs.Plan.{IsAskedOf, IsVacantRow, tables_view, IsMorphable, IsPlacing, IsTakable, IsNamedSmall, IsHeldBy, range_held, IsFreePlan, IsNamedOld, IsGivable}
+pub use Rattle.arena_core.specs.Plan.{IsAskedOf, IsMorphable, IsPlacing, IsTakable, IsNamedSmall, IsHeldBy, range_held, IsFreePlan, IsNamedOld, IsGivable}
 pub use Rattle.arena_core.specs.declared.answer.BlockRefusal.{BlockRefusal}
 pub use Rattle.arena_core.specs.declared.volatile.Volatile.{Volatile}
+pub use Rattle.heap_check.specs.Views.{AreCountsOf, calm_of, live_in, IsVacantRow, tables_view}

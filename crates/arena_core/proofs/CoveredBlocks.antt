@@ -7,7 +7,7 @@ use Rattle.heap_check.proofs.OldBlock.{Holds-relived, Holds-relived_back}
 use Rattle.slab_morph.specs.Overlaps.{IsOverlapRange}
 use Rattle.arena_core.specs.Arena.{AreSlabsBut}
 use Rattle.arena_core.proofs.HeldBlocks.{old_holds}
-use Rattle.arena_core.proofs.UnusedBlocks.{iff_then, unused_apart}
+use Rattle.heap_check.proofs.UnusedBlocks.{iff_then, unused_apart}
 
 -- the old block went: the set has no block that overlaps it, and of the others those that are unused
 pub slabs_old : (words : List ℕ) (line root : ℕ) (block : OldBlock) → IsOldDetachable words root block → (new : List ℕ) → IsOldDetached words line root block new → (set : Supply) → IsSlabsOf set words → AreSlabsBut set new block

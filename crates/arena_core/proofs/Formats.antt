@@ -17,9 +17,9 @@ use Rattle.book_log.proofs.Places.{within_heap}
 use Rattle.heap_model.specs.Machine.{no_heap}
 use Rattle.heap_check.specs.Formatted.{IsFormatted}
 use Rattle.heap_check.proofs.Formatted.{AreBlank-formatted, header_in-formatted, IsFormed-formatted, law_of_formatted}
-use Rattle.arena_core.proofs.LiveSlabs.{calm_none}
 use Rattle.arena_core.specs.Call.{IsFormattedOrNot}
 use Rattle.arena_core.specs.Events.{format_events}
+use Rattle.heap_check.proofs.CalmSlabs.{calm_none}
 
 -- the header of an arena of version 1
 pub IsPoolHeader-new : (number arenas granules : ℕ) → number < arenas → arenas ≤ 16 → 16 ≤ granules → granules ≤ (layout_of 1).most_granules →

@@ -8,10 +8,10 @@ use Rattle.arena_core.specs.declared.answer.Freed.{Freed}
 use Rattle.arena_core.specs.declared.answer.FreeRefusal.{FreeRefusal}
 use Rattle.arena_core.specs.declared.answer.FreeRefusal.TheVariants as refusals
 use Rattle.arena_core.specs.declared.plan.Held.{Held}
-use Rattle.arena_core.proofs.Blocks.{heap-takable}
 use Rattle.arena_core.proofs.CallEvents.{IsCalled-done, IsCalled-refused, freed_large, line_freed, freed_there, start_is, line_small, named_class, named_inside, named_heap, named_new, old_heap, old_inside, old_differs, freed_old}
 use Rattle.arena_core.proofs.MachineSteps.{Returns, refused_free, put_back_as, freed_step, large_stays, small_stays, large_returned, small_returned, old_returned}
 use Rattle.arena_core.proofs.TakenBlocks.{last_taken, done_taken}
+use Rattle.arena_core.proofs.LargeStages.{heap-takable}
 
 -- whole granules
 pub freed_granules : {old new : PmemState} {was left : Volatile} {seat root start count : ℕ} → IsArena old was → IsTakable (bounds_of (words_of old)) (tables_of (words_of old)) root start count →

@@ -5,8 +5,8 @@ use Rattle.arena_core.proofs.Readiness.{ready_after}
 use Rattle.block_supply.proofs.Takes.{none_open}
 use Rattle.attach_steps.specs.Steps.{IsAttached}
 use Rattle.arena_core.proofs.BlockChanges.{change_bit, book_small, keeps_small}
-use Rattle.arena_core.proofs.HeapSteps.{keeps_both, steps_then}
 use Rattle.arena_core.proofs.SmallCalls.{slabs_without, classes_small, index_small, bits_with, lives_as}
+use Rattle.heap_check.proofs.HeapSteps.{keeps_both, steps_then}
 
 -- a slab is there
 module _ {device : PmemState} {volatile : Volatile} {root start class : ℕ} (ready : IsSlabFor device volatile root start class) where

@@ -7,7 +7,8 @@ use Rattle.log_steps.specs.Events.{log_events}
 use Rattle.arena_core.proofs.Arenas.{book_root, slabs_stage, index_stage, index_less, index_more}
 use Rattle.arena_core.proofs.CallEvents.{IsDone-large}
 use Rattle.arena_core.proofs.LargeCalls.{give_place, nothing, given_extent, given, give_step, live_given_large, take_place, taken_root, take_step, live_taken_large}
-use Rattle.arena_core.proofs.LargeStages.{IsStageOf, stage_gone, exact_stage, gives_some, gives_none}
+use Rattle.arena_core.proofs.LargeStages.{stage_gone, gives_some, gives_none}
+use Rattle.heap_check.proofs.LargeImages.{IsStageOf, exact_stage}
 
 -- the extent came into the log, the root has its address, and its granules are not free any more
 pub large_given : {old mid new : PmemState} {was : Volatile} {root start count at : ℕ} → IsArena old was → IsGivable (bounds_of (words_of old)) (tables_of (words_of old)) root start count → (less : FreeSet) (log : Book) →

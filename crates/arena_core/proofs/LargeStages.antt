@@ -1,61 +1,17 @@
--- A large extent and its root come and go: the words of the image at each stage.
-use Rattle.std.proofs.Common.{◌≡◌, ◌≢◌, ℕ, ◌*◌, ◌<◌, ◌≤◌, false, List, length, sym, ap, subst, ◌∙◌, arith, ⊎_elim, Some, None}
-use Rattle.arena_core.proofs.Common.{cases_eq, word_at, put_word, length-put_word, layout_of, root_word, heap_word, version_in, Tables, large_of, is_slab_of, is_slab, tables_of, put_at, HasNoMove, put_at-same, put_at-own, roots_plain, large_table, slab_table, start_of, extent_of, Bounds, Range, heap, slabs, IsExact, bounds_of, IsFormed, IsExactImage, IsSteadyImage, IsWordOf, HaveSameHeap, KeepsBlocks, law_of_steady, IsClaim-heap, IsWithin-claim, with_large, IsLargePlace, GivesRoot, AreSlabsInHeap-sound, IsExtentGone}
+-- A large extent and its root come and go: what a change of the log leads to, and what a call has done.
+use Rattle.std.proofs.Common.{◌<◌, ◌≡◌, ℕ, ◌*◌, ◌≤◌, false, List, sym, ap, subst, ◌∙◌, arith, Some, None}
+use Rattle.arena_core.proofs.Common.{layout_of, Tables, large_of, is_slab_of, is_slab, tables_of, put_at, put_at-same, put_at-own, large_table, slab_table, start_of, extent_of, heap, slabs, bounds_of, IsExactImage, IsLargePlace, GivesRoot, AreSlabsInHeap-sound, IsExtentGone, Bounds, IsTakable, is_large-start}
 use Rattle.image_tables.specs.Extents.{extent_at}
-use Rattle.image_tables.specs.Tables.{AreSlabsInHeap}
 use Rattle.image_tables.specs.Updates.{with_root}
 use Rattle.image_tables.proofs.Updates.{put_at-twice}
-use Rattle.image_tables.proofs.Stores.{version_in-off_log, heap_word-off_log, tables_off_log, version_in-put_root, heap_word-put_root, extent_at-put_root, tables_put_root}
+use Rattle.image_tables.proofs.Stores.{version_in-off_log, heap_word-off_log, tables_off_log}
 use Rattle.book_log.specs.declared.entry.LogEntry.{LogEntry}
-use Rattle.heap_check.specs.Sound.{IsSteady}
-use Rattle.heap_check.proofs.Forms.{bounds_of-off_log, IsFormed-off_log, bounds_of-put_root, IsFormed-put_root}
-use Rattle.heap_check.proofs.Large.{large_block, IsLargeStage, entry_at-none}
-use Rattle.heap_check.proofs.LargeSound.{IsLargeEnd, IsSteady-large, IsExact-large}
-use Rattle.heap_check.proofs.LargeHeaps.{heap-large_other, heap-large_none, heap-large_some}
+use Rattle.heap_check.proofs.Forms.{bounds_of-off_log, IsFormed-off_log}
+use Rattle.heap_check.proofs.Large.{large_block}
 use Rattle.log_steps.specs.Log.{KeepsRest, HasSameExtents, HasExtentsWith}
 use Rattle.log_steps.proofs.Entries.{off_log}
 use Rattle.log_steps.proofs.LargeEntries.{slab_entry, large_entry}
-
--- The image is as the words are, but that the extent at a start has so many granules, and a root this word.
-pub record IsStageOf (words : List ℕ) (root start here word : ℕ) (image : List ℕ) : Type 0 where
-  pub formed : IsFormed image
-  pub bounds : bounds_of image ≡ bounds_of words
-  pub slabs : AreSlabsInHeap image
-  pub size : length image ≡ length words
-  pub unmoved : HasNoMove (tables_of words).open_entry
-  pub tables : tables_of image ≡ with_large (tables_of words) start here root word
-  pub heap : (k : ℕ) → heap_word (version_in words) ≤ k → word_at image k ≡ word_at words k
-
--- the words as they are
-pub stage_none : (words : List ℕ) (root start : ℕ) → IsFormed words → AreSlabsInHeap words → HasNoMove (tables_of words).open_entry → IsStageOf words root start ((tables_of words).large start) ((tables_of words).root root) words
-stage_none words root start formed slabs unmoved = grind (arith, roots_plain, put_at-own)
-
--- the heap begins at the same word
-same_heap_word : (words made : List ℕ) → bounds_of made ≡ bounds_of words → heap_word (version_in made) ≡ heap_word (version_in words)
-same_heap_word words made same = ap (λ (b : Bounds). 2048 * b.first) same
-
--- a root's word is stored
-pub stage_root : (words : List ℕ) (root start here word : ℕ) (made : List ℕ) (value : ℕ) → IsStageOf words root start here word made → root < (bounds_of words).roots → root_word root < length words →
-    IsStageOf words root start here value (put_word made (root_word root) value)
-stage_root words root start here word made value stage below inside =
-    let t = tables_of words in
-    let new = put_word made (root_word root) value in
-    let among : root < (layout_of (version_in made)).roots = subst (λ (b : Bounds). root < b.roots) (sym stage.bounds) below in
-    let within : root_word root < length made = omega (arith, inside, stage.size) in
-    record {
-      formed = IsFormed-put_root made root value stage.formed among within stage.slabs;
-      bounds = bounds_of-put_root made root value ∙ stage.bounds;
-      slabs = record {
-        low = λ other is. subst (λ v. (layout_of v).first_granule ≤ other) (sym (version_in-put_root made root value))
-            (stage.slabs.low other (sym (ap is_slab_of (extent_at-put_root made root value other among)) ∙ is));
-      };
-      size = length-put_word made (root_word root) value ∙ stage.size;
-      unmoved = stage.unmoved;
-      tables = tables_put_root made root value among within stage.slabs (subst HasNoMove (sym (ap (λ (s : Tables). s.open_entry) stage.tables)) stage.unmoved)
-          ∙ ap (λ (s : Tables). with_root s root value) stage.tables
-          ∙ (λ i. record t { large = put_at t.large start here; word = put_at-twice t.word root word value i; root = put_at-twice t.root root word value i });
-      heap = λ k high. heap_word-put_root made root value k among (omega (arith, high, same_heap_word words made stage.bounds)) ∙ stage.heap k high;
-    }
+use Rattle.heap_check.proofs.LargeImages.{IsStageOf, same_heap_word, some_stage, none_stage, others_stage, slabs_stage, keeps_stage}
 
 -- the log is changed, and so is what starts at the start
 stage_log : (words : List ℕ) (root start here word : ℕ) (made image : List ℕ) (after : ℕ) → IsStageOf words root start here word made → KeepsRest made image →
@@ -102,81 +58,27 @@ stage_entry words root start here word made image entry after stage rest extents
 pub stage_gone : (words : List ℕ) (root start here word : ℕ) (made image : List ℕ) → IsStageOf words root start here word made → IsExtentGone made start image → IsStageOf words root start 0 word image
 stage_gone words root start here word made image stage gone = grind (arith, AreSlabsInHeap-sound, put_at-twice, heap_word-off_log, off_log, same_heap_word)
 
--- no move entry is open in it
-pub still_stage : {words : List ℕ} {root start here word : ℕ} {image : List ℕ} → IsStageOf words root start here word image → HasNoMove (tables_of image).open_entry
-still_stage {words} {root} {start} {here} {word} {image} stage = subst HasNoMove (sym (ap (λ (t : Tables). t.open_entry) stage.tables)) stage.unmoved
-
--- what a stage has
+-- what a call has done
 
 module _ {words : List ℕ} {root start count : ℕ} (exact : IsExactImage words) (place : IsLargePlace (bounds_of words) (tables_of words) root start count) where
-  pub steady_stage : (here word : ℕ) (image : List ℕ) → IsLargeStage start count here word → IsStageOf words root start here word image → IsSteadyImage image
-  steady_stage here word image is stage = record {
-    formed = stage.formed;
-    steady = subst (λ b. IsSteady b (tables_of image)) (sym stage.bounds)
-        (subst (λ t. IsSteady (bounds_of words) t) (sym stage.tables) (IsSteady-large place here word is (law_of_steady (bounds_of words) (tables_of words) exact.exact)));
-  }
-
-  pub exact_stage : (here word : ℕ) (image : List ℕ) → IsLargeEnd start count here word → IsStageOf words root start here word image → IsExactImage image
-  exact_stage here word image is stage = record {
-    formed = stage.formed;
-    exact = subst (λ b. IsExact b (tables_of image)) (sym stage.bounds)
-        (subst (λ t. IsExact (bounds_of words) t) (sym stage.tables) (IsExact-large place here word is exact.exact));
-  }
-
-  -- the heap
-
-  others_stage : (here word : ℕ) (image : List ℕ) → IsStageOf words root start here word image → (other : ℕ) → other ≢ root → heap (tables_of image) other ≡ heap (tables_of words) other
-  others_stage here word image stage other differ = ap (λ (t : Tables). heap t other) stage.tables ∙ heap-large_other place here word other differ
-
-  none_stage : (here : ℕ) (image : List ℕ) → IsStageOf words root start here 0 image → heap (tables_of image) root ≡ None
-  none_stage here image stage = ap (λ (t : Tables). heap t root) stage.tables ∙ heap-large_none place here
-
-  some_stage : (image : List ℕ) → IsStageOf words root start count (16384 * start) image → heap (tables_of image) root ≡ Some (large_block start count)
-  some_stage image stage = ap (λ (t : Tables). heap t root) stage.tables ∙ heap-large_some place
-
-  slabs_stage : (here word : ℕ) (image : List ℕ) → IsStageOf words root start here word image → (other : ℕ) → slabs (tables_of image) other ≡ slabs (tables_of words) other
-  slabs_stage here word image stage other = ap (λ (t : Tables). slabs t other) stage.tables
-
-  -- two images in which the root has no block
-  pub same_none : (here there : ℕ) (one other : List ℕ) → IsStageOf words root start here 0 one → IsStageOf words root start there 0 other → HaveSameHeap one other
-  same_none here there one other first second = record {
-    each = λ r. ⊎_elim
-        (λ (same : r ≡ root). ap (heap (tables_of other)) same ∙ none_stage there other second ∙ sym (none_stage here one first) ∙ ap (heap (tables_of one)) (sym same))
-        (λ (differ : r ≢ root). others_stage there 0 other second r differ ∙ sym (others_stage here 0 one first r differ))
-        (cases_eq r root);
-  }
-
-  -- two images in which it has the block
-  pub same_some : (one other : List ℕ) → IsStageOf words root start count (16384 * start) one → IsStageOf words root start count (16384 * start) other → HaveSameHeap one other
-  same_some one other first second = grind arith
-
-  -- the effect
-
-  -- a block of the words keeps its words
-  pub keeps_stage : (here word : ℕ) (image : List ℕ) → IsStageOf words root start here word image → KeepsBlocks words image
-  keeps_stage here word image stage = record { each = λ r other range k was _ lies. stage.heap k (block_in_heap r range k was lies) }
-    where
-      block_in_heap : (r : ℕ) (range : Range) (k : ℕ) → heap (tables_of words) r ≡ Some range → IsWordOf range k → heap_word (version_in words) ≤ k
-      block_in_heap r range k was lies =
-          let within = IsWithin-claim place.sound r range (entry_at-none place r) (IsClaim-heap (tables_of words) r range (entry_at-none place r) was) in
-          let range_within = within.1 in
-          let starts = place.sound.starts within.0 (omega (arith, range_within.low, range_within.high, range_within.some)) in
-          omega (arith, range_within.low, starts.0, lies.low)
-
   pub gives_none : (here : ℕ) (image : List ℕ) → IsStageOf words root start here 0 image → GivesRoot words root None (slabs (tables_of words)) image
   gives_none here image stage = record {
-    here = none_stage here image stage;
-    others = others_stage here 0 image stage;
-    slabs = slabs_stage here 0 image stage;
-    keeps = keeps_stage here 0 image stage;
+    here = none_stage exact place here image stage;
+    others = others_stage exact place here 0 image stage;
+    slabs = slabs_stage exact place here 0 image stage;
+    keeps = keeps_stage exact place here 0 image stage;
     bounds = stage.bounds;
   }
 
   pub gives_some : (image : List ℕ) → IsStageOf words root start count (16384 * start) image → GivesRoot words root (Some (large_block start count)) (slabs (tables_of words)) image
   gives_some image stage = record {
-    here = some_stage image stage;
-    others = others_stage count (16384 * start) image stage;
-    slabs = slabs_stage count (16384 * start) image stage;
-    keeps = keeps_stage count (16384 * start) image stage;
+    here = some_stage exact place image stage;
+    others = others_stage exact place count (16384 * start) image stage;
+    slabs = slabs_stage exact place count (16384 * start) image stage;
+    keeps = keeps_stage exact place count (16384 * start) image stage;
     bounds = stage.bounds;
   }
+
+-- the block of a root that names a large extent
+pub heap-takable : (b : Bounds) (t : Tables) (root start count : ℕ) → 0 < b.first → IsTakable b t root start count → heap t root ≡ Some (record { at = 16384 * start; size = 16384 * count })
+heap-takable b t root start count first takable = grind (arith, is_large-start)

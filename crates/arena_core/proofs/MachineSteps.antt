@@ -11,14 +11,16 @@ use Rattle.heap_model.proofs.Views.{IsSite-same, HasNoSite-same}
 use Rattle.block_supply.proofs.Views.{AgreeOnBlocks}
 use Rattle.heap_check.proofs.ExactStates.{law_of_exact_state}
 use Rattle.arena_core.proofs.Plans.{slab_of_set, block_is}
-use Rattle.arena_core.proofs.StackSteps.{way_there, way_fresh, way_morph, returned_large, returned_small, returned_old}
-use Rattle.arena_core.proofs.UnusedBlocks.{iff_then}
+use Rattle.arena_core.proofs.StackSteps.{way_fresh, way_morph, returned_small, returned_old}
 use Rattle.arena_core.specs.declared.answer.MallocRefusal.{MallocRefusal}
 use Rattle.arena_core.specs.declared.answer.MallocRefusal.TheVariants.{NoRoot, Occupied, ZeroSize, TooLarge, NoSpace}
 use Rattle.arena_core.specs.declared.answer.FreeRefusal.{FreeRefusal}
 use Rattle.arena_core.specs.declared.answer.FreeRefusal.TheVariants as refusals
 use Rattle.arena_core.specs.Plan.{IsMallocPlan}
-use Rattle.arena_core.proofs.States.{naming, naming_slab, nameless, after_call, named_at, fit_clear, tables_agree, slabs_without-large, slabs_without-other, slabs_without-none}
+use Rattle.block_supply.proofs.Ways.{way_there}
+use Rattle.heap_model.proofs.LeftSlabs.{returned_large}
+use Rattle.heap_check.proofs.UnusedBlocks.{iff_then}
+use Rattle.heap_check.proofs.States.{naming, naming_slab, nameless, after_call, named_at, fit_clear, tables_agree, slabs_without-large, slabs_without-other, slabs_without-none}
 
 -- the new words have the state in which the root has this block, and these are the slabs
 pub HasState-gives : (old new : List ℕ) (root : ℕ) (block : Option Range) (slab : ℕ → Option ℕ) (m : Machine) (next : ℕ → Option ℕ) → HasState old m → GivesRoot old root block slab new → ((start : ℕ) → slab start ≡ next start) →

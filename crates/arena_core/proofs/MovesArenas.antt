@@ -3,9 +3,12 @@ use Rattle.std.proofs.Common.{◌≡◌, ◌≢◌, ℕ, ◌+◌, ◌<◌, List,
 use Rattle.arena_core.proofs.Common.{cases_eq, word_at, entry_word, version_in, granules_in, Tables, tables_of, SameLog, root_word-low, Book, FreeSet, Bounds, Range, with_key, live_below, begins_in, with_key-here, with_key-other, heap, granules_at, bounds_of, heap-none, IsBookOf, Lives, calm_at, IsIndexOf, live_in, AreLivesOf, KeepsSlabs}
 use Rattle.image_tables.proofs.Places.{log_word-low, entry_word-low}
 use Rattle.move_steps.specs.Moves.{IsMovable, IsMoved}
-use Rattle.arena_core.proofs.Arenas.{same_log, index_as, book_same}
-use Rattle.arena_core.proofs.LiveCounts.{one_if, live_given, counts_kept}
-use Rattle.arena_core.proofs.LiveSlabs.{calm_same, lives_kept}
+use Rattle.arena_core.proofs.Arenas.{index_as, book_same}
+use Rattle.arena_core.proofs.LiveSlabs.{lives_kept}
+use Rattle.image_tables.proofs.Logs.{same_log}
+use Rattle.heap_model.proofs.Counts.{one_if, live_given}
+use Rattle.heap_check.proofs.LiveCounts.{counts_kept}
+use Rattle.heap_check.proofs.CalmSlabs.{calm_same}
 
 -- As many blocks begin in a slab once a root's block is another's.
 pub live_moved : (old new : ℕ → Option Range) (s roots from to : ℕ) (range : Range) → from < roots → to < roots → from ≢ to → old from ≡ Some range → old to ≡ None → new to ≡ Some range → new from ≡ None →

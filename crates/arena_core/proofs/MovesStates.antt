@@ -9,7 +9,7 @@ use Rattle.arena_core.specs.declared.answer.MoveRefusal.{MoveRefusal}
 use Rattle.arena_core.specs.declared.answer.MoveRefusal.TheVariants.{NoRoot, Empty, Occupied}
 use Rattle.arena_core.specs.Moving.{IsMoveStep}
 use Rattle.arena_core.proofs.MovesArenas.{from_to}
-use Rattle.arena_core.proofs.States.{named_at}
+use Rattle.heap_check.proofs.States.{named_at}
 
 -- whichever seat calls, and whatever stands on the stacks, it is a step of the machine
 pub any_seat : (old new : List ℕ) (from to : ℕ) (reply : Reply) → IsMoveStep old new from to reply → IsStepOfAny old new (calls.Move from to) reply

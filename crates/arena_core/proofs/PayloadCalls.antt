@@ -10,9 +10,10 @@ use Rattle.arena_core.specs.declared.plan.Held.TheVariants as holding
 use Rattle.arena_core.specs.Answer.{write_reply}
 use Rattle.arena_core.specs.Payload.{IsNamedWord, IsEitherWords, IsBlockPlan}
 use Rattle.arena_core.proofs.CallEvents.{held_heap}
-use Rattle.arena_core.proofs.PayloadImages.{IsSameOffBlock, bounds_kept, exact_kept, heap_kept, slabs_kept, IsArena-block}
+use Rattle.arena_core.proofs.PayloadImages.{IsArena-block}
 use Rattle.arena_core.proofs.PayloadRows.{off_write, in_write}
 use Rattle.arena_core.proofs.PayloadStates.{step_written, step_refused}
+use Rattle.heap_check.proofs.OffBlocks.{IsSameOffBlock, bounds_kept, exact_kept, heap_kept, slabs_kept}
 
 -- the block of a root
 

@@ -4,7 +4,7 @@ use Rattle.arena_core.proofs.Common.{start_at, place_events, placed_events, call
 use Rattle.arena_core.proofs.GivenBlocks.{done_behind}
 use Rattle.arena_core.proofs.MachineSteps.{IsServedAt, placed_reply, placed_step, refused_malloc}
 use Rattle.arena_core.proofs.CallEvents.{IsCalled-done, IsCalled-refused, small_attachable, placed_large, line_placed, placed_there, placed_morph, placed_fresh, start_is, line_small}
-use Rattle.arena_core.proofs.Plans.{class_capacity-some, slab_parts}
+use Rattle.arena_core.proofs.Plans.{class_capacity-some}
 use Rattle.extent_steps.specs.Slabs.{open_events}
 use Rattle.block_supply.proofs.Firsts.{in_new, first_of}
 use Rattle.block_supply.proofs.Takes.{none_open}
@@ -21,6 +21,7 @@ use Rattle.arena_core.specs.declared.answer.Placed.{Placed}
 use Rattle.arena_core.specs.Carried.{MayOpen, MayTakeClass}
 use Rattle.arena_core.specs.Plan.{IsFound, IsSuppliedAt, IsSuppliedFor, IsPlanned, IsBlockAs, number_of}
 use Rattle.arena_core.proofs.SmallCalls.{slabs_without}
+use Rattle.heap_check.proofs.States.{slab_parts}
 
 -- the plan names the place that was found
 pub planned_at : {device : PmemState} {was now : Volatile} {seat root size : ℕ} {place named : Place} → place ≡ named → IsPlanned device was now seat root size (Ok place) → IsPlanned device was now seat root size (Ok named)

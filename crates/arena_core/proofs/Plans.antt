@@ -14,12 +14,9 @@ use Rattle.block_supply.specs.Supply.{IsInSlabOf}
 use Rattle.arena_core.specs.Plan.{IsSlabAt, IsRootIn}
 use Rattle.heap_check.proofs.LargeLogs.{large_many}
 use Rattle.heap_check.proofs.Small.{is_old-held}
+use Rattle.heap_check.proofs.States.{slab_parts}
 
 -- slabs
-
--- a slab of the tables' map is one, of its class
-pub slab_parts : (t : Tables) (start class : ℕ) → slabs t start ≡ Some class → (t.slab start ≡ true) × (t.class start ≡ class)
-slab_parts t start class is = grind arith
 
 -- a slab has a block
 pub class_capacity-some : (class : ℕ) → class < 36 → 0 < class_capacity class

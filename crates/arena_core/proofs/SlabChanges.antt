@@ -9,12 +9,13 @@ use Rattle.heap_check.proofs.SlabPlaces.{IsSlabPlace-vacant, IsSlabPlace-empty}
 use Rattle.heap_check.proofs.Slabs.{IsSlabPlace, holds_none-fresh}
 use Rattle.extent_steps.specs.Slabs.{IsOpened, IsDropped}
 use Rattle.extent_steps.proofs.Images.{keeps_blocks}
-use Rattle.arena_core.proofs.Plans.{slab_parts}
-use Rattle.arena_core.proofs.UnusedBlocks.{iff_then, iff_back}
-use Rattle.arena_core.proofs.LiveCounts.{counts_kept, live_none}
-use Rattle.arena_core.proofs.LiveSlabs.{calm_normal, calm_none, calm_same, lives_put}
+use Rattle.arena_core.proofs.LiveSlabs.{lives_put}
 use Rattle.arena_core.proofs.Arenas.{index_by, index_less, index_more}
-use Rattle.arena_core.proofs.Maps.{with_key-is}
+use Rattle.heap_check.proofs.States.{slab_parts}
+use Rattle.heap_check.proofs.UnusedBlocks.{iff_then, iff_back}
+use Rattle.heap_check.proofs.LiveCounts.{counts_kept, live_none}
+use Rattle.heap_check.proofs.CalmSlabs.{calm_normal, calm_none, calm_same}
+use Rattle.heap_model.proofs.Maps.{with_key-is}
 
 -- a slab is opened
 module _ (words : List ℕ) (start class : ℕ) (exact : IsExactImage words) (row : IsVacantRow (bounds_of words) (tables_of words) start 4) (class_below : class < 36) (new : List ℕ) (opened : IsOpened words start class new) where

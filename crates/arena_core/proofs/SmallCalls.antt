@@ -7,9 +7,9 @@ use Rattle.block_supply.specs.Supply.{IsWithout}
 use Rattle.heap_check.proofs.Small.{Holds-back, Holds-forth, blocks_apart}
 use Rattle.arena_core.specs.Arena.{AreSlabsLess}
 use Rattle.heap_check.proofs.OneBlock.{stage_of, IsVacant-one}
-use Rattle.arena_core.proofs.UnusedBlocks.{iff_then, unused_apart, unused_freed, iff_back}
 use Rattle.heap_check.proofs.SmallPlaces.{IsSmallPlace-named, clear_unused}
 use Rattle.arena_core.proofs.Arenas.{index_by}
+use Rattle.heap_check.proofs.UnusedBlocks.{iff_then, unused_apart, unused_freed, iff_back}
 
 -- the tables are others in which a block is held or not, with its root's word
 module _ (words : List ℕ) (bits lives : Bool → ℕ → ℕ → Bool) (root : ℕ) (on : Bool) (word : ℕ) (new : List ℕ) (bounds : bounds_of new ≡ bounds_of words) (tables : tables_of new ≡ stage_of (tables_of words) bits lives root on word None) where

@@ -5,11 +5,12 @@ use Rattle.arena_core.proofs.Readiness.{ready_after}
 use Rattle.heap_check.proofs.OneBlock.{stage_of}
 use Rattle.attach_steps.specs.Steps.{GivesOne}
 use Rattle.arena_core.proofs.BlockChanges.{IsBlockChange, book_small, keeps_small, change_bit, change_index}
-use Rattle.arena_core.proofs.HeapSteps.{keeps_both, steps_then}
 use Rattle.arena_core.proofs.LastBlocks.{last_of}
-use Rattle.arena_core.proofs.LiveCounts.{IsOneMore, begins_only, live_most, one_more}
 use Rattle.arena_core.proofs.SmallCalls.{classes_small, index_small, bits_with, lives_as, bits_as, lives_with, slabs_with, slabs_less, slabs_missing, named_used, unused_taken}
 use Rattle.arena_core.proofs.HeldBlocks.{heap_held, class_holds, old_holds}
+use Rattle.heap_check.proofs.HeapSteps.{keeps_both, steps_then}
+use Rattle.heap_check.proofs.LiveCounts.{IsOneMore, begins_only, live_most}
+use Rattle.arena_core.proofs.LiveSlabs.{one_more}
 
 -- a slab lies in the arena, so its number of live blocks is one of the counts, and small
 pub counted : (words : List ℕ) (start : ℕ) (lives : Lives) → IsExactButImage words start → (tables_of words).slab start ≡ true → AreLivesOf lives words → (start < length lives.counts) × (slice_index lives.counts start ≡ live_in words start) × (live_in words start < 5000)

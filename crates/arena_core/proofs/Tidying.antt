@@ -5,16 +5,16 @@ use Rattle.arena_core.proofs.Readiness.{ready_after}
 use Rattle.transition_steps.specs.Transitions.{end_events, IsEndable, LeavesEntry, IsEnded}
 use Rattle.arena_core.specs.Carried.{IsUntidy}
 use Rattle.arena_core.specs.Events.{is_done}
-use Rattle.arena_core.proofs.Arenas.{same_heap}
 use Rattle.arena_core.proofs.ChangedHeaders.{IsHeaderChange, row, book_header, index_header, unused_header}
 use Rattle.arena_core.proofs.LastBlocks.{none_by_tests, some_by_tests, rooted_by_tests}
-use Rattle.arena_core.proofs.LiveCounts.{live_none, live_some, live_same, counts_kept}
 use Rattle.arena_core.proofs.LiveSlabs.{lives_put}
 use Rattle.arena_core.proofs.SlabChanges.{exact_held}
 use Rattle.heap_model.proofs.Below.{any_below-each, any_below-some}
 use Rattle.arena_core.proofs.Tests.{not_true}
-use Rattle.arena_core.proofs.UnusedBlocks.{iff_then}
 use Rattle.slab_morph.specs.Stages.{settled}
+use Rattle.heap_check.proofs.HeapSteps.{same_heap}
+use Rattle.heap_check.proofs.LiveCounts.{live_none, live_some, live_same, counts_kept}
+use Rattle.heap_check.proofs.UnusedBlocks.{iff_then}
 
 -- the test of a slab that is done
 pub done_by_test : (t : Tables) (start : ℕ) → IsDoneSlab t start → is_done t start ≡ true

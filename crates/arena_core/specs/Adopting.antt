@@ -15,7 +15,7 @@ use Rattle.block_supply.specs.Supply.{Supply, IsOpen}
 use Rattle.heap_check.specs.Heap.{heap, slabs, IsUnusedIn}
 use Rattle.heap_check.specs.Sound.{Covers}
 use Rattle.heap_check.specs.Image.{bounds_of}
-use Rattle.arena_core.specs.Arena.{calm_of}
+use Rattle.heap_check.specs.Views.{calm_of}
 
 -- a granule lies in the heap, and in no live extent that starts below another
 pub record IsVacantBelow (b : Bounds) (t : Tables) (from k : ℕ) : Type 0 where

@@ -1,14 +1,12 @@
 -- What an arena keeps between its calls, and the memory that it is made of.
-use Rattle.std.specs.Prelude.{◌≡◌, ◌↔◌, ◌==◌, ◌&&◌, ℕ, ◌<◌, ◌≤◌, ◌≢◌, ◌⊎◌, true, List, length, slice_index, if◌then◌else◌, Option, Some, None}
+use Rattle.std.specs.Prelude.{◌≡◌, ◌↔◌, ℕ, ◌<◌, ◌≤◌, ◌≢◌, ◌⊎◌, true, List, length, slice_index, Option, Some, None}
 use Rattle.pmem_lines.specs.Pmem.{PmemState, words_of}
 use Rattle.pool_layout.specs.Header.{granules_in}
 use Rattle.size_classes.specs.Classes.{class_capacity}
-use Rattle.image_tables.specs.Forms.{normal_kind}
 use Rattle.image_tables.specs.Tables.{Tables, tables_of}
 use Rattle.book_log.specs.Book.{IsBlank}
 use Rattle.heap_model.specs.declared.block.Block.{Block}
 use Rattle.heap_model.specs.Machine.{Range, AreApart, slab_block}
-use Rattle.heap_model.specs.Slabs.{live_below}
 use Rattle.extent_index.specs.FreeSet.{FreeSet, IsFree}
 use Rattle.heap_model.specs.Placement.{no_stacks}
 use Rattle.slab_index.specs.SlabSet.{class_in}
@@ -22,6 +20,7 @@ use Rattle.log_steps.specs.Log.{IsBookOf}
 use Rattle.attach_steps.specs.declared.block.OldBlock.{OldBlock}
 use Rattle.arena_core.specs.declared.volatile.Volatile.{Volatile}
 use Rattle.arena_core.specs.Call.{IsReady}
+use Rattle.heap_check.specs.Views.{AreCountsOf, calm_of}
 
 -- what an arena means: the state of its memory, the write-ahead line that its next entry goes to, and the stacks of reserved
 -- blocks
@@ -59,19 +58,6 @@ pub record AreSlabsBut (set : Supply) (words : List ℕ) (block : OldBlock) : Ty
   pub blocks : (start i : ℕ) → (tables_of words).slab start ≡ true → i < class_capacity ((tables_of words).class start) → (start ≢ block.start) ⊎ AreApart (old_range (tables_of words) block) (slab_block start ((tables_of words).class start) i) →
       IsOpen set start i ↔ IsUnusedIn (tables_of words) start ((tables_of words).class start) i
   pub none : (i : ℕ) → i < class_capacity ((tables_of words).class block.start) → ¬ (AreApart (old_range (tables_of words) block) (slab_block block.start ((tables_of words).class block.start) i)) → ¬ (IsOpen set block.start i)
-
--- how many live blocks lie in the slab at a start, where one begins there
-abbrev pub live_in : List ℕ → ℕ → ℕ
-live_in words start = if (tables_of words).slab start then live_below (heap (tables_of words)) start (bounds_of words).roots else 0
-
--- the counts are those of these words
-pub record AreCountsOf (counts : List ℕ) (words : List ℕ) : Type 0 where
-  pub size : length counts ≡ granules_in words
-  pub each : (start : ℕ) → slice_index counts start ≡ live_in words start
-
--- the class of the slab at a start that is normal: no live block in it has another size
-abbrev pub calm_of : Tables → ℕ → Option ℕ
-calm_of t start = if t.slab start && (t.kind start == normal_kind) then Some (t.class start) else None
 
 -- the counts are those of these words, and the calm slabs are the normal ones
 pub record AreLivesOf (lives : Lives) (words : List ℕ) : Type 0 where

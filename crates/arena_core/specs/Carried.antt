@@ -19,12 +19,13 @@ use Rattle.heap_check.specs.Image.{bounds_of, IsExactButImage}
 use Rattle.heap_check.specs.State.{HaveSameHeap, KeepsBlocks, IsEitherHeap}
 use Rattle.log_steps.specs.Log.{IsBookOf}
 use Rattle.arena_core.specs.declared.volatile.Volatile.{Volatile}
-use Rattle.arena_core.specs.Arena.{IsIndexOf, IsSlabsOf, AreSlabsLess, AreLivesOf, live_in, calm_of, IsCurrent, IsArena}
+use Rattle.arena_core.specs.Arena.{IsIndexOf, IsSlabsOf, AreSlabsLess, AreLivesOf, IsCurrent, IsArena}
 use Rattle.thread_cache.specs.Stacks.{stacks_of}
 use Rattle.arena_core.specs.Call.{IsReady, IsStepOf}
-use Rattle.arena_core.specs.Plan.{IsVacantRow, IsMorphable}
+use Rattle.arena_core.specs.Plan.{IsMorphable}
 use Rattle.arena_core.specs.Effect.{slabs_but, GivesRoot, IsLastOf}
 use Rattle.arena_core.specs.Events.{holds_none, tidy_events, call_events, line_after}
+use Rattle.heap_check.specs.Views.{live_in, calm_of, IsVacantRow}
 
 -- a root was given a block, or lost its own: the events, what is kept, and what a crash leaves
 pub record IsDone (old new : PmemState) (left : Volatile) (root : ℕ) (block : Option Range) (slab : ℕ → Option ℕ) (events : List Event) : Type 0 where

@@ -6,9 +6,8 @@ use Rattle.pmem_lines.specs.Pmem.{PmemState, words_of}
 use Rattle.image_tables.specs.Tables.{Tables, tables_of}
 use Rattle.heap_model.specs.Machine.{Bounds, Range, slab_block}
 use Rattle.heap_model.specs.Choice.{View, HasUnusedBlock, IsFit, IsBestSlab, IsFromGranules, IsFromSlab, IsFromNewSlab, HasNoSite}
-use Rattle.heap_model.specs.Slabs.{live_below}
-use Rattle.heap_check.specs.Heap.{heap, slabs, IsUnusedIn}
-use Rattle.heap_check.specs.Sound.{IsVacant, IsInSlab}
+use Rattle.heap_check.specs.Heap.{IsUnusedIn}
+use Rattle.heap_check.specs.Sound.{IsInSlab}
 use Rattle.heap_check.specs.Image.{bounds_of}
 use Rattle.attach_steps.specs.declared.block.SmallBlock.{SmallBlock}
 use Rattle.attach_steps.specs.declared.block.OldBlock.{OldBlock}
@@ -26,6 +25,7 @@ use Rattle.arena_core.specs.declared.answer.MallocRefusal.{MallocRefusal}
 use Rattle.arena_core.specs.declared.answer.MallocRefusal.TheVariants.{NoRoot, Occupied, ZeroSize, TooLarge, NoSpace}
 use Rattle.arena_core.specs.declared.answer.FreeRefusal.{FreeRefusal}
 use Rattle.arena_core.specs.declared.answer.FreeRefusal.TheVariants as refusals
+use Rattle.heap_check.specs.Views.{tables_view, IsVacantRow}
 
 -- malloc
 
@@ -35,12 +35,6 @@ pub record IsAskedOf (b : Bounds) (t : Tables) (root size : ℕ) : Type 0 where
   pub none : t.root root ≡ 0
   pub some : size ≢ 0
   pub most : size ≤ (b.granules - b.first) * 16384
-
--- so many granules from a start on are vacant
-pub record IsVacantRow (b : Bounds) (t : Tables) (start count : ℕ) : Type 0 where
-  pub low : b.first ≤ start
-  pub high : start + count ≤ b.granules
-  pub vacant : (k : ℕ) → start ≤ k → k < start + count → IsVacant b t k
 
 -- these granules are to be given to a root
 pub record IsGivable (b : Bounds) (t : Tables) (root start count : ℕ) : Type 0 where
@@ -62,16 +56,6 @@ pub record IsBlockAs (block : SmallBlock) (start class number : ℕ) : Type 0 wh
   pub start_is : block.start ≡ start
   pub number_is : block.number ≡ number
   pub at_is : block.at ≡ (slab_block start class number).at
-
--- the view that the choice of a malloc has of the tables
-abbrev pub tables_view : Bounds → Tables → View
-tables_view b t = record {
-  free = IsVacant b t;
-  slab = slabs t;
-  unused = IsUnusedIn t;
-  live = λ s. live_below (heap t) s b.roots;
-  in_transition = λ s. t.kind s ≢ normal_kind;
-}
 
 -- a slab is the one that takes a class for a request: whichever unused block of it is given, that is a site
 pub record IsFromFit (v : View) (size start class : ℕ) : Type 0 where

@@ -5,7 +5,8 @@ ghost use Rattle.image_tables.specs.Tables.{tables_of};
 ghost use Rattle.heap_model.specs.Choice.{IsBestSlab, HasNoFitSlab};
 ghost use Rattle.heap_check.specs.Image.{bounds_of, IsExactImage};
 ghost use Rattle.arena_core.specs.Arena.{AreLivesOf};
-ghost use Rattle.arena_core.specs.Plan.{tables_view, IsMorphable};
+ghost use Rattle.heap_check.specs.Views.{tables_view};
+ghost use Rattle.arena_core.specs.Plan.{IsMorphable};
 
 use class_steps::is_ready;
 use pmem_lines::Pmem;

@@ -9,3 +9,4 @@ pub mod Slabs
 pub mod Takes
 pub mod Firsts
 pub mod Views
+pub mod Ways

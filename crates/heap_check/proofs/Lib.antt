@@ -36,3 +36,10 @@ pub mod BlockWords
 pub mod SlabLogs
 pub mod LargeLogs
 pub mod ExactStates
+pub mod LiveCounts
+pub mod CalmSlabs
+pub mod HeapSteps
+pub mod UnusedBlocks
+pub mod States
+pub mod OffBlocks
+pub mod LargeImages

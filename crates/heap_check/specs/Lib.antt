@@ -5,3 +5,4 @@ pub mod Laws
 pub mod Image
 pub mod State
 pub mod Formatted
+pub mod Views

@@ -1,11 +1,11 @@
 -- Live blocks of a slab, counted as a root is given a block, and what holds of each block of a state.
-use Rattle.std.proofs.Common.{◌≡◌, ◌≢◌, ◌<◌, ◌≤◌, ◌+◌, ℕ, zero, suc, Option, Some, None, if◌then◌else◌, refl, sym, ap, ◌∙◌, arith, subst, ⊎_elim}
-use Rattle.std.proofs.lemmas.Bool.{cases_eq}
+use Rattle.std.proofs.Common.{◌≡◌, ◌≢◌, ◌<◌, ◌≤◌, ◌+◌, ℕ, zero, suc, Option, Some, None, if◌then◌else◌, refl, sym, ap, ◌∙◌, arith, subst, ⊎_elim, Bool, cond}
+use Rattle.std.proofs.lemmas.Bool.{cases_eq, cases_Bool}
 use Rattle.heap_model.specs.Machine.{Range, Machine, with_key, no_heap}
 use Rattle.heap_model.specs.Choice.{Site, range_of}
 use Rattle.heap_model.specs.Slabs.{begins_in, live_below}
 use Rattle.heap_model.specs.Step.{with_block}
-use Rattle.heap_model.proofs.Maps.{with_key-here, with_key-other, with_key-cases}
+use Rattle.heap_model.proofs.Maps.{with_key-here, with_key-other, with_key-cases, with_key-is}
 
 -- a root from n on is not counted
 live_below-past : (block : ℕ → Option Range) (s n root : ℕ) (new : Option Range) → n ≤ root → live_below (with_key block root new) s n ≡ live_below block s n
@@ -41,3 +41,23 @@ EachBlock-with m Is root site each here = record {
       (λ old. each.each r range old.1)
       (with_key-cases m.block root r (Some (range_of site)) (Some range) named);
 }
+
+-- one, where something is so
+abbrev pub one_if : Bool → ℕ
+one_if is = cond is 1 0
+
+-- one root more is counted
+pub live_next : (block : ℕ → Option Range) (s n : ℕ) → live_below block s (n + 1) ≡ one_if (begins_in s (block n)) + live_below block s n
+live_next block s n = let next : n + 1 ≡ suc n = omega arith in ap (live_below block s) next
+
+-- a root without a block gets one
+pub live_given : (old new : ℕ → Option Range) (s roots root : ℕ) (range : Range) → root < roots → old root ≡ None → new root ≡ Some range → ((other : ℕ) → other ≢ root → new other ≡ old other) →
+    live_below new s roots ≡ one_if (begins_in s (Some range)) + live_below old s roots
+live_given old new s roots root range below none given others = ap (λ h. live_below h s roots) (λ i k. with_key-is old new root (Some range) given others k i) ∙ live_below-with old s roots root range below none
+
+-- there are no more than roots
+pub live_below-most : (block : ℕ → Option Range) (s n : ℕ) → live_below block s n ≤ n
+live_below-most block s zero = omega arith
+live_below-most block s (suc n) =
+    let rest = live_below-most block s n in
+    ⊎_elim (λ is. let one : one_if (begins_in s (block n)) ≡ 1 = ap one_if is in omega (arith, rest, one)) (λ is. let none : one_if (begins_in s (block n)) ≡ 0 = ap one_if is in omega (arith, rest, none)) (cases_Bool (begins_in s (block n)))

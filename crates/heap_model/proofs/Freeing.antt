@@ -107,3 +107,7 @@ IsOverlapFree-without b m root range was = record {
   large = λ r x named. was.large r x (left_named m root r x named).1;
   clear = λ r x s c k named big slab. was.clear r x s c k (left_named m root r x named).1 big (slabs_left b m root range s c slab);
 }
+
+-- where a block begins
+pub begins_at : (s : ℕ) (range : Range) → BeginsIn s (Some range) → (16384 * s ≤ range.at) × (range.at < 16384 * s + 65536)
+begins_at s range begins = grind arith

@@ -20,3 +20,4 @@ pub mod TransitionRows
 pub mod StackRows
 pub mod BestSlabRows
 pub mod FreeRows
+pub mod LeftSlabs

@@ -146,3 +146,8 @@ log_of-directory words directory inside =
     ∙ ap (λ w. flat_map (chunk_log version new) (active_chunks w)) (word_at-put_same words directory_word directory_word directory refl inside)
     ∙ flat_map-same (chunk_log version words) (chunk_log version new) (active_chunks directory) (λ k d below. let c = get_or (active_chunks directory) k d in
     chunk_log-same version words new c (record { each = λ e under. word_at-put_other words directory_word (entry_word version c e) directory (λ is. omega (arith, is, behind, entry_word-low version c e)) }))
+
+-- a log reads the same where the front words stay and those of the chunks' entries
+pub same_log : (words new : List ℕ) → ((k : ℕ) → k < 64 → word_at new k ≡ word_at words k) →
+    ((c e : ℕ) → c < 16 → e < (layout_of (version_in words)).chunk_entries → word_at new (entry_word (version_in words) c e) ≡ word_at words (entry_word (version_in words) c e)) → SameLog words new
+same_log words new front entries = grind (arith, All-weaker, few_chunks)

@@ -1,7 +1,7 @@
 use Rattle.std.proofs.Common.{◌==◌, refl, ◌∙◌, arith}
 use Rattle.arena_core.proofs.Common.{cond-true, eq-eqb}
-use Rattle.arena_core.proofs.LiveCounts.{one_less}
 use Rattle.arena_core.proofs.carrying.lower.Goals as goal
+use Rattle.arena_core.proofs.LiveSlabs.{one_less}
 
 pub lower-requires-clause-some : goal.lower-requires-clause-some
 lower-requires-clause-some c =

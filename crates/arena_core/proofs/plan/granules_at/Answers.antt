@@ -1,7 +1,7 @@
 use Rattle.std.proofs.Common.{◌≡◌, rules}
 use Rattle.arena_core.proofs.Common.{tables_of, Large}
-use Rattle.arena_core.proofs.Blocks.{next_large}
 use Rattle.arena_core.proofs.plan.granules_at.Goals as goal
+use Rattle.heap_check.proofs.LargeLogs.{next_large}
 
 pub returns-in-Some-Large : goal.returns-in-Some-Large
 returns-in-Some-Large c words book some =

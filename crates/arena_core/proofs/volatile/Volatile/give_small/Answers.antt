@@ -1,13 +1,13 @@
 use Rattle.std.proofs.Common.{◌+◌, ◌%◌, true, sym, ap, subst, arith}
 use Rattle.arena_core.proofs.Common.{words_of, Tables, tables_of, slab_block, IsUnusedIn, heap-none, calm_of, IsSlabsOf, AreLivesOf}
 use Rattle.heap_check.proofs.SmallPlaces.{IsWithin-block, in_slab}
-use Rattle.arena_core.proofs.LiveCounts.{counts_raised}
 use Rattle.arena_core.proofs.LiveSlabs.{lives_kept}
 use Rattle.arena_core.proofs.SmallCalls.{slabs_less, slabs_used, used_given}
 use Rattle.arena_core.proofs.TakenBlocks.{counted, more_given}
 use Rattle.arena_core.proofs.GivenBlocks.{given_done}
 use Rattle.arena_core.proofs.volatile.Volatile.give_small.Given as given
 use Rattle.arena_core.proofs.volatile.Volatile.give_small.Goals as goal
+use Rattle.heap_check.proofs.LiveCounts.{counts_raised}
 
 pub raise-requires-clause-inside : goal.raise-requires-clause-inside
 raise-requires-clause-inside g c =

@@ -3,10 +3,10 @@ use Rattle.arena_core.proofs.Common.{words_of, layout_of, sizes_of, root_inside,
 use Rattle.arena_core.proofs.Readiness.{room_of, entry_room}
 use Rattle.heap_check.proofs.Sizes.{version_by_bounds}
 use Rattle.arena_core.proofs.Arenas.{book_root}
-use Rattle.arena_core.proofs.LargeStages.{IsStageOf}
 use Rattle.arena_core.proofs.LargeCalls.{taken_root, taken_loose, taken_covers}
 use Rattle.arena_core.proofs.LargeBlocks.{large_taken}
 use Rattle.arena_core.proofs.volatile.Volatile.take_large.Goals as goal
+use Rattle.heap_check.proofs.LargeImages.{IsStageOf}
 
 pub put_root-requires-clause-root : goal.put_root-requires-clause-root
 put_root-requires-clause-root g c = omega (arith, c.requires.takable.below, (sizes_of (words_of (g.P.Pmem.state c.args.device.now)) c.requires.arena.current.exact.formed).roots)

@@ -1,6 +1,13 @@
 -- Two steps in a row, of which one leaves the heap: what a crash leaves of both, and which words stay.
 use Rattle.std.proofs.Common.{refl, ◌⊎◌, ℕ, List, ◌++◌, inl, inr, ⊎_elim, arith}
-use Rattle.arena_core.proofs.Common.{Event, reading, PmemState, words_of, IsQuietStep, step_then, heap, HaveSameHeap, KeepsBlocks, IsEitherHeap}
+use Rattle.pmem_lines.specs.declared.event.Event.{Event}
+use Rattle.pmem_lines.specs.Events.{reading}
+use Rattle.pmem_lines.specs.Pmem.{PmemState, words_of}
+use Rattle.pmem_lines.specs.Steps.{IsQuietStep}
+use Rattle.pmem_lines.proofs.Steps.{step_then}
+use Rattle.heap_check.specs.Heap.{heap}
+use Rattle.heap_check.specs.State.{HaveSameHeap, KeepsBlocks, IsEitherHeap}
+use Rattle.heap_check.specs.Image.{IsExactImage}
 
 -- two steps, of which one leaves the heap
 module _ (old mid new : List ℕ) (which : HaveSameHeap old mid ⊎ HaveSameHeap mid new) where
@@ -35,3 +42,7 @@ module _ (old mid new : List ℕ) (which : HaveSameHeap old mid ⊎ HaveSameHeap
   pub steps_then : {s t u : PmemState} {e : List Event} (f : List ℕ → List Event) → KeepsBlocks old mid → IsQuietStep s t e (IsEitherHeap old mid) →
       IsQuietStep t u (f (words_of t)) (IsEitherHeap mid new) → IsQuietStep s u (e ++ f (reading (words_of s) e)) (IsEitherHeap old new)
   steps_then f keeps first second = step_then (IsEitherHeap old new) f first second either_first (either_second keeps)
+
+-- nothing was done: the heap is the one from before
+pub same_heap : (words new : List ℕ) → IsExactImage words → IsEitherHeap words new words
+same_heap words new exact = grind arith

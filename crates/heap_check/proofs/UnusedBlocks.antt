@@ -1,6 +1,11 @@
 -- Which blocks of a slab's class are unused once one of its blocks comes or goes.
 use Rattle.std.proofs.Common.{◌≡◌, ◌≢◌, ◌⊎◌, ◌↔◌, ℕ, None, sym, ap, subst, ◌∙◌, ⊎_elim}
-use Rattle.arena_core.proofs.Common.{cases_eq, Tables, Bounds, Range, AreApart, slab_block, entry_at, heap, IsClaim, Holds, IsUnusedIn, IsSound, heap-claim, IsClaim-heap}
+use Rattle.std.proofs.lemmas.Bool.{cases_eq}
+use Rattle.image_tables.specs.Tables.{Tables}
+use Rattle.heap_model.specs.Machine.{Bounds, Range, AreApart, slab_block}
+use Rattle.heap_check.specs.Heap.{entry_at, heap, IsClaim, Holds, IsUnusedIn}
+use Rattle.heap_check.specs.Sound.{IsSound}
+use Rattle.heap_check.proofs.Heaps.{heap-claim, IsClaim-heap}
 
 -- one claim follows from another and back
 pub iff_then : {A B C : Type 0} → A ↔ B → B ↔ C → A ↔ C

@@ -1,24 +1,41 @@
 -- The state of the heap machine that an exact image has: what the image's tables say of its granules, slabs and blocks,
 -- and its state after a call.
 use Rattle.std.proofs.Common.{◌≡◌, ◌≢◌, ℕ, ◌+◌, ◌*◌, ◌/◌, ◌<◌, ◌≤◌, true, false, true≢false, refl, sym, ap, subst, ◌∙◌, arith, inl, inr, ⊎_elim, List, Option, Some, None, ◌↔◌}
-use Rattle.arena_core.proofs.Common.{cases_eq, cases_lt, cases_Bool, cond-true, class_size, class_capacity, normal_kind, morphed_kind, Tables, tables_of, root_table-past, Bounds, Range, Machine, with_key, slab_block, IsUnused, IsFreeGranule, any_below, live_below, view_of, slabs_without, forgotten, IsBestFit, with_key-other, is_large, entry_at, heap, slabs, IsClaim, Holds, HoldsBit, HoldsOld, IsUnusedIn, granules_at, Covers, IsVacant, IsInSlab, IsSound, bounds_of, IsExactImage, HasState, KeepsBlocks, sizes_of, plain_size, IsNamed-claim, granules_at-slab, granules_at-large, granules_at-live, Covers-slab, is_large-slab, is_large-start, one_slab, heap-none, heap-claim, IsClaim-heap, IsWithin-claim, Holds-claim, IsVacantRow, tables_view}
 use Rattle.heap_model.specs.Choice.{Agree}
-use Rattle.heap_model.specs.Slabs.{IsInTransition}
+use Rattle.heap_model.specs.Slabs.{IsInTransition, live_below, view_of}
 use Rattle.heap_model.proofs.Below.{any_below-some, any_below-each}
 use Rattle.heap_model.proofs.Fits.{fit_free}
 use Rattle.heap_model.proofs.Placing.{rows_apart}
 use Rattle.heap_model.proofs.Slabbing.{LiesIn-block}
-use Rattle.arena_core.proofs.Maps.{with_key-is}
 use Rattle.heap_model.proofs.Freeing.{slabs_stay, slabs_leave}
-use Rattle.heap_check.specs.Sound.{HasOther}
-use Rattle.heap_check.proofs.Geometry.{granule_of-start}
-use Rattle.heap_check.proofs.Heaps.{heap-some, heap-large}
+use Rattle.heap_check.specs.Sound.{HasOther, granules_at, Covers, IsVacant, IsInSlab, IsSound}
+use Rattle.heap_check.proofs.Geometry.{granule_of-start, granules_at-slab, granules_at-large, granules_at-live, Covers-slab, is_large-slab, is_large-start, one_slab}
+use Rattle.heap_check.proofs.Heaps.{heap-some, heap-large, heap-none, heap-claim, IsClaim-heap}
 use Rattle.heap_check.proofs.LargePlaces.{cases_run}
-use Rattle.heap_check.proofs.Within.{Covers-within}
+use Rattle.heap_check.proofs.Within.{Covers-within, IsWithin-claim}
 use Rattle.heap_check.proofs.LiveBlocks.{one_class}
-use Rattle.heap_check.proofs.SmallPlaces.{apart_unused}
-use Rattle.arena_core.proofs.Plans.{slab_parts}
+use Rattle.heap_check.proofs.SmallPlaces.{apart_unused, Holds-claim}
 use Rattle.heap_check.proofs.LargeLogs.{large_many}
+use Rattle.std.proofs.lemmas.Bool.{cases_eq, cases_lt, cases_Bool, cond-true}
+use Rattle.size_classes.specs.Classes.{class_size, class_capacity}
+use Rattle.image_tables.specs.Forms.{normal_kind, morphed_kind}
+use Rattle.image_tables.specs.Tables.{Tables, tables_of}
+use Rattle.image_tables.proofs.Tables.{root_table-past}
+use Rattle.heap_model.specs.Machine.{Bounds, Range, Machine, with_key, slab_block, IsUnused, IsFreeGranule}
+use Rattle.heap_model.specs.Below.{any_below}
+use Rattle.heap_model.specs.Step.{slabs_without, forgotten}
+use Rattle.heap_model.specs.Runs.{IsBestFit}
+use Rattle.heap_model.proofs.Maps.{with_key-other, with_key-is}
+use Rattle.heap_check.specs.Heap.{is_large, entry_at, heap, slabs, IsClaim, Holds, HoldsBit, HoldsOld, IsUnusedIn}
+use Rattle.heap_check.specs.Image.{bounds_of, IsExactImage}
+use Rattle.heap_check.specs.State.{HasState, KeepsBlocks}
+use Rattle.heap_check.proofs.Sizes.{sizes_of}
+use Rattle.heap_check.proofs.Claims.{plain_size, IsNamed-claim}
+use Rattle.heap_check.specs.Views.{IsVacantRow, tables_view}
+
+-- a slab of the tables' map is one, of its class
+pub slab_parts : (t : Tables) (start class : ℕ) → slabs t start ≡ Some class → (t.slab start ≡ true) × (t.class start ≡ class)
+slab_parts t start class is = grind arith
 
 -- what is not forgotten is another root's
 not_forgotten : (value : ℕ → ℕ → Option ℕ) (root other index word : ℕ) → forgotten value root other index ≡ Some word → (other ≢ root) × (value other index ≡ Some word)

@@ -1,26 +1,22 @@
--- How many live blocks the slabs of an arena have: once a root has another block, and once slabs come and go.
-use Rattle.std.proofs.Common.{◌≡◌, ◌≢◌, ◌==◌, ℕ, ◌+◌, ◌-◌, ◌*◌, ◌<◌, ◌≤◌, Bool, true, false, true≢false, cond, List, length, slice_index, Option, Some, None, refl, sym, ap, ◌∙◌, arith, ⊎_elim, if◌then◌else◌, zero, suc}
-use Rattle.arena_core.proofs.Common.{cases_eq, cases_lt, cases_Bool, eq-eqb, ne_eqb, false_from_ne_true, granules_in, Tables, tables_of, root_table-past, Bounds, Range, live_below, begins_in, entry_at, heap, Holds, IsInSlab, IsSound, bounds_of, IsNamed-claim, one_slab, is_large-slab, is_large-start, heap-claim, IsClaim-heap, Holds-claim, IsInSlab-held, Lives, calm_at, live_in, calm_of, AreCountsOf, AreLivesOf, HaveOneMore}
-use Rattle.heap_model.proofs.Counts.{live_below-with}
-use Rattle.heap_model.proofs.Freeing.{BeginsIn, begins_in-here, begins_in-true, live_below-some, live_below-none}
-use Rattle.arena_core.proofs.Maps.{with_key-is}
-
--- one, where something is so
-abbrev pub one_if : Bool → ℕ
-one_if is = cond is 1 0
-
--- one root more is counted
-pub live_next : (block : ℕ → Option Range) (s n : ℕ) → live_below block s (n + 1) ≡ one_if (begins_in s (block n)) + live_below block s n
-live_next block s n = let next : n + 1 ≡ suc n = omega arith in ap (live_below block s) next
-
--- a root without a block gets one
-pub live_given : (old new : ℕ → Option Range) (s roots root : ℕ) (range : Range) → root < roots → old root ≡ None → new root ≡ Some range → ((other : ℕ) → other ≢ root → new other ≡ old other) →
-    live_below new s roots ≡ one_if (begins_in s (Some range)) + live_below old s roots
-live_given old new s roots root range below none given others = ap (λ h. live_below h s roots) (λ i k. with_key-is old new root (Some range) given others k i) ∙ live_below-with old s roots root range below none
-
--- where a block begins
-pub begins_at : (s : ℕ) (range : Range) → BeginsIn s (Some range) → (16384 * s ≤ range.at) × (range.at < 16384 * s + 65536)
-begins_at s range begins = grind arith
+-- How many live blocks the slabs of an image have: once a root has another block, and once slabs come and go.
+use Rattle.std.proofs.Common.{◌≡◌, ◌≢◌, ◌==◌, ℕ, ◌+◌, ◌-◌, ◌*◌, ◌<◌, ◌≤◌, Bool, true, false, true≢false, List, length, slice_index, Some, None, refl, sym, ap, ◌∙◌, arith, ⊎_elim, if◌then◌else◌, ne_eqb, eq-eqb}
+use Rattle.heap_model.specs.Machine.{Range, Bounds}
+use Rattle.heap_model.proofs.Counts.{one_if, live_below-most, live_given}
+use Rattle.pool_layout.specs.Header.{granules_in}
+use Rattle.heap_check.specs.Image.{bounds_of}
+use Rattle.heap_check.specs.Sound.{IsSound, IsInSlab}
+use Rattle.heap_check.specs.Views.{live_in, AreCountsOf}
+use Rattle.heap_model.specs.Slabs.{live_below, begins_in}
+use Rattle.image_tables.specs.Tables.{Tables, tables_of}
+use Rattle.heap_check.specs.Heap.{Holds, heap, entry_at}
+use Rattle.heap_model.proofs.Freeing.{BeginsIn, begins_in-here, begins_at, begins_in-true, live_below-none, live_below-some}
+use Rattle.heap_check.proofs.Heaps.{IsClaim-heap, heap-claim}
+use Rattle.std.proofs.lemmas.Bool.{false_from_ne_true, cases_lt, cases_eq}
+use Rattle.heap_check.proofs.Claims.{IsNamed-claim}
+use Rattle.heap_check.proofs.Within.{IsInSlab-held}
+use Rattle.heap_check.proofs.SmallPlaces.{Holds-claim}
+use Rattle.image_tables.proofs.Tables.{root_table-past}
+use Rattle.heap_check.proofs.Geometry.{is_large-start, one_slab, is_large-slab}
 
 -- numbers of slabs: where no slab begins they are 0
 
@@ -108,28 +104,7 @@ counts_raised without with_it root start range counts next more size put were = 
   each = λ s. put s ∙ put_one (s == start) (slice_index counts s) ∙ ap (λ n. one_if (s == start) + n) (were.each s) ∙ sym (live_step without with_it root start range more s);
 }
 
--- the other way round, the counts from before are one more at the slab
-pub one_more : {without with_it : List ℕ} {root start : ℕ} {range : Range} (lives : Lives) → IsOneMore without with_it root start range → start < length lives.counts → AreLivesOf lives with_it →
-    ((s : ℕ) → calm_of (tables_of with_it) s ≡ calm_of (tables_of without) s) → HaveOneMore lives without start
-one_more {without} {with_it} {root} {start} {range} lives more inside were calm = record {
-  size = were.counts.size ∙ ap (λ (b : Bounds). b.granules) more.bounds;
-  inside = inside;
-  each = λ s. were.counts.each s ∙ live_step without with_it root start range more s ∙ sym (put_one (s == start) (live_in without s));
-  calm = λ s. were.calm s ∙ calm s;
-}
-
--- once it is one less, they are those of the image
-pub one_less : {lives next : Lives} {words : List ℕ} {start : ℕ} → HaveOneMore lives words start → length next.counts ≡ length lives.counts →
-    ((s : ℕ) → slice_index next.counts s ≡ (if s == start then slice_index lives.counts s - 1 else slice_index lives.counts s)) → ((s : ℕ) → calm_at next s ≡ calm_at lives s) → AreLivesOf next words
-one_less {lives} {next} {words} {start} were size put calm = grind arith
-
 -- there are no more than roots
-pub live_below-most : (block : ℕ → Option Range) (s n : ℕ) → live_below block s n ≤ n
-live_below-most block s zero = omega arith
-live_below-most block s (suc n) =
-    let rest = live_below-most block s n in
-    ⊎_elim (λ is. let one : one_if (begins_in s (block n)) ≡ 1 = ap one_if is in omega (arith, rest, one)) (λ is. let none : one_if (begins_in s (block n)) ≡ 0 = ap one_if is in omega (arith, rest, none)) (cases_Bool (begins_in s (block n)))
-
 pub live_most : (words : List ℕ) (start : ℕ) → live_in words start ≤ (bounds_of words).roots
 live_most words start = most_by_slab ((tables_of words).slab start) (live_below-most (heap (tables_of words)) start (bounds_of words).roots)
 
@@ -138,10 +113,10 @@ pub live_same : (words new : List ℕ) → bounds_of new ≡ bounds_of words →
 live_same words new bounds slabs heaps s = λ i. if slabs s i then live_below (λ root. heaps root i) s (bounds i).roots else 0
 
 -- where a root got a large block, or lost it, they are the same
-pub live_large : (without with_it : List ℕ) (root start count : ℕ) → IsSound (bounds_of with_it) (tables_of with_it) → (tables_of with_it).large start ≡ count → 0 < count → root < (bounds_of without).roots → bounds_of with_it ≡ bounds_of without →
+pub live_in-large : (without with_it : List ℕ) (root start count : ℕ) → IsSound (bounds_of with_it) (tables_of with_it) → (tables_of with_it).large start ≡ count → 0 < count → root < (bounds_of without).roots → bounds_of with_it ≡ bounds_of without →
     ((s : ℕ) → (tables_of with_it).slab s ≡ (tables_of without).slab s) → heap (tables_of without) root ≡ None → heap (tables_of with_it) root ≡ Some (record { at = 16384 * start; size = 16384 * count }) →
     ((other : ℕ) → other ≢ root → heap (tables_of with_it) other ≡ heap (tables_of without) other) → (s : ℕ) → live_in with_it s ≡ live_in without s
-live_large without with_it root start count sound live many rooted bounds slabs none some others s =
+live_in-large without with_it root start count sound live many rooted bounds slabs none some others s =
     let range : Range = record { at = 16384 * start; size = 16384 * count } in
     (λ i. if slabs s i then live_below (heap (tables_of with_it)) s (bounds i).roots else 0)
     ∙ by_slab ((tables_of without).slab s) (live_below (heap (tables_of with_it)) s (bounds_of without).roots) (live_below (heap (tables_of without)) s (bounds_of without).roots) (λ slab.
