@@ -1,5 +1,5 @@
 -- What an arena keeps holds again once a block was given or taken.
-use Rattle.std.proofs.Common.{◌≡◌, ◌↔◌, ◌⊎◌, ℕ, ◌+◌, ◌<◌, ◌≤◌, List, cond, Some, None, sym, ap, subst, ◌∙◌, inl, inr, ⊎_elim, arith, length}
+use Rattle.std.proofs.Common.{◌≡◌, ◌↔◌, ◌⊎◌, ℕ, ◌+◌, ◌<◌, ◌≤◌, List, sym, ap, subst, ◌∙◌, inl, inr, ⊎_elim, arith, length}
 use Rattle.arena_core.proofs.Common.{put_word, layout_of, root_word, SameLog, version_in, granules_in, Tables, tables_of, Book, FreeSet, IsFree, Bounds, IsVacant, granules_at, bounds_of, with_large, IsBookOf, class_capacity, Supply, IsIndexOf, IsSlabsOf, KeepsSlabs, IsUnusedIn, IsUnusedIn-same}
 use Rattle.image_tables.proofs.Stores.{IsOffLog-root, granules_in-put_root}
 use Rattle.book_log.proofs.Books.{Reads-elsewhere, Reads-same}
@@ -25,9 +25,7 @@ slabs_stage {words} {root} {start} {here} {word} {image} stage = grind arith
 pub slabs_kept : {words image : List ℕ} (parts : Supply) → KeepsSlabs words image → granules_in image ≡ granules_in words → IsSlabsOf parts words → IsSlabsOf parts image
 slabs_kept {words} {image} parts keeps granules index = record {
   granules = index.granules ∙ sym granules;
-  classes = λ s.
-      let same = keeps.each s in
-      index.classes s ∙ sym (ap (λ b. cond b (Some ((tables_of image).class s)) None) same.slab ∙ ap (λ c. cond ((tables_of words).slab s) (Some c) None) same.class);
+  classes = grind arith;
   blocks = λ s i is below.
       let same = keeps.each s in
       iff_then (index.blocks s i (sym same.slab ∙ is) (subst (λ c. i < class_capacity c) same.class below))

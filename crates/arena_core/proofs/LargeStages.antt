@@ -1,6 +1,6 @@
 -- A large extent and its root come and go: what a change of the log leads to, and what a call has done.
-use Rattle.std.proofs.Common.{◌<◌, ◌≡◌, ℕ, ◌*◌, ◌≤◌, false, List, sym, ap, subst, ◌∙◌, arith, Some, None}
-use Rattle.arena_core.proofs.Common.{layout_of, Tables, large_of, is_slab_of, is_slab, tables_of, put_at, put_at-same, put_at-own, large_table, slab_table, start_of, extent_of, heap, slabs, bounds_of, IsExactImage, IsLargePlace, GivesRoot, AreSlabsInHeap-sound, IsExtentGone, Bounds, IsTakable, is_large-start}
+use Rattle.std.proofs.Common.{◌<◌, ◌≡◌, ℕ, ◌*◌, false, List, sym, ap, ◌∙◌, arith, Some, None}
+use Rattle.arena_core.proofs.Common.{Tables, large_of, is_slab_of, is_slab, tables_of, put_at, put_at-same, put_at-own, large_table, slab_table, start_of, extent_of, heap, slabs, bounds_of, IsExactImage, IsLargePlace, GivesRoot, AreSlabsInHeap-sound, IsExtentGone, Bounds, IsTakable, is_large-start}
 use Rattle.image_tables.specs.Extents.{extent_at}
 use Rattle.image_tables.specs.Updates.{with_root}
 use Rattle.image_tables.proofs.Updates.{put_at-twice}
@@ -23,9 +23,7 @@ stage_log words root start here word made image after stage rest slab large =
     record {
       formed = IsFormed-off_log made image stage.formed off stage.slabs rest.log slab;
       bounds = bounds_of-off_log made image off ∙ stage.bounds;
-      slabs = record {
-        low = λ other is. subst (λ v. (layout_of v).first_granule ≤ other) (sym (version_in-off_log made image off)) (stage.slabs.low other (sym (slab other) ∙ is));
-      };
+      slabs = grind (arith, version_in-off_log);
       size = rest.same_length ∙ stage.size;
       unmoved = stage.unmoved;
       tables = tables_off_log made image (put_at (tables_of made).large start after) off stage.slabs slab large
@@ -40,8 +38,7 @@ stage_same words root start here word made image stage rest same =
     let here_is : (tables_of made).large start ≡ here = ap (λ (s : Tables). s.large start) stage.tables ∙ put_at-same (tables_of words).large start here in
     stage_log words root start here word made image here stage rest
     (λ other. ap is_slab_of (same other))
-    (λ other. ap large_of (same other) ∙ sym (large_table made other)
-    ∙ ap (λ (larges : ℕ → ℕ). larges other) (sym (put_at-own (tables_of made).large start)) ∙ ap (λ n. put_at (tables_of made).large start n other) here_is)
+    (λ other. grind (arith, large_table, put_at-own))
 
 -- with an entry done that names the start, where no slab does
 pub stage_entry : (words : List ℕ) (root start here word : ℕ) (made image : List ℕ) (entry : LogEntry) (after : ℕ) → IsStageOf words root start here word made → KeepsRest made image → HasExtentsWith made entry image →

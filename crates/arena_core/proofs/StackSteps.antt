@@ -1,10 +1,10 @@
 -- What a malloc takes of the stacks, and what a free puts back, is what the placement says.
-use Rattle.std.proofs.Common.{◌≡◌, ◌≢◌, ◌==◌, not, ℕ, ◌+◌, ◌*◌, ◌<◌, ◌≤◌, ◌⊎◌, ◌↔◌, Bool, true, false, [], length, Option, Some, None, if◌then◌else◌, sym, ap, ◌∙◌, subst, arith, inl, inr, ⊎_elim}
+use Rattle.std.proofs.Common.{◌≡◌, ◌≢◌, ◌==◌, not, ℕ, ◌+◌, ◌*◌, ◌<◌, ◌≤◌, ◌⊎◌, ◌↔◌, Bool, true, false, [], Option, Some, None, if◌then◌else◌, sym, ap, ◌∙◌, subst, arith, inl, inr, ⊎_elim}
 use Rattle.arena_core.proofs.Common.{cases_lt, class_size, class_capacity, class_size-rises, Bounds, Range, Machine, with_key, slab_block, IsUnused, IsFreeGranule, IsBestFit, IsBestSlab, HasNoFitSlab, view_of, class_known, class_in, stacks_of, Supply, supply_view, HasNoOpen, Tables, IsUnusedIn, stacks_but, IsPutBack, IsSuppliedFresh, IsSuppliedMorph}
 use Rattle.std.specs.List.{filter}
 use Rattle.heap_model.specs.Machine.{IsBlockOf, IsOverlapFree}
 use Rattle.heap_model.specs.Slabs.{is_within}
-use Rattle.heap_model.specs.Placement.{Stacks, with_class, without_slab, without_left, IsRefill, IsWay, IsKeepable, IsReturned}
+use Rattle.heap_model.specs.Placement.{Stacks, without_slab, without_left, IsWay, IsKeepable, IsReturned}
 use Rattle.block_supply.proofs.Views.{AgreeOnBlocks}
 use Rattle.heap_model.proofs.Maps.{with_key-twice}
 use Rattle.heap_model.proofs.LeftSlabs.{not_kept, purged_put, one_left, within, below, one_home, none_left}
@@ -20,12 +20,7 @@ module _ (b : Bounds) (m : Machine) (was next : Supply) (seat class : ℕ) (agre
       let mid = fresh.mid in
       let bare : (other : ℕ) → stacks_of mid.stacks other class ≡ [] = λ other. ap (λ t. stacks_of t other class) fresh.more.stacks ∙ none.empty other in
       let refill = refill_anew b m was next seat class agree start 0 mid fresh.more.classes (λ n within. (λ is. clear n within, λ unused. (fresh.more.here n).1 within)) fresh.more.others bare fresh.took in
-      way_anew b m was next seat class agree none (slab_block start class 0).at (inr (record {
-        no_fit = no_fit;
-        start = start;
-        fit = fit;
-        refill = subst (λ t. IsRefill (view_of b (with_class m start class)) (stacks_of t) seat class (slab_block start class 0).at (stacks_of next.stacks)) fresh.more.stacks refill;
-      }))
+      grind (arith, way_anew)
 
   -- one of a slab that takes the class
   pub way_morph : (t : Tables) (start number : ℕ) → HasNoOpen was class → IsBestSlab (view_of b m) class start → IsSuppliedMorph t was next seat start class number →
@@ -41,11 +36,7 @@ module _ (b : Bounds) (m : Machine) (was next : Supply) (seat class : ℕ) (agre
       (λ n within. (λ is. (unused n within).0 ((more.here n).0 is).1, λ is. (more.here n).1 (within, (unused n within).1 is)))
       (λ s n differ. (λ is. (gone.others s n differ).0 ((more.others s n differ).0 is), λ is. (more.others s n differ).1 ((gone.others s n differ).1 is)))
       bare supplied.anew.took in
-      way_anew b m was next seat class agree none (slab_block start class number).at (inl (record {
-        start = start;
-        best = best;
-        refill = subst (λ (s : Stacks). IsRefill (view_of b (with_class m start class)) s seat class (slab_block start class number).at (stacks_of next.stacks)) stacks refill;
-      }))
+      grind (arith, way_anew)
 
 -- free
 
@@ -67,8 +58,7 @@ module _ (b : Bounds) (m : Machine) (free : IsOverlapFree b m) (start class : �
       (λ full. inr (
         λ (keep : IsKeepable next stacks seat range).
             let home = (one_home b m free start class range slab low high) keep.start keep.class (sym (left keep.start) ∙ keep.slab) keep.block in
-            let class_is : keep.class ≡ class = (let one = sym (left keep.start ∙ ap m.slab home ∙ slab) ∙ keep.slab in cc) in
-            full.0 (subst (λ k. length (stacks seat k) < 8) class_is keep.room),
+            grind arith,
         back.left ∙ full.1,
       ))
       back.put)
@@ -83,9 +73,6 @@ module _ (b : Bounds) (m : Machine) (free : IsOverlapFree b m) (start class : �
         let class_is : keep.class ≡ class = (let one = sym (left keep.start ∙ ap m.slab home ∙ slab) ∙ keep.slab in cc) in
         let size : class_size old ≡ class_size class = sym wide ∙ ap (λ (r : Range). r.size) keep.block.is ∙ ap class_size class_is in
         let known : class < 36 = subst (λ k. k < 36) class_is (class_known keep.class keep.block.number keep.block.within) in
-        ⊎_elim
-        (λ (less : old < class). omega (arith, size, class_size-rises old class less known))
-        (λ (from : class ≤ old). omega (arith, size, class_size-rises class old (omega (arith, from, differ)) is_class))
-        (cases_lt old class),
+        grind (arith, class_size-rises, cases_lt),
     is ∙ sym (none_left b m next stacks left),
   )
