@@ -5,7 +5,7 @@ use Rattle.heap_check.proofs.LargePlaces.{IsLargePlace-vacant, IsLargePlace-name
 use Rattle.log_steps.specs.Events.{log_events}
 use Rattle.arena_core.proofs.LargeStages.{stage_same, stage_entry}
 use Rattle.heap_check.proofs.HeapSteps.{same_heap, steps_then}
-use Rattle.heap_check.proofs.LargeImages.{IsStageOf, stage_none, stage_root, steady_stage, same_none, same_some, keeps_stage, still_stage}
+use Rattle.heap_check.proofs.LargeImages.{IsStageOf, stage_none, stage_root, steady_stage, same_none, same_some, keeps_stage, either_stage}
 use Rattle.heap_check.proofs.LiveCounts.{live_in-large}
 use Rattle.arena_core.proofs.LargeStages.{heap-takable}
 
@@ -37,20 +37,10 @@ module _ (words : List ℕ) (root start count : ℕ) (exact : IsExactImage words
   -- crashes
   module _ (new : List ℕ) (done : IsStageOf words root start count (16384 * start) new) where
     before : (here : ℕ) (image : List ℕ) → (here ≡ 0) ⊎ (here ≡ count) → IsStageOf words root start here 0 image → IsEitherHeap words new image
-    before here image either stage = record {
-      steady = steady_stage exact give_place here 0 image (record { is = ⊎_elim (λ none. inl (none, refl)) (λ all. inr (all, inl refl)) either }) stage;
-      heap = inl (same_none exact give_place 0 here words image begun stage);
-      words = keeps_stage exact give_place here 0 image stage;
-      still = still_stage stage;
-    }
+    before here image either stage = either_stage exact give_place new here 0 image (record { is = ⊎_elim (λ none. inl (none, refl)) (λ all. inr (all, inl refl)) either }) (inl (same_none exact give_place 0 here words image begun stage)) stage
 
     after : (image : List ℕ) → IsStageOf words root start count (16384 * start) image → IsEitherHeap words new image
-    after image stage = record {
-      steady = steady_stage exact give_place count (16384 * start) image (record { is = inr (refl, inr refl) }) stage;
-      heap = inr (same_some exact give_place new image done stage);
-      words = keeps_stage exact give_place count (16384 * start) image stage;
-      still = still_stage stage;
-    }
+    after image stage = either_stage exact give_place new count (16384 * start) image (record { is = inr (refl, inr refl) }) (inr (same_some exact give_place new image done stage)) stage
 
     crash_extent : (image : List ℕ) → IsLoggedOrNot words (Large start count) image → IsEitherHeap words new image
     crash_extent image either = ⊎_elim
@@ -111,12 +101,7 @@ module _ (words : List ℕ) (root start count : ℕ) (exact : IsExactImage words
       (λ (old : image ≡ words). subst (IsEitherHeap words (put_word words (root_word root) 0)) (sym old) (same_heap words (put_word words (root_word root) 0) exact))
       (λ (put : image ≡ put_word words (root_word root) 0).
       let stage = subst (λ (ws : List ℕ). IsStageOf words root start count 0 ws) (sym put) taken_root in
-      record {
-        steady = steady_stage exact take_place count 0 image (record { is = inr (refl, inl refl) }) stage;
-        heap = inr (same_none exact take_place count count (put_word words (root_word root) 0) image taken_root stage);
-        words = keeps_stage exact take_place count 0 image stage;
-        still = still_stage stage;
-      })
+      either_stage exact take_place (put_word words (root_word root) 0) count 0 image (record { is = inr (refl, inl refl) }) (inr (same_none exact take_place count count (put_word words (root_word root) 0) image taken_root stage)) stage)
       either
 
   pub take_step : {s t u : PmemState} (new : List ℕ) → words_of t ≡ put_word words (root_word root) 0 → HaveSameHeap (words_of t) new → IsQuietStep s t (root_events root 0) (PutsRootOrNot words root 0) →

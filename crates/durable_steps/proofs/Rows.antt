@@ -6,7 +6,7 @@ use Rattle.pmem_lines.proofs.Words.{word_at-put_same, word_at-put_other, length-
 use Rattle.pmem_lines.specs.declared.event.Event.{Event}
 use Rattle.pmem_lines.specs.declared.event.Event.TheVariants.{Store, Flush, Fence}
 use Rattle.pmem_lines.specs.Events.{reading, IsStored, IsQuiet, is_flushed, is_fenced, CrashOnly}
-use Rattle.pmem_lines.proofs.Images.{by_blend, is_fenced-append}
+use Rattle.pmem_lines.proofs.Images.{by_blend, is_fenced-append, reading-append}
 use Rattle.durable_steps.specs.Rows.{stores_at, flushes_of, lines_of, row_events, IsOldOrNewRow}
 
 -- one flush more
@@ -54,11 +54,11 @@ pub reading-flushes : (base : List ℕ) (line n : ℕ) → reading base (flushes
 reading-flushes base line zero = refl
 reading-flushes base line (suc n) = reading-flushes base (line + 1) n
 
--- a word before the words that are stored
-before_row : (base : List ℕ) (at : ℕ) (words : List ℕ) (k : ℕ) → k < at / 8 → word_at (reading base (stores_at at words)) k ≡ word_at base k
-before_row base at [] k before = refl
-before_row base at (w ∷ words) k before =
-    before_row (put_word base (at / 8) w) (at + 8) words k (omega arith) ∙ word_at-put_other base (at / 8) k w (λ e. omega (arith, e))
+-- a word that is none of those that are stored
+pub off_stores : (base : List ℕ) (at : ℕ) (words : List ℕ) (k : ℕ) → (k < at / 8) ⊎ (at / 8 + length words ≤ k) → word_at (reading base (stores_at at words)) k ≡ word_at base k
+off_stores base at [] k off = refl
+off_stores base at (word ∷ words) k off =
+    off_stores (put_word base (at / 8) word) (at + 8) words k (grind arith) ∙ word_at-put_other base (at / 8) k word (λ e. omega (arith, e, off))
 
 -- one of the words that are stored
 pub row_word : (base : List ℕ) (at : ℕ) (words : List ℕ) (k : ℕ) → at / 8 ≤ k → k < at / 8 + length words → k < length base →
@@ -69,7 +69,7 @@ row_word base at (w ∷ words) k low high inside =
     ⊎_elim
     (λ (here : k ≡ at / 8).
     let first : k - at / 8 ≡ 0 = omega (arith, here) in
-    before_row next (at + 8) words k (omega (arith, here))
+    off_stores next (at + 8) words k (inl (omega (arith, here)))
     ∙ word_at-put_same base (at / 8) k w (sym here) (omega (arith, here))
     ∙ ap (λ j. get_or (w ∷ words) j 0) (sym first))
     (λ (later : k ≢ at / 8).
@@ -130,3 +130,15 @@ row_crash base at words = by_blend base (row_events at words) (IsOldOrNewRow bas
   same_length = blend.same_length;
   each = λ word. ⊎_elim (λ same. inl same) (λ s. inr (IsStored-row at words word (word_at image word) s)) (blend.each word);
 })
+
+-- the flushes and the fence of a row change no word
+pub reading-row : (base : List ℕ) (at : ℕ) (words : List ℕ) → reading base (row_events at words) ≡ reading base (stores_at at words)
+reading-row base at words = grind (arith, reading-append, reading-flushes)
+
+-- a word off the row is read behind it as before
+pub off_row : (base : List ℕ) (at : ℕ) (words : List ℕ) (k : ℕ) → (k < at / 8) ⊎ (at / 8 + length words ≤ k) → word_at (reading base (row_events at words)) k ≡ word_at base k
+off_row base at words k off = ap (λ ws. word_at ws k) (reading-row base at words) ∙ off_stores base at words k off
+
+-- and one of the row as it was stored
+pub in_row : (base : List ℕ) (at : ℕ) (words : List ℕ) (k : ℕ) → at / 8 ≤ k → k < at / 8 + length words → k < length base → word_at (reading base (row_events at words)) k ≡ get_or words (k - at / 8) 0
+in_row base at words k low high inside = ap (λ ws. word_at ws k) (reading-row base at words) ∙ row_word base at words k low high inside

@@ -1,10 +1,11 @@
 -- Where live extents lie, and which one has an address.
-use Rattle.std.proofs.Common.{◌≡◌, ◌≢◌, ◌&&◌, ◌==◌, ℕ, ◌+◌, ◌-◌, ◌*◌, ◌/◌, ◌%◌, ◌<◌, ◌≤◌, Bool, true, false, true≢false, cond, refl, sym, ap, subst, ◌∙◌, arith, ⊎_elim, ltb}
+use Rattle.std.proofs.Common.{◌≡◌, ◌≢◌, ◌&&◌, ◌==◌, ℕ, ◌+◌, ◌-◌, ◌*◌, ◌/◌, ◌%◌, ◌<◌, ◌≤◌, Bool, true, false, true≢false, cond, refl, sym, ap, subst, ◌∙◌, arith, ⊎_elim, ltb, List, Option, Some, None}
 use Rattle.std.proofs.lemmas.Nat.{mul-le}
 use Rattle.std.proofs.lemmas.Bool.{cases_eq, eq-eqb, eqb-true, ltb-true, lt-ltb, cond-true, cond-false, and_parts, and_from, false_from_ne_true}
 use Rattle.size_classes.specs.Classes.{class_size, class_capacity}
+use Rattle.book_log.specs.Live.{granules_of}
 use Rattle.size_classes.proofs.Spacing.{class_size-least}
-use Rattle.image_tables.specs.Tables.{Tables}
+use Rattle.image_tables.specs.Tables.{Tables, tables_of, is_slab_of}
 use Rattle.heap_model.specs.Machine.{Bounds, slab_block}
 use Rattle.heap_model.proofs.Slabbing.{LiesIn-block}
 use Rattle.heap_check.specs.Heap.{slab_of, is_large, is_old}
@@ -12,6 +13,9 @@ use Rattle.heap_check.specs.Sound.{granules_at, Covers, IsInSlab, IsValidSlab, I
 use Rattle.image_tables.specs.Updates.{put_at}
 use Rattle.image_tables.proofs.Updates.{put_at-other}
 use Rattle.heap_check.proofs.Claims.{plain_size}
+use Rattle.image_tables.specs.Extents.{extent_at}
+use Rattle.image_tables.specs.declared.extent.Extent.{Extent}
+use Rattle.image_tables.proofs.Tables.{slab_table, large_table}
 
 -- extents
 
@@ -115,3 +119,16 @@ pub one_slab : {b : Bounds} {t : Tables} → IsSound b t → (one other at : ℕ
 one_slab {b} {t} sound one other at first second = sound.disjoint one other (at / 16384)
     (Covers-slab t one (at / 16384) first.slab (omega (arith, first.low)) (omega (arith, first.high)))
     (Covers-slab t other (at / 16384) second.slab (omega (arith, second.low)) (omega (arith, second.high)))
+
+-- what the tables say of a granule by its extent
+
+pub slab_is : (words : List ℕ) (start : ℕ) (here : Option Extent) → extent_at words start ≡ here → (tables_of words).slab start ≡ is_slab_of here
+slab_is words start here is = grind (arith, slab_table)
+
+-- a live extent has its granules
+pub size_is : (words : List ℕ) (start : ℕ) (here : Extent) → extent_at words start ≡ Some here → granules_at (tables_of words) start ≡ granules_of here
+size_is words start here is = grind (arith, granules_at-large, slab_table, large_table, granules_at-slab)
+
+-- where nothing starts, there are none
+pub size_none : (words : List ℕ) (start : ℕ) → extent_at words start ≡ None → granules_at (tables_of words) start ≡ 0
+size_none words start is = grind (arith, granules_at-large, slab_table, large_table)

@@ -1,5 +1,5 @@
 -- A large extent and its root come and go: the words of the image at each stage.
-use Rattle.std.proofs.Common.{◌≡◌, ◌≢◌, ℕ, ◌*◌, ◌<◌, ◌≤◌, List, length, sym, ap, subst, ◌∙◌, arith, ⊎_elim, Some, None}
+use Rattle.std.proofs.Common.{◌⊎◌, ◌≡◌, ◌≢◌, ℕ, ◌*◌, ◌<◌, ◌≤◌, List, length, sym, ap, subst, ◌∙◌, arith, ⊎_elim, Some, None}
 use Rattle.image_tables.specs.Tables.{AreSlabsInHeap, Tables, is_slab_of, tables_of}
 use Rattle.image_tables.specs.Updates.{with_root, put_at, HasNoMove}
 use Rattle.image_tables.proofs.Updates.{put_at-twice, put_at-own}
@@ -17,7 +17,7 @@ use Rattle.pool_layout.specs.Places.{root_word, heap_word}
 use Rattle.pool_layout.specs.Header.{version_in}
 use Rattle.heap_model.specs.Machine.{Bounds, Range}
 use Rattle.heap_check.specs.Image.{bounds_of, IsFormed, IsExactImage, IsSteadyImage}
-use Rattle.heap_check.specs.State.{IsWordOf, HaveSameHeap, KeepsBlocks}
+use Rattle.heap_check.specs.State.{IsWordOf, HaveSameHeap, KeepsBlocks, IsEitherHeap}
 use Rattle.heap_check.proofs.Blank.{law_of_steady}
 use Rattle.heap_check.proofs.Heaps.{IsClaim-heap}
 use Rattle.heap_check.proofs.Within.{IsWithin-claim}
@@ -122,3 +122,7 @@ module _ {words : List ℕ} {root start count : ℕ} (exact : IsExactImage words
           let range_within = within.1 in
           let starts = place.sound.starts within.0 (omega (arith, range_within.low, range_within.high, range_within.some)) in
           omega (arith, range_within.low, starts.0, lies.low)
+
+  -- so a crash that leaves a stage, with the heap from before or with the new one, leaves one of the two
+  pub either_stage : (new : List ℕ) (here word : ℕ) (image : List ℕ) → IsLargeStage start count here word → HaveSameHeap words image ⊎ HaveSameHeap new image → IsStageOf words root start here word image → IsEitherHeap words new image
+  either_stage new here word image is heaps stage = record { steady = steady_stage here word image is stage; heap = heaps; words = keeps_stage here word image stage; still = still_stage stage }

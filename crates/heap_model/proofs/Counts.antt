@@ -61,3 +61,11 @@ live_below-most block s zero = omega arith
 live_below-most block s (suc n) =
     let rest = live_below-most block s n in
     ⊎_elim (λ is. let one : one_if (begins_in s (block n)) ≡ 1 = ap one_if is in omega (arith, rest, one)) (λ is. let none : one_if (begins_in s (block n)) ≡ 0 = ap one_if is in omega (arith, rest, none)) (cases_Bool (begins_in s (block n)))
+
+-- as many blocks begin in a slab once a root's block is another's
+pub live_moved : (old new : ℕ → Option Range) (s roots from to : ℕ) (range : Range) → from < roots → to < roots → from ≢ to → old from ≡ Some range → old to ≡ None → new to ≡ Some range → new from ≡ None →
+    ((other : ℕ) → other ≢ from → other ≢ to → new other ≡ old other) → live_below new s roots ≡ live_below old s roots
+live_moved old new s roots from to range from_below to_below differ named none here gone others =
+    let mid = with_key old from None in
+    live_given mid new s roots to range to_below (grind arith) here (λ other apart. grind (arith, cases_eq))
+    ∙ sym (live_given mid old s roots from range from_below (with_key-here old from None) named (λ other apart. sym (with_key-other old from other None apart)))
