@@ -1,8 +1,8 @@
 -- A call was carried out behind its begin: what the arena answers and leaves, by what the arena means.
-use Rattle.std.proofs.Common.{◌≡◌, ℕ, List, Result, ap, subst, arith}
+use Rattle.std.proofs.Common.{◌≡◌, ℕ, List, Result, ap, arith}
 use Rattle.arena_core.proofs.Common.{Event, PmemState, words_of, began, IsQuietStep, Call, Reply, Supply, IsExactImage, BlockRefusal, Volatile, ArenaState, IsArena, IsCalled, IsMoveCarried, IsWriteCarried}
 use Rattle.arena_core.specs.Answered.{IsOneCall, IsAnswered, IsMoveAnswered, IsWriteAnswered}
-use Rattle.arena_core.proofs.MovesStates.{any_seat}
+use Rattle.arena_core.proofs.MovesCalls.{any_seat}
 
 -- what an arena means
 abbrev pub meant : PmemState → Volatile → ArenaState
@@ -25,14 +25,8 @@ answered_call {begun} {new} {was} {left} {now} {seat} {call} {reply} device view
 pub answered_move : {begun new : PmemState} {was left : Volatile} {now : ArenaState} {from to : ℕ} {reply : Reply} (device : PmemState) → meant device was ≡ now → begun ≡ began device → IsExactImage (words_of device) →
     IsMoveCarried begun new was left from to reply → IsMoveAnswered now (meant new left) from to reply
 answered_move {begun} {new} {was} {left} {now} {from} {to} {reply} device view is exact carried =
-    let done = subst (λ (s : PmemState). IsMoveCarried s new was left from to reply) is carried in
-    subst (λ (s : ArenaState). IsMoveAnswered s (meant new left) from to reply) view (record {
-      did = one_call exact done.carried done.arena;
-      step = any_seat (words_of device) (words_of new) from to reply done.step;
-      line = done.line_is;
-      stacks = ap (λ (s : Supply). s.stacks) done.supply;
-      keeps = done.keeps;
-    })
+    let done : IsMoveCarried (began device) new was left from to reply = rw is at carried in
+    rw (← view) (record { did = one_call exact done.carried done.arena; step = any_seat (words_of device) (words_of new) from to reply done.step; line = done.line_is; stacks = ap (λ (s : Supply). s.stacks) done.supply; keeps = done.keeps })
 
 -- a write, which leaves what stands beside the words
 pub answered_write : {begun new : PmemState} {was : Volatile} {now : ArenaState} {root from : ℕ} {words : List ℕ} {result : Result (Unit {0}) BlockRefusal} (device : PmemState) → meant device was ≡ now → begun ≡ began device → IsArena device was →

@@ -1,10 +1,8 @@
 -- What an arena keeps holds again once a block was given or taken.
 use Rattle.std.proofs.Common.{◌≡◌, ◌↔◌, ◌⊎◌, ℕ, ◌+◌, ◌<◌, ◌≤◌, List, sym, ap, subst, ◌∙◌, inl, inr, ⊎_elim, arith, length}
-use Rattle.arena_core.proofs.Common.{put_word, layout_of, root_word, SameLog, version_in, granules_in, Tables, tables_of, Book, FreeSet, IsFree, Bounds, IsVacant, granules_at, bounds_of, with_large, IsBookOf, class_capacity, Supply, IsIndexOf, IsSlabsOf, KeepsSlabs, IsUnusedIn, IsUnusedIn-same}
+use Rattle.arena_core.proofs.Common.{put_word, layout_of, root_word, SameLog, version_in, granules_in, Tables, tables_of, Book, FreeSet, IsFree, Bounds, IsVacant, granules_at, bounds_of, with_large, IsBookOf, class_capacity, Supply, IsIndexOf, IsSlabsOf, KeepsSlabs, IsUnusedIn, IsUnusedIn-same, IsStageOf, iff_then}
 use Rattle.image_tables.proofs.Stores.{IsOffLog-root, granules_in-put_root}
 use Rattle.book_log.proofs.Books.{Reads-elsewhere, Reads-same}
-use Rattle.heap_check.proofs.LargeImages.{IsStageOf}
-use Rattle.heap_check.proofs.UnusedBlocks.{iff_then}
 
 -- a log reads the same where a root's word is stored
 pub book_root : (book : Book) (words : List ℕ) (root value : ℕ) → root < (layout_of (version_in words)).roots → IsBookOf book words → IsBookOf book (put_word words (root_word root) value)

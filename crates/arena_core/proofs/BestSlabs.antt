@@ -1,5 +1,5 @@
 -- The search for the slab that takes a class: the candidates come in order, so the first one that is fit is the best.
-use Rattle.std.proofs.Common.{◌≡◌, ◌⊎◌, ℕ, ◌+◌, ◌-◌, ◌*◌, ◌<◌, ◌≤◌, true, List, length, Option, slice_index, Some, None, MatchOption, IfSome, sym, ◌∙◌, subst, arith, inl, inr, ⊎_elim}
+use Rattle.std.proofs.Common.{◌≡◌, ℕ, ◌+◌, ◌-◌, ◌*◌, ◌<◌, ◌≤◌, true, List, length, Option, Some, None, MatchOption, IfSome, sym, ◌∙◌, subst, arith, inl, inr, ⊎_elim}
 use Rattle.arena_core.proofs.Common.{cases_lt, cond-true, class_capacity, normal_kind, Tables, tables_of, IsBestSlab, HasNoFitSlab, live_below, Lives, heap, bounds_of, AreLivesOf, tables_view, IsMorphable}
 use Rattle.heap_model.specs.Choice.{View, IsFit}
 use Rattle.slab_index.specs.declared.candidates.Candidate.{Candidate}
@@ -32,10 +32,6 @@ module _ (words : List ℕ) (lives : Lives) (class : ℕ) where
     pub sparse_slab : (start live : ℕ) → IsSparse lives class start live → ((tables_of words).slab start ≡ true) × ((tables_of words).kind start ≡ normal_kind)
     sparse_slab start live is = let parts = calm_parts t start is.own (sym (are.calm start) ∙ is.slab) in (parts.0, parts.1)
 
-    -- so many blocks live in a slab as are counted
-    live_is : (start : ℕ) → t.slab start ≡ true → slice_index lives.counts start ≡ live_below (heap t) start (bounds_of words).roots
-    live_is start slab = are.counts.each start ∙ cond-true (t.slab start) (live_below (heap t) start (bounds_of words).roots) 0 slab
-
     -- a slab that is fit is a candidate
     sparse_of_fit : (s : ℕ) → IsFit v class s → IsSparse lives class s (live_below (heap t) s (bounds_of words).roots)
     sparse_of_fit s fit = grind arith
@@ -58,7 +54,7 @@ module _ (words : List ℕ) (lives : Lives) (class : ℕ) where
     best_sought found sought ready =
         let is = sought.0 in
         let parts = calm_parts t found.start is.own (sym (are.calm found.start) ∙ is.slab) in
-        let live : found.live ≡ live_below (heap t) found.start (bounds_of words).roots = is.count ∙ live_is found.start ready.slab in (
+        let live : found.live ≡ live_below (heap t) found.start (bounds_of words).roots = is.count ∙ are.counts.each found.start ∙ cond-true (t.slab found.start) _ 0 ready.slab in (
           record {
             fit = record {
               class = t.class found.start;
@@ -70,23 +66,14 @@ module _ (words : List ℕ) (lives : Lives) (class : ℕ) where
               number = ready.fit.number;
               block = record { within = ready.fit.block.within; unused = record { each = λ range holds. ⊎_elim inr inl (ready.fit.block.unused.each range holds) } };
             };
-            fewest = λ s fit. ⊎_elim (λ low. low) (λ more. absurd (sought.1 s fit (inl (omega (arith, more, live))))) (at_most (live_below (heap t) found.start (bounds_of words).roots) (live_below (heap t) s (bounds_of words).roots));
-            lowest = λ s fit same. ⊎_elim (λ low. low) (λ more. absurd (sought.1 s fit (inr (same ∙ sym live, more)))) (at_most found.start s);
+            fewest = λ s fit. ⊎_elim (λ less. absurd (sought.1 s fit (inl (omega (arith, less, live))))) (λ most. most) (cases_lt (live_below (heap t) s (bounds_of words).roots) (live_below (heap t) found.start (bounds_of words).roots));
+            lowest = λ s fit same. ⊎_elim (λ less. absurd (sought.1 s fit (inr (same ∙ sym live, less)))) (λ most. most) (cases_lt s found.start);
           },
           record { slab = ready.slab; normal = ready.normal; fit = ready.fit },
         )
-      where
-        at_most : (a b : ℕ) → (a ≤ b) ⊎ (b < a)
-        at_most a b = ⊎_elim (λ less. inr less) (λ most. inl most) (cases_lt b a)
 
 -- a candidate behind another is nearer to the end
-nearer : (found later : Candidate) → IsBefore found.live found.start later.live later.start → later.live ≤ 64 → later.start < 4096 → found.start < 4096 → left_behind (Some later) < left_behind (Some found)
-nearer found later behind few low under = ⊎_elim (λ more. omega (arith, more, few, low, under)) (λ same. omega (arith, same.0, same.1, few, low)) behind
-
-at_the_end : (found : Candidate) → found.live ≤ 64 → found.start < 4096 → left_behind None < left_behind (Some found)
-at_the_end found few low = omega (arith, few, low)
-
 pub smaller : (lives : Lives) (class : ℕ) (found : Candidate) (next : Option Candidate) → IsSparse lives class found.start found.live → length lives.counts ≤ 4096 → found.start < length lives.counts →
     MatchOption next (HasNoSparseBehind lives class found.live found.start) (IsNextSparse lives class found.live found.start) → IfSome next (λ later. later.start < length lives.counts) → left_behind next < left_behind (Some found)
-smaller lives class found None is size inside next within = at_the_end found is.few (omega (arith, inside, size))
-smaller lives class found (Some later) is size inside next within = nearer found later next.behind next.is.few (omega (arith, within, size)) (omega (arith, inside, size))
+smaller lives class found None is size inside next within = omega (arith, is.few, inside, size)
+smaller lives class found (Some later) is size inside next within = omega (arith, next.behind, next.is.few, within, inside, size)

@@ -1,15 +1,13 @@
 -- An arena is formatted: the words that its header line leaves, and those that a crash leaves.
-use Rattle.std.proofs.Common.{◌≡◌, ◌≢◌, ◌↔◌, ℕ, zero, suc, ◌*◌, ◌<◌, ◌≤◌, List, [], ◌∷◌, length, take, None, refl, sym, ap, subst, ◌∙◌, arith, inl, inr, slice_index}
-use Rattle.arena_core.proofs.Common.{layout_rules, word_at, put_word, reading, IsQuiet, PmemState, words_of, began, length-put_word, word_at-put_other, text_word, fields_word, directory_word, IsExactImage, HasState, IsFree, class_in, granules_at-large, Volatile, calm_at, IsArena, IsReady, heap_inside}
+use Rattle.std.proofs.Common.{◌≡◌, ◌≢◌, ◌↔◌, ℕ, zero, suc, ◌*◌, ◌<◌, ◌≤◌, List, length, take, None, refl, sym, ap, subst, ◌∙◌, arith, inr, slice_index}
+use Rattle.arena_core.proofs.Common.{layout_rules, word_at, put_word, reading, IsQuiet, PmemState, words_of, began, length-put_word, word_at-put_other, text_word, fields_word, directory_word, IsExactImage, HasState, IsFree, class_in, granules_at-large, Volatile, calm_at, IsArena, IsReady, heap_inside, calm_none}
 use Rattle.pmem_lines.specs.Words.{AreZeros}
-use Rattle.pmem_lines.specs.declared.event.Event.TheVariants.{Flush, Fence}
 use Rattle.pmem_lines.specs.Events.{CrashOnly}
 use Rattle.pmem_lines.specs.Pmem.{Appends}
 use Rattle.pmem_lines.proofs.States.{quiet_after}
 use Rattle.pmem_lines.proofs.Words.{word_at-put_same}
 use Rattle.pmem_lines.proofs.Images.{by_prefixes}
 use Rattle.pool_layout.specs.declared.header.PoolHeader.{PoolHeader}
-use Rattle.pool_layout.specs.declared.defect.Defect.TheVariants.{BadHeader}
 use Rattle.pool_layout.specs.Layout.{layout_of}
 use Rattle.pool_layout.specs.Header.{header_text, header_word, IsPoolHeader}
 use Rattle.book_log.specs.Book.{HasLog, AreWithin, Reads}
@@ -19,7 +17,6 @@ use Rattle.heap_check.specs.Formatted.{IsFormatted}
 use Rattle.heap_check.proofs.Formatted.{AreBlank-formatted, header_in-formatted, IsFormed-formatted, law_of_formatted}
 use Rattle.arena_core.specs.Call.{IsFormattedOrNot}
 use Rattle.arena_core.specs.Events.{format_events}
-use Rattle.heap_check.proofs.CalmSlabs.{calm_none}
 
 -- the header of an arena of version 1
 pub IsPoolHeader-new : (number arenas granules : ℕ) → number < arenas → arenas ≤ 16 → 16 ≤ granules → granules ≤ (layout_of 1).most_granules →
@@ -50,35 +47,26 @@ module _ (words : List ℕ) (header : PoolHeader) where
     long : 8 ≤ length words
     long = omega (arith, size, valid.least, (layout_rules header.version).least)
 
-    length_one : length one ≡ length words
-    length_one = length-put_word words fields_word (header_word header)
-
-    length_two : length two ≡ length words
-    length_two = length-put_word one directory_word 1 ∙ length_one
-
-    length_written : length written ≡ length words
-    length_written = length-put_word two text_word header_text ∙ length_two
-
     pub IsFormatted-written : IsFormatted written header
-    IsFormatted-written = grind (arith, length_written, long, word_at-put_same, length_two, word_at-put_other, valid, length_one)
+    IsFormatted-written = grind (arith, long, length-put_word, word_at-put_same, word_at-put_other)
 
     -- without its text the header is refused
     refused : (image : List ℕ) → length image ≡ length words → word_at image text_word ≡ 0 → IsFormattedOrNot image
-    refused image same none = inl (inr (inl (omega (arith, same, long), ((λ is. text_some (sym is ∙ none)), ap (BadHeader 0) (sym none)))))
+    refused image same none = grind (arith, long, text_some)
 
-    done : (k : ℕ) → IsFormattedOrNot (reading written (take k (Flush 0 ∷ Fence ∷ [])))
-    done zero = inr (law_of_formatted written header IsFormatted-written)
-    done (suc zero) = inr (law_of_formatted written header IsFormatted-written)
-    done (suc (suc zero)) = inr (law_of_formatted written header IsFormatted-written)
-    done (suc (suc (suc k))) = inr (law_of_formatted written header IsFormatted-written)
+    -- and with it, it is that of an arena
+    done : IsFormattedOrNot written
+    done = inr (law_of_formatted written header IsFormatted-written)
 
     each_prefix : (k : ℕ) → IsFormattedOrNot (reading words (take k (format_events header)))
     unfolding format_events
     each_prefix zero = refused words refl (zeros.each 0)
-    each_prefix (suc zero) = refused one length_one (word_at-put_other words fields_word text_word (header_word header) (λ e. omega arith) ∙ zeros.each 0)
-    each_prefix (suc (suc zero)) =
-        refused two length_two (word_at-put_other one directory_word text_word 1 (λ e. omega arith) ∙ word_at-put_other words fields_word text_word (header_word header) (λ e. omega arith) ∙ zeros.each 0)
-    each_prefix (suc (suc (suc k))) = done k
+    each_prefix (suc zero) = grind (arith, refused, length-put_word, word_at-put_other)
+    each_prefix (suc (suc zero)) = grind (arith, refused, length-put_word, word_at-put_other)
+    each_prefix (suc (suc (suc zero))) = done
+    each_prefix (suc (suc (suc (suc zero)))) = done
+    each_prefix (suc (suc (suc (suc (suc zero))))) = done
+    each_prefix (suc (suc (suc (suc (suc (suc k)))))) = done
 
     pub format_crash : CrashOnly words (format_events header) IsFormattedOrNot
     unfolding format_events
@@ -109,10 +97,7 @@ module _ {old begun new : PmemState} {number arenas granules : ℕ} (made : IsWr
   valid = IsPoolHeader-new number arenas granules made.below made.few made.least made.most
 
   pub formatted_device : IsFormatted (words_of new) header
-  formatted_device =
-      let is : words_of new ≡ written (words_of old) header =
-      made.step.words ∙ ap (λ (s : PmemState). reading (words_of s) (format_events header)) made.begun_is ∙ reading-format (words_of old) header in
-      subst (λ (ws : List ℕ). IsFormatted ws header) (sym is) (IsFormatted-written (words_of old) header made.zeros valid made.size)
+  formatted_device = rw (made.step.words, made.begun_is, reading-format (words_of old) header) (IsFormatted-written (words_of old) header made.zeros valid made.size)
 
   pub formatted_crash : CrashOnly new.base new.events IsFormattedOrNot
   formatted_crash = grind (arith, format_crash, valid)

@@ -1,14 +1,13 @@
 -- A large block came to a root, or went from it: what an arena keeps holds again.
 use Rattle.std.proofs.Common.{◌≡◌, ◌↔◌, ◌⊎◌, ◌+◌, ◌*◌, ◌<◌, ◌≤◌, ℕ, List, Some, None, refl, sym, ap, subst, ◌∙◌, inl, inr}
-use Rattle.arena_core.proofs.Common.{put_word, PmemState, words_of, IsQuietStep, layout_of, root_word, version_in, tables_of, Tables, put_at-same, Book, Large, Tomb, FreeSet, IsFree, Bounds, slabs, bounds_of, IsEitherHeap, with_large, IsBookOf, IsLogged, IsLoggedOrNot, IsExtentGone, root_events, PutsRootOrNot, Volatile, IsArena, IsDone, place_events, take_events, IsGivable, IsTakable}
+use Rattle.arena_core.proofs.Common.{put_word, PmemState, words_of, IsQuietStep, layout_of, root_word, version_in, tables_of, Tables, put_at-same, Book, Large, Tomb, FreeSet, IsFree, Bounds, slabs, bounds_of, IsEitherHeap, with_large, IsBookOf, IsLogged, IsLoggedOrNot, IsExtentGone, root_events, PutsRootOrNot, Volatile, IsArena, IsDone, place_events, take_events, IsGivable, IsTakable, log_events, IsStageOf}
 use Rattle.arena_core.proofs.Readiness.{ready_after}
 use Rattle.heap_check.proofs.LargeHeaps.{IsVacant-placed, IsVacant-freed}
-use Rattle.log_steps.specs.Events.{log_events}
 use Rattle.arena_core.proofs.Arenas.{book_root, slabs_stage, index_stage, index_less, index_more}
 use Rattle.arena_core.proofs.CallEvents.{IsDone-large}
 use Rattle.arena_core.proofs.LargeCalls.{give_place, nothing, given_extent, given, give_step, live_given_large, take_place, taken_root, take_step, live_taken_large}
 use Rattle.arena_core.proofs.LargeStages.{stage_gone, gives_some, gives_none}
-use Rattle.heap_check.proofs.LargeImages.{IsStageOf, exact_stage}
+use Rattle.heap_check.proofs.LargeImages.{exact_stage}
 
 -- the extent came into the log, the root has its address, and its granules are not free any more
 pub large_given : {old mid new : PmemState} {was : Volatile} {root start count at : ℕ} → IsArena old was → IsGivable (bounds_of (words_of old)) (tables_of (words_of old)) root start count → (less : FreeSet) (log : Book) →

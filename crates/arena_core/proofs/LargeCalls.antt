@@ -1,11 +1,9 @@
 -- A large block is given to a root, or taken from it: the image at each of the stores, and what a crash leaves.
 use Rattle.std.proofs.Common.{ap, ◌∙◌, ◌≡◌, ◌≢◌, ◌⊎◌, ℕ, ◌*◌, List, ◌++◌, refl, sym, subst, arith, inl, inr, ⊎_elim, ◌+◌, ◌<◌, ◌≤◌, Some, None}
-use Rattle.arena_core.proofs.Common.{cases_eq, put_word, reading, PmemState, words_of, IsQuietStep, step_by, step_then, step_wider, root_word, Tables, tables_of, put_at, put_at-same, put_at-other, IsLooseExtent, Large, Tomb, bounds_of, IsExactImage, AreSlabsInHeap-sound, granules_at-large, IsLargePlace, HaveSameHeap, KeepsBlocks, IsEitherHeap, root_events, PutsRootOrNot, place_events, take_events, IsLogged, IsLoggedOrNot, IsGivable, IsTakable, sizes_of, root_inside, HasNoMove-closed, Covers, GivesRoot, KeepsSlabs, slabs, live_in, heap-none, Bounds}
+use Rattle.arena_core.proofs.Common.{cases_eq, put_word, reading, PmemState, words_of, IsQuietStep, step_by, step_then, step_wider, root_word, Tables, tables_of, put_at, put_at-same, put_at-other, IsLooseExtent, Large, Tomb, bounds_of, IsExactImage, AreSlabsInHeap-sound, granules_at-large, IsLargePlace, HaveSameHeap, KeepsBlocks, IsEitherHeap, root_events, PutsRootOrNot, place_events, take_events, IsLogged, IsLoggedOrNot, IsGivable, IsTakable, sizes_of, root_inside, HasNoMove-closed, Covers, GivesRoot, KeepsSlabs, slabs, live_in, heap-none, Bounds, log_events, same_heap, steps_then, IsStageOf, keeps_stage}
 use Rattle.heap_check.proofs.LargePlaces.{IsLargePlace-vacant, IsLargePlace-named}
-use Rattle.log_steps.specs.Events.{log_events}
 use Rattle.arena_core.proofs.LargeStages.{stage_same, stage_entry}
-use Rattle.heap_check.proofs.HeapSteps.{same_heap, steps_then}
-use Rattle.heap_check.proofs.LargeImages.{IsStageOf, stage_none, stage_root, steady_stage, same_none, same_some, keeps_stage, either_stage}
+use Rattle.heap_check.proofs.LargeImages.{stage_none, stage_root, steady_stage, same_none, same_some, either_stage}
 use Rattle.heap_check.proofs.LiveCounts.{live_in-large}
 use Rattle.arena_core.proofs.LargeStages.{heap-takable}
 

@@ -1,17 +1,15 @@
 -- A large extent and its root come and go: what a change of the log leads to, and what a call has done.
 use Rattle.std.proofs.Common.{◌<◌, ◌≡◌, ℕ, ◌*◌, false, List, sym, ap, ◌∙◌, arith, Some, None}
-use Rattle.arena_core.proofs.Common.{Tables, large_of, is_slab_of, is_slab, tables_of, put_at, put_at-same, put_at-own, large_table, slab_table, start_of, extent_of, heap, slabs, bounds_of, IsExactImage, IsLargePlace, GivesRoot, AreSlabsInHeap-sound, IsExtentGone, Bounds, IsTakable, is_large-start}
-use Rattle.image_tables.specs.Extents.{extent_at}
+use Rattle.arena_core.proofs.Common.{Tables, large_of, is_slab_of, is_slab, tables_of, put_at, put_at-same, put_at-own, large_table, slab_table, start_of, extent_of, heap, slabs, bounds_of, IsExactImage, IsLargePlace, GivesRoot, AreSlabsInHeap-sound, IsExtentGone, Bounds, IsTakable, is_large-start, extent_at, LogEntry, IsStageOf, keeps_stage}
 use Rattle.image_tables.specs.Updates.{with_root}
 use Rattle.image_tables.proofs.Updates.{put_at-twice}
 use Rattle.image_tables.proofs.Stores.{version_in-off_log, heap_word-off_log, tables_off_log}
-use Rattle.book_log.specs.declared.entry.LogEntry.{LogEntry}
 use Rattle.heap_check.proofs.Forms.{bounds_of-off_log, IsFormed-off_log}
 use Rattle.heap_check.proofs.Large.{large_block}
 use Rattle.log_steps.specs.Log.{KeepsRest, HasSameExtents, HasExtentsWith}
 use Rattle.log_steps.proofs.Entries.{off_log}
 use Rattle.log_steps.proofs.LargeEntries.{slab_entry, large_entry}
-use Rattle.heap_check.proofs.LargeImages.{IsStageOf, same_heap_word, some_stage, none_stage, others_stage, slabs_stage, keeps_stage}
+use Rattle.heap_check.proofs.LargeImages.{same_heap_word, some_stage, none_stage, others_stage, slabs_stage}
 
 -- the log is changed, and so is what starts at the start
 stage_log : (words : List ℕ) (root start here word : ℕ) (made image : List ℕ) (after : ℕ) → IsStageOf words root start here word made → KeepsRest made image →

@@ -1,7 +1,7 @@
 -- The counts of live blocks and the calm slabs together, as blocks and slabs come and go.
 use Rattle.std.proofs.Common.{◌<◌, ◌-◌, ◌≡◌, ◌≢◌, ◌==◌, ◌&&◌, ℕ, List, Option, Some, None, sym, ap, ◌∙◌, if◌then◌else◌, arith, length, slice_index}
-use Rattle.arena_core.proofs.Common.{normal_kind, Tables, tables_of, put_at-other, SlabHeader, put_header, with_key, Lives, calm_at, AreCountsOf, calm_of, AreLivesOf, Range, HaveOneMore, Bounds, live_in}
-use Rattle.heap_check.proofs.LiveCounts.{IsOneMore, live_step, put_one}
+use Rattle.arena_core.proofs.Common.{normal_kind, Tables, tables_of, put_at-other, SlabHeader, put_header, with_key, Lives, calm_at, AreCountsOf, calm_of, AreLivesOf, Range, HaveOneMore, Bounds, live_in, IsOneMore, put_one}
+use Rattle.heap_check.proofs.LiveCounts.{live_step}
 
 -- a header that changed makes a difference to its own slab alone
 pub calm_header : (t : Tables) (start : ℕ) (h : SlabHeader) (s : ℕ) → s ≢ start → calm_of (put_header t start h) s ≡ calm_of t s

@@ -1,11 +1,9 @@
 -- Words that differ within the block of a root alone: what stands beside the words of an arena stays what they say.
 use Rattle.std.proofs.Common.{◌≡◌, ◌<◌, ◌↔◌, ℕ, true, List, Some, sym, ap, subst, ◌∙◌, cond}
-use Rattle.arena_core.proofs.Common.{class_capacity, PmemState, words_of, granules_in, Tables, Book, FreeSet, Supply, IsOpen, Bounds, Range, live_below, heap, slabs, IsUnusedIn, granules_at, IsExactImage, IsBookOf, Volatile, Lives, calm_at, IsIndexOf, IsSlabsOf, live_in, calm_of, AreLivesOf, IsArena, IsReady}
-use Rattle.image_tables.specs.Tables.{tables_of}
+use Rattle.arena_core.proofs.Common.{class_capacity, PmemState, words_of, granules_in, Tables, Book, FreeSet, Supply, IsOpen, Bounds, Range, live_below, heap, slabs, IsUnusedIn, granules_at, IsExactImage, IsBookOf, Volatile, Lives, calm_at, IsIndexOf, IsSlabsOf, live_in, calm_of, AreLivesOf, IsArena, IsReady, tables_of, counts_kept, IsSameOffBlock, slabs_kept, bounds_kept, exact_kept}
 use Rattle.arena_core.proofs.Arenas.{index_as, book_same}
 use Rattle.arena_core.proofs.LiveSlabs.{lives_kept}
-use Rattle.heap_check.proofs.LiveCounts.{counts_kept}
-use Rattle.heap_check.proofs.OffBlocks.{IsSameOffBlock, slabs_kept, tables_kept, bounds_kept, exact_kept, log}
+use Rattle.heap_check.proofs.OffBlocks.{tables_kept, log}
 
 module _ {words new : List ℕ} {range : Range} (image : IsExactImage words) (root : ℕ) (named : heap (tables_of words) root ≡ Some range) (same : IsSameOffBlock words new range) where
   granules : granules_in new ≡ granules_in words

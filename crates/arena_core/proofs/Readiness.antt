@@ -1,6 +1,6 @@
 -- A memory that is ready: which events there is room for, and that it stays so.
 use Rattle.std.proofs.Common.{◌≡◌, ◌+◌, ◌≤◌, refl, arith}
-use Rattle.arena_core.proofs.Common.{IsQuiet, PmemState, words_of, version_in, layout_rules, bounds_of, IsFormed, IsReady}
+use Rattle.arena_core.proofs.Common.{IsQuiet, PmemState, words_of, version_in, layout_rules, bounds_of, IsFormed, IsReady, sizes_of, root_inside}
 use Rattle.pool_layout.specs.Layout.{layout_of}
 
 -- it is ready again where it is quiet and its image has the same numbers
@@ -18,6 +18,9 @@ slab_room {device} ready = omega (arith, ready.room, (layout_rules (version_in (
 -- an entry may be put into the log, and 86 events besides
 pub entry_room : {device : PmemState} → IsReady device → (layout_of (version_in (words_of device))).entry_events + 86 ≤ device.room
 entry_room {device} ready = omega (arith, slab_room ready, (layout_rules (version_in (words_of device))).slab)
+
+-- what a memory that is ready has room for, and the numbers of its image
+pub ruleset room_rules = (room_of, slab_room, entry_room, sizes_of, root_inside)
 
 -- the numbers of version 1, which an arena is made of
 pub first_room : (layout_of 1).room ≡ 2048

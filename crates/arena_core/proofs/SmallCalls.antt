@@ -1,38 +1,95 @@
--- A small block and its root come or go: what an arena keeps holds again.
-use Rattle.std.proofs.Common.{refl, true, true≢false, ◌≡◌, ◌≢◌, ◌⊎◌, ◌↔◌, ℕ, ◌<◌, Bool, List, sym, ap, subst, ◌∙◌, arith, inl, inr, ⊎_elim, None}
-use Rattle.arena_core.proofs.Common.{cases_eq, class_capacity, Tables, tables_of, put_at-other, FreeSet, IsFree, Supply, IsOpen, IsWith, Bounds, slab_block, Range, slabs, IsUnusedIn, Holds, IsVacant, bounds_of, sizes_of, SmallBlock, IsBlockIn, IsDetachable, IsDetached, IsIndexOf, IsSlabsOf, IsSameSlab, class_size-least, calm_but, IsUnusedIn-same}
-use Rattle.image_tables.specs.Updates.{with_small, put_in}
+-- A small block and its root come or go: the words of the log stay and those of the other blocks, and what an arena keeps
+-- holds again.
+use Rattle.std.proofs.Common.{true, ◌≤◌, ◌+◌, ◌*◌, ◌≡◌, ℕ, ◌<◌, List, arith, Bool, None, Option, ap, refl, true≢false, ◌≢◌, ◌⊎◌, ◌↔◌, sym, subst, ◌∙◌, inl, inr, ⊎_elim}
+use Rattle.arena_core.proofs.Common.{word_at, entry_word, version_in, tables_of, index_word, SameLog, root_word-low, Book, bounds_of, IsExactButImage, KeepsBlocks, sizes_of, IsBookOf, SmallBlock, KeepsOthers, IsBlockIn, IsOldDetachable, granules_at-slab, OldBlock, GivesRoot, Range, Tables, slabs, cases_eq, class_capacity, put_at-other, FreeSet, Supply, IsOpen, IsWith, Bounds, slab_block, IsUnusedIn, Holds, IsDetachable, IsDetached, IsIndexOf, IsSlabsOf, IsSameSlab, class_size-least, calm_but, IsUnusedIn-same, log_word-low, entry_word-low, block_word-header, stage_of, GivesOne, same_log, iff_then, unused_apart}
+use Rattle.image_tables.proofs.Places.{entry_word-high}
+use Rattle.heap_check.proofs.BlockWords.{block_word-heap}
+use Rattle.heap_check.proofs.OneBlock.{IsVacant-one}
+use Rattle.attach_steps.specs.Steps.{bit_word}
+use Rattle.arena_core.proofs.Arenas.{book_same, index_by}
+use Rattle.image_tables.specs.Updates.{with_small}
 use Rattle.image_tables.proofs.Updates.{put_in-same}
 use Rattle.block_supply.specs.Supply.{IsWithout}
 use Rattle.heap_check.proofs.Small.{Holds-back, Holds-forth, blocks_apart}
 use Rattle.arena_core.specs.Arena.{AreSlabsLess}
-use Rattle.heap_check.proofs.OneBlock.{stage_of, IsVacant-one}
 use Rattle.heap_check.proofs.SmallPlaces.{IsSmallPlace-named, clear_unused}
-use Rattle.arena_core.proofs.Arenas.{index_by}
-use Rattle.heap_check.proofs.UnusedBlocks.{iff_then, unused_apart, unused_freed, iff_back}
+use Rattle.heap_check.proofs.UnusedBlocks.{unused_freed}
+
+-- One word of a slab's header changes with a root's word and a write-ahead line: where it lies.
+pub record IsBlockChange (words : List ℕ) (line root start k : ℕ) : Type 0 where
+  pub image : IsExactButImage words start
+  pub slab : (tables_of words).slab start ≡ true
+  pub rooted : root < (bounds_of words).roots
+  pub low : 2048 * start ≤ k
+  pub high : k < 2048 * start + 256
+  pub few : line < 8
+
+-- where it is the bit of a block
+pub change_bit : {words : List ℕ} {line root : ℕ} {block : SmallBlock} → IsBlockIn words root block → line < 8 → IsBlockChange words line root block.start (bit_word block)
+change_bit {words} {line} {root} {block} block_in few = grind arith
+
+-- the words of the log and of blocks are the same
+module _ {words : List ℕ} {line root start place : ℕ} (change : IsBlockChange words line root start place) (new : List ℕ) (rest : KeepsOthers words line root place new) where
+  start_low : 4 ≤ start
+  start_low = grind (arith, sizes_of, granules_at-slab)
+
+  root_low : root < 4096
+  root_low = omega (arith, (sizes_of words change.image.formed).roots, change.rooted)
+
+  keeps_low : (k : ℕ) → k < 64 → word_at new k ≡ word_at words k
+  keeps_low k low = rest.others k (λ e. omega (arith, e, low)) (λ e. omega (arith, e, low, change.low, start_low)) (λ e. omega (arith, e, low))
+
+  log_small : SameLog words new
+  log_small =
+      let version = version_in words in
+      let sizes = sizes_of words change.image.formed in
+      same_log words new keeps_low (λ c e few below.
+      let low = entry_word-low version c e in
+      let high = entry_word-high version c e few below in
+      rest.others (entry_word version c e)
+      (λ is. omega (arith, is, low, log_word-low version, change.few))
+      (λ is. omega (arith, is, high, sizes.first, change.low, start_low))
+      (λ is. omega (arith, is, low, root_word-low version root change.rooted)))
+
+  pub book_small : bounds_of new ≡ bounds_of words → (book : Book) → IsBookOf book words → IsBookOf book new
+  book_small bounds book = book_same book log_small rest.same_length bounds
+
+  pub keeps_small : KeepsBlocks words new
+  keeps_small = record {
+    each = λ r other at k was is within.
+        let but = change.image.but in
+        let sizes = sizes_of words change.image.formed in
+        let high = block_word-heap but.sound but.closed r at was k within in
+        let off = block_word-header but.sound but.closed r at was k within start change.slab in
+        grind (arith, root_low);
+  }
+
+  -- the root has this block now, or none
+  pub gives_small : {block : Option Range} (bits lives : Bool → ℕ → ℕ → Bool) (on : Bool) (word : ℕ) → bounds_of new ≡ bounds_of words → tables_of new ≡ stage_of (tables_of words) bits lives root on word None → GivesOne words root block new → GivesRoot words root block (slabs (tables_of words)) new
+  gives_small bits lives on word bounds tables gives = record { here = gives.here; others = gives.others; slabs = λ s. ap (λ (x : Tables). slabs x s) tables; keeps = keeps_small; bounds = bounds }
+
+-- where it is the entry of an old block in the index table
+pub change_index : {words : List ℕ} {line root : ℕ} {block : OldBlock} → IsOldDetachable words root block → line < 8 → IsBlockChange words line root block.start (index_word block.start block.place)
+change_index {words} {line} {root} {block} may few = grind arith
+
+-- what holds of one number and of all others, holds of each
+pub of_each : {P : ℕ → Type 0} (start : ℕ) → P start → ((s : ℕ) → s ≢ start → P s) → (s : ℕ) → P s
+of_each {P} start here others s = ⊎_elim (λ (same : s ≡ start). subst P (sym same) here) (λ (differ : s ≢ start). others s differ) (cases_eq s start)
+
+-- what holds of one block and of all others
+pub of_each_block : {P : ℕ → ℕ → Type 0} (start number : ℕ) → P start number → ((s i : ℕ) → (s ≢ start) ⊎ (i ≢ number) → P s i) → (s i : ℕ) → P s i
+of_each_block {P} start number here others = of_each {P = λ s. (i : ℕ) → P s i} start (of_each {P = P start} number here (λ i differ. others start i (inr differ))) (λ s differ i. others s i (inl differ))
+
+-- of a slab that has its class still, and of which the same blocks are unused, the same are open
+pub blocks_kept : {t new : Tables} {was set : Supply} {s i : ℕ} → new.slab s ≡ t.slab s → new.class s ≡ t.class s → IsUnusedIn t s (t.class s) i ↔ IsUnusedIn new s (t.class s) i → IsOpen set s i ↔ IsOpen was s i →
+    (t.slab s ≡ true → i < class_capacity (t.class s) → IsOpen was s i ↔ IsUnusedIn t s (t.class s) i) → new.slab s ≡ true → i < class_capacity (new.class s) → IsOpen set s i ↔ IsUnusedIn new s (new.class s) i
+blocks_kept {t} {new} {was} {set} {s} {i} slab_is class_is unused opens were slab below =
+    iff_then opens (iff_then (were (sym slab_is ∙ slab) (subst (λ c. i < class_capacity c) class_is below)) (subst (λ c. IsUnusedIn t s (t.class s) i ↔ IsUnusedIn new s c i) (sym class_is) unused))
 
 -- the tables are others in which a block is held or not, with its root's word
 module _ (words : List ℕ) (bits lives : Bool → ℕ → ℕ → Bool) (root : ℕ) (on : Bool) (word : ℕ) (new : List ℕ) (bounds : bounds_of new ≡ bounds_of words) (tables : tables_of new ≡ stage_of (tables_of words) bits lives root on word None) where
-  pub classes_small : (s : ℕ) → slabs (tables_of new) s ≡ slabs (tables_of words) s
-  classes_small s = ap (λ (x : Tables). slabs x s) tables
-
   pub index_small : (set : FreeSet) → IsIndexOf set words → IsIndexOf set new
-  index_small set index = index_by words new set index.granules bounds (λ k. subst (λ x. IsFree set k ↔ IsVacant (bounds_of words) x k) (sym tables)
-      (iff_then (index.each k) (iff_back (IsVacant-one (bounds_of words) (tables_of words) bits lives root on word None k))))
-
--- of a block of its slab's class it is the bit
-abbrev pub bits_with : Tables → ℕ → ℕ → Bool → ℕ → ℕ → Bool
-bits_with t start number on = put_in t.bit start number on
-
-abbrev pub lives_as : Tables → Bool → ℕ → ℕ → Bool
-lives_as t on = t.live
-
--- of an old block it is the live bit of its index entry
-abbrev pub bits_as : Tables → Bool → ℕ → ℕ → Bool
-bits_as t on = t.bit
-
-abbrev pub lives_with : Tables → ℕ → ℕ → Bool → ℕ → ℕ → Bool
-lives_with t start place on = put_in t.live start place on
+  index_small set index = grind (arith, index_by, IsVacant-one)
 
 -- a block of its slab's class
 module _ (words : List ℕ) (root start number : ℕ) (on : Bool) (word : ℕ) (new : List ℕ) (bounds : bounds_of new ≡ bounds_of words)
@@ -46,31 +103,18 @@ module _ (words : List ℕ) (root start number : ℕ) (on : Bool) (word : ℕ) (
   same_slab : (s : ℕ) → s ≢ start → IsSameSlab t after s
   same_slab s differ = record { slab = refl; kind = refl; class = refl; old = refl; index_count = refl; bit = put_at-other t.bit start s _ differ; live = refl; number = refl }
 
-  -- of all other blocks the same are unused
-  same_else : (s i : ℕ) → t.slab s ≡ true → (s ≢ start) ⊎ (i ≢ number) → IsUnusedIn t s (t.class s) i ↔ IsUnusedIn after s (t.class s) i
-  same_else s i slab either = ⊎_elim
-      (λ (same : s ≡ start). ⊎_elim
-      (λ differ. absurd (differ same))
-      (λ (differ : i ≢ number).
-      subst (λ k. IsUnusedIn t k (t.class k) i ↔ IsUnusedIn after k (t.class k) i) (sym same)
-      (unused_apart (Holds-back t start number on root word None start) (Holds-forth t start number on root word None start) (t.class start) i (blocks_apart start (t.class start) number i (λ is. differ (sym is)))))
-      either)
-      (λ (differ : s ≢ start). IsUnusedIn-same (same_slab s differ) (t.class s) i)
-      (cases_eq s start)
-
   -- so a supply that has not this block open, and of the others those that are unused, has them still
   pub slabs_less : (set : Supply) → AreSlabsLess set words start number → AreSlabsLess set new start number
   slabs_less set was = record {
     granules = was.granules ∙ ap (λ (b : Bounds). b.granules) (sym bounds);
     classes = λ s. was.classes s ∙ sym (ap (λ (x : Tables). slabs x s) tables);
     blocks = subst (λ (x : Tables). (s i : ℕ) → x.slab s ≡ true → i < class_capacity (x.class s) → (s ≢ start) ⊎ (i ≢ number) → IsOpen set s i ↔ IsUnusedIn x s (x.class s) i) (sym tables)
-        (λ s i slab below either. iff_then (was.blocks s i slab below either) (same_else s i slab either));
+        (of_each start
+        (λ i slab below either. iff_then (was.blocks start i slab below either)
+        (unused_apart (Holds-back t start number on root word None start) (Holds-forth t start number on root word None start) (t.class start) i (blocks_apart start (t.class start) number i (λ is. ⊎_elim (λ differ. differ refl) (λ differ. differ (sym is)) either))))
+        (λ s differ i slab below either. iff_then (was.blocks s i slab below either) (IsUnusedIn-same (same_slab s differ) (t.class s) i)));
     none = was.none;
   }
-
--- a block is one of a slab, or another
-pub here_or_else : (s i start number : ℕ) → ((s ≡ start) × (i ≡ number)) ⊎ ((s ≢ start) ⊎ (i ≢ number))
-here_or_else s i start number = ⊎_elim (λ same. ⊎_elim (λ also. inl (same, also)) (λ differ. inr (inr differ)) (cases_eq i number)) (λ differ. inr (inl differ)) (cases_eq s start)
 
 -- a block that is not open may be missing
 pub slabs_missing : {set : Supply} {words : List ℕ} (start number : ℕ) → IsSlabsOf set words → ¬ (IsOpen set start number) → AreSlabsLess set words start number
@@ -90,13 +134,7 @@ pub slabs_used : {set : Supply} {words : List ℕ} (start number : ℕ) → AreS
 slabs_used {set} {words} start number less used = record {
   granules = less.granules;
   classes = less.classes;
-  blocks = λ s i slab below. ⊎_elim
-      (λ both. (
-        λ is. absurd (less.none (subst (λ k. IsOpen set start k) both.1 (subst (λ k. IsOpen set k i) both.0 is))),
-        λ unused. absurd (used (subst (λ k. IsUnusedIn (tables_of words) start ((tables_of words).class start) k) both.1 (subst (λ k. IsUnusedIn (tables_of words) k ((tables_of words).class k) i) both.0 unused))),
-      ))
-      (λ either. less.blocks s i slab below either)
-      (here_or_else s i start number);
+  blocks = of_each_block start number (λ slab below. (λ is. absurd (less.none is), λ unused. absurd (used unused))) (λ s i either slab below. less.blocks s i slab below either);
 }
 
 -- one that came back is not missing any more
@@ -104,13 +142,7 @@ pub slabs_with : {set other : Supply} {words : List ℕ} (start number : ℕ) �
 slabs_with {set} {other} {words} start number less came unused = record {
   granules = came.granules ∙ less.granules;
   classes = λ s. came.classes s ∙ less.classes s;
-  blocks = λ s i slab below. ⊎_elim
-      (λ both. (
-        λ is. subst (λ k. IsUnusedIn (tables_of words) k ((tables_of words).class k) i) (sym both.0) (subst (λ k. IsUnusedIn (tables_of words) start ((tables_of words).class start) k) (sym both.1) unused),
-        λ is. subst (λ k. IsOpen other k i) (sym both.0) (subst (λ k. IsOpen other start k) (sym both.1) came.here),
-      ))
-      (λ either. iff_then (came.others s i either) (less.blocks s i slab below either))
-      (here_or_else s i start number);
+  blocks = of_each_block start number (λ slab below. (λ is. unused, λ is. came.here)) (λ s i either slab below. iff_then (came.others s i either) (less.blocks s i slab below either));
 }
 
 -- a block that a root names is not open
@@ -130,10 +162,7 @@ used_given words root block word block_in =
     let after = with_small t block.start block.number true root word None in
     let size = class_size-least (t.class block.start) (but.sound.slabs block.start block_in.slab).state.is_class in
     let range : Range = slab_block block.start (t.class block.start) block.number in
-    let held : Holds after block.start range = record {
-      slab = block_in.slab;
-      block = inl (record { number = block.number; below = block_in.below; read = calm_but but block.start block_in.slab; set = put_in-same t.bit block.start block.number true; is = refl });
-    } in
+    let held : Holds after block.start range = grind (arith, calm_but, put_in-same) in
     λ unused. absurd (⊎_elim (λ x. omega (arith, x, size)) (λ x. omega (arith, x, size)) (unused.each range held))
 
 -- and one that went from its root is unused

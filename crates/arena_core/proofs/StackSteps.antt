@@ -1,12 +1,10 @@
 -- What a malloc takes of the stacks, and what a free puts back, is what the placement says.
 use Rattle.std.proofs.Common.{◌≡◌, ◌≢◌, ◌==◌, not, ℕ, ◌+◌, ◌*◌, ◌<◌, ◌≤◌, ◌⊎◌, ◌↔◌, Bool, true, false, [], Option, Some, None, if◌then◌else◌, sym, ap, ◌∙◌, subst, arith, inl, inr, ⊎_elim}
-use Rattle.arena_core.proofs.Common.{cases_lt, class_size, class_capacity, class_size-rises, Bounds, Range, Machine, with_key, slab_block, IsUnused, IsFreeGranule, IsBestFit, IsBestSlab, HasNoFitSlab, view_of, class_known, class_in, stacks_of, Supply, supply_view, HasNoOpen, Tables, IsUnusedIn, stacks_but, IsPutBack, IsSuppliedFresh, IsSuppliedMorph}
+use Rattle.arena_core.proofs.Common.{cases_lt, class_size, class_capacity, class_size-rises, Bounds, Range, Machine, with_key, slab_block, IsUnused, IsFreeGranule, IsBestFit, IsBestSlab, HasNoFitSlab, view_of, class_known, class_in, stacks_of, Supply, supply_view, HasNoOpen, Tables, IsUnusedIn, stacks_but, IsPutBack, IsSuppliedFresh, IsSuppliedMorph, Stacks, without_left, IsReturned, AgreeOnBlocks, with_key-twice}
 use Rattle.std.specs.List.{filter}
 use Rattle.heap_model.specs.Machine.{IsBlockOf, IsOverlapFree}
 use Rattle.heap_model.specs.Slabs.{is_within}
-use Rattle.heap_model.specs.Placement.{Stacks, without_slab, without_left, IsWay, IsKeepable, IsReturned}
-use Rattle.block_supply.proofs.Views.{AgreeOnBlocks}
-use Rattle.heap_model.proofs.Maps.{with_key-twice}
+use Rattle.heap_model.specs.Placement.{without_slab, IsWay, IsKeepable}
 use Rattle.heap_model.proofs.LeftSlabs.{not_kept, purged_put, one_left, within, below, one_home, none_left}
 use Rattle.block_supply.proofs.Ways.{refill_anew, way_anew}
 

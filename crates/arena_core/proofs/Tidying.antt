@@ -1,20 +1,94 @@
--- Behind a block that went its slab is dropped where it holds none, and its transition ends where no old one is left.
-use Rattle.std.proofs.Common.{◌≡◌, ◌≢◌, ◌↔◌, ◌==◌, ℕ, ◌<◌, Bool, true, false, not, List, [], slice_index, refl, sym, ap, subst, ◌∙◌, arith, inl, ⊎_elim, Some, None, if◌then◌else◌}
-use Rattle.arena_core.proofs.Common.{cases_Bool, cases_eq, cond-true, cond-false, eqb-true, and_from, and_parts, false_from_ne_true, PmemState, words_of, IsQuietStep, step_by, step_none, step_wider, morphed_kind, Tables, tables_of, Bounds, with_key, any_below, slabs, IsUnusedIn, heap, IsDoneSlab, IsInSlab, bounds_of, IsExactImage, IsSteadyImage, IsSteady-but, Volatile, Lives, calm_at, IsSlabsOf, AreCountsOf, calm_of, IsTidied, slabs_but, holds_none, tidy_events, live_below, calm_but, header_of, put_at-same, put_at-own, HasNoMove-closed, class_capacity}
+-- Whether a slab keeps a block once one of its blocks goes: it is dropped where it holds none, and its transition ends where
+-- no old one is left.
+use Rattle.std.proofs.Common.{◌<◌, true≢false, ◌⊎◌, ◌≤◌, ◌+◌, ◌≡◌, ◌≢◌, ◌||◌, ℕ, true, false, refl, sym, ap, subst, ◌∙◌, inl, inr, ⊎_elim, Bool, arith, ◌*◌, ◌/◌, ◌↔◌, ◌==◌, not, IsTrue, List, [], slice_index, Some, None, if◌then◌else◌}
+use Rattle.arena_core.proofs.Common.{Book, FreeSet, IsFree, Supply, HasSlabLess, IsEitherHeap, IsBookOf, sizes_of, IsUnusedIn-same, live_below, cases_Bool, class_capacity, Tables, Bounds, Range, slab_block, any_below, entry_at, Holds, HoldsBit, HoldsOld, IsInSlab, IsEmptySlab, IsExactBut, plain_size, IsNamed-claim, IsClaim-word, Holds-claim, calm_but, IsInSlab-held, IsLastOf, holds_none, cond-true, cond-false, eqb-true, and_from, and_parts, false_from_ne_true, PmemState, words_of, IsQuietStep, step_by, step_none, step_wider, morphed_kind, is_slab, tables_of, with_key, slabs, heap, IsDoneSlab, bounds_of, IsExactImage, IsSteadyImage, IsSteady-but, Volatile, Lives, calm_at, AreCountsOf, calm_of, IsTidied, slabs_but, tidy_events, header_of, put_at-same, put_at-own, HasNoMove-closed, granule_word, block_word-header, slabs-other, IsSlabPlace, keeps_blocks, same_heap, live_none, live_same, counts_kept, with_key-is, calm_none, calm_same}
+use Rattle.std.proofs.lemmas.Bool.{or_parts, or_cases, true_from_ne_false}
+use Rattle.image_tables.specs.Forms.{morphing_kind}
+use Rattle.heap_model.proofs.Below.{any_below-each, any_below-some}
+use Rattle.arena_core.proofs.Tests.{not_true, not_false}
 use Rattle.arena_core.proofs.Readiness.{ready_after}
+use Rattle.heap_check.proofs.SameSlabs.{IsSameSlab-back}
+use Rattle.heap_check.proofs.SlabHeaps.{slabs-none, IsVacant-no_slab}
+use Rattle.heap_check.proofs.SlabPlaces.{IsSlabPlace-empty}
+use Rattle.extent_steps.specs.Slabs.{IsDropped, IsDroppable, drop_events}
 use Rattle.transition_steps.specs.Transitions.{end_events, IsEndable, LeavesEntry, IsEnded}
 use Rattle.arena_core.specs.Carried.{IsUntidy}
 use Rattle.arena_core.specs.Events.{is_done}
+use Rattle.arena_core.proofs.AdoptedSlabs.{class_read}
+use Rattle.arena_core.proofs.Arenas.{index_by, index_more}
 use Rattle.arena_core.proofs.ChangedHeaders.{IsHeaderChange, row, book_header, index_header, unused_header}
-use Rattle.arena_core.proofs.LastBlocks.{none_by_tests, some_by_tests, rooted_by_tests}
 use Rattle.arena_core.proofs.LiveSlabs.{lives_put}
 use Rattle.arena_core.proofs.SlabChanges.{exact_held}
-use Rattle.heap_model.proofs.Below.{any_below-each, any_below-some}
-use Rattle.arena_core.proofs.Tests.{not_true}
+use Rattle.arena_core.proofs.SmallCalls.{of_each, blocks_kept}
 use Rattle.slab_morph.specs.Stages.{settled}
-use Rattle.heap_check.proofs.HeapSteps.{same_heap}
-use Rattle.heap_check.proofs.LiveCounts.{live_none, live_some, live_same, counts_kept}
-use Rattle.heap_check.proofs.UnusedBlocks.{iff_then}
+use Rattle.heap_check.proofs.LiveCounts.{live_some}
+
+module _ (t : Tables) (start : ℕ) where
+  abbrev bits : Bool
+  bits = any_below (t.bit start) (class_capacity (t.class start))
+
+  abbrev olds : Bool
+  olds = any_below (t.live start) (t.index_count start)
+
+  -- a slab that holds no block by its tests holds none
+  pub none_by_tests : holds_none t start ≡ true → (range : Range) → ¬ (Holds t start range)
+  none_by_tests none range holds =
+      let parts = or_parts bits olds (not_true (bits || olds) none) in
+      ⊎_elim
+      (λ (bit : HoldsBit t start range). true≢false (sym bit.set ∙ any_below-each (t.bit start) (class_capacity (t.class start)) parts.0 bit.number bit.below))
+      (λ (old : HoldsOld t start range). true≢false (sym old.live ∙ any_below-each (t.live start) (t.index_count start) parts.1 old.place old.below))
+      holds.block
+
+  -- and one that holds some by them holds it
+  pub some_by_tests : t.slab start ≡ true → t.kind start ≢ morphing_kind → holds_none t start ≡ false → (range : Range) × Holds t start range
+  some_by_tests slab calm some = ⊎_elim
+      (λ (set : bits ≡ true).
+      let found = any_below-some (t.bit start) (class_capacity (t.class start)) set in
+      (slab_block start (t.class start) found.0, record { slab = slab; block = inl (record { number = found.0; below = found.1; read = calm; set = found.2; is = refl }) }))
+      (λ (live : olds ≡ true).
+      let found = any_below-some (t.live start) (t.index_count start) live in
+      (slab_block start (t.old start) (t.number start found.0), record { slab = slab; block = inr (record { place = found.0; below = found.1; live = found.2; is = refl }) }))
+      (or_cases bits olds (not_false (bits || olds) some))
+
+-- an image that is exact but for a slab
+module _ {b : Bounds} {t : Tables} (start : ℕ) (but : IsExactBut b t start) (slab : t.slab start ≡ true) where
+  unnamed : (root : ℕ) → entry_at t.open_entry root ≡ 0
+  unnamed root = ap (λ e. entry_at e root) but.closed
+
+  -- where it holds no block, no root's word lies in it
+  pub empty_by_tests : holds_none t start ≡ true → IsEmptySlab t start
+  empty_by_tests none = record {
+    slab = slab;
+    none = λ root some inside.
+        let range : Range = record { at = t.root root; size = plain_size t (t.root root) } in
+        none_by_tests t start none range (Holds-claim but.sound root start range (unnamed root) (IsClaim-word t root (unnamed root) some) inside);
+  }
+
+  -- where it holds one, some root's does
+  pub rooted_by_tests : holds_none t start ≡ false → (root : ℕ) × (t.root root ≢ 0) × IsInSlab t start (t.root root)
+  rooted_by_tests some =
+      let held = some_by_tests t start slab (calm_but but start slab) some in
+      let owner = but.sound.claimed start held.0 held.1 in
+      let its = IsNamed-claim t owner.0 held.0 (unnamed owner.0) owner.1 in
+      (owner.0, λ none. its.some (sym its.word ∙ none), subst (IsInSlab t start) (sym its.word) (IsInSlab-held but.sound start held.0 held.1))
+
+-- A root lost its block in the slab: whether it was the last.
+pub last_of : {b : Bounds} (t : Tables) {left : Tables} (root start : ℕ) → IsExactBut b left start → left.slab start ≡ true → t.slab start ≡ true → left.root root ≡ 0 → ((other : ℕ) → other ≢ root → left.root other ≡ t.root other) →
+    IsLastOf t root start (holds_none left start)
+last_of {b} t {left} root start but slab was gone others = record {
+  is = ⊎_elim
+      (λ (none : holds_none left start ≡ true).
+      inl (
+        none,
+        λ other differ some inside.
+            let same = others other differ in
+            (empty_by_tests start but slab none).none other (λ zero. some (sym same ∙ zero)) (record { slab = slab; low = omega (arith, inside.low, same); high = omega (arith, inside.high, same) }),
+      ))
+      (λ (some : holds_none left start ≡ false).
+      let rooted = rooted_by_tests start but slab some in
+      grind arith)
+      (cases_Bool (holds_none left start));
+}
 
 -- the test of a slab that is done
 pub done_by_test : (t : Tables) (start : ℕ) → IsDoneSlab t start → is_done t start ≡ true
@@ -24,6 +98,10 @@ pub not_done_by_test : (t : Tables) (start : ℕ) → t.slab start ≡ true → 
 not_done_by_test t start slab lively = false_from_ne_true (is_done t start) (λ is.
     let parts = and_parts (t.kind start == morphed_kind) (not (any_below (t.live start) (t.index_count start))) is in
     lively (record { slab = slab; kind = eqb-true (t.kind start) morphed_kind parts.0; none = λ place below. any_below-each (t.live start) (t.index_count start) (not_true (any_below (t.live start) (t.index_count start)) parts.1) place below }))
+
+-- the slab that was read is this one
+pub done_here : {t : Tables} {slab start : ℕ} {is : Bool} → slab ≡ 8 * granule_word start → IsTrue is ↔ IsDoneSlab t (slab / 16384) → (is ≡ true → IsDoneSlab t start) × (is ≡ false → ¬ (IsDoneSlab t start))
+done_here at says = grind arith
 
 module _ (s : PmemState) (volatile : Volatile) (start : ℕ) (untidy : IsUntidy s volatile start) where
   abbrev words : List ℕ
@@ -37,14 +115,10 @@ module _ (s : PmemState) (volatile : Volatile) (start : ℕ) (untidy : IsUntidy 
 
   -- by its count
   pub none_by_count : slice_index volatile.lives.counts start ≡ 0 → holds_none (tables_of (words_of s)) start ≡ true
-  none_by_count zero = ⊎_elim
-      (λ (none : holds_none t start ≡ true). none)
-      (λ (some : holds_none t start ≡ false).
+  none_by_count zero = true_from_ne_false (holds_none t start) (λ some.
       let but = untidy.image.but in
       let held = some_by_tests t start untidy.slab (calm_but but start untidy.slab) some in
-      let lives = live_some words but.sound but.closed start held.0 held.1 in
-      absurd (omega (arith, lives, zero, count_is)))
-      (cases_Bool (holds_none t start))
+      omega (arith, live_some words but.sound but.closed start held.0 held.1, zero, count_is))
 
   pub some_by_count : slice_index volatile.lives.counts start ≢ 0 → holds_none (tables_of (words_of s)) start ≡ false
   some_by_count some = false_from_ne_true (holds_none t start) (λ none.
@@ -68,6 +142,59 @@ module _ (s : PmemState) (volatile : Volatile) (start : ℕ) (untidy : IsUntidy 
         keeps = record { each = λ root other range k first second word. refl };
       }
 
+  -- it holds no block: it may be dropped
+  pub droppable : slice_index volatile.lives.counts start ≡ 0 → IsDroppable (words_of s) start
+  droppable zero = let but = untidy.image.but in record { image = record { formed = untidy.image.formed; steady = IsSteady-but but }; closed = but.closed; empty = empty_by_tests start but untidy.slab (none_by_count zero) }
+
+  -- and it was
+  module _ (zero : slice_index volatile.lives.counts start ≡ 0) (u : PmemState) (dropped : IsDropped (words_of s) start (words_of u)) where
+    abbrev fewer : List ℕ
+    fewer = words_of u
+
+    abbrev less : Tables
+    less = tables_of fewer
+
+    drop_place : IsSlabPlace (bounds_of words) less t start
+    drop_place = IsSlabPlace-empty untidy.image.but.sound untidy.image.but.closed (omega (arith, (sizes_of words untidy.image.formed).first)) dropped.slab (droppable zero).empty
+
+    classes_dropped : (o : ℕ) → slabs less o ≡ with_key (slabs t) start None o
+    classes_dropped = with_key-is (slabs t) (slabs less) start None (slabs-none drop_place) (λ o differ. sym (slabs-other drop_place o differ))
+
+    -- no block lived in it, and it is calm no more
+    pub tidied_dropped : {log : Book} {more : FreeSet} {set : Supply} {next : Lives} → IsQuietStep s u (drop_events (words_of s) start) (IsEitherHeap (words_of s) (words_of u)) → IsBookOf log (words_of u) → more.granules ≡ volatile.free.granules →
+        ((k : ℕ) → IsFree more k ↔ (IsFree volatile.free k ⊎ ((start ≤ k) × (k < start + 4)))) → HasSlabLess volatile.supply set start → next.counts ≡ volatile.lives.counts → ((o : ℕ) → calm_at next o ≡ with_key (calm_at volatile.lives) start None o) →
+        IsTidied s u (record volatile { log = log; free = more; supply = set; lives = next }) start
+    tidied_dropped {log} {more} {set} {next} step book granules given removed same put =
+        let none = none_by_count zero in
+        let exact = dropped.exact untidy.image.but in
+        let counts : AreCountsOf volatile.lives.counts fewer = counts_kept words fewer volatile.lives.counts (ap (λ (b : Bounds). b.granules) dropped.bounds) (of_each start
+        (cond-false (less.slab start) _ 0 dropped.slab.none ∙ sym zero ∙ untidy.lives.counts.each start)
+        (λ o differ. λ i. if sym (dropped.slab.others o differ).slab i then live_below (λ root. dropped.heap.each root i) o (dropped.bounds i).roots else 0)) untidy.lives.counts in
+        let events : tidy_events words start ≡ drop_events words start = cond-true (holds_none t start) (drop_events words start) _ none in
+        record {
+          step = step_by (drop_events words start) (tidy_events words start) (sym events) step;
+          current = record {
+            ready = ready_after untidy.ready step.appends.room step.quiet untidy.image.formed exact.formed dropped.bounds;
+            exact = exact;
+            log = book;
+            index = index_by words fewer more (granules ∙ untidy.index.granules) dropped.bounds (index_more volatile.free more (bounds_of words) t less start 4 untidy.index.each given (IsVacant-no_slab drop_place));
+          };
+          slabs = record {
+            granules = removed.granules ∙ untidy.slabs.granules ∙ ap (λ (b : Bounds). b.granules) (sym dropped.bounds);
+            classes = λ o. removed.classes o ∙ ap (λ x. if o == start then None else x) (untidy.slabs.classes o) ∙ sym (classes_dropped o);
+            blocks = λ o i slab.
+                let differ : o ≢ start = λ here. true≢false (sym slab ∙ ap less.slab here ∙ dropped.slab.none) in
+                let kept = IsSameSlab-back (dropped.slab.others o differ) in
+                blocks_kept kept.slab kept.class (IsUnusedIn-same kept (t.class o) i) (removed.others o i differ) (untidy.slabs.blocks o i) slab;
+          };
+          lives = lives_put words fewer volatile.lives next (subst (λ (n : List ℕ). AreCountsOf n fewer) (sym same) counts) untidy.lives start None put
+              (with_key-is (calm_of t) (calm_of less) start None (calm_none less start dropped.slab.none) (λ o differ. sym (calm_same less t o (dropped.slab.others o differ))));
+          bounds = dropped.bounds;
+          heap = dropped.heap;
+          slab = λ o. classes_dropped o ∙ sym (ap (λ gone. slabs_but (slabs t) start gone o) none);
+          keeps = keeps_blocks words start fewer untidy.image.formed untidy.image.but.sound untidy.image.but.closed (λ root range k named word. block_word-header untidy.image.but.sound untidy.image.but.closed root range named k word start dropped.slab.slab) dropped.rest;
+        }
+
   -- its transition may end
   pub endable : IsDoneSlab (tables_of (words_of s)) start → IsEndable (words_of s) start
   endable done = grind arith
@@ -83,79 +210,56 @@ module _ (s : PmemState) (volatile : Volatile) (start : ℕ) (untidy : IsUntidy 
     change : IsHeaderChange words start (settled (header_of t start)) new
     change = record { sound = untidy.image.but.sound; slab = untidy.slab; off = ended.off; bounds = ended.bounds; tables = ended.tables; held = ended.held }
 
-    closed : after.open_entry ≡ None
-    closed = row change (λ x. x.open_entry) ∙ untidy.image.but.closed
-
     exact : IsExactImage new
     exact =
         let but = untidy.image.but in
         let rooted = rooted_by_tests start but untidy.slab (some_by_count some) in
-        let roots = row change (λ x. x.root) in
-        let slab_same = row change (λ x. x.slab) in
-        let live_roots : (other : ℕ) → (root : ℕ) × (t.root root ≢ 0) × IsInSlab t other (t.root root) → (root : ℕ) × (after.root root ≢ 0) × IsInSlab after other (after.root root) =
-        λ other is.
-        let word = ap (λ (f : ℕ → ℕ). f is.0) roots in
-        (is.0, λ none. is.1 (sym word ∙ none), record { slab = ap (λ (f : ℕ → Bool). f other) slab_same ∙ is.2.slab; low = omega (arith, word, is.2.low); high = omega (arith, word, is.2.high) }) in
-        record {
-          formed = ended.image.formed;
-          exact = record {
-            sound = ended.image.sound;
-            closed = closed;
-            all_named = λ other live.
-                let large = ap (λ (f : ℕ → ℕ). f other) (row change (λ x. x.large)) in
-                let named = but.all_named other (omega (arith, live, large)) in
-                (named.0, ap (λ (f : ℕ → ℕ). f named.0) roots ∙ named.1);
-            all_live = λ other is. ⊎_elim
-                (λ (same : other ≡ start). live_roots other (subst (λ k. (root : ℕ) × (t.root root ≢ 0) × IsInSlab t k (t.root root)) (sym same) rooted))
-                (λ (differ : other ≢ start). live_roots other (but.others_live other differ (sym (ap (λ (f : ℕ → Bool). f other) slab_same) ∙ is)))
-                (cases_eq other start);
-            calm = λ other morphing. but.calm other (ended.loose.morphing other morphing);
-            none_done = λ other is. ⊎_elim
-                (λ (same : other ≡ start).
-                let kind : after.kind start ≡ 1 = row change (λ x. x.kind start) ∙ put_at-same t.kind start 1 in
-                omega (arith, is.kind, ap after.kind same, kind))
-                (λ (differ : other ≢ start). but.none_done other differ (ended.loose.done other is))
-                (cases_eq other start);
-          };
-        }
+        let large : after.large ≡ t.large = row change (λ x. x.large) in
+        let roots : after.root ≡ t.root = row change (λ x. x.root) in
+        let slabs_as : after.slab ≡ t.slab = row change (λ x. x.slab) in
+        let kind : after.kind start ≡ 1 = row change (λ x. x.kind start) ∙ put_at-same t.kind start 1 in
+        let left : IsExactBut (bounds_of new) after start = record {
+          sound = ended.image.sound;
+          closed = row change (λ x. x.open_entry) ∙ but.closed;
+          all_named = grind (arith, but.all_named);
+          others_live = grind (arith, but.others_live);
+          calm = λ other morphing. but.calm other (ended.loose.morphing other morphing);
+          none_done = λ other differ is. but.none_done other differ (ended.loose.done other is);
+        } in
+        exact_held new start (record { formed = ended.image.formed; but = left }) (rooted.0, grind arith, grind arith) (λ is. omega (arith, is.kind, kind))
 
-    pub slab_same : (o : ℕ) → (tables_of (words_of u)).slab o ≡ (tables_of (words_of s)).slab o
+    slab_same : (o : ℕ) → (tables_of (words_of u)).slab o ≡ (tables_of (words_of s)).slab o
     slab_same o = row change (λ x. x.slab o)
 
-    pub class_same : (o : ℕ) → (tables_of (words_of u)).class o ≡ (tables_of (words_of s)).class o
+    class_same : (o : ℕ) → (tables_of (words_of u)).class o ≡ (tables_of (words_of s)).class o
     class_same o = row change (λ x. x.class o) ∙ ap (λ (f : ℕ → ℕ). f o) (put_at-own t.class start)
 
     classes_ended : (o : ℕ) → slabs after o ≡ slabs t o
     classes_ended o = λ i. if row change (λ x. x.slab o) i then Some (class_same o i) else None
 
-    slabs_after : IsSlabsOf volatile.supply new
-    slabs_after = record {
-      granules = untidy.slabs.granules ∙ ap (λ (b : Bounds). b.granules) (sym ended.bounds);
-      classes = λ o. untidy.slabs.classes o ∙ sym (classes_ended o);
-      blocks = λ o i slab below.
-          let was = untidy.slabs.blocks o i (sym (row change (λ x. x.slab o)) ∙ slab) (subst (λ c. i < class_capacity c) (class_same o) below) in
-          iff_then was (subst (λ c. IsUnusedIn t o (t.class o) i ↔ IsUnusedIn after o c i) (sym (class_same o)) (unused_header change o (t.class o) i));
-    }
-
-    counts : AreCountsOf volatile.lives.counts new
-    counts = counts_kept words new volatile.lives.counts (ap (λ (b : Bounds). b.granules) ended.bounds) (live_same words new ended.bounds (λ o. row change (λ x. x.slab o)) ended.heap.each) untidy.lives.counts
-
     -- it is calm now
     calm_ended : (o : ℕ) → calm_of after o ≡ with_key (calm_of t) start (Some (t.class start)) o
     calm_ended = grind arith
 
-    pub tidied_ended : (next : Lives) → next.counts ≡ volatile.lives.counts → ((o : ℕ) → calm_at next o ≡ with_key (calm_at volatile.lives) start (Some ((tables_of (words_of s)).class start)) o) → IsTidied s u (record volatile { lives = next }) start
-    tidied_ended next same put =
+    -- its class, as it is read from now on
+    pub class_left : {slab class : ℕ} → slab ≡ 8 * granule_word start → (is_slab (words_of u) (slab / 16384) ≡ true → class ≡ (tables_of (words_of u)).class (slab / 16384)) → class ≡ (tables_of (words_of s)).class start
+    class_left {slab} {class} at read = class_read new slab start class (omega arith) (slab_same start ∙ untidy.slab) read ∙ class_same start
+
+    pub tidied_ended : (next : Lives) {class : ℕ} → next.counts ≡ volatile.lives.counts → ((o : ℕ) → calm_at next o ≡ with_key (calm_at volatile.lives) start (Some class) o) → class ≡ (tables_of (words_of s)).class start → IsTidied s u (record volatile { lives = next }) start
+    tidied_ended next same put class_is =
         let none = some_by_count some in
+        let counts : AreCountsOf volatile.lives.counts new = counts_kept words new volatile.lives.counts (ap (λ (b : Bounds). b.granules) ended.bounds) (live_same words new ended.bounds slab_same ended.heap.each) untidy.lives.counts in
         let steady : IsSteadyImage words = record { formed = untidy.image.formed; steady = IsSteady-but untidy.image.but } in
         let events : tidy_events words start ≡ end_events words start = cond-false (holds_none t start) _ _ none ∙ cond-true (is_done t start) _ [] (done_by_test t start done) in
         record {
-          step = step_by (end_events words start) (tidy_events words start) (sym events) (step_wider (λ image left.
-              let kept = left.keeps steady in
-              record { steady = kept.steady; heap = inl kept.heap; words = kept.blocks; still = HasNoMove-closed (left.entry ∙ untidy.image.but.closed) }) step);
+          step = step_by (end_events words start) (tidy_events words start) (sym events) (step_wider (λ image left. grind (arith, HasNoMove-closed)) step);
           current = record { ready = ready_after untidy.ready step.appends.room step.quiet untidy.image.formed exact.formed ended.bounds; exact = exact; log = book_header change volatile.log untidy.log; index = index_header change volatile.free untidy.index };
-          slabs = slabs_after;
-          lives = lives_put words new volatile.lives next (subst (λ (n : List ℕ). AreCountsOf n new) (sym same) counts) untidy.lives start (Some (t.class start)) put calm_ended;
+          slabs = record {
+            granules = untidy.slabs.granules ∙ ap (λ (b : Bounds). b.granules) (sym ended.bounds);
+            classes = λ o. untidy.slabs.classes o ∙ sym (classes_ended o);
+            blocks = λ o i. blocks_kept (slab_same o) (class_same o) (unused_header change o (t.class o) i) (λ is. is, λ is. is) (untidy.slabs.blocks o i);
+          };
+          lives = lives_put words new volatile.lives next (subst (λ (n : List ℕ). AreCountsOf n new) (sym same) counts) untidy.lives start (Some (t.class start)) (λ o. put o ∙ ap (λ c. with_key (calm_at volatile.lives) start (Some c) o) class_is) calm_ended;
           bounds = ended.bounds;
           heap = ended.heap;
           slab = λ o. classes_ended o ∙ sym (ap (λ gone. slabs_but (slabs t) start gone o) none);

@@ -39,6 +39,7 @@ pub(crate) fn take_front(free: &mut ExtentIndex, first: u32)
 
 /// Makes the indexes those of an exact image: nothing was taken from the index of granules before, and no slab was there.
 /// `log` is the image's.
+#[tactic(auto, using(crate::proofs::AdoptedExtents::read_first, crate::proofs::AdoptedExtents::extent_below, pool_layout::proofs::Layouts::layout_rules, heap_check::proofs::Sizes::sizes_of))]
 pub(crate) fn read_image<P: Pmem>(
     device: &P,
     log: &BookLog,
@@ -86,6 +87,7 @@ fn read_extent<P: Pmem>(
 }
 
 // Takes over a slab: its class, and which of its blocks are unused.
+#[tactic(auto, using(crate::proofs::AdoptedSlabs::class_read, crate::proofs::HeldBlocks::slab_here))]
 fn read_slab<P: Pmem>(device: &P, supply: &mut BlockSupply, start: u32)
     requires exact { IsExactImage (words_of (P.state device.now)) }
     requires slab { (tables_of (words_of (P.state device.now))).slab start ≡ true }
@@ -118,6 +120,7 @@ pub(crate) fn read_lives<P: Pmem>(device: &P, supply: &BlockSupply, lives: &mut 
 }
 
 // Counts the block of a root, where it lies in a slab; those of the roots below it are counted.
+#[tactic(auto, using(crate::proofs::AdoptedSlabs::counted_empty, crate::proofs::AdoptedSlabs::counted_outside, crate::proofs::Plans::root_in))]
 fn count_root<P: Pmem>(device: &P, supply: &BlockSupply, lives: &mut SlabLives, root: u32)
     requires exact { IsExactImage (words_of (P.state device.now)) }
     requires slabs { IsSlabsOf supply.now (words_of (P.state device.now)) }
@@ -136,6 +139,7 @@ fn count_root<P: Pmem>(device: &P, supply: &BlockSupply, lives: &mut SlabLives, 
 }
 
 // Notes the slab that begins at a granule, where it is calm; those that begin below are noted.
+#[tactic(auto, using(crate::proofs::HeldBlocks::slab_here, crate::proofs::Plans::slab_of_set))]
 fn note_slab<P: Pmem>(device: &P, supply: &BlockSupply, lives: &mut SlabLives, start: u32)
     requires exact { IsExactImage (words_of (P.state device.now)) }
     requires slabs { IsSlabsOf supply.now (words_of (P.state device.now)) }

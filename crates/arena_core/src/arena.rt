@@ -59,6 +59,7 @@ impl<P: Pmem> Arena<P> {
     /// has at most the granules of that version, and the memory has its room. It begins one call, and has five events.
     /// Afterwards no root names a block. After a crash within it the image is refused for its first word, or it is exact
     /// and has no block. It takes no memory.
+    #[tactic(auto, using(pool_layout::proofs::Layouts::layout_rules, crate::proofs::Formats::formatted_inside, crate::proofs::Formats::formatted_ready))]
     pub fn format(room: ArenaRoom, mut device: P, number: u32, arenas: u32) -> Arena<P>
         requires quiet { IsQuiet (P.state device).events }
         requires room { (layout_of 1).room ≤ (P.state device).room }
@@ -91,6 +92,7 @@ impl<P: Pmem> Arena<P> {
 
     /// Makes an arena over a memory whose image is exact; `room` is for as many granules as the image has, and the memory has
     /// the room of its version. It begins no call and has no event, and the heap is that of the image. It takes no memory.
+    #[tactic(auto, using(heap_check::proofs::Sizes::heap_inside, book_log::proofs::Places::within_heap))]
     pub fn adopt(room: ArenaRoom, device: P) -> Arena<P>
         requires quiet { IsQuiet (P.state device).events }
         requires room { (layout_of (version_in (words_of (P.state device)))).room ≤ (P.state device).room }
@@ -125,6 +127,7 @@ impl<P: Pmem> Arena<P> {
     /// It begins one call, ahead of its events, also where it refuses; a refusal has no event and changes no word
     /// and no stack. Every other block keeps its words. After a crash within it the heap is the one before the call or the
     /// one after it. It takes no memory. `seat` is the caller's, below 64.
+    #[tactic(auto, using(crate::proofs::PlannedCalls::planned_begun))]
     pub fn malloc_to(&mut self, seat: u32, root: u32, size: u64) -> Result<Placed, MallocRefusal>
         requires { seat < 64 }
         ensures { IsAnswered seat self.old self.new (calls.Malloc root size) (malloc_reply result) }
@@ -208,6 +211,7 @@ impl<P: Pmem> Arena<P> {
     }
 
     /// The block that a root names. `None` exactly where there is no such root word, or it names no block.
+    #[tactic(auto, using(crate::proofs::PayloadCalls::block_refused))]
     pub fn block(&self, root: u32) -> Option<Block>
         ensures { IsBlockOfRoot (words_of self.now.device) root result }
     {

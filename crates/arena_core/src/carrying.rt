@@ -44,6 +44,7 @@ use transition_steps::end_transition;
 
 impl Volatile {
     /// Gives a root of a seat the block at the place that was planned for it.
+    #[tactic(auto, using(crate::proofs::PlannedCalls::arena_same, crate::proofs::PlannedCalls::may_open, crate::proofs::PlannedCalls::may_take_class, crate::proofs::Readiness::room_rules))]
     pub(crate) fn carry_out_place<P: Pmem>(
         &mut self,
         device: &mut P,
@@ -79,6 +80,7 @@ impl Volatile {
     }
 
     /// Takes what it holds from a root of a seat.
+    #[tactic(auto, using(crate::proofs::HeldBlocks::class_detachable, crate::proofs::HeldBlocks::old_detachable))]
     pub(crate) fn carry_out_held<P: Pmem>(
         &mut self,
         device: &mut P,
@@ -106,6 +108,7 @@ impl Volatile {
     }
 
     // Gives granules to a root: their extent goes into the log, and then the root gets its address.
+    #[tactic(auto, using(crate::proofs::Readiness::room_rules, crate::proofs::SlabChanges::free_row, log_steps::proofs::Disjoint::disjoint_of))]
     fn give_large<P: Pmem>(&mut self, device: &mut P, root: u32, start: u32, granules: u32)
         requires arena { IsArena (P.state device.old) self.old }
         requires fresh { (P.state device.old).events ≡ [] }
@@ -120,6 +123,7 @@ impl Volatile {
     }
 
     // Takes granules from a root: the root's word becomes 0, and then a Tomb for their extent goes into the log.
+    #[tactic(auto, using(crate::proofs::Readiness::room_rules, crate::proofs::LargeCalls::taken_root, crate::proofs::LargeCalls::taken_covers, heap_check::proofs::Sizes::version_by_bounds))]
     fn take_large<P: Pmem>(&mut self, device: &mut P, root: u32, start: u32, granules: u32)
         requires arena { IsArena (P.state device.old) self.old }
         requires fresh { (P.state device.old).events ≡ [] }
@@ -134,6 +138,7 @@ impl Volatile {
     }
 
     // Gives a block of a slab to a root, which was taken out of the supply.
+    #[tactic(auto, using(crate::proofs::RootBlocks::counted))]
     fn give_small<P: Pmem>(&mut self, device: &mut P, root: u32, block: SmallBlock)
         requires held { IsHeldFor (P.state device.old) self.old root block }
         requires room { HasRoom (P.state device.old) 11 }
@@ -146,6 +151,7 @@ impl Volatile {
     }
 
     // Opens a slab on vacant granules.
+    #[tactic(auto, using(crate::proofs::Readiness::room_rules, crate::proofs::SlabChanges::free_row))]
     fn add_slab<P: Pmem>(&mut self, device: &mut P, start: u32, class: u8)
         requires fresh { (P.state device.old).events ≡ [] }
         requires may { MayOpen (P.state device.old) self.old start class }
@@ -159,6 +165,7 @@ impl Volatile {
     }
 
     // Gives a slab another class, for which it is fit: the blocks that it held live on in it as old ones.
+    #[tactic(auto, using(crate::proofs::Readiness::room_rules, crate::proofs::ChangedHeaders::few_changes))]
     fn change_class<P: Pmem>(&mut self, device: &mut P, start: u32, class: u8)
         requires fresh { (P.state device.old).events ≡ [] }
         requires may { MayTakeClass (P.state device.old) self.old start class }
@@ -174,6 +181,7 @@ impl Volatile {
 
     // Gives a block of a slab to a root of a seat: of the slab's class only blocks of this slab are open, and the seat is
     // given one of them.
+    #[tactic(auto, using(crate::proofs::RootBlocks::given_some, crate::proofs::RootBlocks::given_here, crate::proofs::RootBlocks::given_low))]
     fn give_of<P: Pmem>(&mut self, device: &mut P, seat: u32, root: u32, slab: SlabAt) -> SmallBlock
         requires ready { IsSlabFor (P.state device.old) self.old root slab.start slab.class }
         requires room { HasRoom (P.state device.old) 11 }
@@ -195,6 +203,7 @@ impl Volatile {
     }
 
     // Takes a block of its slab's class from a root of a seat: it may be given out again.
+    #[tactic(auto, using(crate::proofs::Readiness::room_rules, crate::proofs::RootBlocks::class_one_more))]
     fn take_block<P: Pmem>(&mut self, device: &mut P, seat: u32, root: u32, block: SmallBlock)
         requires arena { IsArena (P.state device.old) self.old }
         requires fresh { (P.state device.old).events ≡ [] }
@@ -217,6 +226,7 @@ impl Volatile {
     }
 
     // Takes an old block from a root: the blocks of the slab's class that it covered alone may be given out.
+    #[tactic(auto, using(crate::proofs::Readiness::room_rules, crate::proofs::RootBlocks::old_one_more))]
     fn take_old_block<P: Pmem>(&mut self, device: &mut P, root: u32, block: OldBlock)
         requires arena { IsArena (P.state device.old) self.old }
         requires fresh { (P.state device.old).events ≡ [] }
@@ -232,6 +242,7 @@ impl Volatile {
 
     // Behind a block that went: drops its slab where it holds no other, and ends the slab's transition where that was the
     // last old one.
+    #[tactic(auto, using(crate::proofs::Readiness::room_rules, crate::proofs::SlabChanges::held_row, crate::proofs::HeldBlocks::slab_here, crate::proofs::RootBlocks::counted, crate::proofs::Tidying::none_by_count, crate::proofs::Tidying::some_by_count, crate::proofs::Tidying::droppable))]
     fn tidy<P: Pmem>(&mut self, device: &mut P, start: u32)
         requires untidy { IsUntidy (P.state device.old) self.old start }
         requires few { length (P.state device.old).events ≤ 11 }
@@ -252,6 +263,7 @@ impl Volatile {
 }
 
 // One block less lives in a slab.
+#[tactic(auto, using(crate::proofs::LiveSlabs::one_less))]
 fn lower(lives: &mut SlabLives, start: u32)
     requires { (words : List ℕ) × HaveOneMore lives.old words start }
     ensures { (words : List ℕ) → HaveOneMore lives.old words start → AreLivesOf lives.new words }
@@ -260,6 +272,7 @@ fn lower(lives: &mut SlabLives, start: u32)
 }
 
 // An old block went: the blocks of its slab's class that overlap it and no other block that the slab holds are open again.
+#[tactic(auto, using(crate::proofs::HeldBlocks::slab_here))]
 fn open_covered<P: Pmem>(device: &P, supply: &mut BlockSupply, block: OldBlock)
     requires image { IsExactButImage (words_of (P.state device.now)) block.start }
     requires slab { (tables_of (words_of (P.state device.now))).slab block.start ≡ true }

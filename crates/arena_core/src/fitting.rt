@@ -15,6 +15,7 @@ use slab_lives::SlabLives;
 /// Of the slabs that are fit for a class, below 36, the one with the fewest live blocks, the lowest among equals. `None`
 /// exactly where none is. The candidates are looked at in this order, so a slab is read only where all before it are too
 /// full for a block of the class.
+#[tactic(auto, using(crate::proofs::BestSlabs::sparse_slab, crate::proofs::BestSlabs::first_sought, crate::proofs::BestSlabs::next_sought, crate::proofs::BestSlabs::smaller, heap_check::proofs::Sizes::sizes_of))]
 pub(crate) fn best_slab<P: Pmem>(device: &P, lives: &SlabLives, class: u8) -> Option<u32>
     requires exact { IsExactImage (words_of (P.state device.now)) }
     requires lives { AreLivesOf lives.now (words_of (P.state device.now)) }

@@ -11,7 +11,7 @@ use pool_layout::{PoolHeader, directory_at, fields_at, header_text, header_word,
 
 /// Stores the header line and makes it durable, in five events. The text comes last, and the line is one, so a crash
 /// leaves none of it that is good and incomplete.
-#[tactic(auto, unfolding(crate::specs::Events::format_events))]
+#[tactic(auto, using(pool_layout::proofs::Headers::header_fits), unfolding(crate::specs::Events::format_events))]
 pub(crate) fn write_header<P: Pmem>(device: &mut P, header: &PoolHeader)
     requires header { IsPoolHeader header.now }
     requires size { 8 ≤ length (words_of (P.state device.old)) }

@@ -3,6 +3,7 @@ ghost use Rattle.arena_core.specs.ByCall.{LawOfCrashes, LawOfOneWord, LawOfOneRe
 
 /// Whichever the call, a crash within it leaves a steady image, with the heap from before the call or from after it; and
 /// the root that the call speaks of, of a move the one that the block comes to, holds its word.
+#[tactic(auto, using(crate::proofs::ByCall::law_of_crashes))]
 pub fn law_of_crashes()
     ensures { LawOfCrashes }
 {}

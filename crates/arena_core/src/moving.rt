@@ -13,6 +13,7 @@ use pmem_lines::Pmem;
 
 impl Volatile {
     /// The block that moves, or why none does.
+    #[tactic(auto, using(crate::proofs::PayloadCalls::held_block_at))]
     pub(crate) fn plan_move<P: Pmem>(
         &self,
         device: &P,
@@ -43,6 +44,7 @@ impl Volatile {
     }
 
     /// Does what the plan of a move says, and answers the call. What stands beside the words stays, but for the line.
+    #[tactic(auto, using(crate::proofs::MovesCalls::movable, crate::proofs::Readiness::room_rules))]
     pub(crate) fn carry_out_move<P: Pmem>(
         &mut self,
         device: &mut P,

@@ -19,6 +19,7 @@ use pmem_lines::Pmem;
 
 impl Volatile {
     /// The block of a root, or why there is none.
+    #[tactic(auto, using(crate::proofs::PayloadCalls::held_block_at))]
     pub(crate) fn block_of<P: Pmem>(&self, device: &P, root: u32) -> Result<Block, BlockRefusal>
         requires arena { IsArena (P.state device.now) self.now }
         ensures { IsBlockPlan (words_of (P.state device.now)) root result }
@@ -84,6 +85,7 @@ pub(crate) fn carry_out_write<P: Pmem>(
 }
 
 // Writes words in a row from an address on: nothing where there are none.
+#[tactic(auto, using(crate::proofs::Readiness::room_rules))]
 fn write_words<P: Pmem>(device: &mut P, at: u32, words: &[u64])
     requires ready { IsReady (P.state device.old) }
     requires fresh { (P.state device.old).events ≡ [] }

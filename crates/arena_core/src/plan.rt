@@ -54,6 +54,7 @@ pub(crate) enum Held {
 impl Volatile {
     /// The place for a malloc of a seat, below 64, or why there is none. The block of a small place is taken out of the
     /// supply, and nothing else changes.
+    #[tactic(auto, using(heap_check::proofs::Sizes::sizes_of, crate::proofs::PlannedCalls::planned_found))]
     pub(crate) fn plan_malloc<P: Pmem>(
         &mut self,
         device: &P,
@@ -102,6 +103,7 @@ impl Volatile {
 
     // The place for a block of a class, below 36: a block that the supply gives the seat, or a slab that takes the class, or a
     // new slab at the best fit.
+    #[tactic(auto, using(crate::proofs::Plans::slab_few, crate::proofs::Plans::no_site_small))]
     fn small_place<P: Pmem>(&mut self, device: &P, seat: u32, class: u8) -> Option<Place>
         requires arena { IsArena (P.state device.now) self.old }
         requires seat { seat < 64 }
@@ -143,6 +145,7 @@ impl Volatile {
     }
 
     /// What a root names, if anything.
+    #[tactic(auto, using(crate::proofs::Plans::root_in, crate::proofs::Plans::takable_outside))]
     pub(crate) fn held_by<P: Pmem>(&self, device: &P, root: u32) -> Option<Held>
         requires arena { IsArena (P.state device.now) self.now }
         requires root { root < (layout_of (version_in (words_of (P.state device.now)))).roots }
@@ -164,6 +167,7 @@ impl Volatile {
 }
 
 // A place for so many granules, two at least: their best fit.
+#[tactic(auto, using(crate::proofs::Plans::no_site_large))]
 fn large_place(free: &ExtentIndex, granules: u32) -> Option<Place>
     requires { 2 ≤ granules }
     ensures { (words : List ℕ) → IsExactImage words → IsIndexOf free.now words → (root size : ℕ) → IsAskedOf (bounds_of words) (tables_of words) root size → 16384 < size → granules ≡ granules_of size → IsFound (bounds_of words) (tables_of words) root size result }
@@ -197,6 +201,7 @@ pub(crate) fn placed_small(block: SmallBlock, class: u8) -> Placed
 }
 
 // The block that begins at byte `at` of a slab, which a root names: an old one, or one of the slab's class.
+#[tactic(auto, using(crate::proofs::HeldBlocks::slab_here))]
 fn held_in<P: Pmem>(device: &P, slab: SlabAt, at: u32) -> Held
     requires exact { IsExactImage (words_of (P.state device.now)) }
     requires slab { IsSlabAt (tables_of (words_of (P.state device.now))) slab.start slab.class }
@@ -243,6 +248,7 @@ pub(crate) fn freed_of(held: Held) -> Freed
 }
 
 // How many granules the large extent has that starts at a granule.
+#[tactic(auto, using(heap_check::proofs::LargeLogs::next_large))]
 fn granules_at(log: &BookLog, start: u32) -> u32
     ensures { (words : List ℕ) → IsBookOf log.now words → 0 < (tables_of words).large start → result ≡ (tables_of words).large start }
 {
@@ -253,6 +259,7 @@ fn granules_at(log: &BookLog, start: u32) -> u32
 }
 
 /// The word of a root: the address of its block, or 0.
+#[tactic(auto, using(crate::proofs::Plans::root_is, heap_check::proofs::Sizes::sizes_of))]
 pub(crate) fn root_word<P: Pmem>(device: &P, root: u32) -> u32
     requires exact { IsExactImage (words_of (P.state device.now)) }
     requires root { root < (layout_of (version_in (words_of (P.state device.now)))).roots }

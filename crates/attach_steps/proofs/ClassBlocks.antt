@@ -1,10 +1,6 @@
 -- A block of its slab's class comes or goes: what the whole sequence leaves, and a crash within it.
-use Rattle.std.proofs.Common.{◌≡◌, ◌*◌, ◌/◌, ◌%◌, ℕ, ◌<◌, Bool, true, false, List, length, refl, sym, ap, subst, ◌∙◌, arith, inl, inr, Some, None}
-use Rattle.attach_steps.proofs.Common.{word_at, reading, PmemState, IsQuietStep, word_events, pair_events, IsOldOrNewPair, root_word, wal_word, Tables, bitmap_word, tables_of, put_in, with_root, put_in-twice, put_in-own, with_bit, PutsBitOver, entry_word, Opens, OpensOrNot, Closes, ClosesOrNot, IsDoneSlab, bounds_of, IsEitherHeap, sizes_of, IsOneBlock, entry_for, bit_word, bit_put, under_entry}
-use Rattle.size_classes.specs.Classes.{class_size}
-use Rattle.image_tables.specs.declared.entry.WalEntry.TheVariants.{Place}
-use Rattle.image_tables.specs.Updates.{put_bit}
-use Rattle.attach_wal.proofs.Words.{IsWalWord-entry}
+use Rattle.std.proofs.Common.{◌≡◌, ◌*◌, ℕ, ◌<◌, Bool, true, false, List, refl, sym, ap, ◌∙◌, arith, inl, inr, Some, None}
+use Rattle.attach_steps.proofs.Common.{reading, PmemState, IsQuietStep, word_events, IsOldOrNewPair, root_word, wal_word, Tables, tables_of, put_in, put_in-twice, put_in-own, PutsBitOver, entry_word, Opens, OpensOrNot, Closes, ClosesOrNot, IsDoneSlab, bounds_of, IsEitherHeap, sizes_of, entry_for, bit_word, bit_put, class_size, IsWalWord-entry}
 use Rattle.heap_model.specs.Machine.{slab_block}
 use Rattle.heap_check.proofs.Forms.{IsFormed-put_bitmap}
 use Rattle.heap_check.proofs.Geometry.{number_few}
@@ -12,14 +8,8 @@ use Rattle.heap_check.proofs.Small.{IsSmallPlace, IsOneBlock-small}
 use Rattle.heap_check.proofs.SmallPlaces.{clear_unused, calm_but, IsSmallPlace-unused, IsSmallPlace-named}
 use Rattle.attach_steps.specs.declared.block.SmallBlock.{SmallBlock}
 use Rattle.attach_steps.specs.Steps.{mark_events, unmark_events, attach_events, detach_events, IsBlockIn, IsAttachable, IsDetachable, IsAttached, IsDetached}
-use Rattle.attach_steps.proofs.Pairs.{opened_word}
+use Rattle.attach_steps.proofs.Sequences.{opened_word, PutsOver, with_none, with_both, heap_none, heap_some, Leads, comes, goes, marks, unmarks, ends, exact_but, exact_end, gives_end, sequence_step}
 use Rattle.attach_steps.proofs.Stages.{Site, tables_with, IsSite, IsStageOf, stage_begin, stage_header, made_slab, made_low, few_entries}
-use Rattle.attach_steps.proofs.Crashes.{PutsOver, with_none, with_both, heap_none, heap_some}
-use Rattle.attach_steps.proofs.Sequences.{Leads, comes, goes, marks, unmarks, ends, exact_but, exact_end, gives_end, sequence_step}
-
--- a bit is put over any words that have the same word there
-pub PutsBitOver-same : (words made : List ℕ) (start i : ℕ) (on : Bool) → length made ≡ length words → word_at made (bitmap_word start i) ≡ word_at words (bitmap_word start i) → PutsBitOver made start i on → PutsBitOver words start i on
-PutsBitOver-same words made start i on size word over = grind arith
 
 -- its place: the word with its bit, and the entry of its root
 abbrev pub class_site : Tables → ℕ → SmallBlock → Site
@@ -50,8 +40,7 @@ module _ (words : List ℕ) (root : ℕ) (block : SmallBlock) (block_in : IsBloc
       let sizes = sizes_of words block_in.image.formed in
       record {
         formed = block_in.image.formed;
-        one = subst (λ a. IsOneBlock (bounds_of words) t (λ on. put_in t.bit block.start block.number on) (λ on. t.live) (Place root a false 0) root block.start (record { at = a; size = class_size (t.class block.start) })) (sym block_in.at)
-            (IsOneBlock-small place);
+        one = rw block_in.at (IsOneBlock-small place);
         rooted = block_in.rooted;
         low = omega arith;
         high = omega (arith, number_low);
@@ -61,18 +50,14 @@ module _ (words : List ℕ) (root : ℕ) (block : SmallBlock) (block_in : IsBloc
 
   module _ (line : ℕ) (line_below : line < 8) (is : IsSite words root (class_site (tables_of words) root block)) where
     -- the bit is put over any words of a stage
-    pub puts_over : (made : List ℕ) (on : Bool) → PutsBitOver made block.start block.number on → PutsOver words line root (class_site (tables_of words) root block) is line_below made (bit_put made block on) on
+    pub puts_over : (made : List ℕ) (on : Bool) → PutsBitOver made block.start block.number on → PutsOver is line_below made (bit_put made block on) on
     puts_over made new_on over = record {
       each = λ on word image size same stage.
-          let e = Some (entry_for root block) in
           let value = bit_put made block new_on in
           let puts = over.each image size same in
-          let low = made_low words line root (class_site t root block) is line_below on word e image stage in
-          stage_header words line root (class_site t root block) is line_below on word e image stage new_on value
-          (IsFormed-put_bitmap image block.start block.number value stage.formed low number_low (few_entries words line root (class_site t root block) is line_below on word e image stage))
-          (puts.tables stage.slabs (made_slab words line root (class_site t root block) is line_below on word e image stage)
-          ∙ ap (λ (x : Tables). put_bit x block.start block.number new_on) stage.tables
-          ∙ ap (λ (bits : ℕ → ℕ → Bool). record (with_root t root word) { bit = bits; open_entry = e }) (put_in-twice t.bit block.start block.number on new_on));
+          stage_header is line_below stage new_on value
+          (IsFormed-put_bitmap image block.start block.number value stage.formed (made_low is line_below stage) number_low (few_entries is line_below stage))
+          (let tables = puts.tables stage.slabs (made_slab is line_below stage) in grind (arith, put_in-twice));
     }
 
 module _ {words : List ℕ} {line root : ℕ} {block : SmallBlock} (block_in : IsBlockIn words root block) (line_below : line < 8) (is : IsSite words root (class_site (tables_of words) root block)) where
@@ -82,7 +67,7 @@ module _ {words : List ℕ} {line root : ℕ} {block : SmallBlock} (block_in : I
   -- at the begin
   class_begins : (on : Bool) (word : ℕ) → (tables_of words).bit block.start block.number ≡ on → (tables_of words).root root ≡ word → IsStageOf words line root site on word None words
   class_begins on word bit named =
-      stage_begin words line root site is line_below on word (ap (put_in (tables_of words).bit block.start block.number) (sym bit) ∙ put_in-own (tables_of words).bit block.start block.number) refl named
+      stage_begin is line_below on word (ap (put_in (tables_of words).bit block.start block.number) (sym bit) ∙ put_in-own (tables_of words).bit block.start block.number) refl named
 
   -- the slab has no transition to end
   lively : (on : Bool) (word : ℕ) → ¬ (IsDoneSlab (tables_with words root site on word None) block.start)
@@ -107,14 +92,13 @@ module _ {words : List ℕ} {line root : ℕ} {block : SmallBlock} (may : IsAtta
 
     pub attached : IsAttached words line root block new
     attached =
-        let site = class_site (tables_of words) root block in
-        let both = with_both words line root site coming line_below in
+        let both = with_both coming line_below in
         let closed = ends coming line_below (comes coming line_below) coming_begins opens marked closes in
         record {
           exact = exact_end coming line_below both closed (lively may.block_in line_below coming true block.at) (inl refl);
           bounds = closed.bounds;
           tables = closed.tables;
-          gives = gives_end coming line_below both closed _ (heap_some words line root site coming line_below true block.at None new both closed refl ∙ class_block words root block may.block_in);
+          gives = gives_end coming line_below both closed _ (heap_some coming line_below both closed refl ∙ class_block words root block may.block_in);
           rest = closed.rest;
         }
 
@@ -122,10 +106,9 @@ module _ {words : List ℕ} {line root : ℕ} {block : SmallBlock} (may : IsAtta
         IsQuietStep t u (mark_events made root block) (IsOldOrNewPair made (8 * bit_word block) (bit_put made block true) (8 * root_word root) block.at) →
         IsQuietStep u v (word_events (8 * wal_word line) 0) (ClosesOrNot left line) → IsQuietStep s v (attach_events words line root block) (IsEitherHeap words new)
     attach_step {s} {t} {u} {v} opening putting closing =
-        let site = class_site (tables_of words) root block in
-        subst (λ w. IsQuietStep s v (under_entry line (entry_for root block) (pair_events (8 * bit_word block) w (8 * root_word root) block.at)) (IsEitherHeap words new))
-        (ap (λ w. with_bit w (block.number / 8 % 64) true) (opened_word words line root site coming line_below made opens))
-        (sequence_step coming line_below (comes coming line_below) coming_begins opens marked closes opening putting closing)
+        let step = sequence_step coming line_below (comes coming line_below) coming_begins opens marked closes opening putting closing in
+        let same = opened_word coming line_below made opens in
+        grind arith
 
 -- it goes from its root
 module _ {words : List ℕ} {line root : ℕ} {block : SmallBlock} (may : IsDetachable words root block) (line_below : line < 8) where
@@ -141,15 +124,14 @@ module _ {words : List ℕ} {line root : ℕ} {block : SmallBlock} (may : IsDeta
 
     pub detached : IsDetached words line root block new
     detached =
-        let site = class_site (tables_of words) root block in
-        let none = with_none words line root site going line_below in
+        let none = with_none going line_below in
         let closed = ends going line_below (goes going line_below) (class_begins may.block_in line_below going true block.at may.set may.named) opens unmarked closes in
         record {
           image = exact_but going line_below none closed;
           exact = λ other. exact_end going line_below none closed (lively may.block_in line_below going false 0) (inr other);
           bounds = closed.bounds;
           tables = closed.tables;
-          gives = gives_end going line_below none closed None (heap_none words line root site going line_below false 0 None new none closed refl);
+          gives = gives_end going line_below none closed None (heap_none going line_below none closed refl);
           rest = closed.rest;
         }
 
@@ -157,7 +139,6 @@ module _ {words : List ℕ} {line root : ℕ} {block : SmallBlock} (may : IsDeta
         IsQuietStep t u (unmark_events made root block) (IsOldOrNewPair made (8 * root_word root) 0 (8 * bit_word block) (bit_put made block false)) →
         IsQuietStep u v (word_events (8 * wal_word line) 0) (ClosesOrNot left line) → IsQuietStep s v (detach_events words line root block) (IsEitherHeap words new)
     detach_step {s} {t} {u} {v} opening putting closing =
-        let site = class_site (tables_of words) root block in
-        subst (λ w. IsQuietStep s v (under_entry line (entry_for root block) (pair_events (8 * root_word root) 0 (8 * bit_word block) w)) (IsEitherHeap words new))
-        (ap (λ w. with_bit w (block.number / 8 % 64) false) (opened_word words line root site going line_below made opens))
-        (sequence_step going line_below (goes going line_below) (class_begins may.block_in line_below going true block.at may.set may.named) opens unmarked closes opening putting closing)
+        let step = sequence_step going line_below (goes going line_below) (class_begins may.block_in line_below going true block.at may.set may.named) opens unmarked closes opening putting closing in
+        let same = opened_word going line_below made opens in
+        grind arith

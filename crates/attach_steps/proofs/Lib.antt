@@ -1,7 +1,5 @@
 pub mod Common
 pub mod Stages
-pub mod Crashes
-pub mod Pairs
 pub mod Sequences
 pub mod ClassBlocks
 pub mod OldBlocks

@@ -1,19 +1,14 @@
 -- An old block goes from its root: what the whole sequence leaves, and a crash within it.
-use Rattle.std.proofs.Common.{◌≡◌, ◌*◌, ℕ, ◌<◌, true, false, List, length, refl, sym, ap, subst, ◌∙◌, arith, inr, Some, None}
-use Rattle.attach_steps.proofs.Common.{reading, PmemState, IsQuietStep, word_events, IsOldOrNewPair, root_word, wal_word, WalEntry, Tables, index_word, tables_of, put_in, with_root, put_in-twice, put_in-own, PutsIndexOver, entry_word, Opens, OpensOrNot, Closes, ClosesOrNot, IsDoneSlab, bounds_of, IsEitherHeap, index_count_few, sizes_of, IsOneBlock}
+use Rattle.std.proofs.Common.{◌≡◌, ◌*◌, ℕ, ◌<◌, true, false, List, length, refl, sym, ap, subst, ◌∙◌, arith, inr, None}
+use Rattle.attach_steps.proofs.Common.{reading, PmemState, IsQuietStep, word_events, IsOldOrNewPair, root_word, wal_word, WalEntry, Tables, index_word, tables_of, put_in, put_in-twice, put_in-own, PutsIndexOver, entry_word, Opens, OpensOrNot, Closes, ClosesOrNot, bounds_of, IsEitherHeap, index_count_few, sizes_of, class_size, IsWalWord-entry}
 use Rattle.pmem_lines.proofs.Words.{word_at-put_same}
-use Rattle.size_classes.specs.Classes.{class_size}
-use Rattle.image_tables.specs.declared.entry.WalEntry.TheVariants.{Place}
 use Rattle.image_tables.specs.Forms.{IsIndexWord}
-use Rattle.image_tables.specs.Updates.{put_index}
-use Rattle.attach_wal.proofs.Words.{IsWalWord-entry}
 use Rattle.heap_check.proofs.IndexForms.{IsFormed-put_index}
 use Rattle.heap_check.proofs.OldBlock.{IsOldPlace, IsOneBlock-old}
 use Rattle.attach_steps.specs.declared.block.OldBlock.{OldBlock}
 use Rattle.attach_steps.specs.Steps.{old_entry_for, dead_put, bury_events, detach_old_events, IsOldDetachable, IsOldDetached}
 use Rattle.attach_steps.proofs.Stages.{Site, IsSite, IsStageOf, stage_begin, stage_header, made_slab, made_low, header_inside}
-use Rattle.attach_steps.proofs.Crashes.{PutsOver, with_none, heap_none}
-use Rattle.attach_steps.proofs.Sequences.{Leads, goes, unmarks, ends, exact_but, exact_end, gives_end, sequence_step}
+use Rattle.attach_steps.proofs.Sequences.{PutsOver, with_none, heap_none, Leads, goes, unmarks, ends, exact_but, exact_end, gives_end, sequence_step}
 
 -- its place: the word of its index entry, and the entry of its root
 abbrev pub old_site : Tables → ℕ → OldBlock → Site
@@ -42,20 +37,10 @@ module _ {words : List ℕ} {line root : ℕ} {block : OldBlock} (may : IsOldDet
   pub IsSite-old : IsSite words root (old_site (tables_of words) root block)
   IsSite-old =
       let sizes = sizes_of words may.image.formed in
-      let place : IsOldPlace (bounds_of words) t root block.start block.place = record {
-        but = may.image.but;
-        first = omega (arith, sizes.first);
-        rooted = may.rooted;
-        slab = may.slab;
-        kind = may.kind;
-        below = may.below;
-        live = may.live;
-        named = may.named ∙ may.at;
-      } in
+      let place : IsOldPlace (bounds_of words) t root block.start block.place = grind arith in
       record {
         formed = may.image.formed;
-        one = subst (λ a. IsOneBlock (bounds_of words) t (λ on. t.bit) (λ on. put_in t.live block.start block.place on) (Place root a true block.place) root block.start (record { at = a; size = class_size (t.old block.start) })) (sym may.at)
-            (IsOneBlock-old place);
+        one = rw may.at (IsOneBlock-old place);
         rooted = may.rooted;
         low = omega arith;
         high = omega (arith, place_low);
@@ -65,27 +50,20 @@ module _ {words : List ℕ} {line root : ℕ} {block : OldBlock} (may : IsOldDet
 
   -- the index entry is put over any words of a stage
   puts_over : (made : List ℕ) → length made ≡ length words → PutsIndexOver made block.start block.place (record { live = false; number = t.number block.start block.place }) →
-      PutsOver words line root site IsSite-old line_below made (dead_put t block.start block.place) false
+      PutsOver IsSite-old line_below made (dead_put t block.start block.place) false
   puts_over made long over = record {
     each = λ on word image size same stage.
-        let e = Some own in
         let value = dead_put t block.start block.place in
         let puts = over.each image size in
-        let inside : index_word block.start block.place < length image = omega (arith, header_inside words line root site IsSite-old line_below, size, long, place_low) in
+        let inside : index_word block.start block.place < length image = omega (arith, header_inside IsSite-old line_below, size, long, place_low) in
         let form : IsIndexWord value = subst IsIndexWord (word_at-put_same image (index_word block.start block.place) (index_word block.start block.place) value refl inside) puts.says.form in
-        stage_header words line root site IsSite-old line_below on word e image stage false value
-        (IsFormed-put_index image block.start block.place value stage.formed (made_low words line root site IsSite-old line_below on word e image stage) place_low inside form)
-        (puts.tables stage.slabs (made_slab words line root site IsSite-old line_below on word e image stage)
-        ∙ ap (λ (x : Tables). put_index x block.start block.place false (t.number block.start block.place)) stage.tables
-        ∙ (λ i. record (with_root t root word) {
-          live = put_in-twice t.live block.start block.place on false i;
-          number = put_in-own t.number block.start block.place i;
-          open_entry = e;
-        }));
+        stage_header IsSite-old line_below stage false value
+        (IsFormed-put_index image block.start block.place value stage.formed (made_low IsSite-old line_below stage) place_low inside form)
+        (let tables = puts.tables stage.slabs (made_slab IsSite-old line_below stage) in grind (arith, put_in-twice, put_in-own));
   }
 
   begins : IsStageOf words line root site true block.at None words
-  begins = stage_begin words line root site IsSite-old line_below true block.at refl (ap (put_in t.live block.start block.place) (sym may.live) ∙ put_in-own t.live block.start block.place) may.named
+  begins = stage_begin IsSite-old line_below true block.at refl (ap (put_in t.live block.start block.place) (sym may.live) ∙ put_in-own t.live block.start block.place) may.named
 
   module _ {made left new : List ℕ} (opens : Opens words line (old_entry_for root block.at block.place) made) (long : length made ≡ length words)
       (over : PutsIndexOver made block.start block.place (record { live = false; number = (tables_of words).number block.start block.place }))
@@ -95,14 +73,14 @@ module _ {words : List ℕ} {line root : ℕ} {block : OldBlock} (may : IsOldDet
 
     pub detached_old : IsOldDetached words line root block new
     detached_old =
-        let none = with_none words line root site IsSite-old line_below in
+        let none = with_none IsSite-old line_below in
         let closed = ends IsSite-old line_below (goes IsSite-old line_below) begins opens leads closes in
         record {
           image = exact_but IsSite-old line_below none closed;
-          exact = λ other lively. exact_end IsSite-old line_below none closed (λ done. lively (subst (λ (x : Tables). IsDoneSlab x block.start) (sym closed.tables) done)) (inr other);
+          exact = λ other lively. exact_end IsSite-old line_below none closed (λ done. lively (rw closed.tables done)) (inr other);
           bounds = closed.bounds;
           tables = closed.tables;
-          gives = gives_end IsSite-old line_below none closed None (heap_none words line root site IsSite-old line_below false 0 None new none closed refl);
+          gives = gives_end IsSite-old line_below none closed None (heap_none IsSite-old line_below none closed refl);
           rest = closed.rest;
         }
 

@@ -1,6 +1,6 @@
 -- A block of a slab comes or goes with its root's word: the image at each of the stores.
 use Rattle.std.proofs.Common.{◌≡◌, ◌≢◌, ◌⊎◌, ℕ, ◌+◌, ◌*◌, ◌<◌, ◌≤◌, Bool, true, List, length, refl, sym, ap, subst, ◌∙◌, arith, inl, inr, Option, Some, None}
-use Rattle.attach_steps.proofs.Common.{put_word, word_at-put_other, length-put_word, root_word, wal_word, WalEntry, Tables, tables_of, with_root, HasNoMove, entry_word, Opens, Closes, Bounds, Range, bounds_of, index_count_few, sizes_of, IsOneBlock}
+use Rattle.attach_steps.proofs.Common.{put_word, word_at-put_other, length-put_word, root_word, wal_word, WalEntry, Tables, tables_of, HasNoMove, entry_word, Opens, Closes, Bounds, Range, bounds_of, index_count_few, sizes_of, IsOneBlock, slab_table}
 use Rattle.pool_layout.specs.Layout.{layout_of}
 use Rattle.pool_layout.specs.Header.{version_in}
 use Rattle.image_tables.specs.Forms.{IsWalWord}
@@ -10,7 +10,7 @@ use Rattle.image_tables.proofs.Updates.{put_at-twice, put_at-own}
 use Rattle.image_tables.proofs.Extents.{extent_at-elsewhere}
 use Rattle.image_tables.proofs.Headers.{IsSameOffHeader-put, is_slab-off_header}
 use Rattle.image_tables.proofs.Stores.{few_lines, closed_words, HasNoMove-closed, held_of-plain, roots_plain, extent_at-put_root, wal_word-put_root, IsOffLog-wal, tables_put_root}
-use Rattle.image_tables.proofs.Tables.{slab_table, slab_fields}
+use Rattle.image_tables.proofs.Tables.{slab_fields}
 use Rattle.attach_wal.specs.Wal.{HasNoOther}
 use Rattle.heap_check.specs.Sound.{IsSound}
 use Rattle.heap_check.specs.Image.{IsFormed}
@@ -58,7 +58,7 @@ pub record IsStageOf (words : List ℕ) (line root : ℕ) (site : Site) (on : Bo
 abbrev pub IsOneOf : ℕ → ℕ → Site → ℕ → Type 0
 IsOneOf line root site k = (k ≡ wal_word line) ⊎ ((k ≡ site.k) ⊎ (k ≡ root_word root))
 
-module _ (words : List ℕ) (line root : ℕ) (site : Site) (is : IsSite words root site) (line_below : line < 8) where
+module _ {words : List ℕ} {line root : ℕ} {site : Site} (is : IsSite words root site) (line_below : line < 8) where
   abbrev t : Tables
   t = tables_of words
 
@@ -100,22 +100,19 @@ module _ (words : List ℕ) (line root : ℕ) (site : Site) (is : IsSite words r
   stage_begin on word bits lives named = grind (arith, AreSlabsInHeap-sound, sound, closed_words, put_at-own, plain_roots)
 
   -- one store of the sequence
-  pub stage_put : (on new_on : Bool) (word new_word : ℕ) (entry new_entry : Option WalEntry) (made : List ℕ) (k value : ℕ) → IsStageOf words line root site on word entry made → IsOneOf line root site k →
+  pub stage_put : {on new_on : Bool} {word new_word : ℕ} {entry new_entry : Option WalEntry} {made : List ℕ} (k value : ℕ) → IsStageOf words line root site on word entry made → IsOneOf line root site k →
       IsFormed (put_word made k value) → ((other : ℕ) → is_slab (put_word made k value) other ≡ is_slab made other) → HasNoOther (put_word made k value) line → HasNoMove new_entry →
       tables_of (put_word made k value) ≡ tables_with words root site new_on new_word new_entry →
       IsStageOf words line root site new_on new_word new_entry (put_word made k value)
-  stage_put on new_on word new_word entry new_entry made k value stage one well slab_is alone plain tables = grind (arith, bounds_of-put_word, length-put_word, word_at-put_other, start_low)
+  stage_put {on} {new_on} {word} {new_word} {entry} {new_entry} {made} k value stage one well slab_is alone plain tables = grind (arith, bounds_of-put_word, length-put_word, word_at-put_other, start_low)
 
-  module _ (on : Bool) (word : ℕ) (entry : Option WalEntry) (made : List ℕ) (stage : IsStageOf words line root site on word entry made) where
-    made_size : length made ≡ length words
-    made_size = stage.rest.same_length
-
+  module _ {on : Bool} {word : ℕ} {entry : Option WalEntry} {made : List ℕ} (stage : IsStageOf words line root site on word entry made) where
     -- a write-ahead word is stored
     wal_stage : (value : ℕ) (new_entry : Option WalEntry) → (value ≢ 0 → IsWalWord value) → HasNoMove new_entry → tables_of (put_word made (wal_word line) value) ≡ tables_with words root site on word new_entry →
         IsStageOf words line root site on word new_entry (put_word made (wal_word line) value)
     wal_stage value new_entry valid plain tables =
-        stage_put on on word word entry new_entry made (wal_word line) value stage (inl refl)
-        (IsFormed-put_wal made line value stage.formed line_one stage.slabs stage.alone.closed valid (omega (arith, wal_inside, made_size)))
+        stage_put (wal_word line) value stage (inl refl)
+        (IsFormed-put_wal made line value stage.formed line_one stage.slabs stage.alone.closed valid (omega (arith, wal_inside, stage.rest.same_length)))
         (λ other. ap is_slab_of (extent_at-elsewhere made (wal_word line) value other (IsOffLog-wal made line line_one)))
         (record { closed = λ other below apart. word_at-put_other made (wal_word line) (wal_word other) value (λ e. apart (omega (arith, e))) ∙ stage.alone.closed other below apart })
         plain tables
@@ -127,22 +124,13 @@ module _ (words : List ℕ) (line root : ℕ) (site : Site) (is : IsSite words r
     -- the entry is open
     pub stage_open : (image : List ℕ) → entry ≡ None → Opens made line site.own image → IsStageOf words line root site on word (Some site.own) image
     stage_open image closed opens =
-        subst (λ (ws : List ℕ). IsStageOf words line root site on word (Some site.own) ws) (sym opens.is)
-        (wal_stage (entry_word site.own) (Some site.own) (λ some. is.valid) is.plain
-        (ap (λ (ws : List ℕ). tables_of ws) (sym opens.is)
-        ∙ opens.tables stage.slabs (ap (λ (x : Tables). x.open_entry) stage.tables ∙ closed)
-        ∙ ap (λ (x : Tables). with_open_entry x (Some site.own)) stage.tables
-        ∙ entry_stage (Some site.own) is.plain))
+        let tables = opens.tables stage.slabs (ap (λ (x : Tables). x.open_entry) stage.tables ∙ closed) in
+        rw opens.is (wal_stage (entry_word site.own) (Some site.own) (λ some. is.valid) is.plain (cc (opens.is, tables, stage.tables, entry_stage (Some site.own) is.plain)))
 
     -- the entry is closed
     pub stage_close : (image : List ℕ) → Closes made line image → IsStageOf words line root site on word None image
     stage_close image closes =
-        subst (λ (ws : List ℕ). IsStageOf words line root site on word None ws) (sym closes.is)
-        (wal_stage 0 None (λ some. absurd (some refl)) tt
-        (ap (λ (ws : List ℕ). tables_of ws) (sym closes.is)
-        ∙ closes.tables stage.slabs stage.alone
-        ∙ ap (λ (x : Tables). with_open_entry x None) stage.tables
-        ∙ entry_stage None tt))
+        rw closes.is (wal_stage 0 None (λ some. absurd (some refl)) tt (cc (closes.is, closes.tables stage.slabs stage.alone, stage.tables, entry_stage None tt)))
 
     pub made_slab : is_slab made site.start ≡ true
     made_slab = sym (slab_table made site.start) ∙ ap (λ (x : Tables). x.slab site.start) stage.tables ∙ slab
@@ -161,7 +149,7 @@ module _ (words : List ℕ) (line root : ℕ) (site : Site) (is : IsSite words r
     pub stage_header : (new_on : Bool) (value : ℕ) → IsFormed (put_word made site.k value) → tables_of (put_word made site.k value) ≡ tables_with words root site new_on word entry →
         IsStageOf words line root site new_on word entry (put_word made site.k value)
     stage_header new_on value well tables =
-        stage_put on new_on word word entry entry made site.k value stage (inr (inl refl)) well
+        stage_put site.k value stage (inr (inl refl)) well
         (λ other. is_slab-off_header made (put_word made site.k value) site.start other (IsSameOffHeader-put made site.start site.k value made_low is.low is.high))
         (record { closed = λ other below apart. word_at-put_other made site.k (wal_word other) value (λ e. omega (arith, e, start_low, is.low, few_lines, below)) ∙ stage.alone.closed other below apart })
         stage.plain tables
@@ -169,14 +157,11 @@ module _ (words : List ℕ) (line root : ℕ) (site : Site) (is : IsSite words r
     -- the root's word is stored
     pub stage_root : (value : ℕ) → IsStageOf words line root site on value entry (put_word made (root_word root) value)
     stage_root value =
-        let k = root_word root in
         let among : root < (layout_of (version_in made)).roots = subst (λ (b : Bounds). root < b.roots) (sym stage.bounds) is.rooted in
         let inside : root_word root < length made = root_inside made root stage.formed among in
-        stage_put on on word value entry entry made k value stage (inr (inr refl))
+        stage_put (root_word root) value stage (inr (inr refl))
         (IsFormed-put_root made root value stage.formed among inside stage.slabs)
         (λ other. ap is_slab_of (extent_at-put_root made root value other among))
         (record { closed = λ other below apart. wal_word-put_root made root value other below ∙ stage.alone.closed other below apart })
         stage.plain
-        (tables_put_root made root value among inside stage.slabs (subst HasNoMove (sym (ap (λ (x : Tables). x.open_entry) stage.tables)) stage.plain)
-        ∙ ap (λ (x : Tables). with_root x root value) stage.tables
-        ∙ (λ i. record t { bit = site.bits on; live = site.lives on; word = put_at-twice t.word root word value i; root = put_at-twice t.root root word value i; open_entry = entry }))
+        (grind (arith, tables_put_root, inside, put_at-twice))

@@ -21,6 +21,7 @@ use slab_header::{IndexEntry, put_index};
 /// Takes its block, a live old one of a slab that took another class, from a root, by 11 events: the entry is opened on a
 /// write-ahead line, from 0 to 7, the root's word becomes 0, the block's index entry is dead, the entry is closed. Every
 /// other root keeps its block. After a crash within it the image is steady, and the root has the block or none.
+#[tactic(auto, using(heap_check::proofs::Sizes::sizes_of, heap_check::proofs::Geometry::index_count_few))]
 pub fn detach_old<P: Pmem>(p: &mut P, line: u32, root: u32, block: OldBlock)
     requires line { line < 8 }
     requires detachable { IsOldDetachable (words_of (P.state p.old)) root block }

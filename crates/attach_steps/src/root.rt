@@ -13,6 +13,7 @@ use pool_layout::root_at;
 
 /// Stores a root's word, the first byte of its block or 0 for none, and makes it durable, in three events. Every other
 /// word is as before, and after a crash within it the root's is old or new.
+#[tactic(auto, using(durable_steps::proofs::Steps::word_step))]
 pub fn put_root<P: Pmem>(p: &mut P, root: u32, at: u32)
     requires root { root < 2 ^ 16 }
     requires inside { root_word root < length (words_of (P.state p.old)) }

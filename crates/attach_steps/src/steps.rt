@@ -17,6 +17,7 @@ use pool_layout::root_at;
 /// Gives a root, which has no block, an unused block of its slab's class, by 11 events: the entry is opened on a write-ahead
 /// line, from 0 to 7, the block's bit is set, the root gets the block's address, the entry is closed. Every other root
 /// keeps its block. After a crash within it the image is steady, and the root has the block or none.
+#[tactic(auto, using(heap_check::proofs::Sizes::sizes_of))]
 pub fn attach<P: Pmem>(p: &mut P, line: u32, root: u32, block: SmallBlock)
     requires line { line < 8 }
     requires attachable { IsAttachable (words_of (P.state p.old)) root block }
@@ -34,6 +35,7 @@ pub fn attach<P: Pmem>(p: &mut P, line: u32, root: u32, block: SmallBlock)
 /// Takes its block, one of its slab's class, from a root, by 11 events: the entry is opened on a write-ahead line, from 0 to
 /// 7, the root's word becomes 0, the block's bit is cleared, the entry is closed. Every other root keeps its block. After a
 /// crash within it the image is steady, and the root has the block or none.
+#[tactic(auto, using(heap_check::proofs::Sizes::sizes_of))]
 pub fn detach<P: Pmem>(p: &mut P, line: u32, root: u32, block: SmallBlock)
     requires line { line < 8 }
     requires detachable { IsDetachable (words_of (P.state p.old)) root block }

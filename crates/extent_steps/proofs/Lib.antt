@@ -2,4 +2,3 @@ pub mod Common
 pub mod Images
 pub mod Opening
 pub mod Dropping
-pub mod LargeDrops

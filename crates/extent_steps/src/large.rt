@@ -18,6 +18,7 @@ use pmem_lines::Pmem;
 /// Drops the large extent that begins at `start`, which no root holds: puts a Tomb for it into the log, behind the events
 /// that make room for it there, at most the `entry_events` of the version. No entry is open. Its granules are vacant then.
 /// The heap stays as it is, also after a crash within it, every block keeps its words, and nothing comes to be loose.
+#[tactic(auto, using(log_steps::proofs::Disjoint::disjoint_of, crate::proofs::Dropping::loose_lies, crate::proofs::Dropping::extent_gone))]
 pub fn drop_extent<P: Pmem>(p: &mut P, log: &mut BookLog, start: u32)
     requires loose { IsLooseExtent (words_of (P.state p.old)) start }
     requires book { IsBookOf log.old (words_of (P.state p.old)) }

@@ -19,6 +19,7 @@ use slab_header::make_slab;
 /// Makes a slab of a class, below 36, on the four granules from `start` on, which are vacant, and puts its extent into the
 /// log, behind the events that make room for it there: at most the `slab_events` of the version. No block of it is given
 /// out. The heap stays as it is, also after a crash within it, and every block keeps its words.
+#[tactic(auto, using(std::proofs::lemmas::Grind::common_steps, pool_layout::proofs::Layouts::layout_rules))]
 pub fn open_slab<P: Pmem>(p: &mut P, log: &mut BookLog, start: u32, class: u8)
     requires openable { IsOpenable (words_of (P.state p.old)) start }
     requires class { class < 36 }
@@ -52,6 +53,7 @@ fn make_header<P: Pmem>(p: &mut P, start: u32, class: u8)
 /// the events that make room for it there, at most the `entry_events` of the version. No entry is open. Its granules are
 /// vacant then. The heap stays as it is, also after a crash within it, every block keeps its words, and nothing else comes
 /// to be loose.
+#[tactic(auto, using(log_steps::proofs::Disjoint::disjoint_of, crate::proofs::Dropping::drop_lies))]
 pub fn drop_slab<P: Pmem>(p: &mut P, log: &mut BookLog, start: u32)
     requires droppable { IsDroppable (words_of (P.state p.old)) start }
     requires book { IsBookOf log.old (words_of (P.state p.old)) }

@@ -1,7 +1,7 @@
 -- A large extent and its root come and go: the words of the image at each stage.
 use Rattle.std.proofs.Common.{◌⊎◌, ◌≡◌, ◌≢◌, ℕ, ◌*◌, ◌<◌, ◌≤◌, List, length, sym, ap, subst, ◌∙◌, arith, ⊎_elim, Some, None}
-use Rattle.image_tables.specs.Tables.{AreSlabsInHeap, Tables, is_slab_of, tables_of}
-use Rattle.image_tables.specs.Updates.{with_root, put_at, HasNoMove}
+use Rattle.image_tables.specs.Tables.{AreSlabsInHeap, Tables, tables_of}
+use Rattle.image_tables.specs.Updates.{HasNoMove}
 use Rattle.image_tables.proofs.Updates.{put_at-twice, put_at-own}
 use Rattle.image_tables.proofs.Stores.{version_in-put_root, heap_word-put_root, extent_at-put_root, tables_put_root, roots_plain}
 use Rattle.heap_check.specs.Sound.{IsSteady, IsExact}
@@ -52,15 +52,10 @@ stage_root words root start here word made value stage below inside =
     record {
       formed = IsFormed-put_root made root value stage.formed among within stage.slabs;
       bounds = bounds_of-put_root made root value ∙ stage.bounds;
-      slabs = record {
-        low = λ other is. subst (λ v. (layout_of v).first_granule ≤ other) (sym (version_in-put_root made root value))
-            (stage.slabs.low other (sym (ap is_slab_of (extent_at-put_root made root value other among)) ∙ is));
-      };
+      slabs = grind (arith, version_in-put_root, extent_at-put_root);
       size = length-put_word made (root_word root) value ∙ stage.size;
       unmoved = stage.unmoved;
-      tables = tables_put_root made root value among within stage.slabs (subst HasNoMove (sym (ap (λ (s : Tables). s.open_entry) stage.tables)) stage.unmoved)
-          ∙ ap (λ (s : Tables). with_root s root value) stage.tables
-          ∙ (λ i. record t { large = put_at t.large start here; word = put_at-twice t.word root word value i; root = put_at-twice t.root root word value i });
+      tables = grind (arith, tables_put_root, put_at-twice);
       heap = λ k high. heap_word-put_root made root value k among (omega (arith, high, same_heap_word words made stage.bounds)) ∙ stage.heap k high;
     }
 
@@ -119,9 +114,7 @@ module _ {words : List ℕ} {root start count : ℕ} (exact : IsExactImage words
       block_in_heap : (r : ℕ) (range : Range) (k : ℕ) → heap (tables_of words) r ≡ Some range → IsWordOf range k → heap_word (version_in words) ≤ k
       block_in_heap r range k was lies =
           let within = IsWithin-claim place.sound r range (entry_at-none place r) (IsClaim-heap (tables_of words) r range (entry_at-none place r) was) in
-          let range_within = within.1 in
-          let starts = place.sound.starts within.0 (omega (arith, range_within.low, range_within.high, range_within.some)) in
-          omega (arith, range_within.low, starts.0, lies.low)
+          grind arith
 
   -- so a crash that leaves a stage, with the heap from before or with the new one, leaves one of the two
   pub either_stage : (new : List ℕ) (here word : ℕ) (image : List ℕ) → IsLargeStage start count here word → HaveSameHeap words image ⊎ HaveSameHeap new image → IsStageOf words root start here word image → IsEitherHeap words new image

@@ -1,5 +1,5 @@
 -- A live large extent of a well-formed log has two granules at least.
-use Rattle.std.proofs.Common.{◌≡◌, ◌<◌, ◌≤◌, ◌^◌, ℕ, List, Option, None, Some, ap, refl, sym, ◌∙◌, arith, MatchOption}
+use Rattle.std.proofs.Common.{◌≡◌, ◌<◌, ◌≤◌, ◌^◌, ℕ, List, Option, None, Some, ap, refl, arith, MatchOption}
 use Rattle.pool_layout.specs.Header.{granules_in}
 use Rattle.image_tables.specs.declared.extent.Extent.{Extent}
 use Rattle.image_tables.specs.declared.extent.Extent.TheVariants.{Large, Slab}
@@ -20,8 +20,7 @@ some_large (Some Slab) some = absurd (omega (arith, some))
 
 pub live_large : (words : List ℕ) (start : ℕ) → 0 < (tables_of words).large start → extent_at words start ≡ Some (Large ((tables_of words).large start))
 live_large words start some =
-    let is = large_table words start in
-    some_large (extent_at words start) (omega (arith, is, some)) ∙ ap (λ n. Some (Large n)) (sym is)
+    grind (arith, large_table, some_large)
 
 pub large_many : (words : List ℕ) (start : ℕ) → granules_in words < 2 ^ 16 → HasLog (granules_in words) words → 0 < (tables_of words).large start → 2 ≤ (tables_of words).large start
 large_many words start few log some =

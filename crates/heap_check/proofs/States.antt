@@ -17,7 +17,7 @@ use Rattle.heap_check.proofs.LiveBlocks.{one_class}
 use Rattle.heap_check.proofs.SmallPlaces.{apart_unused, Holds-claim}
 use Rattle.heap_check.proofs.LargeLogs.{large_many}
 use Rattle.std.proofs.lemmas.Bool.{cases_eq, cases_lt, cases_Bool, cond-true}
-use Rattle.size_classes.specs.Classes.{class_size, class_capacity}
+use Rattle.size_classes.specs.Classes.{class_capacity}
 use Rattle.image_tables.specs.Forms.{normal_kind, morphed_kind}
 use Rattle.image_tables.specs.Tables.{Tables, tables_of}
 use Rattle.image_tables.proofs.Tables.{root_table-past}
@@ -26,7 +26,7 @@ use Rattle.heap_model.specs.Below.{any_below}
 use Rattle.heap_model.specs.Step.{slabs_without, forgotten}
 use Rattle.heap_model.specs.Runs.{IsBestFit}
 use Rattle.heap_model.proofs.Maps.{with_key-other, with_key-is}
-use Rattle.heap_check.specs.Heap.{is_large, entry_at, heap, slabs, IsClaim, Holds, HoldsBit, HoldsOld, IsUnusedIn}
+use Rattle.heap_check.specs.Heap.{is_large, entry_at, heap, slabs, IsClaim, Holds, IsUnusedIn}
 use Rattle.heap_check.specs.Image.{bounds_of, IsExactImage}
 use Rattle.heap_check.specs.State.{HasState, KeepsBlocks}
 use Rattle.heap_check.proofs.Sizes.{sizes_of}
@@ -68,15 +68,7 @@ module _ {words : List ℕ} {m : Machine} (state : HasState words m) where
     values = λ other index word is.
         let kept = not_forgotten m.value root other index word is in
         let value = state.values other index word kept.1 in
-        let was = state.blocks other ∙ value.named in
-        record {
-          range = value.range;
-          named = with_key-other m.block root other block kept.0 ∙ value.named;
-          within = value.within;
-          here =
-              keeps.each other other value.range (value.range.at / 8 + index) was (others other kept.0 ∙ was) (record { low = omega arith; high = omega (arith, value.within) })
-              ∙ value.here;
-        };
+        grind (arith, with_key-other);
   }
 
 module _ {words : List ℕ} (image : IsExactImage words) {m : Machine} (state : HasState words m) where
@@ -105,8 +97,7 @@ module _ {words : List ℕ} (image : IsExactImage words) {m : Machine} (state : 
 
   -- a root whose word is not 0 names a block there
   pub named_at : (root at : ℕ) → (tables_of words).root root ≡ at → at ≢ 0 → m.block root ≡ Some (record { at = at; size = plain_size (tables_of words) at })
-  named_at root at is some = naming state root (record { at = at; size = plain_size t at })
-      (heap-some t root (unnamed root) (λ none. some (sym is ∙ none)) ∙ ap (λ at. Some (record { at = at; size = plain_size t at })) is)
+  named_at root at is some = grind (arith, naming, plain_size, heap-some, unnamed)
 
   -- a live large extent is the block of a root
   large_named : (start : ℕ) → 0 < t.large start → (root : ℕ) × (m.block root ≡ Some (record { at = 16384 * start; size = 16384 * t.large start }))
@@ -114,15 +105,7 @@ module _ {words : List ℕ} (image : IsExactImage words) {m : Machine} (state : 
       let rooted = image.exact.all_named start live in
       let is = rooted.1 in
       let whole : granules_at t start ≡ t.large start = granules_at-live sound start live in
-      let low = (sound.starts start (omega (arith, whole, live))).0 in
-      let some : t.root rooted.0 ≢ 0 = λ none. omega (arith, is, none, low, first) in
-      let large : is_large t.large (t.root rooted.0) ≡ true = subst (λ at. is_large t.large at ≡ true) (sym is) (is_large-start t.large start live) in (
-        rooted.0,
-        naming state rooted.0 (record { at = 16384 * start; size = 16384 * t.large start })
-            (heap-large t rooted.0 (unnamed rooted.0) some large
-            ∙ ap (λ at. Some (record { at = at; size = 16384 * t.large (at / 16384) })) is
-            ∙ ap (λ k. Some (record { at = 16384 * start; size = 16384 * t.large k })) (granule_of-start start)),
-      )
+      grind (arith, first, is_large-start, naming, heap-large, unnamed, granule_of-start)
 
   -- a granule that is free in the state is vacant
   free_is_vacant : (k : ℕ) → IsFreeGranule b m k → IsVacant b t k
@@ -136,10 +119,7 @@ module _ {words : List ℕ} (image : IsExactImage words) {m : Machine} (state : 
     no_block = λ root range named big meets.
         let within = IsWithin-claim sound root range (unnamed root) (claim root range named) in
         vacant.none within.0 (record { low = omega (arith, within.1.low, meets.begins); high = omega (arith, within.1.high, meets.ends) });
-    no_slab = λ start class slab. ⊎_elim
-        (λ inside. absurd (vacant.none start (Covers-slab t start k (slab_named state start class slab).0 inside.0 inside.1)))
-        (λ outside. outside)
-        (cases_run start 4 k);
+    no_slab = grind (arith, Covers-slab, slab_named, cases_run);
   }
 
   -- four vacant granules have room for a slab's blocks
@@ -188,9 +168,7 @@ module _ {words : List ℕ} (image : IsExactImage words) {m : Machine} (state : 
       slabs_without (bounds_of words) m root range s ≡ with_key m.slab start None s
   slabs_without-none root start range inside none = with_key-is m.slab (slabs_without b m root range) start None
       (slabs_leave b m root range start (record { range = range; named = refl; low = inside.low; high = inside.high }) (λ other below differ begins.
-      let word = block_word other begins.range begins.named in
-      let claimed = IsNamed-claim t other begins.range (unnamed other) (claim other begins.range begins.named) in
-      none other differ (λ zero. claimed.some (sym word ∙ zero)) (record { slab = inside.slab; low = omega (arith, word, begins.low); high = omega (arith, word, begins.high) })))
+      grind (arith, block_word, IsNamed-claim, unnamed, claim)))
       (λ s differ. slab_elsewhere root range s (λ there. differ (one_slab sound s start range.at there inside)))
 
   -- a block of a class in a slab is unused where the state says so
@@ -235,10 +213,7 @@ module _ {words : List ℕ} (image : IsExactImage words) {m : Machine} (state : 
         let own = slab_named state start moving.class moving.slab in
         let wide = IsWithin-claim sound moving.root moving.range (unnamed moving.root) (claim moving.root moving.range moving.named) in
         let holds = Holds-claim sound moving.root start moving.range (unnamed moving.root) (claim moving.root moving.range moving.named) (record { slab = slab; low = omega (arith, moving.lies.low); high = omega (arith, moving.lies.high, wide.1.some) }) in
-        ⊎_elim
-        (λ (bit : HoldsBit t start moving.range). moving.other (ap (λ (r : Range). r.size) bit.is ∙ ap class_size own.1))
-        (λ (old : HoldsOld t start moving.range). let none = ((sound.slabs start slab).state.none normal).1 in omega (arith, old.below, none))
-        holds.block,
+        grind arith,
   )
 
   -- the tables say what the state says

@@ -1,6 +1,5 @@
 -- In a sound image no two live extents share a granule.
-use Rattle.std.proofs.Common.{◌≡◌, ◌+◌, ◌<◌, ◌≤◌, ⊎_elim, ℕ, Some, List, arith}
-use Rattle.std.proofs.lemmas.Bool.{cases_lt}
+use Rattle.std.proofs.Common.{◌≡◌, ◌+◌, ◌<◌, ℕ, Some, List, arith}
 use Rattle.pool_layout.specs.Layout.{layout_of}
 use Rattle.pool_layout.specs.Header.{version_in, granules_in}
 use Rattle.image_tables.specs.declared.extent.Extent.{Extent}
@@ -26,13 +25,10 @@ granules_table words start extent is = grind (arith, granules_at-large, slab_tab
 pub disjoint_of : (words : List ℕ) → IsFormed words → IsSound (bounds_of words) (tables_of words) → AreDisjoint (extent_at words)
 disjoint_of words formed sound = record {
   each = λ start later x other less first second.
-      let live = live_of words formed in
-      let some = (live.each later other second).some in
+      let some = ((live_of words formed).each later other second).some in
       let one = granules_table words start x first in
       let two = granules_table words later other second in
-      ⊎_elim
-      (λ (meets : later < start + granules_of x).
-      absurd (omega (arith, less, sound.disjoint start later later (record { low = omega arith; high = omega (arith, meets, one) }) (record { low = omega arith; high = omega (arith, some, two) }))))
-      (λ (past : start + granules_of x ≤ later). past)
-      (cases_lt later (start + granules_of x));
+      let same : later < start + granules_of x → start ≡ later =
+      λ meets. sound.disjoint start later later (record { low = omega (arith, less); high = omega (arith, meets, one) }) (record { low = omega arith; high = omega (arith, some, two) }) in
+      grind arith;
 }

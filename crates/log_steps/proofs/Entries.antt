@@ -1,11 +1,10 @@
 -- An entry is put into the log behind the events that make room for it.
-use Rattle.std.proofs.Common.{◌≡◌, ◌≢◌, ◌<◌, ◌≤◌, ◌+◌, ⊎_elim, inl, inr, ℕ, zero, suc, true≢false, cond, eqb, ltb, List, ◌++◌, length, refl, sym, ap, subst, ◌∙◌, arith, Option, Some, None, IsSome}
-use Rattle.std.proofs.lemmas.Bool.{cases_eq, cond-true, cond-false, eq-eqb, ne_eqb, lt-ltb, le-ltb}
+use Rattle.std.proofs.Common.{◌≡◌, ◌≢◌, ◌<◌, ◌≤◌, ◌+◌, ⊎_elim, inl, inr, ℕ, zero, suc, true≢false, List, ◌++◌, length, refl, sym, ap, ◌∙◌, arith, Option, Some, None, IsSome}
+use Rattle.std.proofs.lemmas.Bool.{cases_eq}
 use Rattle.pmem_lines.specs.Words.{word_at, put_word}
 use Rattle.pmem_lines.specs.Events.{reading}
 use Rattle.pmem_lines.proofs.Words.{word_at-put_other, length-put_word}
 use Rattle.pool_layout.specs.Layout.{layout_of}
-use Rattle.pool_layout.specs.Places.{entry_word}
 use Rattle.pool_layout.specs.Header.{version_in, granules_in}
 use Rattle.image_tables.specs.Extents.{extent_at}
 use Rattle.image_tables.proofs.Stores.{IsSameOffLog, version_in-off_log}
@@ -13,7 +12,7 @@ use Rattle.book_log.specs.declared.entry.LogEntry.{LogEntry}
 use Rattle.book_log.specs.declared.place.EntryPlace.{EntryPlace}
 use Rattle.book_log.specs.Entry.{log_word as word_of_entry}
 use Rattle.book_log.specs.Log.{logged, with_entry}
-use Rattle.book_log.specs.Book.{Book, HasLog, Reads, IsNextOf, IsInLog, IsEntryOrNot, last_chunk, place_word, append_events}
+use Rattle.book_log.specs.Book.{Book, HasLog, Reads, IsNextOf, IsInLog, IsEntryOrNot, place_word, append_events}
 use Rattle.book_log.specs.Live.{AreDisjoint}
 use Rattle.log_gc.specs.Room.{room_events, KeepsLog}
 use Rattle.log_gc.proofs.Booked.{room_most}
@@ -29,31 +28,22 @@ first_zero-none : (row : ℕ → ℕ) (n : ℕ) → ((i : ℕ) → i < n → row
 first_zero-none row zero none = refl
 first_zero-none row (suc n) none =
     let before : first_zero row n ≡ n = first_zero-none row n (λ i below. none i (omega arith)) in
-    cond-false (ltb (first_zero row n) n) (first_zero row n) (cond (eqb (row n) 0) n (suc n)) (le-ltb (first_zero row n) n (omega (arith, before)))
-    ∙ cond-false (eqb (row n) 0) n (suc n) (ne_eqb (row n) 0 (none n (omega arith)))
+    grind arith
 
 -- the first 0 of a row
 pub first_zero-is : (row : ℕ → ℕ) (n i : ℕ) → i < n → row i ≡ 0 → ((earlier : ℕ) → earlier < i → row earlier ≢ 0) → first_zero row n ≡ i
 first_zero-is row zero i below here first = absurd (omega arith)
 first_zero-is row (suc n) i below here first = ⊎_elim
-    (λ (last : i ≡ n).
-    let before : first_zero row n ≡ n = first_zero-none row n (λ k less. first k (omega (arith, last))) in
-    cond-false (ltb (first_zero row n) n) (first_zero row n) (cond (eqb (row n) 0) n (suc n)) (le-ltb (first_zero row n) n (omega (arith, before)))
-    ∙ cond-true (eqb (row n) 0) n (suc n) (eq-eqb (row n) 0 (ap row (sym last) ∙ here)) ∙ sym last)
-    (λ (other : i ≢ n).
-    let before : first_zero row n ≡ i = first_zero-is row n i (omega (arith, other)) here first in
-    cond-true (ltb (first_zero row n) n) (first_zero row n) (cond (eqb (row n) 0) n (suc n)) (lt-ltb (first_zero row n) n (omega (arith, before, other))) ∙ before)
+    (λ (last : i ≡ n). let before : first_zero row n ≡ n = first_zero-none row n (λ k less. first k (omega (arith, last))) in grind arith)
+    (λ (other : i ≢ n). let before : first_zero row n ≡ i = first_zero-is row n i (omega (arith, other)) here first in grind arith)
     (cases_eq i n)
 
 next_of : (words : List ℕ) (next : Option EntryPlace) → IsSome next → IsNextOf words next → place_word (version_in words) next ≡ next_entry_word words
 unfolding next_entry_word
 next_of words None some is = absurd (true≢false (sym some))
 next_of words (Some place) some is =
-    ap (λ chunk. entry_word (version_in words) chunk place.entry) is.0
-    ∙ ap (entry_word (version_in words) (last_chunk words))
-    (sym (first_zero-is (logged (version_in words) words (last_chunk words)) (layout_of (version_in words)).chunk_entries place.entry is.1.below
-    (ap (λ chunk. logged (version_in words) words chunk place.entry) (sym is.0) ∙ is.1.free)
-    (λ earlier before. subst (λ chunk. logged (version_in words) words chunk earlier ≢ 0) is.0 (is.1.first earlier before))))
+    let first = first_zero-is (logged (version_in words) words place.chunk) (layout_of (version_in words)).chunk_entries place.entry is.1.below is.1.free is.1.first in
+    grind arith
 
 -- the events
 
@@ -76,28 +66,22 @@ rest_then : (words made image : List ℕ) (k : ℕ) → KeepsRest words made →
     ((other : ℕ) → other ≢ k → word_at image other ≡ word_at made other) → HasLog (granules_in words) image → KeepsRest words image
 rest_then words made image k rest place size others log = grind (arith, version_in-off_log, off_log)
 
+-- with the entry the extents are those that they were without the room
+with_same : (granules : ℕ) (words made : List ℕ) (entry : LogEntry) → KeepsLog granules words made → (start : ℕ) → with_entry (extent_at made) entry start ≡ with_entry (extent_at words) entry start
+with_same granules words made entry keeps start = ap (λ f. with_entry f entry start) (λ i s. keeps.extents s i)
+
 -- room was made, and then the entry was put
-module _ (granules : ℕ) (words made : List ℕ) (k : ℕ) (entry : LogEntry) (same : granules ≡ granules_in words) (keeps : KeepsLog granules words made) (place : IsInLog (version_in made) k) where
+module _ {granules : ℕ} {words made : List ℕ} {k : ℕ} {entry : LogEntry} (same : granules ≡ granules_in words) (keeps : KeepsLog granules words made) (place : IsInLog (version_in made) k) where
   pub logged_then : (new : List ℕ) → new ≡ put_word made k (word_of_entry entry) → HasLog granules new → ((start : ℕ) → extent_at new start ≡ with_entry (extent_at made) entry start) → IsLogged words entry new
   logged_then new is log extents = record {
-    rest = rest_then words made new k (rest_made granules words made same keeps) place (ap length is ∙ length-put_word made k (word_of_entry entry))
-        (λ other apart. ap (λ (ws : List ℕ). word_at ws other) is ∙ word_at-put_other made k other (word_of_entry entry) apart)
-        (subst (λ n. HasLog n new) same log);
-    extents = λ start. extents start ∙ with_same start;
+    rest = rest_then words made new k (rest_made granules words made same keeps) place (grind (arith, length-put_word)) (λ other apart. grind (arith, word_at-put_other)) (rw (← same) log);
+    extents = λ start. extents start ∙ with_same granules words made entry keeps start;
   }
-    where
-      with_same : (start : ℕ) → with_entry (extent_at made) entry start ≡ with_entry (extent_at words) entry start
-      with_same start = ap (λ f. with_entry f entry start) (λ i s. keeps.extents s i)
 
   pub logged_or_not : (image : List ℕ) → IsEntryOrNot granules made k entry image → IsLoggedOrNot words entry image
   logged_or_not image either = record {
-    rest = rest_then words made image k (rest_made granules words made same keeps) place
-        (⊎_elim (λ old. ap length old) (λ new. ap length new ∙ length-put_word made k (word_of_entry entry)) either.is)
-        either.others (subst (λ n. HasLog n image) same either.log);
-    extents = ⊎_elim
-        (λ old. inl (λ start. old start ∙ keeps.extents start))
-        (λ new. inr (λ start. new start ∙ ap (λ f. with_entry f entry start) (λ i s. keeps.extents s i)))
-        either.extents;
+    rest = rest_then words made image k (rest_made granules words made same keeps) place (grind (arith, length-put_word)) either.others (rw (← same) either.log);
+    extents = ⊎_elim (λ old. inl (λ start. old start ∙ keeps.extents start)) (λ new. inr (λ start. new start ∙ with_same granules words made entry keeps start)) either.extents;
   }
 
 pub made_or_not : (granules : ℕ) (words : List ℕ) (entry : LogEntry) → granules ≡ granules_in words → (image : List ℕ) → KeepsLog granules words image → IsLoggedOrNot words entry image

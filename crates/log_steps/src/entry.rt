@@ -19,6 +19,7 @@ use pmem_lines::Pmem;
 /// Puts an entry into the log and makes it durable, behind the events that make room for it where the last active chunk
 /// is full: at most the `entry_events` of the version. Every word outside the log and its directory is as before, and the
 /// live extents are those with the entry done. After a crash within it they are that or as before.
+#[tactic(auto, using(crate::proofs::Entries::most_granules, crate::proofs::Entries::room_few))]
 pub fn log_entry<P: Pmem>(log: &mut BookLog, device: &mut P, entry: LogEntry)
     requires formed { IsFormed (words_of (P.state device.old)) }
     requires disjoint { AreDisjoint (extent_at (words_of (P.state device.old))) }

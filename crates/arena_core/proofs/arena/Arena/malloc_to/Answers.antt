@@ -2,9 +2,6 @@ use Rattle.arena_core.proofs.Answering.{answered_call}
 use Rattle.arena_core.proofs.PlannedCalls.{planned_begun, refused_plan}
 use Rattle.arena_core.proofs.arena.Arena.malloc_to.Goals as goal
 
-pub carry_out_place-requires-clause-planned : goal.carry_out_place-requires-clause-planned
-carry_out_place-requires-clause-planned g c = (c.self.inside.volatile, c.args.size, planned_begun (g.P.Pmem.state c.begin.new.self) c.begin.ensures.state c.in-Ok.is c.plan_malloc-plan.ensures)
-
 pub invariant_of-self : goal.invariant_of-self
 invariant_of-self g c = (c.carry_out_place.ensures c.self.inside.volatile c.args.size (planned_begun (g.P.Pmem.state c.begin.new.self) c.begin.ensures.state c.in-Ok.is c.plan_malloc-plan.ensures)).arena
 

@@ -1,5 +1,0 @@
-use Rattle.arena_core.proofs.ByCall.{law_of_crashes}
-use Rattle.arena_core.proofs.laws.law_of_crashes.Goals as goal
-
-pub returns : goal.returns
-returns c = law_of_crashes
