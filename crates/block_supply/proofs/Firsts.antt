@@ -1,15 +1,15 @@
 -- Where no block of a class was open and a slab of it came, a seat is given a block of that slab; of one that has all of its
 -- blocks it is the first.
-use Rattle.std.proofs.Common.{◌≡◌, ◌≢◌, ℕ, zero, suc, ◌*◌, ◌<◌, ◌≤◌, [], Option, Some, None, MatchOption, refl, sym, ap, ◌∙◌, subst, arith, ⊎_elim}
+use Rattle.std.proofs.Common.{◌≡◌, ◌≢◌, ℕ, zero, suc, ◌*◌, ◌<◌, ◌≤◌, [], Some, refl, sym, ap, ◌∙◌, subst, arith, ⊎_elim}
 use Rattle.std.proofs.lemmas.Bool.{cases_eq}
 use Rattle.size_classes.specs.Classes.{class_size, class_capacity}
 use Rattle.size_classes.proofs.Spacing.{class_size-least}
 use Rattle.heap_model.specs.Placement.{IsAvailable}
-use Rattle.heap_model.proofs.Maps.{with_key-here, with_key-other}
+use Rattle.heap_model.proofs.Maps.{with_key-other}
 use Rattle.slab_index.specs.declared.block.SlabBlock.{SlabBlock}
 use Rattle.slab_index.specs.SlabSet.{class_in}
 use Rattle.thread_cache.specs.Stacks.{stacks_of}
-use Rattle.block_supply.specs.Supply.{Supply, IsOpen, supply_view, HasSlabMore, TookBlock, HasNoOpen, HadNoOpen}
+use Rattle.block_supply.specs.Supply.{Supply, IsOpen, supply_view, HasSlabMore, TookBlock, HasNoOpen}
 use Rattle.block_supply.proofs.Addresses.{row_once}
 use Rattle.block_supply.proofs.Takes.{no_top, none_open}
 

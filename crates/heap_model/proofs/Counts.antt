@@ -1,5 +1,5 @@
 -- Live blocks of a slab, counted as a root is given a block, and what holds of each block of a state.
-use Rattle.std.proofs.Common.{◌≡◌, ◌≢◌, ◌<◌, ◌≤◌, ◌+◌, ℕ, zero, suc, Option, Some, None, if◌then◌else◌, refl, sym, ap, ◌∙◌, arith, subst, ⊎_elim, Bool, cond}
+use Rattle.std.proofs.Common.{◌≡◌, ◌≢◌, ◌<◌, ◌≤◌, ◌+◌, ℕ, zero, suc, Option, Some, None, if◌then◌else◌, refl, sym, ap, ◌∙◌, arith, ⊎_elim, Bool, cond}
 use Rattle.std.proofs.lemmas.Bool.{cases_eq, cases_Bool}
 use Rattle.heap_model.specs.Machine.{Range, Machine, with_key, no_heap}
 use Rattle.heap_model.specs.Choice.{Site, range_of}
@@ -18,9 +18,7 @@ pub live_below-with : (block : ℕ → Option Range) (s n root : ℕ) (range : R
 live_below-with block s zero root range below none = absurd (omega arith)
 live_below-with block s (suc n) root range below none = ⊎_elim
     (λ (here : root ≡ n).
-    let new : with_key block root (Some range) n ≡ Some range = ap (with_key block root (Some range)) (sym here) ∙ with_key-here block root (Some range) in
-    let old : block n ≡ None = ap block (sym here) ∙ none in
-    rw (new, old, live_below-past block s n root (Some range) (omega (arith, here))) (omega arith))
+    grind (arith, with_key-here, live_below-past))
     (λ (there : root ≢ n).
     let same : with_key block root (Some range) n ≡ block n = with_key-other block root n (Some range) (λ is. there (sym is)) in
     let rest = live_below-with block s n root range (omega (arith, there, below)) none in
@@ -35,12 +33,7 @@ pub EachBlock-none : (Is : ℕ → Range → Type 0) → EachBlock no_heap Is
 EachBlock-none Is = record { each = λ root range named. absurd (cc) }
 
 pub EachBlock-with : (m : Machine) (Is : ℕ → Range → Type 0) (root : ℕ) (site : Site) → EachBlock m Is → Is root (range_of site) → EachBlock (with_block m root site) Is
-EachBlock-with m Is root site each here = record {
-  each = λ r range named. ⊎_elim
-      (λ new. let same : range_of site ≡ range = cc (new.1) in subst (Is r) same (subst (λ (k : ℕ). Is k (range_of site)) (sym new.0) here))
-      (λ old. each.each r range old.1)
-      (with_key-cases m.block root r (Some (range_of site)) (Some range) named);
-}
+EachBlock-with m Is root site each here = grind (arith, with_key-cases)
 
 -- one, where something is so
 abbrev pub one_if : Bool → ℕ

@@ -26,8 +26,7 @@ stays x = grind arith
 
 -- where no slab left, none loses its addresses
 pub none_left : (b : Bounds) (m next : Machine) (stacks : Stacks) → ((s : ℕ) → next.slab s ≡ m.slab s) → without_left b m next stacks ≡ stacks
-none_left b m next stacks same = λ i seat class. filter_all (λ at. not (any_below (λ s. has_left (m.slab s) (next.slab s) && is_within s at) b.granules)) (stacks seat class) (λ at. ap not (none_below (λ s. has_left (m.slab s) (next.slab s) && is_within s at) b.granules (λ s.
-    and_left (has_left (m.slab s) (next.slab s)) (is_within s at) (ap (has_left (m.slab s)) (same s) ∙ stays (m.slab s))))) i
+none_left b m next stacks same = λ i seat class. filter_all (λ at. not (any_below (λ s. has_left (m.slab s) (next.slab s) && is_within s at) b.granules)) (stacks seat class) (λ at. grind (arith, none_below, and_left, stays)) i
 
 -- where one left, it does
 one_below : (p q : ℕ → Bool) (n start : ℕ) → start < n → p start ≡ true → ((s : ℕ) → s ≢ start → p s ≡ false) → any_below (λ s. p s && q s) n ≡ q start

@@ -1,11 +1,11 @@
 -- Headers of slabs: an image without a defect of them has none, and it has one first at most.
-use Rattle.std.proofs.Common.{◌≡◌, ◌≢◌, ℕ, ◌/◌, ◌%◌, ◌^◌, ◌<◌, ◌≤◌, true, List, sym, ap, subst, ◌∙◌, arith, ⊎_elim}
-use Rattle.std.proofs.lemmas.Bool.{cases_eq, cases_lt, cond-true}
+use Rattle.std.proofs.Common.{◌≡◌, ◌≢◌, ℕ, ◌<◌, ◌≤◌, true, List, sym, ap, subst, ◌∙◌, arith, ⊎_elim}
+use Rattle.std.proofs.lemmas.Bool.{cases_eq, cases_lt}
 use Rattle.pmem_lines.specs.Words.{word_at}
 use Rattle.pool_layout.specs.declared.defect.Defect.{Defect}
 use Rattle.pool_layout.specs.declared.defect.Defect.TheVariants.{BadSlab}
-use Rattle.image_tables.specs.Forms.{IsState, IsStateWord}
-use Rattle.image_tables.specs.Tables.{is_slab, state_word, index_word, state_field, tables_of}
+use Rattle.image_tables.specs.Forms.{IsStateWord}
+use Rattle.image_tables.specs.Tables.{is_slab, state_word, index_word, tables_of}
 use Rattle.heap_check.proofs.StateWords.{IsStateWord-valid}
 use Rattle.image_tables.proofs.Tables.{slab_fields}
 use Rattle.image_defects.specs.Headers.{IsGoodSlab, AreGoodSlabs, IsBadPlace, IsBadWord, IsSlabDefect}

@@ -1,17 +1,23 @@
 // Journals, receipts and lengths of a pool, on one thread and on two.
-ghost use Rattle.std.specs.Prelude.{◌<◌};
+//
+// A test lends its pool to what makes the calls, and lets it go in one place: whatever holds a pool has it to let go at each of
+// its ways out, arena by arena.
+ghost use Rattle.std.specs.Prelude.{◌≡◌, ◌<◌, length};
+ghost use Rattle.pool_tests.specs.CallsLeft.{CanCall};
 
-use crate::callers::{TriedCall, arena_lock_of_two, close, empty_arena, pool_of, start_and_close};
+use crate::callers::{
+    Caller, TriedCall, arena_lock_of_two, close, empty_arena, pool_of, start_and_close,
+};
 use crate::threads::{malloc_on_two_threads, try_beside_a_store};
 use crate::watched::{Flags, Watched};
 use arena_core::{Arena, ArenaRoom};
 use heap_model::{Call, Reply};
 use lock_tests::LookBeside;
 use pmem_lines::{OutOfMemory, SimPmem};
-use shared_pool::{PoolJob, Receipt, TryRefusal};
+use shared_pool::{PoolJob, Receipt, SharedPool, TryRefusal};
 use std::alloc::Global;
 use std::process::Abort;
-use std::sync::Arc;
+use std::sync::{Arc, Wait};
 
 // Replies of the first block of 112 bytes of an empty arena.
 const PLACED: Reply = Reply::Placed {
@@ -49,18 +55,32 @@ fn one_root_for_two_passes(rt: HostRuntime) -> Result<(), OutOfMemory> {
     let alloc = rt.alloc();
     let arenas = vec![in alloc; empty_arena(alloc, 0, 1)?]?;
     let (pool, mut zero, mut one) = pool_of(alloc, arenas)?;
-    let first = zero.call(&rt, alloc, &pool, 0, malloc(5, 100))?;
-    let second = one.call(&rt, alloc, &pool, 0, malloc(5, 100))?;
-    assert_eq!(&rt; first.place, 0);
-    assert_eq!(&rt; first.entry.reply, PLACED);
-    assert_eq!(&rt; second.place, 1);
-    assert_eq!(&rt; second.entry.seat, 1);
-    assert_eq!(&rt; second.entry.reply, OCCUPIED);
-    assert_eq!(&rt; zero.seen(&pool, 0), 1);
-    assert_eq!(&rt; one.seen(&pool, 0), 2);
-    let third = zero.call(&rt, alloc, &pool, 0, Call::Free { root: 5 })?;
-    assert_eq!(&rt; third.place, 2);
-    assert_eq!(&rt; third.entry.reply, FREED);
+    ask_for_one_root(&rt, alloc, &pool, &mut zero, &mut one)
+}
+
+fn ask_for_one_root<R: Abort + Wait>(
+    rt: &R,
+    alloc: Global,
+    pool: &SharedPool<SimPmem>,
+    zero: &mut Caller,
+    one: &mut Caller,
+) -> Result<(), OutOfMemory>
+    requires arena { 0 < length pool.now.locks }
+    requires zero { CanCall pool.now zero.old }
+    requires one { CanCall pool.now one.old }
+{
+    let first = zero.call(rt, alloc, pool, 0, malloc(5, 100))?;
+    let second = one.call(rt, alloc, pool, 0, malloc(5, 100))?;
+    assert_eq!(rt; first.place, 0);
+    assert_eq!(rt; first.entry.reply, PLACED);
+    assert_eq!(rt; second.place, 1);
+    assert_eq!(rt; second.entry.seat, 1);
+    assert_eq!(rt; second.entry.reply, OCCUPIED);
+    assert_eq!(rt; zero.seen(pool, 0), 1);
+    assert_eq!(rt; one.seen(pool, 0), 2);
+    let third = zero.call(rt, alloc, pool, 0, Call::Free { root: 5 })?;
+    assert_eq!(rt; third.place, 2);
+    assert_eq!(rt; third.entry.reply, FREED);
     Ok(())
 }
 
@@ -70,11 +90,25 @@ fn lengths_of_a_journal(rt: HostRuntime) -> Result<(), OutOfMemory> {
     let alloc = rt.alloc();
     let arenas = vec![in alloc; empty_arena(alloc, 0, 1)?]?;
     let (pool, mut zero, mut one) = pool_of(alloc, arenas)?;
-    zero.call(&rt, alloc, &pool, 0, malloc(1, 64))?;
-    zero.call(&rt, alloc, &pool, 0, malloc(2, 64))?;
-    assert_eq!(&rt; zero.published(&pool, 0), 2);
-    assert_eq!(&rt; one.published(&pool, 0), 2);
-    assert_eq!(&rt; one.seen(&pool, 0), 0);
+    ask_for_lengths(&rt, alloc, &pool, &mut zero, &mut one)
+}
+
+fn ask_for_lengths<R: Abort + Wait>(
+    rt: &R,
+    alloc: Global,
+    pool: &SharedPool<SimPmem>,
+    zero: &mut Caller,
+    one: &mut Caller,
+) -> Result<(), OutOfMemory>
+    requires arena { 0 < length pool.now.locks }
+    requires zero { CanCall pool.now zero.old }
+    requires one { CanCall pool.now one.old }
+{
+    zero.call(rt, alloc, pool, 0, malloc(1, 64))?;
+    zero.call(rt, alloc, pool, 0, malloc(2, 64))?;
+    assert_eq!(rt; zero.published(pool, 0), 2);
+    assert_eq!(rt; one.published(pool, 0), 2);
+    assert_eq!(rt; one.seen(pool, 0), 0);
     Ok(())
 }
 
@@ -102,15 +136,11 @@ fn tries_on_one_thread(rt: HostRuntime) -> Result<(), OutOfMemory> {
     let alloc = rt.alloc();
     let arenas = vec![in alloc; empty_arena(alloc, 0, 1)?]?;
     let (pool, mut zero, one) = pool_of(alloc, arenas)?;
-    let tried = zero.try_call(alloc, &pool, 0, TriedCall::Malloc { root: 5, size: 100 });
-    let placed = made(&rt, tried)?;
-    let tried = zero.try_call(alloc, &pool, 0, TriedCall::Free { root: 5 });
-    let freed = made(&rt, tried)?;
-    assert_eq!(&rt; placed.place, 0);
-    assert_eq!(&rt; placed.entry.reply, PLACED);
-    assert_eq!(&rt; freed.place, 1);
-    assert_eq!(&rt; freed.entry.reply, FREED);
+    let tries = try_one_root(&rt, alloc, &pool, &mut zero);
     let closed = close(alloc, pool, zero, one)?;
+    let (placed, freed) = tries?;
+    assert_eq!(&rt; (placed.place, placed.entry.reply), (0, PLACED));
+    assert_eq!(&rt; (freed.place, freed.entry.reply), (1, FREED));
     assert_eq!(&rt; closed.len(), 1);
     for arena in &closed {
         assert_eq!(&rt;
@@ -122,29 +152,66 @@ fn tries_on_one_thread(rt: HostRuntime) -> Result<(), OutOfMemory> {
     Ok(())
 }
 
+// Tries 100 bytes for root 5, and to free it again.
+fn try_one_root<R: Abort>(
+    rt: &R,
+    alloc: Global,
+    pool: &SharedPool<SimPmem>,
+    zero: &mut Caller,
+) -> Result<(Receipt, Receipt), OutOfMemory>
+    requires arena { 0 < length pool.now.locks }
+    requires can { CanCall pool.now zero.old }
+    ensures can { CanCall pool.now zero.new }
+    ensures number { zero.new.pass.number ≡ zero.old.pass.number }
+{
+    let tried = zero.try_call(alloc, pool, 0, TriedCall::Malloc { root: 5, size: 100 });
+    let placed = made(rt, tried)?;
+    let tried = zero.try_call(alloc, pool, 0, TriedCall::Free { root: 5 });
+    let freed = made(rt, tried)?;
+    Ok((placed, freed))
+}
+
 // One pass writes a word and another reads it: the journal has both, and the read leaves the memory behind the write.
 #[test]
 fn a_word_for_two_passes(rt: HostRuntime) -> Result<(), OutOfMemory> {
     let alloc = rt.alloc();
     let arenas = vec![in alloc; empty_arena(alloc, 0, 1)?]?;
     let (pool, mut zero, mut one) = pool_of(alloc, arenas)?;
-    zero.call(&rt, alloc, &pool, 0, malloc(5, 100))?;
-    let none = one.call(&rt, alloc, &pool, 0, write(6, 13, 77))?;
-    let wrote = zero.call(&rt, alloc, &pool, 0, write(5, 13, 77))?;
-    let read = one.call(&rt, alloc, &pool, 0, Call::Read { root: 5, index: 13 })?;
-    let past = one.call(&rt, alloc, &pool, 0, Call::Read { root: 5, index: 14 })?;
-    assert_eq!(&rt; (none.place, none.entry.reply), (1, Reply::Empty));
-    assert_eq!(&rt; (wrote.place, wrote.entry.reply), (2, Reply::Wrote));
-    assert_eq!(&rt;
-        (read.place, read.entry.reply),
-        (3, Reply::Value { word: 77 })
-    );
-    assert_eq!(&rt; (past.place, past.entry.reply), (4, Reply::OutOfRange));
+    let passed = pass_a_word(&rt, alloc, &pool, &mut zero, &mut one);
     let closed = close(alloc, pool, zero, one)?;
+    passed?;
     for arena in &closed {
         assert_eq!(&rt; arena.journal.len(), 5);
         assert_eq!(&rt; arena.arena.pmem().event_count(), 3);
     }
+    Ok(())
+}
+
+fn pass_a_word<R: Abort + Wait>(
+    rt: &R,
+    alloc: Global,
+    pool: &SharedPool<SimPmem>,
+    zero: &mut Caller,
+    one: &mut Caller,
+) -> Result<(), OutOfMemory>
+    requires arena { 0 < length pool.now.locks }
+    requires zero { CanCall pool.now zero.old }
+    requires one { CanCall pool.now one.old }
+    ensures zero { CanCall pool.now zero.new × (zero.new.pass.number ≡ zero.old.pass.number) }
+    ensures one { CanCall pool.now one.new × (one.new.pass.number ≡ one.old.pass.number) }
+{
+    zero.call(rt, alloc, pool, 0, malloc(5, 100))?;
+    let none = one.call(rt, alloc, pool, 0, write(6, 13, 77))?;
+    let wrote = zero.call(rt, alloc, pool, 0, write(5, 13, 77))?;
+    let read = one.call(rt, alloc, pool, 0, Call::Read { root: 5, index: 13 })?;
+    let past = one.call(rt, alloc, pool, 0, Call::Read { root: 5, index: 14 })?;
+    assert_eq!(rt; (none.place, none.entry.reply), (1, Reply::Empty));
+    assert_eq!(rt; (wrote.place, wrote.entry.reply), (2, Reply::Wrote));
+    assert_eq!(rt;
+        (read.place, read.entry.reply),
+        (3, Reply::Value { word: 77 })
+    );
+    assert_eq!(rt; (past.place, past.entry.reply), (4, Reply::OutOfRange));
     Ok(())
 }
 
@@ -155,9 +222,9 @@ fn two_threads_one_root(rt: HostRuntime) -> Result<(), OutOfMemory> {
     let arenas = vec![in alloc; empty_arena(alloc, 0, 1)?]?;
     let (pool, mut zero, mut one) = pool_of(alloc, arenas)?;
     let (by_zero, by_one) = malloc_on_two_threads(&rt, alloc, &pool, &mut zero, &mut one);
+    let closed = close(alloc, pool, zero, one)?;
     let by_zero = by_zero?;
     let by_one = by_one?;
-    let closed = close(alloc, pool, zero, one)?;
     assert_eq!(&rt; closed.len(), 1);
     let (first, second) = if by_zero.place == 0 {
         (by_zero.entry, by_one.entry)

@@ -58,8 +58,8 @@ struct Sides<'a> {
     behind: &'a [Held],
 }
 
-// A stop: behind so many of the events of a call, of which there are `count`, or at which event of the script that is, and the
-// seed that picks the image.
+// Where a call is stopped: behind the first `k` of its `count` events. `event` is how many events of the script that are,
+// counted from its first call, and `seed` picks the image that is left.
 #[derive(Clone, Copy)]
 struct Stop {
     k: u32,

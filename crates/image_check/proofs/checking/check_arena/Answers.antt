@@ -1,5 +1,4 @@
-use Rattle.std.proofs.Common.{ap, subst, inr}
-use Rattle.pool_layout.specs.declared.header.PoolHeader.{PoolHeader}
+use Rattle.std.proofs.Common.{subst, inr}
 use Rattle.pool_layout.specs.Header.{IsHeader}
 use Rattle.heap_check.specs.Image.{IsSoundImage}
 use Rattle.image_defects.specs.Defects.{HasLength, FromLength, IsFirstDefect}
