@@ -12,9 +12,9 @@ trap 'rm -rf -- "$room"' EXIT
 
 program=${1:-}
 if [ -z "$program" ]; then
-    # The launcher builds the program; what it built is looked at by itself.
-    "$top/nvheap" replay <"$top/examples/large.trace" >"$room/out" || exit
-    program=$top/crates/program/out/launched/nvheap
+    # The launcher builds the proved program where it is not there; that is looked at by itself.
+    NVHEAP=proved "$top/nvheap" replay <"$top/examples/large.trace" >"$room/out" || exit
+    program=$top/crates/program/out/program
 fi
 "${CC:-cc}" -O2 -Wall -shared -fPIC -o "$room/faults.so" "$top/bench/faults.c" || exit
 

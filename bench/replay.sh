@@ -7,9 +7,9 @@ top=$(dirname -- "$(dirname -- "$(readlink -f -- "${BASH_SOURCE[0]}")")")
 room=$(mktemp -d)
 trap 'rm -rf -- "$room"' EXIT
 
-# The launcher builds the program; what it built is timed by itself.
-"$top/nvheap" replay <"$top/examples/large.trace" >"$room/out"
-program=$top/crates/program/out/launched/nvheap
+# The launcher builds the proved program where it is not there; that is timed by itself.
+NVHEAP=proved "$top/nvheap" replay <"$top/examples/large.trace" >"$room/out"
+program=$top/crates/program/out/program
 
 # A million mallocs and frees of blocks of so many bytes at least, and so many more: a call frees its root's block or gives
 # it one. The draws are by a fixed rule. With large blocks over a few roots the log rolls, since its old chunks are soon
