@@ -2,7 +2,8 @@
 // end to end.
 //
 // `blocks` tests the slabs of `slab_index` with their available blocks, `candidates` its calm slabs that may take another
-// class, `supply` the calls of `block_supply`, and `plain` has the plain lists of slabs. The crate has no code. It stands apart from the two that it tests, since a crate with tests is proved twice.
+// class, `stacks` the stacks of `thread_cache`, `supply` the calls of `block_supply`, and `plain` has the plain lists of slabs.
+// The crate has no code. It stands apart from those that it tests, since a crate with tests is proved twice.
 #![tactic(auto)]
 
 #[cfg(test)]
@@ -11,5 +12,7 @@ mod blocks;
 mod candidates;
 #[cfg(test)]
 mod plain;
+#[cfg(test)]
+mod stacks;
 #[cfg(test)]
 mod supply;

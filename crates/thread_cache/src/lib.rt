@@ -11,7 +11,5 @@
 
 mod caches;
 mod stack;
-#[cfg(test)]
-mod tests;
 
 pub use caches::ThreadCaches;

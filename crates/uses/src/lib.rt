@@ -14,8 +14,6 @@ mod refusal;
 mod reopening;
 mod stack;
 mod steps;
-#[cfg(test)]
-mod tests;
 
 pub use refusal::{PopRefusal, PushRefusal, ReopenFault};
 pub use reopening::reopen;

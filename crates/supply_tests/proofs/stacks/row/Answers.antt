@@ -2,7 +2,7 @@ use Rattle.std.proofs.Common.{◌≡◌, ℕ, ◌+◌, ◌*◌, ⊎_elim, List, 
 use Rattle.heap_model.specs.Placement.{Has}
 use Rattle.thread_cache.specs.Stacks.{AreRising}
 use Rattle.thread_cache.proofs.Lists.{Has_joined, AreRising-last}
-use Rattle.thread_cache.proofs.tests.row.Goals as goal
+use Rattle.supply_tests.proofs.stacks.row.Goals as goal
 
 pub loop-i-preserved : goal.loop-i-preserved
 loop-i-preserved c =

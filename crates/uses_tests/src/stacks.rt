@@ -1,7 +1,4 @@
 // A stack's calls, and a push that is stopped at every event.
-#![tactic(auto, using(recover::proofs::Recoveries::room_of_any, arena_core::proofs::Readiness::first_room, arena_core::proofs::Readiness::first_most))]
-
-use crate::{PopRefusal, PushRefusal, Record, RecordStack, ReopenFault, reopen};
 use arena_core::{Arena, ArenaRoom};
 use pmem_lines::{OutOfMemory, Pmem, SimPmem};
 use rand_core::SeedableRng;
@@ -9,6 +6,7 @@ use rand_xoshiro::SplitMix64;
 use std::alloc::Global;
 use std::process::Abort;
 use std::test::Fail;
+use uses::{PopRefusal, PushRefusal, Record, RecordStack, ReopenFault, reopen};
 
 const LOW: Record = [1, 2, 3, 4, 5, 6, 7, 8];
 

@@ -1,7 +1,7 @@
 use Rattle.std.proofs.Common.{ℕ, ◌+◌, ◌*◌, ◌<◌, ◌≤◌, length}
 use Rattle.heap_model.specs.Placement.{Has}
 use Rattle.thread_cache.specs.Stacks.{AreRising}
-use Rattle.thread_cache.proofs.tests.row.Given as goal
+use Rattle.supply_tests.proofs.stacks.row.Given as goal
 
 abbrev pub invariant-loop-i : goal.invariant-loop-i
 invariant-loop-i l = record {

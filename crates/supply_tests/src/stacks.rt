@@ -2,11 +2,11 @@
 ghost use Rattle.std.specs.Prelude.{◌+◌, ◌*◌, ◌^◌, ◌<◌, ◌≤◌};
 ghost use Rattle.thread_cache.specs.Stacks.{AreRising};
 
-use crate::ThreadCaches;
 use arrayvec::ArrayVec;
 use pmem_lines::OutOfMemory;
 use std::alloc::Global;
 use std::test::Fail;
+use thread_cache::ThreadCaches;
 
 // So many addresses, `step` bytes apart.
 fn row(first: u32, step: u32, count: u32) -> ArrayVec<u32, 8>
