@@ -16,7 +16,7 @@ mod stopping;
 use anyhow::{Context, Result, bail};
 use scripts::{Amount, NAMES, script_of};
 use std::env;
-use stopping::{StopFault, stop_calls};
+use stopping::stop_calls;
 
 /// The words after the program's name.
 fn words_of_program(rt: &HostRuntime) -> Result<Vec<String>> {
@@ -29,7 +29,7 @@ fn words_of_program(rt: &HostRuntime) -> Result<Vec<String>> {
 
 /// Stops the calls of a script, and prints its line.
 fn run_script(rt: &HostRuntime, name: &str, amount: Amount) -> Result<()> {
-    let Some(script) = script_of(rt.alloc(), name).map_err(StopFault::from)? else {
+    let Some(script) = script_of(rt.alloc(), name)? else {
         bail!("there is no script {name}");
     };
     let first = script.first_of(amount);

@@ -1,9 +1,10 @@
 // The calls of a script are made one by one. Each is stopped at each of its events, and what is left is recovered.
 use crate::heaps::{Held, heap_of, new_arena};
 use crate::scripts::Script;
+use anyhow::Result;
 use arena_core::Arena;
 use arena_journal::answer;
-use pmem_lines::{OutOfMemory, Pmem, SimPmem};
+use pmem_lines::{Pmem, SimPmem};
 use rand_core::SeedableRng;
 use rand_xoshiro::SplitMix64;
 use recover::{RecoverFault, recover};
@@ -25,11 +26,9 @@ pub(crate) struct Counts {
     pub(crate) recovered: u64,
 }
 
-/// Why a script was not stopped to its end. Events are counted over all of the script.
+/// What a comparison finds. Events are counted over all of the script.
 #[derive(Debug, Drop, Error)]
 pub(crate) enum StopFault {
-    #[error("out of memory")]
-    Memory,
     #[error("stopped at event {event}, seed {seed}: neither the heap before the call nor the one behind it")]
     Call { event: u64, seed: u64 },
     #[error("stopped at event {event}, seed 0, and recovery at its event {again}: another heap than that of recovery")]
@@ -42,12 +41,6 @@ impl Counts {
     // Adds the events of the call that a device carried out last.
     fn add_events(&mut self, device: &SimPmem) {
         self.events = self.events.saturating_add(u64::from(device.event_count()));
-    }
-}
-
-impl From<OutOfMemory> for StopFault {
-    fn from(_error: OutOfMemory) -> Self {
-        StopFault::Memory
     }
 }
 
@@ -82,11 +75,7 @@ impl Stop {
 /// also at its begin, with each of the seeds: recovery comes to the heap before the call or to the one behind it, and to the
 /// latter at the call's last event. With the first seed recovery too is stopped at each of its events, and what is left is
 /// recovered to the same heap. At the end all roots are compared.
-pub(crate) fn stop_calls(
-    alloc: Global,
-    script: &Script,
-    first: usize,
-) -> Result<Counts, StopFault> {
+pub(crate) fn stop_calls(alloc: Global, script: &Script, first: usize) -> Result<Counts> {
     let mut arena = new_arena(alloc, script.granules)?;
     stop_calls_of(alloc, &mut arena, script, first)
 }
@@ -98,7 +87,7 @@ fn stop_calls_of(
     arena: &mut Arena<SimPmem>,
     script: &Script,
     first: usize,
-) -> Result<Counts, StopFault> {
+) -> Result<Counts> {
     let (made, stopped) = script.calls.split_at(first.min(script.calls.len()));
     let mut counts = Counts {
         events: 0,
@@ -132,7 +121,7 @@ fn stop_call(
     roots: u32,
     sides: Sides<'_>,
     counts: &mut Counts,
-) -> Result<(), StopFault> {
+) -> Result<()> {
     // Behind none of its events a call leaves what the one before it left behind all of them.
     let first = if counts.stops == 0 { 0 } else { 1 };
     let count = device.event_count();
@@ -159,10 +148,10 @@ fn stop_at(
     sides: Sides<'_>,
     stop: Stop,
     counts: &mut Counts,
-) -> Result<(), StopFault> {
+) -> Result<()> {
     match recovered(alloc, device, stop.k, stop.seed)? {
         Some(arena) => compare_sides(alloc, &arena, roots, sides, stop, counts),
-        None => Err(stop.fault()),
+        None => Err(stop.fault().into()),
     }
 }
 
@@ -174,10 +163,10 @@ fn compare_sides(
     sides: Sides<'_>,
     stop: Stop,
     counts: &mut Counts,
-) -> Result<(), StopFault> {
+) -> Result<()> {
     let heap = heap_of(alloc, arena, roots)?;
     if !may_be_left(sides, &heap, stop) {
-        return Err(stop.fault());
+        return Err(stop.fault().into());
     }
     counts.stops = counts.stops.saturating_add(1);
     counts.recovered = counts.recovered.saturating_add(1);
@@ -202,10 +191,10 @@ fn stop_recovery(
     heap: &[Held],
     event: u64,
     counts: &mut Counts,
-) -> Result<(), StopFault> {
+) -> Result<()> {
     for again in 1..=device.event_count() {
         if !recovers(alloc, device, again, roots, heap)? {
-            return Err(StopFault::Recovery { event, again });
+            return Err(StopFault::Recovery { event, again }.into());
         }
         counts.recovered = counts.recovered.saturating_add(1);
     }
@@ -213,39 +202,24 @@ fn stop_recovery(
 }
 
 // Of all roots none but those of the script has a block, and so it is when the last image is recovered.
-fn compare_all_roots(
-    alloc: Global,
-    arena: &Arena<SimPmem>,
-    heap: &[Held],
-) -> Result<(), StopFault> {
+fn compare_all_roots(alloc: Global, arena: &Arena<SimPmem>, heap: &[Held]) -> Result<()> {
     let device = arena.pmem();
     if has_heap(alloc, arena, ALL_ROOTS, heap)?
         && recovers(alloc, device, device.event_count(), ALL_ROOTS, heap)?
     {
         Ok(())
     } else {
-        Err(StopFault::Roots)
+        Err(StopFault::Roots.into())
     }
 }
 
 // Whether the roots below a number hold this.
-fn has_heap(
-    alloc: Global,
-    arena: &Arena<SimPmem>,
-    roots: u32,
-    heap: &[Held],
-) -> Result<bool, OutOfMemory> {
+fn has_heap(alloc: Global, arena: &Arena<SimPmem>, roots: u32, heap: &[Held]) -> Result<bool> {
     Ok(heap_of(alloc, arena, roots)?.as_slice() == heap)
 }
 
 // Whether they do in the arena that is recovered from the image behind the first `k` events of a device, with the first seed.
-fn recovers(
-    alloc: Global,
-    device: &SimPmem,
-    k: u32,
-    roots: u32,
-    heap: &[Held],
-) -> Result<bool, OutOfMemory> {
+fn recovers(alloc: Global, device: &SimPmem, k: u32, roots: u32, heap: &[Held]) -> Result<bool> {
     match recovered(alloc, device, k, 0)? {
         Some(arena) => has_heap(alloc, &arena, roots, heap),
         None => Ok(false),
@@ -254,12 +228,7 @@ fn recovers(
 
 // The arena that is recovered from the image behind the first `k` events of a device, as a generator from `seed` picks.
 // `None` where the device has fewer events, or the image is not sound.
-fn recovered(
-    alloc: Global,
-    device: &SimPmem,
-    k: u32,
-    seed: u64,
-) -> Result<Option<Arena<SimPmem>>, OutOfMemory> {
+fn recovered(alloc: Global, device: &SimPmem, k: u32, seed: u64) -> Result<Option<Arena<SimPmem>>> {
     if k > device.event_count() {
         return Ok(None);
     }
@@ -270,7 +239,7 @@ fn recovered(
     }
     match recover(alloc, SimPmem::from_image(alloc, &image, 2048)?) {
         Ok(arena) => Ok(Some(arena)),
-        Err((RecoverFault::Memory(error), _)) => Err(error),
+        Err((RecoverFault::Memory(error), _)) => Err(error.into()),
         Err((RecoverFault::Defect(_), _)) => Ok(None),
     }
 }
