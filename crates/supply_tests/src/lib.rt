@@ -1,17 +1,14 @@
-// Tests of what gives small blocks: rows that were worked by hand, and many calls beside plain lists that are searched from
-// end to end.
+// Tests of what gives small blocks: rows that were worked by hand.
 //
 // `blocks` tests the slabs of `slab_index` with their available blocks, `candidates` its calm slabs that may take another
-// class, `stacks` the stacks of `thread_cache`, `supply` the calls of `block_supply`, and `plain` has the plain lists of slabs.
-// The crate has no code. It stands apart from those that it tests, since a crate with tests is proved twice.
+// class, `stacks` the stacks of `thread_cache`, and `supply` the calls of `block_supply`. The crate has no code. It stands apart
+// from those that it tests, since a crate with tests is proved twice.
 #![tactic(auto)]
 
 #[cfg(test)]
 mod blocks;
 #[cfg(test)]
 mod candidates;
-#[cfg(test)]
-mod plain;
 #[cfg(test)]
 mod stacks;
 #[cfg(test)]

@@ -1,31 +1,31 @@
-// A supply of small blocks: rows that were worked by hand. `served` has many calls beside plain lists.
-mod served;
-
+// A supply of small blocks: rows that were worked by hand.
 ghost use Rattle.std.specs.Prelude.{◌≡◌, ◌<◌, ◌≤◌, true, IfOk};
 ghost use Rattle.block_supply.specs.Supply.{IsClearOf};
 
-use crate::plain::GRANULES;
 use block_supply::{BlockSupply, SlabBlock};
 use pmem_lines::OutOfMemory;
 use size_classes::capacity;
 use std::alloc::Global;
 use std::test::Fail;
 
+// How many granules there are.
+const GRANULES: u32 = 24;
+
 // Block `number` of the slab at a granule.
 fn some(start: u32, number: u32) -> Option<SlabBlock> {
     Some(SlabBlock { start, number })
 }
 
-/// There is a slab at the granule that has a block of this number, and it is open.
-pub(crate) fn is_open(supply: &BlockSupply, start: u32, number: u32) -> bool {
+// There is a slab at the granule that has a block of this number, and it is open.
+fn is_open(supply: &BlockSupply, start: u32, number: u32) -> bool {
     match supply.class_at(start) {
         Some(class) => number < capacity(class) && supply.is_open(start, number),
         None => false,
     }
 }
 
-/// Brings a block back for a seat where it is not open. Whether it was not.
-pub(crate) fn put_back(supply: &mut BlockSupply, seat: u32, start: u32, number: u32) -> bool
+// Brings a block back for a seat where it is not open. Whether it was not.
+fn put_back(supply: &mut BlockSupply, seat: u32, start: u32, number: u32) -> bool
     requires { seat < 64 }
     ensures { supply.new.slabs.granules ≡ supply.old.slabs.granules }
 {
@@ -38,8 +38,8 @@ pub(crate) fn put_back(supply: &mut BlockSupply, seat: u32, start: u32, number: 
     false
 }
 
-/// Makes a block available where it is not open. Whether it was not.
-pub(crate) fn make_available(supply: &mut BlockSupply, start: u32, number: u32) -> bool
+// Makes a block available where it is not open. Whether it was not.
+fn make_available(supply: &mut BlockSupply, start: u32, number: u32) -> bool
     ensures { supply.new.slabs.granules ≡ supply.old.slabs.granules }
 {
     if let Some(class) = supply.class_at(start) {
@@ -59,8 +59,8 @@ fn is_clear(supply: &BlockSupply, start: u32) -> bool
     supply.slab_with(start).is_none() && supply.slab_with(start + 3).is_none()
 }
 
-/// Adds a slab of which some blocks are open, where four granules are in none. Whether they are.
-pub(crate) fn add_used(supply: &mut BlockSupply, start: u32, class: u8, word: u64) -> bool
+// Adds a slab of which some blocks are open, where four granules are in none. Whether they are.
+fn add_used(supply: &mut BlockSupply, start: u32, class: u8, word: u64) -> bool
     requires inside { start < supply.old.slabs.granules }
     requires few { supply.old.slabs.granules ≤ 4096 }
     requires class { class < 36 }
