@@ -1,0 +1,84 @@
+-- How marks are kept: as the bits of words, 16 words a granule. And ranges of such a set of numbers.
+use Rattle.std.specs.Prelude.{◌≡◌, ◌≢◌, ◌==◌, ◌⊎◌, ℕ, ◌+◌, ◌*◌, ◌/◌, ◌<◌, ◌≤◌, map, Bool, true, false, List, length, slice_index}
+use Rattle.std.specs.Int.{bit_at}
+use Rattle.std.specs.List.{range_with_len}
+use Rattle.bit_words.specs.Numbers.{has}
+use Rattle.unit_map.specs.declared.words.Blocks.{Blocks}
+use Rattle.unit_map.specs.Units.{Units}
+
+-- a mark for each number that words have a bit for
+unfoldable pub marks_of : List ℕ → List Bool
+marks_of words = map (has words) (range_with_len 0 (64 * length words))
+
+-- the units that words say
+abbrev pub units_of : List ℕ → Units
+units_of words = record { granules = length words / 16; marks = marks_of words }
+
+-- they are those of an arena: 16 for each granule
+pub record AreWords (words : List ℕ) : Type 0 where
+  pub whole : length words ≡ 16 * (length words / 16)
+  pub most : length words ≤ 65536
+
+-- ranges
+
+-- the mask has the bits of word `at` whose numbers lie in a range
+pub record IsMask (at from end mask : ℕ) : Type 0 where
+  pub inside : (bit : ℕ) → bit < 64 → from ≤ 64 * at + bit → 64 * at + bit < end → bit_at mask bit ≡ 1
+  pub outside : (bit : ℕ) → bit < 64 → (64 * at + bit < from) ⊎ (end ≤ 64 * at + bit) → bit_at mask bit ≡ 0
+
+-- a word is another with the bits of a mask set or cleared
+pub record IsMasked (old mask : ℕ) (on : Bool) (new : ℕ) : Type 0 where
+  pub these : (bit : ℕ) → bit < 64 → bit_at mask bit ≡ 1 → (bit_at new bit == 1) ≡ on
+  pub others : (bit : ℕ) → bit < 64 → bit_at mask bit ≡ 0 → bit_at new bit ≡ bit_at old bit
+
+-- a set is another with a range of numbers put in or out
+pub record IsRangePut (old : List ℕ) (from end : ℕ) (on : Bool) (new : List ℕ) : Type 0 where
+  pub size : length new ≡ length old
+  pub these : (k : ℕ) → from ≤ k → k < end → has new k ≡ on
+  pub others : (k : ℕ) → (k < from) ⊎ (end ≤ k) → has new k ≡ has old k
+
+-- a word's bits whose numbers lie in a range and are in the set, or are not
+pub record IsPart (word at from end : ℕ) (on : Bool) (part : ℕ) : Type 0 where
+  pub low : (bit : ℕ) → bit < 64 → bit_at part bit ≡ 1 → from ≤ 64 * at + bit
+  pub high : (bit : ℕ) → bit < 64 → bit_at part bit ≡ 1 → 64 * at + bit < end
+  pub is : (bit : ℕ) → bit < 64 → bit_at part bit ≡ 1 → (bit_at word bit == 1) ≡ on
+  pub rest : (bit : ℕ) → bit < 64 → bit_at part bit ≡ 0 → from ≤ 64 * at + bit → 64 * at + bit < end → (bit_at word bit == 1) ≢ on
+
+-- no number of a range is in the set, or each is
+pub record HasNone (words : List ℕ) (from end : ℕ) (on : Bool) : Type 0 where
+  pub none : (k : ℕ) → from ≤ k → k < end → has words k ≢ on
+
+-- the lowest number of a range that is in the set, or is not
+pub record IsFirst (words : List ℕ) (from end : ℕ) (on : Bool) (k : ℕ) : Type 0 where
+  pub low : from ≤ k
+  pub high : k < end
+  pub is : has words k ≡ on
+  pub first : (j : ℕ) → from ≤ j → j < k → has words j ≢ on
+
+-- the same for the numbers of a range that word `at` is for
+pub record HasNoneInWord (words : List ℕ) (at from end : ℕ) (on : Bool) : Type 0 where
+  pub none : (k : ℕ) → from ≤ k → k < end → k / 64 ≡ at → has words k ≢ on
+
+pub record IsFirstInWord (words : List ℕ) (at from end : ℕ) (on : Bool) (k : ℕ) : Type 0 where
+  pub low : from ≤ k
+  pub high : k < end
+  pub place : k / 64 ≡ at
+  pub is : has words k ≡ on
+  pub first : (j : ℕ) → from ≤ j → j < k → j / 64 ≡ at → has words j ≢ on
+
+-- blocks
+
+-- no number of block i is in the set
+abbrev pub IsFree : List ℕ → Blocks → ℕ → Type 0
+IsFree words blocks i = HasNone words (blocks.first + i * blocks.units) (blocks.first + i * blocks.units + blocks.units) true
+
+-- every block at or above a number has one
+pub record HasNoFree (words : List ℕ) (blocks : Blocks) (from : ℕ) : Type 0 where
+  pub none : (i : ℕ) → from ≤ i → i < blocks.end → ¬ (IsFree words blocks i)
+
+-- the lowest block at or above a number that has none
+pub record IsFirstFree (words : List ℕ) (blocks : Blocks) (from number : ℕ) : Type 0 where
+  pub low : from ≤ number
+  pub within : number < blocks.end
+  pub free : IsFree words blocks number
+  pub first : (i : ℕ) → from ≤ i → i < number → ¬ (IsFree words blocks i)
