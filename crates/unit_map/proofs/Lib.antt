@@ -1,4 +1,4 @@
-pub mod Free
+pub mod BlockRows
 pub mod Masks
 pub mod Ranges
 pub mod StateUnits

@@ -1,11 +1,12 @@
 -- Ranges of numbers that are put into a set or out of it, and searched, word by word.
-use Rattle.std.proofs.Common.{◌≡◌, ◌≢◌, ◌⊎◌, ℕ, ◌+◌, ◌*◌, ◌/◌, ◌%◌, ◌^◌, ◌<◌, ◌≤◌, ⊎_elim, inl, inr, Bool, eqb, cond, List, length, get_or, set, w64, refl, sym, ap, ◌∙◌, arith}
+use Rattle.std.proofs.Common.{◌≡◌, ◌≢◌, ◌⊎◌, ℕ, ◌+◌, ◌*◌, ◌/◌, ◌%◌, ◌^◌, ◌<◌, ◌≤◌, ⊎_elim, inl, inr, Bool, eqb, cond, not, true, false, List, Option, Some, None, MatchOption, IsTrue, ◌↔◌, length, get_or, set, w64, refl, sym, ap, ◌∙◌, arith}
 use Rattle.std.specs.Int.{bit_at, trailing_zeros}
-use Rattle.std.proofs.lemmas.Bool.{cases_lt, cases_eq, eq-eqb, ne_eqb, cond-true, cond-false}
+use Rattle.std.specs.Option.{is_some}
+use Rattle.std.proofs.lemmas.Bool.{cases_lt, cases_eq, eq-eqb, ne_eqb, cond-true, cond-false, true≢false, false≢true}
 use Rattle.std.proofs.lemmas.Nat.Bits.{bit_at-zero, bit_at-trailing_zeros}
 use Rattle.bit_words.specs.Numbers.{has}
 use Rattle.bit_words.proofs.Bits.{has_in_word, has-set}
-use Rattle.unit_map.specs.Kept.{IsMask, IsMasked, IsPart, HasNoneInWord, IsFirstInWord}
+use Rattle.unit_map.specs.Kept.{IsMask, IsMasked, IsPart, HasNone, IsFirst, HasNoneInWord, IsFirstInWord}
 
 -- a number of the word that was replaced, and one of another word
 has_here : (words : List ℕ) (at word k : ℕ) → at < length words → k / 64 ≡ at → has (set words at word) k ≡ eqb (bit_at word (k % 64)) 1
@@ -71,3 +72,10 @@ none_more words at from end on word before k low high last = ⊎_elim
     (λ (here : k / 64 ≡ at). word.none k low high here)
     (λ (there : k / 64 ≢ at). before k low high (omega (arith, there)))
     (cases_eq (k / 64) at)
+
+-- a range has no number exactly where no first one is found
+pub none_if_first : (words : List ℕ) (from end : ℕ) (found : Option ℕ) (answer : Bool) → is_some found ≡ not answer → MatchOption found (HasNone words from end true) (IsFirst words from end true) → IsTrue answer ↔ HasNone words from end true
+none_if_first words from end None true told none = (λ _. none, λ _. refl)
+none_if_first words from end None false told none = absurd (false≢true told)
+none_if_first words from end (Some k) true told first = absurd (true≢false told)
+none_if_first words from end (Some k) false told first = (λ is. absurd (false≢true is), λ none. absurd (none.none k first.low first.high first.is))

@@ -5,14 +5,14 @@ use Rattle.std.proofs.lemmas.Bool.{cases_lt, false_from_ne_true, both_ways}
 use Rattle.std.proofs.lemmas.List.{get_or_past}
 use Rattle.std.proofs.lemmas.List.FromFn.{get_or-map-range_with_len, length-map-range_with_len}
 use Rattle.std.proofs.lemmas.Nat.{div-add-mod'}
-use Rattle.size_classes.specs.Classes.{class_size, class_capacity}
+use Rattle.size_classes.specs.Classes.{class_size}
 use Rattle.heap_model.specs.Machine.{slab_block}
 use Rattle.bit_words.specs.Numbers.{has}
 use Rattle.bit_words.proofs.Bits.{has-zero, has-zeros}
 use Rattle.unit_map.specs.Units.{Units, is_used, IsMarked, IsClear}
-use Rattle.unit_map.specs.declared.words.Blocks.{Blocks}
+use Rattle.unit_map.specs.declared.block_row.BlockRow.{BlockRow}
 use Rattle.unit_map.specs.Blocks.{first_unit, unit_count, IsClearRange, HasNoClearBlock, IsFirstClearBlock}
-use Rattle.unit_map.specs.Kept.{marks_of, units_of, IsRangePut, HasNone, IsFree, HasNoFree, IsFirstFree}
+use Rattle.unit_map.specs.Kept.{marks_of, units_of, IsRangePut, HasNone, AreBlocksOf, IsFree, HasNoFree, IsFirstFree}
 
 -- a mark by its bit
 mark_of : (words : List ℕ) (k : ℕ) → get_or (marks_of words) k false ≡ has words k
@@ -39,20 +39,19 @@ module _ (words : List ℕ) {units : Units} (is : units_of words ≡ units) wher
     λ clear. record { none = λ k past below set. both_ways (has words k) (sym (used_is k) ∙ clear.none k (omega (arith, past, low)) (omega (arith, below, sum))) set },
   )
 
-  -- blocks of words are those of a class in a slab
-  module _ (blocks : Blocks) (s c : ℕ) (size : class_size c ≡ 16 * blocks.units) (begins : blocks.first ≡ 1024 * s + 128) where
-    free_is : (i : ℕ) → IsFree words blocks i ↔ IsClearRange units (slab_block s c i)
+  -- blocks of a row are those of a class in a slab
+  module _ (s c : ℕ) (row : BlockRow) (are : AreBlocksOf s c row) where
+    pub free_is : (i : ℕ) → IsFree words row i ↔ IsClearRange units (slab_block s c i)
     free_is i =
-        let row : i * class_size c ≡ 16 * (i * blocks.units) = ap (λ n. i * n) size ∙ omega arith in
-        clear_if_none (blocks.first + i * blocks.units) (blocks.first + i * blocks.units + blocks.units) (first_unit (slab_block s c i)) (unit_count (slab_block s c i)) (omega (arith, row, begins)) (omega (arith, row, begins, size))
+        let bytes : i * class_size c ≡ 16 * (i * row.units) = ap (λ n. i * n) are.units ∙ omega arith in
+        clear_if_none (row.first + i * row.units) (row.first + i * row.units + row.units) (first_unit (slab_block s c i)) (unit_count (slab_block s c i)) (omega (arith, bytes, are.first)) (omega (arith, bytes, are.first, are.units))
 
-    -- a search among them is one in the slab
-    pub found_block : (from : ℕ) (found : Option ℕ) → blocks.end ≡ class_capacity c → MatchOption found (HasNoFree words blocks from) (IsFirstFree words blocks from) →
-        MatchOption found (HasNoClearBlock units s c from) (IsFirstClearBlock units s c from)
-    found_block from None ends none = record { none = λ i low high clear. none.none i low (omega (arith, high, ends)) ((free_is i).1 clear) }
-    found_block from (Some number) ends first = record {
+    -- a search in the row is one in the slab
+    pub found_block : (from : ℕ) (found : Option ℕ) → MatchOption found (HasNoFree words row from) (IsFirstFree words row from) → MatchOption found (HasNoClearBlock units s c from) (IsFirstClearBlock units s c from)
+    found_block from None none = record { none = λ i low high clear. none.none i low (omega (arith, high, are.count)) ((free_is i).1 clear) }
+    found_block from (Some number) first = record {
       low = first.low;
-      within = omega (arith, first.within, ends);
+      within = omega (arith, first.within, are.count);
       clear = (free_is number).0 first.free;
       first = λ i low before clear. first.first i low before ((free_is i).1 clear);
     }
@@ -69,9 +68,9 @@ marked old new {units} from count on is put = record {
 pub none_used : (n k : ℕ) → is_used (units_of (replicate n 0)) k ≡ false
 none_used n k = used_is (replicate n 0) refl k ∙ has-zeros n k
 
--- the blocks of a class lie within the words of a slab
-pub blocks_within : (size u count granules start n : ℕ) → size ≡ 16 * u → 0 < size → count ≡ 63488 / size → start + 4 ≤ granules → 1024 * granules ≤ n → 1024 * start + 128 + count * u ≤ n
-blocks_within size u count granules start n units some is inside most =
+-- the blocks of a class lie within the units of a slab
+pub blocks_within : (size u count start : ℕ) → size ≡ 16 * u → count ≡ 63488 / size → 1024 * start + 128 + count * u ≤ 1024 * (start + 4)
+blocks_within size u count start units is =
     let whole : count * size ≤ 63488 = omega (arith, div-add-mod' 63488 size, ap (λ q. q * size) is) in
     let row : count * size ≡ 16 * (count * u) = ap (λ q. count * q) units ∙ omega arith in
-    omega (arith, whole, row, inside, most)
+    omega (arith, whole, row)

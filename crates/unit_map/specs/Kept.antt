@@ -3,7 +3,8 @@ use Rattle.std.specs.Prelude.{◌≡◌, ◌≢◌, ◌==◌, ◌⊎◌, ℕ, �
 use Rattle.std.specs.Int.{bit_at}
 use Rattle.std.specs.List.{range_with_len}
 use Rattle.bit_words.specs.Numbers.{has}
-use Rattle.unit_map.specs.declared.words.Blocks.{Blocks}
+use Rattle.size_classes.specs.Classes.{class_size, class_capacity}
+use Rattle.unit_map.specs.declared.block_row.BlockRow.{BlockRow}
 use Rattle.unit_map.specs.Units.{Units}
 
 -- a mark for each number that words have a bit for
@@ -66,19 +67,38 @@ pub record IsFirstInWord (words : List ℕ) (at from end : ℕ) (on : Bool) (k :
   pub is : has words k ≡ on
   pub first : (j : ℕ) → from ≤ j → j < k → j / 64 ≡ at → has words j ≢ on
 
--- blocks
+-- blocks in a row
 
--- no number of block i is in the set
-abbrev pub IsFree : List ℕ → Blocks → ℕ → Type 0
-IsFree words blocks i = HasNone words (blocks.first + i * blocks.units) (blocks.first + i * blocks.units + blocks.units) true
+-- the row is that of the blocks of class c in the slab at s, as units
+pub record AreBlocksOf (s c : ℕ) (row : BlockRow) : Type 0 where
+  pub first : row.first ≡ 1024 * s + 128
+  pub units : class_size c ≡ 16 * row.units
+  pub some : 0 < row.units
+  pub count : row.count ≡ class_capacity c
+  pub within : row.first + row.count * row.units ≤ 1024 * (s + 4)
+
+-- block i has no number of the set
+abbrev pub IsFree : List ℕ → BlockRow → ℕ → Type 0
+IsFree words row i = HasNone words (row.first + i * row.units) (row.first + i * row.units + row.units) true
 
 -- every block at or above a number has one
-pub record HasNoFree (words : List ℕ) (blocks : Blocks) (from : ℕ) : Type 0 where
-  pub none : (i : ℕ) → from ≤ i → i < blocks.end → ¬ (IsFree words blocks i)
+pub record HasNoFree (words : List ℕ) (row : BlockRow) (from : ℕ) : Type 0 where
+  pub none : (i : ℕ) → from ≤ i → i < row.count → ¬ (IsFree words row i)
 
 -- the lowest block at or above a number that has none
-pub record IsFirstFree (words : List ℕ) (blocks : Blocks) (from number : ℕ) : Type 0 where
+pub record IsFirstFree (words : List ℕ) (row : BlockRow) (from number : ℕ) : Type 0 where
   pub low : from ≤ number
-  pub within : number < blocks.end
-  pub free : IsFree words blocks number
-  pub first : (i : ℕ) → from ≤ i → i < number → ¬ (IsFree words blocks i)
+  pub within : number < row.count
+  pub free : IsFree words row number
+  pub first : (i : ℕ) → from ≤ i → i < number → ¬ (IsFree words row i)
+
+-- no block at or above a number has one
+pub record HasNoHeld (words : List ℕ) (row : BlockRow) (from : ℕ) : Type 0 where
+  pub none : (i : ℕ) → from ≤ i → i < row.count → IsFree words row i
+
+-- the lowest block at or above a number that has one
+pub record IsFirstHeld (words : List ℕ) (row : BlockRow) (from number : ℕ) : Type 0 where
+  pub low : from ≤ number
+  pub within : number < row.count
+  pub held : ¬ (IsFree words row number)
+  pub first : (i : ℕ) → from ≤ i → i < number → IsFree words row i

@@ -11,6 +11,7 @@
 // above know these contracts and laws, and nothing of how the marks are kept: as bits of words.
 #![tactic(auto)]
 
+mod block_row;
 mod laws;
 mod map;
 mod words;

@@ -1,9 +1,14 @@
 // The map of units.
-ghost use Rattle.std.specs.Prelude.{◌≡◌, ◌↔◌, ℕ, ◌+◌, ◌*◌, ◌<◌, ◌≤◌, true, false, IsTrue, MatchOption, IfOk};
+ghost use Rattle.std.specs.Prelude.{◌≡◌, ◌↔◌, ℕ, ◌+◌, ◌*◌, ◌<◌, ◌≤◌, true, false, length, IsTrue, MatchOption, IfOk};
+ghost use Rattle.size_classes.specs.Classes.{class_capacity};
+ghost use Rattle.bit_words.specs.Numbers.{has};
+ghost use Rattle.heap_model.specs.Machine.{slab_block};
 ghost use Rattle.unit_map.specs.Units.{is_used, IsMarked, IsClear};
-ghost use Rattle.unit_map.specs.Blocks.{HasNoClearBlock, IsFirstClearBlock};
+ghost use Rattle.unit_map.specs.Blocks.{IsClearRange, HasNoClearBlock, IsFirstClearBlock};
+ghost use Rattle.unit_map.specs.Kept.{AreBlocksOf};
 
-use crate::words::{Blocks, first_free, has_none, put_range};
+use crate::block_row::{BlockRow, first_free, held_blocks};
+use crate::words::{has_none, put_range};
 use pmem_lines::OutOfMemory;
 use size_classes::{capacity, size_of_class};
 use std::alloc::Global;
@@ -79,19 +84,36 @@ impl UnitMap {
 
     /// The lowest block of a class, at or above a number, whose units are clear, of those in the slab that begins at granule
     /// `start`; which class the slab has makes no difference. `None` exactly where there is none. Units that are used are
-    /// passed over word by word, so it looks at some two words for each block that it passes over, and at no more than 250
-    /// for the slab besides.
+    /// passed over word by word.
     pub fn first_clear(&self, start: u32, class: u8, from: u32) -> Option<u32>
         requires inside { start + 4 ≤ self.now.granules }
         requires class { class < 36 }
         ensures { MatchOption result (HasNoClearBlock self.now start class from) (IsFirstClearBlock self.now start class from) }
     {
-        let words: &[u64] = &self.words;
-        let blocks = Blocks {
-            first: GRANULE_UNITS * start + HEADER_UNITS,
-            units: size_of_class(class) / UNIT_BYTES,
-            end: capacity(class),
-        };
-        first_free(words, blocks, from)
+        first_free(&self.words, blocks_of(start, class), from)
+    }
+
+    /// The blocks of a class in the slab that begins at granule `start` of which a unit is used, as a set of 4096 numbers;
+    /// which class the slab has makes no difference. Units that are not used are passed over word by word.
+    pub fn used_blocks(&self, start: u32, class: u8) -> [u64; 64]
+        requires inside { start + 4 ≤ self.now.granules }
+        requires class { class < 36 }
+        ensures size { length result ≡ 64 }
+        ensures blocks { (i : ℕ) → i < class_capacity class → (has result i ≡ false) ↔ IsClearRange self.now (slab_block start class i) }
+    {
+        held_blocks(&self.words, blocks_of(start, class))
+    }
+}
+
+// The blocks of a class in the slab that begins at a granule, as units.
+fn blocks_of(start: u32, class: u8) -> BlockRow
+    requires inside { start < 4096 }
+    requires class { class < 36 }
+    ensures { AreBlocksOf start class result }
+{
+    BlockRow {
+        first: GRANULE_UNITS * start + HEADER_UNITS,
+        units: size_of_class(class) / UNIT_BYTES,
+        count: capacity(class),
     }
 }

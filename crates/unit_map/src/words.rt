@@ -1,16 +1,8 @@
 // Ranges of a set of numbers that is kept as bits of words: put in and out, and searched, word by word.
 ghost use Rattle.std.specs.Prelude.{◌≡◌, ◌+◌, ◌*◌, ◌<◌, ◌≤◌, ◌^◌, ◌↔◌, length, true, IsTrue, MatchOption};
-ghost use Rattle.unit_map.specs.Kept.{IsMask, IsMasked, IsRangePut, IsPart, HasNone, IsFirst, HasNoneInWord, IsFirstInWord, HasNoFree, IsFirstFree};
+ghost use Rattle.unit_map.specs.Kept.{IsMask, IsMasked, IsRangePut, IsPart, HasNone, IsFirst, HasNoneInWord, IsFirstInWord};
 
 use bit_words::ones;
-
-/// Blocks side by side in a set of numbers: so many numbers each, from a first number on, and so many blocks.
-#[derive(Clone, Copy)]
-pub(crate) struct Blocks {
-    pub(crate) first: u32,
-    pub(crate) units: u32,
-    pub(crate) end: u32,
-}
 
 // The bits of word `at` whose numbers lie in a range.
 fn mask_of(at: u32, from: u32, end: u32) -> u64
@@ -81,26 +73,4 @@ pub(crate) fn has_none(words: &[u64], from: u32, end: u32) -> bool
     ensures { IsTrue result ↔ HasNone words.now from end true }
 {
     first_of(words, from, end, true).is_none()
-}
-
-/// The lowest block at or above a number of which no number is in the set. What is used is passed over word by word, up to
-/// the first number that is not: the block that has it is the next that may be free.
-pub(crate) fn first_free(words: &[u64], blocks: Blocks, from: u32) -> Option<u32>
-    requires some { 0 < blocks.units }
-    requires within { blocks.first + blocks.end * blocks.units ≤ 64 * length words.now }
-    requires few { length words.now ≤ 65536 }
-    ensures { MatchOption result (HasNoFree words.now blocks from) (IsFirstFree words.now blocks from) }
-{
-    let end = blocks.first + blocks.end * blocks.units;
-    let mut number = from;
-    while number < blocks.end {
-        let unused = first_of(words, blocks.first + number * blocks.units, end, false)?;
-        number = (unused - blocks.first) / blocks.units;
-        let at = blocks.first + number * blocks.units;
-        if has_none(words, at, at + blocks.units) {
-            return Some(number);
-        }
-        number += 1;
-    }
-    None
 }

@@ -1,4 +1,4 @@
-use Rattle.unit_map.proofs.Free.{none_if_first}
+use Rattle.unit_map.proofs.Ranges.{none_if_first}
 use Rattle.unit_map.proofs.words.has_none.Goals as goal
 
 pub returns : goal.returns
