@@ -1,7 +1,7 @@
 -- Masks of the bits of a word whose numbers lie in a range, and words that a mask changes or picks from.
-use Rattle.std.proofs.Common.{◌≡◌, ◌≢◌, ◌⊎◌, ℕ, ◌+◌, ◌-◌, ◌*◌, ◌^◌, ◌<◌, ◌≤◌, min, max, ⊎_elim, inl, inr, Bool, true, false, eqb, bit_and, bit_or, w64, sym, ap, ◌∙◌, arith}
+use Rattle.std.proofs.Common.{◌≡◌, ◌≢◌, ℕ, ◌+◌, ◌-◌, ◌*◌, ◌^◌, ◌<◌, ◌≤◌, min, ⊎_elim, inl, inr, Bool, true, false, eqb, bit_and, bit_or, w64, sym, ap, ◌∙◌, arith}
 use Rattle.std.specs.Int.{bit_at}
-use Rattle.std.proofs.lemmas.Bool.{cases_lt, eq-eqb, ne_eqb, eqb-true, eqb-false, lt-ltb, le-ltb, true≢false, false≢true}
+use Rattle.std.proofs.lemmas.Bool.{cases_lt, eq-eqb, ne_eqb, eqb-true, eqb-false, lt-ltb, le-ltb, true≢false}
 use Rattle.std.proofs.lemmas.Nat.Bits.{bit_at-lt, bit_at_and, bit_at_or, bit_at_not}
 use Rattle.bit_words.specs.Numbers.{ones}
 use Rattle.bit_words.proofs.Bits.{bit_of_ones}

@@ -1,14 +1,14 @@
 -- The units of a state of the machine, and of the state after a block came or went.
-use Rattle.std.proofs.Common.{◌≡◌, ◌≢◌, ◌⊎◌, ◌↔◌, ℕ, ◌+◌, ◌*◌, ◌/◌, ◌%◌, ◌<◌, ◌≤◌, ⊎_elim, inl, inr, Bool, true, false, Option, Some, None, refl, sym, subst, ap, ◌∙◌, arith}
+use Rattle.std.proofs.Common.{◌≡◌, ◌≢◌, ◌⊎◌, ℕ, ◌+◌, ◌*◌, ◌/◌, ◌<◌, ◌≤◌, ⊎_elim, inl, inr, false, Some, None, refl, sym, subst, ap, ◌∙◌, arith}
 use Rattle.std.proofs.lemmas.Bool.{cases_lt, both_ways, false_from_ne_true}
-use Rattle.size_classes.specs.Classes.{class_size, class_capacity}
+use Rattle.size_classes.specs.Classes.{class_size}
 use Rattle.size_classes.proofs.Spacing.{class_size-aligned, class_size-least}
-use Rattle.heap_model.specs.Machine.{Bounds, Range, Machine, AreApart, IsLarge, Meets, slab_block, with_key, IsUnused, IsOverlapFree}
+use Rattle.heap_model.specs.Machine.{Bounds, Range, Machine, AreApart, IsLarge, slab_block, IsOverlapFree}
 use Rattle.heap_model.proofs.Maps.{with_key-here, with_key-other, with_key-cases}
 use Rattle.heap_model.proofs.Slabbing.{LiesIn-block}
 use Rattle.heap_model.proofs.Placing.{rows_apart}
-use Rattle.unit_map.specs.Units.{Units, is_used, IsMarked, IsClear}
-use Rattle.unit_map.specs.Blocks.{first_unit, unit_count, IsOnUnits, IsClearRange, IsRangeMarked, IsRangeCleared, IsSmallLive, HasUnit, AreUnitsOf, LawOfPlacedUnits, LawOfFreedUnits, LawOfKeptUnits, LawOfUnusedBlocks}
+use Rattle.unit_map.specs.Units.{Units, is_used}
+use Rattle.unit_map.specs.Blocks.{first_unit, unit_count, IsOnUnits, IsClearRange, IsSmallLive, HasUnit, AreUnitsOf, LawOfPlacedUnits, LawOfFreedUnits, LawOfKeptUnits, LawOfUnusedBlocks}
 
 -- what an option has
 some_is : (x y : Range) → Some x ≡ Some y → x ≡ y
@@ -151,8 +151,7 @@ pub law_of_unused_blocks : LawOfUnusedBlocks
 law_of_unused_blocks b m units s class c i are was slab known within =
     let block = slab_block s c i in
     let on = block_on_units s c i known in
-    let lies = LiesIn-block s c block (record { number = i; within = within; is = refl }) in
-    (
+    let lies = LiesIn-block s c block (record { number = i; within = within; is = refl }) in (
       λ clear. record {
         each = λ root other named. ⊎_elim
             (λ (large : 16384 < other.size). apart_if_large b m s class root block other was slab lies.low lies.high named large)
