@@ -2,7 +2,8 @@
 // end to end.
 //
 // `blocks` tests the slabs of `slab_index` with their available blocks, `candidates` its calm slabs that may take another
-// class, `stacks` the stacks of `thread_cache`, `supply` the calls of `block_supply`, and `plain` has the plain lists of slabs.
+// class, `stacks` the stacks of `thread_cache`, `supply` the calls of `block_supply`, `units` the map of
+// `unit_map`, and `plain` has the plain lists of slabs.
 // The crate has no code. It stands apart from those that it tests, since a crate with tests is proved twice.
 #![tactic(auto)]
 
@@ -16,3 +17,5 @@ mod plain;
 mod stacks;
 #[cfg(test)]
 mod supply;
+#[cfg(test)]
+mod units;
