@@ -1,5 +1,5 @@
 // The map of units: rows that were worked by hand, and many calls beside a plain list of marks.
-ghost use Rattle.std.specs.Prelude.{◌≡◌, ◌<◌, ◌≤◌, IfOk};
+ghost use Rattle.std.specs.Prelude.{◌≡◌, ◌+◌, ◌<◌, ◌≤◌, IsTrue, IfOk};
 
 use pmem_lines::OutOfMemory;
 use rand_core::SeedableRng;
@@ -22,7 +22,7 @@ struct Span(u32, u32);
 
 // Whether the units lie among 16 granules.
 fn is_inside(span: Span) -> bool
-    ensures { result ≡ true → span.0 + span.1 ≤ 16384 }
+    ensures { IsTrue result → span.0 + span.1 ≤ 16384 }
 {
     span.0 <= UNITS && span.1 <= UNITS - span.0
 }
@@ -76,12 +76,28 @@ fn exactly_these(rt: HostRuntime) -> Result<(), Fail> {
         (&[Span(5, 3)], &[], &[Span(5, 3)]),
         (&[Span(60, 10)], &[], &[Span(60, 10)]),
         (&[Span(64, 128)], &[], &[Span(64, 128)]),
-        (&[Span(0, 1), Span(63, 1), Span(64, 1)], &[], &[Span(0, 1), Span(63, 2)]),
+        (
+            &[Span(0, 1), Span(63, 1), Span(64, 1)],
+            &[],
+            &[Span(0, 1), Span(63, 2)],
+        ),
         (&[Span(16383, 1)], &[], &[Span(16383, 1)]),
         (&[Span(4234, 1024)], &[], &[Span(4234, 1024)]),
-        (&[Span(0, 256)], &[Span(10, 100)], &[Span(0, 10), Span(110, 146)]),
-        (&[Span(128, 192)], &[Span(128, 64), Span(319, 1)], &[Span(192, 127)]),
-        (&[Span(100, 50), Span(120, 100)], &[Span(90, 20)], &[Span(110, 110)]),
+        (
+            &[Span(0, 256)],
+            &[Span(10, 100)],
+            &[Span(0, 10), Span(110, 146)],
+        ),
+        (
+            &[Span(128, 192)],
+            &[Span(128, 64), Span(319, 1)],
+            &[Span(192, 127)],
+        ),
+        (
+            &[Span(100, 50), Span(120, 100)],
+            &[Span(90, 20)],
+            &[Span(110, 110)],
+        ),
         (&[Span(0, 16384)], &[Span(64, 0)], &[Span(0, 16384)]),
     ];
     for (marks, clears, want) in rows {
@@ -116,14 +132,22 @@ fn clear_ranges(rt: HostRuntime) -> Result<(), Fail> {
 fn first_clear(units: &UnitMap, class: u8, from: u32) -> Option<u32>
     requires { units.now.granules ≡ 16 }
 {
-    if class < 36 { units.first_clear(4, class, from) } else { None }
+    if class < 36 {
+        units.first_clear(4, class, from)
+    } else {
+        None
+    }
 }
 
 // Two live blocks in the slab at granule 4: block 5 of 64 bytes, with its units 20 to 23, and block 1 of 16384 bytes, with
 // those from 1024 to 2047. The last block of 16384 bytes has the units 2048 to 3071.
 #[test]
 fn first_clear_blocks(rt: HostRuntime) -> Result<(), Fail> {
-    let units = made(rt.alloc(), &[Span(FIRST + 20, 4), Span(FIRST + 1024, 1024)], &[])?;
+    let units = made(
+        rt.alloc(),
+        &[Span(FIRST + 20, 4), Span(FIRST + 1024, 1024)],
+        &[],
+    )?;
     for (class, from, want) in [
         (0, 0, Some(0)),
         (0, 20, Some(24)),
@@ -144,7 +168,11 @@ fn first_clear_blocks(rt: HostRuntime) -> Result<(), Fail> {
         (35, 3, None),
         (35, 4_000_000_000, None),
     ] {
-        assert_eq!(rt; first_clear(&units, class, from), want, "of {class} from {from}");
+        assert_eq!(rt;
+            first_clear(&units, class, from),
+            want,
+            "of {class} from {from}"
+        );
     }
     Ok(())
 }
@@ -152,12 +180,24 @@ fn first_clear_blocks(rt: HostRuntime) -> Result<(), Fail> {
 // The blocks of each class that those two overlap, by the words of the set that are not 0.
 #[test]
 fn overlapped_blocks(rt: HostRuntime) -> Result<(), Fail> {
-    let units = made(rt.alloc(), &[Span(FIRST + 20, 4), Span(FIRST + 1024, 1024)], &[])?;
+    let units = made(
+        rt.alloc(),
+        &[Span(FIRST + 20, 4), Span(FIRST + 1024, 1024)],
+        &[],
+    )?;
     assert_eq!(rt; units.used_blocks(4, 35)[0], 0b011);
     assert_eq!(rt; units.used_blocks(4, 34)[0], 0b0111);
     assert_eq!(rt; units.used_blocks(4, 31)[0], 0b000_1101);
     let quarters = units.used_blocks(4, 3);
-    for (word, want) in [(0, 1 << 5), (1, 0), (3, 0), (4, u64::MAX), (7, u64::MAX), (8, 0), (63, 0)] {
+    for (word, want) in [
+        (0, 1 << 5),
+        (1, 0),
+        (3, 0),
+        (4, u64::MAX),
+        (7, u64::MAX),
+        (8, 0),
+        (63, 0),
+    ] {
         assert_eq!(rt; quarters.get(word).copied(), Some(want), "word {word}");
     }
     assert_eq!(rt; units.used_blocks(8, 0)[0], 0);
@@ -168,10 +208,16 @@ fn overlapped_blocks(rt: HostRuntime) -> Result<(), Fail> {
 #[test]
 fn last_block_of_a_slab(rt: HostRuntime) -> Result<(), Fail> {
     let mut units = made(rt.alloc(), &[Span(FIRST, 3968)], &[])?;
-    assert_eq!(rt; (first_clear(&units, 0, 0), first_clear(&units, 35, 0)), (None, None));
+    assert_eq!(rt;
+        (first_clear(&units, 0, 0), first_clear(&units, 35, 0)),
+        (None, None)
+    );
     assert_eq!(rt; units.used_blocks(4, 0)[61], u64::MAX);
     units.clear(FIRST + 3967, 1);
-    assert_eq!(rt; (first_clear(&units, 0, 0), first_clear(&units, 1, 0)), (Some(3967), None));
+    assert_eq!(rt;
+        (first_clear(&units, 0, 0), first_clear(&units, 1, 0)),
+        (Some(3967), None)
+    );
     assert_eq!(rt; units.used_blocks(4, 0)[61], u64::MAX >> 1);
     assert!(rt; units.is_clear(FIRST - 1, 1) && units.is_clear(FIRST + 3967, 1));
     Ok(())
@@ -238,7 +284,10 @@ fn like_a_plain_list(rt: HostRuntime) -> Result<(), Fail> {
     let mut plain = vec![in rt.alloc(); false; UNITS as usize]?;
     let mut picks = SplitMix64::from_seed([7; 8]);
     for turn in 0..600 {
-        assert!(rt; agree(&mut units, &mut plain, picks.next_word()), "in {turn}");
+        assert!(rt;
+            agree(&mut units, &mut plain, picks.next_word()),
+            "in {turn}"
+        );
     }
     let spans = used(rt.alloc(), &units)?;
     for span in spans {
