@@ -3,7 +3,7 @@ use Rattle.std.proofs.Common.{◌≡◌, ◌≢◌, ◌⊎◌, ℕ, ◌+◌, ◌
 use Rattle.std.proofs.lemmas.Bool.{cases_lt, both_ways, false_from_ne_true}
 use Rattle.size_classes.specs.Classes.{class_size}
 use Rattle.size_classes.proofs.Spacing.{class_size-aligned, class_size-least}
-use Rattle.heap_model.specs.Machine.{Bounds, Range, Machine, AreApart, IsLarge, slab_block, IsOverlapFree}
+use Rattle.heap_model.specs.Machine.{Bounds, Range, Machine, AreApart, IsLarge, slab_block, with_key, IsOverlapFree}
 use Rattle.heap_model.proofs.Maps.{with_key-here, with_key-other, with_key-cases}
 use Rattle.heap_model.proofs.Slabbing.{LiesIn-block}
 use Rattle.heap_model.proofs.Placing.{rows_apart}
@@ -103,6 +103,34 @@ law_of_kept_units m after units are same = record {
     λ has. (are.used k).1 (record { range = has.range; live = (same has.range).1 has.live; low = has.low; high = has.high }),
   );
 }
+
+-- a large block came
+pub units_with_large : (m after : Machine) (root : ℕ) (range : Range) (units : Units) → AreUnitsOf m units → m.block root ≡ None → ((r : ℕ) → after.block r ≡ with_key m.block root (Some range) r) → IsLarge range → AreUnitsOf after units
+units_with_large m after root range units are free is large = law_of_kept_units m after units are (λ other. (
+  λ live. record {
+    root = live.root;
+    named = is live.root ∙ with_key-other m.block root live.root (Some range) (λ same. absurd (let had : m.block root ≡ Some other = ap m.block (sym same) ∙ live.named in cc)) ∙ live.named;
+    small = live.small;
+  },
+  λ live. ⊎_elim
+      (λ here. absurd (live.small (subst IsLarge (some_is range other here.1) large)))
+      (λ there. record { root = live.root; named = there.1; small = live.small })
+      (with_key-cases m.block root live.root (Some range) (Some other) (sym (is live.root) ∙ live.named)),
+))
+
+-- a large block went
+pub units_without_large : (m after : Machine) (root : ℕ) (range : Range) (units : Units) → AreUnitsOf m units → m.block root ≡ Some range → ((r : ℕ) → after.block r ≡ with_key m.block root None r) → IsLarge range → AreUnitsOf after units
+units_without_large m after root range units are held is large = law_of_kept_units m after units are (λ other. (
+  λ live. record {
+    root = live.root;
+    named = is live.root ∙ with_key-other m.block root live.root None (λ same. live.small (subst IsLarge (some_is range other (sym held ∙ ap m.block (sym same) ∙ live.named)) large)) ∙ live.named;
+    small = live.small;
+  },
+  λ live. ⊎_elim
+      (λ here. absurd (let none = here.1 in cc))
+      (λ there. record { root = live.root; named = there.1; small = live.small })
+      (with_key-cases m.block root live.root None (Some other) (sym (is live.root) ∙ live.named)),
+))
 
 -- where no small block is live, no unit is used
 pub no_units : (m : Machine) (units : Units) → ((range : Range) → ¬ (IsSmallLive m range)) → ((k : ℕ) → is_used units k ≡ false) → AreUnitsOf m units

@@ -2,9 +2,9 @@
 // class, and a granule has 1024 units.
 //
 // `UnitMap` means `Units` of `specs/Units.antt`: a mark for each unit of an arena, of which `is_used` says whether it is set.
-// The units of a block are marked when it is given out and cleared when it comes back, and the lowest block of a class in a
-// slab is found of which no unit is used, whatever the sizes of the live blocks there. The map takes memory once, when it is
-// made, and no call looks beyond the range or the slab that it is asked for.
+// The units of a block are marked when it is given out and cleared when it comes back. Of the blocks of any class in a slab it
+// finds the lowest of which no unit is used, and those of which one is, whatever the sizes of the live blocks there. It takes
+// memory once, when it is made, and no call looks beyond the range or the slab that it is asked for.
 //
 // The map knows no heap. `AreUnitsOf` of `specs/Blocks.antt` says that it is that of a state of the machine, and the laws what
 // becomes of it when a block comes or goes, and that a block of a slab is unused exactly where its units are clear. The layers
