@@ -1,6 +1,6 @@
 -- What it says of two roots that one comes before another, or does not.
-use Rattle.std.proofs.Common.{◌≡◌, ◌≢◌, ◌<◌, ◌≤◌, ⊎_elim, inl, inr, ℕ, arith}
-use Rattle.std.proofs.lemmas.Bool.{cases_lt, cases_eq}
+use Rattle.std.proofs.Common.{◌≡◌, ◌≢◌, ◌<◌, ◌≤◌, ⊎_elim, inl, inr, arith}
+use Rattle.std.proofs.lemmas.Bool.{cases_lt}
 use Rattle.pair_order.specs.declared.order.Ranked.{Ranked}
 use Rattle.pair_order.specs.Order.{IsBefore}
 
@@ -26,13 +26,14 @@ before_from a b first second root =
     ⊎_elim
     (λ (less : a.first < b.first). inl less)
     (λ (no_less : b.first ≤ a.first).
-        let same : a.first ≡ b.first = omega arith in
-        inr
-        (same,
-            ⊎_elim
-            (λ (lower : a.second < b.second). inl lower)
-            (λ (no_lower : b.second ≤ a.second). let also : a.second ≡ b.second = omega (arith, second same) in inr (also, root same also))
-            (cases_lt a.second b.second)))
+    let same : a.first ≡ b.first = omega arith in
+    inr (
+      same,
+      ⊎_elim
+          (λ (lower : a.second < b.second). inl lower)
+          (λ (no_lower : b.second ≤ a.second). let also : a.second ≡ b.second = omega (arith, second same) in inr (also, root same also))
+          (cases_lt a.second b.second),
+    ))
     (cases_lt a.first b.first)
 
 -- none comes before itself
@@ -45,13 +46,13 @@ before_trans a b c ab bc =
     before_from a c
     (omega (arith, before_first a b ab, before_first b c bc))
     (λ same.
-        let first : a.first ≡ b.first = omega (arith, before_first a b ab, before_first b c bc) in
-        omega (arith, before_second a b ab first, before_second b c bc (omega arith)))
+    let first : a.first ≡ b.first = omega (arith, before_first a b ab, before_first b c bc) in
+    omega (arith, before_second a b ab first, before_second b c bc (omega arith)))
     (λ same also.
-        let first : a.first ≡ b.first = omega (arith, before_first a b ab, before_first b c bc) in
-        let next : b.first ≡ c.first = omega arith in
-        let second : a.second ≡ b.second = omega (arith, before_second a b ab first, before_second b c bc next) in
-        omega (arith, before_root a b ab first second, before_root b c bc next (omega arith)))
+    let first : a.first ≡ b.first = omega (arith, before_first a b ab, before_first b c bc) in
+    let next : b.first ≡ c.first = omega arith in
+    let second : a.second ≡ b.second = omega (arith, before_second a b ab first, before_second b c bc next) in
+    omega (arith, before_root a b ab first second, before_root b c bc next (omega arith)))
 
 -- nor does each of two come before the other
 pub before_one_way : (a b : Ranked) → IsBefore a b → IsBefore b a → ⊥

@@ -1,5 +1,5 @@
 -- A list into which an element came, or from which one went: what it has, in what order, and what a function makes of it.
-use Rattle.std.proofs.Common.{◌≡◌, ◌≢◌, ◌⊎◌, ⊎_elim, inl, inr, ℕ, suc, ◌+◌, ◌-◌, ◌<◌, ◌≤◌, List, ◌∷◌, ◌++◌, map, take, drop, length, get_or, refl, sym, ap, ◌∙◌, subst, arith, add-one}
+use Rattle.std.proofs.Common.{◌≡◌, ◌≢◌, ◌⊎◌, ⊎_elim, inl, inr, ℕ, suc, ◌+◌, ◌-◌, ◌<◌, ◌≤◌, List, ◌∷◌, ◌++◌, map, take, drop, length, get_or, sym, ap, ◌∙◌, subst, arith}
 use Rattle.std.proofs.lemmas.Bool.{cases_lt, cases_eq}
 use Rattle.std.proofs.lemmas.List.{map-append, take-map, drop-map}
 use Rattle.std.proofs.lemmas.List.Edits.{length-insert, get_or-insert_below, get_or-insert_at, get_or-insert_above, length-remove, get_or-remove_below, get_or-remove_above}
@@ -24,9 +24,9 @@ side k p =
     ⊎_elim
     (λ (low : k < p). Low low)
     (λ (no_low : p ≤ k). ⊎_elim
-        (λ (same : k ≡ p). Same same)
-        (λ (apart : k ≢ p). High (k - 1) (omega (arith, apart)) (omega (arith, apart)))
-        (cases_eq k p))
+    (λ (same : k ≡ p). Same same)
+    (λ (apart : k ≢ p). High (k - 1) (omega (arith, apart)) (omega (arith, apart)))
+    (cases_eq k p))
     (cases_lt k p)
 
 module _ {X : Type 0} (R : X → X → Type 0) (xs : List X) (p : ℕ) (y : X) where

@@ -1,6 +1,6 @@
 -- What a place in an order says of those before it and behind it: the last of a first number, the next one, the greatest.
-use Rattle.std.proofs.Common.{◌≡◌, ◌≢◌, ◌⊎◌, ⊎_elim, inl, inr, ℕ, ◌+◌, ◌-◌, ◌^◌, ◌<◌, ◌≤◌, List, length, get_or, Option, Some, None, MatchOption, refl, sym, ap, ◌∙◌, subst, arith}
-use Rattle.std.proofs.lemmas.Bool.{cases_lt, cases_eq}
+use Rattle.std.proofs.Common.{◌≡◌, ◌≢◌, ◌⊎◌, ⊎_elim, inl, inr, ℕ, ◌+◌, ◌-◌, ◌^◌, ◌<◌, ◌≤◌, length, get_or, Option, Some, None, MatchOption, refl, sym, ap, ◌∙◌, subst, arith}
+use Rattle.std.proofs.lemmas.Bool.{cases_lt}
 use Rattle.pair_order.specs.declared.order.Ranked.{Ranked}
 use Rattle.pair_order.specs.Order.{Order, IsBefore, IsRanked, IsOrder, HasNoneOf, IsLastOf, HasNoneWith, IsHighestWith, HasNoneFrom, IsNextFrom, IsEmpty, IsGreatest}
 use Rattle.pair_order.specs.Kept.{IsPlaceOf, AreNarrow, IsInPlace, HasNoneBefore, IsLastBefore}
@@ -29,9 +29,9 @@ module _ (order : Order) (sound : IsOrder order) where
     before = subst (λ (x : Ranked). IsBefore x end) (at.is r) (place.before q r (omega arith));
     last = λ s (k, inside, is) before behind.
         let low : k < p = ⊎_elim
-            (λ (low : k < p). low)
-            (λ (high : p ≤ k). absurd (place.behind k s high inside (subst (λ (x : Ranked). IsBefore x end) (sym is) before)))
-            (cases_lt k p) in
+        (λ (low : k < p). low)
+        (λ (high : p ≤ k). absurd (place.behind k s high inside (subst (λ (x : Ranked). IsBefore x end) (sym is) before)))
+        (cases_lt k p) in
         ⊎_elim
         (λ (same : s ≡ r). before_irreflexive r (subst (IsBefore r) same behind))
         (λ (earlier : IsBefore s r). before_one_way s r earlier behind)
@@ -74,9 +74,9 @@ module _ (order : Order) (sound : IsOrder order) where
         ⊎_elim
         (λ (low : s.first < first). low)
         (λ (high : first ≤ s.first).
-            let same : s.first ≡ first = omega (arith, before_first s start before) in
-            let also : s.second ≡ 0 = omega (arith, before_second s start before same) in
-            absurd (omega (arith, before_root s start before same also)))
+        let same : s.first ≡ first = omega (arith, before_first s start before) in
+        let also : s.second ≡ 0 = omega (arith, before_second s start before same) in
+        absurd (omega (arith, before_root s start before same also)))
         (cases_lt s.first first)
 
     pub none_from : p ≡ length order.ranked → HasNoneFrom order first
@@ -95,12 +95,12 @@ module _ (order : Order) (sound : IsOrder order) where
           ⊎_elim
           (λ (low : k < p). absurd (omega (arith, low_first s (subst (λ (x : Ranked). IsBefore x (record { root = 0; first = first; second = 0 })) is (place.before k s low)))))
           (λ (no_low : p ≤ k). ⊎_elim
-              (λ (behind : p < k). before_first next s (subst (IsBefore next) is (subst (λ (x : Ranked). IsBefore x (get_or order.ranked k s)) (at.is s) (sound.rising p k s behind inside))))
-              (λ (no_behind : k ≤ p).
-                  let same : p ≡ k = omega arith in
-                  let e : next.first ≡ s.first = ap (λ x. x.first) (sym (at.is s) ∙ ap (λ i. get_or order.ranked i s) same ∙ is) in
-                  omega arith)
-              (cases_lt p k))
+          (λ (behind : p < k). before_first next s (subst (IsBefore next) is (subst (λ (x : Ranked). IsBefore x (get_or order.ranked k s)) (at.is s) (sound.rising p k s behind inside))))
+          (λ (no_behind : k ≤ p).
+          let same : p ≡ k = omega arith in
+          let e : next.first ≡ s.first = ap (λ x. x.first) (sym (at.is s) ∙ ap (λ i. get_or order.ranked i s) same ∙ is) in
+          omega arith)
+          (cases_lt p k))
           (cases_lt k p)
 
       -- what its first number's last one is
@@ -135,9 +135,9 @@ module _ (order : Order) (narrow : AreNarrow order) (first : ℕ) where
     none_of_other apart = record {
       none = λ s is same. apart
           (let low = before_first r (record { root = 65536; first = first; second = 2 ^ 64 - 1 }) last.before in
-              let high = behind_first r s (last.last s is (before_end s is same)) in
-              let e : r.first ≡ first = omega arith in
-              e);
+          let high = behind_first r s (last.last s is (before_end s is same)) in
+          let e : r.first ≡ first = omega arith in
+          e);
     }
 
   -- and all of two numbers before the end of both

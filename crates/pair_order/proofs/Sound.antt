@@ -1,5 +1,5 @@
 -- Lists that are kept of an order say a sound one.
-use Rattle.std.proofs.Common.{◌≡◌, ⊎_elim, ℕ, ◌+◌, ◌<◌, ◌≤◌, eqb, true, List, length, get_or, sym, ap, ◌∙◌, subst, arith}
+use Rattle.std.proofs.Common.{◌≡◌, ⊎_elim, ℕ, ◌^◌, ◌<◌, ◌≤◌, eqb, true, List, length, get_or, sym, ap, ◌∙◌, subst, arith}
 use Rattle.std.proofs.lemmas.Bool.{eqb-true, ne_eqb, cases_lt}
 use Rattle.std.proofs.lemmas.List.{get_or_default}
 use Rattle.std.proofs.lemmas.List.Folds.{Any-from_list_any}
@@ -7,8 +7,8 @@ use Rattle.std.proofs.lemmas.Map.Keys.{IsDistinct-from_apart}
 use Rattle.std.proofs.lemmas.Map.Steps.{length-le_from_distinct_below}
 use Rattle.std.specs.List.{Any, Contains}
 use Rattle.pair_order.specs.declared.order.Ranked.{Ranked}
-use Rattle.pair_order.specs.Order.{Order, IsBefore, IsRanked, IsOrder}
-use Rattle.pair_order.specs.Kept.{ranked_at, ranked_of, order_of, AreRanked}
+use Rattle.pair_order.specs.Order.{IsBefore, IsRanked, IsOrder}
+use Rattle.pair_order.specs.Kept.{ranked_at, ranked_of, order_of, AreRanked, AreNarrow, IsInPlace}
 use Rattle.pair_order.proofs.Before.{before_irreflexive}
 use Rattle.pair_order.proofs.Places.{length-ranked_of, get_or-ranked_of}
 
@@ -51,9 +51,9 @@ module _ (order firsts seconds : List ℕ) (kept : AreRanked order firsts second
       ⊎_elim
       (λ (less : i < j). absurd (apart_in i j d less inside same))
       (λ (no_less : j ≤ i). ⊎_elim
-          (λ (more : j < i). absurd (apart_in j i d more within (sym same)))
-          (λ (no_more : i ≤ j). let is : i ≡ j = omega arith in is)
-          (cases_lt j i))
+      (λ (more : j < i). absurd (apart_in j i d more within (sym same)))
+      (λ (no_more : i ≤ j). let is : i ≡ j = omega arith in is)
+      (cases_lt j i))
       (cases_lt i j)
 
   -- and there are no more than roots
@@ -74,3 +74,24 @@ module _ (order firsts seconds : List ℕ) (kept : AreRanked order firsts second
     once = λ r s is also same. (at_of firsts seconds order r is).numbers ∙ ap (ranked_at firsts seconds) same ∙ sym (at_of firsts seconds order s also).numbers;
     few = omega (arith, length-ranked_of firsts seconds order, few_in);
   }
+
+  -- none of its roots and second numbers is wider than what it is kept in
+  pub narrow_of : length firsts ≤ 2 ^ 16 → ((i : ℕ) → get_or seconds i 0 < 2 ^ 64) → AreNarrow (order_of order firsts seconds)
+  unfolding IsRanked
+  narrow_of few narrow = record {
+    sound = sound_of;
+    each = λ r is.
+        let at = at_of firsts seconds order r is in
+        let root : r.root < length firsts = subst (λ (n : ℕ). n < length firsts) at.root (kept.below at.place at.within) in
+        (omega arith, subst (λ (n : ℕ). n < 2 ^ 64) (sym (ap (λ s. s.second) at.numbers)) (narrow r.root));
+  }
+
+  -- what stands at a place
+  pub in_place_of : (place : ℕ) → place < length order → IsInPlace (order_of order firsts seconds) place (ranked_at firsts seconds (get_or order place 0))
+  unfolding IsRanked
+  in_place_of place within =
+      let read = λ (d : Ranked). get_or-ranked_of firsts seconds order place d 0 within in
+      record {
+        is = read;
+        ranked = (place, omega (arith, length-ranked_of firsts seconds order), read (ranked_at firsts seconds (get_or order place 0)));
+      }

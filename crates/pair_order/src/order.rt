@@ -1,7 +1,7 @@
 // Roots in an order.
 ghost use Rattle.std.specs.Prelude.{◌≡◌, ◌≤◌, ◌<◌, ◌^◌, ◌+◌, length, slice_index_or, MatchOption, IfOk};
-ghost use Rattle.pair_order.specs.Order.{HasPlace, HasNoPlace, IsNew, HasMore, HasLess, HasNoneOf, IsLastOf, HasNoneWith, IsHighestWith, HasNoneFrom, IsNextFrom, IsEmpty, IsGreatest};
-ghost use Rattle.pair_order.specs.Kept.{HasNoneBefore, IsLastBefore, AreNarrow, IsInPlace};
+ghost use Rattle.pair_order.specs.Order.{IsOrder, HasPlace, HasNoPlace, IsNew, HasMore, HasLess, HasNoneOf, IsLastOf, HasNoneWith, IsHighestWith, HasNoneFrom, IsNextFrom, IsEmpty, IsGreatest};
+ghost use Rattle.pair_order.specs.Kept.{IsPlaceOf, HasNoneBefore, IsLastBefore, AreNarrow, IsInPlace};
 
 use crate::search::place_of;
 use pmem_lines::OutOfMemory;
@@ -65,7 +65,8 @@ impl PairOrder {
 
     /// How many roots have a place.
     pub fn len(&self) -> u32
-        ensures { result ≡ length self.now.ranked }
+        ensures count { result ≡ length self.now.ranked }
+        ensures sound { IsOrder self.now }
     {
         self.order.len() as u32
     }
@@ -76,7 +77,7 @@ impl PairOrder {
         requires fresh { HasNoPlace self.old more.root }
         ensures { HasMore self.old more self.new }
     {
-        let place = place_of(&self.order, &self.firsts, &self.seconds, more);
+        let place = self.place_for(more);
         self.firsts[more.root as usize] = more.first;
         self.seconds[more.root as usize] = more.second;
         self.order.insert(place, more.root as u16).unwrap();
@@ -92,7 +93,7 @@ impl PairOrder {
             first: self.firsts[root as usize],
             second: self.seconds[root as usize],
         };
-        let place = place_of(&self.order, &self.firsts, &self.seconds, gone);
+        let place = self.place_for(gone);
         let _ = self.order.remove(place);
     }
 
@@ -106,7 +107,11 @@ impl PairOrder {
             first,
             second: u64::MAX,
         })?;
-        if last.first == first { Some(last) } else { None }
+        if last.first == first {
+            Some(last)
+        } else {
+            None
+        }
     }
 
     /// The highest root that has just these two numbers. `None` exactly where no root has both.
@@ -130,7 +135,7 @@ impl PairOrder {
     pub fn next_from(&self, first: u64) -> Option<Ranked>
         ensures { MatchOption result (HasNoneFrom self.now first) (IsNextFrom self.now first) }
     {
-        let place = place_of(&self.order, &self.firsts, &self.seconds, Ranked {
+        let place = self.place_for(Ranked {
             root: 0,
             first,
             second: 0,
@@ -159,11 +164,19 @@ impl PairOrder {
         ensures last { MatchOption result (HasNoneBefore self.now end) (IsLastBefore self.now end) }
         ensures fits { AreNarrow self.now }
     {
-        let place = place_of(&self.order, &self.firsts, &self.seconds, end);
+        let place = self.place_for(end);
         if place == 0 {
             return None;
         }
         Some(self.ranked_in(place - 1))
+    }
+
+    // How many roots come before these numbers.
+    fn place_for(&self, target: Ranked) -> usize
+        ensures place { IsPlaceOf self.now.ranked target result }
+        ensures fits { AreNarrow self.now }
+    {
+        place_of(&self.order, &self.firsts, &self.seconds, target)
     }
 
     // The root at a place, with its numbers.

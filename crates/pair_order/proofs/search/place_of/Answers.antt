@@ -1,5 +1,4 @@
-use Rattle.std.proofs.Common.{◌≡◌, ℕ, ◌+◌, ◌-◌, ◌/◌, ◌<◌, length, get_or, arith}
-use Rattle.pair_order.specs.declared.order.Ranked.{Ranked}
+use Rattle.std.proofs.Common.{◌≡◌, ◌+◌, ◌-◌, ◌/◌, ◌<◌, length, get_or, arith}
 use Rattle.pair_order.specs.Kept.{ranked_at, ranked_of}
 use Rattle.pair_order.proofs.Places.{length-ranked_of, get_or-ranked_of, before_more, behind_more}
 use Rattle.pair_order.proofs.search.place_of.Goals as goal

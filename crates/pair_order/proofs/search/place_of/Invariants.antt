@@ -1,4 +1,4 @@
-use Rattle.std.proofs.Common.{◌≡◌, ℕ, ◌-◌, ◌<◌, ◌≤◌, length, get_or}
+use Rattle.std.proofs.Common.{ℕ, ◌-◌, ◌<◌, ◌≤◌, length, get_or}
 use Rattle.pair_order.specs.declared.order.Ranked.{Ranked}
 use Rattle.pair_order.specs.Order.{IsBefore}
 use Rattle.pair_order.specs.Kept.{ranked_of}
