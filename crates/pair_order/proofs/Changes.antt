@@ -195,6 +195,7 @@ module _ (order firsts seconds : List ℕ) (root p : ℕ) (is : IsGoing order fi
       let from = λ (r : Ranked) (left : Contains (ranked_of firsts seconds (remove order p)) r). Contains-remove_from was p within_ranked r (subst (λ (rs : List Ranked). Contains rs r) ranked_less left) in
       record {
         roots = refl;
+        inside = root_within;
         gone = record { none = λ r left same. let at = from r left in at.2 (elsewhere r at.0 at.1 at.3 same) };
         kept = λ r (k, inside, stands) apart. subst (λ (rs : List Ranked). Contains rs r) (sym ranked_less) (Contains-remove_kept was p within_ranked r k inside (λ same. apart (only_there r k stands same)) stands);
         each = λ r left. let at = from r left in (at.0, at.1, at.3);

@@ -6,6 +6,13 @@ use Rattle.pair_order.specs.Order.{Order, IsBefore, IsRanked, IsOrder, HasNoneOf
 use Rattle.pair_order.specs.Kept.{IsPlaceOf, AreNarrow, IsInPlace, HasNoneBefore, IsLastBefore}
 use Rattle.pair_order.proofs.Before.{before_first, before_second, before_root, before_from, before_irreflexive, before_one_way, behind_first, behind_second, behind_root}
 
+-- what stands at the begin of a first number, before all its roots, and what stands behind all of two numbers
+abbrev start_of : ℕ → Ranked
+start_of first = record { root = 0; first = first; second = 0 }
+
+abbrev end_of : ℕ → ℕ → Ranked
+end_of first second = record { root = 65536; first = first; second = second }
+
 module _ (order : Order) (sound : IsOrder order) where
   -- of those before a place the last one stands just before it
   up_to : (q : ℕ) (r : Ranked) → q < length order.ranked → IsInPlace order q r → (s : Ranked) (k : ℕ) → get_or order.ranked k s ≡ s → k ≤ q → (s ≡ r) ⊎ IsBefore s r
@@ -67,33 +74,32 @@ module _ (order : Order) (sound : IsOrder order) where
       by s (k, inside, is) = up_to q r (omega arith) at s k is (omega arith)
 
   -- the first one with no lower first number
-  module _ (first p : ℕ) (place : IsPlaceOf order.ranked (record { root = 0; first = first; second = 0 }) p) where
-    low_first : (s : Ranked) → IsBefore s (record { root = 0; first = first; second = 0 }) → s.first < first
+  module _ (first p : ℕ) (place : IsPlaceOf order.ranked (start_of first) p) where
+    low_first : (s : Ranked) → IsBefore s (start_of first) → s.first < first
     low_first s before =
-        let start : Ranked = record { root = 0; first = first; second = 0 } in
         ⊎_elim
         (λ (low : s.first < first). low)
         (λ (high : first ≤ s.first).
-        let same : s.first ≡ first = omega (arith, before_first s start before) in
-        let also : s.second ≡ 0 = omega (arith, before_second s start before same) in
-        absurd (omega (arith, before_root s start before same also)))
+        let same : s.first ≡ first = omega (arith, before_first s (start_of first) before) in
+        let also : s.second ≡ 0 = omega (arith, before_second s (start_of first) before same) in
+        absurd (omega (arith, before_root s (start_of first) before same also)))
         (cases_lt s.first first)
 
     pub none_from : p ≡ length order.ranked → HasNoneFrom order first
     unfolding IsRanked
     none_from end = record {
-      none = λ s (k, inside, is). low_first s (subst (λ (x : Ranked). IsBefore x (record { root = 0; first = first; second = 0 })) is (place.before k s (omega arith)));
+      none = λ s (k, inside, is). low_first s (subst (λ (x : Ranked). IsBefore x (start_of first)) is (place.before k s (omega arith)));
     }
 
     module _ (within : p < length order.ranked) (next : Ranked) (at : IsInPlace order p next) where
       from : first ≤ next.first
-      from = behind_first next (record { root = 0; first = first; second = 0 }) (λ before. place.behind p next (omega arith) within (subst (λ (x : Ranked). IsBefore x (record { root = 0; first = first; second = 0 })) (sym (at.is next)) before))
+      from = behind_first next (start_of first) (λ before. place.behind p next (omega arith) within (subst (λ (x : Ranked). IsBefore x (start_of first)) (sym (at.is next)) before))
 
       least : (s : Ranked) → IsRanked order s → first ≤ s.first → next.first ≤ s.first
       unfolding IsRanked
       least s (k, inside, is) high =
           ⊎_elim
-          (λ (low : k < p). absurd (omega (arith, low_first s (subst (λ (x : Ranked). IsBefore x (record { root = 0; first = first; second = 0 })) is (place.before k s low)))))
+          (λ (low : k < p). absurd (omega (arith, low_first s (subst (λ (x : Ranked). IsBefore x (start_of first)) is (place.before k s low)))))
           (λ (no_low : p ≤ k). ⊎_elim
           (λ (behind : p < k). before_first next s (subst (IsBefore next) is (subst (λ (x : Ranked). IsBefore x (get_or order.ranked k s)) (at.is s) (sound.rising p k s behind inside))))
           (λ (no_behind : k ≤ p).
@@ -114,15 +120,15 @@ module _ (order : Order) (sound : IsOrder order) where
 
 module _ (order : Order) (narrow : AreNarrow order) (first : ℕ) where
   -- all of a first number stand before its end
-  before_end : (s : Ranked) → IsRanked order s → s.first ≡ first → IsBefore s (record { root = 65536; first = first; second = 2 ^ 64 - 1 })
+  before_end : (s : Ranked) → IsRanked order s → s.first ≡ first → IsBefore s (end_of first (2 ^ 64 - 1))
   before_end s is same =
       let each = narrow.each s is in
-      before_from s (record { root = 65536; first = first; second = 2 ^ 64 - 1 }) (omega arith) (λ _. omega (arith, each.1)) (λ _ _. omega (arith, each.0))
+      before_from s (end_of first (2 ^ 64 - 1)) (omega arith) (λ _. omega (arith, each.1)) (λ _ _. omega (arith, each.0))
 
-  pub none_of : HasNoneBefore order (record { root = 65536; first = first; second = 2 ^ 64 - 1 }) → HasNoneOf order first
+  pub none_of : HasNoneBefore order (end_of first (2 ^ 64 - 1)) → HasNoneOf order first
   none_of none = record { none = λ s is same. none.none s is (before_end s is same) }
 
-  module _ (r : Ranked) (last : IsLastBefore order (record { root = 65536; first = first; second = 2 ^ 64 - 1 }) r) where
+  module _ (r : Ranked) (last : IsLastBefore order (end_of first (2 ^ 64 - 1)) r) where
     pub last_of : r.first ≡ first → IsLastOf order first r
     last_of is = record {
       is = last.is;
@@ -134,7 +140,7 @@ module _ (order : Order) (narrow : AreNarrow order) (first : ℕ) where
     pub none_of_other : r.first ≢ first → HasNoneOf order first
     none_of_other apart = record {
       none = λ s is same. apart
-          (let low = before_first r (record { root = 65536; first = first; second = 2 ^ 64 - 1 }) last.before in
+          (let low = before_first r (end_of first (2 ^ 64 - 1)) last.before in
           let high = behind_first r s (last.last s is (before_end s is same)) in
           let e : r.first ≡ first = omega arith in
           e);
@@ -142,15 +148,15 @@ module _ (order : Order) (narrow : AreNarrow order) (first : ℕ) where
 
   -- and all of two numbers before the end of both
   module _ (second : ℕ) where
-    before_both : (s : Ranked) → IsRanked order s → s.first ≡ first → s.second ≡ second → IsBefore s (record { root = 65536; first = first; second = second })
+    before_both : (s : Ranked) → IsRanked order s → s.first ≡ first → s.second ≡ second → IsBefore s (end_of first second)
     before_both s is same also =
         let each = narrow.each s is in
-        before_from s (record { root = 65536; first = first; second = second }) (omega arith) (λ _. omega arith) (λ _ _. omega (arith, each.0))
+        before_from s (end_of first second) (omega arith) (λ _. omega arith) (λ _ _. omega (arith, each.0))
 
-    pub none_with : HasNoneBefore order (record { root = 65536; first = first; second = second }) → HasNoneWith order first second
+    pub none_with : HasNoneBefore order (end_of first second) → HasNoneWith order first second
     none_with none = record { none = λ s is same also. none.none s is (before_both s is same also) }
 
-    module _ (r : Ranked) (last : IsLastBefore order (record { root = 65536; first = first; second = second }) r) where
+    module _ (r : Ranked) (last : IsLastBefore order (end_of first second) r) where
       pub highest_with : r.first ≡ first → r.second ≡ second → IsHighestWith order first second r.root
       highest_with is also = record {
         is = subst (IsRanked order) (rw (sym is, sym also) refl) last.is;
@@ -160,12 +166,11 @@ module _ (order : Order) (narrow : AreNarrow order) (first : ℕ) where
       pub none_with_other : ((r.first ≡ first) → (r.second ≡ second) → ⊥) → HasNoneWith order first second
       none_with_other apart = record {
         none = λ s is same also.
-            let end : Ranked = record { root = 65536; first = first; second = second } in
-            let behind = last.last s is (before_both s is same also) in
-            let low = before_first r end last.before in
+                        let behind = last.last s is (before_both s is same also) in
+            let low = before_first r (end_of first second) last.before in
             let high = behind_first r s behind in
             let e : r.first ≡ first = omega arith in
-            let low_second = before_second r end last.before e in
+            let low_second = before_second r (end_of first second) last.before e in
             let high_second = behind_second r s behind (e ∙ sym same) in
             let f : r.second ≡ second = omega arith in
             apart e f;

@@ -54,6 +54,7 @@ pub record HasMore (old : Order) (more : Ranked) (new : Order) : Type 0 where
 -- a root went, and the others are as they were
 pub record HasLess (old : Order) (root : ℕ) (new : Order) : Type 0 where
   pub roots : new.roots ≡ old.roots
+  pub inside : root < new.roots
   pub gone : HasNoPlace new root
   pub kept : (r : Ranked) → IsRanked old r → r.root ≢ root → IsRanked new r
   pub each : (r : Ranked) → IsRanked new r → IsRanked old r
