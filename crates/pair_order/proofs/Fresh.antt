@@ -2,7 +2,7 @@
 use Rattle.std.proofs.Common.{◌≡◌, ⊎_elim, ℕ, ◌^◌, ◌<◌, ◌≤◌, [], length, replicate, get_or, refl, arith}
 use Rattle.std.proofs.lemmas.Bool.{cases_lt}
 use Rattle.std.proofs.lemmas.List.{length-replicate, get_or-replicate, get_or_past}
-use Rattle.pair_order.specs.Order.{IsNew}
+use Rattle.pair_order.specs.Order.{IsRanked, IsNew}
 use Rattle.pair_order.specs.Kept.{order_of, ranked_of, AreRanked, IsKept}
 use Rattle.pair_order.proofs.Sound.{sound_of}
 
@@ -30,9 +30,10 @@ module _ (roots : ℕ) where
   }
 
   pub new_fresh : IsNew (order_of [] (replicate roots 0) (replicate roots 0)) roots
-  unfolding ranked_of
+  unfolding ranked_of IsRanked
   new_fresh = record {
     roots_are = size;
     empty = refl;
+    none = λ r (k, inside, is). omega arith;
     sound = sound_of [] (replicate roots 0) (replicate roots 0) ranked_fresh;
   }

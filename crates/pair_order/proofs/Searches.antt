@@ -166,7 +166,7 @@ module _ (order : Order) (narrow : AreNarrow order) (first : ℕ) where
       pub none_with_other : ((r.first ≡ first) → (r.second ≡ second) → ⊥) → HasNoneWith order first second
       none_with_other apart = record {
         none = λ s is same also.
-                        let behind = last.last s is (before_both s is same also) in
+            let behind = last.last s is (before_both s is same also) in
             let low = before_first r (end_of first second) last.before in
             let high = behind_first r s behind in
             let e : r.first ≡ first = omega arith in

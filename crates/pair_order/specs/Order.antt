@@ -40,6 +40,7 @@ pub record IsOrder (order : Order) : Type 0 where
 pub record IsNew (order : Order) (roots : ℕ) : Type 0 where
   pub roots_are : order.roots ≡ roots
   pub empty : order.ranked ≡ []
+  pub none : (r : Ranked) → ¬ (IsRanked order r)
   pub sound : IsOrder order
 
 -- a root came with its numbers, and the others are as they were

@@ -1,4 +1,4 @@
-use Rattle.std.proofs.Common.{◌≡◌, ℕ, ◌<◌, length}
+use Rattle.std.proofs.Common.{◌≡◌, ◌<◌, length}
 use Rattle.pair_order.specs.declared.order.Ranked.{Ranked}
 use Rattle.pair_order.specs.Order.{IsRanked}
 use Rattle.layer_tests.proofs.orders.order_of.Given as goal
