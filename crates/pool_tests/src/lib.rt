@@ -14,5 +14,5 @@ mod watched;
 pub use callers::{
     Caller, TriedCall, arena_lock_of_two, close, empty_arena, pool_of, start_and_close,
 };
-pub use threads::{malloc_on_two_threads, try_beside_a_store};
+pub use threads::try_beside_a_store;
 pub use watched::{Flags, Watched};

@@ -8,7 +8,7 @@ ghost use Rattle.pool_tests.specs.CallsLeft.{CanCall};
 use crate::callers::{
     Caller, TriedCall, arena_lock_of_two, close, empty_arena, pool_of, start_and_close,
 };
-use crate::threads::{malloc_on_two_threads, try_beside_a_store};
+use crate::threads::try_beside_a_store;
 use crate::watched::{Flags, Watched};
 use arena_core::{Arena, ArenaRoom};
 use heap_model::{Call, Reply};
@@ -212,31 +212,6 @@ fn pass_a_word<R: Abort + Wait>(
         (3, Reply::Value { word: 77 })
     );
     assert_eq!(rt; (past.place, past.entry.reply), (4, Reply::OutOfRange));
-    Ok(())
-}
-
-// Two threads ask for one root: one of them has the block, the other's answer says so, whichever was first.
-#[test]
-fn two_threads_one_root(rt: HostRuntime) -> Result<(), OutOfMemory> {
-    let alloc = rt.alloc();
-    let arenas = vec![in alloc; empty_arena(alloc, 0, 1)?]?;
-    let (pool, mut zero, mut one) = pool_of(alloc, arenas)?;
-    let (by_zero, by_one) = malloc_on_two_threads(&rt, alloc, &pool, &mut zero, &mut one);
-    let closed = close(alloc, pool, zero, one)?;
-    let by_zero = by_zero?;
-    let by_one = by_one?;
-    assert_eq!(&rt; closed.len(), 1);
-    let (first, second) = if by_zero.place == 0 {
-        (by_zero.entry, by_one.entry)
-    } else {
-        (by_one.entry, by_zero.entry)
-    };
-    assert_eq!(&rt; first.reply, PLACED);
-    assert_eq!(&rt; second.reply, OCCUPIED);
-    for arena in &closed {
-        assert_eq!(&rt; arena.journal.as_slice(), [first, second].as_slice());
-        assert!(&rt; arena.arena.block(5).is_some());
-    }
     Ok(())
 }
 

@@ -1,5 +1,5 @@
 // Two threads at one pool.
-ghost use Rattle.std.specs.Prelude.{◌≡◌, ◌<◌, length};
+ghost use Rattle.std.specs.Prelude.{◌<◌, length};
 ghost use Rattle.pool_tests.specs.CallsLeft.{CanCall};
 
 use crate::callers::{Caller, TriedCall};
@@ -10,33 +10,6 @@ use shared_pool::{Receipt, SharedPool, TryRefusal};
 use std::alloc::Global;
 use std::sync::Wait;
 use std::thread::{Threads, join_mut};
-
-/// Both passes ask for 100 bytes of arena 0 for root 5, each on a thread of its own.
-pub fn malloc_on_two_threads<R: Threads + Wait + Sync, P: Pmem + Drop + Send>(
-    rt: &R,
-    alloc: Global,
-    pool: &SharedPool<P>,
-    zero: &mut Caller,
-    one: &mut Caller,
-) -> (Result<Receipt, OutOfMemory>, Result<Receipt, OutOfMemory>)
-    requires arena { 0 < length pool.now.locks }
-    requires zero { CanCall pool.now zero.old }
-    requires one { CanCall pool.now one.old }
-    ensures zero { CanCall pool.now zero.new × (zero.new.pass.number ≡ zero.old.pass.number) }
-    ensures one { CanCall pool.now one.new × (one.new.pass.number ≡ one.old.pass.number) }
-{
-    join_mut(
-        rt,
-        &mut || -> Result<Receipt, OutOfMemory>
-            requires { CanCall pool.now zero.now × (0 < length pool.now.locks) }
-            ensures { CanCall pool.entry.now zero.exit.now × (zero.exit.now.pass.number ≡ zero.entry.now.pass.number) }
-        { zero.call(rt, alloc, pool, 0, Call::Malloc { root: 5, size: 100 }) },
-        &mut || -> Result<Receipt, OutOfMemory>
-            requires { CanCall pool.now one.now × (0 < length pool.now.locks) }
-            ensures { CanCall pool.entry.now one.exit.now × (one.exit.now.pass.number ≡ one.entry.now.pass.number) }
-        { one.call(rt, alloc, pool, 0, Call::Malloc { root: 5, size: 100 }) },
-    )
-}
 
 /// The first pass asks for a block of arena 0 on a thread of its own, and the second tries one of arena 1 on another, from
 /// where the first one's store has stopped until it lets it go on.
