@@ -5,6 +5,7 @@ pub mod Desks
 pub mod Emptying
 pub mod Endings
 pub mod Entering
+pub mod Orders
 pub mod OwnerParts
 pub mod PartLists
 pub mod QueueSteps

@@ -1,5 +1,5 @@
 -- Owners, their passes and the rest of them.
-use Rattle.std.proofs.Common.{◌≡◌, ◌+◌, List, [], ◌∷◌, ◌++◌, map, length, get_or, refl, ap, sym, ◌∙◌, suc, subst, append_assoc}
+use Rattle.std.proofs.Common.{◌≡◌, List, [], ◌∷◌, ◌++◌, map, length, get_or, refl, ap, sym, ◌∙◌, suc, subst, append_assoc}
 use Rattle.arena_lock.specs.Known.{Lock}
 use Rattle.shared_pool.specs.Passes.{PassState}
 use Rattle.shared_pool.specs.Closed.{AllFitLocks}

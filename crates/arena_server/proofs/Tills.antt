@@ -1,5 +1,5 @@
 -- The one that serves an arena, taken out of those that are left.
-use Rattle.std.proofs.Common.{◌≡◌, ◌≢◌, ℕ, suc, ◌==◌, ◌||◌, ◌<◌, Bool, true, false, if◌then◌else◌, List, [], ◌∷◌, length, get_or, remove, refl, ap, sym, ◌∙◌, subst, eqb-true, ne_eqb, arith}
+use Rattle.std.proofs.Common.{◌≡◌, ◌≢◌, ℕ, suc, ◌==◌, ◌||◌, Bool, true, false, if◌then◌else◌, List, [], ◌∷◌, get_or, remove, refl, ap, sym, ◌∙◌, subst, eqb-true, ne_eqb}
 use Rattle.std.proofs.lemmas.Bool.{false≢true}
 use Rattle.atomic_table.specs.Seated.{TableId}
 use Rattle.shared_pool.specs.Closed.{is_in}
@@ -26,10 +26,10 @@ first_out queues n a x xs e all =
       held = ap (λ (b : Bool). if b then x.held else held_at xs a) e;
       rest_there = all.1;
       others = λ k ne. (
-          sym (ap (λ (b : Bool). if b then till_list x else list_at xs k) (away k ne)),
-          sym (ap (λ (b : Bool). if b then x.held else held_at xs k) (away k ne)),
-          sym (ap (λ (b : Bool). b || is_in k (arenas_of xs)) (away k ne)),
-        );
+        sym (ap (λ (b : Bool). if b then till_list x else list_at xs k) (away k ne)),
+        sym (ap (λ (b : Bool). if b then x.held else held_at xs k) (away k ne)),
+        sym (ap (λ (b : Bool). b || is_in k (arenas_of xs)) (away k ne)),
+      );
     }
 
 next_out : (queues : List TableId) (n a : ℕ) (x : Till) (xs rest : List Till) (t : Till) → (x.arena == a) ≡ false → TakesThere queues n x → TakenOut queues n a xs rest t → TakenOut queues n a (x ∷ xs) (x ∷ rest) t
@@ -40,10 +40,10 @@ next_out queues n a x xs rest t e first h = record {
   held = ap (λ (b : Bool). if b then x.held else held_at xs a) e ∙ h.held;
   rest_there = (first, h.rest_there);
   others = λ k ne. let o = h.others k ne in (
-      ap (λ l. if x.arena == k then till_list x else l) o.0,
-      ap (λ l. if x.arena == k then x.held else l) o.1,
-      ap (λ (b : Bool). (x.arena == k) || b) o.2,
-    );
+    ap (λ l. if x.arena == k then till_list x else l) o.0,
+    ap (λ l. if x.arena == k then x.held else l) o.1,
+    ap (λ (b : Bool). (x.arena == k) || b) o.2,
+  );
 }
 
 out_by : (queues : List TableId) (n a : ℕ) (x : Till) (xs rest : List Till) (t : Till) (b : Bool) → (x.arena == a) ≡ b → b || is_in a (arenas_of xs) ≡ true → AllTakeThere queues n (x ∷ xs)

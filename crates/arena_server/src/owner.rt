@@ -35,7 +35,7 @@ impl Model for Owner {
 }
 
 impl Owner {
-    /// Whether the owner has skipped a request.
+    /// Whether the owner has skipped a request. One that has serves no more.
     pub fn has_skipped(&self) -> bool
         ensures { result ≡ self.now.skipped }
     {

@@ -5,8 +5,8 @@ ghost use Rattle.shared_pool.specs.Rows.{each_of, AllRoom};
 ghost use Rattle.arena_server.specs.Emptied.{owners_of, AllOwners};
 
 use crate::owner::{Owner, Till};
-use shared_pool::Pass;
 use pmem_lines::OutOfMemory;
+use shared_pool::Pass;
 use std::alloc::Global;
 
 /// Room for so many items in each of so many rows.

@@ -10,7 +10,7 @@ pub struct Request {
     pub call: Call,
 }
 
-/// A request that was served, and the receipt of its call.
+/// A request that was served, and the receipt of its call: its entry, and the entry's place in the arena's journal.
 #[derive(Clone, Copy, Drop)]
 pub struct Served {
     pub request: Request,

@@ -25,7 +25,8 @@ use std::alloc::Global;
 use std::marker::Model;
 use std::sync::Wait;
 
-/// A pool of arenas, each behind a queue of requests.
+/// A pool of arenas, each behind a queue of requests, that threads share by reference. In contracts it has its pool, the
+/// queue of each arena, and how many senders it was started with.
 #[derive(Drop)]
 pub struct Server<P: Pmem> {
     pub(crate) pool: SharedPool<P>,
@@ -54,9 +55,9 @@ pub struct Opened<P: Pmem> {
 }
 
 impl<P: Pmem> Server<P> {
-    /// Puts 1 to 16 arenas into a pool, each behind a queue with room for 1 to 65536 requests, and makes 1 to 64 senders, with
-    /// the numbers from 0 on, and an owner for each arena, whose pass has the arena's number. Nothing was sent, and nothing
-    /// was taken. On want of memory the arenas come back as they were.
+    /// Puts 1 to 16 arenas into a pool, each behind a queue with room for 1 to 65536 requests. It makes 1 to 64 senders,
+    /// with the numbers from 0 on, in order, and an owner for each arena, whose pass has the arena's number. Nothing was sent,
+    /// served or skipped. On want of memory the arenas come back as they were.
     pub fn start(
         alloc: Global,
         arenas: Vec<Arena<P>>,
@@ -99,8 +100,8 @@ impl<P: Pmem> Server<P> {
         }
     }
 
-    /// Sends a call to an arena, as a request behind all that are in the arena's queue. It waits while the queue is full. It
-    /// takes no memory.
+    /// Sends a call to an arena: a request of the sender's number goes to the end of the arena's queue, for which the call
+    /// waits while the queue is full. The sender's list for the arena gains it at the end. It takes no memory.
     pub fn send<R: Wait>(&self, rt: &R, sender: &mut Sender, arena: u32, call: Call)
         requires sender { IsSenderOf self.now sender.old }
         requires arena { arena < length self.now.queues }
@@ -135,8 +136,9 @@ impl<P: Pmem> Server<P> {
     }
 
     /// Serves the request that is held, or else the front of the owner's queue, for which it waits: the request's call is made
-    /// by the owner's pass, in a turn at the arena's lock. On want of memory the request is held, and the arena has no event
-    /// and the journal no entry.
+    /// by the owner's pass, in a turn at the arena's lock, as `SharedPool` makes it, and the owner's list gains the request at
+    /// the end. An owner that has skipped serves no more. On want of memory the request is held: the list stays, the arena has
+    /// no event and the journal no entry.
     pub fn serve_one<R: Wait>(
         &self,
         rt: &R,
@@ -144,8 +146,8 @@ impl<P: Pmem> Server<P> {
         owner: &mut Owner,
     ) -> Result<Served, OutOfMemory>
         requires owner { IsOwnerOf self.now owner.old }
-        requires serves { owner.old.skipped ≡ false }
-        requires left { 0 < (part_at owner.old.pass owner.old.pass.number).turns }
+        requires not_skipped { owner.old.skipped ≡ false }
+        requires turn { 0 < (part_at owner.old.pass owner.old.pass.number).turns }
         ensures owner { IsOwnerOf self.now owner.new }
         ensures served { HasServed owner.old owner.new result }
     {
@@ -157,7 +159,7 @@ impl<P: Pmem> Server<P> {
     }
 
     /// Gives out the request that is held, or else the front of the owner's queue, for which it waits, and does not serve it.
-    /// The arena has no event and the journal no entry. It takes no memory.
+    /// The owner's list gains it at the end, and the owner has skipped; its pass stays as it was. It takes no memory.
     pub fn skip_one<R: Wait>(&self, rt: &R, owner: &mut Owner) -> Request
         requires owner { IsOwnerOf self.now owner.old }
         ensures { HasSkipped owner.old owner.new result }
@@ -169,8 +171,8 @@ impl<P: Pmem> Server<P> {
     }
 
     /// Ends the server, and gives each arena in order, with its journal and the requests that are left: the one that its owner
-    /// held, and then those of its queue from the front. The senders and the owners are all those of the server. It takes all
-    /// its memory and closes the pool before it empties a queue: on want of memory all comes back as it was.
+    /// held, and then those of its queue from the front. The senders and the owners are all those of the server, in any order.
+    /// It takes all its memory and closes the pool before it empties a queue: on want of memory all comes back as it was.
     pub fn close<R: Wait>(
         self,
         rt: &R,

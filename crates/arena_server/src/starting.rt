@@ -15,8 +15,8 @@ use crate::owner::{Owner, Till};
 use crate::parting::rooms;
 use crate::queue::{Queue, Token, enlist, open};
 use crate::sender::Sender;
-use shared_pool::Pass;
 use pmem_lines::OutOfMemory;
+use shared_pool::Pass;
 use std::alloc::Global;
 
 /// Queues, the tokens by which their owners take, and the senders.

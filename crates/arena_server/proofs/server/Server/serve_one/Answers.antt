@@ -14,5 +14,5 @@ invariant_of-owner-2 g c =
     let locks : length c.args.self.now.queues ≡ length c.args.self.now.pool.locks =
     ap (λ (z : ServerState). length z.queues) (sym c.self.view_is) ∙ (length-map c.self.inside.queues.items _ ∙ (c.self.invariant.0 ∙ ap (λ (z : ServerState). length z.pool.locks) c.self.view_is)) in
     let room : p.number < length p.parts = subst (λ (z : PassState). z.number < length z.parts) is (has_part c.args.self.now.pool c.args.owner.now.pass c.args.owner.now.pass.number c.requires.owner.pass (subst (λ n. c.args.owner.now.pass.number < n) locks c.requires.owner.arena)) in
-    served_owner p c.call.new.pass c.owner.inside.till c.hold-request.result c.in_ok-receipt.receipt (ap (λ (z : OwnerState). z.held) (c.owner.view_is ∙ c.hold-request.ensures.holds)) (ap (λ (z : OwnerState). z.skipped) (c.owner.view_is ∙ c.hold-request.ensures.holds) ∙ c.requires.serves) room
+    served_owner p c.call.new.pass c.owner.inside.till c.hold-request.result c.in_ok-receipt.receipt (ap (λ (z : OwnerState). z.held) (c.owner.view_is ∙ c.hold-request.ensures.holds)) (ap (λ (z : OwnerState). z.skipped) (c.owner.view_is ∙ c.hold-request.ensures.holds) ∙ c.requires.not_skipped) room
     (subst (λ n. Called n c.hold-request.result.call p c.call.new.pass c.in_ok-receipt.receipt) here c.in_ok-receipt.ensures.called) c.owner.invariant
