@@ -1,9 +1,9 @@
 -- A server of one arena, with one sender and its owner.
-use Rattle.std.proofs.Common.{◌≡◌, ℕ, zero, suc, ◌^◌, ◌<◌, ◌==◌, Result, Ok, Err, IfOk, false, ◌||◌, Bool, true, if◌then◌else◌, List, [], ◌∷◌, ◌++◌, map, length, get_or, refl, ap, sym, ◌∙◌, subst, arith, None, length-append, eqb-true, eq-eqb}
+use Rattle.std.proofs.Common.{◌≡◌, ℕ, ◌^◌, ◌<◌, ◌==◌, Result, Ok, Err, IfOk, false, ◌||◌, Bool, true, if◌then◌else◌, List, [], ◌∷◌, ◌++◌, map, length, get_or, refl, ap, sym, ◌∙◌, subst, arith, None, length-append, eqb-true, eq-eqb}
 use Rattle.std.proofs.lemmas.List.{append-nil, length-map}
 use Rattle.atomic_table.specs.Seated.{TableId}
 use Rattle.heap_model.specs.declared.call.Call.{Call}
-use Rattle.arena_lock.specs.Known.{Lock, Known}
+use Rattle.arena_lock.specs.Known.{Lock}
 use Rattle.arena_lock.specs.declared.opening.Opening.{Opening}
 use Rattle.shared_pool.specs.Passes.{part_at, fresh_pass}
 use Rattle.shared_pool.specs.Closed.{HasAll}
