@@ -93,7 +93,7 @@ calls_all a (e ∷ es) h = ap (λ (t : Bool). if t then e ∷ calls_by a es else
 
 -- one arena
 
-desk_of : (seats a : ℕ) (all : List PassState) (ss : List SenderState) (p : PassState) (t : Till) (o : Opening) (d : Desk) → HasAll seats (map (λ p. p.number) all) → AllAtHome all → IsOwner p t → p.number ≡ a → IsPrefix (seen_at p a) d.journal × (calls_by p.number d.journal ≡ mine_at p a)
+desk_of : (seats a : ℕ) (all : List PassState) (ss : List SenderState) (p : PassState) (t : Till) (o : Opening) (d : Desk) → HasAll seats (map (λ p. p.number) all) → AllAtHome all → IsOwner p t → p.number ≡ a → IsPrefix (seen_at p a) d.journal × (calls_by p.number d.journal ≡ mine_at p a) × ((part_at p a).known ≤ length d.journal)
     → IsEmptied a ss (till_list t) t.held d.left → IsClosed seats a all o (d.journal, d.arena) → IsDesk a ss (owner_of p t) o d
 desk_of seats a all ss p t o d has home owner here agree emptied closed =
     let bears : AllBear a d.journal = all_bear seats a d.journal closed.below (λ b l ne. none_of a b all d.journal ne (has b l) home closed.agree) in
@@ -104,6 +104,8 @@ desk_of seats a all ss p t o d has home owner here agree emptied closed =
       all_served = λ none. ap made own ∙ owner.calls.all none;
       bears = bears;
       seen = agree.0;
+      own = own ∙ ap (mine_at p) here;
+      known = agree.2;
       leads = closed.held;
     }
 
@@ -117,9 +119,9 @@ record Found (a : ℕ) (ps : List PassState) (ts : List Till) (j : List Entry) :
   pub is : owner_at (owners_of ps ts) a ≡ owner_of pass till
   pub list : list_at ts a ≡ till_list till
   pub held : held_at ts a ≡ till.held
-  pub agree : IsPrefix (seen_at pass a) j × (calls_by pass.number j ≡ mine_at pass a)
+  pub agree : IsPrefix (seen_at pass a) j × (calls_by pass.number j ≡ mine_at pass a) × ((part_at pass a).known ≤ length j)
 
-found_by : (a : ℕ) (p : PassState) (ps : List PassState) (t : Till) (ts : List Till) (j : List Entry) (b : Bool) → (p.number == a) ≡ b → b || is_in a (map (λ p. p.number) ps) ≡ true → IsOwner p t → IsPrefix (seen_at p a) j × (calls_by p.number j ≡ mine_at p a)
+found_by : (a : ℕ) (p : PassState) (ps : List PassState) (t : Till) (ts : List Till) (j : List Entry) (b : Bool) → (p.number == a) ≡ b → b || is_in a (map (λ p. p.number) ps) ≡ true → IsOwner p t → IsPrefix (seen_at p a) j × (calls_by p.number j ≡ mine_at p a) × ((part_at p a).known ≤ length j)
     → (is_in a (map (λ p. p.number) ps) ≡ true → Found a ps ts j) → Found a (p ∷ ps) (t ∷ ts) j
 found_by a p ps t ts j true e has h agree later =
     let there : (t.arena == a) ≡ true = ap (λ n. n == a) h.arena ∙ e in record {
@@ -148,7 +150,7 @@ found_by a p ps t ts j false e has h agree later =
 found : (a : ℕ) (ps : List PassState) (ts : List Till) (j : List Entry) → is_in a (map (λ p. p.number) ps) ≡ true → AllOwners ps ts → AllAgree a ps j → Found a ps ts j
 found a [] ts j has h agree = absurd (false≢true has)
 found a (p ∷ ps) [] j has h agree = absurd h
-found a (p ∷ ps) (t ∷ ts) j has h agree = found_by a p ps t ts j (p.number == a) refl has h.0 (agree.0.0, agree.0.1) (λ more. found a ps ts j more h.1 agree.1)
+found a (p ∷ ps) (t ∷ ts) j has h agree = found_by a p ps t ts j (p.number == a) refl has h.0 agree.0 (λ more. found a ps ts j more h.1 agree.1)
 
 -- all of them
 

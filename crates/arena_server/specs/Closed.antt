@@ -1,11 +1,11 @@
 -- What a server leaves when it is closed.
-use Rattle.std.specs.Prelude.{◌≡◌, ℕ, suc, ◌==◌, true, false, if◌then◌else◌, List, [], ◌∷◌, ◌++◌, map, None}
+use Rattle.std.specs.Prelude.{◌≡◌, ℕ, suc, ◌≤◌, ◌==◌, true, false, if◌then◌else◌, List, [], ◌∷◌, ◌++◌, map, length, None}
 use mathlib.Core.List.{IsPrefix}
 use Rattle.heap_model.specs.declared.call.Entry.{Entry}
 use Rattle.arena_lock.specs.declared.opening.Opening.{Opening}
 use Rattle.arena_core.specs.Arena.{ArenaState}
 use Rattle.arena_journal.specs.Journals.{IsBehind}
-use Rattle.shared_pool.specs.Passes.{seen_at}
+use Rattle.shared_pool.specs.Passes.{part_at, seen_at, mine_at}
 use Rattle.shared_pool.specs.Closed.{is_in}
 use Rattle.arena_server.specs.declared.request.Request.{Request}
 use Rattle.arena_server.specs.Requests.{of}
@@ -41,8 +41,9 @@ AllBear a (e ∷ es) = (e.seat ≡ a) × AllBear a es
 
 -- Arena a at the end. What its owner served or skipped, and then what is left, is an interleaving of what the senders sent
 -- there. What is left begins with the request that the owner held. The calls of the journal are those of the first requests of
--- the owner's list, and of all of them where it has not skipped. Each entry bears the arena's number, and what the owner's
--- pass had seen begins the journal, which leads from the opening to the arena as it is.
+-- the owner's list, and of all of them where it has not skipped. Each entry bears the arena's number. Of the owner's pass the
+-- journal begins with what it had seen, has just its own calls, and is as long as it knew. It leads from the opening to the
+-- arena as it is.
 pub record IsDesk (a : ℕ) (senders : List SenderState) (owner : OwnerState) (opening : Opening) (desk : Desk) : Type 0 where
   pub requests : IsInterleaving a senders (owner.list ++ desk.left)
   pub held : IsPrefix (held_list owner.held) desk.left
@@ -50,6 +51,8 @@ pub record IsDesk (a : ℕ) (senders : List SenderState) (owner : OwnerState) (o
   pub all_served : owner.skipped ≡ false → made desk.journal ≡ asked owner.list
   pub bears : AllBear a desk.journal
   pub seen : IsPrefix (seen_at owner.pass a) desk.journal
+  pub own : desk.journal ≡ mine_at owner.pass a
+  pub known : (part_at owner.pass a).known ≤ length desk.journal
   pub leads : IsBehind opening desk.journal desk.arena
 
 -- owners, by their numbers
