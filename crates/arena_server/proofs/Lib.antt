@@ -1,0 +1,16 @@
+pub mod Arenas
+pub mod Counting
+pub mod Crossing
+pub mod Desks
+pub mod Emptying
+pub mod Endings
+pub mod Entering
+pub mod Orders
+pub mod OwnerParts
+pub mod PartLists
+pub mod QueueSteps
+pub mod Rooms
+pub mod Sendings
+pub mod Servings
+pub mod Startings
+pub mod Tills
