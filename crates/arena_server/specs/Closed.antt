@@ -1,6 +1,8 @@
 -- What a server leaves when it is closed.
 use Rattle.std.specs.Prelude.{◌≡◌, ℕ, suc, ◌≤◌, ◌==◌, true, false, if◌then◌else◌, List, [], ◌∷◌, ◌++◌, map, length, None}
 use mathlib.Core.List.{IsPrefix}
+use mathlib.Core.Option.{some}
+use lib.ListN.{get_elem?}
 use Rattle.heap_model.specs.declared.call.Entry.{Entry}
 use Rattle.arena_lock.specs.declared.opening.Opening.{Opening}
 use Rattle.arena_core.specs.Arena.{ArenaState}
@@ -74,3 +76,10 @@ abbrev pub AllDesks : ℕ → List SenderState → List OwnerState → List Open
 AllDesks a senders owners [] [] = Unit {0}
 AllDesks a senders owners (p ∷ ps) (d ∷ ds) = IsDesk a senders (owner_at owners a) p d × AllDesks (suc a) senders owners ps ds
 AllDesks a senders owners ps ds = ⊥
+
+-- The law of order: what the owner of an arena served or skipped of one sender is the first that this sender sent there, in the
+-- order in which it sent it.
+abbrev pub LawOfOrder : Type 0
+LawOfOrder =
+    (a k : ℕ) (senders : List SenderState) (s : SenderState) (owner : OwnerState) (opening : Opening) (desk : Desk) →
+    get_elem? senders k ≡ some s → IsDesk a senders owner opening desk → IsPrefix (of s.number owner.list) (sent_at s a)

@@ -6,11 +6,12 @@
 // the order in which they were put in. The server keeps no second list.
 //
 // `specs/Senders.antt` and `specs/Owners.antt` say what senders and owners are, `specs/Servers.antt` what each call makes of
-// them, and `specs/Closed.antt` what is left at the end (`IsDesk`). The layer above knows these, and `new_senders` and
-// `new_owners` of `specs/Started.antt`; it knows nothing of parts and tokens.
+// them, and `specs/Closed.antt` what is left at the end (`IsDesk`), from which the law of order follows. The layer above knows
+// these, and `new_senders` and `new_owners` of `specs/Started.antt`; it knows nothing of parts and tokens.
 #![tactic(auto)]
 
 mod closing;
+mod laws;
 mod owner;
 mod part;
 mod parting;
@@ -22,6 +23,7 @@ mod server;
 mod starting;
 
 pub use closing::ClosedDesk;
+pub use laws::law_of_order;
 pub use owner::Owner;
 pub use request::{Request, Served};
 pub use sender::Sender;

@@ -28,7 +28,7 @@ pub fn empty_arena(alloc: Global) -> Result<Arena<SimPmem>, OutOfMemory> {
     Ok(Arena::format(room, device, 0, 1))
 }
 
-/// Starts a server of one arena with one sender, to whom nothing was sent, and a queue with this much room.
+/// Starts a server of one arena with one sender, who has sent nothing, and a queue with this much room.
 pub fn open_one<P: Pmem + Drop>(
     alloc: Global,
     arena: Arena<P>,
