@@ -15,9 +15,9 @@ holds_word : (image : List ℕ) (root : ℕ) → HasNoMove (tables_of image).ope
 holds_word image root still = ap (λ (f : ℕ → ℕ). f root) (roots_plain image still)
 
 pub law_of_crashes : LawOfCrashes
-law_of_crashes (calls.Write root index word) old new image left = record { steady = record { formed = left.exact.formed; steady = law_of_steady (bounds_of image) (tables_of image) left.exact.exact }; heap = inl left.heap; held = holds_word image root left.still }
-law_of_crashes (calls.Move from to) old new image left = record { steady = left.steady; heap = left.heap; held = left.held }
-law_of_crashes call old new image left = record { steady = left.steady; heap = left.heap; held = holds_word image (root_of call) left.still }
+law_of_crashes (calls.Write root index word) old new image left = record { steady = record { formed = left.exact.formed; steady = law_of_steady (bounds_of image) (tables_of image) left.exact.exact }; bounds = left.bounds; heap = inl left.heap; held = holds_word image root left.still }
+law_of_crashes (calls.Move from to) old new image left = record { steady = left.steady; bounds = left.bounds; heap = left.heap; held = left.held }
+law_of_crashes call old new image left = record { steady = left.steady; bounds = left.bounds; heap = left.heap; held = holds_word image (root_of call) left.still }
 
 -- words
 

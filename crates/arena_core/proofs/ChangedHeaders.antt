@@ -1,7 +1,7 @@
 -- The header of a slab changed, and each slab holds the blocks that it held: what stands beside the words and knows of the
 -- header no more than that holds again. So it is where a slab took another class.
 use Rattle.std.proofs.Common.{refl, length, [], ◌+◌, ◌*◌, ◌/◌, ◌≡◌, ◌↔◌, ℕ, true, List, ap, arith, ◌≢◌, ◌==◌, ◌<◌, ◌≤◌, Bool, false, Some, None, sym, ◌∙◌, subst, inl, if◌then◌else◌}
-use Rattle.arena_core.proofs.Common.{calm_of, PmemState, words_of, Volatile, IsQuietStep, step_wider, HasClassNow, Tables, tables_of, Book, FreeSet, IsUnusedIn, IsSound, granules_at, bounds_of, granules_at-slab, IsBookOf, SlabHeader, put_header, IsIndexOf, cond-true, class_capacity, HasNoMove-closed, put_at-same, put_at-other, Bounds, with_key, class_in, Lives, calm_at, Supply, IsOpen, IsClearOf, HasSlabMore, HasSlabLess, slabs, IsExactImage, Covers-slab, header_of, IsSlabsOf, AreCountsOf, IsMorphable, MayTakeClass, granule_word, morph_events, counts_kept, live_same, slab_parts, iff_then, with_key-is, with_key-twice}
+use Rattle.arena_core.proofs.Common.{calm_of, PmemState, words_of, Volatile, IsQuietStep, step_wider, HasClassNow, Tables, tables_of, Book, FreeSet, IsUnusedIn, IsSound, granules_at, bounds_of, granules_at-slab, IsBookOf, SlabHeader, put_header, IsIndexOf, cond-true, class_capacity, HasNoMove-closed, put_at-same, put_at-other, normal_kind, Bounds, with_key, class_in, Lives, calm_at, Supply, IsOpen, IsClearOf, HasSlabMore, HasSlabLess, slabs, IsExactImage, Covers-slab, header_of, IsSlabsOf, AreCountsOf, IsMorphable, MayTakeClass, granule_word, morph_events, counts_kept, live_same, slab_parts, iff_then, with_key-is, with_key-twice}
 use Rattle.image_tables.proofs.Headers.{SameLog-off_header}
 use Rattle.slab_morph.specs.Stages.{IsOffHeader, AllHoldSame, morphed, morph_count}
 use Rattle.arena_core.proofs.Arenas.{index_as, book_same}
@@ -110,7 +110,12 @@ module _ (device u : PmemState) (volatile : Volatile) (start class : ℕ) (may :
 
   -- it is calm no more
   calm_changed : (s : ℕ) → calm_of after s ≡ with_key (calm_of t) start None s
-  calm_changed = grind (arith, with_key-is, calm_stirred, row, class_change, put_at-same, calm_header)
+  calm_changed = with_key-is (calm_of t) (calm_of after) start None
+      (calm_stirred after start (λ e. stirred (sym (row class_change (λ x. x.kind start) ∙ put_at-same t.kind start _) ∙ e)))
+      (λ s differ. row class_change (λ x. calm_of x s) ∙ calm_header t start (morphed (header_of t start) class) s differ)
+    where
+      stirred : (morphed (header_of t start) class).kind ≢ normal_kind
+      stirred = grind arith
 
   -- it came back into the supply, with the blocks of the class that are unused
   pub came_changed : {less mid : Supply} {next : Lives} {used : ℕ → Bool} {slab : ℕ} → device.events ≡ [] → IsQuietStep device u (morph_events (tables_of (words_of device)) start class) (LeavesClosed (words_of device)) → length u.events ≡ length device.events + morph_count (header_of (tables_of (words_of device)) start) →
@@ -130,7 +135,7 @@ module _ (device u : PmemState) (volatile : Volatile) (start class : ℕ) (may :
       } in
       let counts : AreCountsOf volatile.lives.counts new = counts_kept words new volatile.lives.counts (ap (λ (b : Bounds). b.granules) taken.bounds) (live_same words new taken.bounds slab_now taken.left.keeps.heap.each) arena.lives.counts in
       let came : HasClassNow device u volatile (record volatile { supply = mid; lives = next }) start class (morph_events t start class) = record {
-        step = step_wider (λ image left. record { steady = left.keeps.steady; heap = inl left.keeps.heap; words = left.keeps.blocks; still = HasNoMove-closed left.closed }) step;
+        step = step_wider (λ image left. record { steady = left.keeps.steady; bounds = left.keeps.bounds; heap = inl left.keeps.heap; words = left.keeps.blocks; still = HasNoMove-closed left.closed }) step;
         arena = record {
           ready = ready_after current.ready step.appends.room step.quiet current.exact.formed taken.exact.formed taken.bounds;
           image = record { formed = taken.exact.formed; but = IsExactBut-exact taken.exact.exact start };

@@ -1,4 +1,5 @@
 -- An arena is formatted: the words that its header line leaves, and those that a crash leaves.
+use Rattle.std.proofs.lemmas.Nat.{mul-le}
 use Rattle.std.proofs.Common.{◌≡◌, ◌≢◌, ◌↔◌, ℕ, zero, suc, ◌*◌, ◌<◌, ◌≤◌, List, length, take, None, refl, sym, ap, subst, ◌∙◌, arith, inr, slice_index}
 use Rattle.arena_core.proofs.Common.{layout_rules, word_at, put_word, reading, IsQuiet, PmemState, words_of, began, length-put_word, word_at-put_other, text_word, fields_word, directory_word, IsExactImage, HasState, IsFree, class_in, granules_at-large, Volatile, calm_at, IsArena, IsReady, heap_inside, calm_none}
 use Rattle.pmem_lines.specs.Words.{AreZeros}
@@ -8,7 +9,9 @@ use Rattle.pmem_lines.proofs.States.{quiet_after}
 use Rattle.pmem_lines.proofs.Words.{word_at-put_same}
 use Rattle.pmem_lines.proofs.Images.{by_prefixes}
 use Rattle.pool_layout.specs.declared.header.PoolHeader.{PoolHeader}
-use Rattle.pool_layout.specs.Layout.{layout_of}
+use Rattle.pool_layout.specs.declared.layout.Layout.{Layout}
+use Rattle.pool_layout.specs.Layout.{layout_of, all_granules, pool_granules}
+use Rattle.pool_layout.proofs.Layouts.{first_row, first_version, second_version}
 use Rattle.pool_layout.specs.Header.{header_text, header_word, IsPoolHeader}
 use Rattle.book_log.specs.Book.{HasLog, AreWithin, Reads}
 use Rattle.book_log.proofs.Places.{within_heap}
@@ -18,11 +21,27 @@ use Rattle.heap_check.proofs.Formatted.{AreBlank-formatted, header_in-formatted,
 use Rattle.arena_core.specs.Call.{IsFormattedOrNot}
 use Rattle.arena_core.specs.Events.{format_events}
 
--- the header of an arena of version 1
-pub IsPoolHeader-new : (number arenas granules : ℕ) → number < arenas → arenas ≤ 16 → 16 ≤ granules → granules ≤ (layout_of 1).most_granules →
+-- the header of an arena of version 1: arenas of that version are never too many together
+pub IsPoolHeader-first : (number arenas granules : ℕ) → number < arenas → arenas ≤ 16 → 16 ≤ granules → granules ≤ (layout_of 1).most_granules →
     IsPoolHeader (record { version = 1; number = number; arenas = arenas; granules = granules })
-unfolding layout_of
-IsPoolHeader-new number arenas granules below few least most = grind arith
+unfolding all_granules
+IsPoolHeader-first number arenas granules below few least most =
+    let row = first_row in
+    record {
+      version = first_version;
+      some = omega arith;
+      most = few;
+      number = below;
+      least = omega (arith, ap (λ (r : Layout). r.least_granules) row);
+      greatest = most;
+      together = omega (arith, mul-le arenas granules 16 1024 few (omega (arith, most, ap (λ (r : Layout). r.most_granules) row)));
+    }
+
+-- and of version 2
+pub IsPoolHeader-second : (number arenas granules : ℕ) → number < arenas → arenas ≤ 16 → (layout_of 2).least_granules ≤ granules → granules ≤ (layout_of 2).most_granules → all_granules arenas granules ≤ pool_granules →
+    IsPoolHeader (record { version = 2; number = number; arenas = arenas; granules = granules })
+IsPoolHeader-second number arenas granules below few least most together =
+    record { version = second_version; some = omega arith; most = few; number = below; least = least; greatest = most; together = together }
 
 text_some : header_text ≢ 0
 unfolding header_text
@@ -78,23 +97,17 @@ unfolding format_events
 quiet_format header = (refl, (refl, (refl, tt)))
 
 -- a call began on a device of zeros, and the header was written
-pub record IsWritten (old begun new : PmemState) (number arenas granules : ℕ) : Type 0 where
+pub record IsWritten (old begun new : PmemState) (header : PoolHeader) : Type 0 where
   pub begun_is : begun ≡ began old
-  pub step : Appends begun new (format_events (record { version = 1; number = number; arenas = arenas; granules = granules }))
+  pub step : Appends begun new (format_events header)
   pub zeros : AreZeros (words_of old)
-  pub size : length (words_of old) ≡ 2048 * granules
-  pub below : number < arenas
-  pub few : arenas ≤ 16
-  pub least : 16 ≤ granules
-  pub most : granules ≤ (layout_of 1).most_granules
-  pub room : (layout_of 1).room ≤ old.room
+  pub size : length (words_of old) ≡ 2048 * header.granules
+  pub valid : IsPoolHeader header
+  pub room : (layout_of header.version).room ≤ old.room
 
-module _ {old begun new : PmemState} {number arenas granules : ℕ} (made : IsWritten old begun new number arenas granules) where
-  abbrev header : PoolHeader
-  header = record { version = 1; number = number; arenas = arenas; granules = granules }
-
+module _ {old begun new : PmemState} {header : PoolHeader} (made : IsWritten old begun new header) where
   valid : IsPoolHeader header
-  valid = IsPoolHeader-new number arenas granules made.below made.few made.least made.most
+  valid = made.valid
 
   pub formatted_device : IsFormatted (words_of new) header
   formatted_device = rw (made.step.words, made.begun_is, reading-format (words_of old) header) (IsFormatted-written (words_of old) header made.zeros valid made.size)
@@ -108,7 +121,7 @@ module _ {old begun new : PmemState} {number arenas granules : ℕ} (made : IsWr
   pub formatted_exact : IsExactImage (words_of new) × HasState (words_of new) no_heap
   formatted_exact = law_of_formatted (words_of new) header formatted_device
 
-  pub formatted_log : (n : ℕ) → n ≡ granules → HasLog n (words_of new)
+  pub formatted_log : (n : ℕ) → n ≡ header.granules → HasLog n (words_of new)
   formatted_log n same = subst (λ k. HasLog k (words_of new)) (ap (λ (h : PoolHeader). h.granules) (header_in-formatted (words_of new) header formatted_device) ∙ sym same) (IsFormed-formatted (words_of new) header formatted_device).log
 
   pub formatted_inside : AreWithin (words_of new)

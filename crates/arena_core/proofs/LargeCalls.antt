@@ -109,7 +109,7 @@ module _ (words : List ℕ) (root start count : ℕ) (exact : IsExactImage words
       let keeps : KeepsBlocks words (words_of t) = subst (KeepsBlocks words) (sym is) (keeps_stage exact take_place count 0 made taken_root) in
       step_by (root_events root 0 ++ log_events (reading (words_of s) (root_events root 0)) (Tomb start)) (take_events words root start)
       (ap (λ (ws : List ℕ). root_events root 0 ++ log_events ws (Tomb start)) (sym first.appends.words ∙ is))
-      (steps_then words (words_of t) new (inr same) (λ ws. log_events ws (Tomb start)) keeps
+      (steps_then words new (inr same) (λ ws. log_events ws (Tomb start)) keeps
       (step_wider (λ image either. subst (λ (ws : List ℕ). IsEitherHeap words ws image) (sym is) (crash_cleared image either)) first) second)
 
 -- the slabs have as many live blocks as before, where a root got a large block

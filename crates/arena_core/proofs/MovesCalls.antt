@@ -2,6 +2,9 @@
 -- and what a move did behind its begin.
 use Rattle.std.proofs.Common.{◌≡◌, ◌≢◌, ℕ, ◌<◌, List, Option, Some, None, sym, ap, ◌∙◌, arith, ◌⊎◌, ◌+◌, ◌/◌, ◌≤◌, Err, refl, inl, inr, ⊎_elim, ◌%◌, []}
 use Rattle.arena_core.proofs.Common.{entry_word, version_in, granules_in, Tables, tables_of, SameLog, root_word-low, Book, FreeSet, Bounds, Range, with_key, heap, granules_at, bounds_of, heap-none, IsBookOf, Lives, calm_at, IsIndexOf, live_in, AreLivesOf, KeepsSlabs, Reply, Machine, IsExactImage, HasValue, HasState, move_reply, IsStepOfAny, AreRoots, IsMovePlan, PmemState, words_of, IsQuietStep, step_by, step_none, HasNoMove-closed, roots_plain, law_of_steady, Volatile, IsArena, call_events, line_after, IsToMove, IsMoveCarried, log_word-low, entry_word-low, same_log, counts_kept, calm_same, named_at}
+use Rattle.heap_check.specs.Heap.{slabs}
+use Rattle.heap_check.specs.Slabs.{IsSameSlab}
+use Rattle.std.specs.Prelude.{if◌then◌else◌}
 use Rattle.move_steps.specs.Moves.{IsMovable, IsMoved, IsEitherMoved}
 use Rattle.arena_core.proofs.Arenas.{index_as, book_same, slabs_kept}
 use Rattle.arena_core.proofs.LiveSlabs.{lives_kept}
@@ -94,10 +97,13 @@ module _ {words new : List ℕ} {line from to at : ℕ} (may : IsMovable words f
         here = moved.keeps.each owner other value.range (value.range.at / 8 + index) was (same ∙ was) (record { low = omega arith; high = omega (arith, value.within) }) ∙ value.here;
       }
 
+  slab_same : {start : ℕ} → IsSameSlab (tables_of words) (tables_of new) start → slabs (tables_of new) start ≡ slabs (tables_of words) start
+  slab_same same = λ i. if same.slab i then Some (same.class i) else None
+
   state_moved : HasState new next
   state_moved = record {
     blocks = blocks;
-    slabs = λ start. grind (arith, moved.slabs, state.slabs);
+    slabs = λ start. slab_same (moved.slabs start) ∙ state.slabs start;
     values = λ other index word is. ⊎_elim
         (λ here. value_moved other from index word (ap (heap (tables_of new)) here.0 ∙ moved.moves.here) here.1)
         (λ rest. value_moved other other index word (moved.moves.others other rest.1 rest.0) rest.2)

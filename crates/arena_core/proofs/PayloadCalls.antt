@@ -14,6 +14,8 @@ use Rattle.size_classes.proofs.Spacing.{class_size-aligned}
 use Rattle.arena_core.proofs.CallEvents.{held_heap}
 use Rattle.arena_core.proofs.PayloadImages.{IsArena-block}
 use Rattle.heap_check.proofs.OffBlocks.{heap_kept}
+use Rattle.heap_check.specs.Heap.{entry_at}
+use Rattle.heap_check.specs.Sound.{granules_at}
 
 -- what is read behind a write
 pub off_write : (base : List ℕ) (t : Tables) (root from : ℕ) (words : List ℕ) (k : ℕ) → (k < t.root root / 8 + from) ⊎ (t.root root / 8 + from + length words ≤ k) → word_at (reading base (write_events t root from words)) k ≡ word_at base k
@@ -144,7 +146,19 @@ held_block_at words image root held rooted is =
     let t = tables_of words in
     let sizes = sizes_of words image.formed in
     let named = held_heap words image root held is in
-    grind (arith, IsClaim-heap, IsWithin-claim, IsNamed-claim, aligned_held)
+    let none = ap (λ e. entry_at e root) image.exact.closed in
+    let claim = IsClaim-heap t root (range_held held) none named in
+    let within = IsWithin-claim image.exact.sound root (range_held held) none claim in
+    let some : 0 < granules_at t within.0 = omega (arith, within.1.low, within.1.high, within.1.some) in
+    let lies = image.exact.sound.starts within.0 some in
+    record {
+      rooted = rooted;
+      named = named;
+      place = (IsNamed-claim t root (range_held held) none claim).word;
+      aligned = aligned_held words image root held is;
+      inside = omega (arith, within.1.high, lies.1, sizes.size);
+      few = omega (arith, sizes.size, sizes.most);
+    }
 
 -- where none is found the root has none
 pub block_refused : (words : List ℕ) (root : ℕ) (refusal : BlockRefusal) → IsBlockPlan words root (Err refusal) → heap (tables_of words) root ≡ None
@@ -185,6 +199,7 @@ module _ {old new : PmemState} {root from at : ℕ} {words : List ℕ} (image : 
       let exact = exact_kept image root may.block.named off in
       record {
         exact = exact;
+        bounds = bounds_kept image root may.block.named off;
         heap = heap_kept image root may.block.named off;
         each = λ k. ⊎_elim
             (λ same. inl same)
@@ -205,7 +220,7 @@ module _ {old new : PmemState} {root from at : ℕ} {words : List ℕ} (image : 
 
 -- a crash in which nothing is done
 IsEitherWords-same : (words : List ℕ) → IsExactImage words → IsEitherWords words words words
-IsEitherWords-same words image = record { exact = image; heap = record { each = λ root. refl }; each = λ k. inl refl; still = HasNoMove-closed image.exact.closed }
+IsEitherWords-same words image = record { exact = image; bounds = refl; heap = record { each = λ root. refl }; each = λ k. inl refl; still = HasNoMove-closed image.exact.closed }
 
 refused_events : (words : List ℕ) (root from : ℕ) (written : List ℕ) (refusal : BlockRefusal) → payload_events words root from written (write_reply (Err refusal)) ≡ []
 refused_events words root from written refusal = grind arith

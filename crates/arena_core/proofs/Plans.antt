@@ -82,7 +82,7 @@ module _ {words : List ℕ} (image : IsExactImage words) where
   root_is root below = root_table words root (HasNoMove-closed image.exact.closed) below
 
   -- a root's word is below that of the largest arena's end
-  pub word_small : (root : ℕ) → (tables_of words).root root < 16777216
+  pub word_small : (root : ℕ) → (tables_of words).root root < 67108864
   word_small root =
       let within = λ (some : t.root root ≢ 0). IsWithin-claim image.exact.sound root _ (unnamed root) (IsClaim-word t root (unnamed root) some) in
       grind (arith, sizes_of)
@@ -107,7 +107,7 @@ module _ {words : List ℕ} (image : IsExactImage words) where
   root_in {set} parts root at start class rooted is inside = grind arith
 
   -- a slab begins below the largest arena's end
-  pub slab_few : {set : Supply} → IsSlabsOf set words → (start class : ℕ) → class_in set.slabs start ≡ Some class → start < 1024
+  pub slab_few : {set : Supply} → IsSlabsOf set words → (start class : ℕ) → class_in set.slabs start ≡ Some class → start < 4096
   slab_few parts start class is = grind (arith, granules_at-slab, slab_of_set, sizes_of)
 
   -- the number of a block that a root names, by its address

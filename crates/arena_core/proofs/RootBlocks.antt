@@ -13,8 +13,11 @@ use Rattle.heap_check.proofs.HeapSteps.{keeps_both}
 use Rattle.heap_check.proofs.LiveCounts.{counts_raised, live_most}
 
 -- a slab lies in the arena, so its number of live blocks is one of the counts, and small
-pub counted : (words : List ℕ) (start : ℕ) (lives : Lives) → IsExactButImage words start → (tables_of words).slab start ≡ true → AreLivesOf lives words → (start < length lives.counts) × (slice_index lives.counts start ≡ live_in words start) × (live_in words start < 5000)
-counted words start lives image slab were = grind (arith, sizes_of, granules_at-slab, live_most)
+pub counted : (words : List ℕ) (start : ℕ) (lives : Lives) → IsExactButImage words start → (tables_of words).slab start ≡ true → AreLivesOf lives words → (start < length lives.counts) × (slice_index lives.counts start ≡ live_in words start) × (live_in words start < 2 ^ 16)
+counted words start lives image slab were =
+    let four = granules_at-slab (tables_of words) start slab in
+    let lies = image.but.sound.starts start (omega (arith, four)) in
+    (omega (arith, lies.1, four, were.counts.size), were.counts.each start, omega (arith, live_most words start, (sizes_of words image.formed).roots.0))
 
 -- a block went from its root, and is counted still
 one_taken : {words new : List ℕ} {root start : ℕ} {range : Range} {lives : Lives} → AreLivesOf lives words → IsExactButImage words start → root < (bounds_of words).roots → Holds (tables_of words) start range → (tables_of words).root root ≡ range.at → bounds_of new ≡ bounds_of words →
@@ -102,7 +105,7 @@ pub done_taken : {old mid new : PmemState} {was part left : Volatile} {root star
 done_taken {old} {mid} {new} {was} {part} {left} {root} {start} {events} taken tidied =
     let between_is : words_of mid ≡ reading (words_of old) events = taken.step.appends.words in
     record {
-      step = steps_then _ _ _ (inr tidied.heap) (λ ws. tidy_events ws start) taken.gives.keeps taken.step tidied.step;
+      step = steps_then _ _ (inr tidied.heap) (λ ws. tidy_events ws start) taken.gives.keeps taken.step tidied.step;
       current = tidied.current;
       slabs = tidied.slabs;
       lives = tidied.lives;
@@ -201,7 +204,7 @@ pub done_behind : {old mid new : PmemState} {was part left : Volatile} {root sta
     IsDone mid new left root block (slabs (tables_of (words_of mid))) (second (words_of mid)) → IsDone old new left root block (with_key (slabs (tables_of (words_of old))) start (Some class)) (first ++ second (reading (words_of old) first))
 done_behind {old} {mid} {new} second came done =
     record {
-      step = steps_then _ _ _ (inl came.heap) second came.keeps came.step done.step;
+      step = steps_then _ _ (inl came.heap) second came.keeps came.step done.step;
       current = done.current;
       slabs = done.slabs;
       lives = done.lives;

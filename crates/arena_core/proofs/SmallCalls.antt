@@ -33,8 +33,11 @@ module _ {words : List ℕ} {line root start place : ℕ} (change : IsBlockChang
   start_low : 4 ≤ start
   start_low = grind (arith, sizes_of, granules_at-slab)
 
-  root_low : root < 4096
-  root_low = omega (arith, (sizes_of words change.image.formed).roots, change.rooted)
+  in_heap : (bounds_of words).first ≤ start
+  in_heap = (change.image.but.sound.starts start (omega (arith, granules_at-slab (tables_of words) start change.slab))).0
+
+  root_before : 2048 + root < 2048 * (bounds_of words).first
+  root_before = omega (arith, (sizes_of words change.image.formed).roots, change.rooted)
 
   keeps_low : (k : ℕ) → k < 64 → word_at new k ≡ word_at words k
   keeps_low k low = rest.others k (λ e. omega (arith, e, low)) (λ e. omega (arith, e, low, change.low, start_low)) (λ e. omega (arith, e, low))
@@ -48,7 +51,7 @@ module _ {words : List ℕ} {line root start place : ℕ} (change : IsBlockChang
       let high = entry_word-high version c e few below in
       rest.others (entry_word version c e)
       (λ is. omega (arith, is, low, log_word-low version, change.few))
-      (λ is. omega (arith, is, high, sizes.first, change.low, start_low))
+      (λ is. omega (arith, is, high, change.low, in_heap))
       (λ is. omega (arith, is, low, root_word-low version root change.rooted)))
 
   pub book_small : bounds_of new ≡ bounds_of words → (book : Book) → IsBookOf book words → IsBookOf book new
@@ -61,7 +64,7 @@ module _ {words : List ℕ} {line root start place : ℕ} (change : IsBlockChang
         let sizes = sizes_of words change.image.formed in
         let high = block_word-heap but.sound but.closed r at was k within in
         let off = block_word-header but.sound but.closed r at was k within start change.slab in
-        grind (arith, root_low);
+        grind (arith, root_before);
   }
 
   -- the root has this block now, or none

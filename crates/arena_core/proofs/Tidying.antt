@@ -251,8 +251,11 @@ module _ (s : PmemState) (volatile : Volatile) (start : ℕ) (untidy : IsUntidy 
         let counts : AreCountsOf volatile.lives.counts new = counts_kept words new volatile.lives.counts (ap (λ (b : Bounds). b.granules) ended.bounds) (live_same words new ended.bounds slab_same ended.heap.each) untidy.lives.counts in
         let steady : IsSteadyImage words = record { formed = untidy.image.formed; steady = IsSteady-but untidy.image.but } in
         let events : tidy_events words start ≡ end_events words start = cond-false (holds_none t start) _ _ none ∙ cond-true (is_done t start) _ [] (done_by_test t start done) in
+        let leaves : (image : List ℕ) → LeavesEntry words image → IsEitherHeap words new image = λ image left.
+        let kept = left.keeps steady in
+        record { steady = kept.steady; bounds = kept.bounds; heap = inl kept.heap; words = kept.blocks; still = HasNoMove-closed (left.entry ∙ untidy.image.but.closed) } in
         record {
-          step = step_by (end_events words start) (tidy_events words start) (sym events) (step_wider (λ image left. grind (arith, HasNoMove-closed)) step);
+          step = step_by (end_events words start) (tidy_events words start) (sym events) (step_wider leaves step);
           current = record { ready = ready_after untidy.ready step.appends.room step.quiet untidy.image.formed exact.formed ended.bounds; exact = exact; log = book_header change volatile.log untidy.log; index = index_header change volatile.free untidy.index };
           slabs = record {
             granules = untidy.slabs.granules ∙ ap (λ (b : Bounds). b.granules) (sym ended.bounds);

@@ -11,7 +11,7 @@ use Rattle.heap_model.specs.declared.call.Reply.TheVariants as replies
 use Rattle.heap_model.specs.Machine.{Range}
 use Rattle.heap_model.specs.Step.{root_of}
 use Rattle.heap_check.specs.Heap.{heap}
-use Rattle.heap_check.specs.Image.{IsSteadyImage}
+use Rattle.heap_check.specs.Image.{bounds_of, IsSteadyImage}
 use Rattle.heap_check.specs.State.{IsWordOf, HaveSameHeap, IsEitherHeap}
 use Rattle.move_steps.specs.Moves.{IsEitherMoved}
 use Rattle.arena_core.specs.declared.answer.BlockRefusal.{BlockRefusal}
@@ -31,10 +31,11 @@ IsLeftBy (calls.Write root index word) old new image = IsEitherWords old new ima
 IsLeftBy (calls.Read root index) old new image = IsEitherHeap old new image
 IsLeftBy (calls.Move from to) old new image = IsEitherMoved old new to image
 
--- what every call has in common: the image is steady, it has the heap from before the call or from after it, and the root
--- that the call speaks of holds its word, so that the word says whether it has a block
+-- what every call has in common: the image is steady with the same numbers, it has the heap from before the call or from after
+-- it, and the root that the call speaks of holds its word, so that the word says whether it has a block
 pub record IsSteadyLeft (root : ℕ) (old new image : List ℕ) : Type 0 where
   pub steady : IsSteadyImage image
+  pub bounds : bounds_of image ≡ bounds_of old
   pub heap : HaveSameHeap old image ⊎ HaveSameHeap new image
   pub held : (tables_of image).root root ≡ (tables_of image).word root
 

@@ -71,10 +71,11 @@ abbrev pub IsWrittenBy : List ℕ → ℕ → ℕ → List ℕ → List ℕ → 
 IsWrittenBy old root from words new (Ok done) = HasWritten old root from words new
 IsWrittenBy old root from words new (Err refusal) = new ≡ old
 
--- A crash within a write, from the old words to the new ones, leaves an exact image with the same heap, in which each word
--- is the old or the new one; and no move entry is open in it.
+-- A crash within a write, from the old words to the new ones, leaves an exact image with the same numbers and the same heap, in
+-- which each word is the old or the new one; and no move entry is open in it.
 pub record IsEitherWords (old new image : List ℕ) : Type 0 where
   pub exact : IsExactImage image
+  pub bounds : bounds_of image ≡ bounds_of old
   pub heap : HaveSameHeap old image
   pub each : (k : ℕ) → (word_at image k ≡ word_at old k) ⊎ (word_at image k ≡ word_at new k)
   pub still : HasNoMove (tables_of image).open_entry
@@ -105,7 +106,7 @@ pub record HasBlockAt (words : List ℕ) (root : ℕ) (range : Range) : Type 0 w
   pub place : (tables_of words).root root ≡ range.at
   pub aligned : range.at % 8 ≡ 0
   pub inside : range.at + range.size ≤ 8 * length words
-  pub few : length words ≤ 2097152
+  pub few : length words ≤ 8388608
 
 abbrev pub range_of_block : Block → Range
 range_of_block block = record { at = block.at; size = block.size }

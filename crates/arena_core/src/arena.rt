@@ -3,8 +3,8 @@ ghost use Rattle.std.specs.Prelude.{◌≡◌, ◌*◌, ◌<◌, ◌≤◌, leng
 ghost use Rattle.pmem_lines.specs.Words.{AreZeros};
 ghost use Rattle.pmem_lines.specs.Events.{CrashOnly, IsQuiet};
 ghost use Rattle.pmem_lines.specs.Pmem.{words_of, began, appended};
-ghost use Rattle.pool_layout.specs.Layout.{layout_of};
-ghost use Rattle.pool_layout.specs.Header.{version_in, granules_in};
+ghost use Rattle.pool_layout.specs.Layout.{layout_of, all_granules, pool_granules};
+ghost use Rattle.pool_layout.specs.Header.{version_in, granules_in, IsPoolHeader};
 ghost use Rattle.heap_model.specs.declared.call.Call.TheVariants as calls;
 ghost use Rattle.heap_model.specs.Machine.{no_heap};
 ghost use Rattle.heap_model.specs.Placement.{no_stacks};
@@ -31,8 +31,11 @@ use pmem_lines::Pmem;
 use pool_layout::{PoolHeader, layout_of};
 use std::marker::Model;
 
-/// The version of the layout in which an arena is formatted.
-const VERSION: u32 = 1;
+/// The version of the layout in which `format` makes an arena.
+const FIRST_VERSION: u32 = 1;
+
+/// The version in which `format_v2` makes one.
+const SECOND_VERSION: u32 = 2;
 
 /// An arena over a memory of granules of 16384 bytes, with roots of which each names a block or none; how many it may have
 /// of both, its version says. A small block, of at most 16384 bytes, is one of a slab of its size class; a large one is
@@ -59,8 +62,7 @@ impl<P: Pmem> Arena<P> {
     /// has at most the granules of that version, and the memory has its room. It begins one call, and has five events.
     /// Afterwards no root names a block. After a crash within it the image is refused for its first word, or it is exact
     /// and has no block. It takes no memory.
-    #[tactic(auto, using(pool_layout::proofs::Layouts::layout_rules, crate::proofs::Formats::formatted_inside, crate::proofs::Formats::formatted_ready))]
-    pub fn format(room: ArenaRoom, mut device: P, number: u32, arenas: u32) -> Arena<P>
+    pub fn format(room: ArenaRoom, device: P, number: u32, arenas: u32) -> Arena<P>
         requires quiet { IsQuiet (P.state device).events }
         requires room { (layout_of 1).room ≤ (P.state device).room }
         requires most { room ≤ (layout_of 1).most_granules }
@@ -76,14 +78,57 @@ impl<P: Pmem> Arena<P> {
         ensures empty { HasState (words_of result.device) no_heap }
         ensures crash { CrashOnly result.device.base result.device.events IsFormattedOrNot }
     {
+        let _ = room.granules();
+        Arena::format_as(FIRST_VERSION, room, device, number, arenas)
+    }
+
+    /// Makes an arena of version 2 anew, as `format` makes one of version 1. It has the granules of that version, and the
+    /// arenas of the pool have no more together than a pool may have.
+    pub fn format_v2(room: ArenaRoom, device: P, number: u32, arenas: u32) -> Arena<P>
+        requires quiet { IsQuiet (P.state device).events }
+        requires room { (layout_of 2).room ≤ (P.state device).room }
+        requires least { (layout_of 2).least_granules ≤ room }
+        requires most { room ≤ (layout_of 2).most_granules }
+        requires together { all_granules arenas room ≤ pool_granules }
+        requires size { length (words_of (P.state device)) ≡ 2048 * room }
+        requires zero { AreZeros (words_of (P.state device)) }
+        requires number { number < arenas }
+        requires few { arenas ≤ 16 }
+        ensures device { result.device ≡ appended (began (P.state device)) (format_events (record { version = 2; number = number; arenas = arenas; granules = room })) }
+        ensures line { result.line ≡ 0 }
+        ensures stacks { stacks_of result.stacks ≡ no_stacks }
+        ensures ready { IsReady result.device }
+        ensures exact { IsExactImage (words_of result.device) }
+        ensures empty { HasState (words_of result.device) no_heap }
+        ensures crash { CrashOnly result.device.base result.device.events IsFormattedOrNot }
+    {
+        Arena::format_as(SECOND_VERSION, room, device, number, arenas)
+    }
+
+    // Makes an arena of a version anew.
+    #[tactic(auto, using(pool_layout::proofs::Layouts::layout_rules, crate::proofs::Formats::formatted_inside, crate::proofs::Formats::formatted_ready))]
+    fn format_as(version: u32, room: ArenaRoom, mut device: P, number: u32, arenas: u32) -> Arena<P>
+        requires quiet { IsQuiet (P.state device).events }
+        requires room { (layout_of version).room ≤ (P.state device).room }
+        requires header { IsPoolHeader (record { version = version; number = number; arenas = arenas; granules = room }) }
+        requires size { length (words_of (P.state device)) ≡ 2048 * room }
+        requires zero { AreZeros (words_of (P.state device)) }
+        ensures device { result.device ≡ appended (began (P.state device)) (format_events (record { version = version; number = number; arenas = arenas; granules = room })) }
+        ensures line { result.line ≡ 0 }
+        ensures stacks { stacks_of result.stacks ≡ no_stacks }
+        ensures ready { IsReady result.device }
+        ensures exact { IsExactImage (words_of result.device) }
+        ensures empty { HasState (words_of result.device) no_heap }
+        ensures crash { CrashOnly result.device.base result.device.events IsFormattedOrNot }
+    {
         let ArenaRoom { mut volatile } = room;
         let header = PoolHeader {
-            version: VERSION,
+            version,
             number,
             arenas,
             granules: volatile.log.granules(),
         };
-        take_front(&mut volatile.free, layout_of(VERSION).first_granule);
+        take_front(&mut volatile.free, layout_of(version).first_granule);
         device.begin();
         write_header(&mut device, &header);
         volatile.log.load(&device);

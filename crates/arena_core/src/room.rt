@@ -48,4 +48,12 @@ impl ArenaRoom {
         };
         Ok(ArenaRoom { volatile })
     }
+
+    // How many granules it is for.
+    pub(crate) fn granules(&self) -> u32
+        ensures is { result ≡ self.now }
+        ensures least { 16 ≤ self.now }
+    {
+        self.volatile.log.granules()
+    }
 }

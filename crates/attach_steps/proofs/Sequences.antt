@@ -6,7 +6,7 @@ use Rattle.pmem_lines.specs.declared.event.Event.{Event}
 use Rattle.pmem_lines.specs.Events.{IsQuiet}
 use Rattle.pmem_lines.proofs.Steps.{step_of, step_then}
 use Rattle.durable_steps.proofs.Steps.{IsQuiet-pair, pair_crash}
-use Rattle.attach_steps.proofs.Stages.{Site, IsSite, start_low, tables_with, IsStageOf, stage_root, root_low, stage_open, stage_close}
+use Rattle.attach_steps.proofs.Stages.{Site, IsSite, start_low, in_heap, tables_with, IsStageOf, stage_root, root_before, stage_open, stage_close}
 use Rattle.std.proofs.lemmas.Bool.{cases_eq}
 use Rattle.durable_steps.specs.Steps.{IsOldOrNewWord}
 use Rattle.heap_check.specs.Heap.{heap}
@@ -61,7 +61,7 @@ module _ {words : List ℕ} {line root : ℕ} {site : Site} (is : IsSite words r
           let sizes = sizes_of words is.formed in
           let high = block_word-heap but.sound but.closed r range was k within in
           let off = block_word-header but.sound but.closed r range was k within site.start is.one.lies.slab in
-          grind (arith, root_low);
+          grind (arith, root_before);
     }
 
     -- and has the old heap, but for the root
@@ -123,7 +123,7 @@ module _ {words : List ℕ} {line root : ℕ} {site : Site} (is : IsSite words r
 
   -- a store of the root leaves the header's word
   pub kept_by_root : (made between : List ℕ) (value : ℕ) → IsOldOrNewWord made (8 * root_word root) value between → (length between ≡ length made) × (word_at between site.k ≡ word_at made site.k)
-  kept_by_root made between value left = grind (arith, length-put_word, word_at-put_other, start_low, root_low)
+  kept_by_root made between value left = grind (arith, length-put_word, word_at-put_other, start_low, in_heap, root_before)
 
   -- the root's word and then the header's
   pub unmark_under : (made : List ℕ) (value : ℕ) → IsUnderEntry made → PutsOver made value false →
@@ -194,7 +194,7 @@ module _ {words : List ℕ} {line root : ℕ} {site : Site} (is : IsSite words r
     judged either may stage =
         let as_old = same_heap may passage.before stage begins in
         let as_new = same_heap may passage.behind stage ends in
-        record { steady = steady may stage; heap = grind arith; words = keeps may stage; still = subst HasNoMove (sym (ap (λ (x : Tables). x.open_entry) stage.tables)) stage.plain }
+        record { steady = steady may stage; bounds = stage.bounds; heap = grind arith; words = keeps may stage; still = subst HasNoMove (sym (ap (λ (x : Tables). x.open_entry) stage.tables)) stage.plain }
 
     word_either : (word ≡ 0) ⊎ (word ≡ site.block.at)
     word_either = grind arith

@@ -1,5 +1,5 @@
 -- A block of a slab comes or goes with its root's word: the image at each of the stores.
-use Rattle.std.proofs.Common.{◌≡◌, ◌≢◌, ◌⊎◌, ℕ, ◌+◌, ◌*◌, ◌<◌, ◌≤◌, Bool, true, List, length, refl, sym, ap, subst, ◌∙◌, arith, inl, inr, Option, Some, None}
+use Rattle.std.proofs.Common.{◌≡◌, ◌≢◌, ◌⊎◌, ℕ, ◌+◌, ◌*◌, ◌^◌, ◌<◌, ◌≤◌, Bool, true, List, length, refl, sym, ap, subst, ◌∙◌, arith, inl, inr, Option, Some, None}
 use Rattle.attach_steps.proofs.Common.{put_word, word_at-put_other, length-put_word, root_word, wal_word, WalEntry, Tables, tables_of, HasNoMove, entry_word, Opens, Closes, Bounds, Range, bounds_of, index_count_few, sizes_of, IsOneBlock, slab_table}
 use Rattle.pool_layout.specs.Layout.{layout_of}
 use Rattle.pool_layout.specs.Header.{version_in}
@@ -74,22 +74,29 @@ module _ {words : List ℕ} {line root : ℕ} {site : Site} (is : IsSite words r
   pub wal_inside : wal_word line < length words
   wal_inside = let sizes = sizes_of words is.formed in omega (arith, sizes.size, sizes.least, line_below)
 
-  pub root_low : root < 4096
+  pub root_low : root < 2 ^ 16
   root_low = let sizes = sizes_of words is.formed in omega (arith, sizes.roots, is.rooted)
+
+  -- the root's word lies below the heap
+  pub root_before : 2048 + root < 2048 * (bounds_of words).first
+  root_before = let sizes = sizes_of words is.formed in omega (arith, sizes.roots, is.rooted)
 
   -- the slab lies in the heap
 
-  pub start_low : 4 ≤ site.start
-  start_low = let sizes = sizes_of words is.formed in omega (arith, sizes.first, (AreSlabsInHeap-sound words sound).low site.start (sym (slab_table words site.start) ∙ slab))
+  pub in_heap : (bounds_of words).first ≤ site.start
+  in_heap = (AreSlabsInHeap-sound words sound).low site.start (sym (slab_table words site.start) ∙ slab)
 
-  pub start_high : site.start + 4 ≤ 1024
+  pub start_low : 4 ≤ site.start
+  start_low = let sizes = sizes_of words is.formed in omega (arith, sizes.first, in_heap)
+
+  pub start_high : site.start + 4 ≤ 4096
   start_high = grind (arith, sizes_of, granules_at-slab, slab, sound)
 
   pub header_inside : 2048 * site.start + 256 ≤ length words
   header_inside = grind arith
 
   pub inside : (made : List ℕ) → length made ≡ length words → AreInside made root site.start
-  inside made size = grind (arith, sizes_of, start_high, header_inside, root_low, root_inside, start_low)
+  inside made size = grind (arith, sizes_of, start_high, header_inside, root_low, root_before, root_inside, in_heap)
 
   -- before, each root holds its word
   plain_roots : t.root ≡ t.word

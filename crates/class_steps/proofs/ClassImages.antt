@@ -84,6 +84,7 @@ module _ (words : List ℕ) (start class : ℕ) (may : IsReadyFor words start cl
           formed = formed;
           steady = subst (λ (b : Bounds). IsSteady b (tables_of image)) (sym bounds) (subst (IsSteady (bounds_of words)) (sym tables_are) (steady_taking exact start may.slab g valid.slab held));
         };
+        bounds = bounds;
         heap = record { each = λ root. ap (λ (x : Tables). heap x root) tables_are ∙ heap_taking exact start may.slab g valid.slab held root };
         blocks = blocks_after words start may.image.formed exact.sound may.slab image kept.left.off valid;
       };

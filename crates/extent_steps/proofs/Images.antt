@@ -1,6 +1,7 @@
 -- Images while an extent comes or goes: what is the same of them.
 use Rattle.std.proofs.Common.{◌≡◌, ◌⊎◌, ℕ, ◌+◌, ◌<◌, ◌≤◌, true, List, sym, ap, subst, ◌∙◌, arith, inr, Some, None}
 use Rattle.extent_steps.proofs.Common.{extent_at, Tables, is_slab, state_field, tables_of, slab_table, slab_fields, tables_off_log-same, Range, heap, IsSound, IsSteady, bounds_of, IsFormed, IsWordOf, IsEitherHeap, AreSlabsInHeap-sound, bounds_of-off_log, IsFormed-off_log, KeepsRest, off_log, sizes_of, KeepsOthers, granule_word}
+use Rattle.image_tables.specs.Tables.{is_slab_of}
 use Rattle.heap_check.specs.Image.{IsSteadyImage}
 use Rattle.heap_check.specs.State.{KeepsBlocks}
 use Rattle.heap_check.proofs.Geometry.{index_count_few}
@@ -47,7 +48,11 @@ still_either words start new image steady closed rest extents =
     let slabs = AreSlabsInHeap-sound words steady.steady.sound in
     let tables = tables_off_log-same words image off slabs extents in
     either words start new image
-    (grind (arith, IsFormed-off_log, bounds_of-off_log))
+    (record {
+      formed = IsFormed-off_log words image steady.formed off slabs rest.log (λ other. ap is_slab_of (extents other));
+      bounds = bounds_of-off_log words image off;
+      rest = record { same_length = rest.same_length; others = λ k apart place header. rest.others k apart place };
+    })
     (subst (IsSteady (bounds_of words)) (sym tables) steady.steady)
     (λ root. ap (λ (x : Tables). heap x root) tables)
     (keeps_off_log words image steady closed rest)

@@ -118,4 +118,4 @@ module _ {words : List ℕ} {root start count : ℕ} (exact : IsExactImage words
 
   -- so a crash that leaves a stage, with the heap from before or with the new one, leaves one of the two
   pub either_stage : (new : List ℕ) (here word : ℕ) (image : List ℕ) → IsLargeStage start count here word → HaveSameHeap words image ⊎ HaveSameHeap new image → IsStageOf words root start here word image → IsEitherHeap words new image
-  either_stage new here word image is heaps stage = record { steady = steady_stage here word image is stage; heap = heaps; words = keeps_stage here word image stage; still = still_stage stage }
+  either_stage new here word image is heaps stage = record { steady = steady_stage here word image is stage; bounds = stage.bounds; heap = heaps; words = keeps_stage here word image stage; still = still_stage stage }

@@ -1,7 +1,7 @@
 -- The numbers of an arena of well-formed words, and where its words lie.
-use Rattle.std.proofs.Common.{◌≡◌, ◌*◌, ◌<◌, ◌≤◌, ℕ, List, length, refl, ap, arith}
+use Rattle.std.proofs.Common.{◌≡◌, ◌+◌, ◌*◌, ◌^◌, ◌<◌, ◌≤◌, ℕ, List, length, ap, arith}
 use Rattle.pool_layout.specs.Layout.{layout_of}
-use Rattle.pool_layout.proofs.Layouts.{version_by_roots}
+use Rattle.pool_layout.proofs.Layouts.{layout_rules, version_by_roots}
 use Rattle.pool_layout.specs.Places.{root_word, heap_word}
 use Rattle.pool_layout.specs.Header.{version_in, granules_in}
 use Rattle.heap_model.specs.Machine.{Bounds}
@@ -9,15 +9,24 @@ use Rattle.heap_check.specs.Image.{bounds_of, IsFormed}
 
 -- how many roots and granules there are, where the heap begins, and how many words
 pub record HasSizes (words : List ℕ) : Type 0 where
-  pub roots : (layout_of (version_in words)).roots ≡ 4096
-  pub first : (layout_of (version_in words)).first_granule ≡ 4
+  -- the words of the roots lie below the heap, and the heap begins inside
+  pub roots : ((layout_of (version_in words)).roots < 2 ^ 16) × (2048 + (layout_of (version_in words)).roots ≤ 2048 * (layout_of (version_in words)).first_granule) × ((layout_of (version_in words)).first_granule < granules_in words)
+  pub first : (4 ≤ (layout_of (version_in words)).first_granule) × ((layout_of (version_in words)).first_granule < granules_in words)
   pub least : 16 ≤ granules_in words
-  pub most : granules_in words ≤ 1024
+  pub most : granules_in words ≤ 4096
   pub size : length words ≡ 2048 * granules_in words
 
 pub sizes_of : (words : List ℕ) → IsFormed words → HasSizes words
-unfolding layout_of
-sizes_of words formed = record { roots = refl; first = refl; least = formed.header.valid.least; most = formed.header.valid.greatest; size = formed.size }
+sizes_of words formed =
+    let rules = layout_rules (version_in words) in
+    let valid = formed.header.valid in
+    record {
+      roots = (rules.few_roots, omega (arith, rules.roots, rules.heap), omega (arith, rules.some_granule, valid.least));
+      first = (rules.first, omega (arith, rules.some_granule, valid.least));
+      least = omega (arith, rules.least, valid.least);
+      most = omega (arith, rules.most, valid.greatest);
+      size = formed.size;
+    }
 
 -- well-formed words with the same numbers have one version
 pub version_by_bounds : (words new : List ℕ) → IsFormed words → IsFormed new → bounds_of new ≡ bounds_of words → version_in new ≡ version_in words

@@ -6,7 +6,7 @@ use Rattle.image_tables.specs.Tables.{tables_of}
 use Rattle.image_tables.specs.Updates.{HasNoMove}
 use Rattle.heap_model.specs.Machine.{Range, Machine}
 use Rattle.heap_check.specs.Heap.{heap, slabs}
-use Rattle.heap_check.specs.Image.{IsSteadyImage}
+use Rattle.heap_check.specs.Image.{bounds_of, IsSteadyImage}
 
 -- word k lies in the range
 pub record IsWordOf (range : Range) (k : ℕ) : Type 0 where
@@ -34,10 +34,11 @@ pub record HaveSameHeap (words image : List ℕ) : Type 0 where
 pub record KeepsBlocks (old image : List ℕ) : Type 0 where
   pub each : (root other : ℕ) (range : Range) (k : ℕ) → heap (tables_of old) root ≡ Some range → heap (tables_of image) other ≡ Some range → IsWordOf range k → word_at image k ≡ word_at old k
 
--- A crash within a call from the old words to the new ones leaves a steady image with the heap of the one or of the
--- other, in which each block that was there before has its words; and no move entry is open in it.
+-- A crash within a call from the old words to the new ones leaves a steady image of the same numbers with the heap of the one
+-- or of the other, in which each block that was there before has its words; and no move entry is open in it.
 pub record IsEitherHeap (old new image : List ℕ) : Type 0 where
   pub steady : IsSteadyImage image
+  pub bounds : bounds_of image ≡ bounds_of old
   pub heap : HaveSameHeap old image ⊎ HaveSameHeap new image
   pub words : KeepsBlocks old image
   pub still : HasNoMove (tables_of image).open_entry

@@ -1,17 +1,19 @@
 -- A book that reads an arena: what it knows of the live extents, and how many events a way has.
-use Rattle.std.proofs.Common.{◌≡◌, ◌+◌, ◌/◌, ◌<◌, ◌≤◌, ⊎_elim, ℕ, true, false, List, [], ◌++◌, length, take, refl, sym, ap, ◌∙◌, subst, arith, Option, Some, None}
-use Rattle.std.proofs.lemmas.Bool.{cases_Bool}
+use Rattle.std.proofs.Common.{◌≡◌, ◌+◌, ◌/◌, ◌<◌, ◌≤◌, ⊎_elim, ℕ, true, false, Bool, cond, ltb, List, [], ◌++◌, length, take, refl, sym, ap, ◌∙◌, subst, arith, Option, Some, None}
+use Rattle.std.proofs.lemmas.Bool.{cases_Bool, lt-ltb, le-ltb}
 use Rattle.pmem_lines.specs.declared.event.Event.{Event}
 use Rattle.pmem_lines.specs.Pmem.{PmemState, words_of, Appends}
-use Rattle.pmem_lines.specs.Events.{IsQuiet}
+use Rattle.pmem_lines.specs.Events.{reading, IsQuiet}
 use Rattle.pmem_lines.specs.Steps.{IsQuietStep}
 use Rattle.pmem_lines.proofs.States.{appended_none, Appends-state}
 use Rattle.pmem_lines.proofs.Steps.{step_by, step_none}
 use Rattle.std.proofs.lemmas.Nat.{mul-le}
+use Rattle.pool_layout.specs.declared.layout.Layout.{Layout}
 use Rattle.pool_layout.specs.Layout.{layout_of}
 use Rattle.pool_layout.proofs.Layouts.{layout_rules}
 use Rattle.pool_layout.specs.Places.{heap_word}
 use Rattle.pool_layout.specs.Header.{version_in}
+use Rattle.image_tables.specs.Log.{most_chunks}
 use Rattle.image_tables.specs.Extents.{extent_at}
 use Rattle.book_log.specs.Book.{Book, HasLog, HasFreeEntry, Reads, live_at, chunks_of}
 use Rattle.log_gc.specs.declared.room.Rolled.{Rolled}
@@ -20,13 +22,14 @@ use Rattle.log_gc.specs.Chunks.{has_space, spare_chunks}
 use Rattle.book_log.specs.Live.{AreDisjoint, AreLive, live_words}
 use Rattle.log_gc.specs.Needless.{is_needless}
 use Rattle.log_gc.specs.Copies.{fill_count, switch_count}
-use Rattle.log_gc.specs.Room.{live_log, chunks_for, kept_chunks, way_of, room_events, KeepsLog}
+use Rattle.log_gc.specs.Room.{live_log, chunks_for, kept_chunks, chunks_behind, way_of, room_events, most_events, KeepsLog}
 use Rattle.log_gc.proofs.Choices.{length-spare, length-without_one}
+use Rattle.book_log.proofs.Directories.{eight}
 use Rattle.book_log.proofs.LiveExtents.{live_extents}
 use Rattle.log_gc.proofs.Next.{same_words}
 use Rattle.log_gc.proofs.Flushes.{length-switch}
 use Rattle.log_gc.proofs.Ways.{IsArenaLog, first_passes, rewrite_most}
-use Rattle.log_gc.proofs.Making.{IsRoll, roll_is, rewrite_is, events_of, free_space, way_nothing}
+use Rattle.log_gc.proofs.Making.{IsRoll, roll_is, rewrite_is, rewrite_full, events_of, free_space, way_nothing, same_version, made}
 
 -- what the book says is live is in the heap
 pub book_live : (book : Book) (words : List ℕ) → book.granules ≤ (layout_of (version_in words)).most_granules → Reads book words → AreLive 0 book.granules (live_at book)
@@ -116,3 +119,68 @@ room_most granules words log inside few disjoint = by_way (way_of granules words
     by_way (rolled.Rolled dropped) is = omega (arith, roll_count granules words dropped log is, count_most (version_in words) 1 (omega arith))
     by_way (rolled.Rewritten chunks) is =
         omega (arith, rewrite_count granules words chunks arena disjoint is, count_most (version_in words) chunks (rewrite_few granules words chunks arena disjoint is))
+
+-- how many events an entry has at most, by how many chunks are active
+
+-- a bound of both is one of either
+bound_either : (b : Bool) (x y n : ℕ) → n ≤ x → n ≤ y → n ≤ cond b x y
+bound_either true x y n low high = low
+bound_either false x y n low high = high
+
+either_bound : (b : Bool) (x y n : ℕ) → x ≤ n → y ≤ n → cond b x y ≤ n
+either_bound true x y n low high = low
+either_bound false x y n low high = high
+
+module _ (granules : ℕ) (words : List ℕ) (log : HasLog granules words) (inside : heap_word (version_in words) ≤ length words) (few : granules ≤ (layout_of (version_in words)).most_granules) (disjoint : AreDisjoint (extent_at words)) where
+  arena_log : IsArenaLog granules words (chunks_of words)
+  arena_log = record { log = log; inside = inside; few = few }
+
+  abbrev row : Layout
+  row = layout_of (version_in words)
+
+  abbrev new : List ℕ
+  new = reading words (room_events granules words)
+
+  roll_most : switch_count (version_in words) 1 + 3 ≤ (layout_of (version_in words)).roll_events
+  roll_most = omega (arith, (layout_rules (version_in words)).roll)
+
+  pub room_by_chunks : length (room_events granules words) + 3 ≤ most_events words
+  room_by_chunks = by_way (way_of granules words) refl
+    where
+      by_way : (way : Rolled) → way_of granules words ≡ way → length (room_events granules words) + 3 ≤ most_events words
+      by_way rolled.Nothing is =
+          let none = ap length (events_of granules words rolled.Nothing is) in
+          bound_either (ltb (length (chunks_of words)) most_chunks) row.roll_events row.entry_events _ (omega (arith, none, roll_most)) (omega (arith, none, count_most (version_in words) 0 (omega arith)))
+      by_way (rolled.Rolled dropped) is =
+          let count = roll_count granules words dropped log is in
+          bound_either (ltb (length (chunks_of words)) most_chunks) row.roll_events row.entry_events _ (omega (arith, count, roll_most)) (omega (arith, count, count_most (version_in words) 1 (omega arith)))
+      by_way (rolled.Rewritten chunks) is =
+          let whole = room_most granules words log inside few disjoint in
+          subst (λ b. length (room_events granules words) + 3 ≤ cond b row.roll_events row.entry_events) (sym (le-ltb (length (chunks_of words)) most_chunks (rewrite_full granules words chunks is))) whole
+
+  same_row : layout_of (version_in new) ≡ layout_of (version_in words)
+  same_row = ap layout_of (same_version granules words new (made arena_log disjoint).keeps)
+
+  -- what the next one has at most is less by as much: the log is not rewritten twice
+  pub room_then : length (room_events granules words) + 3 + most_events new ≤ row.entry_events + row.roll_events
+  room_then = by_way (way_of granules words) refl
+    where
+      rises : row.roll_events ≤ row.entry_events
+      rises = (layout_rules (version_in words)).rises
+
+      later : most_events new ≤ row.entry_events
+      later = either_bound (ltb (length (chunks_of new)) most_chunks) (layout_of (version_in new)).roll_events (layout_of (version_in new)).entry_events row.entry_events
+          (omega (arith, rises, ap (λ (r : Layout). r.roll_events) same_row)) (omega (arith, ap (λ (r : Layout). r.entry_events) same_row))
+
+      by_way : (way : Rolled) → way_of granules words ≡ way → length (room_events granules words) + 3 + most_events new ≤ row.entry_events + row.roll_events
+      by_way rolled.Nothing is = omega (arith, ap length (events_of granules words rolled.Nothing is), roll_most, later)
+      by_way (rolled.Rolled dropped) is = omega (arith, roll_count granules words dropped log is, roll_most, later)
+      by_way (rolled.Rewritten chunks) is =
+          let whole = room_most granules words log inside few disjoint in
+          let active = chunks_of words in
+          let below = rewrite_few granules words chunks arena_log disjoint is in
+          let size = length-spare active chunks (omega (arith, log.directory.most, below)) in
+          let count : length (chunks_of new) ≡ chunks = ap length ((made arena_log disjoint).chunks ∙ ap (chunks_behind active) is) ∙ size in
+          let less : most_events new ≡ (layout_of (version_in new)).roll_events =
+          ap (λ b. cond b (layout_of (version_in new)).roll_events (layout_of (version_in new)).entry_events) (lt-ltb (length (chunks_of new)) most_chunks (omega (arith, count, below, eight))) in
+          omega (arith, whole, less, ap (λ (r : Layout). r.roll_events) same_row)

@@ -1,7 +1,7 @@
 -- The way in which room is made, and what is so afterwards.
 use Rattle.std.proofs.Common.{◌≡◌, ◌≢◌, ◌||◌, ◌-◌, ◌*◌, ◌<◌, ◌≤◌, ◌⊎◌, ⊎_elim, inl, ℕ, zero, suc, true, false, Bool, cond, ltb, eqb, List, [], ◌∷◌, ◌++◌, length, get_or, drop, take, refl, sym, ap, ◌∙◌, subst, arith, length-append, length-drop, Option, Some, None, is_some}
 use Rattle.std.specs.Option.{IsSome}
-use Rattle.std.proofs.lemmas.Bool.{cases_Bool, cases_eq, cond-true, cond-false, or_cases, or_left, or_right, or_from, eq-eqb, eqb-true, ltb-true, lt-ltb, le-ltb, both_ways}
+use Rattle.std.proofs.lemmas.Bool.{cases_Bool, cases_eq, cases_lt, cond-true, cond-false, or_cases, or_left, or_right, or_from, eq-eqb, eqb-true, ltb-true, lt-ltb, le-ltb, both_ways}
 use Rattle.std.proofs.lemmas.List.{get_or_past}
 use Rattle.pmem_lines.specs.declared.event.Event.TheVariants.{Fence}
 use Rattle.pmem_lines.specs.Words.{word_at}
@@ -26,7 +26,7 @@ use Rattle.log_gc.specs.Chunks.{has_zero, has_space, spare_chunks}
 use Rattle.book_log.specs.Live.{AreDisjoint}
 use Rattle.log_gc.specs.Needless.{first_needless}
 use Rattle.log_gc.specs.Copies.{copy_events, switch_events}
-use Rattle.log_gc.specs.Room.{live_log, chunks_for, kept_chunks, way_of, events_among, room_events, KeepsLog}
+use Rattle.log_gc.specs.Room.{live_log, chunks_for, kept_chunks, chunks_behind, way_of, events_among, room_events, KeepsLog}
 use Rattle.log_gc.proofs.Choices.{length-spare}
 use Rattle.log_gc.proofs.Filled.{ReadAs}
 use Rattle.log_gc.proofs.Switches.{IsSwitch, copied_same, copied_reads, switch_reading, switch_same, switch_keeps, switch_quiet, switch_crash}
@@ -156,6 +156,26 @@ roll_is granules words dropped is = ⊎_elim
         }
     cases false test e = absurd (other (chunks_for (version_in words) (length (live_log granules words))) dropped e)
 
+-- a rewrite comes where as many chunks are active as may be
+pub rewrite_full : (granules : ℕ) (words : List ℕ) (chunks : ℕ) → way_of granules words ≡ rolled.Rewritten chunks → most_chunks ≤ length (chunks_of words)
+rewrite_full granules words chunks is = ⊎_elim
+    (λ (few : length (chunks_of words) < most_chunks). absurd (neither few))
+    (λ (many : most_chunks ≤ length (chunks_of words)). many)
+    (cases_lt (length (chunks_of words)) most_chunks)
+  where
+    apart : (m : ℕ) → rolled.Nothing ≡ rolled.Rewritten m → ⊥
+    apart m e = absurd (cc)
+
+    other : (m : ℕ) (d : Option ℕ) → rolled.Rolled d ≡ rolled.Rewritten m → ⊥
+    other m d e = absurd (cc)
+
+    neither : length (chunks_of words) < most_chunks → ⊥
+    neither few = ⊎_elim
+        (λ (space : has_space (version_in words) words (chunks_of words) ≡ true). apart chunks (sym (way_nothing granules words space) ∙ is))
+        (λ (full : has_space (version_in words) words (chunks_of words) ≡ false).
+        other chunks (first_needless granules words (chunks_of words)) (sym (way_roll granules words (first_needless granules words (chunks_of words)) full refl (inl (omega (arith, few, eight)))) ∙ is))
+        (cases_Bool (has_space (version_in words) words (chunks_of words)))
+
 -- how many chunks a rewrite writes
 pub rewrite_is : (granules : ℕ) (words : List ℕ) (chunks : ℕ) → way_of granules words ≡ rolled.Rewritten chunks → chunks ≡ chunks_for (version_in words) (length (live_log granules words))
 rewrite_is granules words chunks is = ⊎_elim
@@ -207,6 +227,7 @@ pub record IsMade (granules : ℕ) (words : List ℕ) : Type 0 where
   pub keeps : KeepsLog granules words (reading words (room_events granules words))
   pub free : HasFreeEntry (reading words (room_events granules words))
   pub within : AreWithin (reading words (room_events granules words))
+  pub chunks : chunks_of (reading words (room_events granules words)) ≡ chunks_behind (chunks_of words) (way_of granules words)
 
 -- the version is kept too
 pub same_version : (granules : ℕ) (words new : List ℕ) → KeepsLog granules words new → version_in new ≡ version_in words
@@ -215,8 +236,8 @@ same_version granules words new keeps =
 
 -- by a switch of the directory that leaves a place free
 made_switch : (granules : ℕ) (words active kept fresh entries : List ℕ) → IsSwitch granules words active kept fresh entries → length entries < (layout_of (version_in words)).chunk_entries * length fresh →
-    room_events granules words ≡ switch_events (version_in words) fresh entries (kept ++ fresh) → IsMade granules words
-made_switch granules words active kept fresh entries switch room is =
+    room_events granules words ≡ switch_events (version_in words) fresh entries (kept ++ fresh) → kept ++ fresh ≡ chunks_behind (chunks_of words) (way_of granules words) → IsMade granules words
+made_switch granules words active kept fresh entries switch room is behind =
     let version = version_in words in
     let chunks = kept ++ fresh in
     let events = switch_events version fresh entries chunks in
@@ -248,6 +269,7 @@ made_switch granules words active kept fresh entries switch room is =
       keeps = subst (λ es. KeepsLog granules words (reading words es)) (sym is) keeps;
       free = subst (λ es. HasFreeEntry (reading words es)) (sym is) free;
       within = subst (λ es. AreWithin (reading words es)) (sym is) within;
+      chunks = ap (λ es. chunks_of (reading words es)) is ∙ named ∙ behind;
     }
   where
     some_fresh : (fresh : List ℕ) → length entries < (layout_of (version_in words)).chunk_entries * length fresh → 0 < length fresh
@@ -273,6 +295,7 @@ made {granules} {words} arena disjoint = by_way (way_of granules words) refl
           keeps = subst (λ es. KeepsLog granules words (reading words es)) (sym none) keeps;
           free = subst (λ es. HasFreeEntry (reading words es)) (sym none) (free_space granules words arena.log (nothing_space granules words is));
           within = subst (λ es. AreWithin (reading words es)) (sym none) (within_heap words arena.inside);
+          chunks = ap (λ es. chunks_of (reading words es)) none ∙ sym (ap (chunks_behind (chunks_of words)) is);
         }
     by_way (rolled.Rolled dropped) is =
         let active = chunks_of words in
@@ -282,6 +305,7 @@ made {granules} {words} arena disjoint = by_way (way_of granules words) refl
         made_switch granules words active (kept_chunks dropped active) (take 1 (spare_chunks active)) [] (roll_switch granules words active dropped arena roll.first roll.few)
         (subst (λ k. 0 < (layout_of (version_in words)).chunk_entries * k) (sym one) (omega (arith, some)))
         (events_of granules words (rolled.Rolled dropped) is)
+        (sym (ap (chunks_behind active) is))
     by_way (rolled.Rewritten chunks) is =
         let active = chunks_of words in
         let version = version_in words in
@@ -292,3 +316,4 @@ made {granules} {words} arena disjoint = by_way (way_of granules words) refl
         made_switch granules words active [] (take m (spare_chunks active)) entries (rewrite_switch granules words active arena disjoint)
         (subst (λ k. length entries < (layout_of version).chunk_entries * k) (sym size) (rewrite_fits version (length entries)))
         (events_of granules words (rolled.Rewritten chunks) is ∙ ap (λ k. events_among granules words active (rolled.Rewritten k)) (rewrite_is granules words chunks is))
+        (sym (ap (chunks_behind active) is ∙ ap (λ k. take k (spare_chunks active)) (rewrite_is granules words chunks is)))

@@ -69,6 +69,11 @@ events_among granules words active (rolled.Rewritten chunks) =
 unfoldable pub room_events : ℕ → List ℕ → List Event
 room_events granules words = events_among granules words (chunks_of words) (way_of granules words)
 
+-- How many events an entry has at most that is put into a log of these words, with those that make room for it. Where fewer
+-- chunks are active than may be, the log rolls and is not rewritten.
+abbrev pub most_events : List ℕ → ℕ
+most_events words = if nat_lt (length (chunks_of words)) most_chunks then (layout_of (version_in words)).roll_events else (layout_of (version_in words)).entry_events
+
 -- the log is well formed and has the live extents that it has in the words before, and every word outside the log and
 -- the directory is the same
 pub record KeepsLog (granules : ℕ) (words image : List ℕ) : Type 0 where

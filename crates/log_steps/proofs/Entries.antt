@@ -1,21 +1,23 @@
 -- An entry is put into the log behind the events that make room for it.
-use Rattle.std.proofs.Common.{◌≡◌, ◌≢◌, ◌<◌, ◌≤◌, ◌+◌, ⊎_elim, inl, inr, ℕ, zero, suc, true≢false, List, ◌++◌, length, refl, sym, ap, ◌∙◌, arith, Option, Some, None, IsSome}
+use Rattle.std.proofs.Common.{◌≡◌, ◌≢◌, ◌<◌, ◌≤◌, ◌+◌, ⊎_elim, inl, inr, ℕ, zero, suc, Bool, true, false, true≢false, cond, nat_lt, if◌then◌else◌, List, ◌++◌, length, refl, sym, ap, ◌∙◌, arith, Option, Some, None, IsSome}
 use Rattle.std.proofs.lemmas.Bool.{cases_eq}
 use Rattle.pmem_lines.specs.Words.{word_at, put_word}
 use Rattle.pmem_lines.specs.Events.{reading}
 use Rattle.pmem_lines.proofs.Words.{word_at-put_other, length-put_word}
 use Rattle.pool_layout.specs.Layout.{layout_of}
+use Rattle.pool_layout.proofs.Layouts.{layout_rules}
 use Rattle.pool_layout.specs.Header.{version_in, granules_in}
+use Rattle.image_tables.specs.Log.{most_chunks}
 use Rattle.image_tables.specs.Extents.{extent_at}
 use Rattle.image_tables.proofs.Stores.{IsSameOffLog, version_in-off_log}
 use Rattle.book_log.specs.declared.entry.LogEntry.{LogEntry}
 use Rattle.book_log.specs.declared.place.EntryPlace.{EntryPlace}
 use Rattle.book_log.specs.Entry.{log_word as word_of_entry}
 use Rattle.book_log.specs.Log.{logged, with_entry}
-use Rattle.book_log.specs.Book.{Book, HasLog, Reads, IsNextOf, IsInLog, IsEntryOrNot, place_word, append_events}
+use Rattle.book_log.specs.Book.{Book, HasLog, Reads, IsNextOf, IsInLog, IsEntryOrNot, chunks_of, place_word, append_events}
 use Rattle.book_log.specs.Live.{AreDisjoint}
-use Rattle.log_gc.specs.Room.{room_events, KeepsLog}
-use Rattle.log_gc.proofs.Booked.{room_most}
+use Rattle.log_gc.specs.Room.{room_events, most_events, KeepsLog}
+use Rattle.log_gc.proofs.Booked.{room_by_chunks, room_then}
 use Rattle.heap_check.specs.Image.{IsFormed}
 use Rattle.log_steps.specs.Events.{first_zero, next_entry_word, log_events}
 use Rattle.log_steps.specs.Log.{KeepsRest, IsLogged, IsLoggedOrNot, IsBookOf}
@@ -92,6 +94,24 @@ pub most_granules : (book : Book) (words : List ℕ) → IsFormed words → IsBo
 most_granules book words formed log = omega (arith, log.granules, formed.header.valid.greatest)
 
 -- how many events make room at most, and add the entry
-pub room_few : (book : Book) (words : List ℕ) → IsFormed words → IsBookOf book words → AreDisjoint (extent_at words) → length (room_events book.granules words) + 3 ≤ (layout_of (version_in words)).entry_events
+pub room_few : (book : Book) (words : List ℕ) → IsFormed words → IsBookOf book words → AreDisjoint (extent_at words) → length (room_events book.granules words) + 3 ≤ most_events words
 room_few book words formed log disjoint =
-    room_most book.granules words log.reads.log (heap_inside words formed) (most_granules book words formed log) disjoint
+    room_by_chunks book.granules words log.reads.log (heap_inside words formed) (most_granules book words formed log) disjoint
+
+-- and with those of the next one, whatever the entry is
+pub room_once : (book : Book) (words made new : List ℕ) → IsFormed words → IsBookOf book words → AreDisjoint (extent_at words) → made ≡ reading words (room_events book.granules words) → version_in new ≡ version_in made → chunks_of new ≡ chunks_of made →
+    length (room_events book.granules words) + 3 + most_events new ≤ (layout_of (version_in words)).entry_events + (layout_of (version_in words)).roll_events
+room_once book words made new formed log disjoint is version chunks =
+    let most = room_then book.granules words log.reads.log (heap_inside words formed) (most_granules book words formed log) disjoint in
+    let same : most_events new ≡ most_events made =
+    ap (λ (cs : List ℕ). if nat_lt (length cs) most_chunks then (layout_of (version_in new)).roll_events else (layout_of (version_in new)).entry_events) chunks
+    ∙ ap (λ v. if nat_lt (length (chunks_of made)) most_chunks then (layout_of v).roll_events else (layout_of v).entry_events) version in
+    omega (arith, most, same, ap most_events is)
+
+-- an entry has no more events than the version says
+pub most_few : (words : List ℕ) → most_events words ≤ (layout_of (version_in words)).entry_events
+most_few words = by (nat_lt (length (chunks_of words)) most_chunks)
+  where
+    by : (b : Bool) → cond b (layout_of (version_in words)).roll_events (layout_of (version_in words)).entry_events ≤ (layout_of (version_in words)).entry_events
+    by true = (layout_rules (version_in words)).rises
+    by false = omega arith

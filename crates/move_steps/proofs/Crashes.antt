@@ -63,6 +63,7 @@ module _ {words : List ℕ} {line from to at : ℕ} (may : IsMovable words from 
     judged : (new : List ℕ) → HaveSameHeap words image ⊎ HaveSameHeap new image → (tables_of words).root (name to) ≡ word to → IsEitherMoved words new to image
     judged new same held = record {
       steady = steady;
+      bounds = stage.bounds;
       heap = same;
       words = keeps;
       held = ap (λ (x : Tables). x.root to) stage.tables ∙ held ∙ sym (ap (λ (x : Tables). x.word to) stage.tables);

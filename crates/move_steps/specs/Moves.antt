@@ -44,11 +44,12 @@ pub record IsMoved (words : List ℕ) (line from to at : ℕ) (new : List ℕ) :
   pub keeps : KeepsBlocks words new
   pub rest : KeepsOthers words line from to new
 
--- A crash within a move to a root, from the old words to the new ones, leaves a steady image with the heap of the one or
--- of the other, in which each block that was there before has its words; and where a move entry is open in it, the root
--- holds its word still.
+-- A crash within a move to a root, from the old words to the new ones, leaves a steady image of the same numbers with the heap
+-- of the one or of the other, in which each block that was there before has its words; and where a move entry is open in it,
+-- the root holds its word still.
 pub record IsEitherMoved (old new : List ℕ) (to : ℕ) (image : List ℕ) : Type 0 where
   pub steady : IsSteadyImage image
+  pub bounds : bounds_of image ≡ bounds_of old
   pub heap : HaveSameHeap old image ⊎ HaveSameHeap new image
   pub words : KeepsBlocks old image
   pub held : (tables_of image).root to ≡ (tables_of image).word to

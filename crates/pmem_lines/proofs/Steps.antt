@@ -1,11 +1,12 @@
 -- Steps that begin and end quiet, one after another.
-use Rattle.std.proofs.Common.{sym, ◌≡◌, ℕ, List, [], ◌∷◌, ◌++◌, subst}
+use Rattle.std.proofs.Common.{sym, ◌≡◌, ℕ, List, [], ◌∷◌, ◌++◌, length, subst}
+use Rattle.std.proofs.Math.Seq.{take-length}
 use Rattle.pmem_lines.specs.declared.event.Event.{Event}
 use Rattle.pmem_lines.specs.declared.event.Event.TheVariants.{Store, Flush, Fence}
 use Rattle.pmem_lines.specs.Pmem.{PmemState, words_of, Appends}
-use Rattle.pmem_lines.specs.Events.{reading, IsQuiet, CrashOnly}
+use Rattle.pmem_lines.specs.Events.{reading, IsImage, IsQuiet, CrashOnly}
 use Rattle.pmem_lines.specs.Steps.{IsQuietStep}
-use Rattle.pmem_lines.proofs.Images.{then, weaker, by_none}
+use Rattle.pmem_lines.proofs.Images.{then, weaker, by_none, quiet_image}
 use Rattle.pmem_lines.proofs.States.{appended_none, Appends-state, quiet_after, then_step}
 
 -- events behind others are quiet where all of them are
@@ -18,6 +19,13 @@ quiet_behind (Fence ∷ e) f quiet = quiet_behind e f quiet
 -- the events of a step are quiet
 pub quiet_events : {s t : PmemState} {e : List Event} {P : List ℕ → Type 0} → IsQuietStep s t e P → IsQuiet e
 quiet_events {s} {t} {e} step = quiet_behind s.events e (subst (λ (p : PmemState). IsQuiet p.events) step.appends.state step.quiet)
+
+-- what a crash leaves is said of the words at the end too
+pub step_end : {s t : PmemState} {e : List Event} {P : List ℕ → Type 0} → IsQuietStep s t e P → P (words_of t)
+step_end {s} {t} {e} {P} step =
+    let ws = words_of s in
+    subst P (sym step.appends.words)
+    (step.crash.each (length e) (reading ws e) (subst (λ (es : List Event). IsImage ws es (reading ws e)) (sym (take-length e)) (quiet_image ws e (quiet_events step))))
 
 -- events that end quiet are a step
 pub step_of : {s t : PmemState} {e : List Event} {P : List ℕ → Type 0} → Appends s t e → IsQuiet e → IsQuiet s.events → CrashOnly (words_of s) e P → IsQuietStep s t e P

@@ -17,7 +17,7 @@ pub header_fits : (header : PoolHeader) → IsPoolHeader header → FitsWord hea
 header_fits header valid =
     let rules = layout_rules header.version in
     record {
-      version = omega (arith, valid.version);
+      version = omega (arith, valid.version.most);
       number = omega (arith, valid.number, valid.most);
       arenas = omega (arith, valid.most);
       granules = omega (arith, valid.greatest, rules.most);

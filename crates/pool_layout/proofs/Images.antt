@@ -47,6 +47,7 @@ arena_header_valid header arena first below = record {
   number = below;
   least = first.valid.least;
   greatest = first.valid.greatest;
+  together = first.valid.together;
 }
 
 -- the text is good, and the second word is bad

@@ -6,7 +6,7 @@ use Rattle.pmem_lines.specs.Words.{word_at}
 use Rattle.pool_layout.specs.declared.header.PoolHeader.{PoolHeader}
 use Rattle.pool_layout.specs.declared.defect.Defect.{Defect}
 use Rattle.pool_layout.specs.declared.defect.Defect.TheVariants.{BadLength, BadHeader}
-use Rattle.pool_layout.specs.Layout.{layout_of}
+use Rattle.pool_layout.specs.Layout.{layout_of, all_granules, pool_granules, IsVersion}
 use Rattle.pool_layout.specs.Places.{text_word, fields_word}
 use Rattle.pool_layout.specs.Header.{header_text, header_word, fields_of, IsHeader}
 use Rattle.pool_layout.specs.Bytes.{words_of_bytes}
@@ -149,28 +149,34 @@ both P Q (inr p) d = inr (λ both'. p both'.0)
 at_most : (m n : ℕ) → (m ≤ n) ⊎ (¬ (m ≤ n))
 at_most m n = ⊎_elim (λ (low : m < n + 1). inl (omega arith)) (λ (high : n + 1 ≤ m). inr (λ le. omega arith)) (cases_lt m (n + 1))
 
+version_or_not : (version : ℕ) → IsVersion version ⊎ (¬ (IsVersion version))
+version_or_not version = ⊎_elim
+    (λ (is : (1 ≤ version) × (version ≤ 2)). inl (record { some = is.0; most = is.1 }))
+    (λ (none : ¬ ((1 ≤ version) × (version ≤ 2))). inr (λ is. none (is.some, is.most)))
+    (both _ _ (at_most 1 version) (at_most version 2))
+
 -- what a header must be
 First : PoolHeader → Type 0
-First header = (header.version ≡ 1) × ((1 ≤ header.arenas) × ((header.arenas ≤ 16) × (((layout_of header.version).least_granules ≤ header.granules) × ((header.granules ≤ (layout_of header.version).most_granules) × (header.number ≡ 0)))))
+First header = IsVersion header.version × ((1 ≤ header.arenas) × ((header.arenas ≤ 16) × (((layout_of header.version).least_granules ≤ header.granules) × ((header.granules ≤ (layout_of header.version).most_granules) × ((all_granules header.arenas header.granules ≤ pool_granules) × (header.number ≡ 0))))))
 
 first_from : (header : PoolHeader) → First header → IsFirstHeader header
 unfolding First
 first_from header is = record {
-  valid = record { version = is.0; some = is.1.0; most = is.1.1.0; number = omega (arith, is.1.0, is.1.1.1.1.1); least = is.1.1.1.0; greatest = is.1.1.1.1.0 };
-  number = is.1.1.1.1.1;
+  valid = record { version = is.0; some = is.1.0; most = is.1.1.0; number = omega (arith, is.1.0, is.1.1.1.1.1.1); least = is.1.1.1.0; greatest = is.1.1.1.1.0; together = is.1.1.1.1.1.0 };
+  number = is.1.1.1.1.1.1;
 }
 
 first_to : (header : PoolHeader) → IsFirstHeader header → First header
 unfolding First
-first_to header first = (first.valid.version, (first.valid.some, (first.valid.most, (first.valid.least, (first.valid.greatest, first.number)))))
+first_to header first = (first.valid.version, (first.valid.some, (first.valid.most, (first.valid.least, (first.valid.greatest, (first.valid.together, first.number))))))
 
 first_or_not : (header : PoolHeader) → IsFirstHeader header ⊎ (¬ (IsFirstHeader header))
 unfolding First
 first_or_not header =
     let row = layout_of header.version in
     ⊎_elim (λ (is : First header). inl (first_from header is)) (λ (none : ¬ (First header)). inr (λ first. none (first_to header first)))
-    (both _ _ (cases_eq header.version 1) (both _ _ (at_most 1 header.arenas) (both _ _ (at_most header.arenas 16)
-    (both _ _ (at_most row.least_granules header.granules) (both _ _ (at_most header.granules row.most_granules) (cases_eq header.number 0))))))
+    (both _ _ (version_or_not header.version) (both _ _ (at_most 1 header.arenas) (both _ _ (at_most header.arenas 16)
+    (both _ _ (at_most row.least_granules header.granules) (both _ _ (at_most header.granules row.most_granules) (both _ _ (at_most (all_granules header.arenas header.granules) pool_granules) (cases_eq header.number 0)))))))
 
 fields_or_not : (word : ℕ) → IsFirstFields word ⊎ (¬ (IsFirstFields word))
 fields_or_not word =

@@ -5,7 +5,7 @@ use Rattle.pmem_lines.specs.Words.{word_at}
 use Rattle.pool_layout.specs.declared.header.PoolHeader.{PoolHeader}
 use Rattle.pool_layout.specs.declared.defect.Defect.{Defect}
 use Rattle.pool_layout.specs.declared.defect.Defect.TheVariants.{BadLength, BadHeader}
-use Rattle.pool_layout.specs.Layout.{layout_of, IsVersion}
+use Rattle.pool_layout.specs.Layout.{layout_of, all_granules, pool_granules, IsVersion}
 use Rattle.pool_layout.specs.Places.{text_word, fields_word}
 
 -- the word that stands in the image as this text
@@ -55,6 +55,7 @@ pub record IsPoolHeader (header : PoolHeader) : Type 0 where
   pub number : header.number < header.arenas
   pub least : (layout_of header.version).least_granules ≤ header.granules
   pub greatest : header.granules ≤ (layout_of header.version).most_granules
+  pub together : all_granules header.arenas header.granules ≤ pool_granules
 
 -- the words begin with the header line that says it
 pub record IsHeader (words : List ℕ) (header : PoolHeader) : Type 0 where

@@ -3,7 +3,7 @@
 ghost use Rattle.std.specs.Prelude.{◌≡◌, ◌≤◌, ◌↔◌, length, IsTrue, IfOk, IfErr, MatchResult};
 ghost use Rattle.pool_layout.specs.Header.{header_text, header_word, fields_of, FitsWord, IsPoolHeader, IsHeader, HasBadText, IsSecondWord, IsHeaderDefect};
 
-use crate::{Defect, is_version, layout_of};
+use crate::{Defect, POOL_GRANULES, all_granules, is_version, layout_of};
 
 /// What the header line of an arena says: the version of the layout, the arena's number, how many arenas the pool has,
 /// and how many granules of 16384 bytes this one has.
@@ -72,7 +72,10 @@ pub(crate) fn is_pool_header(header: &PoolHeader) -> bool
         return false;
     }
     let layout = layout_of(header.version);
-    layout.least_granules <= header.granules && header.granules <= layout.most_granules
+    if header.granules < layout.least_granules || header.granules > layout.most_granules {
+        return false;
+    }
+    all_granules(header.arenas, header.granules) <= POOL_GRANULES
 }
 
 /// Reads the header line that the words of an arena or a pool begin with. BadLength comes exactly where there are fewer

@@ -26,7 +26,7 @@ pub use laws::{
     law_of_bytes_of_words, law_of_images, law_of_no_defect, law_of_one_defect, law_of_pieces,
     law_of_words_of_bytes,
 };
-pub use layout::{Layout, is_version, layout_of};
+pub use layout::{Layout, POOL_GRANULES, all_granules, is_version, layout_of};
 pub use place::{
     GRANULE_BYTES, SLAB_GRANULES, blocks_at, chunk_at, directory_at, entry_at, fields_at,
     granule_at, heap_at, index_at, root_at, slab_header_at, text_at, wal_at,

@@ -1,14 +1,14 @@
 -- A device that recovery made exact, from what its steps say.
-use Rattle.std.proofs.Common.{◌≡◌, ◌≤◌, ◌-◌, List, ℕ, length, sym, ap, subst, ◌∙◌}
+use Rattle.std.proofs.Common.{◌≡◌, ◌≤◌, ◌-◌, Bool, true, false, cond, eqb, List, ℕ, length, sym, ap, subst, ◌∙◌, arith}
 use Rattle.pmem_lines.specs.declared.event.Event.{Event}
 use Rattle.pmem_lines.specs.Pmem.{PmemState, words_of, began, appended, fresh}
 use Rattle.pmem_lines.specs.Events.{CrashOnly}
-use Rattle.pool_layout.specs.Layout.{layout_of}
+use Rattle.pool_layout.specs.Layout.{first_layout, second_layout, layout_of}
 use Rattle.pool_layout.specs.Header.{version_in}
 use Rattle.heap_check.specs.Image.{IsExactImage, IsSteadyImage}
 use Rattle.settle_steps.specs.Settled.{KeepsHeap}
 use Rattle.transition_steps.specs.Transitions.{LeavesHeap}
-use Rattle.recovery_steps.specs.Parts.{IsPart}
+use Rattle.recovery_steps.specs.Parts.{IsPart, IsLeft}
 use Rattle.recovery_steps.specs.Recovery.{Recovers, RecoversSound}
 use Rattle.recover.specs.Recovered.{HasVersionRoom, IsRecovered, IsRecoveredDevice}
 
@@ -19,8 +19,8 @@ events_are old new part = sym (ap (λ (s : PmemState). s.events) part.step.appen
 -- the whole of it, where it begins a call
 pub recovered : (old new : PmemState) → IsPart LeavesHeap (began old) new RecoversSound (layout_of (version_in (words_of old))).recovery_events →
     (IsSteadyImage (words_of old) → IsPart KeepsHeap (began old) new Recovers ((layout_of (version_in (words_of old))).recovery_events - 3)) →
-    IsExactImage (words_of new) → KeepsHeap (words_of old) (words_of new) → IsRecovered old new
-recovered old new part steady exact keeps =
+    IsExactImage (words_of new) → KeepsHeap (words_of old) (words_of new) → IsLeft (words_of old) (words_of new) → IsRecovered old new
+recovered old new part steady exact keeps left =
     let same = events_are old new part in
     record {
       state = part.step.appends.state ∙ ap (λ (es : List Event). appended (began old) es) same;
@@ -28,6 +28,8 @@ recovered old new part steady exact keeps =
       exact = exact;
       heap = keeps.heap;
       blocks = keeps.blocks;
+      bounds = left.bounds;
+      slabs = left.slabs;
       stores = subst (λ (es : List Event). RecoversSound (words_of old) es) same part.stores;
       few = subst (λ (es : List Event). length es ≤ (layout_of (version_in (words_of old))).recovery_events) same part.few;
       steady_stores = λ is. subst (λ (es : List Event). Recovers (words_of old) es) (events_are old new (steady is)) (steady is).stores;
@@ -45,7 +47,12 @@ recovered_device words room device is = record {
   blocks = is.blocks;
 }
 
--- a device with the room of every row of the table
-pub room_of_any : (device : PmemState) → 2048 ≤ device.room → HasVersionRoom device
+-- the room of every row of the table
+room_of_row : (second : Bool) → (cond second second_layout first_layout).room ≤ 4096
+room_of_row true = omega arith
+room_of_row false = omega arith
+
+-- a device that has it
+pub room_of_any : (device : PmemState) → 4096 ≤ device.room → HasVersionRoom device
 unfolding layout_of
-room_of_any device few header here = few
+room_of_any device few header here = omega (arith, few, room_of_row (eqb header.version 2))

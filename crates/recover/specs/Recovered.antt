@@ -5,11 +5,13 @@ use Rattle.pmem_lines.specs.Events.{IsQuiet, CrashOnly}
 use Rattle.pool_layout.specs.declared.header.PoolHeader.{PoolHeader}
 use Rattle.pool_layout.specs.Layout.{layout_of}
 use Rattle.pool_layout.specs.Header.{version_in, granules_in, IsHeader}
-use Rattle.heap_check.specs.Image.{IsExactImage, IsSteadyImage}
+use Rattle.image_tables.specs.Tables.{tables_of}
+use Rattle.heap_check.specs.Image.{bounds_of, IsExactImage, IsSteadyImage}
 use Rattle.heap_check.specs.State.{HaveSameHeap, KeepsBlocks}
 use Rattle.log_steps.specs.Log.{IsBookOf}
 use Rattle.settle_steps.specs.Settled.{KeepsHeap}
 use Rattle.recovery_steps.specs.Names.{AreNames}
+use Rattle.recovery_steps.specs.Parts.{KeepsClasses}
 use Rattle.recovery_steps.specs.Recovery.{Recovers, RecoversSound}
 use Rattle.recover.specs.declared.preparing.Prepared.{Prepared}
 
@@ -24,13 +26,15 @@ pub record IsPrepared (words : List ℕ) (prepared : Prepared) : Type 0 where
   pub space : prepared.space ≡ granules_in words
 
 -- One call began on the device, and its events are those of recovery. It is quiet, and its image is exact with the heap
--- that it had, in which each block has its words.
+-- that it had, in which each block has its words, and with the same numbers; each live slab was one of the same class.
 pub record IsRecovered (old new : PmemState) : Type 0 where
   pub state : new ≡ appended (began old) new.events
   pub quiet : IsQuiet new.events
   pub exact : IsExactImage (words_of new)
   pub heap : HaveSameHeap (words_of old) (words_of new)
   pub blocks : KeepsBlocks (words_of old) (words_of new)
+  pub bounds : bounds_of (words_of new) ≡ bounds_of (words_of old)
+  pub slabs : KeepsClasses (tables_of (words_of old)) (tables_of (words_of new))
   -- what is stored
   pub stores : RecoversSound (words_of old) new.events
   pub few : length new.events ≤ (layout_of (version_in (words_of old))).recovery_events

@@ -1,12 +1,10 @@
 -- Parts of recovery, one after another.
-use Rattle.std.proofs.Common.{◌≡◌, ◌+◌, ◌≤◌, ℕ, List, [], ◌++◌, length, refl, sym, ap, subst, ◌∙◌, arith, inl, inr, ⊎_elim, length-append}
-use Rattle.std.proofs.Math.Seq.{take-length}
+use Rattle.std.proofs.Common.{◌≡◌, ◌⊎◌, ◌+◌, ◌≤◌, ℕ, List, [], ◌++◌, length, refl, ap, subst, ◌∙◌, arith, inl, inr, ⊎_elim, length-append}
 use Rattle.pmem_lines.specs.declared.event.Event.{Event}
 use Rattle.pmem_lines.specs.Pmem.{PmemState, words_of, appended}
-use Rattle.pmem_lines.specs.Events.{reading, IsQuiet, IsImage}
+use Rattle.pmem_lines.specs.Events.{IsQuiet}
 use Rattle.pmem_lines.specs.Steps.{IsQuietStep}
-use Rattle.pmem_lines.proofs.Images.{quiet_image}
-use Rattle.pmem_lines.proofs.Steps.{quiet_events, step_none, step_then, step_wider}
+use Rattle.pmem_lines.proofs.Steps.{step_none, step_then, step_wider, step_end}
 use Rattle.image_tables.specs.Tables.{Tables, tables_of}
 use Rattle.heap_check.specs.Image.{IsSteadyImage}
 use Rattle.heap_check.specs.State.{HaveSameHeap, IsEitherHeap}
@@ -17,15 +15,9 @@ use Rattle.transition_steps.specs.Transitions.{LeavesHeap}
 use Rattle.pmem_lines.proofs.States.{appended_none}
 use Rattle.book_log.specs.Book.{Book}
 use Rattle.log_steps.specs.Log.{IsBookOf}
-use Rattle.recovery_steps.specs.Parts.{MayBegin, IsPart, Does, Then}
-use Rattle.recovery_steps.specs.Recovery.{TakesOne, SettlesOpen, FinishesMorphing, DropsLarge, DropsSlab, EndsDone, Recovers}
-
--- a crash behind all events leaves what is read
-pub step_end : {s t : PmemState} {e : List Event} {P : List ℕ → Type 0} → IsQuietStep s t e P → P (words_of t)
-step_end {s} {t} {e} {P} step =
-    let ws = words_of s in
-    subst P (sym step.appends.words)
-    (step.crash.each (length e) (reading ws e) (subst (λ (es : List Event). IsImage ws es (reading ws e)) (sym (take-length e)) (quiet_image ws e (quiet_events step))))
+use Rattle.settle_steps.proofs.Images.{entry_is}
+use Rattle.recovery_steps.specs.Parts.{MayBegin, IsPart, KeepsClasses, Does, Then}
+use Rattle.recovery_steps.specs.Recovery.{TakesOne, IsSettling, SettlesOpen, FinishesMorphing, DropsLarge, DropsSlab, EndsDone, Recovers}
 
 -- nothing is stored
 pub part_none : {s : PmemState} (Stores : List ℕ → List Event → Type 0) (most : ℕ) → IsQuiet s.events → IsSteadyImage (words_of s) → Stores (words_of s) [] → IsPart KeepsHeap s s Stores most
@@ -33,7 +25,7 @@ part_none {s} Stores most quiet image stores = record {
   events = [];
   stores = stores;
   few = omega arith;
-  step = step_none quiet (record { steady = image; heap = record { each = λ root. refl }; blocks = record { each = λ root other range k was is word. refl } });
+  step = step_none quiet (record { steady = image; bounds = refl; heap = record { each = λ root. refl }; blocks = record { each = λ root other range k was is word. refl } });
 }
 
 -- a step that keeps the heap
@@ -44,6 +36,7 @@ part_of Stores {most} {events} stores step few = record { events = events; store
 either_keeps : (words new image : List ℕ) → HaveSameHeap words new → IsEitherHeap words new image → KeepsHeap words image
 either_keeps words new image same is = record {
   steady = is.steady;
+  bounds = is.bounds;
   heap = ⊎_elim (λ old. old) (λ other. record { each = λ root. other.each root ∙ same.each root }) is.heap;
   blocks = is.words;
 }
@@ -127,11 +120,33 @@ leaves_none {s} quiet stores = record {
   events = [];
   stores = stores;
   few = omega arith;
-  step = step_none quiet (λ steady. record { steady = steady; heap = record { each = λ root. refl }; blocks = record { each = λ root other range k was is word. refl } });
+  step = step_none quiet (λ steady. record { steady = steady; bounds = refl; heap = record { each = λ root. refl }; blocks = record { each = λ root other range k was is word. refl } });
 }
 
+-- an entry is settled or a transition finished, not both
+not_both : (words new : List ℕ) {settled finished : List Event} → IsSteadyImage words → KeepsClasses (tables_of words) (tables_of new) → SettlesOpen words settled → FinishesMorphing new finished → (settled ≡ []) ⊎ (finished ≡ [])
+not_both words new image keeps settles finishes = ⊎_elim
+    (λ closed. inl closed.1)
+    (λ (settling : IsSettling words _).
+    let opens = entry_is words settling.line settling.below settling.entry (record { image = image; here = settling.here }) in
+    let calm = (image.steady.sound.open_entry settling.entry opens).calm in
+    inr (none_taken (record { none = λ start morphing. let was = keeps.morphing start morphing in calm start was.slab was.kind }) finishes))
+    settles
+
+-- so few events do both
+pub first_parts : {s t u : PmemState} (settled : IsPart KeepsHeap s t SettlesOpen 6) (finished : IsPart KeepsHeap t u FinishesMorphing 76) → IsSteadyImage (words_of s) → KeepsClasses (tables_of (words_of s)) (tables_of (words_of t)) → length settled.events + length finished.events ≤ 76
+first_parts {s} {t} settled finished image keeps = ⊎_elim
+    (λ none. omega (arith, ap length none, finished.few))
+    (λ none. omega (arith, ap length none, settled.few))
+    (not_both (words_of s) (words_of t) image keeps settled.stores finished.stores)
+
+-- a part has as many as it has
+counted : {s t : PmemState} {Stores : List ℕ → List Event → Type 0} {most : ℕ} (part : IsPart KeepsHeap s t Stores most) → IsPart KeepsHeap s t Stores (length part.events)
+counted part = record { events = part.events; stores = part.stores; few = omega arith; step = part.step }
+
 -- the five parts in their order
-pub all_parts : {s t u v w x : PmemState} {m n : ℕ} (most : ℕ) → m + n + 85 ≤ most → IsPart KeepsHeap s t SettlesOpen 6 → IsPart KeepsHeap t u FinishesMorphing 76 → IsPart KeepsHeap u v DropsLarge m → IsPart KeepsHeap v w DropsSlab n →
-    IsPart KeepsHeap w x EndsDone 3 → IsPart KeepsHeap s x Recovers most
-all_parts {s} {t} {u} {v} {w} {x} {m} {n} most few settled finished large slab ended =
-    part_then most (omega (arith, few)) settled (part_then (m + n + 79) (omega arith) finished (part_then (m + n + 3) (omega arith) large (part_then (n + 3) (omega arith) slab ended)))
+pub all_parts : {s t u v w x : PmemState} {m n : ℕ} (most : ℕ) → m + n + 79 ≤ most → IsSteadyImage (words_of s) → KeepsClasses (tables_of (words_of s)) (tables_of (words_of t)) → IsPart KeepsHeap s t SettlesOpen 6 → IsPart KeepsHeap t u FinishesMorphing 76 →
+    IsPart KeepsHeap u v DropsLarge m → IsPart KeepsHeap v w DropsSlab n → IsPart KeepsHeap w x EndsDone 3 → IsPart KeepsHeap s x Recovers most
+all_parts {s} {t} {u} {v} {w} {x} {m} {n} most few image keeps settled finished large slab ended =
+    let both = first_parts settled finished image keeps in
+    part_then most (omega (arith, few, both)) (counted settled) (part_then (length finished.events + (m + n + 3)) (omega arith) (counted finished) (part_then (m + n + 3) (omega arith) large (part_then (n + 3) (omega arith) slab ended)))

@@ -1,9 +1,14 @@
 -- What each part of recovery leaves.
-use Rattle.std.proofs.Common.{◌≡◌, ◌/◌, ℕ, Bool, true, false, true≢false, List, refl, sym, ap, subst, ◌∙◌, arith}
+use Rattle.std.proofs.Common.{◌≡◌, ◌≢◌, ⊎_elim, ◌/◌, ℕ, Bool, true, false, true≢false, cond, List, Some, None, refl, sym, ap, subst, ◌∙◌, arith}
+use Rattle.std.proofs.lemmas.Bool.{cases_eq, cond-false}
 use Rattle.image_tables.specs.declared.entry.WalEntry.{WalEntry}
 use Rattle.image_tables.specs.declared.entry.WalEntry.TheVariants.{Place, Move}
 use Rattle.image_tables.specs.Tables.{Tables, tables_of}
-use Rattle.image_tables.proofs.Updates.{put_at-same}
+use Rattle.image_tables.proofs.Updates.{put_at-same, put_at-other}
+use Rattle.image_tables.specs.Updates.{put_at}
+use Rattle.slab_morph.specs.SlabHeaders.{SlabHeader, header_of, put_header}
+use Rattle.slab_morph.specs.Stages.{finished, settled}
+use Rattle.heap_check.specs.Heap.{slabs}
 use Rattle.pool_layout.specs.Layout.{layout_of}
 use Rattle.pool_layout.specs.Header.{version_in, granules_in}
 use Rattle.heap_model.specs.Machine.{Bounds}
@@ -17,12 +22,38 @@ use Rattle.extent_steps.specs.Slabs.{IsDroppable, IsDropped}
 use Rattle.settle_steps.specs.Entries.{settled_tables, IsEntrySettled}
 use Rattle.transition_steps.specs.Transitions.{IsFinished, IsEnded}
 use Rattle.recovery_steps.specs.Names.{Names, AreNames}
-use Rattle.recovery_steps.specs.Parts.{IsShut, IsLeft, Calms, Rids}
+use Rattle.recovery_steps.specs.Parts.{IsShut, IsLeft, KeepsClasses, Calms, Rids}
+
+-- classes
+
+pub classes_self : (t : Tables) → KeepsClasses t t
+classes_self t = record { classes = λ start class is. is; morphing = λ start is. is }
+
+pub classes_then : {t u v : Tables} → KeepsClasses t u → KeepsClasses u v → KeepsClasses t v
+classes_then first second = record {
+  classes = λ start class is. first.classes start class (second.classes start class is);
+  morphing = λ start is. first.morphing start (second.morphing start is);
+}
+
+-- the slabs and their classes are the same
+same_slabs : (t new : Tables) → new.slab ≡ t.slab → new.class ≡ t.class → (start class : ℕ) → slabs new start ≡ Some class → slabs t start ≡ Some class
+same_slabs t new slab_is class_is start class is =
+    sym (ap (λ (f : ℕ → Bool). cond (f start) (Some (new.class start)) None) slab_is ∙ ap (λ (f : ℕ → ℕ). cond (t.slab start) (Some (f start)) None) class_is) ∙ is
+
+-- so they are where a header changed that has the class that it had
+pub header_slabs : (t : Tables) (at : ℕ) (h : SlabHeader) → h.class ≡ t.class at → (start class : ℕ) → slabs (put_header t at h) start ≡ Some class → slabs t start ≡ Some class
+header_slabs t at h same start class is = ⊎_elim
+    (λ (here : start ≡ at). put_class (ap (put_at t.class at h.class) here ∙ put_at-same t.class at h.class ∙ same ∙ ap t.class (sym here)))
+    (λ (differ : start ≢ at). put_class (put_at-other t.class at start h.class differ))
+    (cases_eq start at)
+  where
+    put_class : put_at t.class at h.class start ≡ t.class start → slabs t start ≡ Some class
+    put_class equal = sym (ap (λ c. cond (t.slab start) (Some c) None) equal) ∙ is
 
 -- nothing changes
 
 pub left_self : (words : List ℕ) → IsShut words → IsLeft words words
-left_self words shut = record { shut = shut; bounds = refl; roots = refl }
+left_self words shut = record { shut = shut; bounds = refl; roots = refl; slabs = classes_self (tables_of words) }
 
 loosens_self : (t : Tables) → LoosensNothing t t
 loosens_self t = record { large = λ start loose. loose; empty = λ start loose. loose; morphing = λ start loose. loose; done = λ start loose. loose }
@@ -40,11 +71,25 @@ settled_roots words start (Place root at true place) = refl
 settled_roots words start (Place root at false place) = refl
 settled_roots words start (Move from to) = refl
 
+settled_slab : (words : List ℕ) (start : ℕ) (entry : WalEntry) → (settled_tables words start entry).slab ≡ (tables_of words).slab
+settled_slab words start (Place root at true place) = refl
+settled_slab words start (Place root at false place) = refl
+settled_slab words start (Move from to) = refl
+
+settled_class : (words : List ℕ) (start : ℕ) (entry : WalEntry) → (settled_tables words start entry).class ≡ (tables_of words).class
+settled_class words start (Place root at true place) = refl
+settled_class words start (Place root at false place) = refl
+settled_class words start (Move from to) = refl
+
 pub left_settled : (words : List ℕ) (line start : ℕ) (entry : WalEntry) (new : List ℕ) → IsEntrySettled words line start entry new → IsLeft words new
 left_settled words line start entry new done = record {
   shut = record { image = done.settled.keeps.steady; closed = done.settled.closed };
-  bounds = done.settled.bounds;
+  bounds = done.settled.keeps.bounds;
   roots = ap (λ (t : Tables). t.root) done.tables ∙ settled_roots words start entry;
+  slabs = record {
+    classes = same_slabs (tables_of words) (tables_of new) (ap (λ (t : Tables). t.slab) done.tables ∙ settled_slab words start entry) (ap (λ (t : Tables). t.class) done.tables ∙ settled_class words start entry);
+    morphing = done.settled.loose.morphing;
+  };
 }
 
 -- a slab in Morphing comes to its class
@@ -52,8 +97,12 @@ pub calms_finished : (words : List ℕ) (start : ℕ) (new : List ℕ) → IsFin
 calms_finished words start new done = record {
   left = record {
     shut = record { image = done.keeps.steady; closed = done.closed };
-    bounds = done.bounds;
+    bounds = done.keeps.bounds;
     roots = ap (λ (t : Tables). t.root) done.tables;
+    slabs = record {
+      classes = λ s class is. header_slabs (tables_of words) start (finished (header_of (tables_of words) start)) refl s class (subst (λ (t : Tables). slabs t s ≡ Some class) done.tables is);
+      morphing = λ s morphing. absurd (done.loose.calm s morphing);
+    };
   };
   none = record { none = done.loose.calm };
 }
@@ -65,6 +114,7 @@ rids_large {words} {start} {new} may gone = record {
     shut = record { image = gone.image; closed = ap (λ (t : Tables). t.open_entry) gone.tables ∙ may.closed };
     bounds = gone.bounds;
     roots = ap (λ (t : Tables). t.root) gone.tables;
+    slabs = record { classes = same_slabs (tables_of words) (tables_of new) (ap (λ (t : Tables). t.slab) gone.tables) (ap (λ (t : Tables). t.class) gone.tables); morphing = gone.loose.morphing };
   };
   loose = gone.loose;
   none = record {
@@ -82,6 +132,7 @@ rids_empty {words} {start} {new} may dropped = record {
     shut = record { image = dropped.image; closed = sym dropped.slab.entry ∙ may.closed };
     bounds = dropped.bounds;
     roots = sym dropped.slab.root;
+    slabs = record { classes = dropped_slabs; morphing = dropped.loose.morphing };
   };
   loose = dropped.loose;
   none = record {
@@ -90,6 +141,14 @@ rids_empty {words} {start} {new} may dropped = record {
         true≢false (sym empty.slab ∙ ap (tables_of new).slab same ∙ dropped.slab.none);
   };
 }
+  where
+    dropped_slabs : (s class : ℕ) → slabs (tables_of new) s ≡ Some class → slabs (tables_of words) s ≡ Some class
+    dropped_slabs s class is = ⊎_elim
+        (λ (here : s ≡ start). absurd (let none : slabs (tables_of new) s ≡ None = cond-false ((tables_of new).slab s) (Some ((tables_of new).class s)) None (ap (tables_of new).slab here ∙ dropped.slab.none) in cc))
+        (λ (differ : s ≢ start).
+        let same = dropped.slab.others s differ in
+        ap (λ b. cond b (Some ((tables_of words).class s)) None) same.slab ∙ ap (λ c. cond ((tables_of new).slab s) (Some c) None) same.class ∙ is)
+        (cases_eq s start)
 
 -- a done slab becomes normal
 
@@ -100,12 +159,19 @@ nearly_of t start done = record {
   none = λ place below live. absurd (true≢false (sym live ∙ done.none place below));
 }
 
+pub classes_ended : {words : List ℕ} {start : ℕ} {new : List ℕ} → IsEnded words start new → KeepsClasses (tables_of words) (tables_of new)
+classes_ended {words} {start} {new} ended = record {
+  classes = λ s class is. header_slabs (tables_of words) start (settled (header_of (tables_of words) start)) refl s class (subst (λ (t : Tables). slabs t s ≡ Some class) ended.tables is);
+  morphing = ended.loose.morphing;
+}
+
 pub rids_done : {words : List ℕ} {start : ℕ} {new : List ℕ} → IsShut words → IsDoneSlab (tables_of words) start → IsEnded words start new → Rids IsDoneSlab words new
 rids_done {words} {start} {new} shut here ended = record {
   left = record {
     shut = record { image = ended.steady shut.image; closed = ap (λ (t : Tables). t.open_entry) ended.tables ∙ shut.closed };
     bounds = ended.bounds;
     roots = ap (λ (t : Tables). t.root) ended.tables;
+    slabs = classes_ended ended;
   };
   loose = ended.loose;
   none = record {
@@ -128,7 +194,7 @@ calm_still loosens none = record { none = λ start morphing. none.none start (lo
 
 -- one part behind another
 pub left_then : {words between new : List ℕ} → IsLeft words between → IsLeft between new → IsLeft words new
-left_then first second = record { shut = second.shut; bounds = second.bounds ∙ first.bounds; roots = second.roots ∙ first.roots }
+left_then first second = record { shut = second.shut; bounds = second.bounds ∙ first.bounds; roots = second.roots ∙ first.roots; slabs = classes_then first.slabs second.slabs }
 
 -- and of the same version
 pub left_version : {words new : List ℕ} → IsSteadyImage words → IsLeft words new → version_in new ≡ version_in words

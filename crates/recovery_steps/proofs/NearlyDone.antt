@@ -15,7 +15,7 @@ use Rattle.transition_steps.specs.Transitions.{IsEndable, IsEnded}
 use Rattle.recovery_steps.specs.Nearly.{IsDoneBesides}
 use Rattle.recovery_steps.specs.Parts.{IsSteadied}
 use Rattle.defect_search.proofs.NoneLoose.{search_below}
-use Rattle.recovery_steps.proofs.Leaving.{nearly_of}
+use Rattle.recovery_steps.proofs.Leaving.{nearly_of, classes_self, classes_ended}
 
 -- the last live old block of a slab is leaving
 record IsLeavingLast (t : Tables) (start : ℕ) : Type 0 where
@@ -120,16 +120,17 @@ steadied_of words start new image besides ended = record {
           (ended.nearly other (nearly_of (tables_of new) other again.done)).1
           (image.sound.done.same other start (ended.loose.done other again.done) besides.done);
     });
+    bounds = ended.bounds;
     heap = ended.heap;
     blocks = ended.blocks;
   };
-  bounds = ended.bounds;
   roots = ap (λ (t : Tables). t.root) ended.tables;
+  slabs = classes_ended ended;
 }
 
 pub steadied_self : (words : List ℕ) → IsSteadyImage words → IsSteadied words words
 steadied_self words image = record {
-  keeps = record { steady = image; heap = record { each = λ root. refl }; blocks = record { each = λ root other range k was is word. refl } };
-  bounds = refl;
+  keeps = record { steady = image; bounds = refl; heap = record { each = λ root. refl }; blocks = record { each = λ root other range k was is word. refl } };
   roots = refl;
+  slabs = classes_self (tables_of words);
 }

@@ -112,4 +112,4 @@ module _ (words : List ℕ) (line start : ℕ) (entry : WalEntry) (below : line 
 
   pub book_behind : (book : Book) (new : List ℕ) → IsBookOf book words → IsEntrySettled words line start entry new → IsBookOf book new
   book_behind book new is done =
-      book_settled book words line (settled_word (tables_of words) start entry) new below (off_log_of entry refl) done.settled.rest done.settled.bounds is
+      book_settled book words line (settled_word (tables_of words) start entry) new below (off_log_of entry refl) done.settled.rest done.settled.keeps.bounds is

@@ -1,11 +1,12 @@
 -- A part of recovery: what it stores, what a crash within it leaves, and what it leaves; and parts one after another.
-use Rattle.std.specs.Prelude.{◌≡◌, ℕ, ◌≤◌, List, ◌++◌, length, None}
+use Rattle.std.specs.Prelude.{◌≡◌, ℕ, ◌≤◌, List, ◌++◌, length, Some, None}
 use Rattle.pmem_lines.specs.declared.event.Event.{Event}
 use Rattle.pmem_lines.specs.Pmem.{PmemState, words_of, HasRoom}
 use Rattle.pmem_lines.specs.Events.{reading, IsQuiet}
 use Rattle.pmem_lines.specs.Steps.{IsQuietStep}
 use Rattle.image_tables.specs.Tables.{Tables, tables_of}
 use Rattle.book_log.specs.Book.{Book}
+use Rattle.heap_check.specs.Heap.{slabs}
 use Rattle.heap_check.specs.Sound.{LoosensNothing, IsMorphing}
 use Rattle.heap_check.specs.Image.{bounds_of, IsSteadyImage}
 use Rattle.image_defects.specs.Least.{HasNone}
@@ -53,18 +54,23 @@ pub record IsShutWith (names : Names) (words : List ℕ) : Type 0 where
   pub shut : IsShut words
   pub are : AreNames names words
 
+-- each live slab was one of the same class, and none comes to be in Morphing
+pub record KeepsClasses (t new : Tables) : Type 0 where
+  pub classes : (start class : ℕ) → slabs new start ≡ Some class → slabs t start ≡ Some class
+  pub morphing : (start : ℕ) → IsMorphing new start → IsMorphing t start
+
 -- such an image with the same numbers, in which each root holds what it held
 pub record IsLeft (words new : List ℕ) : Type 0 where
   pub shut : IsShut new
   pub bounds : bounds_of new ≡ bounds_of words
   pub roots : (tables_of new).root ≡ (tables_of words).root
+  pub slabs : KeepsClasses (tables_of words) (tables_of new)
 
--- The image is steady with the same heap, in which each block has its words, and the same numbers; each root holds what it
--- held.
+-- The image is steady with the same numbers and the same heap, in which each block has its words; each root holds what it held.
 pub record IsSteadied (words new : List ℕ) : Type 0 where
   pub keeps : KeepsHeap words new
-  pub bounds : bounds_of new ≡ bounds_of words
   pub roots : (tables_of new).root ≡ (tables_of words).root
+  pub slabs : KeepsClasses (tables_of words) (tables_of new)
 
 -- no slab is in Morphing any more
 pub record Calms (words new : List ℕ) : Type 0 where

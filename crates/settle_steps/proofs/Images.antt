@@ -121,7 +121,7 @@ module _ (words : List ℕ) (line : ℕ) (line_below : line < 8) (entry : WalEnt
   }
 
   pub keeps_begin : KeepsHeap words words
-  keeps_begin = record { steady = open_in.image; heap = record { each = λ root. refl }; blocks = record { each = λ root other range j was is word. refl } }
+  keeps_begin = record { steady = open_in.image; bounds = refl; heap = record { each = λ root. refl }; blocks = record { each = λ root other range j was is word. refl } }
 
   -- the one word is stored
   pub near_put : (k value : ℕ) → IsFormed (put_word words k value) → ((other : ℕ) → is_slab (put_word words k value) other ≡ is_slab words other) → fields_word ≢ k → ((other : ℕ) → other < wal_lines → wal_word other ≢ k) →
@@ -157,6 +157,7 @@ module _ (words : List ℕ) (line : ℕ) (line_below : line < 8) (entry : WalEnt
   pub keeps_as : (k : ℕ) (image : List ℕ) (shut now : Tables) → IsShutIn words k shut → IsNear words line k image → tables_of image ≡ now → IsSteady (bounds_of words) now → ((root : ℕ) → heap now root ≡ heap (tables_of words) root) → KeepsHeap words image
   keeps_as k image shut now is near says steady heaps = record {
     steady = record { formed = near.formed; steady = subst (λ (b : Bounds). IsSteady b (tables_of image)) (sym near.bounds) (subst (IsSteady (bounds_of words)) (sym says) steady) };
+    bounds = near.bounds;
     heap = record { each = λ root. ap (λ (x : Tables). heap x root) says ∙ heaps root };
     blocks = record {
       each = λ root other range j was also word.
@@ -180,7 +181,6 @@ module _ (words : List ℕ) (line : ℕ) (line_below : line < 8) (entry : WalEnt
     keeps = keeps_as k new shut shut is near says is.steady is.same;
     rest = near.rest;
     closed = ap (λ (x : Tables). x.open_entry) says ∙ is.closed;
-    bounds = near.bounds;
     loose = subst (λ (x : Tables). LoosensLeft (tables_of words) x) (sym says) loose;
   }
 

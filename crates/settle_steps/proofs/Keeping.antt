@@ -5,6 +5,7 @@ use Rattle.settle_steps.specs.Settled.{KeepsHeap}
 pub KeepsHeap-then : (words between image : List ℕ) → KeepsHeap words between → KeepsHeap between image → KeepsHeap words image
 KeepsHeap-then words between image first second = record {
   steady = second.steady;
+  bounds = second.bounds ∙ first.bounds;
   heap = record { each = λ root. second.heap.each root ∙ first.heap.each root };
   blocks = record {
     each = λ root other range k was is word.

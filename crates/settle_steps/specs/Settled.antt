@@ -27,10 +27,11 @@ pub record MaySettle (number : ℕ) (IsOpen : Type 0) (s : PmemState) : Type 0 w
 
 -- what is left
 
--- The image is steady and has the heap of the words, in which each block has its words. A crash within leaves this, so
--- that recovery may begin again.
+-- The image is steady and has the numbers and the heap of the words, in which each block has its words. A crash within leaves
+-- this, so that recovery may begin again.
 pub record KeepsHeap (words image : List ℕ) : Type 0 where
   pub steady : IsSteadyImage image
+  pub bounds : bounds_of image ≡ bounds_of words
   pub heap : HaveSameHeap words image
   pub blocks : KeepsBlocks words image
 
@@ -51,5 +52,4 @@ pub record IsSettled (words : List ℕ) (line k : ℕ) (new : List ℕ) : Type 0
   pub keeps : KeepsHeap words new
   pub rest : KeepsOthers words line k new
   pub closed : (tables_of new).open_entry ≡ None
-  pub bounds : bounds_of new ≡ bounds_of words
   pub loose : LoosensLeft (tables_of words) (tables_of new)

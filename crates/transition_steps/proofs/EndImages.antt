@@ -84,6 +84,7 @@ module _ {words : List ℕ} {start : ℕ} (may : IsEndable words start) where
         entry = ap (λ (x : Tables). x.open_entry) tables_same;
         keeps = λ steady. record {
           steady = record { formed = formed; steady = subst (λ (b : Bounds). IsSteady b (tables_of image)) (sym bounds) (subst (IsSteady (bounds_of words)) (sym tables_same) steady.steady) };
+          bounds = bounds;
           heap = record { each = λ root. ap (λ (x : Tables). heap x root) tables_same };
           blocks = blocks_after words start may.image.formed sound may.here.slab image kept.left.off valid;
         };
@@ -117,6 +118,7 @@ module _ {words : List ℕ} {start : ℕ} (may : IsEndable words start) where
         entry = ap (λ (x : Tables). x.open_entry) tables_are;
         keeps = λ steady. record {
           steady = steady_after steady;
+          bounds = bounds;
           heap = record { each = heap_same };
           blocks = blocks_after words start may.image.formed sound may.here.slab image kept.left.off valid;
         };

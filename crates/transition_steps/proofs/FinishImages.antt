@@ -77,6 +77,9 @@ module _ {words : List ℕ} {start : ℕ} (may : IsInMorphing words start) where
     valid : IsValidHeader image start
     valid = kept.valid (is_valid_here words start may.image.formed sound may.here.slab)
 
+    bounds : bounds_of image ≡ bounds_of words
+    bounds = bounds_after words start may.image.formed sound may.here.slab image kept.left.off valid
+
     steady_after : IsSteady (bounds_of words) (tables_of image)
     steady_after = subst (IsSteady (bounds_of words)) (sym tables_are) (IsSteady-finishing start g.kind (put_at t.bit start g.bit) may.image.steady may.here stage.kind held)
 
@@ -84,8 +87,9 @@ module _ {words : List ℕ} {start : ℕ} (may : IsInMorphing words start) where
     finish_keeps = record {
       steady = record {
         formed = formed_after words start may.image.formed sound may.here.slab image kept.left.off valid;
-        steady = subst (λ (b : Bounds). IsSteady b (tables_of image)) (sym (bounds_after words start may.image.formed sound may.here.slab image kept.left.off valid)) steady_after;
+        steady = subst (λ (b : Bounds). IsSteady b (tables_of image)) (sym bounds) steady_after;
       };
+      bounds = bounds;
       heap = record { each = λ root. ap (λ (x : Tables). heap x root) tables_are ∙ heap-finishing start g.kind (put_at t.bit start g.bit) may.image.steady may.here stage.kind held root };
       blocks = blocks_after words start may.image.formed sound may.here.slab image kept.left.off valid;
     }
@@ -94,7 +98,6 @@ module _ {words : List ℕ} {start : ℕ} (may : IsInMorphing words start) where
     finish_done done = record {
       keeps = finish_keeps;
       off = kept.left.off;
-      bounds = bounds_after words start may.image.formed sound may.here.slab image kept.left.off valid;
       tables = kept.left.tables slabs is_here ∙ ap (put_header t start) (done ∙ ap finished (sym header_is));
       closed = ap (λ (x : Tables). x.open_entry) tables_are ∙ closed-finishing start g.kind (put_at t.bit start g.bit) may.image.steady may.here stage.kind held;
       loose = subst (λ (x : Tables). LoosensDone t x start) (sym tables_are)

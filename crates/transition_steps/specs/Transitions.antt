@@ -57,7 +57,6 @@ pub record LoosensDone (t new : Tables) (start : ℕ) : Type 0 where
 pub record IsFinished (words : List ℕ) (start : ℕ) (new : List ℕ) : Type 0 where
   pub keeps : KeepsHeap words new
   pub off : IsOffHeader words start new
-  pub bounds : bounds_of new ≡ bounds_of words
   pub tables : tables_of new ≡ put_header (tables_of words) start (finished (header_of (tables_of words) start))
   pub closed : (tables_of new).open_entry ≡ None
   pub loose : LoosensDone (tables_of words) (tables_of new) start

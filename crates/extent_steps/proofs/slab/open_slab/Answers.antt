@@ -2,6 +2,7 @@ use Rattle.std.proofs.Common.{arith}
 use Rattle.extent_steps.proofs.Common.{words_of, IsEitherHeap, Slab}
 use Rattle.pmem_lines.proofs.Steps.{step_then}
 use Rattle.log_steps.specs.Events.{log_events}
+use Rattle.log_steps.proofs.Entries.{most_few}
 use Rattle.extent_steps.proofs.Opening.{in_heap, start_high, made_version, made_same, made_book, made_disjoint, made_either, made_events, logged_either, opened}
 use Rattle.extent_steps.proofs.slab.open_slab.Goals as goal
 
@@ -18,7 +19,7 @@ pub log_entry-requires-clause-valid : goal.log_entry-requires-clause-valid
 log_entry-requires-clause-valid g c = let same = made_same c.requires.openable c.requires.class c.make_header.ensures.made.kept in grind (arith, in_heap, start_high)
 
 pub log_entry-requires-clause-room : goal.log_entry-requires-clause-room
-log_entry-requires-clause-room g c = grind (arith, made_version, made_events)
+log_entry-requires-clause-room g c = grind (arith, made_version, made_events, most_few)
 
 pub returns-clause-few : goal.returns-clause-few
 returns-clause-few g c = grind (arith, made_version, made_events)

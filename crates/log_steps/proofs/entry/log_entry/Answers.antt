@@ -6,7 +6,7 @@ use Rattle.book_log.specs.Book.{append_events}
 use Rattle.log_gc.specs.Room.{room_events}
 use Rattle.log_steps.specs.Events.{log_events}
 use Rattle.log_steps.specs.Log.{IsLogged, IsLoggedOrNot}
-use Rattle.log_steps.proofs.Entries.{events_of_entry, off_log, logged_then, made_or_not, logged_or_not}
+use Rattle.log_steps.proofs.Entries.{events_of_entry, off_log, room_once, logged_then, made_or_not, logged_or_not}
 use Rattle.log_steps.proofs.entry.log_entry.Goals as goal
 
 pub returns-clause-logged : goal.returns-clause-logged
@@ -28,3 +28,10 @@ returns-clause-step g c =
     step_by (room_events c.args.log.now.granules words ++ entry) (log_events words c.args.entry)
     (events_of_entry c.args.log.now c.make_room.new.log words made c.args.entry same room.step.appends.words room.reads room.room)
     (step_then (IsLoggedOrNot words c.args.entry) (λ ws. entry) room.step c.append.ensures.step (made_or_not c.args.log.now.granules words c.args.entry same) (λ image left. logged_or_not same room.keeps c.append.ensures.place image (grind arith)))
+
+pub returns-clause-once : goal.returns-clause-once
+returns-clause-once g c =
+    let state = g.P.Pmem.state in
+    let room = c.make_room.ensures in
+    let once = room_once c.args.log.now (words_of (state c.args.device.now)) (words_of (state c.make_room.new.p)) (words_of (state c.append.new.p)) c.requires.formed c.requires.book c.requires.disjoint room.step.appends.words c.append.ensures.version c.append.ensures.chunks in
+    omega (arith, once, room.step.appends.count, c.append.ensures.step.appends.count)

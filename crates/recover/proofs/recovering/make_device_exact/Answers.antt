@@ -24,4 +24,4 @@ returns-clause-version g c =
 pub returns-clause-recovered : goal.returns-clause-recovered
 returns-clause-recovered g c =
     recovered (g.P.Pmem.state c.args.p) (g.P.Pmem.state c.make_exact.new.p) (rw c.begin.ensures.state at c.make_exact.ensures.part)
-    (rw c.begin.ensures.state at c.make_exact.ensures.steady) c.make_exact.ensures.exact (rw c.begin.ensures.state at c.make_exact.ensures.heap)
+    (rw c.begin.ensures.state at c.make_exact.ensures.steady) c.make_exact.ensures.exact (rw c.begin.ensures.state at c.make_exact.ensures.heap) (rw c.begin.ensures.state at c.make_exact.ensures.left)

@@ -15,7 +15,7 @@ returns-in-Some g c =
     let done = c.finish_transition.ensures in
     does_one IsMorphing finish_events start c.all_words.ensures c.in-Some.ensures done.step (omega (arith, done.count)) (λ here. (
       calms_finished words start (words_of (g.P.Pmem.state c.finish_transition.new.p)) done.finished,
-      book_off_header start (sound_of words c.requires.image.shut.image) here.slab done.finished.off done.finished.bounds c.requires.book,
+      book_off_header start (sound_of words c.requires.image.shut.image) here.slab done.finished.off done.finished.keeps.bounds c.requires.book,
     ))
 
 pub returns-in_default : goal.returns-in_default

@@ -9,7 +9,7 @@ use Rattle.recovery_steps.specs.Parts.{IsPart}
 use Rattle.recovery_steps.specs.Recovery.{Recovers}
 use Rattle.settle_steps.proofs.Keeping.{KeepsHeap-then}
 use Rattle.recovery_steps.proofs.Chains.{part_after, part_alone, none_taken}
-use Rattle.recovery_steps.proofs.Leaving.{names_same}
+use Rattle.recovery_steps.proofs.Leaving.{names_same, classes_then}
 use Rattle.recovery_steps.proofs.NearlyDone.{none_besides}
 use Rattle.recovery_steps.proofs.recovery.make_exact.Goals as goal
 
@@ -17,13 +17,13 @@ pub make_steady_exact-requires-clause-names : goal.make_steady_exact-requires-cl
 make_steady_exact-requires-clause-names g c =
     let state = g.P.Pmem.state in
     let steadied = c.make_steady.ensures.left in
-    names_same c.args.names.now (words_of (state c.args.p.now)) (words_of (state c.make_steady.new.p)) steadied.bounds steadied.roots c.requires.names
+    names_same c.args.names.now (words_of (state c.args.p.now)) (words_of (state c.make_steady.new.p)) steadied.keeps.bounds steadied.roots c.requires.names
 
 pub returns-clause-part : goal.returns-clause-part
 returns-clause-part g c =
     let words = words_of (g.P.Pmem.state c.args.p.now) in
     let steadied = c.make_steady.ensures.left in
-    let same = version_by_bounds words (words_of (g.P.Pmem.state c.make_steady.new.p)) c.requires.image.formed steadied.keeps.steady.formed steadied.bounds in
+    let same = version_by_bounds words (words_of (g.P.Pmem.state c.make_steady.new.p)) c.requires.image.formed steadied.keeps.steady.formed steadied.keeps.bounds in
     part_after (layout_of (version_in words)).recovery_events
     (omega (arith, (layout_rules (version_in words)).recovery, ap (λ v. (layout_of v).recovery_events) same))
     c.make_steady.ensures.part steadied.keeps c.make_steady_exact.ensures.part
@@ -36,14 +36,14 @@ make_steady_exact-requires-clause-begins g c =
     let words = words_of (g.P.Pmem.state c.args.p.now) in
     let part = c.make_steady.ensures.part in
     let steadied = c.make_steady.ensures.left in
-    let same = version_by_bounds words (words_of (g.P.Pmem.state c.make_steady.new.p)) c.requires.image.formed steadied.keeps.steady.formed steadied.bounds in
+    let same = version_by_bounds words (words_of (g.P.Pmem.state c.make_steady.new.p)) c.requires.image.formed steadied.keeps.steady.formed steadied.keeps.bounds in
     record { image = steadied.keeps.steady; book = c.make_steady.ensures.book; quiet = c.make_steady.ensures.part.step.quiet; room = omega (arith, c.requires.room, (layout_rules (version_in words)).recovery, ap (λ v. (layout_of v).recovery_events) same, part.few, part.step.appends.count, part.step.appends.room) }
 
 pub returns-clause-steady : goal.returns-clause-steady
 returns-clause-steady g c = λ steady.
     let words = words_of (g.P.Pmem.state c.args.p.now) in
     let steadied = c.make_steady.ensures.left in
-    let same = version_by_bounds words (words_of (g.P.Pmem.state c.make_steady.new.p)) c.requires.image.formed steadied.keeps.steady.formed steadied.bounds in
+    let same = version_by_bounds words (words_of (g.P.Pmem.state c.make_steady.new.p)) c.requires.image.formed steadied.keeps.steady.formed steadied.keeps.bounds in
     subst (λ v. IsPart KeepsHeap (g.P.Pmem.state c.args.p.now) (g.P.Pmem.state c.make_steady_exact.new.p) Recovers ((layout_of v).recovery_events - 3)) same (part_alone c.make_steady.ensures.part
     (none_taken (none_besides (words_of (g.P.Pmem.state c.args.p.now)) steady) c.make_steady.ensures.part.stores)
     c.make_steady_exact.ensures.part)
@@ -57,4 +57,4 @@ pub returns-clause-left : goal.returns-clause-left
 returns-clause-left g c =
     let first = c.make_steady.ensures.left in
     let second = c.make_steady_exact.ensures.left in
-    record { shut = second.shut; bounds = second.bounds ∙ first.bounds; roots = second.roots ∙ first.roots }
+    record { shut = second.shut; bounds = second.bounds ∙ first.keeps.bounds; roots = second.roots ∙ first.roots; slabs = classes_then first.slabs second.slabs }

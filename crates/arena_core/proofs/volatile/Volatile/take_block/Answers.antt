@@ -21,3 +21,6 @@ returns g c =
           (c.lower.ensures _ (class_one_more c.requires.arena c.requires.detachable c.detach.ensures.detached));
       stacks = rw block_in.at came.stacks;
     }
+
+pub lower-requires : goal.lower-requires
+lower-requires g c = (_, class_one_more c.requires.arena c.requires.detachable c.detach.ensures.detached)

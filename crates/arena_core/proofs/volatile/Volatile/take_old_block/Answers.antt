@@ -13,3 +13,6 @@ returns g c = record {
 pub open_covered-requires-clause-slabs : goal.open_covered-requires-clause-slabs
 open_covered-requires-clause-slabs g c =
     slabs_old (words_of (g.P.Pmem.state c.args.device.now)) c.args.self.now.line c.args.root c.args.block c.requires.detachable (words_of (g.P.Pmem.state c.detach_old.new.p)) c.detach_old.ensures.detached c.args.self.now.supply c.requires.arena.slabs
+
+pub lower-requires : goal.lower-requires
+lower-requires g c = (_, old_one_more c.requires.arena c.requires.detachable c.detach_old.ensures.detached)
