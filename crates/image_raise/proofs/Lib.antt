@@ -1,0 +1,9 @@
+pub mod Rows
+pub mod Steps
+pub mod Heights
+pub mod Exact
+pub mod Entries
+pub mod Raised
+pub mod Logs
+pub mod Tables
+pub mod Images

@@ -1,0 +1,83 @@
+// What is not migrated, and why.
+use crate::images::{Became, outcome_of};
+use check_tests::{ONE_BLOCK, Put, SECOND_VERSION, blank, image, put};
+use pool_layout::Defect;
+use std::test::Fail;
+
+// The second word of the header line of the only arena of a pool of version 2, of 25 granules, and one of 24.
+const SECOND: u64 = 0x0001_0019_0000_0002;
+
+const TOO_SMALL: u64 = 0x0001_0018_0000_0002;
+
+// Bytes of no arena.
+#[test]
+fn lengths(rt: HostRuntime) -> Result<(), Fail> {
+    let rows: [(usize, u64, u64); 4] = [
+        (0, 0, 64),
+        (3, 24, 64),
+        (32767, 262_136, 262_144),
+        (32769, 262_152, 262_144),
+    ];
+    for (size, have, need) in rows {
+        let mut words = blank(rt.alloc(), size)?;
+        put(&mut words, ONE_BLOCK.words);
+        assert_eq!(rt;
+            outcome_of(rt.alloc(), &words)?,
+            Became::Refused(Defect::BadLength { have, need })
+        );
+    }
+    Ok(())
+}
+
+// Another text, a version that no pool has, and too few granules for the version: the header line is bad. A root that names
+// no block, and a log without a chunk that comes before.
+#[test]
+fn defects(rt: HostRuntime) -> Result<(), Fail> {
+    let third = 0x0001_0010_0000_0003;
+    let rows: [(&[Put], Defect); 6] = [
+        (&[(0, 7)], Defect::BadHeader { word: 0, value: 7 }),
+        (
+            &[(0, 7), (1, SECOND)],
+            Defect::BadHeader { word: 0, value: 7 },
+        ),
+        (
+            &[(1, third)],
+            Defect::BadHeader {
+                word: 1,
+                value: third,
+            },
+        ),
+        (
+            &[(1, TOO_SMALL)],
+            Defect::BadHeader {
+                word: 1,
+                value: TOO_SMALL,
+            },
+        ),
+        (&[(2054, 67600)], Defect::StrayRoot { root: 6, at: 67600 }),
+        (&[(2054, 67600), (2, 0)], Defect::BadDirectory { value: 0 }),
+    ];
+    for (changes, defect) in rows {
+        let words = image(rt.alloc(), &ONE_BLOCK, changes)?;
+        assert_eq!(rt; outcome_of(rt.alloc(), &words)?, Became::Refused(defect));
+    }
+    Ok(())
+}
+
+// Words of version 2: a good image, one in which a root names no block, one without a chunk of the log, and as many words as
+// there are in a header line. It says that much by itself.
+#[test]
+fn newer(rt: HostRuntime) -> Result<(), Fail> {
+    let wanted = Became::Newer { version: 2 };
+    let rows: [&[Put]; 3] = [&[], &[(18431, 215_041)], &[(2, 0)]];
+    for changes in rows {
+        let words = image(rt.alloc(), &SECOND_VERSION, changes)?;
+        assert_eq!(rt; outcome_of(rt.alloc(), &words)?, wanted);
+    }
+    for size in [8, 51199, 51201] {
+        let mut words = blank(rt.alloc(), size)?;
+        put(&mut words, SECOND_VERSION.words);
+        assert_eq!(rt; outcome_of(rt.alloc(), &words)?, wanted);
+    }
+    Ok(())
+}
