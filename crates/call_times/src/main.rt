@@ -23,13 +23,10 @@ use std::thread::Threads;
 use std::time::Instant;
 use std::{env, io};
 use trace_runs::new_arena;
-use trace_text::{PoolSize, Trace, TraceFault, read_trace};
+use trace_text::{Trace, TraceFault, read_trace};
 use trace_workers::{OpenGate, make_calls};
 
 const GRANULE_LINES: u32 = 256;
-
-/// The version of a trace's arenas.
-const VERSION: u32 = 1;
 
 const LONGEST: usize = 67_108_864;
 
@@ -109,11 +106,8 @@ fn arenas_for(alloc: Global, trace: &Trace) -> Result<Vec<Arena<SimPmem>>, OutOf
     requires { IsPool (pool_of trace.now) }
     ensures { IfOk result (λ arenas. length arenas.items ≡ trace.now.arenas) }
 {
-    let pool = PoolSize {
-        arenas: trace.arenas,
-        granules: trace.granules,
-    };
-    let room = layout_of(VERSION).room;
+    let pool = trace.pool();
+    let room = layout_of(pool.version).room;
     let mut arenas = Vec::new(alloc);
     for number in 0..pool.arenas {
         let device = SimPmem::zeroed(alloc, GRANULE_LINES * pool.granules, room)?;

@@ -11,16 +11,16 @@ use Rattle.pool_layout.specs.Layout.{layout_of}
 use Rattle.pool_layout.specs.Places.{root_word}
 use Rattle.image_tables.specs.Tables.{tables_of}
 use Rattle.heap_model.specs.declared.call.Entry.{Entry}
+use Rattle.heap_model.specs.Machine.{Bounds}
 use Rattle.heap_model.specs.Step.{root_of}
 use Rattle.heap_check.specs.Heap.{heap}
-use Rattle.heap_check.specs.Image.{bounds_of, IsFormed}
+use Rattle.heap_check.specs.Image.{bounds_of}
 use Rattle.arena_core.specs.ByCall.{IsSteadyLeft}
 use Rattle.arena_core.proofs.ByCall.{law_of_crashes}
 use Rattle.trace_text.specs.declared.call.CrashSide.{CrashSide}
 use Rattle.trace_text.specs.declared.call.TraceCall.{TraceCall}
 use Rattle.trace_runs.specs.Arenas.{formatted}
 use Rattle.trace_runs.specs.Runs.{Stage, IsRunOf}
-use Rattle.trace_runs.proofs.Versions.{version_of-formed}
 use Rattle.trace_crashes.specs.Crash.{calls_up_to, CrashLeft, IsCrashOf, IsLeftWithin, IsLeftIdle, IsSide, crash_image}
 use Rattle.trace_crashes.specs.Seek.{last_stage, IsBehindEntry, IsBehindSought, IsBehindAll}
 use Rattle.trace_crashes.specs.Sides.{side_by}
@@ -40,11 +40,9 @@ effect_behind device entry behind =
 pub left_behind : (device : PmemState) (entry : Entry) (done : ℕ) (image : List ℕ) → IsBehindEntry device entry → IsImage device.base (take done device.events) image → IsSteadyLeft (root_of entry.call) device.base (words_of device) image
 left_behind device entry done image behind one = law_of_crashes entry.call device.base (words_of device) image (behind.crash.each done image one)
 
--- its root is one of the image's
-pub below_left : (device : PmemState) (entry : Entry) (image : List ℕ) → IsBehindEntry device entry → IsFormed image → root_of entry.call < (layout_of (version_in image)).roots
-below_left device entry image behind formed =
-    let below = effect_behind device entry behind in
-    subst (λ v. root_of entry.call < (layout_of v).roots) (version_of-formed device.base image behind.exact.formed formed) below.below
+-- its root is one of the image's, which has the numbers of the words before
+pub below_left : (device : PmemState) (entry : Entry) (image : List ℕ) → IsBehindEntry device entry → bounds_of image ≡ bounds_of device.base → root_of entry.call < (layout_of (version_in image)).roots
+below_left device entry image behind same = subst (λ (b : Bounds). root_of entry.call < b.roots) (sym same) (effect_behind device entry behind).below
 
 -- what is left, by the reply, and by whether the call's root has a block in the image
 pub IsLeftWithin-told : (device : PmemState) (entry : Entry) (number done seed : ℕ) (image : List ℕ) (has : Bool) → IsBehindEntry device entry → IsSteadyLeft (root_of entry.call) device.base (words_of device) image → image ≡ crash_image (last_stage device) done seed →
@@ -52,7 +50,7 @@ pub IsLeftWithin-told : (device : PmemState) (entry : Entry) (number done seed :
 IsLeftWithin-told device entry number done seed image has behind left is reads =
     let root = root_of entry.call in
     let did = effect_behind device entry behind in
-    let told : is_some (heap (tables_of image) root) ≡ has = is_some-told image root has left.held (below_left device entry image behind left.steady.formed) reads in
+    let told : is_some (heap (tables_of image) root) ≡ has = is_some-told image root has left.held (below_left device entry image behind left.bounds) reads in
     let Side : CrashSide → Type 0 = IsSide device.base (words_of device) image in
     record {
       call = refl;

@@ -46,14 +46,14 @@ pub record IsNextStage (header : PoolHeader) (calls : List TraceCall) (stages : 
   pub stage : Stage
   pub count : length stage.events ≡ n
   pub machine : Machine
-  pub to : IsRunTo (bounds_for header.granules) (formatted header) (bare no_heap) (calls ++ call ∷ []) arena machine (stages ++ stage ∷ [])
+  pub to : IsRunTo (bounds_for header) (formatted header) (bare no_heap) (calls ++ call ∷ []) arena machine (stages ++ stage ∷ [])
   pub last : 0 < n → stage ≡ last_stage arena.device
 
 pub next_stage : (header : PoolHeader) (calls : List TraceCall) (stages : List Stage) (call : TraceCall) (old new : ArenaState) (machine : Machine) (reply : Reply) (n : ℕ) →
-    IsRunTo (bounds_for header.granules) (formatted header) (bare no_heap) calls old machine stages → HasAnswered call.thread old new call.call reply → n ≡ (if begins_call call.call then length new.device.events else 0) →
+    IsRunTo (bounds_for header) (formatted header) (bare no_heap) calls old machine stages → HasAnswered call.thread old new call.call reply → n ≡ (if begins_call call.call then length new.device.events else 0) →
     IsNextStage header calls stages call new n
 next_stage header calls stages call old new machine reply n to answered is =
-    let next = IsRunTo-call (bounds_for header.granules) (formatted header) (bare no_heap) calls old new machine call reply stages to answered in
+    let next = IsRunTo-call (bounds_for header) (formatted header) (bare no_heap) calls old new machine call reply stages to answered in
     record {
       stage = stage_of old call.call reply;
       count = events_done old new call.call reply answered.done ∙ sym is;

@@ -25,7 +25,7 @@ pub record Seeking (header : PoolHeader) (number : ℕ) (calls : List TraceCall)
   pub stages : List Stage
   pub machine : Machine
   pub count : many ≡ length (calls_of number (take i calls))
-  pub to : IsRunTo (bounds_for header.granules) (formatted header) (bare no_heap) (calls_of number (take i calls)) arena machine stages
+  pub to : IsRunTo (bounds_for header) (formatted header) (bare no_heap) (calls_of number (take i calls)) arena machine stages
   pub leaves : (more : List Stage) (seed : ℕ) (found : CrashLeft) → IsLeft (formatted header) many more left seed found → IsLeft (formatted header) 0 (stages ++ more) event seed found
   pub total : total_events stages ≡ events
 
@@ -36,7 +36,7 @@ total_events-append (stage ∷ stages) more = omega (arith, total_events-append 
 -- at the start
 pub Seeking-none : (header : PoolHeader) (number : ℕ) (calls : List TraceCall) (event : ℕ) (arena : ArenaState) → IsNewArena header arena → Seeking header number calls event arena 0 0 event 0
 Seeking-none header number calls event arena new =
-    let b = bounds_for header.granules in
+    let b = bounds_for header in
     let to : IsRunTo b (words_of arena.device) (bare no_heap) [] arena no_heap [] = IsRunTo-none b arena no_heap new.empty new.bounds new.line new.stacks in
     record {
       stages = [];
@@ -63,7 +63,7 @@ Seeking-other header number calls event arena i many left events d seeking here 
       stages = seeking.stages;
       machine = seeking.machine;
       count = seeking.count ∙ ap length same;
-      to = subst (λ (cs : List TraceCall). IsRunTo (bounds_for header.granules) (formatted header) (bare no_heap) cs arena seeking.machine seeking.stages) same seeking.to;
+      to = subst (λ (cs : List TraceCall). IsRunTo (bounds_for header) (formatted header) (bare no_heap) cs arena seeking.machine seeking.stages) same seeking.to;
       leaves = seeking.leaves;
       total = seeking.total;
     }
@@ -75,8 +75,8 @@ module _ (header : PoolHeader) (number : ℕ) (calls : List TraceCall) (event : 
   more : calls_of number (take i calls) ++ get_or calls i d ∷ [] ≡ calls_of number (take (i + 1) calls)
   more = sym (calls_of-here number calls i d here mine)
 
-  to : IsRunTo (bounds_for header.granules) (formatted header) (bare no_heap) (calls_of number (take (i + 1) calls)) new next.machine (seeking.stages ++ next.stage ∷ [])
-  to = subst (λ (cs : List TraceCall). IsRunTo (bounds_for header.granules) (formatted header) (bare no_heap) cs new next.machine (seeking.stages ++ next.stage ∷ [])) more next.to
+  to : IsRunTo (bounds_for header) (formatted header) (bare no_heap) (calls_of number (take (i + 1) calls)) new next.machine (seeking.stages ++ next.stage ∷ [])
+  to = subst (λ (cs : List TraceCall). IsRunTo (bounds_for header) (formatted header) (bare no_heap) cs new next.machine (seeking.stages ++ next.stage ∷ [])) more next.to
 
   count : many + 1 ≡ length (calls_of number (take (i + 1) calls))
   count = ap (λ n. n + 1) seeking.count ∙ sym (length-append (calls_of number (take i calls)) (get_or calls i d ∷ [])) ∙ ap length more
@@ -112,7 +112,7 @@ module _ (header : PoolHeader) (number : ℕ) (calls : List TraceCall) (event : 
   -- where it is the one under way
   pub IsBehindSought-here : 0 < n → left ≤ n → events + left ≡ event → IsBehindSought header (calls_of number calls) event new.device (many + 1) left
   IsBehindSought-here some within sum =
-      let b = bounds_for header.granules in
+      let b = bounds_for header in
       let under : (m : ℕ) → m ≡ n → (ltb 0 m && leb left m) ≡ true = λ m is. and_from (ltb 0 m) (leb left m) (lt-ltb 0 m (omega (arith, is, some))) (le-leb left m (omega (arith, is, within))) in
       let run : IsRun b (formatted header) 0 (bare no_heap) (take (many + 1) (calls_of number calls)) (seeking.stages ++ next.stage ∷ []) =
       subst (λ (cs : List TraceCall). IsRun b (formatted header) 0 (bare no_heap) cs (seeking.stages ++ next.stage ∷ [])) (sym front)
@@ -136,8 +136,8 @@ pub IsBehindAll-none : (header : PoolHeader) (number : ℕ) (calls : List TraceC
     events + left ≡ event → IsBehindAll header (calls_of number calls) event events
 IsBehindAll-none header number calls event arena i many left events seeking all sum = record {
   stages = seeking.stages;
-  run = subst (λ (cs : List TraceCall). IsRun (bounds_for header.granules) (formatted header) 0 (bare no_heap) (calls_of number cs) seeking.stages) (take_all i calls all)
-      (IsRun-to (bounds_for header.granules) (formatted header) (bare no_heap) (calls_of number (take i calls)) arena seeking.machine seeking.stages seeking.to);
+  run = subst (λ (cs : List TraceCall). IsRun (bounds_for header) (formatted header) 0 (bare no_heap) (calls_of number cs) seeking.stages) (take_all i calls all)
+      (IsRun-to (bounds_for header) (formatted header) (bare no_heap) (calls_of number (take i calls)) arena seeking.machine seeking.stages seeking.to);
   total = sym seeking.total;
   leaves = λ few seed found idle.
       let none : 0 ≡ left = omega arith in

@@ -8,13 +8,10 @@ use pmem_lines::{OutOfMemory, SimPmem};
 use pool_layout::layout_of;
 use std::alloc::Global;
 use trace_runs::new_arena;
-use trace_text::{PoolSize, Trace};
+use trace_text::Trace;
 
 /// The bytes of a granule, in lines.
 const GRANULE_LINES: u32 = 256;
-
-/// The version of a trace's arenas.
-const VERSION: u32 = 1;
 
 /// The arena of this number of a trace's pool, over a new simulated device.
 pub(crate) fn format_new(
@@ -26,11 +23,8 @@ pub(crate) fn format_new(
     requires inside { arena < trace.now.arenas }
     ensures { IfOk result (λ made. IsNewArena (header_for (pool_of trace.now) arena) made) }
 {
-    let pool = PoolSize {
-        arenas: trace.arenas,
-        granules: trace.granules,
-    };
-    let room = layout_of(VERSION).room;
+    let pool = trace.pool();
+    let room = layout_of(pool.version).room;
     let device = SimPmem::zeroed(alloc, GRANULE_LINES * pool.granules, room)?;
     new_arena(alloc, device, pool, arena)
 }

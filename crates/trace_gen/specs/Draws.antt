@@ -8,7 +8,7 @@ use Rattle.trace_text.specs.declared.call.TraceCall.{TraceCall}
 
 -- the pool that they are calls of
 abbrev pub the_pool : PoolSize
-the_pool = record { arenas = 4; granules = 256 }
+the_pool = record { version = 1; arenas = 4; granules = 256 }
 
 -- one word
 

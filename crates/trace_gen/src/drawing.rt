@@ -14,12 +14,13 @@ use rand_xoshiro::SplitMix64;
 use std::alloc::Global;
 use trace_text::{PoolSize, TraceCall};
 
-/// The pool of generated work: 4 arenas of 256 granules each.
+/// The pool of generated work: 4 arenas of version 1, of 256 granules each.
 pub fn generated_pool() -> PoolSize
     ensures pool { result ≡ the_pool }
     ensures valid { IsPool result }
 {
     PoolSize {
+        version: 1,
         arenas: 4,
         granules: 256,
     }

@@ -18,7 +18,7 @@ pub GoesOn-none : (arena : ArenaState) → GoesOn [] arena arena
 GoesOn-none arena header new = record {
   machine = no_heap;
   stages = [];
-  to = subst (λ (start : List ℕ). IsRunTo (bounds_for header.granules) start (bare no_heap) [] arena no_heap []) new.words (IsRunTo-none (bounds_for header.granules) arena no_heap new.empty new.bounds new.line new.stacks);
+  to = subst (λ (start : List ℕ). IsRunTo (bounds_for header) start (bare no_heap) [] arena no_heap []) new.words (IsRunTo-none (bounds_for header) arena no_heap new.empty new.bounds new.line new.stacks);
 }
 
 pub GoesOn-other : (number : ℕ) (calls : List TraceCall) (i : ℕ) (d : TraceCall) (first now : ArenaState) → i < length calls → (get_or calls i d).arena ≢ number →
@@ -29,7 +29,7 @@ pub GoesOn-here : (number : ℕ) (calls : List TraceCall) (i : ℕ) (d : TraceCa
     GoesOn (calls_of number (take i calls)) first old → HasAnswered (get_or calls i d).thread old new (get_or calls i d).call reply → GoesOn (calls_of number (take (i + 1) calls)) first new
 GoesOn-here number calls i d first old new reply here is gone answered header fresh =
     let was = gone header fresh in
-    let next = IsRunTo-call (bounds_for header.granules) (formatted header) (bare no_heap) (calls_of number (take i calls)) old new was.machine (get_or calls i d) reply was.stages was.to answered in
+    let next = IsRunTo-call (bounds_for header) (formatted header) (bare no_heap) (calls_of number (take i calls)) old new was.machine (get_or calls i d) reply was.stages was.to answered in
     subst (λ (cs : List TraceCall). HasGone header cs new) (sym (calls_of-here number calls i d here is)) (record { machine = next.0; stages = was.stages ++ stage_of old (get_or calls i d).call reply ∷ []; to = next.1 })
 
 -- the device that they leave
@@ -41,6 +41,6 @@ IsRunThrough-gone header calls number first now new few made gone = record {
   answers = made.answers;
   run = HasRun-made header calls number first now new few made;
   stages = gone.stages;
-  made = IsRun-to (bounds_for header.granules) (formatted header) (bare no_heap) (calls_of number calls) now gone.machine gone.stages gone.to;
+  made = IsRun-to (bounds_for header) (formatted header) (bare no_heap) (calls_of number calls) now gone.machine gone.stages gone.to;
   words = gone.to.words;
 }

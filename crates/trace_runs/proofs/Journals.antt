@@ -23,9 +23,9 @@ opened_bare : (header : PoolHeader) (first : ArenaState) → IsNewArena header f
 opened_bare header first new = λ i. record { machine = no_heap_in header first new i; stacks = new.stacks i }
 
 -- what leads on from a new arena is a journal from the empty heap
-pub IsJournal-opened : (header : PoolHeader) (first : ArenaState) (journal : List Entry) (last : PlacedState) → IsNewArena header first → LeadsTo (opened first) journal last → IsJournal header.granules journal last
+pub IsJournal-opened : (header : PoolHeader) (first : ArenaState) (journal : List Entry) (last : PlacedState) → IsNewArena header first → LeadsTo (opened first) journal last → IsJournal header journal last
 IsJournal-opened header first journal last new leads =
-    subst (λ (s : PlacedState). Leads (IsPlacedEntry (bounds_for header.granules)) s journal last) (opened_bare header first new)
+    subst (λ (s : PlacedState). Leads (IsPlacedEntry (bounds_for header)) s journal last) (opened_bare header first new)
     (subst (λ (b : Bounds). Leads (IsPlacedEntry b) (opening_state (opened first)) journal last) new.bounds leads)
 
 -- no more calls begin than there are entries

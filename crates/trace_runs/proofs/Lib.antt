@@ -6,4 +6,3 @@ pub mod Listing
 mod OneWay
 pub mod Runs
 mod Settled
-pub mod Versions

@@ -1,16 +1,14 @@
 -- The blocks of some roots, one after another.
 use Rattle.std.proofs.Common.{◌≡◌, ℕ, zero, suc, ◌+◌, ◌-◌, ◌<◌, ◌≤◌, List, [], ◌∷◌, ◌++◌, Option, Some, None, sym, ap, ◌∙◌, refl, arith, append_assoc}
 use Rattle.std.proofs.lemmas.List.{append-nil}
-use Rattle.pool_layout.specs.Layout.{layout_of}
 use Rattle.image_tables.specs.Tables.{tables_of}
 use Rattle.heap_model.specs.declared.block.Block.{Block}
-use Rattle.heap_model.specs.Machine.{Range}
+use Rattle.heap_model.specs.Machine.{Bounds, Range}
 use Rattle.heap_check.specs.Heap.{heap}
-use Rattle.heap_check.specs.Image.{bounds_of, IsFormed}
+use Rattle.heap_check.specs.Image.{bounds_of}
 use Rattle.heap_check.specs.State.{HaveSameHeap}
 use Rattle.arena_core.specs.Arena.{IsBlockOfRoot}
 use Rattle.trace_runs.specs.Blocks.{listed, blocks_from, blocks_of, blocks_in}
-use Rattle.trace_runs.proofs.Versions.{version_of-formed}
 
 -- the blocks of m roots, and of n roots behind them
 blocks_from-split : (h : ℕ → Option Range) (i m n : ℕ) → blocks_from h i (m + n) ≡ blocks_from h i m ++ blocks_from h (i + m) n
@@ -45,11 +43,11 @@ blocks_from-same h g i (suc n) same =
 pub blocks_of-same : (words : List ℕ) (h g : ℕ → Option Range) → ((root : ℕ) → h root ≡ g root) → blocks_of words h ≡ blocks_of words g
 blocks_of-same words h g same = blocks_from-same h g 0 (bounds_of words).roots (λ root low high. same root)
 
--- and in two images, of which both are formed
-pub blocks_in-same : (words image : List ℕ) → IsFormed words → IsFormed image → HaveSameHeap words image → blocks_in image ≡ blocks_in words
-blocks_in-same words image formed formed_image same =
+-- and in two images with the same numbers
+pub blocks_in-same : (words image : List ℕ) → bounds_of image ≡ bounds_of words → HaveSameHeap words image → blocks_in image ≡ blocks_in words
+blocks_in-same words image bounds same =
     blocks_of-same image (heap (tables_of image)) (heap (tables_of words)) same.each
-    ∙ ap (λ v. blocks_from (heap (tables_of words)) 0 (layout_of v).roots) (sym (version_of-formed words image formed formed_image))
+    ∙ ap (λ (b : Bounds). blocks_from (heap (tables_of words)) 0 b.roots) bounds
 
 -- the blocks up to a root, and then its own, where it has one
 pub blocks_from-some : (words : List ℕ) (from root : ℕ) (before items : List Block) (block : Block) → from ≤ root → items ≡ before ++ blocks_from (heap (tables_of words)) from (root - from) →

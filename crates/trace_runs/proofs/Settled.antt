@@ -29,8 +29,8 @@ ask_the_same (call ∷ calls) (entry ∷ journal) (another ∷ other) valid one 
 )
 
 pub law_of_one_journal : LawOfOneJournal
-law_of_one_journal granules calls journal other last another valid first second one two =
-    one_journal (bounds_for granules) (bare no_heap) last another journal other (ask_the_same calls journal other valid first second) one two
+law_of_one_journal header calls journal other last another valid first second one two =
+    one_journal (bounds_for header) (bare no_heap) last another journal other (ask_the_same calls journal other valid first second) one two
 
 -- one call, from the same words, line and state, makes one stage
 stage_once : (b : Bounds) (words : List ℕ) (line : ℕ) (s next last : PlacedState) (later after : ℕ) (call : TraceCall) (stage other : Stage) → IsStage b words line s call stage later next → IsStage b words line s call other after last →
@@ -53,4 +53,4 @@ run_once b words line s (call ∷ calls) (stage ∷ stages) (other ∷ others) v
     λ i. same.0 i ∷ rest i
 
 pub law_of_one_run : LawOfOneRun
-law_of_one_run header calls stages others valid one two = run_once (bounds_for header.granules) (formatted header) 0 (bare no_heap) calls stages others valid one two
+law_of_one_run header calls stages others valid one two = run_once (bounds_for header) (formatted header) 0 (bare no_heap) calls stages others valid one two

@@ -17,11 +17,11 @@ use Rattle.trace_text.specs.declared.call.PoolSize.{PoolSize}
 
 -- the header of the arena of this number
 abbrev pub header_for : PoolSize → ℕ → PoolHeader
-header_for pool arena = record { version = 1; number = arena; arenas = pool.arenas; granules = pool.granules }
+header_for pool arena = record { version = pool.version; number = arena; arenas = pool.arenas; granules = pool.granules }
 
--- the numbers of an arena of so many granules
-abbrev pub bounds_for : ℕ → Bounds
-bounds_for granules = record { roots = (layout_of 1).roots; first = (layout_of 1).first_granule; granules = granules }
+-- the numbers of an arena of this header
+abbrev pub bounds_for : PoolHeader → Bounds
+bounds_for header = record { roots = (layout_of header.version).roots; first = (layout_of header.version).first_granule; granules = header.granules }
 
 -- the words of the arena of this header as it is formatted
 unfoldable pub formatted : PoolHeader → List ℕ
@@ -30,7 +30,7 @@ formatted header = reading (zeros (2048 * header.granules)) (format_events heade
 -- the arena was formatted with this header, and nothing was asked of it since: it has no block, and no stack has one
 pub record IsNewArena (header : PoolHeader) (arena : ArenaState) : Type 0 where
   pub words : words_of arena.device ≡ formatted header
-  pub bounds : bounds_of (words_of arena.device) ≡ bounds_for header.granules
+  pub bounds : bounds_of (words_of arena.device) ≡ bounds_for header
   pub empty : HasState (words_of arena.device) no_heap
   pub base : arena.device.base ≡ zeros (2048 * header.granules)
   pub events : arena.device.events ≡ format_events header

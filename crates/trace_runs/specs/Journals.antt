@@ -1,5 +1,5 @@
 -- What an arena of a trace's pool went through since it was formatted.
-use Rattle.std.specs.Prelude.{◌≡◌, ◌⊎◌, ℕ, ◌+◌, ◌*◌, List}
+use Rattle.std.specs.Prelude.{◌≡◌, ◌⊎◌, ◌+◌, ◌*◌, List}
 use Rattle.pmem_lines.specs.Events.{IsQuiet}
 use Rattle.pmem_lines.specs.Pmem.{PmemState, words_of}
 use Rattle.pmem_lines.specs.Words.{zeros}
@@ -17,10 +17,10 @@ use Rattle.trace_runs.specs.Arenas.{bounds_for, formatted}
 use Rattle.trace_runs.specs.Runs.{Stage, words_behind, IsRunOf}
 use Rattle.trace_runs.specs.Calls.{AreAnswers}
 
--- The entries are a legal journal of an arena of so many granules, from the empty heap and empty stacks to this state with its
+-- The entries are a legal journal of an arena of this header, from the empty heap and empty stacks to this state with its
 -- stacks: each block is given where the placement says.
-abbrev pub IsJournal : ℕ → List Entry → PlacedState → Type 0
-IsJournal granules journal last = Leads (IsPlacedEntry (bounds_for granules)) (bare no_heap) journal last
+abbrev pub IsJournal : PoolHeader → List Entry → PlacedState → Type 0
+IsJournal header journal last = Leads (IsPlacedEntry (bounds_for header)) (bare no_heap) journal last
 
 -- every entry is a Read, and the device is as formatting left it
 pub record IsAsFormatted (header : PoolHeader) (device : PmemState) (journal : List Entry) : Type 0 where
@@ -34,7 +34,7 @@ pub record IsBehindLast (header : PoolHeader) (device : PmemState) (journal : Li
   pub last : LastBegun journal
   pub machine : Machine
   pub stacks : Stacks
-  pub leads : IsJournal header.granules last.before (record { machine = machine; stacks = stacks })
+  pub leads : IsJournal header last.before (record { machine = machine; stacks = stacks })
   pub exact : IsExactImage device.base
   pub state : HasState device.base machine
   pub events : device.events ≡ call_events device.base (line_behind 0 last.before) last.entry.call last.entry.reply
@@ -45,8 +45,8 @@ pub record IsBehindLast (header : PoolHeader) (device : PmemState) (journal : Li
 -- its base and events are those of the last of these.
 pub record HasRun (header : PoolHeader) (device : PmemState) (journal : List Entry) (machine : Machine) : Type 0 where
   pub stacks : Stacks
-  pub legal : IsJournal header.granules journal (record { machine = machine; stacks = stacks })
-  pub apart : IsOverlapFree (bounds_for header.granules) machine
+  pub legal : IsJournal header journal (record { machine = machine; stacks = stacks })
+  pub apart : IsOverlapFree (bounds_for header) machine
   pub quiet : IsQuiet device.events
   pub exact : IsExactImage (words_of device)
   pub state : HasState (words_of device) machine

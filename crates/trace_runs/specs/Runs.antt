@@ -54,7 +54,7 @@ words_behind words (stage ∷ stages) = words_behind (words_after stage) stages
 
 -- the calls make these stages, in an arena that was formatted with this header: it has no block, and no stack has one
 abbrev pub IsRunOf : PoolHeader → List TraceCall → List Stage → Type 0
-IsRunOf header calls stages = IsRun (bounds_for header.granules) (formatted header) 0 (bare no_heap) calls stages
+IsRunOf header calls stages = IsRun (bounds_for header) (formatted header) 0 (bare no_heap) calls stages
 
 -- for the functions below
 
@@ -73,7 +73,7 @@ pub record IsRunTo (b : Bounds) (start : List ℕ) (first : PlacedState) (calls 
 pub record HasGone (header : PoolHeader) (calls : List TraceCall) (arena : ArenaState) : Type 0 where
   pub machine : Machine
   pub stages : List Stage
-  pub to : IsRunTo (bounds_for header.granules) (formatted header) (bare no_heap) calls arena machine stages
+  pub to : IsRunTo (bounds_for header) (formatted header) (bare no_heap) calls arena machine stages
 
 -- the same, where the arena was formatted
 abbrev pub GoesOn : List TraceCall → ArenaState → ArenaState → Type 0

@@ -16,10 +16,10 @@ use arena_core::Arena;
 use arena_journal::answer;
 use pmem_lines::{OutOfMemory, Pmem};
 use std::alloc::Global;
-use trace_text::{PoolSize, Trace, TraceCall};
+use trace_text::{Trace, TraceCall};
 
 /// Makes the calls of a trace that are those of one arena, in the order of the lines, on the arena over a new device of
-/// zeros, which has the room of version 1, and gives the device.
+/// zeros, which has the room of the pool's version, and gives the device.
 pub fn run_calls<P: Pmem + Drop>(
     alloc: Global,
     trace: &Trace,
@@ -28,14 +28,10 @@ pub fn run_calls<P: Pmem + Drop>(
 ) -> Result<P, OutOfMemory>
     requires arena { IsArenaOf (pool_of trace.now) trace.now.calls.items arena }
     requires few { length trace.now.calls.items < 2 ^ 32 }
-    requires zeroed { IsZeroed (P.state device) (256 * trace.now.granules) (layout_of 1).room }
+    requires zeroed { IsZeroed (P.state device) (256 * trace.now.granules) (layout_of trace.now.version).room }
     ensures { IfOk result (λ left. IsRunThrough (header_for (pool_of trace.now) arena) (calls_of arena trace.now.calls.items) (P.state left)) }
 {
-    let pool = PoolSize {
-        arenas: trace.arenas,
-        granules: trace.granules,
-    };
-    let mut made = new_arena(alloc, device, pool, arena)?;
+    let mut made = new_arena(alloc, device, trace.pool(), arena)?;
     make_calls(&mut made, arena, &trace.calls);
     Ok(made.into_pmem())
 }

@@ -11,7 +11,7 @@ use pmem_lines::{OutOfMemory, Pmem};
 use std::alloc::Global;
 use trace_text::PoolSize;
 
-/// Formats a device of zeros, with the room of version 1, as the arena of this number of a pool.
+/// Formats a device of zeros, with the room of the pool's version, as the arena of this number of the pool.
 pub fn new_arena<P: Pmem + Drop>(
     alloc: Global,
     device: P,
@@ -20,9 +20,12 @@ pub fn new_arena<P: Pmem + Drop>(
 ) -> Result<Arena<P>, OutOfMemory>
     requires pool { IsPool pool }
     requires inside { arena < pool.arenas }
-    requires zeroed { IsZeroed (P.state device) (256 * pool.granules) (layout_of 1).room }
+    requires zeroed { IsZeroed (P.state device) (256 * pool.granules) (layout_of pool.version).room }
     ensures { IfOk result (λ made. IsNewArena (header_for pool arena) made) }
 {
     let room = ArenaRoom::new(alloc, pool.granules)?;
+    if pool.version == 2 {
+        return Ok(Arena::format_v2(room, device, arena, pool.arenas));
+    }
     Ok(Arena::format(room, device, arena, pool.arenas))
 }

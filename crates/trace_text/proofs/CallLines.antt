@@ -1,11 +1,10 @@
--- The words of a pool's line and of a call line, one by one.
-use Rattle.std.proofs.Common.{◌≡◌, ℕ, ◌<◌, ◌≤◌, ◌^◌, List, ◌∷◌, ◌++◌, ◌∙◌, refl, sym, arith}
-use Rattle.std.specs.Prelude.{decimal, codes}
+-- The words of a call line, one by one.
+use Rattle.std.proofs.Common.{◌≡◌, ℕ, ◌<◌, ◌≤◌, ◌^◌, List, ◌∷◌, ◌++◌, ◌∙◌, refl, arith}
+use Rattle.std.specs.Prelude.{decimal}
 use Rattle.std.proofs.lemmas.List.{append_assoc}
-use Rattle.trace_text.specs.declared.call.PoolSize.{PoolSize}
 use Rattle.trace_text.specs.declared.call.TraceCall.{TraceCall}
 use Rattle.trace_text.specs.Words.{call_text}
-use Rattle.trace_text.specs.Grammar.{IsPoolLine, IsCallLine}
+use Rattle.trace_text.specs.Grammar.{IsCallLine}
 use Rattle.trace_text.proofs.Numbers.{as_field, other_field}
 
 -- one number before a space, and one rest
@@ -27,13 +26,6 @@ pub behind_arena : (arenas : ℕ) (line : List ℕ) (thread arena : ℕ) (rest w
     (arena ≡ call.arena) × (words ≡ call_text call.call)
 behind_arena arenas line thread arena rest words call few le below d e is =
     same_field rest arena call.arena words _ (omega (arith, few, below)) (omega (arith, few, is.valid.arena)) e (behind_thread arenas line thread rest call le d is)
-
--- the arenas of a pool's line, and what stands behind them
-pub behind_pool : (line rest words : List ℕ) (arenas : ℕ) (pool : PoolSize) → line ≡ codes "pool " ++ rest → arenas ≤ 16 → rest ≡ decimal arenas ++ 32 ∷ words → IsPoolLine line pool →
-    (arenas ≡ pool.arenas) × (words ≡ decimal pool.granules)
-behind_pool line rest words arenas pool front few is says =
-    let same : rest ≡ decimal pool.arenas ++ 32 ∷ decimal pool.granules = (let e = sym front ∙ says.text in cc) in
-    same_field rest arenas pool.arenas words (decimal pool.granules) (omega (arith, few)) (omega (arith, says.valid.few)) is same
 
 -- three numbers, and the space between them
 pub behind_first : (line : List ℕ) (a b c : ℕ) → line ≡ decimal a ++ 32 ∷ decimal b ++ 32 ∷ decimal c → line ≡ decimal a ++ 32 ∷ (decimal b ++ 32 ∷ decimal c)

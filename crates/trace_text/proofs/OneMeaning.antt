@@ -1,6 +1,7 @@
 -- A line says one thing, so a text says one trace, or has one refused line.
 use Rattle.std.proofs.Common.{◌≡◌, ◌⊎◌, ℕ, zero, suc, ◌+◌, ◌<◌, ◌≤◌, ◌^◌, List, [], ◌∷◌, ◌++◌, length, refl, sym, ◌∙◌, ap, subst, inl, inr, arith}
-use Rattle.pool_layout.proofs.Layouts.{layout_rules}
+use Rattle.pool_layout.proofs.Layouts.{version_cases}
+use Rattle.std.proofs.lemmas.List.{append_cancel_left}
 use Rattle.std.specs.Prelude.{decimal}
 use Rattle.std.specs.Str.Parse.{AllDigits}
 use Rattle.std.proofs.lemmas.Str.Parse.{digit_from_value}
@@ -10,14 +11,26 @@ use Rattle.heap_model.specs.declared.call.Call.TheVariants.{Malloc, Free, Write,
 use Rattle.trace_text.specs.declared.call.PoolSize.{PoolSize}
 use Rattle.trace_text.specs.declared.call.TraceCall.{TraceCall}
 use Rattle.trace_text.specs.Words.{call_text}
-use Rattle.trace_text.specs.Grammar.{lines_of, IsPassedOver, IsAsked, IsPoolLine, IsCallLine, AreCalls, AreTrace, IsNoCallAt, IsNoTraceAt}
+use Rattle.trace_text.specs.Grammar.{lines_of, pool_word, pool_sizes, IsPassedOver, IsAsked, IsPoolLine, IsCallLine, AreCalls, AreTrace, IsNoCallAt, IsNoTraceAt}
 use Rattle.trace_text.specs.Laws.{LawOfOneTrace, LawOfNoRefusal, LawOfOneRefusal}
+use Rattle.trace_text.proofs.Pools.{one_version, one_size}
 use Rattle.trace_text.proofs.CallLines.{same_field, same_three, call_words, behind_arena}
 
--- a line that is passed over says no pool
+-- a line that is passed over says no pool, since both words begin with the same letter
+no_pool_word : (version : ℕ) (line words : List ℕ) → (version ≡ 1) ⊎ (version ≡ 2) → IsPassedOver line → line ≡ pool_word version ++ words → ⊥
+no_pool_word version [] words (inl one) passed is = let e : [] ≡ pool_word 1 ++ words = is ∙ ap (λ v. pool_word v ++ words) one in cc
+no_pool_word version [] words (inr two) passed is = let e : [] ≡ pool_word 2 ++ words = is ∙ ap (λ v. pool_word v ++ words) two in cc
+no_pool_word version (byte ∷ line) words (inl one) passed is =
+    let e : byte ∷ line ≡ pool_word 1 ++ words = is ∙ ap (λ v. pool_word v ++ words) one in
+    let same : byte ≡ 112 = cc in
+    omega (arith, same, passed)
+no_pool_word version (byte ∷ line) words (inr two) passed is =
+    let e : byte ∷ line ≡ pool_word 2 ++ words = is ∙ ap (λ v. pool_word v ++ words) two in
+    let same : byte ≡ 112 = cc in
+    omega (arith, same, passed)
+
 no_pool_passed : (line : List ℕ) (pool : PoolSize) → IsPassedOver line → ¬ (IsPoolLine line pool)
-no_pool_passed [] pool passed says = let e = says.text in cc
-no_pool_passed (byte ∷ line) pool passed says = let e = says.text in let same : byte ≡ 112 = cc in omega (arith, same, passed)
+no_pool_passed line pool passed says = no_pool_word pool.version line (pool_sizes pool) (version_cases pool.version says.valid.version) passed says.text
 
 -- numerals do not begin with `#`
 no_digit_passed : (digits rest line : List ℕ) → 0 < length digits → AllDigits 10 digits → line ≡ digits ++ rest → ¬ (IsPassedOver line)
@@ -34,11 +47,9 @@ no_call_passed arenas line call passed makes =
 -- a line says one pool
 one_pool : (line : List ℕ) (m n : PoolSize) → IsPoolLine line m → IsPoolLine line n → m ≡ n
 one_pool line m n p q =
-    let e = sym p.text ∙ q.text in
-    let words : decimal m.arenas ++ 32 ∷ decimal m.granules ≡ decimal n.arenas ++ 32 ∷ decimal n.granules = cc in
-    let h = same_field (decimal n.arenas ++ 32 ∷ decimal n.granules) m.arenas n.arenas (decimal m.granules) (decimal n.granules) (omega (arith, p.valid.few)) (omega (arith, q.valid.few)) (sym words) refl in
-    let granules : m.granules ≡ n.granules = decimal_injective m.granules n.granules (omega (arith, p.valid.most, (layout_rules 1).most)) (omega (arith, q.valid.most, (layout_rules 1).most)) h.1 in
-    λ i. record { arenas = h.0 i; granules = granules i }
+    let version = one_version n.version line (pool_sizes n) m (version_cases n.version q.valid.version) q.text p in
+    let same : pool_word n.version ++ pool_sizes m ≡ pool_word n.version ++ pool_sizes n = sym (ap (λ v. pool_word v ++ pool_sizes m) version) ∙ sym p.text ∙ q.text in
+    one_size m n p.valid q.valid version (append_cancel_left (pool_word n.version) (pool_sizes m) (pool_sizes n) same)
 
 -- texts that are the same begin with the same byte
 same_letter : (a b : ℕ) (x y : List ℕ) → a ∷ x ≡ b ∷ y → a ≡ b

@@ -2,7 +2,7 @@
 -- passed over.
 use Rattle.std.specs.Prelude.{◌≡◌, ◌==◌, ◌⊎◌, ℕ, zero, suc, ◌+◌, ◌<◌, ◌≤◌, ◌^◌, List, [], ◌∷◌, ◌++◌, length, decimal, codes, if◌then◌else◌}
 use Rattle.std.specs.List.{slice_split}
-use Rattle.pool_layout.specs.Layout.{layout_of}
+use Rattle.pool_layout.specs.Layout.{layout_of, all_granules, pool_granules, IsVersion}
 use Rattle.heap_model.specs.declared.call.Call.{Call}
 use Rattle.heap_model.specs.declared.call.Call.TheVariants.{Malloc, Free, Write, Read, Move}
 use Rattle.trace_text.specs.declared.call.PoolSize.{PoolSize}
@@ -29,18 +29,29 @@ IsPassedOver (byte ∷ line) = byte ≡ 35
 
 -- the pool of a trace
 abbrev pub pool_of : Trace → PoolSize
-pool_of trace = record { arenas = trace.arenas; granules = trace.granules }
+pool_of trace = record { version = trace.version; arenas = trace.arenas; granules = trace.granules }
 
--- a pool that a trace may have: 1 to 16 arenas of version 1, each with as many granules as that version allows
+-- a pool that a trace may have: 1 to 16 arenas of a version, each with as many granules as the version allows, and no more
+-- together than a pool may have
 pub record IsPool (pool : PoolSize) : Type 0 where
+  pub version : IsVersion pool.version
   pub some : 1 ≤ pool.arenas
   pub few : pool.arenas ≤ 16
-  pub least : (layout_of 1).least_granules ≤ pool.granules
-  pub most : pool.granules ≤ (layout_of 1).most_granules
+  pub least : (layout_of pool.version).least_granules ≤ pool.granules
+  pub most : pool.granules ≤ (layout_of pool.version).most_granules
+  pub together : all_granules pool.arenas pool.granules ≤ pool_granules
 
--- the line says this pool: how many arenas, and the granules of each
+-- the first word of a pool's line, by the version
+abbrev pub pool_word : ℕ → List ℕ
+pool_word version = if version == 2 then codes "pool2 " else codes "pool "
+
+-- how many arenas a pool has, and the granules of each
+abbrev pub pool_sizes : PoolSize → List ℕ
+pool_sizes pool = decimal pool.arenas ++ 32 ∷ decimal pool.granules
+
+-- the line says this pool: the version, how many arenas, and the granules of each
 pub record IsPoolLine (line : List ℕ) (pool : PoolSize) : Type 0 where
-  pub text : line ≡ codes "pool " ++ decimal pool.arenas ++ 32 ∷ decimal pool.granules
+  pub text : line ≡ pool_word pool.version ++ pool_sizes pool
   pub valid : IsPool pool
 
 -- the calls that a trace may ask for, with numbers that fit

@@ -33,3 +33,7 @@ defect_place arena (TooManyLoose large empty morphing done) = codes "arena " ++ 
 -- why an image is refused
 abbrev pub defect_line : ℕ → Defect → List ℕ
 defect_line arena defect = defect_place arena defect ++ defect_text defect ++ 10 ∷ []
+
+-- the version of an image that is refused for it
+abbrev pub version_line : ℕ → List ℕ
+version_line version = codes "version " ++ decimal version ++ 10 ∷ []

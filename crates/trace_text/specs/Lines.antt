@@ -1,8 +1,14 @@
--- What was read of the lines of a text, and what is left.
+-- What was read of a line and of the lines of a text, and what is left.
 use Rattle.std.specs.Prelude.{◌≡◌, ℕ, ◌+◌, ◌≤◌, List, length}
 use Rattle.trace_text.specs.declared.call.PoolSize.{PoolSize}
 use Rattle.trace_text.specs.declared.call.TraceCall.{TraceCall}
-use Rattle.trace_text.specs.Grammar.{lines_of, IsPool, AreCalls, AreTrace, IsNoCallAt, IsNoTraceAt}
+use Rattle.trace_text.specs.Grammar.{lines_of, pool_sizes, IsPool, AreCalls, AreTrace, IsNoCallAt, IsNoTraceAt}
+
+-- the words behind the first of a pool's line say this pool of the version
+pub record IsPoolOf (version : ℕ) (words : List ℕ) (pool : PoolSize) : Type 0 where
+  pub named : pool.version ≡ version
+  pub text : words ≡ pool_sizes pool
+  pub valid : IsPool pool
 
 -- these many lines of the text, the last of them the pool's, and then the rest
 pub record IsBehindPool (text rest : List ℕ) (pool : PoolSize) (many : ℕ) : Type 0 where

@@ -2,9 +2,10 @@
 
 use heap_model::Call;
 
-/// The pool of a trace: 1 to 16 arenas of version 1, and the granules of each.
+/// The pool of a trace: its version, 1 to 16 arenas, and the granules of each.
 #[derive(Clone, Copy, Debug, PartialEq, Eq)]
 pub struct PoolSize {
+    pub version: u32,
     pub arenas: u32,
     pub granules: u32,
 }

@@ -1,7 +1,7 @@
 // What is printed of images: what each arena has, its heap once it is recovered, and why an image is refused.
 ghost use Rattle.std.specs.Prelude.{◌≡◌, ◌++◌, OnOk, OnErr};
 ghost use Rattle.trace_text.specs.Fronts.{BeginsWith};
-ghost use Rattle.trace_text.specs.ImageReport.{summary_line, recovered_text, defect_place, defect_line};
+ghost use Rattle.trace_text.specs.ImageReport.{summary_line, recovered_text, defect_place, defect_line, version_line};
 
 use crate::report::write_heap;
 use crate::writing::{write_bytes, write_word};
@@ -63,5 +63,15 @@ pub fn write_defect(out: &mut Vec<u8>, arena: u32, defect: &Defect) -> Result<()
 {
     write_place(out, arena, defect)?;
     defect.append_text(out)?;
+    write_bytes(out, b"\n")
+}
+
+/// Writes the line of an image that is refused for its version behind what stands in `out`. Where memory runs out, what
+/// stood there still stands at the front.
+pub fn write_version(out: &mut Vec<u8>, version: u32) -> Result<(), OutOfMemory>
+    ensures text { OnOk result (out.new.items ≡ out.old.items ++ version_line version) }
+    ensures kept { OnErr result (BeginsWith out.new.items out.old.items) }
+{
+    write_word(out, b"version ", u64::from(version))?;
     write_bytes(out, b"\n")
 }

@@ -19,7 +19,7 @@ mod work_report;
 mod writing;
 
 pub use call::{CrashSide, PoolSize, Refusal, TraceCall};
-pub use image_report::{write_defect, write_recovered, write_summary};
+pub use image_report::{write_defect, write_recovered, write_summary, write_version};
 pub use laws::{law_of_no_refusal, law_of_one_refusal, law_of_one_trace};
 pub use number::whole_number;
 pub use report::{write_arena, write_crash, write_entry, write_heap, write_refusal};

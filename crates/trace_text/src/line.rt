@@ -1,15 +1,17 @@
 // One line of a trace.
 ghost use Rattle.std.specs.Prelude.{◌≡◌, ◌≢◌, ◌↔◌, ℕ, ◌<◌, ◌≤◌, ◌^◌, ◌∷◌, ◌++◌, decimal, IsTrue, MatchOption};
+ghost use Rattle.pool_layout.specs.Layout.{IsVersion};
 ghost use Rattle.heap_model.specs.declared.call.Call.{Call};
 ghost use Rattle.trace_text.specs.declared.call.PoolSize.{PoolSize};
 ghost use Rattle.trace_text.specs.declared.call.TraceCall.{TraceCall};
 ghost use Rattle.trace_text.specs.Words.{call_text};
 ghost use Rattle.trace_text.specs.Grammar.{IsPassedOver, IsAsked, IsCallLine, IsPoolLine};
+ghost use Rattle.trace_text.specs.Lines.{IsPoolOf};
 
 use crate::number::{after, read_field, whole_number};
 use crate::{PoolSize, TraceCall};
 use heap_model::Call;
-use pool_layout::layout_of;
+use pool_layout::{POOL_GRANULES, all_granules, layout_of};
 
 /// The greatest thread number.
 const LAST_THREAD: u64 = 63;
@@ -23,9 +25,6 @@ const LAST_INDEX: u64 = 0xFFFF_FFFF;
 /// The most arenas of a pool.
 const MOST_ARENAS: u64 = 16;
 
-/// The version of the pool's arenas.
-const VERSION: u32 = 1;
-
 /// Whether a line is empty or begins with `#`.
 pub(crate) fn is_passed_over(line: &[u8]) -> bool
     ensures { IsTrue result ↔ IsPassedOver line.now }
@@ -33,20 +32,36 @@ pub(crate) fn is_passed_over(line: &[u8]) -> bool
     line.is_empty() || line[0] == b'#'
 }
 
-/// The pool that a line says; none where it says no pool.
-pub(crate) fn read_pool_line(line: &[u8]) -> Option<PoolSize>
-    ensures { MatchOption result ((pool : PoolSize) → ¬ (IsPoolLine line.now pool)) (λ pool. IsPoolLine line.now pool) }
+/// The pool of this version that the words behind its line's first word say; none where they say no pool.
+fn read_pool_of(version: u32, words: &[u8]) -> Option<PoolSize>
+    requires { IsVersion version }
+    ensures { MatchOption result ((pool : PoolSize) → ¬ (IsPoolOf version words.now pool)) (IsPoolOf version words.now) }
 {
-    let (arenas, rest) = read_field(after(line, b"pool ")?, MOST_ARENAS)?;
-    let layout = layout_of(VERSION);
+    let (arenas, rest) = read_field(words, MOST_ARENAS)?;
+    let layout = layout_of(version);
     let granules = whole_number(rest, u64::from(layout.most_granules))?;
     if arenas == 0 || granules < u64::from(layout.least_granules) {
         return None;
     }
-    Some(PoolSize {
+    let pool = PoolSize {
+        version,
         arenas: arenas as u32,
         granules: granules as u32,
-    })
+    };
+    if all_granules(pool.arenas, pool.granules) > POOL_GRANULES {
+        return None;
+    }
+    Some(pool)
+}
+
+/// The pool that a line says; none where it says no pool.
+pub(crate) fn read_pool_line(line: &[u8]) -> Option<PoolSize>
+    ensures { MatchOption result ((pool : PoolSize) → ¬ (IsPoolLine line.now pool)) (λ pool. IsPoolLine line.now pool) }
+{
+    match after(line, b"pool2 ") {
+        Some(words) => read_pool_of(2, words),
+        None => read_pool_of(1, after(line, b"pool ")?),
+    }
 }
 
 /// Two numbers with a space between, of 32 bits and of at most `most`; none where the words are something else.

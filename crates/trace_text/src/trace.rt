@@ -11,12 +11,26 @@ use pmem_lines::OutOfMemory;
 use std::alloc::Global;
 use thiserror::Error;
 
-/// What a trace says: how many arenas the pool has, how many granules each arena has, and the calls in order.
+/// What a trace says: the pool's version, how many arenas it has, how many granules each arena has, and the calls in order.
 #[derive(Debug, Drop)]
 pub struct Trace {
+    pub version: u32,
     pub arenas: u32,
     pub granules: u32,
     pub calls: Vec<TraceCall>,
+}
+
+impl Trace {
+    /// The pool that its calls are made on.
+    pub fn pool(&self) -> PoolSize
+        ensures { result ≡ pool_of self.now }
+    {
+        PoolSize {
+            version: self.version,
+            arenas: self.arenas,
+            granules: self.granules,
+        }
+    }
 }
 
 /// Why a text gives no trace.
@@ -114,8 +128,9 @@ fn read_calls(
 }
 
 /// Reads the text of a trace: lines, each ended by a line feed that the last one may lack, of which those that are empty
-/// or begin with `#` are passed over. The first of the others is `pool A G` with A from 1 to 16 arenas of G granules,
-/// as many as version 1 allows. Each after it is a call of thread T, from 0 to 63, in arena B, below A: `T B m R S` asks
+/// or begin with `#` are passed over. The first of the others is `pool A G` or `pool2 A G`: a pool of version 1 or of version
+/// 2 that has A arenas, from 1 to 16, of G granules, as many as the version allows, and no more together than a pool may
+/// have. Each after it is a call of thread T, from 0 to 63, in arena B, below A: `T B m R S` asks
 /// for a block of S bytes for root R, `T B f R` to free the block of root R, `T B w R I X` to write X to word I of that
 /// block, `T B r R I` to read that word, and `T B v R Q` to move the block of root R to root Q. S and X are numbers of 64
 /// bits, the roots and I of 32. A text that is no trace is refused with the number of its first line outside this grammar,
@@ -132,6 +147,7 @@ pub fn read_trace(alloc: Global, bytes: &[u8]) -> Result<Trace, TraceFault>
         Ok(behind) => {
             let calls = read_calls(alloc, behind.pool.arenas, behind.rest, behind.many)?;
             Ok(Trace {
+                version: behind.pool.version,
                 arenas: behind.pool.arenas,
                 granules: behind.pool.granules,
                 calls,

@@ -10,14 +10,14 @@ pub has_block-has-requires-clause-root : goal.has_block-has-requires-clause-root
 has_block-has-requires-clause-root c =
     let image = c.in_ok-image.image.items in
     let left = left_behind c.args.device.now c.args.entry.now c.args.done image c.requires.behind c.in_ok-image.ensures.one in
-    rw c.root_of.ensures (root-fits (version_in image) (root_of c.args.entry.now.call) (below_left c.args.device.now c.args.entry.now image c.requires.behind left.steady.formed))
+    rw c.root_of.ensures (root-fits (version_in image) (root_of c.args.entry.now.call) (below_left c.args.device.now c.args.entry.now image c.requires.behind left.bounds))
 
 pub has_block-has-requires-clause-inside : goal.has_block-has-requires-clause-inside
 has_block-has-requires-clause-inside c =
     let image = c.in_ok-image.image.items in
     let left = left_behind c.args.device.now c.args.entry.now c.args.done image c.requires.behind c.in_ok-image.ensures.one in
     subst (λ (words : List ℕ). root_word c.root_of.result < length words) (sym c.deref.ensures.value)
-    (rw c.root_of.ensures (root-inside image (root_of c.args.entry.now.call) left.steady.formed (below_left c.args.device.now c.args.entry.now image c.requires.behind left.steady.formed)))
+    (rw c.root_of.ensures (root-inside image (root_of c.args.entry.now.call) left.steady.formed (below_left c.args.device.now c.args.entry.now image c.requires.behind left.bounds)))
 
 pub returns : goal.returns
 returns c =

@@ -3,7 +3,8 @@ use Rattle.pmem_lines.specs.Pmem.{PmemState}
 use Rattle.arena_core.specs.Arena.{ArenaState}
 use Rattle.trace_text.specs.declared.call.TraceCall.{TraceCall}
 use Rattle.trace_text.specs.Grammar.{pool_of}
-use Rattle.trace_runs.specs.Arenas.{header_for}
+use Rattle.trace_text.specs.declared.call.PoolSize.{PoolSize}
+use Rattle.trace_runs.specs.Arenas.{header_for, IsNewArena}
 use Rattle.trace_runs.specs.Calls.{calls_of, HasMadeAll}
 use Rattle.trace_runs.specs.Journals.{IsRunThrough}
 use Rattle.trace_runs.specs.Runs.{GoesOn}
@@ -15,8 +16,9 @@ returns g c =
     let header = header_for (pool_of c.args.trace.now) c.args.arena in
     let calls = c.args.trace.now.calls.items in
     let first : ArenaState = c.in_ok-made.made in
+    let new : IsNewArena header first = subst (λ (p : PoolSize). IsNewArena (header_for p c.args.arena) first) c.pool.ensures c.in_ok-made.ensures in
     let now : ArenaState = c.make_calls.new.made in
     let made : HasMadeAll first now (calls_of c.args.arena calls) = subst (λ (cs : List TraceCall). HasMadeAll first now (calls_of c.args.arena cs)) c.deref.ensures.value c.make_calls.ensures.made in
     let gone : GoesOn (calls_of c.args.arena calls) first now = subst (λ (cs : List TraceCall). GoesOn (calls_of c.args.arena cs) first now) c.deref.ensures.value c.make_calls.ensures.gone in
     subst (λ (s : PmemState). IsRunThrough header (calls_of c.args.arena calls) s) (sym c.into_pmem.ensures.device)
-    (IsRunThrough-gone header calls c.args.arena first now c.in_ok-made.ensures c.requires.few made (gone header c.in_ok-made.ensures))
+    (IsRunThrough-gone header calls c.args.arena first now new c.requires.few made (gone header new))
