@@ -1,2 +1,4 @@
 pub mod Lines
 pub mod Faults
+pub mod Pieces
+pub mod Migrations

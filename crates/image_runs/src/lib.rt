@@ -5,10 +5,16 @@
 // the definitions of `pool_layout`, `image_defects` and `trace_text`. It needs no memory device: an image is judged by its
 // words alone. `recover_heap` recovers an arena over a device that has its words, and gives its blocks, which are those of
 // the words; `recover_arena` is what `recover` does for each arena, and has the lines of the heap (`specs/Recoveries.antt`).
+// `migrate_pool` is what `migrate` does: it gives the bytes of one migration of each arena, or why there is none
+// (`specs/Migrations.antt`). `add_bytes` makes bytes of words, piece by piece.
 #![tactic(auto)]
 
+mod bytes;
 mod checking;
+mod migrating;
 mod recovering;
 
+pub use bytes::{add_bytes, new_piece};
 pub use checking::check_pool;
+pub use migrating::{PoolMigrateFault, migrate_pool};
 pub use recovering::{Recovered, recover_arena, recover_heap};

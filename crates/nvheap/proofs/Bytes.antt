@@ -1,10 +1,8 @@
 -- Bytes that a source gives and a sink takes, piece by piece.
-use Rattle.std.proofs.Common.{◌≡◌, ℕ, zero, suc, ◌+◌, ◌-◌, List, [], ◌∷◌, ◌++◌, length, take, drop, flat_map, Option, Some, None, sym, ap, ◌∙◌, refl, arith, subst, append_assoc}
+use Rattle.std.proofs.Common.{◌≡◌, ℕ, zero, suc, ◌+◌, ◌-◌, List, [], ◌∷◌, ◌++◌, length, take, drop, Option, Some, None, sym, ap, ◌∙◌, refl, arith, subst, append_assoc}
 use Rattle.std.proofs.lemmas.List.{append-nil, take_all, take_rest}
-use Rattle.std.specs.Int.{to_le_bytes, w64}
-use Rattle.std.proofs.lemmas.Grind.{common_steps, flat_map-append}
+use Rattle.std.proofs.lemmas.Grind.{common_steps}
 use Rattle.pmem_lines.specs.Words.{words_at}
-use Rattle.pool_layout.specs.Bytes.{bytes_of_words}
 use Rattle.nvheap.specs.Outside.{Gives, Takes, TakesFront}
 
 -- a front is a shorter front and what follows it
@@ -58,8 +56,3 @@ Takes-further a b c text done n first second =
 pub all_words : (words : List ℕ) (n : ℕ) → n ≡ length words → words_at words 0 n ≡ words
 unfolding words_at
 all_words words n all = take_all n words (omega (arith, all))
-
--- the bytes of words, one piece further
-pub bytes_of_words-further : (words : List ℕ) (n m : ℕ) → bytes_of_words (words_at words 0 (n + m)) ≡ bytes_of_words (words_at words 0 n) ++ bytes_of_words (words_at words n m)
-unfolding words_at bytes_of_words
-bytes_of_words-further words n m = ap (flat_map (to_le_bytes w64)) (take-add n m words) ∙ flat_map-append (to_le_bytes w64) (take n words) (take m (drop n words))

@@ -14,7 +14,7 @@ use Rattle.trace_runs.specs.Calls.{calls_of}
 use Rattle.trace_runs.specs.Journals.{IsRunThrough}
 use Rattle.trace_workers.specs.Reports.{AreNew}
 use Rattle.nvheap.specs.Outside.{put_device, put_devices}
-use Rattle.nvheap.specs.Answers.{AreRunThrough, images_of}
+use Rattle.nvheap.specs.Imaging.{AreRunThrough, images_of}
 
 -- the last device is put first
 pub put_devices-last : (places : Option (List (Option PmemState))) (arena : ℕ) (devices : List PmemState) (last : PmemState) →
@@ -69,7 +69,7 @@ AreRunThrough-pushed state pool calls devices last arena many are run =
     (AreRunThrough-more pool calls 0 (map state devices) (state last) are (subst (λ n. IsRunThrough (header_for pool n) (calls_of n calls) (state last)) here run))
 
 -- the words of a sound image are as many as a device may have
-pub few_words : (words : List ℕ) → IsSoundImage words → (length words ≤ 2097152) × (32768 ≤ length words) × (length words % 8 ≡ 0)
+pub few_words : (words : List ℕ) → IsSoundImage words → (length words ≤ 8388608) × (32768 ≤ length words) × (length words % 8 ≡ 0)
 few_words words sound =
     let sizes = sizes_of words sound.formed in
     (omega (arith, sizes.size, sizes.most), omega (arith, sizes.size, sizes.least), omega (arith, sizes.size))

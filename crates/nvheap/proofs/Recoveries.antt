@@ -7,7 +7,7 @@ use Rattle.pool_layout.specs.declared.defect.Defect.{Defect as Found}
 use Rattle.pool_layout.specs.declared.image.ImageFault.{ImageFault}
 use Rattle.pool_layout.specs.Image.{part_of, header_of_arena, IsFirstHeader, IsPoolImage, IsImageOf, IfDefect}
 use Rattle.pool_layout.specs.Layout.{layout_of}
-use Rattle.pool_layout.specs.Header.{fields_of}
+use Rattle.pool_layout.specs.Header.{version_field, fields_of, version_in}
 use Rattle.pool_layout.proofs.Layouts.{layout_rules}
 use Rattle.pool_layout.proofs.Headers.{fields_of-header_word, header_fits}
 use Rattle.heap_check.specs.Image.{IsSoundImage}
@@ -18,7 +18,7 @@ use Rattle.image_runs.specs.Checks.{IsOwnDefect, IsPoolDefect}
 use Rattle.image_runs.specs.Recoveries.{heap_lines, heaps_from}
 use Rattle.image_runs.proofs.Faults.{wider}
 use Rattle.nvheap.specs.Outside.{put_device}
-use Rattle.nvheap.specs.Answers.{HasRecovered, HasUnsoundFrom, AnswersRecover}
+use Rattle.nvheap.specs.Recovering.{HasRecovered, HasUnsoundFrom, AnswersRecover}
 
 split : (a b : ℕ) → a ≤ b → (a ≡ b) ⊎ (a + 1 ≤ b)
 split a b low = ⊎_elim (λ (h : a < b). inr (omega (arith, h))) (λ (h : b ≤ a). inl (omega (arith, h, low))) (cases_lt a b)
@@ -102,6 +102,12 @@ pool_room words header arena room pool below is found here =
     let same : found ≡ own =
     sym (fields_of-header_word found (header_fits found here.valid)) ∙ ap (λ word. fields_of word) (sym here.word ∙ line.word) ∙ fields_of-header_word own (header_fits own line.valid) in
     omega (arith, is, ap (λ (h : PoolHeader). (layout_of h.version).room) same)
+
+-- a device that has the words of an image, and the room of their version
+pub version_room : (words : List ℕ) (room : ℕ) → room ≡ (layout_of (version_in words)).room → HasVersionRoom (fresh words room)
+version_room words room is header here =
+    let version : version_in words ≡ header.version = ap version_field here.word ∙ ap (λ (h : PoolHeader). h.version) (fields_of-header_word header (header_fits header here.valid)) in
+    omega (arith, is, ap (λ v. (layout_of v).room) version)
 
 -- all arenas of a pool
 pub answers_by : (bytes words empty text : List ℕ) (image : IsImageOf bytes words) (old new : Option (List (Option PmemState))) → empty ≡ [] →

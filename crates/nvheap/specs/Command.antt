@@ -1,73 +1,74 @@
 -- The words of the program.
-use Rattle.std.specs.Prelude.{◌≡◌, ℕ, ◌<◌, ◌≤◌, ◌^◌, List, [], ◌∷◌, decimal, codes}
+use Rattle.std.specs.Prelude.{◌≡◌, ℕ, ◌<◌, ◌≤◌, ◌^◌, List, [], ◌∷◌, map, None, T, decimal, codes}
 use Rattle.nvheap.specs.declared.command.Command.{Command}
-use Rattle.nvheap.specs.declared.command.Command.TheVariants.{Replay, Image, Check, Recover, Crash, Gen}
+use Rattle.nvheap.specs.declared.command.Command.TheVariants.{Replay, Image, Check, Recover, Crash, Gen, Migrate}
+use Rattle.nvheap.specs.Meaning.{Meaning}
+use Rattle.nvheap.specs.Replaying.{replaying}
+use Rattle.nvheap.specs.Imaging.{imaging}
+use Rattle.nvheap.specs.Checking.{checking}
+use Rattle.nvheap.specs.Recovering.{recovering}
+use Rattle.nvheap.specs.Crashing.{crashing}
+use Rattle.nvheap.specs.Generating.{generating}
+use Rattle.nvheap.specs.Migrating.{migrating}
 
--- these texts are the numbers of a crash, each in its one decimal form
-abbrev pub SaysCrash : List ℕ → List ℕ → List ℕ → Command → Type 0
-SaysCrash first second third Replay = ⊥
-SaysCrash first second third Image = ⊥
-SaysCrash first second third Check = ⊥
-SaysCrash first second third Recover = ⊥
-SaysCrash first second third (Crash arena event seed) =
-    (first ≡ decimal arena) × (second ≡ decimal event) × (third ≡ decimal seed) × (arena < 16) × (event < 2 ^ 64) × (seed < 2 ^ 64)
-SaysCrash first second third (Gen count seed) = ⊥
+-- a command: its first word, the numbers behind it and which they may be, and what it means
+pub record Row : Type 1 where
+  pub text : List ℕ
+  pub numbers : List ℕ
+  pub fits : Type 0
+  pub meaning : Meaning
 
--- these texts are the numbers of no crash
-abbrev pub IsNoCrash : List ℕ → List ℕ → List ℕ → Type 0
-IsNoCrash first second third = (command : Command) → ¬ (SaysCrash first second third command)
+-- a command of one word
+abbrev pub alone : List ℕ → Meaning → Row
+alone text meaning = record { text = text; numbers = []; fits = Unit {0}; meaning = meaning }
 
--- these texts are the numbers of generated work, each in its one decimal form
-abbrev pub SaysGen : List ℕ → List ℕ → Command → Type 0
-SaysGen first second Replay = ⊥
-SaysGen first second Image = ⊥
-SaysGen first second Check = ⊥
-SaysGen first second Recover = ⊥
-SaysGen first second (Crash arena event seed) = ⊥
-SaysGen first second (Gen count seed) = (first ≡ decimal count) × (second ≡ decimal seed) × (1 ≤ count) × (count ≤ 1000000) × (seed < 2 ^ 64)
+-- the table: each command has one row
+abbrev pub row_of : Command → Row
+row_of Replay = alone (codes "replay") replaying
+row_of Image = alone (codes "image") imaging
+row_of Check = alone (codes "check") checking
+row_of Recover = alone (codes "recover") recovering
+row_of (Crash arena event seed) = record { text = codes "crash"; numbers = arena ∷ event ∷ seed ∷ []; fits = arena < 16; meaning = crashing arena event seed }
+row_of (Gen count seed) = record { text = codes "gen"; numbers = count ∷ seed ∷ []; fits = (1 ≤ count) × (count ≤ 1000000); meaning = generating count seed }
+row_of Migrate = alone (codes "migrate") migrating
 
--- these texts are the numbers of no generated work
-abbrev pub IsNoGen : List ℕ → List ℕ → Type 0
-IsNoGen first second = (command : Command) → ¬ (SaysGen first second command)
+-- what a command means
+abbrev pub meaning_of : Command → Meaning
+meaning_of command = (row_of command).meaning
 
--- the words say this command
-abbrev pub IsCommand : List (List ℕ) → Command → Type 0
-IsCommand words Replay = words ≡ codes "replay" ∷ []
-IsCommand words Image = words ≡ codes "image" ∷ []
-IsCommand words Check = words ≡ codes "check" ∷ []
-IsCommand words Recover = words ≡ codes "recover" ∷ []
-IsCommand words (Crash arena event seed) =
-    (words ≡ codes "crash" ∷ decimal arena ∷ decimal event ∷ decimal seed ∷ []) × (arena < 16) × (event < 2 ^ 64) × (seed < 2 ^ 64)
-IsCommand words (Gen count seed) =
-    (words ≡ codes "gen" ∷ decimal count ∷ decimal seed ∷ []) × (1 ≤ count) × (count ≤ 1000000) × (seed < 2 ^ 64)
+-- each of these numbers has 64 bits
+abbrev pub AreNumbers : List ℕ → Type 0
+AreNumbers [] = Unit {0}
+AreNumbers (number ∷ numbers) = (number < 2 ^ 64) × AreNumbers numbers
+
+-- the words say this command: its first word, and its numbers, each in its one decimal form
+pub record IsCommand (words : List (List ℕ)) (command : Command) : Type 0 where
+  pub text : words ≡ (row_of command).text ∷ map decimal (row_of command).numbers
+  pub numbers : AreNumbers (row_of command).numbers
+  pub fits : (row_of command).fits
 
 -- the words say no command
 abbrev pub IsNoCommand : List (List ℕ) → Type 0
 IsNoCommand words = (command : Command) → ¬ (IsCommand words command)
 
+-- the words say a command that this holds of
+pub record IsSaid (words : List (List ℕ)) (Holds : Command → Type 0) : Type 0 where
+  pub command : Command
+  pub said : IsCommand words command
+  pub holds : Holds command
+
 -- the command recovers what an image says, on devices that the shelf makes of images
 abbrev pub Recovers : Command → Type 0
-Recovers Replay = ⊥
-Recovers Image = ⊥
-Recovers Check = ⊥
-Recovers Recover = Unit {0}
-Recovers (Crash arena event seed) = Unit {0}
-Recovers (Gen count seed) = ⊥
+Recovers command = T (meaning_of command).recovers
 
 -- the command has workers, and may wait
 abbrev pub MayWait : Command → Type 0
-MayWait Replay = Unit {0}
-MayWait Image = ⊥
-MayWait Check = ⊥
-MayWait Recover = ⊥
-MayWait (Crash arena event seed) = ⊥
-MayWait (Gen count seed) = Unit {0}
+MayWait command = T (meaning_of command).waits
+
+-- the command leaves the shelf as it is, as a whole
+abbrev pub IsIdle : Command → Type 0
+IsIdle command = T (meaning_of command).idle
 
 -- the command reads no input
 abbrev pub ReadsNone : Command → Type 0
-ReadsNone Replay = ⊥
-ReadsNone Image = ⊥
-ReadsNone Check = ⊥
-ReadsNone Recover = ⊥
-ReadsNone (Crash arena event seed) = ⊥
-ReadsNone (Gen count seed) = Unit {0}
+ReadsNone command = (meaning_of command).reads ≡ None

@@ -1,42 +1,30 @@
 -- What a command reads, and how much of it.
 use Rattle.std.specs.Prelude.{◌≡◌, ◌*◌, ◌<◌, ◌≤◌, ◌^◌, ℕ, List, [], length, Option, Some, None}
-use Rattle.pool_layout.specs.Layout.{layout_of}
+use Rattle.pool_layout.specs.Layout.{pool_granules}
 use Rattle.pool_layout.specs.Image.{AreWordsOf}
-use Rattle.nvheap.specs.declared.command.Command.{Command}
-use Rattle.nvheap.specs.declared.command.Command.TheVariants.{Replay, Image, Check, Recover, Crash, Gen}
+use Rattle.nvheap.specs.declared.input.Kind.{Kind}
+use Rattle.nvheap.specs.declared.input.Kind.TheVariants as kinds
 use Rattle.nvheap.specs.declared.input.Input.{Input}
 use Rattle.nvheap.specs.declared.input.Input.TheVariants.{Text, Pool}
 use Rattle.nvheap.specs.Outside.{Gives, GivesAll, GivesFew, GivesMore}
 
--- the two kinds of input
-abbrev pub IsText : Input → Type 0
-IsText (Text text) = Unit {0}
-IsText (Pool words size) = ⊥
+-- the most bytes that a text may have
+unfoldable pub longest_text : ℕ
+longest_text = 67108864
 
-abbrev pub IsPool : Input → Type 0
-IsPool (Text text) = ⊥
-IsPool (Pool words size) = Unit {0}
-
--- the most bytes that a trace may have
-unfoldable pub longest_trace : ℕ
-longest_trace = 67108864
-
--- the most bytes that the image of a pool of a version may have: those of 16 arenas, each of the most granules
-abbrev pub greatest_image : ℕ → ℕ
-greatest_image version = 16 * (16384 * (layout_of version).most_granules)
-
--- the most bytes that an image may have
+-- the most bytes that the image of a pool may have: those of the granules that all arenas of a pool have together at most
 unfoldable pub longest_image : ℕ
-longest_image = greatest_image 1
+longest_image = 16384 * pool_granules
 
--- the most bytes that a command's input may have; a command that reads no input has no such limit
-abbrev pub limit_of : Command → Option ℕ
-limit_of Replay = Some longest_trace
-limit_of Image = Some longest_trace
-limit_of Check = Some longest_image
-limit_of Recover = Some longest_image
-limit_of (Crash arena event seed) = Some longest_trace
-limit_of (Gen count seed) = None
+-- the most bytes that an input of a kind may have
+abbrev pub longest : Kind → ℕ
+longest kinds.Text = longest_text
+longest kinds.Pool = longest_image
+
+-- how much is read at most; where no input is read, there is no such limit
+abbrev pub limit_of : Option Kind → Option ℕ
+limit_of (Some kind) = Some (longest kind)
+limit_of None = None
 
 -- the input, within its limit, is what the source has left
 abbrev pub HasLeft : Option ℕ → Option (List ℕ) → List ℕ → Type 0
@@ -71,20 +59,23 @@ pub record IsInput (input : Input) : Type 0 where
   pub has : HasBytes input bytes
   pub short : length bytes < 2 ^ 32
 
--- a command reads an input of this kind; generated work reads none
-abbrev pub Fits : Command → Input → Type 0
-Fits Replay input = IsText input
-Fits Image input = IsText input
-Fits Check input = IsPool input
-Fits Recover input = IsPool input
-Fits (Crash arena event seed) input = IsText input
-Fits (Gen count seed) input = ⊥
+-- it is of this kind
+abbrev pub IsOfKind : Kind → Input → Type 0
+IsOfKind kinds.Text (Text text) = Unit {0}
+IsOfKind kinds.Text (Pool words size) = ⊥
+IsOfKind kinds.Pool (Text text) = ⊥
+IsOfKind kinds.Pool (Pool words size) = Unit {0}
 
--- the input was read: its bytes were all that the source had, within the command's limit
-pub record IsRead (command : Command) (old new : Option (List ℕ)) (input : Input) : Type 0 where
+-- it is of the kind that is read
+abbrev pub Fits : Option Kind → Input → Type 0
+Fits (Some kind) input = IsOfKind kind input
+Fits None input = ⊥
+
+-- it was read: its bytes were all that the source had, within the limit of what is read
+pub record IsRead (reads : Option Kind) (old new : Option (List ℕ)) (input : Input) : Type 0 where
   pub bytes : List ℕ
   pub has : HasBytes input bytes
-  pub read : HasRead (limit_of command) old new bytes
+  pub read : HasRead (limit_of reads) old new bytes
 
 -- for the functions below
 

@@ -1,6 +1,14 @@
 pub mod Outside
-pub mod Command
 pub mod Inputs
-pub mod Answers
+pub mod Causes
+pub mod Meaning
+pub mod Traces
+pub mod Replaying
+pub mod Imaging
+pub mod Checking
+pub mod Recovering
+pub mod Crashing
+pub mod Generating
+pub mod Migrating
+pub mod Command
 pub mod Ends
-pub mod Accepted

@@ -1,24 +1,21 @@
 // What each command has to say of its input.
-ghost use Rattle.std.specs.Prelude.{◌≡◌, ◌≤◌, ℕ, List, Option, length, IfOk, IfErr, OnErr};
+ghost use Rattle.std.specs.Prelude.{◌≡◌, ◌≤◌, ℕ, List, length, IfOk, IfErr, OnErr};
 ghost use Rattle.std.specs.List.{All};
-ghost use Rattle.pmem_lines.specs.Pmem.{PmemState};
-ghost use Rattle.nvheap.specs.declared.command.Command.TheVariants as commands;
-ghost use Rattle.pool_layout.specs.Image.{AreWordsOf, AreWords};
-ghost use Rattle.nvheap.specs.Command.{MayWait, Recovers};
-ghost use Rattle.nvheap.specs.Inputs.{HasBytes, IsInput, Fits};
 ghost use Rattle.trace_text.specs.Grammar.{pool_of, IsPool, IsTrace, IsTraceCall};
+ghost use Rattle.nvheap.specs.Command.{meaning_of, MayWait, Recovers, IsIdle};
+ghost use Rattle.nvheap.specs.Inputs.{HasBytes, IsInput, Fits};
 ghost use Rattle.nvheap.specs.Ends.{IsAnswer, CountsImages, IsFaultLine, IsBadLine};
 
 use crate::cause::{Cause, write_cause};
+use crate::checking::check_answer;
 use crate::command::Command;
 use crate::crashing::crash_answer;
 use crate::imaging::image_answer;
 use crate::input::Input;
+use crate::migrating::migrate_answer;
 use crate::recovering::recover_answer;
 use crate::shelf::Shelf;
-use image_runs::check_pool;
 use pmem_lines::OutOfMemory;
-use pool_layout::ImageFault;
 use std::alloc::Global;
 use trace_text::{Refusal, Trace, TraceFault, read_trace};
 
@@ -39,13 +36,13 @@ pub(crate) fn answer_to<H: Shelf>(
     shelf: &mut H,
 ) -> Result<Answer, OutOfMemory>
     requires returns { ¬ (MayWait command) }
-    requires fits { Fits command input.now }
+    requires fits { Fits (meaning_of command).reads input.now }
     requires input { IsInput input.now }
-    ensures answer { IfOk result (λ answer. (bytes : List ℕ) → HasBytes input.now bytes → IsAnswer command bytes (H.places shelf.old) (H.places shelf.new) answer) }
-    ensures counts { IfOk result (λ answer. (bytes : List ℕ) → HasBytes input.now bytes → CountsImages command bytes (H.images shelf.old) (H.images shelf.new) answer) }
+    ensures answer { IfOk result (λ answer. (bytes : List ℕ) → HasBytes input.now bytes → IsAnswer (meaning_of command) bytes (H.places shelf.old) (H.places shelf.new) answer) }
+    ensures counts { IfOk result (λ answer. (bytes : List ℕ) → HasBytes input.now bytes → CountsImages (meaning_of command) bytes (H.images shelf.old) (H.images shelf.new) answer) }
     ensures kept { OnErr result (H.places shelf.new ≡ H.places shelf.old) }
     ensures images { ¬ (Recovers command) → H.images shelf.new ≡ H.images shelf.old }
-    ensures idle { command ≡ commands.Check → shelf.new ≡ shelf.old }
+    ensures idle { IsIdle command → shelf.new ≡ shelf.old }
 {
     match (command, input) {
         (Command::Image, Input::Text(text)) => image_answer(alloc, text, shelf),
@@ -56,22 +53,8 @@ pub(crate) fn answer_to<H: Shelf>(
         (Command::Crash { arena, event, seed }, Input::Text(text)) => {
             crash_answer(alloc, text, arena, event, seed, shelf)
         }
+        (Command::Migrate, Input::Pool { words, bytes }) => migrate_answer(alloc, words, *bytes),
         _ => unreachable!(),
-    }
-}
-
-// What each arena of a pool's image has.
-fn check_answer(alloc: Global, words: &[u64], bytes: u64) -> Result<Answer, OutOfMemory>
-    requires { AreWords words.now bytes }
-    ensures { IfOk result (λ answer. (image : List ℕ) (places : Option (List (Option PmemState))) → AreWordsOf words.now bytes image → IsAnswer commands.Check image places places answer) }
-{
-    match check_pool(alloc, words, bytes) {
-        Ok(text) => Ok(Answer::Output(text)),
-        Err(ImageFault::Defect { arena, defect }) => fault_line(
-            alloc,
-            Cause::Image { arena, defect },
-        ),
-        Err(ImageFault::Memory(fault)) => Err(fault),
     }
 }
 
@@ -89,7 +72,7 @@ pub(crate) fn trace_of(alloc: Global, input: &[u8]) -> Result<Trace, Result<Answ
         Err(TraceFault::Memory(fault)) => Err(Err(fault)),
         Err(TraceFault::BadLine { line }) => Err(fault_line(
             alloc,
-            Cause::Trace(Refusal::BadLine { line }),
+            Cause::Text(Refusal::BadLine { line }),
         )),
     }
 }

@@ -1,7 +1,8 @@
 // The words of the program.
-ghost use Rattle.std.specs.Prelude.{◌≡◌, ◌↔◌, [], ◌∷◌, IsTrue, map, string_bytes, MatchOption};
-ghost use Rattle.nvheap.specs.Command.{IsCommand, IsNoCommand, SaysCrash, IsNoCrash, SaysGen, IsNoGen};
+ghost use Rattle.std.specs.Prelude.{◌≡◌, ◌↔◌, [], ◌∷◌, IsTrue, codes, map, string_bytes, MatchOption};
+ghost use Rattle.nvheap.specs.Command.{meaning_of, IsCommand, IsNoCommand};
 
+use crate::input::Kind;
 use trace_text::whole_number;
 
 /// What the words after the program's name ask for.
@@ -19,9 +20,24 @@ pub enum Command {
     Crash { arena: u32, event: u64, seed: u64 },
     /// Run so many generated calls, from 1 to 1,000,000, and print what they came to.
     Gen { count: u32, seed: u64 },
+    /// Migrate the image of a pool of version 1, and write that of the pool of version 2.
+    Migrate,
 }
 
 const MOST_CALLS: u64 = 1_000_000;
+
+impl Command {
+    /// The kind of input that it reads; none where it reads none.
+    pub(crate) fn reads(self) -> Option<Kind>
+        ensures { result ≡ (meaning_of self).reads }
+    {
+        match self {
+            Command::Replay | Command::Image | Command::Crash { .. } => Some(Kind::Text),
+            Command::Check | Command::Recover | Command::Migrate => Some(Kind::Pool),
+            Command::Gen { .. } => None,
+        }
+    }
+}
 
 /// The command that the words say, if they say one.
 pub(crate) fn command_of(words: &[String]) -> Option<Command>
@@ -59,6 +75,9 @@ fn plain_command(word: &String) -> Option<Command>
     if is_word(word, "recover") {
         return Some(Command::Recover);
     }
+    if is_word(word, "migrate") {
+        return Some(Command::Migrate);
+    }
     None
 }
 
@@ -71,7 +90,7 @@ fn is_word(word: &String, text: &str) -> bool
 
 // The crash that these three numbers ask for, if they are numbers.
 fn crash_of(arena: &[u8], event: &[u8], seed: &[u8]) -> Option<Command>
-    ensures { MatchOption result (IsNoCrash arena.now event.now seed.now) (SaysCrash arena.now event.now seed.now) }
+    ensures { MatchOption result (IsNoCommand (codes "crash" ∷ arena.now ∷ event.now ∷ seed.now ∷ [])) (IsCommand (codes "crash" ∷ arena.now ∷ event.now ∷ seed.now ∷ [])) }
 {
     let arena = whole_number(arena, 15)?;
     let event = whole_number(event, u64::MAX)?;
@@ -85,7 +104,7 @@ fn crash_of(arena: &[u8], event: &[u8], seed: &[u8]) -> Option<Command>
 
 // The generated work that these two numbers ask for, if they are numbers, and not of no calls.
 fn gen_of(count: &[u8], seed: &[u8]) -> Option<Command>
-    ensures { MatchOption result (IsNoGen count.now seed.now) (SaysGen count.now seed.now) }
+    ensures { MatchOption result (IsNoCommand (codes "gen" ∷ count.now ∷ seed.now ∷ [])) (IsCommand (codes "gen" ∷ count.now ∷ seed.now ∷ [])) }
 {
     let count = whole_number(count, MOST_CALLS)?;
     let seed = whole_number(seed, u64::MAX)?;

@@ -1,11 +1,12 @@
 // What `crash` has to say of its input, and the device that it leaves.
 ghost use Rattle.std.specs.Prelude.{◌≡◌, ◌<◌, IfOk, OnOk, OnErr};
 ghost use Rattle.pmem_lines.specs.Pmem.{risen};
+ghost use Rattle.pool_layout.specs.Layout.{layout_of};
+ghost use Rattle.pool_layout.specs.Header.{version_in};
 ghost use Rattle.heap_check.specs.Image.{IsSoundImage};
 ghost use Rattle.trace_text.specs.Report.{crash_text};
 ghost use Rattle.trace_runs.specs.Blocks.{blocks_in};
-ghost use Rattle.nvheap.specs.declared.command.Command.TheVariants as commands;
-ghost use Rattle.nvheap.specs.Answers.{PutsRecovered};
+ghost use Rattle.nvheap.specs.Crashing.{PutsRecovered, crashing};
 ghost use Rattle.nvheap.specs.Ends.{IsAnswer, CountsImages};
 
 use crate::answers::{Answer, fault_line, trace_of};
@@ -13,14 +14,11 @@ use crate::cause::Cause;
 use crate::shelf::Shelf;
 use image_runs::recover_heap;
 use pmem_lines::OutOfMemory;
-use pool_layout::layout_of;
+use pool_layout::{header_of, layout_of};
 use recover::RecoverFault;
 use std::alloc::Global;
 use trace_crashes::{CrashFault, Crashed, crash};
 use trace_text::{Refusal, write_crash};
-
-// The version of a trace's arenas.
-const VERSION: u32 = 1;
 
 /// The report of what a crash leaves after an event of the calls of an arena of a trace. The image is recovered on a device
 /// of the shelf, which is put into the place of the arena's number; its heap is reported.
@@ -32,8 +30,8 @@ pub(crate) fn crash_answer<H: Shelf>(
     seed: u64,
     shelf: &mut H,
 ) -> Result<Answer, OutOfMemory>
-    ensures answer { IfOk result (IsAnswer (commands.Crash arena event seed) input.now (H.places shelf.old) (H.places shelf.new)) }
-    ensures counts { IfOk result (CountsImages (commands.Crash arena event seed) input.now (H.images shelf.old) (H.images shelf.new)) }
+    ensures answer { IfOk result (IsAnswer (crashing arena event seed) input.now (H.places shelf.old) (H.places shelf.new)) }
+    ensures counts { IfOk result (CountsImages (crashing arena event seed) input.now (H.images shelf.old) (H.images shelf.new)) }
     ensures kept { OnErr result (H.places shelf.new ≡ H.places shelf.old) }
 {
     let trace = match trace_of(alloc, input) {
@@ -43,7 +41,7 @@ pub(crate) fn crash_answer<H: Shelf>(
     if arena >= trace.arenas {
         return fault_line(
             alloc,
-            Cause::Trace(Refusal::NoArena {
+            Cause::Text(Refusal::NoArena {
                 arena: u64::from(arena),
                 arenas: u64::from(trace.arenas),
             }),
@@ -53,7 +51,7 @@ pub(crate) fn crash_answer<H: Shelf>(
         Ok(crashed) => Ok(Answer::Output(recovered_report(alloc, &crashed, arena, shelf)?)),
         Err(CrashFault::NoEvent { events }) => fault_line(
             alloc,
-            Cause::Trace(Refusal::NoEvent { event, events }),
+            Cause::Text(Refusal::NoEvent { event, events }),
         ),
         Err(CrashFault::Memory(fault)) => Err(fault),
     }
@@ -73,7 +71,8 @@ fn recovered_report<H: Shelf>(
     ensures images { OnOk result (H.images shelf.new ≡ risen (H.images shelf.old) 1) }
     ensures kept { OnErr result (H.places shelf.new ≡ H.places shelf.old) }
 {
-    let device = shelf.take_image(alloc, &crashed.image, layout_of(VERSION).room)?;
+    let image: &[u64] = &crashed.image;
+    let device = shelf.take_image(alloc, image, room_of(image))?;
     let recovered = match recover_heap(alloc, device) {
         Ok(recovered) => recovered,
         Err(RecoverFault::Memory(fault)) => return Err(fault),
@@ -83,4 +82,15 @@ fn recovered_report<H: Shelf>(
     write_crash(&mut text, crashed.call, crashed.side, &recovered.blocks)?;
     shelf.put(arena, recovered.device);
     Ok(text)
+}
+
+// How much room a device with the words of a sound image must have: that of its version.
+fn room_of(image: &[u64]) -> u32
+    requires { IsSoundImage image.now }
+    ensures { result ≡ (layout_of (version_in image.now)).room }
+{
+    match header_of(image) {
+        Ok(header) => layout_of(header.version).room,
+        Err(_) => unreachable!(),
+    }
 }

@@ -1,6 +1,6 @@
 // What `gen` has to say, and the devices that it leaves.
 ghost use Rattle.std.specs.Prelude.{◌≡◌, [], IfOk, OnErr};
-ghost use Rattle.nvheap.specs.declared.command.Command.TheVariants as commands;
+ghost use Rattle.nvheap.specs.Generating.{generating};
 ghost use Rattle.nvheap.specs.Ends.{IsAnswer};
 
 use crate::answers::Answer;
@@ -24,12 +24,13 @@ pub(crate) fn gen_answer<R: Threads + Wait + Sync, G: Gate + Sync, H: Shelf>(
     gate: &G,
     shelf: &mut H,
 ) -> Result<Answer, OutOfMemory>
-    ensures answer { IfOk result (IsAnswer (commands.Gen count seed) [] (H.places shelf.old) (H.places shelf.new)) }
+    ensures answer { IfOk result (IsAnswer (generating count seed) [] (H.places shelf.old) (H.places shelf.new)) }
     ensures kept { OnErr result (H.places shelf.new ≡ H.places shelf.old) }
     ensures images { H.images shelf.new ≡ H.images shelf.old }
 {
     let pool = generated_pool();
     let trace = Trace {
+        version: pool.version,
         arenas: pool.arenas,
         granules: pool.granules,
         calls: generate(alloc, count, seed)?,

@@ -1,30 +1,21 @@
 // What `image` has to say of its input, and the devices that it leaves.
-ghost use Rattle.std.specs.Prelude.{◌≡◌, ◌<◌, ◌%◌, ◌^◌, ◌++◌, length, IfOk, OnOk, OnErr};
+ghost use Rattle.std.specs.Prelude.{◌≡◌, ◌<◌, ◌^◌, length, IfOk, OnErr};
 ghost use Rattle.std.specs.List.{All};
-ghost use Rattle.pool_layout.specs.Bytes.{bytes_of_words};
 ghost use Rattle.shared_pool.specs.Rows.{each_of};
 ghost use Rattle.trace_text.specs.Grammar.{pool_of, IsPool, IsTraceCall};
-ghost use Rattle.nvheap.specs.declared.command.Command.TheVariants as commands;
-ghost use Rattle.nvheap.specs.Answers.{AreRunThrough, images_of};
+ghost use Rattle.nvheap.specs.Imaging.{AreRunThrough, images_of, imaging};
 ghost use Rattle.nvheap.specs.Ends.{IsAnswer};
 
 use crate::answers::{Answer, trace_of};
 use crate::shelf::{Shelf, put_all};
+use image_runs::{add_bytes, new_piece};
 use pmem_lines::{OutOfMemory, Pmem};
-use pool_layout::{GRANULE_BYTES, image_bytes, layout_of};
+use pool_layout::{GRANULE_BYTES, layout_of};
 use std::alloc::Global;
 use trace_runs::run_calls;
 use trace_text::Trace;
 
 const GRANULE_LINES: u32 = 256;
-
-// The version of a trace's arenas.
-const VERSION: u32 = 1;
-
-// How many bytes are made of words at once, and of how many words.
-const PIECE: usize = 4096;
-
-const PIECE_WORDS: usize = 512;
 
 // The devices that the calls of a trace leave, by arena, and the bytes of their words.
 #[derive(Drop)]
@@ -41,7 +32,7 @@ pub(crate) fn image_answer<H: Shelf>(
     shelf: &mut H,
 ) -> Result<Answer, OutOfMemory>
     requires { length input.now < 2 ^ 32 }
-    ensures answer { IfOk result (IsAnswer commands.Image input.now (H.places shelf.old) (H.places shelf.new)) }
+    ensures answer { IfOk result (IsAnswer imaging input.now (H.places shelf.old) (H.places shelf.new)) }
     ensures kept { OnErr result (H.places shelf.new ≡ H.places shelf.old) }
     ensures images { H.images shelf.new ≡ H.images shelf.old }
 {
@@ -73,10 +64,10 @@ fn run_arenas<H: Shelf>(
     let mut piece = new_piece(alloc)?;
     let mut devices = Vec::new(alloc);
     for arena in 0..trace.arenas {
-        let room = layout_of(VERSION).room;
+        let room = layout_of(trace.version).room;
         let device = shelf.take(alloc, GRANULE_LINES * trace.granules, room)?;
         let device = run_calls(alloc, trace, arena, device)?;
-        add_words(&mut bytes, device.words(0, device.size_words()), &mut piece)?;
+        add_bytes(&mut bytes, device.words(0, device.size_words()), &mut piece)?;
         devices.push(device)?;
     }
     Ok(Images { bytes, devices })
@@ -87,27 +78,4 @@ fn size_of(trace: &Trace) -> usize
     requires { IsPool (pool_of trace.now) }
 {
     GRANULE_BYTES as usize * trace.granules as usize * trace.arenas as usize
-}
-
-// A buffer for a piece.
-fn new_piece(alloc: Global) -> Result<Vec<u8>, OutOfMemory>
-    ensures { IfOk result (λ piece. length piece.items ≡ 4096) }
-{
-    let piece = vec![in alloc; 0u8; PIECE]?;
-    Ok(piece)
-}
-
-// Adds the bytes of words, eight for each, the least first. These are whole pieces, and fewer than 2^29.
-fn add_words(bytes: &mut Vec<u8>, words: &[u64], piece: &mut [u8]) -> Result<(), OutOfMemory>
-    requires piece { length piece.old ≡ 4096 }
-    requires whole { length words.now % 512 ≡ 0 }
-    requires few { length words.now < 2 ^ 29 }
-    ensures bytes { OnOk result (bytes.new.items ≡ bytes.old.items ++ bytes_of_words words.now) }
-    ensures piece { length piece.new ≡ 4096 }
-{
-    for at in 0..(words.len() / PIECE_WORDS) as u32 {
-        image_bytes(words, PIECE_WORDS as u32 * at, piece);
-        bytes.extend_from_slice(piece)?;
-    }
-    Ok(())
 }

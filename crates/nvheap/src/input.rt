@@ -1,27 +1,29 @@
 // What a command reads.
 ghost use Rattle.std.specs.Prelude.{◌≡◌, ◌-◌, ◌<◌, ◌≤◌, ◌%◌, ◌^◌, ◌++◌, ℕ, List, [], length, take, IfOk, IfErr, OnOk, OnErr, Err};
 ghost use Rattle.nvheap.specs.Outside.{Rose, Gives, GivesFew, GivesMore, IsAtEnd};
-ghost use Rattle.nvheap.specs.Command.{ReadsNone};
-ghost use Rattle.nvheap.specs.Inputs.{limit_of, longest_image, HasBytes, IsInput, Fits, IsRead, HasCome, HasAllCome, GivesLess};
+ghost use Rattle.nvheap.specs.Command.{meaning_of, ReadsNone};
+ghost use Rattle.nvheap.specs.Inputs.{longest, limit_of, longest_image, HasBytes, IsInput, IsOfKind, Fits, IsRead, HasCome, HasAllCome, GivesLess};
 ghost use Rattle.nvheap.specs.Ends.{IsUnread};
 
 use crate::command::Command;
 use crate::source::{Failed, Source};
 use crate::status::Status;
 use pmem_lines::OutOfMemory;
-use pool_layout::{GRANULE_BYTES, add_words, layout_of};
+use pool_layout::{GRANULE_BYTES, POOL_GRANULES, add_words};
 use std::alloc::{AllocError, Global};
 
-// The most bytes that a trace may have.
-const LONGEST_TRACE: usize = 67_108_864;
-
-// The most arenas of a pool, and the version whose pools are the greatest.
-const MOST_ARENAS: usize = 16;
-
-const VERSION: u32 = 1;
+// The most bytes that a text may have.
+const LONGEST_TEXT: usize = 67_108_864;
 
 // How many bytes are read before they are put behind the others: whole words.
 const PIECE: usize = 65536;
+
+/// The kinds of input: a text, and the image of a pool.
+#[derive(Clone, Copy)]
+pub(crate) enum Kind {
+    Text,
+    Pool,
+}
 
 /// What a command reads: a text, or the image of a pool, as its words and its number of bytes.
 #[derive(Drop)]
@@ -75,14 +77,17 @@ pub(crate) fn read_input<S: Source>(
     source: &mut S,
 ) -> Result<Input, Status>
     requires { ¬ (ReadsNone command) }
-    ensures read { IfOk result (IsRead command (S.left source.old) (S.left source.new)) }
-    ensures fits { IfOk result (Fits command) }
+    ensures read { IfOk result (IsRead (meaning_of command).reads (S.left source.old) (S.left source.new)) }
+    ensures fits { IfOk result (Fits (meaning_of command).reads) }
     ensures input { IfOk result IsInput }
-    ensures unread { IfErr result (IsUnread command (S.left source.old) (S.left source.new)) }
+    ensures unread { IfErr result (IsUnread (limit_of (meaning_of command).reads) (S.left source.old) (S.left source.new)) }
     ensures failed { result ≡ Err Status.ReadFault → Rose (S.faults source.old) (S.faults source.new) }
 {
-    let mut input = empty_input(alloc, command);
-    match read_all(alloc, source, &mut input, longest_of(command)) {
+    let Some(kind) = command.reads() else {
+        unreachable!();
+    };
+    let mut input = empty_input(alloc, kind);
+    match read_all(alloc, source, &mut input, longest_of(kind)) {
         Ok(()) => Ok(input),
         Err(Unread::Failed) => Err(Status::ReadFault),
         Err(Unread::Memory) => Err(Status::Memory),
@@ -90,17 +95,15 @@ pub(crate) fn read_input<S: Source>(
     }
 }
 
-// The most bytes that a command's input may have.
-#[tactic(auto, unfolding(crate::specs::Inputs::longest_trace))]
-fn longest_of(command: Command) -> usize
-    requires { ¬ (ReadsNone command) }
-    ensures longest { limit_of command ≡ Some result }
+// The most bytes that an input of a kind may have.
+#[tactic(auto, unfolding(crate::specs::Inputs::longest_text))]
+fn longest_of(kind: Kind) -> usize
+    ensures longest { result ≡ longest kind }
     ensures few { result < 2 ^ 32 - 65536 }
 {
-    match command {
-        Command::Replay | Command::Image | Command::Crash { .. } => LONGEST_TRACE,
-        Command::Check | Command::Recover => longest_image(),
-        Command::Gen { .. } => unreachable!(),
+    match kind {
+        Kind::Text => LONGEST_TEXT,
+        Kind::Pool => longest_image(),
     }
 }
 
@@ -110,23 +113,21 @@ fn longest_image() -> usize
     ensures longest { result ≡ longest_image }
     ensures few { result < 2 ^ 32 - 65536 }
 {
-    MOST_ARENAS * GRANULE_BYTES as usize * layout_of(VERSION).most_granules as usize
+    GRANULE_BYTES as usize * POOL_GRANULES as usize
 }
 
-// An input of a command, of which no byte has come.
+// An input of a kind, of which no byte has come.
 #[tactic(auto, unfolding(pool_layout::specs::Bytes::words_of_bytes))]
-fn empty_input(alloc: Global, command: Command) -> Input
-    requires { ¬ (ReadsNone command) }
+fn empty_input(alloc: Global, kind: Kind) -> Input
     ensures none { HasBytes result [] }
-    ensures fits { Fits command result }
+    ensures fits { IsOfKind kind result }
 {
-    match command {
-        Command::Replay | Command::Image | Command::Crash { .. } => Input::Text(Vec::new(alloc)),
-        Command::Check | Command::Recover => Input::Pool {
+    match kind {
+        Kind::Text => Input::Text(Vec::new(alloc)),
+        Kind::Pool => Input::Pool {
             words: Vec::new(alloc),
             bytes: 0,
         },
-        Command::Gen { .. } => unreachable!(),
     }
 }
 
@@ -141,7 +142,7 @@ fn read_all<S: Source>(
     requires few { limit < 2 ^ 32 - 65536 }
     requires none { HasBytes input.old [] }
     ensures all { OnOk result (HasAllCome (S.left source.old) (S.left source.new) input.new limit) }
-    ensures fits { (command : Command) → Fits command input.old → Fits command input.new }
+    ensures fits { (kind : Kind) → IsOfKind kind input.old → IsOfKind kind input.new }
     ensures too_long { result ≡ Err Unread.TooLong → GivesMore (S.left source.old) (S.left source.new) limit }
     ensures few { result ≡ Err Unread.Failed → GivesFew (S.left source.old) (S.left source.new) limit }
     ensures failed { result ≡ Err Unread.Failed → Rose (S.faults source.old) (S.faults source.new) }
@@ -187,7 +188,7 @@ impl Input {
     fn add(&mut self, piece: &[u8]) -> Result<(), OutOfMemory>
         requires { IsInput self.old }
         ensures bytes { OnOk result ((bytes : List ℕ) → length bytes % 8 ≡ 0 → HasBytes self.old bytes → HasBytes self.new (bytes ++ piece.now)) }
-        ensures fits { (command : Command) → Fits command self.old → Fits command self.new }
+        ensures fits { (kind : Kind) → IsOfKind kind self.old → IsOfKind kind self.new }
     {
         match self {
             Input::Text(text) => text.extend_from_slice(piece)?,

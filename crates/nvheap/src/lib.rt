@@ -1,23 +1,26 @@
 // What the program does between its words and its exit code: it replays allocation traces on the arenas of a pool over
 // simulated persistent memory and prints journals and heaps, it generates such work and prints what it came to, it writes the
-// pool's image, it shows the heap that recovery makes of a crash at a chosen event, and it checks and recovers the image of
-// a pool.
+// pool's image, it shows the heap that recovery makes of a crash at a chosen event, and it checks, recovers and migrates the
+// image of a pool.
 //
 // `run` does all of it, over traits for the outside: a source of bytes, a sink for bytes, a gate and a shelf of
-// devices. Its contract (`specs/Ends.antt` and what that cites) is what the program promises. The program's `main` makes
-// the real source, sink, gate and shelf, and calls `run`; those in memory are for tests. No rule of the heap stands here:
-// the calls of a trace are made by `trace_workers` and `trace_runs`, those of generated work are drawn by `trace_gen`, images
-// are checked and recovered by `image_runs`, text is read and written by `trace_text`, memory comes from `pmem_lines`.
+// devices. Its contract is what the program promises: `specs/Ends.antt` says how a run ends by what a command means, and
+// the table of `specs/Command.antt` has the meaning of each. The program's `main` makes the real source, sink, gate and
+// shelf, and calls `run`; those in memory are for tests. No rule of the heap stands here: the calls of a trace are made by
+// `trace_workers` and `trace_runs`, those of generated work are drawn by `trace_gen`, images are checked, recovered and
+// migrated by `image_runs`, text is read and written by `trace_text`, memory comes from `pmem_lines`.
 #![tactic(auto)]
 
 mod adapter;
 mod answers;
 mod cause;
+mod checking;
 mod command;
 mod crashing;
 mod generating;
 mod imaging;
 mod input;
+mod migrating;
 mod output;
 mod recovering;
 mod replaying;

@@ -4,9 +4,8 @@ ghost use Rattle.pmem_lines.specs.Pmem.{risen};
 ghost use Rattle.pool_layout.specs.Image.{AreWordsOf, AreWords, IsPoolImage, IfDefect};
 ghost use Rattle.image_runs.specs.Checks.{IsPoolDefect};
 ghost use Rattle.image_runs.specs.Recoveries.{heaps_from};
-ghost use Rattle.nvheap.specs.declared.command.Command.TheVariants as commands;
-ghost use Rattle.nvheap.specs.Answers.{AnswersRecover, HasRecovered, HasUnsoundFrom};
-ghost use Rattle.nvheap.specs.Ends.{IsAnswer, MakesImages, CountsImages};
+ghost use Rattle.nvheap.specs.Recovering.{AnswersRecover, HasRecovered, HasUnsoundFrom, MakesAll, recovering};
+ghost use Rattle.nvheap.specs.Ends.{IsAnswer, CountsImages};
 
 use crate::answers::{Answer, fault_line};
 use crate::cause::Cause;
@@ -25,8 +24,8 @@ pub(crate) fn recover_answer<H: Shelf>(
     shelf: &mut H,
 ) -> Result<Answer, OutOfMemory>
     requires { AreWords words.now bytes }
-    ensures answer { IfOk result (λ answer. (image : List ℕ) → AreWordsOf words.now bytes image → IsAnswer commands.Recover image (H.places shelf.old) (H.places shelf.new) answer) }
-    ensures counts { IfOk result (λ answer. (image : List ℕ) → AreWordsOf words.now bytes image → CountsImages commands.Recover image (H.images shelf.old) (H.images shelf.new) answer) }
+    ensures answer { IfOk result (λ answer. (image : List ℕ) → AreWordsOf words.now bytes image → IsAnswer recovering image (H.places shelf.old) (H.places shelf.new) answer) }
+    ensures counts { IfOk result (λ answer. (image : List ℕ) → AreWordsOf words.now bytes image → CountsImages recovering image (H.images shelf.old) (H.images shelf.new) answer) }
     ensures kept { OnErr result (H.places shelf.new ≡ H.places shelf.old) }
 {
     match recover_pool(alloc, words, bytes, shelf) {
@@ -48,7 +47,7 @@ fn recover_pool<H: Shelf>(
 ) -> Result<Vec<u8>, ImageFault>
     requires { AreWords words.now bytes }
     ensures answer { IfOk result (λ text. (image : List ℕ) → AreWordsOf words.now bytes image → AnswersRecover image text.items (H.places shelf.old) (H.places shelf.new)) }
-    ensures images { OnOk result ((image : List ℕ) → AreWordsOf words.now bytes image → MakesImages commands.Recover image (H.images shelf.old) (H.images shelf.new)) }
+    ensures images { OnOk result ((image : List ℕ) → AreWordsOf words.now bytes image → MakesAll image (H.images shelf.old) (H.images shelf.new)) }
     ensures kept { OnErr result (H.places shelf.new ≡ H.places shelf.old) }
     ensures defect { IfErr result (λ fault. (image : List ℕ) → AreWordsOf words.now bytes image → IfDefect fault (IsPoolDefect image)) }
 {

@@ -2,7 +2,7 @@
 ghost use Rattle.std.specs.Prelude.{◌≡◌, ◌<◌, ◌^◌, length, IfOk, OnErr};
 ghost use Rattle.trace_text.specs.Grammar.{pool_of, IsPool};
 ghost use Rattle.trace_workers.specs.Reports.{AreNew};
-ghost use Rattle.nvheap.specs.declared.command.Command.TheVariants as commands;
+ghost use Rattle.nvheap.specs.Replaying.{replaying};
 ghost use Rattle.nvheap.specs.Ends.{IsAnswer};
 
 use crate::answers::{Answer, trace_of};
@@ -19,9 +19,6 @@ use trace_workers::{Account, Gate, replay};
 
 const GRANULE_LINES: u32 = 256;
 
-// The version of a trace's arenas.
-const VERSION: u32 = 1;
-
 /// The report of a trace, whose calls are made by a worker for each thread. Each arena's device comes from the shelf, and is
 /// put into the place of the arena's number once all calls are made.
 pub(crate) fn replay_answer<R: Threads + Wait + Sync, G: Gate + Sync, H: Shelf>(
@@ -32,7 +29,7 @@ pub(crate) fn replay_answer<R: Threads + Wait + Sync, G: Gate + Sync, H: Shelf>(
     shelf: &mut H,
 ) -> Result<Answer, OutOfMemory>
     requires { length input.now < 2 ^ 32 }
-    ensures answer { IfOk result (IsAnswer commands.Replay input.now (H.places shelf.old) (H.places shelf.new)) }
+    ensures answer { IfOk result (IsAnswer replaying input.now (H.places shelf.old) (H.places shelf.new)) }
     ensures kept { OnErr result (H.places shelf.new ≡ H.places shelf.old) }
     ensures images { H.images shelf.new ≡ H.images shelf.old }
 {
@@ -59,12 +56,13 @@ pub(crate) fn take_arenas<H: Shelf>(
     ensures images { H.images shelf.new ≡ H.images shelf.old }
 {
     let pool = PoolSize {
+        version: trace.version,
         arenas: trace.arenas,
         granules: trace.granules,
     };
     let mut arenas = Vec::new(alloc);
     for number in 0..pool.arenas {
-        let room = layout_of(VERSION).room;
+        let room = layout_of(pool.version).room;
         let device = shelf.take(alloc, GRANULE_LINES * pool.granules, room)?;
         arenas.push(new_arena(alloc, device, pool, number)?)?;
     }

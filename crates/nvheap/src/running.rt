@@ -1,10 +1,10 @@
 // The top call.
 ghost use Rattle.std.specs.Prelude.{◌≡◌, ◌↔◌, ◌⊎◌, ℕ, List, Option, map, string_bytes};
-ghost use Rattle.nvheap.specs.declared.command.Command.TheVariants as commands;
 ghost use Rattle.nvheap.specs.Outside.{told_by, Rose, KeepsPlaces, KeepsImages};
-ghost use Rattle.nvheap.specs.Command.{IsCommand, IsNoCommand, MayWait, ReadsNone, Recovers};
-ghost use Rattle.nvheap.specs.Ends.{Ends, IsSaid, IsDone, IsRefused, IsWithinLimit, IsCutShort, IsTooLong, IsSilent, IsAside};
-ghost use Rattle.nvheap.specs.Accepted.{IsAccepted};
+ghost use Rattle.nvheap.specs.Replaying.{replaying};
+ghost use Rattle.nvheap.specs.Generating.{generating};
+ghost use Rattle.nvheap.specs.Command.{meaning_of, IsNoCommand, IsSaid, MayWait, ReadsNone, Recovers, IsIdle};
+ghost use Rattle.nvheap.specs.Ends.{Ends, IsDone, IsRefused, IsWithinLimit, IsCutShort, IsTooLong, IsAccepted, IsSilent, IsAside};
 
 use crate::answers::answer_to;
 use crate::command::{Command, command_of};
@@ -55,7 +55,7 @@ pub fn run<R: Threads + Wait + Sync, S: Source, K: Sink, G: Gate + Sync, H: Shel
     ensures silent { IsSilent result → sink.new ≡ sink.old }
     ensures aside { let told = told_by S.left K.taken H.places H.images in
         IsAside result → KeepsPlaces (told source.old sink.old shelf.old) (told source.new sink.new shelf.new) }
-    ensures idle { IsCommand (map string_bytes words.now) commands.Check → shelf.new ≡ shelf.old }
+    ensures idle { IsSaid (map string_bytes words.now) IsIdle → shelf.new ≡ shelf.old }
     ensures images { let told = told_by S.left K.taken H.places H.images in
         ¬ (IsSaid (map string_bytes words.now) Recovers) → KeepsImages (told source.old sink.old shelf.old) (told source.new sink.new shelf.new) }
     ensures unread { IsSaid (map string_bytes words.now) ReadsNone → source.new ≡ source.old }
@@ -80,7 +80,7 @@ fn run_replay<R: Threads + Wait + Sync, S: Source, K: Sink, G: Gate + Sync, H: S
     shelf: &mut H,
 ) -> Status
     ensures ends { let told = told_by S.left K.taken H.places H.images in
-        Ends commands.Replay (told source.old sink.old shelf.old) (told source.new sink.new shelf.new) result }
+        Ends replaying (told source.old sink.old shelf.old) (told source.new sink.new shelf.new) result }
     ensures read_fault { result ≡ Status.ReadFault → Rose (S.faults source.old) (S.faults source.new) }
     ensures write_fault { result ≡ Status.WriteFault → Rose (K.faults sink.old) (K.faults sink.new) }
     ensures silent { IsSilent result → sink.new ≡ sink.old }
@@ -109,7 +109,7 @@ fn run_gen<R: Threads + Wait + Sync, K: Sink, G: Gate + Sync, H: Shelf>(
     shelf: &mut H,
 ) -> Status
     ensures ends { let told = told_by (λ (left : Option (List ℕ)). left) K.taken H.places H.images in
-        (left : Option (List ℕ)) → Ends (commands.Gen count seed) (told left sink.old shelf.old) (told left sink.new shelf.new) result }
+        (left : Option (List ℕ)) → Ends (generating count seed) (told left sink.old shelf.old) (told left sink.new shelf.new) result }
     ensures write_fault { result ≡ Status.WriteFault → Rose (K.faults sink.old) (K.faults sink.new) }
     ensures silent { IsSilent result → sink.new ≡ sink.old }
     ensures aside { IsAside result → H.places shelf.new ≡ H.places shelf.old }
@@ -129,15 +129,17 @@ fn run_returning<S: Source, K: Sink, H: Shelf>(
     sink: &mut K,
     shelf: &mut H,
 ) -> Status
-    requires { ¬ (MayWait command) }
+    requires returns { ¬ (MayWait command) }
+    requires reads { ¬ (ReadsNone command) }
     ensures ends { let told = told_by S.left K.taken H.places H.images in
-        Ends command (told source.old sink.old shelf.old) (told source.new sink.new shelf.new) result }
+        Ends (meaning_of command) (told source.old sink.old shelf.old) (told source.new sink.new shelf.new) result }
     ensures read_fault { result ≡ Status.ReadFault → Rose (S.faults source.old) (S.faults source.new) }
     ensures write_fault { result ≡ Status.WriteFault → Rose (K.faults sink.old) (K.faults sink.new) }
     ensures silent { IsSilent result → sink.new ≡ sink.old }
     ensures aside { IsAside result → H.places shelf.new ≡ H.places shelf.old }
     ensures images { ¬ (Recovers command) → H.images shelf.new ≡ H.images shelf.old }
-    ensures idle { command ≡ commands.Check → shelf.new ≡ shelf.old }
+    ensures idle { IsIdle command → shelf.new ≡ shelf.old }
+    ensures unread { ReadsNone command → source.new ≡ source.old }
 {
     let input = match read_input(alloc, command, source) {
         Ok(input) => input,

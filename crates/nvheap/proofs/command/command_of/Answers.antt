@@ -1,6 +1,6 @@
-use Rattle.std.proofs.Common.{◌≡◌, map, codes}
+use Rattle.std.proofs.Common.{◌≡◌, ◌∷◌, [], map, codes}
 use Rattle.std.specs.String.{string_bytes}
-use Rattle.nvheap.proofs.Commands.{one_word, three_words, four_words, crash_words, gen_words}
+use Rattle.nvheap.proofs.Words.{one_word, three_words, four_words}
 use Rattle.nvheap.proofs.command.command_of.Goals as goal
 
 pub returns-then-words-eq1 : goal.returns-then-words-eq1
@@ -14,8 +14,8 @@ returns-then-is_word c =
     let whole = four_words string_bytes c.args.words.now c.index-words-0-then-words-eq4.result c.index-words-1.result c.index-words-2.result c.index-words-3.result
     c.if-words-eq4.true c.index-words-0-then-words-eq4.is c.index-words-1.is c.index-words-2.is c.index-words-3.is in
     let said : string_bytes c.index-words-0-then-words-eq4.result ≡ codes "crash" = c.is_word.ensures.0 c.if-is_word.true in
-    crash_words (map string_bytes c.args.words.now) c.as_bytes.result.now c.as_bytes-then-is_word.result.now c.as_bytes-then-is_word-2.result.now c.crash_of.result
-    (cc (whole, said, first, second, third)) c.crash_of.ensures
+    let all : map string_bytes c.args.words.now ≡ codes "crash" ∷ c.as_bytes.result.now ∷ c.as_bytes-then-is_word.result.now ∷ c.as_bytes-then-is_word-2.result.now ∷ [] = cc (whole, said, first, second, third) in
+    rw all c.crash_of.ensures
 
 pub returns-then-is_word-2 : goal.returns-then-is_word-2
 returns-then-is_word-2 c =
@@ -24,5 +24,5 @@ returns-then-is_word-2 c =
     let whole = three_words string_bytes c.args.words.now c.index-words-0-then-words-eq3.result c.index-words-1-then-is_word-2.result c.index-words-2-then-is_word-2.result
     c.if-words-eq3.true c.index-words-0-then-words-eq3.is c.index-words-1-then-is_word-2.is c.index-words-2-then-is_word-2.is in
     let said : string_bytes c.index-words-0-then-words-eq3.result ≡ codes "gen" = c.is_word-then-words-eq3.ensures.0 c.if-is_word-2.true in
-    gen_words (map string_bytes c.args.words.now) c.as_bytes-then-is_word-2-2.result.now c.as_bytes-then-is_word-2-3.result.now c.gen_of.result
-    (cc (whole, said, first, second)) c.gen_of.ensures
+    let all : map string_bytes c.args.words.now ≡ codes "gen" ∷ c.as_bytes-then-is_word-2-2.result.now ∷ c.as_bytes-then-is_word-2-3.result.now ∷ [] = cc (whole, said, first, second) in
+    rw all c.gen_of.ensures

@@ -1,19 +1,19 @@
 use Rattle.std.proofs.Common.{arith, refl}
 use Rattle.trace_text.specs.declared.call.Refusal.TheVariants.{NoArena, NoEvent}
 use Rattle.trace_text.specs.Grammar.{pool_of}
-use Rattle.nvheap.specs.declared.cause.Cause.TheVariants.{Trace}
-use Rattle.nvheap.specs.declared.command.Command.TheVariants.{Crash}
+use Rattle.nvheap.specs.declared.cause.Cause.TheVariants.{Text}
+use Rattle.nvheap.specs.Crashing.{crashing}
 use Rattle.nvheap.proofs.Answering.{refused, refused_line}
 use Rattle.nvheap.proofs.crashing.crash_answer.Goals as goal
 
 pub returns-in-Err-clause-answer : goal.returns-in-Err-clause-answer
 returns-in-Err-clause-answer g c =
-    refused_line (Crash c.args.arena c.args.event c.args.seed) c.args.input.now (g.H.Shelf.places c.args.shelf.now) c.in-Err.answer (λ line is. is) c.in-Err.ensures.refused
+    refused_line (crashing c.args.arena c.args.event c.args.seed) c.args.input.now (g.H.Shelf.places c.args.shelf.now) c.in-Err.answer (λ line is. is) c.in-Err.ensures.refused
 
 pub returns-then-arena-trace-clause-answer : goal.returns-then-arena-trace-clause-answer
 returns-then-arena-trace-clause-answer g c =
     let trace = c.in-Ok.trace in
-    refused (Crash c.args.arena c.args.event c.args.seed) c.args.input.now (g.H.Shelf.places c.args.shelf.now) (Trace (NoArena c.from.result c.from-then-arena-trace.result)) c.fault_line.result
+    refused (crashing c.args.arena c.args.event c.args.seed) c.args.input.now (g.H.Shelf.places c.args.shelf.now) (Text (NoArena c.from.result c.from-then-arena-trace.result)) c.fault_line.result
     (record { pool = pool_of trace; calls = trace.calls.items; trace = c.in-Ok.ensures.trace; is_asked = c.from.ensures; is_all = c.from-then-arena-trace.ensures; lacks = c.if-arena-trace.true })
     c.fault_line.ensures
 
@@ -21,6 +21,6 @@ pub returns-in-Err-NoEvent-clause-answer : goal.returns-in-Err-NoEvent-clause-an
 returns-in-Err-NoEvent-clause-answer g c =
     let trace = c.in-Ok.trace in
     let fewer = rw c.in-Err-NoEvent.field-0-is at c.in-Err-NoEvent.ensures.fault in
-    refused (Crash c.args.arena c.args.event c.args.seed) c.args.input.now (g.H.Shelf.places c.args.shelf.now) (Trace (NoEvent c.args.event c.in-Err-NoEvent.events)) c.fault_line-in-Err-NoEvent.result
+    refused (crashing c.args.arena c.args.event c.args.seed) c.args.input.now (g.H.Shelf.places c.args.shelf.now) (Text (NoEvent c.args.event c.in-Err-NoEvent.events)) c.fault_line-in-Err-NoEvent.result
     (record { pool = pool_of trace; calls = trace.calls.items; trace = c.in-Ok.ensures.trace; inside = omega (arith, c.if-arena-trace.false); is_asked = refl; fewer = fewer })
     c.fault_line-in-Err-NoEvent.ensures

@@ -3,7 +3,7 @@ use Rattle.std.proofs.lemmas.List.{length-take-le}
 use Rattle.pmem_lines.specs.Pmem.{words_of}
 use Rattle.pool_layout.specs.Bytes.{bytes_of_words}
 use Rattle.trace_text.specs.Grammar.{pool_of}
-use Rattle.nvheap.specs.Answers.{AreRunThrough, images_of}
+use Rattle.nvheap.specs.Imaging.{AreRunThrough, images_of}
 use Rattle.nvheap.proofs.Bytes.{all_words}
 use Rattle.nvheap.proofs.Devices.{few_words, AreRunThrough-pushed, images_of-more}
 use Rattle.nvheap.proofs.imaging.run_arenas.Goals as goal
@@ -18,27 +18,27 @@ loop-arena-preserved g c =
     let pushed = c.in_ok-push.ensures.items in
     let many = ap length pushed ∙ length-append devices (last ∷ []) in
     let lent : c.words.result.now ≡ words_of (state last) = c.words.ensures ∙ all_words (words_of (state last)) c.size_words.result c.size_words.ensures.size in
-    let used = c.add_words.new.piece in
-    let kept = c.in_ok-add_words.ensures.piece in
+    let used = c.add_bytes.new.piece in
+    let kept = c.in_ok-add_bytes.ensures.piece in
     let full : c.loop-arena.piece.len ≡ 4096 = sym c.deref_mut.ensures.len ∙ ap length c.deref_mut.ensures.value ∙ c.loop-arena.invariant.piece in
     record {
       all = let all = c.loop-arena.invariant.all in omega (arith, many, all);
       runs = subst (λ ds. AreRunThrough pool calls 0 (map state ds)) (sym pushed) (AreRunThrough-pushed state pool calls devices last c.loop-arena.arena c.loop-arena.invariant.all c.loop-arena.invariant.runs c.in_ok-device-2.ensures);
-      bytes = subst (λ ds. c.add_words.new.bytes.items ≡ images_of (map state ds)) (sym pushed) (images_of-more state devices last c.loop-arena.bytes.items c.add_words.new.bytes.items c.loop-arena.invariant.bytes (c.in_ok-add_words.ensures.bytes ∙ ap (λ (ws : List ℕ). c.loop-arena.bytes.items ++ bytes_of_words ws) lent));
+      bytes = subst (λ ds. c.add_bytes.new.bytes.items ≡ images_of (map state ds)) (sym pushed) (images_of-more state devices last c.loop-arena.bytes.items c.add_bytes.new.bytes.items c.loop-arena.invariant.bytes (c.in_ok-add_bytes.ensures.bytes ∙ ap (λ (ws : List ℕ). c.loop-arena.bytes.items ++ bytes_of_words ws) lent));
       piece = length-take-le c.loop-arena.piece.len (used ++ drop (length used) c.loop-arena.piece.items) (omega (arith, length-append used (drop (length used) c.loop-arena.piece.items), kept, full)) ∙ full;
       places = c.in_ok-device.ensures.places ∙ c.loop-arena.invariant.places;
       images = c.in_ok-device.ensures.images ∙ c.loop-arena.invariant.images;
     }
 
-pub add_words-requires-clause-whole : goal.add_words-requires-clause-whole
-add_words-requires-clause-whole g c =
+pub add_bytes-requires-clause-whole : goal.add_bytes-requires-clause-whole
+add_bytes-requires-clause-whole g c =
     let words = words_of (g.H.Device.Pmem.state c.in_ok-device-2.device) in
     let lent = ap length (c.words.ensures ∙ all_words words c.size_words.result c.size_words.ensures.size) in
     let size = c.in_ok-device-2.ensures.run.exact.formed.size in
     omega (arith, lent, size)
 
-pub add_words-requires-clause-few : goal.add_words-requires-clause-few
-add_words-requires-clause-few g c =
+pub add_bytes-requires-clause-few : goal.add_bytes-requires-clause-few
+add_bytes-requires-clause-few g c =
     let words = words_of (g.H.Device.Pmem.state c.in_ok-device-2.device) in
     let lent = ap length (c.words.ensures ∙ all_words words c.size_words.result c.size_words.ensures.size) in
     let exact = c.in_ok-device-2.ensures.run.exact in

@@ -1,7 +1,7 @@
 use Rattle.std.proofs.Common.{◌≡◌, length}
 use Rattle.shared_pool.specs.Rows.{each_of}
 use Rattle.trace_text.specs.Grammar.{pool_of}
-use Rattle.nvheap.specs.Answers.{AreRunThrough, images_of}
+use Rattle.nvheap.specs.Imaging.{AreRunThrough, images_of}
 use Rattle.nvheap.proofs.imaging.run_arenas.Given as goal
 
 abbrev pub invariant-loop-arena : goal.invariant-loop-arena

@@ -8,7 +8,7 @@ loop-size-init g c = record {
   within = omega arith;
   whole = λ few. refl;
   buffer = c.in_ok-piece.ensures.len;
-  fits = λ command fits. fits;
+  fits = λ kind fits. fits;
   later = omega arith;
 }
 
@@ -25,7 +25,7 @@ returns-in_err-n-clause-failed g c failed =
     Rose-before (faults c.args.source.now) (faults c.loop-size.source) (faults c.fill.new.source) c.loop-size.invariant.later c.in_err-n.ensures.failed
 
 pub returns-in_err-add-clause-fits : goal.returns-in_err-add-clause-fits
-returns-in_err-add-clause-fits g c command fits = c.in_err-add.ensures.fits command (c.loop-size.invariant.fits command fits)
+returns-in_err-add-clause-fits g c kind fits = c.in_err-add.ensures.fits kind (c.loop-size.invariant.fits kind fits)
 
 pub returns-then-n-most-clause-all : goal.returns-then-n-most-clause-all
 returns-then-n-most-clause-all g c =
@@ -34,7 +34,7 @@ returns-then-n-most-clause-all g c =
     come_all c.args.limit come (omega (arith, c.min-most.ensures, c.if-n-most.true, c.loop-size-test.true)) (c.in_ok-n.ensures.end c.if-n-most.true)
 
 pub returns-then-n-most-clause-fits : goal.returns-then-n-most-clause-fits
-returns-then-n-most-clause-fits g c command fits = c.in_ok-add.ensures.fits command (c.loop-size.invariant.fits command fits)
+returns-then-n-most-clause-fits g c kind fits = c.in_ok-add.ensures.fits kind (c.loop-size.invariant.fits kind fits)
 
 pub loop-size-preserved : goal.loop-size-preserved
 loop-size-preserved g c =
@@ -48,7 +48,7 @@ loop-size-preserved g c =
       within = omega (arith, most, count, c.loop-size-test.true);
       whole = λ few. omega (arith, whole, most, count, c.if-n-most.false, few);
       buffer = inv.buffer;
-      fits = λ command fits. c.in_ok-add.ensures.fits command (inv.fits command fits);
+      fits = λ kind fits. c.in_ok-add.ensures.fits kind (inv.fits kind fits);
       later = omega (arith, later, c.in_ok-n.ensures.later);
     }
 

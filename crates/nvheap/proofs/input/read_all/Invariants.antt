@@ -1,6 +1,6 @@
 use Rattle.std.proofs.Common.{◌≡◌, ◌+◌, ◌-◌, ◌%◌, ◌≤◌, vec_len}
-use Rattle.nvheap.specs.declared.command.Command.{Command}
-use Rattle.nvheap.specs.Inputs.{HasCome, Fits}
+use Rattle.nvheap.specs.declared.input.Kind.{Kind}
+use Rattle.nvheap.specs.Inputs.{HasCome, IsOfKind}
 use Rattle.nvheap.proofs.input.read_all.Given as goal
 
 abbrev pub invariant-loop-size : goal.invariant-loop-size
@@ -9,7 +9,7 @@ invariant-loop-size g l = record {
   within : l.size ≤ l.limit + 1;
   whole : l.size ≤ l.limit → l.size % 8 ≡ 0;
   buffer : vec_len l.piece ≡ 65536;
-  fits : (command : Command) → Fits command l.fn.input → Fits command l.input;
+  fits : (kind : Kind) → IsOfKind kind l.fn.input → IsOfKind kind l.input;
   later : g.S.Source.faults l.fn.source ≤ g.S.Source.faults l.source;
 }
 

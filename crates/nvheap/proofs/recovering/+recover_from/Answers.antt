@@ -8,7 +8,7 @@ use Rattle.heap_check.specs.Image.{IsSoundImage}
 use Rattle.recover.specs.Recovered.{HasVersionRoom, IsRecovered}
 use Rattle.image_runs.specs.Checks.{IsOwnDefect}
 use Rattle.image_runs.specs.Recoveries.{heap_lines, heaps_from}
-use Rattle.nvheap.specs.Answers.{HasRecovered}
+use Rattle.nvheap.specs.Recovering.{HasRecovered}
 use Rattle.nvheap.proofs.Recoveries.{few_granules, pool_room, heaps_more, recovered_more, unsound_here, unsound_later}
 use Rattle.nvheap.proofs.recovering.+recover_from.Goals as goal
 

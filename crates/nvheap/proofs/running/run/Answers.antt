@@ -1,15 +1,21 @@
 use Rattle.std.proofs.Common.{◌≡◌, map, subst}
 use Rattle.std.specs.String.{string_bytes}
 use Rattle.nvheap.specs.declared.command.Command.{Command}
-use Rattle.nvheap.specs.declared.command.Command.TheVariants.{Replay, Check, Gen}
+use Rattle.nvheap.specs.declared.command.Command.TheVariants.{Replay, Gen}
 use Rattle.nvheap.specs.declared.status.Status.{Status}
 use Rattle.nvheap.specs.declared.status.Status.TheVariants.{Done, Usage, Refused, ReadFault, WriteFault, TooLong}
 use Rattle.nvheap.specs.Outside.{Outside, told_by, Rose}
-use Rattle.nvheap.specs.Command.{IsCommand}
+use Rattle.nvheap.specs.Command.{meaning_of, IsCommand, IsIdle, ReadsNone}
 use Rattle.nvheap.specs.Ends.{Ends}
-use Rattle.nvheap.proofs.Completeness.{completes, one_command}
+use Rattle.nvheap.proofs.Table.{said_holds}
+use Rattle.nvheap.proofs.Completeness.{completes}
 use Rattle.nvheap.proofs.running.run.Given as given
 use Rattle.nvheap.proofs.running.run.Goals as goal
+
+-- `replay`
+
+replay_said : (g : given.Over) (c : goal.After-run_replay g) → IsCommand (map string_bytes c.args.words.now) Replay
+replay_said g c = subst (λ (command : Command). IsCommand (map string_bytes c.args.words.now) command) c.in-Replay.is c.in-Some.ensures
 
 pub returns-in-Replay-clause-complete : goal.returns-in-Replay-clause-complete
 returns-in-Replay-clause-complete g c =
@@ -17,7 +23,15 @@ returns-in-Replay-clause-complete g c =
     let words = map string_bytes c.args.words.now in
     completes words Replay (told c.args.source.now c.args.sink.now c.args.shelf.now) (told c.run_replay.new.source c.run_replay.new.sink c.run_replay.new.shelf) c.run_replay.result
     (Rose (g.S.Source.faults c.args.source.now) (g.S.Source.faults c.run_replay.new.source)) (Rose (g.K.Sink.faults c.args.sink.now) (g.K.Sink.faults c.run_replay.new.sink))
-    (subst (λ (command : Command). IsCommand words command) c.in-Replay.is c.in-Some.ensures) c.run_replay.ensures.ends c.run_replay.ensures.read_fault c.run_replay.ensures.write_fault
+    (replay_said g c) c.run_replay.ensures.ends c.run_replay.ensures.read_fault c.run_replay.ensures.write_fault
+
+pub returns-in-Replay-clause-idle : goal.returns-in-Replay-clause-idle
+returns-in-Replay-clause-idle g c said = absurd (said_holds (map string_bytes c.args.words.now) Replay IsIdle (replay_said g c) said)
+
+pub returns-in-Replay-clause-unread : goal.returns-in-Replay-clause-unread
+returns-in-Replay-clause-unread g c said = absurd (cc (said_holds (map string_bytes c.args.words.now) Replay ReadsNone (replay_said g c) said))
+
+-- commands that do not wait
 
 pub returns-in_default-command-clause-complete : goal.returns-in_default-command-clause-complete
 returns-in_default-command-clause-complete g c =
@@ -27,15 +41,13 @@ returns-in_default-command-clause-complete g c =
     (Rose (g.S.Source.faults c.args.source.now) (g.S.Source.faults c.run_returning.new.source)) (Rose (g.K.Sink.faults c.args.sink.now) (g.K.Sink.faults c.run_returning.new.sink))
     c.in-Some.ensures c.run_returning.ensures.ends c.run_returning.ensures.read_fault c.run_returning.ensures.write_fault
 
-pub returns-in-Replay-clause-idle : goal.returns-in-Replay-clause-idle
-returns-in-Replay-clause-idle g c check =
-    let words = map string_bytes c.args.words.now in
-    let both : Replay ≡ Check = one_command words Replay Check (subst (λ (command : Command). IsCommand words command) c.in-Replay.is c.in-Some.ensures) check in
-    absurd (cc both)
-
 pub returns-in_default-command-clause-idle : goal.returns-in_default-command-clause-idle
-returns-in_default-command-clause-idle g c check =
-    c.run_returning.ensures.idle (one_command (map string_bytes c.args.words.now) c.in-Some.command Check c.in-Some.ensures check)
+returns-in_default-command-clause-idle g c said =
+    c.run_returning.ensures.idle (said_holds (map string_bytes c.args.words.now) c.in-Some.command IsIdle c.in-Some.ensures said)
+
+pub returns-in_default-command-clause-unread : goal.returns-in_default-command-clause-unread
+returns-in_default-command-clause-unread g c said =
+    c.run_returning.ensures.unread (said_holds (map string_bytes c.args.words.now) c.in-Some.command ReadsNone c.in-Some.ensures said)
 
 -- generated work
 
@@ -53,8 +65,8 @@ gen_said : (g : given.Over) (c : goal.After-run_gen g) → IsCommand (map string
 gen_said g c = subst (λ (command : Command). IsCommand (map string_bytes c.args.words.now) command) c.in-Gen.is c.in-Some.ensures
 
 -- how it ends, by its status
-gen_ends : (g : given.Over) (c : goal.After-run_gen g) (status : Status) → c.run_gen.result ≡ status → Ends (gen g c) (before g c) (behind g c) status
-gen_ends g c status is = subst (λ (s : Status). Ends (gen g c) (before g c) (behind g c) s) is (c.run_gen.ensures.ends (g.S.Source.left c.args.source.now))
+gen_ends : (g : given.Over) (c : goal.After-run_gen g) (status : Status) → c.run_gen.result ≡ status → Ends (meaning_of (gen g c)) (before g c) (behind g c) status
+gen_ends g c status is = subst (λ (s : Status). Ends (meaning_of (gen g c)) (before g c) (behind g c) s) is (c.run_gen.ensures.ends (g.S.Source.left c.args.source.now))
 
 pub returns-in-Gen-clause-usage : goal.returns-in-Gen-clause-usage
 returns-in-Gen-clause-usage g c = ((λ is. absurd (gen_ends g c Usage is)), (λ none. absurd (none (gen g c) (gen_said g c))))
@@ -85,3 +97,6 @@ returns-in-Gen-clause-complete g c =
     completes (map string_bytes c.args.words.now) (gen g c) (before g c) (behind g c) c.run_gen.result
     (Rose (g.S.Source.faults c.args.source.now) (g.S.Source.faults c.args.source.now)) (Rose (g.K.Sink.faults c.args.sink.now) (g.K.Sink.faults c.run_gen.new.sink))
     (gen_said g c) (c.run_gen.ensures.ends (g.S.Source.left c.args.source.now)) (λ is. absurd (gen_ends g c ReadFault is)) c.run_gen.ensures.write_fault
+
+pub returns-in-Gen-clause-idle : goal.returns-in-Gen-clause-idle
+returns-in-Gen-clause-idle g c said = absurd (said_holds (map string_bytes c.args.words.now) (gen g c) IsIdle (gen_said g c) said)

@@ -3,8 +3,8 @@ use Rattle.std.proofs.lemmas.List.{append-nil}
 use Rattle.pmem_lines.specs.Words.{words_at}
 use Rattle.pool_layout.specs.Bytes.{bytes_of_words}
 use Rattle.pool_layout.proofs.Words.{bytes_of_words-none}
-use Rattle.nvheap.proofs.Bytes.{all_words, bytes_of_words-further}
-use Rattle.nvheap.proofs.imaging.add_words.Goals as goal
+use Rattle.image_runs.proofs.Pieces.{all_words, bytes_of_words-further}
+use Rattle.image_runs.proofs.bytes.add_bytes.Goals as goal
 
 pub loop-at-init : goal.loop-at-init
 loop-at-init c =

@@ -1,7 +1,7 @@
 use Rattle.std.proofs.Common.{◌≡◌, ◌*◌, ◌++◌, length}
 use Rattle.pmem_lines.specs.Words.{words_at}
 use Rattle.pool_layout.specs.Bytes.{bytes_of_words}
-use Rattle.nvheap.proofs.imaging.add_words.Given as goal
+use Rattle.image_runs.proofs.bytes.add_bytes.Given as goal
 
 abbrev pub invariant-loop-at : goal.invariant-loop-at
 invariant-loop-at l = record {

@@ -1,0 +1,87 @@
+-- The table of commands: it says of words one command at most, and what a command accepts it does not refuse.
+use Rattle.std.proofs.Common.{◌≡◌, ◌==◌, ℕ, ◌+◌, ◌*◌, List, [], ◌∷◌, length, map, get_or, Option, Some, None, if◌then◌else◌, refl, sym, ap, ◌∙◌, subst, codes}
+use Rattle.std.specs.Prelude.{decimal}
+use Rattle.std.proofs.lemmas.Fmt.{decimal_injective}
+use Rattle.image_runs.specs.Checks.{IsPoolDefect}
+use Rattle.nvheap.specs.declared.cause.Cause.{Cause}
+use Rattle.nvheap.specs.declared.command.Command.{Command}
+use Rattle.nvheap.specs.declared.command.Command.TheVariants.{Replay, Image, Check, Recover, Crash, Gen, Migrate}
+use Rattle.nvheap.specs.Traces.{RefusesTrace}
+use Rattle.nvheap.specs.Crashing.{RefusesCrash}
+use Rattle.nvheap.specs.Command.{row_of, meaning_of, AreNumbers, IsCommand, IsNoCommand, IsSaid}
+use Rattle.nvheap.proofs.Refusals.{on_text, on_image, trace_not_refused, sound_not_refused, crash_not_refused, migrate_not_refused}
+
+-- a row for each command
+
+-- its length and its second letter tell a command's text from the others
+abbrev key : List ℕ → ℕ
+key text = 256 * length text + get_or text 1 0
+
+-- the command that has a text of this key, with these numbers
+abbrev command_by : ℕ → List ℕ → Option Command
+command_by k numbers =
+    if k == 1637 then Some Replay else
+    if k == 1389 then Some Image else
+    if k == 1384 then Some Check else
+    if k == 1893 then Some Recover else
+    if k == 1394 then Some (Crash (get_or numbers 0 0) (get_or numbers 1 0) (get_or numbers 2 0)) else
+    if k == 869 then Some (Gen (get_or numbers 0 0) (get_or numbers 1 0)) else
+    if k == 1897 then Some Migrate else
+    None
+
+-- it is the one whose text and numbers they are
+back : (command : Command) → command_by (key (row_of command).text) (row_of command).numbers ≡ Some command
+back Replay = refl
+back Image = refl
+back Check = refl
+back Recover = refl
+back (Crash arena event seed) = refl
+back (Gen count seed) = refl
+back Migrate = refl
+
+-- what a command accepts it does not refuse
+pub settled : (command : Command) (input : List ℕ) (why : Cause) → (meaning_of command).accepts input → ¬ ((meaning_of command).refuses input why)
+settled Replay input why has = on_text (RefusesTrace input) (λ refusal. trace_not_refused input refusal has) why
+settled Image input why has = on_text (RefusesTrace input) (λ refusal. trace_not_refused input refusal has) why
+settled Check input why has = on_image (IsPoolDefect input) (λ arena defect. sound_not_refused input arena defect has) why
+settled Recover input why has = on_image (IsPoolDefect input) (λ arena defect. sound_not_refused input arena defect has) why
+settled (Crash arena event seed) input why has = on_text (RefusesCrash arena event input) (λ refusal. crash_not_refused arena event input refusal has) why
+settled (Gen count seed) input why has = λ refused. refused
+settled Migrate input why has = migrate_not_refused input why has
+
+-- one command
+
+-- numbers are read back from their texts
+numbers_once : (ns ms : List ℕ) → AreNumbers ns → AreNumbers ms → map decimal ns ≡ map decimal ms → ns ≡ ms
+numbers_once [] [] p q same = refl
+numbers_once [] (m ∷ ms) p q same = absurd (cc)
+numbers_once (n ∷ ns) [] p q same = absurd (cc)
+numbers_once (n ∷ ns) (m ∷ ms) p q same =
+    let first : decimal n ≡ decimal m = cc in
+    let rest : map decimal ns ≡ map decimal ms = cc in
+    cc (decimal_injective n m p.0 q.0 first, numbers_once ns ms p.1 q.1 rest)
+
+pub one_command : (words : List (List ℕ)) (a b : Command) → IsCommand words a → IsCommand words b → a ≡ b
+one_command words a b p q =
+    let text : (row_of a).text ≡ (row_of b).text = cc (p.text, q.text) in
+    let texts : map decimal (row_of a).numbers ≡ map decimal (row_of b).numbers = cc (p.text, q.text) in
+    let numbers = numbers_once (row_of a).numbers (row_of b).numbers p.numbers q.numbers texts in
+    let both : Some a ≡ Some b = sym (back a) ∙ ap (λ t. command_by (key t) (row_of a).numbers) text ∙ ap (command_by (key (row_of b).text)) numbers ∙ back b in
+    cc both
+
+-- what holds of the command that words say holds of each that they say
+pub said_holds : (words : List (List ℕ)) (command : Command) (Holds : Command → Type 0) → IsCommand words command → IsSaid words Holds → Holds command
+said_holds words command Holds said is = subst Holds (one_command words is.command command is.said said) is.holds
+
+-- the command that words say whose first is known
+by_first : (text : List ℕ) (rest : List (List ℕ)) (command : Command) → IsCommand (text ∷ rest) command → command_by (key text) (row_of command).numbers ≡ Some command
+by_first text rest command said =
+    let same : text ≡ (row_of command).text = cc (said.text) in
+    ap (λ t. command_by (key t) (row_of command).numbers) same ∙ back command
+
+-- words of which the first is `gen` say generated work, or no command
+pub no_gen : (rest : List (List ℕ)) → ((count seed : ℕ) → ¬ (IsCommand (codes "gen" ∷ rest) (Gen count seed))) → IsNoCommand (codes "gen" ∷ rest)
+no_gen rest none command said =
+    let numbers = (row_of command).numbers in
+    let is : command ≡ Gen (get_or numbers 0 0) (get_or numbers 1 0) = cc (by_first (codes "gen") rest command said) in
+    none (get_or numbers 0 0) (get_or numbers 1 0) (subst (IsCommand (codes "gen" ∷ rest)) is said)

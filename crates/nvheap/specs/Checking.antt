@@ -1,0 +1,30 @@
+-- What `check` means.
+use Rattle.std.specs.Prelude.{◌≡◌, ℕ, ◌<◌, List, Some, true, false}
+use Rattle.pool_layout.specs.Image.{part_of, IsImageOf}
+use Rattle.heap_check.specs.Image.{IsSoundImage}
+use Rattle.image_runs.specs.Checks.{IsChecked, IsPoolDefect}
+use Rattle.nvheap.specs.declared.input.Kind.TheVariants as kinds
+use Rattle.nvheap.specs.Causes.{OnImage}
+use Rattle.nvheap.specs.Meaning.{Places, Meaning, MakesNone}
+
+-- The output has the line of each arena of the image, and the places stay.
+abbrev pub AnswersCheck : List ℕ → List ℕ → Places → Places → Type 0
+AnswersCheck input output old new = IsChecked input output × (new ≡ old)
+
+-- the bytes are the image of a pool of which every arena is sound
+pub record HasSoundArenas (input : List ℕ) : Type 0 where
+  pub words : List ℕ
+  pub image : IsImageOf input words
+  pub sound : (arena : ℕ) → arena < image.header.arenas → IsSoundImage (part_of words image.header.granules arena)
+
+abbrev pub checking : Meaning
+checking = record {
+  reads = Some kinds.Pool;
+  waits = false;
+  idle = true;
+  recovers = false;
+  answers = AnswersCheck;
+  images = MakesNone;
+  refuses = λ input. OnImage (IsPoolDefect input);
+  accepts = HasSoundArenas;
+}

@@ -1,0 +1,55 @@
+-- What `recover` means.
+use Rattle.std.specs.Prelude.{◌≡◌, ℕ, zero, suc, ◌+◌, ◌<◌, ◌≤◌, List, Some, true, false}
+use Rattle.pmem_lines.specs.Pmem.{PmemState, risen}
+use Rattle.pool_layout.specs.declared.header.PoolHeader.{PoolHeader}
+use Rattle.pool_layout.specs.declared.defect.Defect.{Defect}
+use Rattle.pool_layout.specs.Image.{part_of, IsImageOf}
+use Rattle.heap_check.specs.Image.{IsSoundImage}
+use Rattle.image_defects.specs.Defects.{IsFirstDefect}
+use Rattle.recover.specs.Recovered.{IsRecoveredDevice}
+use Rattle.image_runs.specs.Checks.{IsPoolDefect}
+use Rattle.image_runs.specs.Recoveries.{heaps_from}
+use Rattle.nvheap.specs.declared.input.Kind.TheVariants as kinds
+use Rattle.nvheap.specs.Outside.{put_device}
+use Rattle.nvheap.specs.Causes.{OnImage}
+use Rattle.nvheap.specs.Meaning.{Places, Meaning}
+use Rattle.nvheap.specs.Checking.{HasSoundArenas}
+
+-- Of n arenas of a pool from one on each is sound, and its place on the shelf has a recovered device of its words; the other
+-- places stay.
+abbrev pub HasRecovered : List ℕ → ℕ → ℕ → ℕ → Places → Places → Type 0
+HasRecovered words granules arena zero old new = new ≡ old
+HasRecovered words granules arena (suc n) old new =
+    (device : PmemState) × (rest : Places) × IsSoundImage (part_of words granules arena) × IsRecoveredDevice (part_of words granules arena) device
+    × HasRecovered words granules (arena + 1) n old rest × (new ≡ put_device rest arena device)
+
+-- The input is the image of a pool of sound arenas, and the output has the heap of each; the place of each arena's number has
+-- a recovered device of its words, and the other places stay.
+pub record AnswersRecover (input output : List ℕ) (old new : Places) : Type 0 where
+  pub words : List ℕ
+  pub image : IsImageOf input words
+  pub is : output ≡ heaps_from words image.header.granules 0 image.header.arenas
+  pub shelf : HasRecovered words image.header.granules 0 image.header.arenas old new
+
+-- one device is made of an image for each arena
+abbrev pub MakesAll : List ℕ → ℕ → ℕ → Type 0
+MakesAll input old new = (words : List ℕ) × (image : IsImageOf input words) × (new ≡ risen old image.header.arenas)
+
+-- an arena is the first from one on that is not sound, and this is its first defect
+pub record HasUnsoundFrom (words : List ℕ) (header : PoolHeader) (from arena : ℕ) (defect : Defect) : Type 0 where
+  pub low : from ≤ arena
+  pub inside : arena < header.arenas
+  pub before : (earlier : ℕ) → from ≤ earlier → earlier < arena → IsSoundImage (part_of words header.granules earlier)
+  pub first : IsFirstDefect (part_of words header.granules arena) defect
+
+abbrev pub recovering : Meaning
+recovering = record {
+  reads = Some kinds.Pool;
+  waits = false;
+  idle = false;
+  recovers = true;
+  answers = AnswersRecover;
+  images = MakesAll;
+  refuses = λ input. OnImage (IsPoolDefect input);
+  accepts = HasSoundArenas;
+}
