@@ -1,4 +1,4 @@
-// An arena of 16 granules for the rows of this crate, its calls, and the events of the last one.
+// Arenas for the rows of this crate, their calls, and the events of the last one.
 //
 // Of what the arena's contract says of a call nothing is handed on here: the tests compare what is answered, and the proof of
 // a test that makes ten calls stays small.
@@ -14,6 +14,17 @@ pub(crate) fn new_arena(alloc: Global) -> Result<Arena<SimPmem>, OutOfMemory> {
     let room = ArenaRoom::new(alloc, 16)?;
     let device = SimPmem::zeroed(alloc, 4096, 2048)?;
     Ok(Arena::format(room, device, 0, 1))
+}
+
+/// A new arena of version 2 of so many granules, on a memory of zeros with room for 4096 events.
+#[tactic(auto, using(arena_core::proofs::Readiness::second_room, arena_core::proofs::Readiness::second_least, arena_core::proofs::Readiness::second_most), unfolding(pool_layout::specs::Layout::all_granules))]
+pub(crate) fn second_arena(alloc: Global, granules: u32) -> Result<Arena<SimPmem>, OutOfMemory>
+    requires least { 25 ≤ granules }
+    requires most { granules ≤ 4096 }
+{
+    let room = ArenaRoom::new(alloc, granules)?;
+    let device = SimPmem::zeroed(alloc, 256 * granules, 4096)?;
+    Ok(Arena::format_v2(room, device, 0, 1))
 }
 
 /// The events of the last call are these, and no more.

@@ -1,5 +1,5 @@
 // What the checker says of an image.
-use crate::images::{Put, image};
+use crate::images::{Base, Put, image};
 use image_check::{CheckFault, check_arena};
 use image_defects::Summary;
 use pmem_lines::OutOfMemory;
@@ -15,10 +15,10 @@ pub fn answer_of(alloc: Global, words: &[u64]) -> Result<Result<Summary, Defect>
     }
 }
 
-/// What the checker says of an arena of 16 granules with these words, the second row over the first, and 0 else.
+/// What the checker says of an arena with the words of a row over its own.
 pub fn answer(
     alloc: Global,
-    base: &[Put],
+    base: &Base,
     changes: &[Put],
 ) -> Result<Result<Summary, Defect>, OutOfMemory> {
     answer_of(alloc, &image(alloc, base, changes)?)

@@ -1,5 +1,5 @@
 // Images of an arena of 1024 granules that are dear to check: all roots, all slabs, all live extents and all bits that
-// there may be, and what is wrong, if anything, at the end of a search.
+// there may be, and what is wrong, if anything, at the end of a search; and of version 2 one of 4096 with all live extents.
 ghost use Rattle.std.specs.Prelude.{◌<◌};
 
 use crate::answers::{answer_of, bad_slab, counts, shared};
@@ -177,6 +177,38 @@ fn all_bits(rt: HostRuntime) -> Result<(), Fail> {
     assert_eq!(rt;
         answer_of(rt.alloc(), &words)?,
         Err(Defect::StrayBit { at: 67840 })
+    );
+    Ok(())
+}
+
+// The header line of the only arena of version 2, of 4096 granules, and a directory of five chunks.
+const LARGEST_SECOND: [Put; 3] = [
+    (0, 3550894020320384590),
+    (1, 0x0001_1000_0000_0002),
+    (2, 0x0005_0403_0201),
+];
+
+// The heap of 4083 granules has 2041 large extents of two, which is the most that there may be, and a root for each: their
+// entries fill four chunks of 504, and there are 25 in the fifth. Then the first extent has three granules.
+#[test]
+fn all_extents_of_version_2(rt: HostRuntime) -> Result<(), Fail> {
+    let mut words = blank(rt.alloc(), 8_388_608)?;
+    put(&mut words, &LARGEST_SECOND);
+    for extent in 0..2041u64 {
+        let own = extent % 504;
+        let at = 18440 + 512 * (extent / 504) + 8 * (own % 63) + own / 63;
+        let start = 13 + 2 * extent;
+        set(&mut words, at, 1 + 256 * start + 0x0200_0000);
+        set(&mut words, 2048 + extent, 16384 * start);
+    }
+    assert_eq!(rt; answer_of(rt.alloc(), &words)?, counts(2041, 0, 2041, 0));
+    set(&mut words, 18440, 1 + 256 * 13 + 0x0300_0000);
+    assert_eq!(rt;
+        answer_of(rt.alloc(), &words)?,
+        Err(Defect::Overlap {
+            first: 13,
+            second: 15
+        })
     );
     Ok(())
 }

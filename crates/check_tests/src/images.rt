@@ -1,5 +1,5 @@
 // Images made by hand.
-ghost use Rattle.std.specs.Prelude.{◌≡◌, IfOk, length};
+ghost use Rattle.std.specs.Prelude.{◌≡◌, ◌≤◌, ◌%◌, IfOk, length};
 
 use pmem_lines::OutOfMemory;
 use std::alloc::Global;
@@ -7,35 +7,62 @@ use std::alloc::Global;
 /// A word of an image: its number, and what it is.
 pub type Put = (usize, u64);
 
-// Words of an arena of 16 granules.
-const ARENA_WORDS: usize = 32768;
+// Words of a granule.
+const GRANULE_WORDS: usize = 2048;
+
+/// An arena of 16 to 4096 granules, by its words that are not 0.
+#[derive(Clone, Copy)]
+pub struct Base {
+    pub granules: usize,
+    pub words: &'static [Put],
+}
 
 /// An arena with one slab of class 6, at granule 4, whose block 0 root 5 holds.
-pub const ONE_BLOCK: [Put; 7] = [
-    (0, 3550894020320384590),
-    (1, 281543696187393),
-    (2, 1),
-    (2053, 67584),
-    (6152, 1026),
-    (8192, 1537),
-    (8200, 1),
-];
+pub const ONE_BLOCK: Base = Base {
+    granules: 16,
+    words: &[
+        (0, 3550894020320384590),
+        (1, 281543696187393),
+        (2, 1),
+        (2053, 67584),
+        (6152, 1026),
+        (8192, 1537),
+        (8200, 1),
+    ],
+};
+
+/// An arena of version 2 of 25 granules with one slab of class 6, at granule 13, whose block 0 root 16383 holds.
+pub const SECOND_VERSION: Base = Base {
+    granules: 25,
+    words: &[
+        (0, 3550894020320384590),
+        (1, 0x0001_0019_0000_0002),
+        (2, 1),
+        (18431, 215_040),
+        (18440, 3330),
+        (26624, 1537),
+        (26632, 1),
+    ],
+};
 
 /// An arena with a large block of 8 granules and a slab at granule 12 that took class 19 and was of class 3 before: one
 /// block of each lives.
-pub const IN_TRANSITION: [Put; 11] = [
-    (0, 3550894020320384590),
-    (1, 281543696187393),
-    (2, 1),
-    (2048, 65536),
-    (2049, 198656),
-    (2050, 199680),
-    (6152, 134218753),
-    (6160, 3074),
-    (24576, 16978691),
-    (24592, 1),
-    (24648, 1),
-];
+pub const IN_TRANSITION: Base = Base {
+    granules: 16,
+    words: &[
+        (0, 3550894020320384590),
+        (1, 281543696187393),
+        (2, 1),
+        (2048, 65536),
+        (2049, 198656),
+        (2050, 199680),
+        (6152, 134218753),
+        (6160, 3074),
+        (24576, 16978691),
+        (24592, 1),
+        (24648, 1),
+    ],
+};
 
 /// So many words, all 0.
 pub fn blank(alloc: Global, size: usize) -> Result<Vec<u64>, OutOfMemory>
@@ -54,12 +81,14 @@ pub fn put(words: &mut [u64], puts: &[Put]) {
     }
 }
 
-/// An arena of 16 granules with these words, the second row over the first, and 0 else.
-pub fn image(alloc: Global, base: &[Put], changes: &[Put]) -> Result<Vec<u64>, OutOfMemory>
-    ensures { IfOk result (λ words. length words.items ≡ 32768) }
+/// An arena with the words of a row over its own, whole lines of words.
+pub fn image(alloc: Global, base: &Base, changes: &[Put]) -> Result<Vec<u64>, OutOfMemory>
+    ensures whole { IfOk result (λ words. length words.items % 8 ≡ 0) }
+    ensures some { IfOk result (λ words. 8 ≤ length words.items) }
+    ensures few { IfOk result (λ words. length words.items ≤ 8388608) }
 {
-    let mut words = blank(alloc, ARENA_WORDS)?;
-    put(&mut words, base);
+    let mut words = blank(alloc, GRANULE_WORDS * base.granules.clamp(16, 4096))?;
+    put(&mut words, base.words);
     put(&mut words, changes);
     Ok(words)
 }

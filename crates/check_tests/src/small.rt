@@ -20,7 +20,7 @@ fn lengths(rt: HostRuntime) -> Result<(), Fail> {
         Err(Defect::BadLength { have: 0, need: 64 })
     );
     let mut short = blank(rt.alloc(), 32767)?;
-    put(&mut short, &ONE_BLOCK);
+    put(&mut short, ONE_BLOCK.words);
     assert_eq!(rt;
         answer_of(rt.alloc(), &short)?,
         Err(Defect::BadLength {

@@ -58,12 +58,13 @@ fn cut_power(rt: &impl Print, alloc: Global, device: &SimPmem, event: u32) -> Re
     go_on(rt, &mut restart(alloc, &image)?)
 }
 
-// An image is whole lines, 1 to 1,048,576 of them. What else may be wrong with one, `recover` finds.
+// An image is whole lines, 1 to 1,048,576 of them. What else may be wrong with one, `recover` finds. No recovery, of an arena of
+// either version, has more than 4096 events.
 fn restart(alloc: Global, image: &[u64]) -> Result<Arena<SimPmem>> {
     if image.is_empty() || image.len() % 8 != 0 || image.len() > 8_388_608 {
         bail!("not an image: {} words", image.len());
     }
-    let device = SimPmem::from_image(alloc, image, 2048)?;
+    let device = SimPmem::from_image(alloc, image, 4096)?;
     recover(alloc, device).map_err(|(fault, _device)| fault.into())
 }
 

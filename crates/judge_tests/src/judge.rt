@@ -4,7 +4,7 @@
 mod changed;
 mod known;
 
-use crate::machine::calls::{Asked, calls_at, numbered, pool_of};
+use crate::machine::calls::{Asked, Pool, calls_at, numbered, pool_of};
 use crate::machine::{Counts, Machine};
 use std::alloc::{AllocError, Global};
 
@@ -114,11 +114,11 @@ fn judge_arena(
     alloc: Global,
     trace: &str,
     arena: u64,
-    granules: u64,
+    pool: Pool,
     lines: &mut Lines<'_>,
 ) -> Result<Option<Counts>, AllocError> {
     let mut left = calls_at(alloc, trace, arena)?;
-    let mut machine = Machine::new(alloc, granules);
+    let mut machine = Machine::new(alloc, pool);
     let count = left.len();
     let heading = format!(in alloc; "arena {arena} calls {count}")?;
     if !lines.is_next(&heading) {
@@ -146,10 +146,10 @@ pub(crate) fn judge(alloc: Global, trace: &str, report: &str) -> Result<Verdict,
         lines: report.lines().collect(alloc)?,
         read: 0,
     };
-    let (arenas, granules) = pool_of(trace).unwrap_or((0, 0));
+    let pool = pool_of(trace);
     let mut counts = Counts::ZERO;
-    for arena in 0..arenas {
-        match judge_arena(alloc, trace, arena, granules, &mut lines)? {
+    for arena in 0..pool.arenas {
+        match judge_arena(alloc, trace, arena, pool, &mut lines)? {
             Some(more) => counts = counts.with(more),
             None => return Ok(Verdict::WrongAt(lines.read)),
         }

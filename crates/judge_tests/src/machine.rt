@@ -6,12 +6,9 @@ pub(crate) mod blocks;
 pub(crate) mod calls;
 mod placement;
 
-use crate::machine::blocks::{FIRST, GRANULE, Range, Slab, least_size};
-use crate::machine::calls::Call;
+use crate::machine::blocks::{GRANULE, Range, Slab, least_size};
+use crate::machine::calls::{Call, Pool};
 use std::alloc::{AllocError, Global};
-
-// How many roots an arena has.
-const ROOTS: u64 = 4096;
 
 /// A root and the block that it names.
 #[derive(Clone, Copy)]
@@ -153,7 +150,7 @@ pub(crate) fn one_more(count: &mut u64) {
 /// The state of an arena and its stacks.
 #[derive(Drop)]
 pub(crate) struct Machine {
-    pub(crate) granules: u64,
+    pub(crate) pool: Pool,
     pub(crate) named: Vec<Named>,
     written: Vec<Written>,
     pub(crate) slabs: Vec<Slab>,
@@ -162,10 +159,10 @@ pub(crate) struct Machine {
 }
 
 impl Machine {
-    /// An arena of so many granules, with nothing in it.
-    pub(crate) fn new(alloc: Global, granules: u64) -> Machine {
+    /// An arena of a pool, with nothing in it.
+    pub(crate) fn new(alloc: Global, pool: Pool) -> Machine {
         Machine {
-            granules,
+            pool,
             named: Vec::new(alloc),
             written: Vec::new(alloc),
             slabs: Vec::new(alloc),
@@ -207,7 +204,7 @@ impl Machine {
         root: u64,
         size: u64,
     ) -> Result<Reply, AllocError> {
-        if root >= ROOTS {
+        if root >= self.pool.roots {
             return Ok(Reply::NoRoot);
         }
         if let Some(block) = self.block_of(root) {
@@ -216,7 +213,8 @@ impl Machine {
         if size == 0 {
             return Ok(Reply::ZeroSize);
         }
-        if size > self.granules.saturating_sub(FIRST).saturating_mul(GRANULE) {
+        let granules = self.pool.granules.saturating_sub(self.pool.first);
+        if size > granules.saturating_mul(GRANULE) {
             return Ok(Reply::TooLarge);
         }
         let site = match least_size(size) {
@@ -233,7 +231,7 @@ impl Machine {
     }
 
     fn free(&mut self, seat: u64, root: u64) -> Result<Reply, AllocError> {
-        if root >= ROOTS {
+        if root >= self.pool.roots {
             return Ok(Reply::NoRoot);
         }
         let Some(block) = self.block_of(root) else {
@@ -246,7 +244,7 @@ impl Machine {
     }
 
     fn give_to(&mut self, from: u64, to: u64) -> Reply {
-        if from >= ROOTS || to >= ROOTS {
+        if from >= self.pool.roots || to >= self.pool.roots {
             return Reply::NoRoot;
         }
         let Some(block) = self.block_of(from) else {
@@ -293,7 +291,7 @@ impl Machine {
 
     // How a write or a read of a word is refused, if it is.
     fn refusal_at(&self, root: u64, index: u64) -> Option<Reply> {
-        if root >= ROOTS {
+        if root >= self.pool.roots {
             return Some(Reply::NoRoot);
         }
         match self.block_of(root) {
@@ -322,7 +320,7 @@ impl Machine {
     /// The lines of the heap behind the line that counts them.
     pub(crate) fn heap_lines(&self, alloc: Global) -> Result<Vec<String>, AllocError> {
         let mut lines = Vec::new(alloc);
-        for root in 0..ROOTS {
+        for root in 0..self.pool.roots {
             if let Some(line) = self.heap_line(alloc, root)? {
                 lines.push(line)?;
             }

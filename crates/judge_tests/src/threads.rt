@@ -5,7 +5,7 @@ mod generated;
 ghost use Rattle.std.specs.Prelude.{◌<◌, length, IfSome};
 
 use crate::judge::judge;
-use crate::machine::calls::{calls_at, pool_of};
+use crate::machine::calls::{Pool, calls_at, pool_of};
 use crate::machine::{Counts, Machine};
 use crate::threads::generated::{Made, of_seed, on_one_thread, trace};
 use nvheap::{Gate, KeptShelf, MemSink, Status, SureSource, run};
@@ -154,10 +154,10 @@ fn add_heap(
     alloc: Global,
     trace: &str,
     arena: u64,
-    granules: u64,
+    pool: Pool,
     heaps: &mut String,
 ) -> Result<Counts, AllocError> {
-    let mut machine = Machine::new(alloc, granules);
+    let mut machine = Machine::new(alloc, pool);
     for asked in calls_at(alloc, trace, arena)?.iter() {
         let _ = machine.answer(alloc, asked.thread, asked.call)?;
     }
@@ -178,11 +178,11 @@ fn recovered<R: Abort + Threads + Wait + Sync>(
     alloc: Global,
     trace: &str,
 ) -> Result<Counts, Fail> {
-    let (arenas, granules) = pool_of(trace).unwrap_or((0, 0));
+    let pool = pool_of(trace);
     let mut counts = Counts::ZERO;
     let mut heaps = String::new(alloc);
-    for arena in 0..arenas {
-        counts = counts.with(add_heap(alloc, trace, arena, granules, &mut heaps)?);
+    for arena in 0..pool.arenas {
+        counts = counts.with(add_heap(alloc, trace, arena, pool, &mut heaps)?);
     }
     let image = tells(rt, alloc, "image", trace.as_bytes(), 0)?;
     let written = tells(rt, alloc, "recover", &image, 0)?;

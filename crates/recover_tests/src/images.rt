@@ -2,7 +2,7 @@
 ghost use Rattle.std.specs.Prelude.{◌≡◌, ◌≤◌, ◌%◌, length};
 
 use arena_core::{Arena, Freed, Moved, Placed};
-use check_tests::{Put, image, put};
+use check_tests::{Base, Put, image, put};
 use heap_model::Block;
 use pmem_lines::{OutOfMemory, Pmem, SimPmem};
 use pool_layout::Defect;
@@ -12,6 +12,9 @@ use recover::{RecoverFault, recover};
 use std::alloc::Global;
 use std::process::Abort;
 use std::test::Fail;
+
+/// The events that a device has room for which may be of any version.
+pub const ROOM: u32 = 4096;
 
 /// What became of an image.
 #[derive(Clone, Copy, Debug, PartialEq, Eq)]
@@ -29,14 +32,14 @@ pub enum Became {
 /// The image of the words of two rows is recovered, and its words are compared with those of a third row over it.
 pub fn recovered(
     alloc: Global,
-    base: &[Put],
+    base: &Base,
     changes: &[Put],
     after: &[Put],
 ) -> Result<Became, OutOfMemory> {
     let before = image(alloc, base, changes)?;
     let mut wanted = image(alloc, base, changes)?;
     put(&mut wanted, after);
-    let device = SimPmem::from_image(alloc, &before, 2048)?;
+    let device = SimPmem::from_image(alloc, &before, ROOM)?;
     match recover(alloc, device) {
         Ok(arena) => {
             let device = arena.into_pmem();
@@ -67,7 +70,7 @@ fn arena_of(alloc: Global, words: &[u64]) -> Result<Option<Arena<SimPmem>>, OutO
     requires some { 8 ≤ length words.now }
     requires few { length words.now ≤ 8388608 }
 {
-    let device = SimPmem::from_image(alloc, words, 2048)?;
+    let device = SimPmem::from_image(alloc, words, ROOM)?;
     match recover(alloc, device) {
         Ok(arena) => Ok(Some(arena)),
         Err((RecoverFault::Memory(error), _)) => Err(error),
@@ -78,7 +81,7 @@ fn arena_of(alloc: Global, words: &[u64]) -> Result<Option<Arena<SimPmem>>, OutO
 /// The arena that is recovered from the words of two rows. `None` where they are not sound.
 pub fn arena_with(
     alloc: Global,
-    base: &[Put],
+    base: &Base,
     changes: &[Put],
 ) -> Result<Option<Arena<SimPmem>>, OutOfMemory> {
     arena_of(alloc, &image(alloc, base, changes)?)
@@ -88,7 +91,7 @@ pub fn arena_with(
 pub type Row<'a> = (&'a [Put], &'a [Put], u32);
 
 /// The image of each row becomes exact, with the words and by the events that the row has.
-pub fn all_become<R: Abort>(rt: &R, alloc: Global, base: &[Put], rows: &[Row]) -> Result<(), Fail> {
+pub fn all_become<R: Abort>(rt: &R, alloc: Global, base: &Base, rows: &[Row]) -> Result<(), Fail> {
     for (changes, after, events) in rows {
         assert_eq!(rt;
             recovered(alloc, base, changes, after)?,
@@ -201,7 +204,7 @@ fn both_of(
 /// an arena that was recovered from the words of a row.
 pub fn crash_in_a_move(
     alloc: Global,
-    base: &[Put],
+    base: &Base,
     from: u32,
     to: u32,
     k: u32,

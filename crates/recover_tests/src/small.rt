@@ -1,7 +1,8 @@
 // Images in which nothing is loose, and open entries of an arena with one block.
-use crate::images::{Row, all_become, arena_with, goes_on, placed};
-use check_tests::{IN_TRANSITION, ONE_BLOCK, Put};
+use crate::images::{Became, Row, all_become, arena_with, goes_on, placed, recovered};
+use check_tests::{IN_TRANSITION, ONE_BLOCK, Put, SECOND_VERSION};
 use heap_model::Block;
+use pool_layout::Defect;
 use std::test::Fail;
 
 // What is exact stays so, by no event.
@@ -53,5 +54,55 @@ fn arena_goes_on(rt: HostRuntime) -> Result<(), Fail> {
             Some((block, placed(at, 112)))
         );
     }
+    Ok(())
+}
+
+// An arena of version 2: it is exact; its block is coming, going or moving; and there is a large extent that no root names. Its
+// log has the second entry on the second line.
+#[test]
+fn of_version_2(rt: HostRuntime) -> Result<(), Fail> {
+    let rows: [Row; 5] = [
+        (&[], &[], 0),
+        (
+            &[(64, 0x0003_4800_3fff_0001), (26632, 0)],
+            &[(64, 0), (26632, 1)],
+            6,
+        ),
+        (
+            &[(64, 0x0003_4800_3fff_0001), (18431, 0)],
+            &[(64, 0), (26632, 0), (18448, 3331)],
+            9,
+        ),
+        (
+            &[(64, 0x0009_3fff_0005), (2057, 215_040)],
+            &[(64, 0), (18431, 0)],
+            6,
+        ),
+        (&[(18448, 33558785)], &[(18456, 4355)], 3),
+    ];
+    all_become(&rt, rt.alloc(), &SECOND_VERSION, &rows)?;
+    assert_eq!(rt;
+        recovered(rt.alloc(), &SECOND_VERSION, &[(18430, 215_040)], &[])?,
+        Became::Refused(Defect::SharedBlock {
+            first: 16382,
+            second: 16383
+        })
+    );
+    Ok(())
+}
+
+// Root 16383 has its block, and root 6 is given the one behind it.
+#[test]
+fn arena_of_version_2_goes_on(rt: HostRuntime) -> Result<(), Fail> {
+    let held = Block {
+        root: 16383,
+        at: 215_040,
+        size: 112,
+    };
+    let arena = arena_with(rt.alloc(), &SECOND_VERSION, &[])?;
+    assert_eq!(rt;
+        arena.map(|arena| goes_on(arena, 16383, 6, 100)),
+        Some((Some(held), placed(215_152, 112)))
+    );
     Ok(())
 }

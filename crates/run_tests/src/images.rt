@@ -1,12 +1,14 @@
 // Images made by hand, and what `check` and `recover` write of them.
 //
 // Here is how images are made and how both commands run over them. `entries` has images with open entries, `transition` of a
-// slab that takes another class, `defects` with a defect, `pools` of several arenas and of wrong lengths, and `cycles` images
-// that `image` makes of traces.
+// slab that takes another class, `defects` with a defect, `pools` of several arenas and of wrong lengths, `second_version` of
+// version 2, and `cycles` images that `image` makes of traces. `migration` has images that `migrate` makes of images.
 mod cycles;
 mod defects;
 mod entries;
+mod migration;
 mod pools;
+mod second_version;
 mod transition;
 
 use crate::runs::{heap_of, tells};

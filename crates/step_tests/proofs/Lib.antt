@@ -1,4 +1,5 @@
 pub mod Evens
+pub mod Filling
 pub mod Fresh
 pub mod OneSlab
 pub mod TakenClasses

@@ -4,7 +4,9 @@ use Rattle.std.proofs.lemmas.Bool.{false≢true, cases_eq, cond-true, cond-false
 use Rattle.pmem_lines.specs.Words.{word_at, put_word, AreZeros}
 use Rattle.pmem_lines.proofs.Words.{word_at-put_same, word_at-put_other, length-put_word}
 use Rattle.pool_layout.specs.declared.header.PoolHeader.{PoolHeader}
-use Rattle.pool_layout.specs.Layout.{layout_of}
+use Rattle.pool_layout.specs.declared.layout.Layout.{Layout}
+use Rattle.pool_layout.specs.Layout.{first_layout, layout_of, all_granules}
+use Rattle.pool_layout.proofs.Layouts.{first_row, first_version}
 use Rattle.pool_layout.specs.Places.{text_word, fields_word, directory_word, entry_word, root_word, wal_word}
 use Rattle.pool_layout.specs.Header.{version_field, granules_field, version_in, granules_in, fields_of, header_text, header_word, IsHeader}
 use Rattle.image_tables.specs.Extents.{extent_at}
@@ -51,7 +53,7 @@ block = record { start = 4; number = 9; at = 68592 }
 -- an arena is formatted on zeros, by three words
 pub formatted_by : {zero one two three : List ℕ} {a b c text : ℕ} → AreZeros zero → length zero ≡ 32768 → a ≡ 8 * fields_word → one ≡ put_word zero (a / 8) (header_word header) →
     b ≡ 8 * directory_word → two ≡ put_word one (b / 8) 1 → c ≡ 8 * text_word → text ≡ header_text → three ≡ put_word two (c / 8) text → IsFormatted three header
-unfolding layout_of
+unfolding layout_of all_granules
 formatted_by {zero} {one} {two} {three} {a} {b} {c} {text} zeros size at_a is_one at_b is_two at_c is_text is_three =
     let first : one ≡ put_word zero fields_word (header_word header) = is_one ∙ ap (λ i. put_word zero (i / 8) (header_word header)) at_a in
     let second : two ≡ put_word one directory_word 1 = is_two ∙ ap (λ i. put_word one (i / 8) 1) at_b in
@@ -68,12 +70,16 @@ formatted_by {zero} {one} {two} {three} {a} {b} {c} {text} zeros size at_a is_on
         text = ap (λ (ws : List ℕ). word_at ws text_word) third ∙ word_at-put_same two text_word text_word header_text refl (omega (arith, length_two));
         word = read fields_word (λ e. omega (arith, e)) ∙ read_two fields_word (λ e. omega (arith, e)) ∙ ap (λ (ws : List ℕ). word_at ws fields_word) first
             ∙ word_at-put_same zero fields_word fields_word (header_word header) refl (omega (arith, size));
-        valid = record { version = refl; some = omega arith; most = omega arith; number = omega arith; least = omega arith; greatest = omega arith };
+        valid = record { version = first_version; some = omega arith; most = omega arith; number = omega arith; least = omega arith; greatest = omega arith; together = omega arith };
       };
       size = length_three;
       directory = read directory_word (λ e. omega (arith, e)) ∙ ap (λ (ws : List ℕ). word_at ws directory_word) second ∙ word_at-put_same one directory_word directory_word 1 refl (omega (arith, length_one));
       rest = λ k behind. read k (λ e. omega (arith, e, behind)) ∙ read_two k (λ e. omega (arith, e, behind)) ∙ read_one k (λ e. omega (arith, e, behind)) ∙ zeros.each k;
     }
+
+-- its numbers are those of version 1
+pub formatted_row : {words : List ℕ} → IsFormatted words header → layout_of (version_in words) ≡ first_layout
+formatted_row {words} formatted = ap (λ (h : PoolHeader). layout_of h.version) (header_in-formatted words header formatted) ∙ first_row
 
 -- its log is well formed
 pub log_by : {words : List ℕ} {granules : ℕ} → IsFormatted words header → granules ≡ 16 → HasLog granules words
@@ -82,15 +88,19 @@ log_by {words} {granules} formatted same =
     subst (λ n. HasLog n words) (size ∙ sym same) (IsFormed-formatted words header formatted).log
 
 -- the slab is made, and the log stays
-pub same_log : {words made : List ℕ} → IsMade words made 4 6 → SameLog words made
-unfolding layout_of
-same_log {words} {made} slab = record {
+pub same_log : {words made : List ℕ} → IsFormatted words header → IsMade words made 4 6 → SameLog words made
+same_log {words} {made} formatted slab = record {
   fields = slab.kept.others fields_word (inl (omega arith));
   directory = slab.kept.others directory_word (inl (omega arith));
   chunks = λ i d below.
       let directory = word_at words directory_word in
-      record { each = λ entry less. slab.kept.others _ (inl (omega (arith, entry_word-high (version_in words) _ entry (few_chunks directory i d below) less))) };
+      let heap : (layout_of (version_in words)).first_granule ≡ 4 = ap (λ (r : Layout). r.first_granule) (formatted_row formatted) in
+      record { each = λ entry less. slab.kept.others _ (inl (omega (arith, heap, entry_word-high (version_in words) _ entry (few_chunks directory i d below) less))) };
 }
+
+-- and so do the numbers
+pub made_row : {words made : List ℕ} → IsFormatted words header → IsMade words made 4 6 → layout_of (version_in made) ≡ first_layout
+made_row formatted slab = ap (λ w. layout_of (version_field w)) (slab.kept.others fields_word (inl (omega arith))) ∙ formatted_row formatted
 
 -- behind the words of an arena in which nothing was allocated come those with the slab
 pub record IsOneSlab (words new : List ℕ) : Type 0 where
@@ -105,17 +115,19 @@ pub record IsOneSlab (words new : List ℕ) : Type 0 where
 -- the log has the slab
 one_slab_by : {words made new : List ℕ} {k granules : ℕ} → IsFormatted words header → IsMade words made 4 6 → IsInLog (version_in made) k → new ≡ put_word made k (word_of_entry (Slab 4)) →
     ((start : ℕ) → extent_at new start ≡ with_entry (extent_at made) (Slab 4) start) → HasLog granules new → granules ≡ 16 → IsOneSlab words new
-unfolding layout_of
 one_slab_by {words} {made} {new} {k} {granules} formatted slab place is extents log same =
+    let row = made_row formatted slab in
+    let low : 6144 < k = omega (arith, place.low, ap (λ (r : Layout). r.log_at) row) in
+    let high : k < 8192 = omega (arith, place.high, ap (λ (r : Layout). r.first_granule) row) in
     let read : (i : ℕ) → i ≢ k → word_at new i ≡ word_at made i = λ i apart. ap (λ (ws : List ℕ). word_at ws i) is ∙ word_at-put_other made k i (word_of_entry (Slab 4)) apart in
     record {
       formatted = formatted;
-      low = λ i below. read i (λ e. omega (arith, e, below, place.low)) ∙ slab.kept.others i (inl (omega (arith, below)));
-      state = read (state_word 4) (λ e. omega (arith, e, place.high)) ∙ slab.state;
-      clear = λ i below. read (bitmap_word 4 i) (λ e. omega (arith, e, place.high)) ∙ slab.clear i below;
+      low = λ i below. read i (λ e. omega (arith, e, below, low)) ∙ slab.kept.others i (inl (omega (arith, below)));
+      state = read (state_word 4) (λ e. omega (arith, e, high)) ∙ slab.state;
+      clear = λ i below. read (bitmap_word 4 i) (λ e. omega (arith, e, high)) ∙ slab.clear i below;
       extents = λ start. extents start
           ∙ with_entry-same (extent_at made) (λ _. None) (Slab 4) start
-          (extent_at-same words made start (same_log slab)
+          (extent_at-same words made start (same_log formatted slab)
           ∙ fresh_none words start (record { directory = formatted.directory; empty = λ entry. formatted.rest (entry_word (version_in words) 0 entry) (omega arith) }));
       log = subst (λ n. HasLog n new) same log;
       size = ap length is ∙ length-put_word made k (word_of_entry (Slab 4)) ∙ slab.kept.same_length ∙ formatted.size;
@@ -215,10 +227,16 @@ module _ (words new : List ℕ) (one : IsOneSlab words new) where
       (λ (high : 4096 ≤ i). middle_fails (is_slab new 4) (ltb i 4096) (slab_bit new 4 i) (le-ltb i 4096 high))
       (cases_lt i 4096)
 
+  -- the numbers of version 1
+  row : layout_of (version_in words) ≡ first_layout
+  row = formatted_row one.formatted
+
+  heap : (layout_of (version_in words)).first_granule ≡ 4
+  heap = ap (λ (r : Layout). r.first_granule) row
+
   -- the tables have one slab more
   low_root : (root : ℕ) → root < (layout_of (version_in words)).roots → root_word root < 6144
-  unfolding layout_of
-  low_root root below = omega (arith, below)
+  low_root root below = omega (arith, below, ap (λ (r : Layout). r.roots) row)
 
   words_same : root_in new ≡ root_in words
   words_same k r = roots-same words new version (λ root below. one.low (root_word root) (low_root root below)) r k
@@ -261,9 +279,8 @@ module _ (words new : List ℕ) (one : IsOneSlab words new) where
 
   -- on vacant granules
   place : IsSlabPlace (bounds_of words) (tables_of words) (tables_of new) 4
-  unfolding layout_of
-  place = IsSlabPlace-vacant exact.sound blank.closed (omega arith) with_slab (λ k from to. record {
-    low = from;
+  place = IsSlabPlace-vacant exact.sound blank.closed (omega (arith, heap)) with_slab (λ k from to. record {
+    low = omega (arith, from, heap);
     high = omega (arith, to, was);
     none = λ start covers. omega (arith, covers.low, covers.high, granules_at-large (tables_of words) start (blank.no_slab start), blank.no_large start);
   })
@@ -282,10 +299,9 @@ module _ (words new : List ℕ) (one : IsOneSlab words new) where
   six_at = refl
 
   block_in : IsBlockIn new 5 block
-  unfolding layout_of
   block_in = record {
     image = image;
-    rooted = omega arith;
+    rooted = omega (arith, ap (λ v. (layout_of v).roots) version, ap (λ (r : Layout). r.roots) row);
     slab = with_slab.more.slab;
     lively = λ done. omega (arith, done.kind, with_slab.fresh.kind);
     below = subst (λ c. 9 < class_capacity c) (sym with_slab.fresh.class_is) six_small;

@@ -49,8 +49,8 @@ fn last_entry_counts(rt: HostRuntime) -> Result<(), Fail> {
 
 #[test]
 fn log_of_the_largest_arena(rt: HostRuntime) -> Result<(), Fail> {
-    let log = BookLog::new(rt.alloc(), 1024)?;
-    assert_eq!(rt; log.granules(), 1024);
+    let log = BookLog::new(rt.alloc(), 4096)?;
+    assert_eq!(rt; log.granules(), 4096);
     assert_eq!(rt; (log.has_room(), log.next_live(0)), (false, None));
     Ok(())
 }

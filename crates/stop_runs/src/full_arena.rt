@@ -19,7 +19,7 @@ const SEED: u64 = 4;
 
 /// The calls: five seats ask for blocks for 30 roots of an arena of 16 granules, free them, move them, and write to them.
 pub(crate) fn full_arena(alloc: Global) -> Result<Vec<(u32, Call)>, OutOfMemory> {
-    let mut arena = new_arena(alloc, 16)?;
+    let mut arena = new_arena(alloc, 1, 16)?;
     calls_on(alloc, &mut arena)
 }
 

@@ -1,4 +1,6 @@
 // An arena for a script, and its heap as stops compare it.
+ghost use Rattle.std.specs.Prelude.{◌≤◌};
+
 use arena_core::{Arena, ArenaRoom};
 use heap_model::Block;
 use pmem_lines::{OutOfMemory, SimPmem};
@@ -11,12 +13,30 @@ pub(crate) struct Held {
     sum: u64,
 }
 
-/// An arena of 16 to 1024 granules in which no root names a block.
-pub(crate) fn new_arena(alloc: Global, granules: u32) -> Result<Arena<SimPmem>, OutOfMemory> {
+/// An arena in which no root names a block, with as many granules as its version has: 16 to 1024, or 25 to 4096 of version 2.
+pub(crate) fn new_arena(
+    alloc: Global,
+    version: u32,
+    granules: u32,
+) -> Result<Arena<SimPmem>, OutOfMemory> {
+    if version == 2 {
+        return second_arena(alloc, granules.clamp(25, 4096));
+    }
     let granules = granules.clamp(16, 1024);
     let room = ArenaRoom::new(alloc, granules)?;
     let device = SimPmem::zeroed(alloc, 256 * granules, 2048)?;
     Ok(Arena::format(room, device, 0, 1))
+}
+
+// One of version 2.
+#[tactic(auto, using(arena_core::proofs::Readiness::second_room, arena_core::proofs::Readiness::second_least, arena_core::proofs::Readiness::second_most), unfolding(pool_layout::specs::Layout::all_granules))]
+fn second_arena(alloc: Global, granules: u32) -> Result<Arena<SimPmem>, OutOfMemory>
+    requires least { 25 ≤ granules }
+    requires most { granules ≤ 4096 }
+{
+    let room = ArenaRoom::new(alloc, granules)?;
+    let device = SimPmem::zeroed(alloc, 256 * granules, 4096)?;
+    Ok(Arena::format_v2(room, device, 0, 1))
 }
 
 /// What the roots below a number hold, by rising root.

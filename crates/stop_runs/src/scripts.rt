@@ -13,10 +13,11 @@ pub(crate) enum Amount {
     Whole,
 }
 
-/// Calls of an arena of so many granules, each by a seat, that name roots below a number. None is a Read, which has no events
-/// of its own.
+/// Calls of an arena of a version with so many granules, each by a seat, that name roots below a number. None is a Read, which
+/// has no events of its own.
 #[derive(Drop)]
 pub(crate) struct Script {
+    pub(crate) version: u32,
     pub(crate) granules: u32,
     pub(crate) roots: u32,
     pub(crate) calls: Vec<(u32, Call)>,
@@ -35,7 +36,7 @@ impl Script {
 }
 
 /// The names of the scripts, in the order in which they run.
-pub(crate) const NAMES: [&str; 12] = [
+pub(crate) const NAMES: [&str; 15] = [
     "ordinary-use",
     "payload",
     "slab-goes-back",
@@ -48,6 +49,9 @@ pub(crate) const NAMES: [&str; 12] = [
     "rewrite-in-slab",
     "widest-rewrite",
     "full-arena",
+    "version-2-use",
+    "version-2-roll",
+    "version-2-rewrite",
 ];
 
 /// The script of a name.
@@ -59,18 +63,27 @@ pub(crate) fn script_of(alloc: Global, name: &str) -> Result<Option<Script>, Out
         "morph" => of_calls(16, 3, takes_a_class(alloc)?, 2, 0),
         "transition-ends" => transition_ends(alloc)?,
         "moves" => moves(alloc)?,
-        "log-roll" => log_roll(alloc)?,
+        "log-roll" => log_roll(alloc, 16, 60)?,
         "roll-in-slab" => roll_in_slab(alloc)?,
-        "log-rewrite" => of_calls(64, 102, rewrites(alloc, 20_000)?, 960, 0),
-        "rewrite-in-slab" => of_calls(64, 102, rewrites(alloc, 100)?, 960, 960),
+        "log-rewrite" => of_calls(64, 102, rewrites(alloc, 59, 20_000)?, 960, 0),
+        "rewrite-in-slab" => of_calls(64, 102, rewrites(alloc, 59, 100)?, 960, 960),
         "widest-rewrite" => widest_rewrite(alloc)?,
         "full-arena" => of_calls(16, 30, full_arena(alloc)?, 199, 0),
+        "version-2-use" => over_version_2(use_of_version_2(alloc)?),
+        "version-2-roll" => over_version_2(log_roll(alloc, 25, 252)?),
+        "version-2-rewrite" => over_version_2(of_calls(
+            64,
+            102,
+            rewrites(alloc, 251, 100)?,
+            4032,
+            4032,
+        )),
         _ => return Ok(None),
     };
     Ok(Some(script))
 }
 
-// A script, with the first of its calls that is stopped where the stops are brief, and where they are whole.
+// A script over version 1, with the first of its calls that is stopped where the stops are brief, and where they are whole.
 fn of_calls(
     granules: u32,
     roots: u32,
@@ -79,12 +92,19 @@ fn of_calls(
     whole_from: usize,
 ) -> Script {
     Script {
+        version: 1,
         granules,
         roots,
         calls,
         brief_from,
         whole_from,
     }
+}
+
+// The same script over version 2.
+fn over_version_2(mut script: Script) -> Script {
+    script.version = 2;
+    script
 }
 
 fn malloc(root: u32, size: u64) -> (u32, Call) {
@@ -135,12 +155,14 @@ fn comes_and_goes(calls: &mut Vec<(u32, Call)>, root: u32, times: u32) -> Result
     Ok(())
 }
 
-// One block 60 times: the first chunk of the log has room for no more entry then. A needless chunk is dropped, and the next
-// one taken.
-fn log_roll(alloc: Global) -> Result<Script, AllocError> {
+// One block so many times that the first chunk of the log has room for no more entry, and once more. The chunk is needless and
+// is dropped, and the next one taken.
+fn log_roll(alloc: Global, granules: u32, times: u32) -> Result<Script, AllocError> {
     let mut calls = Vec::new(alloc);
-    comes_and_goes(&mut calls, 0, 61)?;
-    Ok(of_calls(16, 1, calls, 120, 0))
+    comes_and_goes(&mut calls, 0, times)?;
+    let first = calls.len();
+    comes_and_goes(&mut calls, 0, 1)?;
+    Ok(of_calls(granules, 1, calls, first, 0))
 }
 
 // The log rolls within a call that opens a slab.
@@ -151,12 +173,13 @@ fn roll_in_slab(alloc: Global) -> Result<Script, AllocError> {
     Ok(of_calls(16, 6, calls, 120, 120))
 }
 
-// Eight chunks of the log with the entries of two live blocks each, and a call for which it is written anew.
-fn rewrites(alloc: Global, size: u64) -> Result<Vec<(u32, Call)>, AllocError> {
+// Eight chunks of the log with the entries of two live blocks each, between which one comes and goes so many times, and a call
+// for which it is written anew.
+fn rewrites(alloc: Global, times: u32, size: u64) -> Result<Vec<(u32, Call)>, AllocError> {
     let mut calls = Vec::new(alloc);
     for chunk in 0..8u32 {
         calls.push(malloc(2 * chunk, 20_000))?;
-        comes_and_goes(&mut calls, 100, 59)?;
+        comes_and_goes(&mut calls, 100, times)?;
         calls.push(malloc(2 * chunk + 1, 20_000))?;
     }
     calls.push(malloc(101, size))?;
@@ -178,4 +201,27 @@ fn widest_rewrite(alloc: Global) -> Result<Script, AllocError> {
     }
     calls.push(malloc(501, 100))?;
     Ok(of_calls(1024, 502, calls, 961, 960))
+}
+
+// A small block comes with its slab and is written to, and a large one comes to a root that version 1 does not have, moves and
+// goes; the small one goes with its slab.
+fn use_of_version_2(alloc: Global) -> Result<Script, AllocError> {
+    let write = Call::Write {
+        root: 5,
+        index: 1,
+        value: u64::MAX,
+    };
+    let step = Call::Move {
+        from: 4100,
+        to: 4097,
+    };
+    let calls = vec![in alloc;
+        malloc(5, 100),
+        (0, write),
+        malloc(4100, 20_000),
+        (0, step),
+        free(4097),
+        free(5),
+    ]?;
+    Ok(of_calls(25, 4101, calls, 0, 0))
 }

@@ -14,8 +14,11 @@ use thiserror::Error;
 // How many seeds pick an image at each stop.
 const SEEDS: u64 = 3;
 
-// The roots of an arena.
-const ALL_ROOTS: u32 = 4096;
+// The roots of an arena of version 2, more than one of version 1 has.
+const ALL_ROOTS: u32 = 16384;
+
+// The events for which a device has room that may be of either version.
+const ROOM: u32 = 4096;
 
 /// How many events the calls of a script have, how many images of stopped calls were recovered, and how many images in all,
 /// with those of stopped recoveries.
@@ -76,7 +79,7 @@ impl Stop {
 /// latter at the call's last event. With the first seed recovery too is stopped at each of its events, and what is left is
 /// recovered to the same heap. At the end all roots are compared.
 pub(crate) fn stop_calls(alloc: Global, script: &Script, first: usize) -> Result<Counts> {
-    let mut arena = new_arena(alloc, script.granules)?;
+    let mut arena = new_arena(alloc, script.version, script.granules)?;
     stop_calls_of(alloc, &mut arena, script, first)
 }
 
@@ -237,7 +240,7 @@ fn recovered(alloc: Global, device: &SimPmem, k: u32, seed: u64) -> Result<Optio
     if image.len() % 8 != 0 || image.len() < 8 || image.len() > 8_388_608 {
         return Ok(None);
     }
-    match recover(alloc, SimPmem::from_image(alloc, &image, 2048)?) {
+    match recover(alloc, SimPmem::from_image(alloc, &image, ROOM)?) {
         Ok(arena) => Ok(Some(arena)),
         Err((RecoverFault::Memory(error), _)) => Err(error.into()),
         Err((RecoverFault::Defect(_), _)) => Ok(None),

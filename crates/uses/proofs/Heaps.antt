@@ -2,9 +2,10 @@
 use Rattle.std.proofs.Common.{◌≡◌, ◌≢◌, ◌⊎◌, ℕ, ◌-◌, ◌*◌, ◌<◌, ◌≤◌, List, [], length, Option, Some, None, refl, sym, ap, ◌∙◌, arith, ⊎_elim}
 use Rattle.size_classes.specs.Classes.{sizes, class_size, IsClassOf}
 use Rattle.size_classes.proofs.Least.{low_class}
-use Rattle.pool_layout.specs.Layout.{layout_of, IsLayout}
+use Rattle.pool_layout.specs.declared.layout.Layout.{Layout}
+use Rattle.pool_layout.specs.Layout.{layout_of, IsLayout, IsVersion}
 use Rattle.pool_layout.specs.Header.{version_in}
-use Rattle.pool_layout.proofs.Layouts.{layout_rules}
+use Rattle.pool_layout.proofs.Layouts.{layout_rules, first_row, second_row, version_cases}
 use Rattle.image_tables.specs.Tables.{tables_of}
 use Rattle.heap_model.specs.declared.call.Reply.{Reply}
 use Rattle.heap_model.specs.declared.call.Reply.TheVariants as replies
@@ -27,13 +28,19 @@ use Rattle.uses.specs.Stack.{stage, HasNone}
 use Rattle.uses.specs.Calls.{HasNoPlace}
 use Rattle.uses.specs.Steps.{HasRecordBlock, HasSome}
 
--- the stage is a root of an exact image, and its heap has 64 bytes
+-- the stage is a root in either version
+stage_low : (version : ℕ) → IsVersion version → stage < (layout_of version).roots
+stage_low version is =
+    let first : (layout_of 1).roots ≡ 4096 = ap (λ (r : Layout). r.roots) first_row in
+    let second : (layout_of 2).roots ≡ 16384 = ap (λ (r : Layout). r.roots) second_row in
+    ⊎_elim
+    (λ (one : version ≡ 1). omega (arith, first, ap (λ (v : ℕ). (layout_of v).roots) one))
+    (λ (two : version ≡ 2). omega (arith, first, second, ap (λ (v : ℕ). (layout_of v).roots) two))
+    (version_cases version is)
+
+-- so it is one of an exact image, and the heap of that has 64 bytes
 pub stage_rooted : (words : List ℕ) → IsExactImage words → stage < (bounds_of words).roots
-stage_rooted words image =
-    let rules : IsLayout (layout_of 1) = layout_rules 1 in
-    let version : version_in words ≡ 1 = image.formed.header.valid.version in
-    let roots : (bounds_of words).roots ≡ (layout_of 1).roots = ap (λ (v : ℕ). (layout_of v).roots) version in
-    omega (arith, roots, rules.some_root)
+stage_rooted words image = stage_low (version_in words) image.formed.header.valid.version
 
 heap_some : (words : List ℕ) → IsExactImage words → 64 ≤ ((bounds_of words).granules - (bounds_of words).first) * 16384
 heap_some words image =

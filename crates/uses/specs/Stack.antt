@@ -1,5 +1,5 @@
--- A stack of records in the heap of an image. Root i names the block of record i, from the lowest on, and no other root but
--- the last, the stage, names a block.
+-- A stack of records in the heap of an image. It has as many roots as an arena of version 1, the lowest ones of an arena of
+-- version 2. Root i names the block of record i, from the lowest on, and no other of them but the last, the stage, names a block.
 use Rattle.std.specs.Prelude.{◌≡◌, ℕ, zero, suc, ◌+◌, ◌-◌, ◌/◌, ◌<◌, ◌≤◌, List, [], ◌∷◌, ◌++◌, length, slice_index, slice_index_or, Option, Some, None}
 use Rattle.pmem_lines.specs.Words.{word_at}
 use Rattle.pmem_lines.specs.Pmem.{words_of}
@@ -31,7 +31,7 @@ pub record HasRecord (words : List ℕ) (root : ℕ) (contents : List ℕ) : Typ
   pub count : length contents ≡ 8
   pub each : (i : ℕ) → i < 8 → word_at words (range.at / 8 + i) ≡ slice_index contents i
 
--- the heap of these words is the stack of these records, whatever lies on the stage
+-- the heap of these words is the stack of these records, whatever lies on the stage and behind it
 pub record IsStack (words : List ℕ) (records : List (List ℕ)) : Type 0 where
   pub few : length records ≤ stage
   pub each : (i : ℕ) → i < length records → HasRecord words i (record_at records i)

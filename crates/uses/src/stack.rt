@@ -12,8 +12,8 @@ use std::marker::Model;
 /// A record: eight words.
 pub type Record = [u64; 8];
 
-/// A stack of at most 4095 records in an arena that has nothing else. In contracts it is its arena, and its records, the lowest
-/// first.
+/// A stack of at most 4095 records in an arena of either version, whose first 4096 roots have nothing else. In contracts it is
+/// its arena, and its records, the lowest first.
 #[derive(Drop)]
 pub struct RecordStack<P: Pmem> {
     pub(crate) arena: Arena<P>,

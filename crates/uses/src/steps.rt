@@ -15,14 +15,14 @@ const RECORD_BYTES: u64 = 64;
 // A stack has one caller: all of its calls are those of this seat.
 const SEAT: u32 = 0;
 
-// The version of the layout in which arenas are formatted.
-const VERSION: u32 = 1;
+// The version of the layout that has as many roots as a stack.
+const FEWEST_ROOTS: u32 = 1;
 
-/// The last root, whose block is being made ready. The roots below it are those of records.
+/// The last root of a stack, whose block is being made ready. The roots below it are those of records.
 pub(crate) fn stage() -> u32
     ensures { result ≡ stage }
 {
-    layout_of(VERSION).roots - 1
+    layout_of(FEWEST_ROOTS).roots - 1
 }
 
 /// Gives the stage a block of 64 bytes. `NoSpace` is the only refusal.

@@ -20,6 +20,14 @@ fn new_arena(alloc: Global, granules: u32) -> Result<Arena<SimPmem>, OutOfMemory
     Ok(Arena::format(room, device, 0, 1))
 }
 
+// An arena of version 2 of 25 granules, in which no root names a block.
+#[tactic(auto, using(arena_core::proofs::Readiness::second_room, arena_core::proofs::Readiness::second_least, arena_core::proofs::Readiness::second_most), unfolding(pool_layout::specs::Layout::all_granules))]
+fn second_arena(alloc: Global) -> Result<Arena<SimPmem>, OutOfMemory> {
+    let room = ArenaRoom::new(alloc, 25)?;
+    let device = SimPmem::zeroed(alloc, 6400, 4096)?;
+    Ok(Arena::format_v2(room, device, 0, 1))
+}
+
 fn new_stack(alloc: Global, granules: u32) -> Result<RecordStack<SimPmem>, Fail> {
     let stack = RecordStack::over(new_arena(alloc, granules)?).ok();
     Ok(stack.ok_or("no stack")?)
@@ -85,6 +93,21 @@ fn another_heap_is_no_stack(rt: HostRuntime) -> Result<(), Fail> {
     Ok(())
 }
 
+// A stack in an arena of version 2 has the roots up to its stage, and leaves those behind it alone.
+fn leaves_root_4096<R: Abort>(rt: &R, stack: &mut RecordStack<SimPmem>) -> Result<(), Fail> {
+    come_and_go(rt, stack)?;
+    assert!(rt; stack.arena().block(4096).is_some());
+    Ok(())
+}
+
+#[test]
+fn other_roots_are_left(rt: HostRuntime) -> Result<(), Fail> {
+    let mut arena = second_arena(rt.alloc())?;
+    arena.malloc_to(0, 4096, 64)?;
+    let mut stack = RecordStack::over(arena).ok().ok_or("no stack")?;
+    leaves_root_4096(&rt, &mut stack)
+}
+
 // The stack that is reopened from the image behind the first `k` events of a device, as a generator from `seed` picks.
 fn reopened(
     alloc: Global,
@@ -102,7 +125,7 @@ fn reopened(
     if image.len() % 8 != 0 || image.len() < 8 || image.len() > 8_388_608 {
         return Err(ReopenFault::NoStack);
     }
-    match SimPmem::from_image(alloc, &image, 2048) {
+    match SimPmem::from_image(alloc, &image, 4096) {
         Ok(device) => match reopen(alloc, device) {
             Ok(stack) => Ok(stack),
             Err((fault, _)) => Err(fault),

@@ -10,8 +10,9 @@
 // into its first `$` lacks its last line feed.
 //
 // `short` has short traces, `stacks` and `seats` traces that show which block is given, `classes` and `old_blocks` traces in
-// which slabs take other classes, `payload` traces that write and read words, and `moves` traces that move blocks. For how
-// full a slab may be that takes another class, `thresholds` has numbers, of which `filled` makes a trace and its report.
+// which slabs take other classes, `payload` traces that write and read words, `moves` traces that move blocks, and
+// `second_version` traces of pools of version 2. For how full a slab may be that takes another class, `thresholds` has
+// numbers, of which `filled` makes a trace and its report.
 #![tactic(auto)]
 
 mod classes;
@@ -19,6 +20,7 @@ mod moves;
 mod old_blocks;
 mod payload;
 mod seats;
+mod second_version;
 mod short;
 mod shorthand;
 mod stacks;
@@ -29,6 +31,7 @@ pub use moves::MOVES;
 pub use old_blocks::OLD_BLOCKS;
 pub use payload::PAYLOAD;
 pub use seats::SEATS;
+pub use second_version::{LARGEST_ARENA, SECOND_VERSION};
 pub use short::SHORT;
 pub use shorthand::expanded;
 pub use stacks::STACKS;

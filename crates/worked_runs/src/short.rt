@@ -20,7 +20,7 @@ no event 90 of 89
 $2 crash 1 0 0
 no arena 1 of 1
 $1
-$1 replay x, replay replay, Replay, --help, --version, image x, check x, recover 0, gen 0 1, gen 01 1
+$1 replay x, replay replay, Replay, --help, --version, image x, check x, recover 0, migrate 0, gen 0 1, gen 01 1
 $1 crash, crash 0 1, crash 0 1 0 0, crash 16 0 0, crash 00 0 0, crash 0 -1 0, crash 0 0 18446744073709551616
 ----
 # one call

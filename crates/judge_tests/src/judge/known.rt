@@ -5,8 +5,8 @@ use std::alloc::{AllocError, Global};
 use std::process::Abort;
 use std::test::Fail;
 use worked_runs::{
-    CLASSES_OF_ONE_SEAT, FILLINGS, MOVES, OLD_BLOCK_GOES, OLD_BLOCKS, PAYLOAD, SEATS, SHORT,
-    STACKS, expanded, filled,
+    CLASSES_OF_ONE_SEAT, FILLINGS, MOVES, OLD_BLOCK_GOES, OLD_BLOCKS, PAYLOAD, SEATS,
+    SECOND_VERSION, SHORT, STACKS, expanded, filled,
 };
 
 // The report that a run of a table writes or may write, where it is one of `replay`.
@@ -43,6 +43,7 @@ fn known_reports_are_right(rt: HostRuntime) -> Result<(), Fail> {
         (OLD_BLOCKS, 4),
         (PAYLOAD, 5),
         (MOVES, 2),
+        (SECOND_VERSION, 4),
     ] {
         assert_eq!(rt; all_right(&rt, rt.alloc(), table)?, reports);
     }

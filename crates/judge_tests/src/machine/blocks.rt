@@ -3,9 +3,6 @@
 /// The bytes of a granule.
 pub(crate) const GRANULE: u64 = 16384;
 
-/// The granule at which the heap begins.
-pub(crate) const FIRST: u64 = 4;
-
 // The sizes of small blocks: up to 128 in steps of 16, and then four for each doubling.
 const SIZES: [u64; 36] = [
     16, 32, 48, 64, 80, 96, 112, 128, 160, 192, 224, 256, 320, 384, 448, 512, 640, 768, 896, 1024,

@@ -1,5 +1,18 @@
-// The calls of a trace.
+// The pool of a trace, and its calls.
 use std::alloc::{AllocError, Global};
+
+/// Arenas of one size.
+#[derive(Clone, Copy)]
+pub(crate) struct Pool {
+    /// How many there are.
+    pub(crate) arenas: u64,
+    /// How many granules each has.
+    pub(crate) granules: u64,
+    /// The granule at which its heap begins.
+    pub(crate) first: u64,
+    /// How many roots it has.
+    pub(crate) roots: u64,
+}
 
 /// A call at an arena.
 #[derive(Clone, Copy)]
@@ -90,13 +103,34 @@ pub(crate) fn calls_at(
     Ok(calls)
 }
 
-/// The arenas of a trace, and the granules of each.
-pub(crate) fn pool_of(trace: &str) -> Option<(u64, u64)> {
+// The pool that a line says.
+fn read_pool(line: &str) -> Option<Pool> {
+    let (word, numbers) = line.split_once(' ')?;
+    let (first, roots) = match word {
+        "pool" => (4, 4096),
+        "pool2" => (13, 16384),
+        _ => return None,
+    };
+    let (arenas, granules) = numbered(numbers)?;
+    Some(Pool {
+        arenas,
+        granules: number(Some(granules))?,
+        first,
+        roots,
+    })
+}
+
+/// The pool of a trace: without an arena, where no line says one.
+pub(crate) fn pool_of(trace: &str) -> Pool {
     for line in trace.lines() {
-        if let Some(rest) = line.strip_prefix("pool ") {
-            let (arenas, granules) = numbered(rest)?;
-            return Some((arenas, number(Some(granules))?));
+        if let Some(pool) = read_pool(line) {
+            return pool;
         }
     }
-    None
+    Pool {
+        arenas: 0,
+        granules: 0,
+        first: 0,
+        roots: 0,
+    }
 }

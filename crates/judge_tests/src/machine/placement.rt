@@ -1,5 +1,5 @@
 // Which block a malloc gets, and where a block that comes back goes.
-use crate::machine::blocks::{FIRST, GRANULE, Range, Slab};
+use crate::machine::blocks::{GRANULE, Range, Slab};
 use crate::machine::{Machine, Reserved, one_more};
 use std::alloc::{AllocError, Global};
 
@@ -21,11 +21,11 @@ impl Machine {
 
     // How many free granules stand in the run that begins at a granule; 0 where none begins there.
     fn run_at(&self, start: u64) -> u64 {
-        if start > FIRST && self.is_free(start.saturating_sub(1)) {
+        if start > self.pool.first && self.is_free(start.saturating_sub(1)) {
             return 0;
         }
         let mut length = 0u64;
-        for granule in start..self.granules {
+        for granule in start..self.pool.granules {
             if !self.is_free(granule) {
                 return length;
             }
@@ -38,7 +38,7 @@ impl Machine {
     fn best_fit(&self, count: u64) -> Option<u64> {
         let mut best = None;
         let mut least = u64::MAX;
-        for start in FIRST..self.granules {
+        for start in self.pool.first..self.pool.granules {
             let length = self.run_at(start);
             if length >= count && length < least {
                 least = length;

@@ -7,12 +7,36 @@ use std::alloc::{AllocError, Global};
 /// How many threads a trace has.
 pub(crate) const THREADS: u64 = 4;
 
+/// Arenas of a version whose heap has 12 granules.
+#[derive(Clone, Copy)]
+pub(crate) struct Arenas {
+    // The word of a pool's line, and the granules.
+    word: &'static str,
+    granules: u64,
+    // The first root that they do not have.
+    roots: u64,
+}
+
+const FIRST_VERSION: Arenas = Arenas {
+    word: "pool",
+    granules: 16,
+    roots: 4096,
+};
+
+const SECOND_VERSION: Arenas = Arenas {
+    word: "pool2",
+    granules: 25,
+    roots: 16384,
+};
+
 /// What a trace is made of.
 #[derive(Clone, Copy)]
 pub(crate) struct Made {
     /// The seed of its numbers.
     pub(crate) seed: u64,
-    /// How many arenas its pool has, of 16 granules each.
+    /// What its arenas are.
+    pub(crate) each: Arenas,
+    /// How many there are.
     pub(crate) arenas: u64,
     /// How many calls each of its threads makes.
     pub(crate) turns: u64,
@@ -20,11 +44,17 @@ pub(crate) struct Made {
     pub(crate) roots: u64,
 }
 
-/// Traces of one to four arenas, with few roots or many.
+/// Traces of one to four arenas of either version, with few roots or many.
 pub(crate) fn of_seed(seed: u64) -> Made {
     let arenas = 1 + seed % 4;
+    let each = if seed / 4 % 2 == 0 {
+        FIRST_VERSION
+    } else {
+        SECOND_VERSION
+    };
     Made {
         seed,
+        each,
         arenas,
         turns: 60 + 40 * arenas,
         roots: 8 + 4 * (seed / 4 % 5),
@@ -51,17 +81,17 @@ fn size(time: u64, drawn: u64) -> u64 {
 }
 
 // One of the roots, or rarely one that is none.
-fn root(roots: u64, drawn: u64) -> u64 {
+fn root(made: Made, drawn: u64) -> u64 {
     match drawn % 64 {
-        0 => 4096,
-        _ => drawn / 64 % roots.max(1),
+        0 => made.each.roots,
+        _ => drawn / 64 % made.roots.max(1),
     }
 }
 
 // The words of a call, by two drawn numbers. Mallocs and frees come in turns, more of the one and then of the other.
 fn call(alloc: Global, made: Made, turn: u64, one: u64, other: u64) -> Result<String, AllocError> {
-    let at = root(made.roots, one / 16);
-    let second = root(made.roots, other);
+    let at = root(made, one / 16);
+    let second = root(made, other);
     let index = other % 5;
     let value = one ^ other;
     let bytes = size(turn / 24, other);
@@ -80,7 +110,9 @@ fn call(alloc: Global, made: Made, turn: u64, one: u64, other: u64) -> Result<St
 /// The trace: its threads ask in turn, each as many calls.
 pub(crate) fn trace(alloc: Global, made: Made) -> Result<String, AllocError> {
     let arenas = made.arenas;
-    let mut text = format!(in alloc; "pool {arenas} 16\n")?;
+    let word = made.each.word;
+    let granules = made.each.granules;
+    let mut text = format!(in alloc; "{word} {arenas} {granules}\n")?;
     let mut picks = SplitMix64::seed_from_u64(made.seed);
     for turn in 0..made.turns {
         for thread in 0..THREADS {
@@ -98,7 +130,7 @@ pub(crate) fn on_one_thread(alloc: Global, trace: &str) -> Result<String, AllocE
     let mut text = String::new(alloc);
     for line in trace.lines() {
         match line.split_once(' ') {
-            Some((thread, rest)) if thread != "pool" => {
+            Some((thread, rest)) if !thread.starts_with("pool") => {
                 text.push_str("0 ")?;
                 text.push_str(rest)?;
             }

@@ -3,6 +3,9 @@ use pool_layout::{Defect, ImageFault, PoolHeader, header_of, image_words};
 use std::alloc::Global;
 use std::test::Fail;
 
+// The first word of a header line.
+const TEXT: u64 = 3550894020320384590;
+
 #[test]
 fn headers_of_images(rt: HostRuntime) {
     let mut words = [0; 8];
@@ -14,7 +17,7 @@ fn headers_of_images(rt: HostRuntime) {
         header_of(&words),
         Err(Defect::BadHeader { word: 0, value: 0 })
     );
-    words[0] = 3550894020320384590;
+    words[0] = TEXT;
     words[1] = 281543696187393;
     assert_eq!(rt;
         header_of(&words),
@@ -33,6 +36,60 @@ fn headers_of_images(rt: HostRuntime) {
             value: 281543696187395
         })
     );
+}
+
+// The second word of a header line that says these fields.
+fn fields(version: u16, number: u16, granules: u16, arenas: u16) -> u64 {
+    u64::from(version)
+        | u64::from(number) << 16
+        | u64::from(granules) << 32
+        | u64::from(arenas) << 48
+}
+
+// Whether a pool may have this version, this arena, so many granules in each, and so many arenas.
+#[test]
+fn headers_of_both_versions(rt: HostRuntime) {
+    let rows = [
+        (0, 0, 16, 1, false),
+        (1, 0, 15, 1, false),
+        (1, 0, 16, 1, true),
+        (1, 15, 1024, 16, true),
+        (1, 16, 1024, 16, false),
+        (1, 0, 1025, 1, false),
+        (1, 0, 16, 0, false),
+        (1, 0, 16, 17, false),
+        (2, 0, 24, 1, false),
+        (2, 0, 25, 1, true),
+        (2, 15, 25, 16, true),
+        (2, 16, 25, 16, false),
+        (2, 0, 25, 17, false),
+        (2, 0, 4096, 1, true),
+        (2, 3, 4096, 4, true),
+        (2, 0, 4097, 1, false),
+        (2, 0, 4096, 5, false),
+        (2, 15, 1033, 16, true),
+        (2, 0, 1034, 16, false),
+        (2, 4, 3305, 5, true),
+        (2, 4, 3306, 5, false),
+        (3, 0, 25, 1, false),
+        (258, 0, 25, 1, false),
+    ];
+    for (version, number, granules, arenas, is_good) in rows {
+        let value = fields(version, number, granules, arenas);
+        let header = PoolHeader {
+            version: u32::from(version),
+            number: u32::from(number),
+            arenas: u32::from(arenas),
+            granules: u32::from(granules),
+        };
+        let wanted = if is_good {
+            Ok(header)
+        } else {
+            Err(Defect::BadHeader { word: 1, value })
+        };
+        let words = [TEXT, value, 1, 0, 0, 0, 0, 0];
+        assert_eq!(rt; header_of(&words), wanted, "of {value}");
+    }
 }
 
 // Arenas of 16 granules with the header lines of a pool of 16: the text, and the word that says the arena's number.
@@ -58,10 +115,7 @@ fn images_of_sixteen_arenas(rt: HostRuntime) -> Result<(), Fail> {
     };
     assert_eq!(rt; words.len(), 524_288);
     let last = (words.get(491_520).copied(), words.get(491_521).copied());
-    assert_eq!(rt;
-        last,
-        (Some(3550894020320384590), Some(0x0010_0010_000f_0001))
-    );
+    assert_eq!(rt; last, (Some(TEXT), Some(0x0010_0010_000f_0001)));
     let short = pool(rt.alloc(), 15)?;
     assert!(rt; image_words(rt.alloc(), &short).is_err_and(is_short));
     Ok(())

@@ -42,6 +42,25 @@ fn first_line_outside_the_grammar(rt: HostRuntime) {
         ("pool 1 16\n0 0 f 4294967295\n", 0),
         ("# a\n\npool 1 1024\n\n# b\n63 0 m 0 0\n\n0 0 f 10", 0),
         ("pool 1 16", 0),
+        ("pool2 0 25\n", 1),
+        ("pool2 1 24\n", 1),
+        ("pool2 1 25\n", 0),
+        ("pool2 1 025\n", 1),
+        ("pool2 1 4096\n", 0),
+        ("pool2 1 4097\n", 1),
+        ("pool2 4 4096\n", 0),
+        ("pool2 4 4133\n", 1),
+        ("pool2 5 4096\n", 1),
+        ("pool2 16 1033\n", 0),
+        ("pool2 16 1034\n", 1),
+        ("pool2 17 25\n", 1),
+        ("pool2  1 25\n", 1),
+        ("pool2\n", 1),
+        ("pool21 25\n", 1),
+        ("pool3 1 25\n", 1),
+        ("pool 2 1 25\n", 1),
+        ("pool2 1 25\npool 1 16\n", 2),
+        ("pool2 16 25\n63 15 f 0\n63 16 f 0\n", 3),
     ];
     for (text, want) in rows {
         assert_eq!(rt; refused_line(rt.alloc(), text), want, "at {text}");
@@ -54,8 +73,7 @@ fn says_its_calls(rt: HostRuntime) {
     let Ok(trace) = read_trace(rt.alloc(), text) else {
         panic!(rt; "no trace");
     };
-    assert_eq!(rt; trace.arenas, 1);
-    assert_eq!(rt; trace.granules, 960);
+    assert_eq!(rt; (trace.version, trace.arenas, trace.granules), (1, 1, 960));
     let calls = [
         TraceCall {
             thread: 63,
@@ -72,4 +90,15 @@ fn says_its_calls(rt: HostRuntime) {
         },
     ];
     assert_eq!(rt; trace.calls.as_slice(), &calls[..]);
+}
+
+#[test]
+fn says_its_pool(rt: HostRuntime) {
+    let Ok(trace) = read_trace(rt.alloc(), b"pool2 16 1033") else {
+        panic!(rt; "no trace");
+    };
+    assert_eq!(rt;
+        (trace.version, trace.arenas, trace.granules),
+        (2, 16, 1033)
+    );
 }

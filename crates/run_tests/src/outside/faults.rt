@@ -80,10 +80,10 @@ fn is_too_long<R: Abort + Threads + Wait + Sync>(
 fn tells_that_the_input_is_too_long(rt: HostRuntime) -> Result<(), Fail> {
     let trace = Repeated::new(b'\n', 67_108_865);
     is_too_long(&rt, rt.alloc(), "replay", trace, 67_108_865)?;
-    let image = Repeated::new(0, 268_435_457);
-    is_too_long(&rt, rt.alloc(), "check", image, 268_435_457)?;
-    let image = Repeated::new(0, 268_435_457);
-    is_too_long(&rt, rt.alloc(), "recover", image, 268_435_457)
+    let image = Repeated::new(0, 270_794_753);
+    is_too_long(&rt, rt.alloc(), "check", image, 270_794_753)?;
+    let image = Repeated::new(0, 270_794_753);
+    is_too_long(&rt, rt.alloc(), "recover", image, 270_794_753)
 }
 
 #[test]
@@ -91,7 +91,7 @@ fn a_source_without_end(rt: HostRuntime) -> Result<(), Fail> {
     let trace = Repeated::new(b'\n', usize::MAX);
     is_too_long(&rt, rt.alloc(), "replay", trace, 67_108_865)?;
     let image = Repeated::new(0, usize::MAX);
-    is_too_long(&rt, rt.alloc(), "check", image, 268_435_457)
+    is_too_long(&rt, rt.alloc(), "check", image, 270_794_753)
 }
 
 #[test]

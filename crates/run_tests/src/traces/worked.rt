@@ -2,8 +2,8 @@
 use crate::runs::all_end_and_write;
 use std::test::Fail;
 use worked_runs::{
-    CLASSES_OF_ONE_SEAT, CLASSES_OF_SEVERAL_SEATS, MOVES, OLD_BLOCK_GOES, OLD_BLOCKS, PAYLOAD,
-    SEATS, SHORT, STACKS,
+    CLASSES_OF_ONE_SEAT, CLASSES_OF_SEVERAL_SEATS, LARGEST_ARENA, MOVES, OLD_BLOCK_GOES,
+    OLD_BLOCKS, PAYLOAD, SEATS, SECOND_VERSION, SHORT, STACKS,
 };
 
 #[test]
@@ -37,4 +37,10 @@ fn words_of_blocks(rt: HostRuntime) -> Result<(), Fail> {
 #[test]
 fn moves_of_blocks(rt: HostRuntime) -> Result<(), Fail> {
     all_end_and_write(&rt, rt.alloc(), MOVES)
+}
+
+#[test]
+fn pools_of_version_2(rt: HostRuntime) -> Result<(), Fail> {
+    all_end_and_write(&rt, rt.alloc(), SECOND_VERSION)?;
+    all_end_and_write(&rt, rt.alloc(), LARGEST_ARENA)
 }

@@ -1,55 +1,68 @@
-// Logs that are filled entry by entry, chunk by chunk, until room is made for the last time.
-ghost use Rattle.std.specs.Prelude.{◌≡◌, ◌+◌, ◌%◌, ◌≤◌};
+// Logs that are filled entry by entry, chunk by chunk, until room is made for the last time, in both versions.
+ghost use Rattle.std.specs.Prelude.{◌≡◌, ◌+◌, ◌%◌, ◌<◌, ◌≤◌};
 
 use book_log::{BookLog, LogEntry};
 use durable_steps::write_word;
 use log_gc::{Rolled, make_room};
 use pmem_lines::{OutOfMemory, Pmem, SimPmem};
-use pool_layout::{directory_at, fields_at};
+use pool_layout::{directory_at, fields_at, layout_of};
 use std::alloc::Global;
+use std::process::Abort;
 use std::test::Fail;
 
-// How room was made for the last entry, how many of 700 events were left then, and the directory.
+// How room was made for the last entry, by how many events, and the directory.
 #[derive(Debug, PartialEq, Drop)]
 struct Outcome {
     made: Rolled,
-    left: u32,
+    events: u32,
     directory: u64,
 }
 
-// Of each chunk of entries the lowest extent that they name, and how many they name in turn.
-fn extents_of(chunks: &[(u8, u8)], i: u32) -> (u8, u8) {
-    match chunks.get(i as usize / 120) {
-        Some(pair) => *pair,
+// Of a chunk the lowest extent that its entries name, and how many they name in turn.
+type Named = (u16, u16);
+
+// What the entries of a chunk name.
+fn named_by(chunks: &[Named], chunk: u32) -> Named {
+    match chunks.get(chunk as usize) {
+        Some(named) => *named,
         None => (0, 1),
     }
 }
 
-// The start of the extent that entry i names: extents have two granules each.
-fn start(chunks: &[(u8, u8)], i: u32) -> u32
+// The start of the extent that entry i names, where chunks have so many entries: extents have two granules each, and lie behind
+// the log of either version.
+fn start(chunks: &[Named], entries: u32, i: u32) -> u32
+    requires { 0 < entries }
     ensures even { result % 2 ≡ 0 }
-    ensures low { 4 ≤ result }
-    ensures high { result + 2 ≤ 512 }
+    ensures low { 14 ≤ result }
+    ensures high { result + 2 ≤ 1024 }
 {
-    let (lowest, extents) = extents_of(chunks, i);
-    4 + 2 * ((u32::from(lowest) + i % u32::from(extents.max(1))) % 200)
+    let (lowest, extents) = named_by(chunks, i / entries);
+    14 + 2 * ((u32::from(lowest) + i % u32::from(extents.max(1))) % 504)
 }
 
-// A log that was given so many entries, each after room was made for it.
-fn filled(alloc: Global, chunks: &[(u8, u8)], count: u32) -> Result<Outcome, OutOfMemory> {
-    let mut device = SimPmem::zeroed(alloc, 1024, 700)?;
-    write_word(&mut device, fields_at(), 1);
+// A log of an arena of a version, with as many granules as it may have, that was given so many entries, each after room was
+// made for it. The memory has the words before the heap alone.
+fn filled(
+    alloc: Global,
+    version: u16,
+    chunks: &[Named],
+    count: u32,
+) -> Result<Outcome, OutOfMemory> {
+    let row = layout_of(u32::from(version));
+    let mut device = SimPmem::zeroed(alloc, 256 * row.first_granule, row.entry_events)?;
+    write_word(&mut device, fields_at(), u64::from(version));
     write_word(&mut device, directory_at(), 1);
-    let mut log = BookLog::new(alloc, 512)?;
+    let mut log = BookLog::new(alloc, row.most_granules)?;
     log.load(&device);
     let mut made = Rolled::Nothing;
-    let mut left = 0;
+    let mut events = 0;
     for i in 0..count {
         device.begin();
         made = make_room(&mut log, &mut device);
-        left = device.left();
+        events = device.event_count();
         let entry = LogEntry::Large {
-            start: start(chunks, i),
+            start: start(chunks, row.chunk_entries, i),
             granules: 2,
         };
         log.append(&mut device, entry);
@@ -57,13 +70,13 @@ fn filled(alloc: Global, chunks: &[(u8, u8)], count: u32) -> Result<Outcome, Out
     let directory = device.load(directory_at());
     Ok(Outcome {
         made,
-        left,
+        events,
         directory,
     })
 }
 
-// Each chunk names two extents of its own, or twenty.
-const TWO_EACH: [(u8, u8); 8] = [
+// Each chunk names two extents of its own, or 20, or 63: in eight chunks 16 are live, or 160, or 504.
+const TWO_EACH: [Named; 8] = [
     (0, 2),
     (2, 2),
     (4, 2),
@@ -74,7 +87,7 @@ const TWO_EACH: [(u8, u8); 8] = [
     (14, 2),
 ];
 
-const TWENTY_EACH: [(u8, u8); 8] = [
+const TWENTY_EACH: [Named; 8] = [
     (0, 20),
     (20, 20),
     (40, 20),
@@ -85,41 +98,108 @@ const TWENTY_EACH: [(u8, u8); 8] = [
     (140, 20),
 ];
 
+const MANY_EACH: [Named; 8] = [
+    (0, 63),
+    (63, 63),
+    (126, 63),
+    (189, 63),
+    (252, 63),
+    (315, 63),
+    (378, 63),
+    (441, 63),
+];
+
+// Chunk 2 names what chunks 0 and 1 do.
+const AGAIN: [Named; 3] = [(0, 1), (1, 1), (0, 2)];
+
+// What is given to a log, and what becomes of it.
+type Row = (&'static [Named], u32, Rolled, u32, u64);
+
+// The rows of a version.
+fn all_end_so<R: Abort>(rt: &R, alloc: Global, version: u16, rows: &[Row]) -> Result<(), Fail> {
+    for (chunks, count, made, events, directory) in rows {
+        let want = Outcome {
+            made: *made,
+            events: *events,
+            directory: *directory,
+        };
+        assert_eq!(rt;
+            filled(alloc, version, chunks, *count)?,
+            want,
+            "after {count}"
+        );
+    }
+    Ok(())
+}
+
+// A chunk has 120 entries. A roll has 139 events, and a rewrite into m chunks 135 m + 4.
 #[test]
-fn ways(rt: HostRuntime) -> Result<(), Fail> {
-    let rows: [(&[(u8, u8)], u32, Rolled, u32, u64); 6] = [
-        (&TWO_EACH, 120, Rolled::Nothing, 700, 1),
+fn ways_of_version_1(rt: HostRuntime) -> Result<(), Fail> {
+    let rows: [Row; 7] = [
+        (&TWO_EACH, 120, Rolled::Nothing, 0, 1),
         (
             &TWO_EACH,
             121,
             Rolled::Rolled { dropped: None },
-            561,
+            139,
             0x0201,
         ),
-        (&TWO_EACH, 960, Rolled::Nothing, 700, 0x0807_0605_0403_0201),
-        (&TWO_EACH, 961, Rolled::Rewritten { chunks: 1 }, 561, 9),
+        (&TWO_EACH, 960, Rolled::Nothing, 0, 0x0807_0605_0403_0201),
+        (&TWO_EACH, 961, Rolled::Rewritten { chunks: 1 }, 139, 9),
         (
             &TWENTY_EACH,
             961,
             Rolled::Rewritten { chunks: 2 },
-            426,
+            274,
             0x0a09,
         ),
         (
-            &[(0, 1), (1, 1), (0, 2)],
+            &MANY_EACH,
+            961,
+            Rolled::Rewritten { chunks: 5 },
+            679,
+            0x000d_0c0b_0a09,
+        ),
+        (
+            &AGAIN,
             361,
             Rolled::Rolled { dropped: Some(0) },
-            561,
+            139,
             0x0004_0302,
         ),
     ];
-    for (chunks, count, made, left, directory) in rows {
-        let want = Outcome {
-            made,
-            left,
-            directory,
-        };
-        assert_eq!(rt; filled(rt.alloc(), chunks, count)?, want, "after {count}");
-    }
-    Ok(())
+    all_end_so(&rt, rt.alloc(), 1, &rows)
+}
+
+// A chunk has 504 entries. A roll has 571 events, and a rewrite into m chunks 567 m + 4: 504 live extents need a second chunk.
+#[test]
+fn ways_of_version_2(rt: HostRuntime) -> Result<(), Fail> {
+    let rows: [Row; 7] = [
+        (&TWO_EACH, 504, Rolled::Nothing, 0, 1),
+        (
+            &TWO_EACH,
+            505,
+            Rolled::Rolled { dropped: None },
+            571,
+            0x0201,
+        ),
+        (&TWO_EACH, 4032, Rolled::Nothing, 0, 0x0807_0605_0403_0201),
+        (&TWO_EACH, 4033, Rolled::Rewritten { chunks: 1 }, 571, 9),
+        (&TWENTY_EACH, 4033, Rolled::Rewritten { chunks: 1 }, 571, 9),
+        (
+            &MANY_EACH,
+            4033,
+            Rolled::Rewritten { chunks: 2 },
+            1138,
+            0x0a09,
+        ),
+        (
+            &AGAIN,
+            1513,
+            Rolled::Rolled { dropped: Some(0) },
+            571,
+            0x0004_0302,
+        ),
+    ];
+    all_end_so(&rt, rt.alloc(), 2, &rows)
 }
