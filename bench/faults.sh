@@ -115,7 +115,7 @@ ends() {
 }
 
 all_ends() {
-    local usage='usage: nvheap replay, image, check, recover, crash A K SEED, gen N SEED'
+    local usage='usage: nvheap replay, image, check, recover, crash A K SEED, gen N SEED, migrate'
     meet "" /dev/null
     ends "no words" 1 "$usage"
     meet "" /dev/null --help
@@ -137,7 +137,7 @@ all_ends() {
     head -c 67108865 /dev/zero | tr '\0' '\n' >"$room/long"
     meet "" "$room/long" replay
     ends "a trace of one byte too many" 6 "input too long"
-    truncate -s 268435457 "$room/long"
+    truncate -s 270794753 "$room/long"
     meet "" "$room/long" check
     ends "an image of one byte too many" 6 "input too long"
     rm -f -- "$room/long"

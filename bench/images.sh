@@ -1,5 +1,5 @@
 #!/usr/bin/env bash
-# Times `image`, `check` and `recover` of the built program on two pools of 16 arenas of 16 MiB: one with nothing in it, and
+# Times `image`, `check`, `recover` and `migrate` of the built program on two pools of 16 arenas of 16 MiB: one with nothing in it, and
 # one in which each arena has 255 slabs, all full. It is no test. The files are made in a temporary folder, which is removed
 # at the end.
 set -eu
@@ -24,7 +24,7 @@ awk 'BEGIN {
 
 for pool in empty full; do
     python3 "$top/bench/measure.py" "$program" "$room/$pool" "$room/$pool.image" "image of the $pool pool" "$bytes" byte image
-    for command in check recover; do
+    for command in check recover migrate; do
         python3 "$top/bench/measure.py" "$program" "$room/$pool.image" "$room/out" "$command of the $pool pool" "$bytes" byte "$command"
     done
 done
