@@ -12,7 +12,7 @@ use Rattle.arena_core.specs.Events.{is_small, class_for, block_at, fresh_events,
 use Rattle.heap_check.proofs.SmallPlaces.{no_old-held}
 use Rattle.arena_core.proofs.HeldBlocks.{heap_held, class_holds, old_holds, class_detachable, old_detachable}
 use Rattle.arena_core.proofs.LiveSlabs.{lives_kept}
-use Rattle.heap_check.proofs.Small.{one_number}
+use Rattle.heap_model.proofs.Slabbing.{one_number}
 use Rattle.arena_core.proofs.LargeStages.{heap-takable}
 
 -- a call that placed or freed a block, by its events

@@ -10,7 +10,8 @@ use Rattle.arena_core.proofs.Arenas.{book_same, index_by}
 use Rattle.image_tables.specs.Updates.{with_small}
 use Rattle.image_tables.proofs.Updates.{put_in-same}
 use Rattle.block_supply.specs.Supply.{IsWithout}
-use Rattle.heap_check.proofs.Small.{Holds-back, Holds-forth, blocks_apart}
+use Rattle.heap_check.proofs.Small.{Holds-back, Holds-forth}
+use Rattle.heap_model.proofs.Slabbing.{blocks_apart}
 use Rattle.arena_core.specs.Arena.{AreSlabsLess}
 use Rattle.heap_check.proofs.SmallPlaces.{IsSmallPlace-named, clear_unused}
 use Rattle.heap_check.proofs.UnusedBlocks.{unused_freed}

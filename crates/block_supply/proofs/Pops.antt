@@ -2,11 +2,11 @@
 use Rattle.std.proofs.Common.{◌≡◌, ◌≢◌, ◌⊎◌, ◌↔◌, ℕ, ◌<◌, ◌≤◌, true, Some, List, ◌∷◌, refl, sym, ap, ◌∙◌, subst, inl, inr, ⊎_elim}
 use Rattle.size_classes.specs.Classes.{class_capacity}
 use Rattle.heap_model.specs.Machine.{slab_block}
-use Rattle.heap_model.specs.Placement.{Stacks, Has, IsInNoStack, AllDiffer}
+use Rattle.heap_model.specs.Placement.{Stacks, Has, IsInNoStack, AllDiffer, AreDistinct}
 use Rattle.slab_index.specs.declared.block.SlabBlock.{SlabBlock}
 use Rattle.slab_index.specs.SlabSet.{SlabSet, class_in, is_available}
-use Rattle.thread_cache.specs.Stacks.{stacks_of, AreDistinct, GaveTop}
-use Rattle.thread_cache.proofs.Distinct.{IsOther, stack_here, stack_there, here_or_there}
+use Rattle.thread_cache.specs.Stacks.{stacks_of, GaveTop}
+use Rattle.heap_model.proofs.Distinct.{IsOther, stack_here, stack_there, here_or_there}
 use Rattle.block_supply.specs.Supply.{Supply, IsStacked, IsOpen, IsWithout}
 use Rattle.block_supply.specs.Kept.{IsBlockAt, IsSomeBlock, AreSlabsApart, IsKept, HasTaken}
 use Rattle.block_supply.proofs.Addresses.{one_class, address_differs}

@@ -4,17 +4,18 @@ use Rattle.std.proofs.lemmas.Bool.{cases_eq}
 use Rattle.size_classes.specs.Classes.{class_capacity}
 use Rattle.size_classes.proofs.Spacing.{class_size-least}
 use Rattle.heap_model.specs.Machine.{slab_block}
-use Rattle.heap_model.specs.Placement.{Stacks, with_stack, Has, IsInNoStack, addresses, IsAvailable, IsRefill}
+use Rattle.heap_model.specs.Placement.{Stacks, with_stack, Has, IsInNoStack, addresses, IsAvailable, IsRefill, AreDistinct, AreRising, AreLoose}
 use Rattle.heap_model.proofs.Lowest.{AreLowest-same}
 use Rattle.slab_index.specs.declared.block.SlabBlock.{SlabBlock}
 use Rattle.slab_index.specs.declared.block.SlabBlocks.{SlabBlocks}
 use Rattle.slab_index.specs.SlabSet.{SlabSet, class_in, is_available, AreLowestBlocks, TookLowest}
-use Rattle.thread_cache.specs.Stacks.{StackTable, stacks_of, AreDistinct, AreRising, AreLoose}
-use Rattle.thread_cache.proofs.Distinct.{IsOther, stack_here, stack_there, here_or_there}
+use Rattle.thread_cache.specs.Stacks.{StackTable, stacks_of}
+use Rattle.heap_model.proofs.Distinct.{IsOther, stack_here, stack_there, here_or_there}
 use Rattle.block_supply.specs.Supply.{Supply, IsStacked, IsOpen, IsWithout, supply_view}
 use Rattle.block_supply.specs.Kept.{IsKept, HasTaken}
 use Rattle.block_supply.proofs.Addresses.{one_class, slab_once, block_once}
-use Rattle.block_supply.proofs.Lists.{cases_Has, address_has, has_address, lowest_passes, addresses_rise}
+use Rattle.block_supply.proofs.Lists.{cases_Has}
+use Rattle.heap_model.proofs.AddressLists.{address_has, has_address, lowest_passes, addresses_rise}
 use Rattle.block_supply.proofs.Opens.{available_is, is_available-view}
 
 module _ (old : Supply) (kept : IsKept old.slabs old.stacks) (seat class : ℕ) (blocks : SlabBlocks) (slabs : SlabSet) (took : TookLowest old.slabs class 8 blocks slabs) where

@@ -3,10 +3,10 @@ use Rattle.std.proofs.Common.{◌≡◌, ◌≢◌, ◌⊎◌, ◌↔◌, ◌==�
 use Rattle.std.proofs.lemmas.Bool.{cases_eq, cases_Bool, cond-true, cond-false, eq-eqb, ne_eqb, and_from, and_left, and_right}
 use Rattle.size_classes.specs.Classes.{class_capacity}
 use Rattle.heap_model.specs.Machine.{slab_block}
-use Rattle.heap_model.specs.Placement.{Stacks, with_stack, Has, IsInNoStack}
+use Rattle.heap_model.specs.Placement.{Stacks, with_stack, Has, IsInNoStack, AreDistinct}
 use Rattle.slab_index.specs.SlabSet.{SlabSet, class_in, is_available}
-use Rattle.thread_cache.specs.Stacks.{StackTable, stacks_of, AreDistinct}
-use Rattle.thread_cache.proofs.Distinct.{IsOther, stack_here, stack_there, here_or_there}
+use Rattle.thread_cache.specs.Stacks.{StackTable, stacks_of}
+use Rattle.heap_model.proofs.Distinct.{IsOther, stack_here, stack_there, here_or_there}
 use Rattle.block_supply.specs.Supply.{Supply, IsStacked, IsOpen, IsWith}
 use Rattle.block_supply.specs.Kept.{IsKept}
 use Rattle.block_supply.proofs.Addresses.{one_class, slab_once, block_once, address_differs}

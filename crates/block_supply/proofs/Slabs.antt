@@ -5,15 +5,15 @@ use Rattle.bit_words.specs.Numbers.{has as has_number}
 use Rattle.size_classes.specs.Classes.{class_capacity}
 use Rattle.size_classes.proofs.Spacing.{class_size-least}
 use Rattle.heap_model.specs.Machine.{with_key, slab_block}
-use Rattle.heap_model.specs.Placement.{Stacks, without_slab, Has, IsInNoStack}
+use Rattle.heap_model.specs.Placement.{Stacks, without_slab, Has, IsInNoStack, AreDistinct}
 use Rattle.heap_model.specs.Slabs.{is_within}
 use Rattle.heap_model.proofs.Maps.{with_key-here, with_key-other}
 use Rattle.slab_index.specs.SlabSet.{SlabSet, class_in, is_available}
-use Rattle.thread_cache.specs.Stacks.{StackTable, stacks_of, AreDistinct}
+use Rattle.thread_cache.specs.Stacks.{StackTable, stacks_of}
 use Rattle.block_supply.specs.Supply.{Supply, IsStacked, IsClearOf, HasSlabMore, HasSlabLess}
 use Rattle.block_supply.specs.Kept.{IsKept}
 use Rattle.block_supply.proofs.Addresses.{one_class, block_lies}
-use Rattle.block_supply.proofs.Lists.{Has-passing, passing_Has}
+use Rattle.heap_model.proofs.AddressLists.{Has-passing, Has-filter}
 
 -- the index has one slab more, in which these blocks are available
 pub record IsSlabAdded (old new : SlabSet) (start class : ℕ) (Opens : ℕ → Type 0) : Type 0 where
@@ -182,7 +182,7 @@ module _ (old : Supply) (kept : IsKept old.slabs old.stacks) (start : ℕ) (slab
   available s i differ = blocks s i ∙ cond-false (s == start) false (is_available old.slabs s i) (ne_eqb s start differ)
 
   has_was : (seat c at : ℕ) → Has (stacks_of stacks seat c) at → Has (stacks_of old.stacks seat c) at × (not (is_within start at) ≡ true)
-  has_was seat c at has = passing_Has (λ a. not (is_within start a)) (stacks_of old.stacks seat c) at (subst (λ (s : Stacks). Has (s seat c) at) purged has)
+  has_was seat c at has = Has-filter (λ a. not (is_within start a)) (stacks_of old.stacks seat c) at (subst (λ (s : Stacks). Has (s seat c) at) purged has)
 
   has_still : (seat c at : ℕ) → Has (stacks_of old.stacks seat c) at → not (is_within start at) ≡ true → Has (stacks_of stacks seat c) at
   has_still seat c at has passes = subst (λ (s : Stacks). Has (s seat c) at) (sym purged) (Has-passing (λ a. not (is_within start a)) (stacks_of old.stacks seat c) at has passes)

@@ -2,10 +2,10 @@
 use Rattle.std.specs.Prelude.{◌≡◌, ◌≢◌, ◌⊎◌, ℕ, ◌+◌, ◌<◌, ◌≤◌, true, [], Some}
 use Rattle.size_classes.specs.Classes.{class_capacity}
 use Rattle.heap_model.specs.Machine.{slab_block}
-use Rattle.heap_model.specs.Placement.{Has, IsInNoStack, IsRefill}
+use Rattle.heap_model.specs.Placement.{Has, IsInNoStack, IsRefill, AreDistinct}
 use Rattle.slab_index.specs.declared.block.SlabBlock.{SlabBlock}
 use Rattle.slab_index.specs.SlabSet.{SlabSet, class_in, is_available, HasNoBlock}
-use Rattle.thread_cache.specs.Stacks.{StackTable, stacks_of, AreDistinct, GaveTop, GaveFirst}
+use Rattle.thread_cache.specs.Stacks.{StackTable, stacks_of, GaveTop, GaveFirst}
 use Rattle.block_supply.specs.Supply.{Supply, IsOpen, IsWithout, supply_view}
 
 -- the address is that of a block of the slab of the class at a start

@@ -11,11 +11,10 @@ use Rattle.heap_model.proofs.Below.{any_below-true}
 use Rattle.heap_model.specs.Machine.{Bounds, Range, slab_block, LiesIn}
 use Rattle.heap_model.specs.Slabs.{begins_in, live_below}
 use Rattle.heap_model.proofs.Freeing.{begins_in-here}
-use Rattle.heap_model.proofs.Slabbing.{LiesIn-block}
+use Rattle.heap_model.proofs.Slabbing.{LiesIn-block, one_number}
 use Rattle.heap_check.specs.Heap.{size_at, entry_at, heap, Holds}
 use Rattle.heap_check.specs.Sound.{IsExact}
 use Rattle.heap_check.proofs.Claims.{IsNamed-claim}
-use Rattle.heap_check.proofs.Small.{one_number}
 use Rattle.slab_morph.specs.Fitness.{held_count}
 use Rattle.slab_morph.proofs.Numbers.{count_more, none_below}
 

@@ -11,7 +11,7 @@ use Rattle.image_tables.specs.Updates.{put_at, put_in, with_old}
 use Rattle.image_tables.proofs.Updates.{put_at-same, put_at-other, put_in-same, put_in-other}
 use Rattle.heap_model.specs.Below.{any_below}
 use Rattle.heap_model.specs.Machine.{Bounds, Range, AreApart, LiesIn, slab_block}
-use Rattle.heap_model.proofs.Slabbing.{LiesIn-block}
+use Rattle.heap_model.proofs.Slabbing.{LiesIn-block, one_number}
 use Rattle.heap_check.specs.Heap.{slab_of, is_old_of, is_large, is_old, size_by, size_at, entry_at, IsClaim, Holds, HoldsBit, HoldsOld}
 use Rattle.heap_check.specs.Sound.{IsInSlab, IsValidSlab, IsOpen, IsSound, IsExactBut}
 use Rattle.heap_check.proofs.Claims.{NamesOnly-some, plain_size, IsClaim-word}
@@ -19,7 +19,7 @@ use Rattle.heap_check.proofs.Geometry.{is_large-slab, slab_of-here, plain_size-s
 use Rattle.heap_check.proofs.LiveBlocks.{one_class}
 use Rattle.heap_check.proofs.Within.{one_claim}
 use Rattle.heap_check.proofs.OneBlock.{IsOneBlock}
-use Rattle.heap_check.proofs.Small.{cases_bit, one_number, is_old-held}
+use Rattle.heap_check.proofs.Small.{cases_bit, is_old-held}
 
 -- the block of a place of a slab's index table
 abbrev pub old_in : Tables → ℕ → ℕ → Range

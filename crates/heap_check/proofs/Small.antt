@@ -49,26 +49,6 @@ pub record IsSmallPlace (b : Bounds) (t : Tables) (root start number : ℕ) : Ty
 pub entry_at-own : (root at : ℕ) → entry_at (Some (small_entry root at)) root ≡ at
 entry_at-own root at = cond-true (root == root) at 0 (eq-eqb root root refl)
 
--- blocks of one class in a slab are apart
-pub blocks_apart : (s c i j : ℕ) → i ≢ j → AreApart (slab_block s c i) (slab_block s c j)
-blocks_apart s c i j differ = ⊎_elim
-    (λ (before : i < j). inl (omega (arith, rows (class_size c) i j before)))
-    (λ (behind : j ≤ i). inr (omega (arith, rows (class_size c) j i (omega (arith, behind, differ)))))
-    (cases_lt i j)
-  where
-    rows : (size i j : ℕ) → i < j → i * size + size ≤ j * size
-    rows size i j before =
-        let all : (i + 1) * size ≤ j * size = mul-le-mul_right size (omega (arith, before)) in
-        let step : (i + 1) * size ≡ i * size + size = omega arith in
-        omega (arith, all, step)
-
--- so one that begins where another does is that one
-pub one_number : (s c i j : ℕ) → 0 < class_size c → (slab_block s c i).at ≡ (slab_block s c j).at → i ≡ j
-one_number s c i j some same = ⊎_elim
-    (λ is. is)
-    (λ differ. absurd (⊎_elim (λ x. omega (arith, x, same, some)) (λ x. omega (arith, x, same, some)) (blocks_apart s c i j differ)))
-    (cases_eq i j)
-
 -- a live old block that a slab holds is seen at its address
 pub is_old-held : (t : Tables) (start at : ℕ) (range : Range) → HoldsOld t start range → range.at ≡ at → is_old t start at ≡ true
 unfolding is_old_of

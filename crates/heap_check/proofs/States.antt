@@ -1,7 +1,7 @@
 -- The state of the heap machine that an exact image has: what the image's tables say of its granules, slabs and blocks,
 -- and its state after a call.
 use Rattle.std.proofs.Common.{◌≡◌, ◌≢◌, ℕ, ◌+◌, ◌*◌, ◌/◌, ◌<◌, ◌≤◌, true, false, true≢false, refl, sym, ap, subst, ◌∙◌, arith, inl, inr, ⊎_elim, List, Option, Some, None, ◌↔◌}
-use Rattle.heap_model.specs.Choice.{Agree}
+use Rattle.heap_model.proofs.Views.{Agree}
 use Rattle.heap_model.specs.Slabs.{IsInTransition, live_below, view_of}
 use Rattle.heap_model.proofs.Below.{any_below-some, any_below-each}
 use Rattle.heap_model.proofs.Fits.{fit_free}

@@ -88,7 +88,7 @@ slabs_leave b m root range s begins none = rw (here, last) refl
     last = eq-eqb (live_below (with_key m.block root None) s b.roots) 0 (live_below-none (with_key m.block root None) s b.roots alone)
 
 -- what is named after a root has lost its block
-left_named : (m : Machine) (root r : ℕ) (x : Range) → with_key m.block root None r ≡ Some x → (r ≢ root) × (m.block r ≡ Some x)
+pub left_named : (m : Machine) (root r : ℕ) (x : Range) → with_key m.block root None r ≡ Some x → (r ≢ root) × (m.block r ≡ Some x)
 left_named m root r x named = ⊎_elim (λ here. absurd (cc (here.1))) (λ there. there) (with_key-cases m.block root r None (Some x) named)
 
 -- a root loses its block

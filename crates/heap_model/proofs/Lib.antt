@@ -1,4 +1,6 @@
 pub mod Maps
+pub mod AddressLists
+pub mod Distinct
 pub mod Fits
 pub mod Views
 pub mod Below
@@ -10,6 +12,7 @@ pub mod Steps
 pub mod Sites
 pub mod Settled
 pub mod Placements
+pub mod SoundStacks
 pub mod Outcomes
 pub mod Counts
 pub mod Morphs

@@ -76,7 +76,7 @@ IsOverlapFree-value b m root index word was = record {
 }
 
 -- what is named after a root's block has passed to another: the block that it had, or what was there
-moved_named : (m : Machine) (from to r : ℕ) (range x : Range) → m.block from ≡ Some range → with_key (with_key m.block from None) to (Some range) r ≡ Some x →
+pub moved_named : (m : Machine) (from to r : ℕ) (range x : Range) → m.block from ≡ Some range → with_key (with_key m.block from None) to (Some range) r ≡ Some x →
     ((r ≡ to) × (m.block from ≡ Some x)) ⊎ ((r ≢ from) × (m.block r ≡ Some x))
 moved_named m from to r range x was named = ⊎_elim
     (λ here. inl (here.0, was ∙ here.1))

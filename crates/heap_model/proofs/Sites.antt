@@ -54,7 +54,7 @@ best_slab_once v c s t one two =
     omega (arith, one.lowest t two.fit same, two.lowest s one.fit (sym same))
 
 -- blocks of one class at one address are one
-block_once : (s t c d i j : ℕ) → (slab_block s c i).at ≡ (slab_block t d j).at → c ≡ d → slab_block s c i ≡ slab_block t d j
+pub block_once : (s t c d i j : ℕ) → (slab_block s c i).at ≡ (slab_block t d j).at → c ≡ d → slab_block s c i ≡ slab_block t d j
 block_once s t c d i j at class = λ k. record { at = at k; size = class_size (class k) }
 
 -- what is asked of two sites that are one

@@ -4,7 +4,7 @@ use Rattle.std.proofs.lemmas.Bool.{cases_eq, cases_lt}
 use Rattle.std.proofs.lemmas.Nat.{div-add-mod'}
 use native.Mathlib.Nat.{mul-le-mul_right}
 use Rattle.size_classes.specs.Classes.{class_size}
-use Rattle.heap_model.specs.Machine.{Bounds, Range, Machine, with_key, Meets, IsLarge, LiesIn, IsBlockOf, IsFreeGranule, IsOverlapFree}
+use Rattle.heap_model.specs.Machine.{Bounds, Range, Machine, with_key, Meets, IsLarge, LiesIn, IsBlockOf, AreApart, slab_block, IsFreeGranule, IsOverlapFree}
 use Rattle.heap_model.specs.Runs.{IsFreeRow}
 use Rattle.heap_model.specs.Placement.{with_class}
 use Rattle.heap_model.proofs.Maps.{with_key-here, with_key-other, with_key-cases}
@@ -83,3 +83,23 @@ LiesIn-block s c range block =
         let rows : (i + 1) * size ≤ 63488 / size * size = mul-le-mul_right size (omega arith) in
         let step : (i + 1) * size ≡ i * size + size = omega arith in
         omega (arith, rows, step, div-add-mod' 63488 size)
+
+-- two blocks of one slab and class share no byte
+pub blocks_apart : (s c i j : ℕ) → i ≢ j → AreApart (slab_block s c i) (slab_block s c j)
+blocks_apart s c i j differ = ⊎_elim
+    (λ (less : i < j). inl (behind i j (class_size c) less))
+    (λ (from : j ≤ i). inr (behind j i (class_size c) (omega (arith, from, differ))))
+    (cases_lt i j)
+  where
+    behind : (k l size : ℕ) → k < l → 16384 * s + 2048 + k * size + size ≤ 16384 * s + 2048 + l * size
+    behind k l size less =
+        let rows : (k + 1) * size ≤ l * size = mul-le-mul_right size (omega (arith, less)) in
+        let step : (k + 1) * size ≡ k * size + size = omega arith in
+        omega (arith, rows, step)
+
+-- so one that begins where another does is that one
+pub one_number : (s c i j : ℕ) → 0 < class_size c → (slab_block s c i).at ≡ (slab_block s c j).at → i ≡ j
+one_number s c i j some same = ⊎_elim
+    (λ is. is)
+    (λ differ. absurd (⊎_elim (λ x. omega (arith, x, same, some)) (λ x. omega (arith, x, same, some)) (blocks_apart s c i j differ)))
+    (cases_eq i j)

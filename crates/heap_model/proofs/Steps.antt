@@ -69,7 +69,7 @@ give b m root size (InNewSlab start class number) was below some is =
     (block_proper b (with_class m start class) start class size number some is.least (with_key-here m.slab start (Some class)) block)
 
 -- a step
-step : (b : Bounds) (m next : Machine) (call : Call) (reply : Reply) → IsOverlapFree b m → IsStep b m call reply next → IsOverlapFree b next
+pub step : (b : Bounds) (m next : Machine) (call : Call) (reply : Reply) → IsOverlapFree b m → IsStep b m call reply next → IsOverlapFree b next
 step b m next call reply was is = elim (outcome b m next reply call is) [
   | Stayed not same ↦ behind m was same
   | Given root size asked given ↦ behind (with_block m root given.grant.site) (give b m root size given.grant.site was given.below given.some given.grant.chosen) given.grant.after

@@ -1,9 +1,17 @@
 -- Two views that say the same have the same sites, and none for the same requests.
-use Rattle.std.proofs.Common.{◌≡◌, ◌↔◌, ℕ, Some, sym, ◌∙◌, arith, ⊎_elim, inl, inr}
-use Rattle.size_classes.specs.Classes.{granules_of}
-use Rattle.heap_model.specs.Choice.{View, IsUnusedBlock, HasUnusedBlock, IsFit, IsBestSlab, HasNoFitSlab, Site, IsSite, HasNoSite, Agree}
+use Rattle.std.proofs.Common.{◌≡◌, ◌↔◌, ◌<◌, ℕ, Some, sym, ◌∙◌, arith, ⊎_elim, inl, inr}
+use Rattle.size_classes.specs.Classes.{class_capacity, granules_of}
+use Rattle.heap_model.specs.Choice.{View, IsUnusedBlock, HasUnusedBlock, IsFit, IsBestSlab, HasNoFitSlab, Site, IsSite, HasNoSite}
 use Rattle.heap_model.specs.Choice.Site.{Granules, InSlab, InMorph, InNewSlab}
 use Rattle.heap_model.proofs.Fits.{IsBestFit-same, HasNoFit-same}
+
+-- two views say the same of all that a choice looks at
+pub record Agree (v w : View) : Type 0 where
+  pub free : (k : ℕ) → v.free k ↔ w.free k
+  pub slab : (s : ℕ) → v.slab s ≡ w.slab s
+  pub unused : (s class c number : ℕ) → v.slab s ≡ Some class → number < class_capacity c → v.unused s c number ↔ w.unused s c number
+  pub live : (s : ℕ) → v.live s ≡ w.live s
+  pub in_transition : (s class : ℕ) → v.slab s ≡ Some class → v.in_transition s ↔ w.in_transition s
 
 -- the other way round
 other_way : {A B : Type 0} → A ↔ B → B ↔ A

@@ -1,6 +1,6 @@
 -- The choice of a malloc: where its block may lie. It is stated over a view, which says all that the choice looks at: the
 -- state of the machine has one (`State.antt`), and so has whatever else says as much of an arena, as its tables.
-use Rattle.std.specs.Prelude.{◌≡◌, ◌≢◌, ◌⊎◌, ◌↔◌, ℕ, ◌*◌, ◌<◌, ◌≤◌, Option, Some}
+use Rattle.std.specs.Prelude.{◌≡◌, ◌≢◌, ◌⊎◌, ℕ, ◌*◌, ◌<◌, ◌≤◌, Option, Some}
 use Rattle.size_classes.specs.Classes.{class_capacity, IsClassOf, granules_of}
 use Rattle.heap_model.specs.Machine.{Range, slab_block, with_key}
 use Rattle.heap_model.specs.Runs.{IsBestFit, HasNoFit}
@@ -129,13 +129,3 @@ pub record HasNoLargeSite (v : View) (size : ℕ) : Type 0 where
 
 abbrev pub HasNoSite : View → ℕ → Type 0
 HasNoSite v size = HasNoSmallSite v size ⊎ HasNoLargeSite v size
-
--- views that agree
-
--- two views say the same of all that a choice looks at
-pub record Agree (v w : View) : Type 0 where
-  pub free : (k : ℕ) → v.free k ↔ w.free k
-  pub slab : (s : ℕ) → v.slab s ≡ w.slab s
-  pub unused : (s class c number : ℕ) → v.slab s ≡ Some class → number < class_capacity c → v.unused s c number ↔ w.unused s c number
-  pub live : (s : ℕ) → v.live s ≡ w.live s
-  pub in_transition : (s class : ℕ) → v.slab s ≡ Some class → v.in_transition s ↔ w.in_transition s

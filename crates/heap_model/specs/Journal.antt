@@ -1,11 +1,11 @@
 -- Legal journals: each entry is a step from the state that the entries before it lead to.
-use Rattle.std.specs.Prelude.{◌≡◌, List, [], ◌∷◌}
+use Rattle.std.specs.Prelude.{◌≡◌, ◌<◌, List, [], ◌∷◌}
 use Rattle.heap_model.specs.declared.call.Call.{Call}
 use Rattle.heap_model.specs.declared.call.Call.TheVariants.{Malloc, Free, Write, Read, Move}
 use Rattle.heap_model.specs.declared.call.Entry.{Entry}
 use Rattle.heap_model.specs.Machine.{Bounds, Machine, IsOverlapFree}
 use Rattle.heap_model.specs.Step.{IsStep}
-use Rattle.heap_model.specs.Placement.{PlacedState, IsPlacedStep}
+use Rattle.heap_model.specs.Placement.{PlacedState, bare, IsPlacedStep, AreSound}
 
 -- the entries lead from a state to another, by this kind of steps
 abbrev pub Leads : {State : Type 0} → (State → Entry → State → Type 0) → State → List Entry → State → Type 0
@@ -20,13 +20,22 @@ IsEntry b m entry next = IsStep b m entry.call entry.reply next
 abbrev pub IsPlacedEntry : Bounds → PlacedState → Entry → PlacedState → Type 0
 IsPlacedEntry b s entry next = IsPlacedStep b entry.seat s entry.call entry.reply next
 
--- a legal journal from a state: it leads somewhere
-abbrev pub IsLegal : Bounds → Machine → List Entry → Type 0
-IsLegal b m entries = (last : Machine) × Leads (IsEntry b) m entries last
-
 -- every state that is reached from an overlap-free one is overlap-free
 abbrev pub LawOfOverlap : Type 0
 LawOfOverlap = (b : Bounds) (m last : Machine) (entries : List Entry) → IsOverlapFree b m → Leads (IsEntry b) m entries last → IsOverlapFree b last
+
+-- each entry is of a seat, whose number is below 64
+abbrev pub AreOfSeats : List Entry → Type 0
+AreOfSeats [] = Unit {0}
+AreOfSeats (entry ∷ entries) = (entry.seat < 64) × AreOfSeats entries
+
+-- where no stack has a block, the stacks are sound
+abbrev pub LawOfNoStacks : Type 0
+LawOfNoStacks = (m : Machine) → AreSound (bare m)
+
+-- from an overlap-free state with sound stacks every journal of the placement leads to sound stacks
+abbrev pub LawOfStacks : Type 0
+LawOfStacks = (b : Bounds) (s last : PlacedState) (entries : List Entry) → AreOfSeats entries → IsOverlapFree b s.machine → AreSound s → Leads (IsPlacedEntry b) s entries last → AreSound last
 
 -- a call that gives, takes or moves a block
 abbrev pub IsOfBlock : Call → Type 0

@@ -50,9 +50,31 @@ abbrev pub Has : List ℕ → ℕ → Type 0
 Has [] at = ⊥
 Has (top ∷ rest) at = (at ≡ top) ⊎ Has rest at
 
+-- the list has no address twice
+abbrev pub AllDiffer : List ℕ → Type 0
+AllDiffer [] = Unit {0}
+AllDiffer (top ∷ rest) = ¬ (Has rest top) × AllDiffer rest
+
+-- each address is below those behind it
+abbrev pub AreRising : List ℕ → Type 0
+AreRising [] = Unit {0}
+AreRising (at ∷ rest) = ((other : ℕ) → Has rest other → at < other) × AreRising rest
+
 -- it stands in no stack
 pub record IsInNoStack (stacks : Stacks) (at : ℕ) : Type 0 where
   pub none : (seat class : ℕ) → ¬ (Has (stacks seat class) at)
+
+-- none of the addresses stands in one
+pub record AreLoose (stacks : Stacks) (addresses : List ℕ) : Type 0 where
+  pub each : (at : ℕ) → Has addresses at → IsInNoStack stacks at
+
+-- only seats below 64 and classes below 36 have stacks, of at most eight addresses each, and no address stands in two places
+pub record AreDistinct (stacks : Stacks) : Type 0 where
+  pub seated : (seat class : ℕ) → 64 ≤ seat → stacks seat class ≡ []
+  pub classed : (seat class : ℕ) → 36 ≤ class → stacks seat class ≡ []
+  pub short : (seat class : ℕ) → length (stacks seat class) ≤ 8
+  pub differ : (seat class : ℕ) → AllDiffer (stacks seat class)
+  pub apart : (seat class other c at : ℕ) → Has (stacks seat class) at → Has (stacks other c) at → (seat ≡ other) × (class ≡ c)
 
 -- malloc
 
@@ -199,11 +221,6 @@ pub record IsPlacedStep (b : Bounds) (seat : ℕ) (was : PlacedState) (call : Ca
 
 -- sound stacks
 
--- the list has no address twice
-abbrev pub AllDiffer : List ℕ → Type 0
-AllDiffer [] = Unit {0}
-AllDiffer (top ∷ rest) = ¬ (Has rest top) × AllDiffer rest
-
 -- a reserved block: of its class, in a slab of that class, and unused
 pub record IsReserved (m : Machine) (class at : ℕ) : Type 0 where
   pub start : ℕ
@@ -213,11 +230,7 @@ pub record IsReserved (m : Machine) (class at : ℕ) : Type 0 where
   pub unused : IsUnused m (slab_block start class number)
   pub is : at ≡ (slab_block start class number).at
 
--- The stacks are sound beside the state: only those of seats have blocks, and none has more than it holds; all addresses
--- differ, and each is that of a reserved block.
+-- the stacks are sound beside the state: they are distinct, and each address is that of a reserved block
 pub record AreSound (s : PlacedState) : Type 0 where
-  pub seated : (seat class : ℕ) → 64 ≤ seat → s.stacks seat class ≡ []
-  pub short : (seat class : ℕ) → length (s.stacks seat class) ≤ 8
-  pub differ : (seat class : ℕ) → AllDiffer (s.stacks seat class)
-  pub apart : (seat class other c at : ℕ) → Has (s.stacks seat class) at → Has (s.stacks other c) at → (seat ≡ other) × (class ≡ c)
+  pub distinct : AreDistinct s.stacks
   pub reserved : (seat class at : ℕ) → Has (s.stacks seat class) at → IsReserved s.machine class at

@@ -10,13 +10,13 @@ use Rattle.image_tables.specs.Tables.{Tables}
 use Rattle.image_tables.specs.Updates.{put_in}
 use Rattle.image_tables.proofs.Updates.{put_in-same}
 use Rattle.heap_model.specs.Machine.{Bounds, Range, LiesIn, slab_block}
-use Rattle.heap_model.proofs.Slabbing.{LiesIn-block}
+use Rattle.heap_model.proofs.Slabbing.{LiesIn-block, one_number}
 use Rattle.heap_check.specs.Heap.{slab_of, is_large, is_old, entry_at, IsClaim, Holds, HoldsBit, HoldsOld}
 use Rattle.heap_check.specs.Sound.{IsInSlab, IsOpen, IsOpenPlace, IsStanding, IsNearlyDone, IsSound, IsSteady}
 use Rattle.heap_check.proofs.Claims.{NamesOnly, NamesOnly-none, NamesOnly-some, plain_size, IsClaim-named}
 use Rattle.heap_check.proofs.Geometry.{is_large-slab, slab_of-here}
 use Rattle.heap_check.proofs.Geometry.{one_slab}
-use Rattle.heap_check.proofs.Small.{Holds-unbit, Holds-bit, small_entry, block_in, entry_at-own, one_number, is_old-held}
+use Rattle.heap_check.proofs.Small.{Holds-unbit, Holds-bit, small_entry, block_in, entry_at-own, is_old-held}
 use Rattle.settle_steps.proofs.OneRoot.{changed, claim_by_entry, IsSettling}
 use Rattle.heap_check.proofs.LiveBlocks.{old_seen, one_class}
 

@@ -11,7 +11,7 @@ use Rattle.slab_header.specs.State.{kind_of, class_of, old_of, entries_of}
 use Rattle.heap_model.specs.Machine.{Range, AreApart, slab_block}
 use Rattle.heap_check.specs.Heap.{HoldsBit, HoldsOld, IsUnusedIn}
 use Rattle.heap_check.specs.Sound.{IsValidSlab}
-use Rattle.heap_check.proofs.Small.{blocks_apart}
+use Rattle.heap_model.proofs.Slabbing.{blocks_apart}
 use Rattle.slab_morph.specs.Overlaps.{IsCoveredRange}
 use Rattle.slab_morph.specs.SlabHeaders.{SlabHeader, header_at, HasState, IsSlabHere}
 use Rattle.slab_morph.proofs.HeaderTables.{header_of-slab}

@@ -1,6 +1,6 @@
 // Stacks that are filled and taken from: rows that were worked by hand.
 ghost use Rattle.std.specs.Prelude.{◌+◌, ◌*◌, ◌^◌, ◌<◌, ◌≤◌};
-ghost use Rattle.thread_cache.specs.Stacks.{AreRising};
+ghost use Rattle.heap_model.specs.Placement.{AreRising};
 
 use arrayvec::ArrayVec;
 use pmem_lines::OutOfMemory;

@@ -1,4 +1,3 @@
-pub mod Distinct
 pub mod Lists
 pub mod Purges
 pub mod Tables

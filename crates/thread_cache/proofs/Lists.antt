@@ -5,8 +5,7 @@ use Rattle.std.proofs.lemmas.List.{append-nil, reverse-reverse}
 use Rattle.std.proofs.lemmas.List.Elements.{filter-append}
 use mathlib.Core.List.{reverse-cons}
 use Rattle.std.specs.List.{filter, list_any}
-use Rattle.heap_model.specs.Placement.{Has, AllDiffer}
-use Rattle.thread_cache.specs.Stacks.{AreRising}
+use Rattle.heap_model.specs.Placement.{Has, AllDiffer, AreRising}
 
 -- turned round
 
@@ -53,41 +52,6 @@ test_by_Has (x ∷ xs) at has =
     (λ (is : at ≡ x). or_left (eqb x at) (list_any (λ x. eqb x at) xs) (eq-eqb x at (sym is)))
     (λ (behind : Has xs at). or_right (eqb x at) (list_any (λ x. eqb x at) xs) (test_by_Has xs at behind))
     has
-
--- what is left
-
-Has_left : (stays : Bool) (x : ℕ) (xs : List ℕ) (at : ℕ) → Has (cond stays (x ∷ xs) xs) at → (at ≡ x) ⊎ Has xs at
-Has_left true x xs at has = has
-Has_left false x xs at has = inr has
-
--- what is left of a list has no address that the list lacks
-pub Has-filter : (p : ℕ → Bool) (xs : List ℕ) (at : ℕ) → Has (filter p xs) at → Has xs at
-Has-filter p [] at has = absurd has
-Has-filter p (x ∷ xs) at has =
-    ⊎_elim (λ is. inl is) (λ behind. inr (Has-filter p xs at behind)) (Has_left (p x) x (filter p xs) at has)
-
-AllDiffer_left : (stays : Bool) (x : ℕ) (xs : List ℕ) → ¬ (Has xs x) → AllDiffer xs → AllDiffer (cond stays (x ∷ xs) xs)
-AllDiffer_left true x xs apart differ = (apart, differ)
-AllDiffer_left false x xs apart differ = differ
-
--- nor has it one twice
-pub AllDiffer-filter : (p : ℕ → Bool) (xs : List ℕ) → AllDiffer xs → AllDiffer (filter p xs)
-AllDiffer-filter p [] differ = differ
-AllDiffer-filter p (x ∷ xs) differ = AllDiffer_left (p x) x (filter p xs) (λ has. differ.0 (Has-filter p xs x has)) (AllDiffer-filter p xs differ.1)
-
-length_left : (stays : Bool) (x : ℕ) (xs : List ℕ) → length (cond stays (x ∷ xs) xs) ≤ length xs + 1
-length_left true x xs = omega arith
-length_left false x xs = omega arith
-
--- nor is it longer
-pub length-filter : (p : ℕ → Bool) (xs : List ℕ) → length (filter p xs) ≤ length xs
-length-filter p [] = omega arith
-length-filter p (x ∷ xs) = omega (arith, length_left (p x) x (filter p xs), length-filter p xs)
-
--- addresses that rise differ
-pub AllDiffer-rising : (xs : List ℕ) → AreRising xs → AllDiffer xs
-AllDiffer-rising [] rising = tt
-AllDiffer-rising (x ∷ xs) rising = ((λ has. absurd (let before : x < x = rising.0 x has in omega arith)), AllDiffer-rising xs rising.1)
 
 -- one more at the end
 

@@ -6,7 +6,7 @@ use Rattle.heap_model.specs.Placement.{Stacks, with_stack, without_slab}
 use Rattle.heap_model.specs.Slabs.{is_within}
 use Rattle.thread_cache.specs.Stacks.{StackTable, stacks_of}
 use Rattle.thread_cache.specs.Kept.{IsPurgedWhere}
-use Rattle.thread_cache.proofs.Distinct.{IsOther, stack_here, stack_there, here_or_there}
+use Rattle.heap_model.proofs.Distinct.{IsOther, stack_here, stack_there, here_or_there}
 use Rattle.thread_cache.proofs.Tables.{no_seat, no_class}
 
 -- an empty stack loses nothing

@@ -4,11 +4,11 @@ use Rattle.std.proofs.lemmas.Bool.{cases_lt, cases_eq, lt-ltb, le-ltb, ltb-true,
 use Rattle.std.proofs.lemmas.List.{get_or_read, set-get_or, get_or-set_same, get_or-set_other, get_or_past, get_or-replicate, length-set, length-replicate}
 use Rattle.bit_words.specs.Numbers.{has, IsPut, IsLeastIn}
 use Rattle.bit_words.proofs.Bits.{put_here, put_beside, has-zero, has-zeros}
-use Rattle.heap_model.specs.Placement.{no_stacks, with_stack, HasTop}
+use Rattle.heap_model.specs.Placement.{no_stacks, with_stack, HasTop, AreDistinct}
 use Rattle.std.specs.Option.{MatchOption}
-use Rattle.thread_cache.specs.Stacks.{StackTable, stacks_of, AreDistinct, WasEmpty, GaveTop, WereEmpty, GaveFirst}
+use Rattle.thread_cache.specs.Stacks.{StackTable, stacks_of, WasEmpty, GaveTop, WereEmpty, GaveFirst}
 use Rattle.thread_cache.specs.Kept.{table_of, IsNumberOf, IsKept}
-use Rattle.thread_cache.proofs.Distinct.{AreDistinct-none, IsOther, stack_here, stack_there, here_or_there}
+use Rattle.heap_model.proofs.Distinct.{AreDistinct-none, IsOther, stack_here, stack_there, here_or_there}
 
 -- the stack of a seat and class is that of its number
 pub stack_at : (table : StackTable) (seat class : ℕ) → seat < 64 → class < 36 → stacks_of table seat class ≡ get_or table.lists (64 * class + seat) []

@@ -1,8 +1,8 @@
 -- What caches keep beside the stacks: which of them are not empty. And the steps of their loops, by classes and seats.
 use Rattle.std.specs.Prelude.{◌≡◌, ℕ, ◌+◌, ◌*◌, ◌<◌, nat_lt, Bool, List, [], length, slice_index_or, if◌then◌else◌}
 use Rattle.bit_words.specs.Numbers.{has}
-use Rattle.heap_model.specs.Placement.{Stacks, without_slab, Has}
-use Rattle.thread_cache.specs.Stacks.{StackTable, stacks_of, AreDistinct}
+use Rattle.heap_model.specs.Placement.{Stacks, without_slab, Has, AreDistinct}
+use Rattle.thread_cache.specs.Stacks.{StackTable, stacks_of}
 
 -- the stacks that these lists say
 abbrev pub table_of : List (List ℕ) → StackTable

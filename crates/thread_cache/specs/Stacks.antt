@@ -11,23 +11,6 @@ pub record StackTable : Type 0 where
 unfoldable pub stacks_of : StackTable → Stacks
 stacks_of table seat class = if nat_lt seat 64 && nat_lt class 36 then slice_index_or table.lists (64 * class + seat) [] else []
 
--- only seats below 64 and classes below 36 have stacks, of at most eight addresses each, and no address stands in two places
-pub record AreDistinct (stacks : Stacks) : Type 0 where
-  pub seated : (seat class : ℕ) → 64 ≤ seat → stacks seat class ≡ []
-  pub classed : (seat class : ℕ) → 36 ≤ class → stacks seat class ≡ []
-  pub short : (seat class : ℕ) → length (stacks seat class) ≤ 8
-  pub differ : (seat class : ℕ) → AllDiffer (stacks seat class)
-  pub apart : (seat class other c at : ℕ) → Has (stacks seat class) at → Has (stacks other c) at → (seat ≡ other) × (class ≡ c)
-
--- each address is below those behind it
-abbrev pub AreRising : List ℕ → Type 0
-AreRising [] = Unit {0}
-AreRising (at ∷ rest) = ((other : ℕ) → Has rest other → at < other) × AreRising rest
-
--- none of the addresses is in a stack
-pub record AreLoose (stacks : Stacks) (addresses : List ℕ) : Type 0 where
-  pub each : (at : ℕ) → Has addresses at → IsInNoStack stacks at
-
 -- the address is in a stack
 pub record IsHeld (stacks : Stacks) (at : ℕ) : Type 0 where
   pub seat : ℕ

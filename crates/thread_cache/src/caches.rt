@@ -1,7 +1,7 @@
 // The stacks of all seats and classes.
 ghost use Rattle.std.specs.Prelude.{◌≡◌, ◌==◌, ◌+◌, ◌*◌, ◌/◌, ◌%◌, ◌<◌, ◌↔◌, [], ◌∷◌, length, nat_lt, true, false, replicate, MatchOption, IfOk};
-ghost use Rattle.heap_model.specs.Placement.{no_stacks, with_stack, without_slab, Has, IsInNoStack};
-ghost use Rattle.thread_cache.specs.Stacks.{stacks_of, AreDistinct, AreRising, AreLoose, IsHeld, WasEmpty, GaveTop, WereEmpty, GaveFirst};
+ghost use Rattle.heap_model.specs.Placement.{no_stacks, with_stack, without_slab, Has, IsInNoStack, AreDistinct, AreRising, AreLoose};
+ghost use Rattle.thread_cache.specs.Stacks.{stacks_of, IsHeld, WasEmpty, GaveTop, WereEmpty, GaveFirst};
 ghost use Rattle.thread_cache.specs.Kept.{IsNumberOf, HasNone, IsPurgedWhere};
 
 use crate::stack::Stack;

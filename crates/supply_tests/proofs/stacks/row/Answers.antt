@@ -1,6 +1,5 @@
 use Rattle.std.proofs.Common.{◌≡◌, ℕ, ◌+◌, ◌*◌, ⊎_elim, List, sym, subst, arith}
-use Rattle.heap_model.specs.Placement.{Has}
-use Rattle.thread_cache.specs.Stacks.{AreRising}
+use Rattle.heap_model.specs.Placement.{Has, AreRising}
 use Rattle.thread_cache.proofs.Lists.{Has_joined, AreRising-last}
 use Rattle.supply_tests.proofs.stacks.row.Goals as goal
 

@@ -1,6 +1,5 @@
 use Rattle.std.proofs.Common.{ℕ, ◌+◌, ◌*◌, ◌<◌, ◌≤◌, length}
-use Rattle.heap_model.specs.Placement.{Has}
-use Rattle.thread_cache.specs.Stacks.{AreRising}
+use Rattle.heap_model.specs.Placement.{Has, AreRising}
 use Rattle.supply_tests.proofs.stacks.row.Given as goal
 
 abbrev pub invariant-loop-i : goal.invariant-loop-i

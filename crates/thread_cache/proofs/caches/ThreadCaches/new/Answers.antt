@@ -1,6 +1,7 @@
 use Rattle.std.proofs.Common.{◌*◌, sym, ap, ◌∙◌, subst, arith, List, ℕ}
-use Rattle.thread_cache.specs.Stacks.{stacks_of, AreDistinct}
-use Rattle.thread_cache.proofs.Distinct.{AreDistinct-none}
+use Rattle.thread_cache.specs.Stacks.{stacks_of}
+use Rattle.heap_model.specs.Placement.{AreDistinct}
+use Rattle.heap_model.proofs.Distinct.{AreDistinct-none}
 use Rattle.thread_cache.specs.Kept.{table_of}
 use Rattle.thread_cache.proofs.Tables.{stacks-empty, IsKept-empty}
 use Rattle.thread_cache.proofs.caches.ThreadCaches.new.Goals as goal

@@ -1,8 +1,9 @@
 use Rattle.std.proofs.Common.{◌≡◌, ◌∷◌, length, refl, sym, ap, subst, ◌∙◌, not, arith}
 use Rattle.std.proofs.lemmas.List.{with_items_is}
-use Rattle.thread_cache.specs.Stacks.{StackTable, stacks_of, AreDistinct}
+use Rattle.thread_cache.specs.Stacks.{StackTable, stacks_of}
+use Rattle.heap_model.specs.Placement.{AreDistinct}
 use Rattle.thread_cache.proofs.Tables.{stack_read, stacks_after, table_same, distinct_of, IsKept-after, some_by_length}
-use Rattle.thread_cache.proofs.Distinct.{AreDistinct-popped}
+use Rattle.heap_model.proofs.Distinct.{AreDistinct-popped}
 use Rattle.thread_cache.proofs.caches.ThreadCaches.pop.Goals as goal
 
 pub returns-in_err-at-clause-top : goal.returns-in_err-at-clause-top

@@ -1,7 +1,8 @@
 use Rattle.std.proofs.Common.{◌/◌, ℕ, not, sym, subst, arith}
-use Rattle.thread_cache.specs.Stacks.{stacks_of, AreDistinct}
+use Rattle.thread_cache.specs.Stacks.{stacks_of}
+use Rattle.heap_model.specs.Placement.{AreDistinct}
 use Rattle.heap_model.specs.Slabs.{is_within}
-use Rattle.thread_cache.proofs.Distinct.{AreDistinct-keeping}
+use Rattle.heap_model.proofs.Distinct.{AreDistinct-keeping}
 use Rattle.thread_cache.proofs.Tables.{distinct_of}
 use Rattle.thread_cache.proofs.Purges.{purged_no_class, purged_class, purged_all}
 use Rattle.thread_cache.proofs.caches.ThreadCaches.purge_slab.Goals as goal

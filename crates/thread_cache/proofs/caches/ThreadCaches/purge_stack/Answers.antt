@@ -1,10 +1,10 @@
 use Rattle.std.proofs.Common.{◌≡◌, ◌/◌, List, ℕ, length, sym, ap, ◌∙◌, not, subst, arith}
 use Rattle.std.specs.List.{filter}
 use Rattle.std.proofs.lemmas.List.{with_items_is}
-use Rattle.heap_model.specs.Placement.{with_stack}
+use Rattle.heap_model.specs.Placement.{with_stack, AreDistinct}
 use Rattle.heap_model.specs.Slabs.{is_within}
-use Rattle.thread_cache.specs.Stacks.{stacks_of, AreDistinct}
-use Rattle.thread_cache.proofs.Distinct.{AreDistinct-left}
+use Rattle.thread_cache.specs.Stacks.{stacks_of}
+use Rattle.heap_model.proofs.Distinct.{AreDistinct-left}
 use Rattle.thread_cache.proofs.Purges.{purged_empty}
 use Rattle.thread_cache.proofs.Tables.{stack_read, stacks_after, distinct_of, none_by_bit, IsKept-after, some_by_length}
 use Rattle.thread_cache.proofs.caches.ThreadCaches.purge_stack.Goals as goal

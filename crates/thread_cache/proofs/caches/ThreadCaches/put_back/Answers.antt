@@ -1,9 +1,9 @@
 use Rattle.std.proofs.Common.{◌≡◌, ◌∷◌, List, ℕ, length, sym, ap, ◌∙◌, subst, arith}
 use Rattle.std.proofs.lemmas.Bool.{eqb-true, eqb-false, lt-ltb, le-ltb}
 use Rattle.std.proofs.lemmas.List.{with_items_is}
-use Rattle.heap_model.specs.Placement.{with_stack}
-use Rattle.thread_cache.specs.Stacks.{stacks_of, AreDistinct}
-use Rattle.thread_cache.proofs.Distinct.{AreDistinct-put}
+use Rattle.heap_model.specs.Placement.{with_stack, AreDistinct}
+use Rattle.thread_cache.specs.Stacks.{stacks_of}
+use Rattle.heap_model.proofs.Distinct.{AreDistinct-put}
 use Rattle.thread_cache.proofs.Tables.{stack_read, stacks_after, distinct_of, IsKept-after}
 use Rattle.thread_cache.proofs.caches.ThreadCaches.put_back.Goals as goal
 

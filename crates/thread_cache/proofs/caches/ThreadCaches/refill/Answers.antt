@@ -1,8 +1,8 @@
 use Rattle.std.proofs.Common.{◌≡◌, List, ℕ, length, sym, ap, ◌∙◌, not, subst, arith}
 use Rattle.std.proofs.lemmas.List.{with_items_is}
-use Rattle.heap_model.specs.Placement.{with_stack}
-use Rattle.thread_cache.specs.Stacks.{stacks_of, AreDistinct}
-use Rattle.thread_cache.proofs.Distinct.{AreDistinct-filled}
+use Rattle.heap_model.specs.Placement.{with_stack, AreDistinct}
+use Rattle.thread_cache.specs.Stacks.{stacks_of}
+use Rattle.heap_model.proofs.Distinct.{AreDistinct-filled}
 use Rattle.thread_cache.proofs.Tables.{stack_read, stacks_after, distinct_of, IsKept-after, some_by_length}
 use Rattle.thread_cache.proofs.caches.ThreadCaches.refill.Goals as goal
 

@@ -2,9 +2,8 @@
 use Rattle.std.proofs.Common.{◌≡◌, ◌≢◌, ℕ, ◌<◌, ◌≤◌, ◌⊎◌, ⊎_elim, inl, inr, Bool, eqb, ◌&&◌, List, ◌∷◌, length, refl, sym, ap, ◌∙◌, subst, arith}
 use Rattle.std.proofs.lemmas.Bool.{cases_eq, eq-eqb, ne_eqb, cond-true, cond-false, and_from, and_left, and_right}
 use Rattle.std.specs.List.{filter}
-use Rattle.heap_model.specs.Placement.{Stacks, no_stacks, keeping, with_stack, Has, IsInNoStack, AllDiffer}
-use Rattle.thread_cache.specs.Stacks.{AreDistinct, AreRising, AreLoose}
-use Rattle.thread_cache.proofs.Lists.{Has-filter, AllDiffer-filter, AllDiffer-rising, length-filter}
+use Rattle.heap_model.specs.Placement.{Stacks, no_stacks, keeping, with_stack, Has, HasTop, IsInNoStack, AllDiffer, AreDistinct, AreRising, AreLoose}
+use Rattle.heap_model.proofs.AddressLists.{Has-filter, AllDiffer-filter, AllDiffer-rising, length-filter}
 
 -- the stack of another seat or class
 pub record IsOther (seat class other c : ℕ) : Type 0 where
@@ -80,6 +79,18 @@ AreDistinct-popped {stacks} distinct seat class top rest is_seat is_class is =
     ((subst AllDiffer is (distinct.differ seat class)).1)
     (record { each = λ at other c one two. distinct.apart other c seat class at two (subst (λ (xs : List ℕ). Has xs at) (sym is) (inr one)) })
 
+-- the top that it loses is in none then
+pub top_gone : {stacks : Stacks} → AreDistinct stacks → (seat class : ℕ) (top : HasTop stacks seat class) → IsInNoStack (with_stack stacks seat class top.rest) top.top
+top_gone {stacks} distinct seat class top = record {
+  none = λ other c has. ⊎_elim
+      (λ same. (subst AllDiffer top.is (distinct.differ seat class)).0 (subst (λ (xs : List ℕ). Has xs top.top) (stack_here stacks seat class other c top.rest same.0 same.1) has))
+      (λ is.
+      let had : Has (stacks seat class) top.top = subst (λ (xs : List ℕ). Has xs top.top) (sym top.is) (inl refl) in
+      let found = distinct.apart other c seat class top.top (subst (λ (xs : List ℕ). Has xs top.top) (stack_there stacks seat class other c top.rest is) has) had in
+      is.apart found.0 found.1)
+      (here_or_there seat class other c);
+}
+
 -- a stack with room gets an address that is in none
 pub AreDistinct-put : {stacks : Stacks} → AreDistinct stacks → (seat class at : ℕ) → seat < 64 → class < 36 → length (stacks seat class) < 8 → IsInNoStack stacks at →
     AreDistinct (with_stack stacks seat class (at ∷ stacks seat class))
@@ -107,7 +118,7 @@ AreDistinct-left {stacks} distinct seat class p is_seat is_class =
     AreDistinct-with distinct seat class (filter p (stacks seat class)) is_seat is_class
     (omega (arith, distinct.short seat class, length-filter p (stacks seat class)))
     (AllDiffer-filter p (stacks seat class) (distinct.differ seat class))
-    (record { each = λ at other c one two. distinct.apart other c seat class at two (Has-filter p (stacks seat class) at one) })
+    (record { each = λ at other c one two. distinct.apart other c seat class at two ((Has-filter p (stacks seat class) at one).0) })
 
 -- all stacks keep what passes
 pub AreDistinct-keeping : {stacks : Stacks} → AreDistinct stacks → (p : ℕ → Bool) → AreDistinct (keeping p stacks)
@@ -116,7 +127,7 @@ AreDistinct-keeping {stacks} distinct p = record {
   classed = λ seat class high. ap (filter p) (distinct.classed seat class high);
   short = λ seat class. omega (arith, distinct.short seat class, length-filter p (stacks seat class));
   differ = λ seat class. AllDiffer-filter p (stacks seat class) (distinct.differ seat class);
-  apart = λ seat class other c at one two. distinct.apart seat class other c at (Has-filter p (stacks seat class) at one) (Has-filter p (stacks other c) at two);
+  apart = λ seat class other c at one two. distinct.apart seat class other c at ((Has-filter p (stacks seat class) at one).0) ((Has-filter p (stacks other c) at two).0);
 }
 
 -- no stack has an address
