@@ -58,7 +58,7 @@ pub use Rattle.heap_check.proofs.Forms.{AreSlabsInHeap-sound}
 pub use Rattle.heap_check.proofs.Geometry.{granules_at-slab, granules_at-live, is_large-start, Covers-slab, granules_at-large, slab_is}
 pub use Rattle.heap_check.proofs.Heaps.{heap-claim, IsClaim-heap, heap-none}
 pub use Rattle.heap_check.proofs.Large.{with_large, IsLargePlace}
-pub use Rattle.heap_check.proofs.SameSlabs.{IsUnusedIn-same}
+pub use Rattle.heap_check.proofs.SameSlabs.{KeepsSlabs, IsUnusedIn-same}
 pub use Rattle.heap_check.proofs.Sizes.{sizes_of, heap_inside, root_inside}
 pub use Rattle.heap_check.proofs.SmallPlaces.{calm_but, Holds-claim}
 pub use Rattle.heap_check.proofs.Within.{IsInSlab-held, IsWithin-claim}
@@ -76,7 +76,7 @@ pub use Rattle.arena_core.specs.Answer.{malloc_reply, free_reply, move_reply, bl
 pub use Rattle.arena_core.specs.Arena.{IsSlabsOf, IsIndexOf, AreLivesOf, IsCurrent, old_range, IsArena, ArenaState}
 pub use Rattle.arena_core.specs.Call.{IsStepOfAny, IsReady, IsStepOf}
 pub use Rattle.arena_core.specs.Carried.{IsTidied, IsDone, IsTaken, HaveOneMore, IsCalled, IsHeldFor, HasClassNow, IsSlabFor, MayOpen, MayTakeClass}
-pub use Rattle.arena_core.specs.Effect.{slabs_but, KeepsSlabs, stacks_but, IsPutBack, IsSuppliedFresh, IsSuppliedMorph, IsLastOf, GivesRoot}
+pub use Rattle.arena_core.specs.Effect.{slabs_but, stacks_but, IsPutBack, IsSuppliedFresh, IsSuppliedMorph, IsLastOf, GivesRoot}
 pub use Rattle.arena_core.specs.Events.{holds_none, tidy_events, call_events, line_after, write_events, take_events, freed_events, start_at, place_events, placed_events}
 pub use Rattle.arena_core.specs.Moving.{AreRoots, IsMovePlan, IsToMove, IsMoveCarried}
 pub use Rattle.arena_core.specs.Payload.{payload_events, IsWriteStep, AreWordsOf, HasWritten, HasBlockAt, IsWritable, IsWritePlan, IsWriteCarried, range_of_block}

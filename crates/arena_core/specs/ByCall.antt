@@ -25,11 +25,9 @@ use Rattle.arena_core.specs.Payload.{payload_events, IsWriteStep, IsNamedWord, I
 -- what a crash within a call leaves, from the old words to the new ones: of a write each word old or new, of every other call
 -- the old heap or the new one, and of a move its entry may be open
 abbrev pub IsLeftBy : Call → List ℕ → List ℕ → List ℕ → Type 0
-IsLeftBy (calls.Malloc root size) old new image = IsEitherHeap old new image
-IsLeftBy (calls.Free root) old new image = IsEitherHeap old new image
 IsLeftBy (calls.Write root index word) old new image = IsEitherWords old new image
-IsLeftBy (calls.Read root index) old new image = IsEitherHeap old new image
 IsLeftBy (calls.Move from to) old new image = IsEitherMoved old new to image
+IsLeftBy _ old new image = IsEitherHeap old new image
 
 -- what every call has in common: the image is steady with the same numbers, it has the heap from before the call or from after
 -- it, and the root that the call speaks of holds its word, so that the word says whether it has a block
@@ -47,11 +45,8 @@ LawOfCrashes = (call : Call) (old new image : List ℕ) → IsLeftBy call old ne
 
 -- a call writes word k of an arena of these words
 abbrev pub IsWordWritten : List ℕ → Call → ℕ → Type 0
-IsWordWritten words (calls.Malloc root size) k = ⊥
-IsWordWritten words (calls.Free root) k = ⊥
 IsWordWritten words (calls.Write root index word) k = IsNamedWord words root index 1 k
-IsWordWritten words (calls.Read root index) k = ⊥
-IsWordWritten words (calls.Move from to) k = ⊥
+IsWordWritten words _ k = ⊥
 
 -- each range that is a block of the old heap and of the new one, of whichever root, has its old words, but for the word that
 -- the call writes

@@ -6,7 +6,6 @@ use Rattle.heap_model.specs.Machine.{Range, with_key}
 use Rattle.heap_model.specs.Placement.{Stacks, without_slab}
 use Rattle.block_supply.specs.Supply.{Supply, HasSlabMore, HasSlabLess, TookBlock, IsPutOn}
 use Rattle.heap_check.specs.Heap.{heap, slabs, IsUnusedIn}
-use Rattle.heap_check.specs.Slabs.{IsSameSlab}
 use Rattle.heap_check.specs.Sound.{IsInSlab, HasOther}
 use Rattle.heap_check.specs.Image.{bounds_of}
 use Rattle.heap_check.specs.State.{KeepsBlocks}
@@ -18,10 +17,6 @@ pub record GivesRoot (old : List ℕ) (root : ℕ) (block : Option Range) (slab 
   pub slabs : (start : ℕ) → slabs (tables_of new) start ≡ slab start
   pub keeps : KeepsBlocks old new
   pub bounds : bounds_of new ≡ bounds_of old
-
--- both words say the same of each slab
-pub record KeepsSlabs (old new : List ℕ) : Type 0 where
-  pub each : (start : ℕ) → IsSameSlab (tables_of old) (tables_of new) start
 
 -- the slabs behind a call that leaves the one at a start without a block, or not
 abbrev pub slabs_but : (ℕ → Option ℕ) → ℕ → Bool → ℕ → Option ℕ

@@ -114,11 +114,8 @@ pub record HasRead (old new : ArenaState) (root index : ℕ) (reply : Reply) : T
 
 -- what an arena did, by the call
 abbrev pub HasDone : ArenaState → ArenaState → Call → Reply → Type 0
-HasDone old new (Malloc root size) reply = HasBegun old new (Malloc root size) reply
-HasDone old new (Free root) reply = HasBegun old new (Free root) reply
-HasDone old new (Write root index word) reply = HasBegun old new (Write root index word) reply
 HasDone old new (Read root index) reply = HasRead old new root index reply
-HasDone old new (Move from to) reply = HasBegun old new (Move from to) reply
+HasDone old new call reply = HasBegun old new call reply
 
 -- From an exact image the arena answered a call of a seat: a step of the machine, with the stacks before it and behind it,
 -- by which every other block keeps its words, and of a written one every other word stays. A call that is no Read began one

@@ -107,7 +107,7 @@ module _ {T : Type 0} (op : T → Opening) (jr : T → List Entry) (o : Opening)
               (λ _. record { past = k.past; stands = (omega arith, omega arith, put_here r.holder looked id looked refl, refl, h.3) })
               (λ j d other there alive. let q = r.each_seat j d there alive in record { past = q.past; stands = stands_more r.log next (looked + 1) served r.home 0 r.holder holder' j d.standing (omega arith) (λ _. refl) (λ t l. put_else r.holder looked id t (λ e. omega (arith, e, l, hit))) q.stands }));
         },
-        ((λ _. (x, refl, h.2 ∙ sym k.past.opens, begins op jr o start seats s r id v x k.past h.3)), λ nohit. absurd (nohit hit)),
+        (is, (λ _. (x, refl, h.2 ∙ sym k.past.opens, begins op jr o start seats s r id v x k.past h.3)), λ nohit. absurd (nohit hit)),
       ))
       (λ miss. let w : SeatView = lost_view v in (
         w,
@@ -115,5 +115,5 @@ module _ {T : Type 0} (op : T → Opening) (jr : T → List Entry) (o : Opening)
         tt,
         subst (λ b. Holds (stepped s 0 (either b (looked + 1) next) id me.1 w keeps)) (sym (ne_eqb next looked miss))
             (unmoved op jr o start seats s r 0 id v w at refl (sym (ap in_turn is)) refl (λ _. record { past = k.past; stands = tt })),
-        ((λ hit. absurd (miss hit)), λ _. refl),
+        (is, (λ hit. absurd (miss hit)), λ _. refl),
       ))

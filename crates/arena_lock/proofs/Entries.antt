@@ -4,7 +4,8 @@ use Rattle.std.proofs.lemmas.Bool.{false≢true}
 use mathlib.Core.List.{IsPrefix}
 use Rattle.std.proofs.lemmas.List.{append-nil}
 use Rattle.heap_model.specs.declared.call.Entry.{Entry}
-use Rattle.arena_lock.specs.Journal.{calls_by, Grows, owns, Each, calls_of, AllBelow, Since, numbers}
+use Rattle.arena_lock.specs.Journal.{calls_by, Grows, owns, Each, calls_of, Since, numbers}
+use Rattle.heap_model.specs.Journal.{AllBelow}
 
 put_if-append : (b : Bool) (e : Entry) (xs ys : List Entry) → (if b then e ∷ (xs ++ ys) else (xs ++ ys)) ≡ (if b then e ∷ xs else xs) ++ ys
 put_if-append true e xs ys = refl

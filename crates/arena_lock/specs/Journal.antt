@@ -1,6 +1,7 @@
 -- Journals as lists of entries, and the entries that bear a number.
 use Rattle.std.specs.Prelude.{◌≡◌, ◌⊎◌, ℕ, zero, suc, ◌<◌, ltb, Bool, false, ◌==◌, ◌||◌, if◌then◌else◌, List, [], ◌∷◌, ◌++◌, map, length}
 use Rattle.heap_model.specs.declared.call.Entry.{Entry}
+use Rattle.heap_model.specs.Journal.{AllBelow}
 
 -- the entries that bear the number n, in order
 abbrev pub calls_by : ℕ → List Entry → List Entry
@@ -14,11 +15,6 @@ calls_of journal numbers = map (λ n. calls_by n journal) numbers
 -- the journal stays, or grows by one entry, which bears the number n
 abbrev pub Grows : ℕ → List Entry → List Entry → Type 0
 Grows n before after = (after ≡ before) ⊎ ((e : Entry) × (e.seat ≡ n) × (after ≡ before ++ e ∷ []))
-
--- each entry bears a number below n
-abbrev pub AllBelow : ℕ → List Entry → Type 0
-AllBelow n [] = Unit {0}
-AllBelow n (e ∷ es) = (e.seat < n) × AllBelow n es
 
 -- the journal begins with `start`, and each entry behind it bears a number below n
 abbrev pub Since : ℕ → List Entry → List Entry → Type 0

@@ -79,9 +79,10 @@ module _ {T : Type 0} (opening_of : T → Opening) (journal : T → List Entry) 
   abbrev pub waited : Step (Option T) → Place T → ℕ → Place T → Type 0
   waited st m found m' = (found ≡ ticket_of m.0.standing → TakesTurn found m.0 m m') × (found ≢ ticket_of m.0.standing → m' ≡ m)
 
-  -- an exchange from the number looked at: where it finds this, the ticket is drawn and its turn begins; else it is lost
+  -- an exchange from the number that the seat looked at in this call: where it finds this, the ticket is drawn and its turn
+  -- begins; else it is lost
   abbrev pub tried : Step (Option T) → Place T → ℕ → Place T → Type 0
-  tried st m found m' = (found ≡ st.first → TakesTurn st.first (drawn_view m.0 st.first) m m') × (found ≢ st.first → m' ≡ (lost_view m.0, m.1))
+  tried st m found m' = (m.0.standing ≡ Looked st.first) × (found ≡ st.first → TakesTurn st.first (drawn_view m.0 st.first) m m') × (found ≢ st.first → m' ≡ (lost_view m.0, m.1))
 
 -- ending a turn
 

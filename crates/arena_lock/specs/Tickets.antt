@@ -96,7 +96,7 @@ pub record IsIdle (v : SeatView) : Type 0 where
   pub idle : v.standing ≡ Idle
 
 -- the seat is of this table, which has the lock's three words; it is between two calls, and a turn is left to it
-pub record MayBegin (table seat : TableId) (v : SeatView) : Type 0 where
+pub record MayCall (table seat : TableId) (v : SeatView) : Type 0 where
   pub same : seat ≡ table
   pub words : table.words ≡ 3
   pub idle : IsIdle v

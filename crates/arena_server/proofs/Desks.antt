@@ -6,7 +6,8 @@ use mathlib.Core.List.{IsPrefix}
 use native.Mathlib.Decide.{ℕ_discrete}
 use Rattle.heap_model.specs.declared.call.Entry.{Entry}
 use Rattle.arena_lock.specs.declared.opening.Opening.{Opening}
-use Rattle.arena_lock.specs.Journal.{calls_by, AllBelow}
+use Rattle.arena_lock.specs.Journal.{calls_by}
+use Rattle.heap_model.specs.Journal.{AllBelow}
 use Rattle.arena_lock.specs.Known.{Known}
 use Rattle.shared_pool.specs.Passes.{PassState, part_at, seen_at, mine_at, first_calls}
 use Rattle.shared_pool.specs.Closed.{behead, is_in, HasAll, AllAgree, IsClosed, AllClosed}

@@ -14,10 +14,6 @@ pub record Supply : Type 0 where
   pub slabs : SlabSet
   pub stacks : StackTable
 
--- the class of the slab that begins at a granule
-abbrev pub class_of : Supply → ℕ → Option ℕ
-class_of supply = class_in supply.slabs
-
 -- the block of the slab at a start with this number is reserved
 pub record IsStacked (supply : Supply) (start number : ℕ) : Type 0 where
   pub class : ℕ

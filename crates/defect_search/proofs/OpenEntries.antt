@@ -15,8 +15,15 @@ use Rattle.attach_wal.specs.Entry.{IsEntryWord}
 use Rattle.image_defects.specs.Wal.{IsOpenAlone, IsOpenWord}
 use Rattle.image_reading.specs.declared.slab.Slab.{Slab}
 use Rattle.image_reading.specs.Slabs.{slab_in, AreSlabs}
-use Rattle.image_reading.specs.Held.{IsNumberAt, HasNoNumber, AreSlabsAt}
-use Rattle.defect_search.specs.Opening.{IsNewBlock, HasNewBlock, HasOldBlock, IsCalm, IsMovable}
+use Rattle.image_reading.specs.Held.{IsNumberAt, HasNoNumber, AreSlabsAt, IsBack}
+use Rattle.defect_search.specs.Opening.{IsNewBlock, IsOldBlock, IsCalm, IsMovable}
+
+-- a block of the slab that begins so many granules before another stands at the address, by its class or by its index table
+abbrev pub HasNewBlock : Tables → ℕ → ℕ → ℕ → Type 0
+HasNewBlock t last back at = IsBack (λ start. IsNewBlock t start at) last back
+
+abbrev pub HasOldBlock : Tables → ℕ → ℕ → ℕ → ℕ → Type 0
+HasOldBlock t last back at place = IsBack (λ start. IsOldBlock t start at place) last back
 
 -- blocks of a slab's class
 

@@ -22,7 +22,7 @@ use Rattle.slab_header.specs.declared.state.SlabState.TheVariants.{Normal, Morph
 use Rattle.slab_header.specs.State.{kind_of, entries_of}
 use Rattle.image_reading.specs.Slabs.{slab_in, AreSlabs, IsRead}
 use Rattle.image_defects.specs.Blocks.{IsStray, IsStrayAddress}
-use Rattle.defect_search.specs.Stray.{word_of, number_in, IsStrayBlock, IsStrayInWord, IsStrayInWords, IsStrayBit, IsStrayPlace, IsStrayOld}
+use Rattle.defect_search.specs.Stray.{word_of, number_in, IsStrayBlock, IsStrayInWord, IsStrayBit, IsStrayPlace, IsStrayOld}
 use Rattle.defect_search.proofs.LeastOf.{least_either, least_same}
 
 -- what a search for the block says
@@ -102,6 +102,13 @@ none_in_word t start word none = record {
       let named : s.number ≡ number_in word k = number_of-word s.number ∙ ap (λ w. number_in w k) s.word_is in
       none k (omega arith) (subst (IsStrayBlock t start) named s.block);
 }
+
+-- one with its bit in one of the first n words is at the address
+pub record IsStrayInWords (t : Tables) (start n at : ℕ) : Type 0 where
+  pub number : ℕ
+  pub block : IsStrayBlock t start number
+  pub word_below : word_of number < n
+  pub is : at ≡ (slab_block start (t.class start) number).at
 
 pub none_in_words : (t : Tables) (start : ℕ) → HasNone (IsStrayInWords t start 0)
 none_in_words t start = record { none = λ at s. absurd (omega (arith, s.word_below)) }

@@ -6,7 +6,6 @@ use Rattle.pool_layout.specs.Places.{wal_word}
 use Rattle.image_tables.specs.Forms.{morphing_kind, morphed_kind}
 use Rattle.image_tables.specs.Tables.{Tables, wal_lines}
 use Rattle.heap_model.specs.Machine.{slab_block}
-use Rattle.image_reading.specs.Held.{IsBack}
 
 -- a block of its class stands at the address, in the slab at a granule
 pub record IsNewBlock (t : Tables) (start at : ℕ) : Type 0 where
@@ -21,14 +20,6 @@ pub record IsOldBlock (t : Tables) (start at place : ℕ) : Type 0 where
   pub kind : t.kind start ≡ morphed_kind
   pub below : place < t.index_count start
   pub is : at ≡ (slab_block start (t.old start) (t.number start place)).at
-
--- the same of the slab that begins so many granules before another
-
-abbrev pub HasNewBlock : Tables → ℕ → ℕ → ℕ → Type 0
-HasNewBlock t last back at = IsBack (λ start. IsNewBlock t start at) last back
-
-abbrev pub HasOldBlock : Tables → ℕ → ℕ → ℕ → ℕ → Type 0
-HasOldBlock t last back at place = IsBack (λ start. IsOldBlock t start at place) last back
 
 -- no slab takes another class
 pub record IsCalm (t : Tables) : Type 0 where

@@ -29,18 +29,11 @@ pub record IsStrayBlock (t : Tables) (start number : ℕ) : Type 0 where
   pub below : number < class_capacity (t.class start)
   pub stray : IsStrayNumber t start number
 
--- one with its bit in this word of the bitmap, or in one of the first n words, is at the address
-
+-- one with its bit in this word of the bitmap is at the address
 pub record IsStrayInWord (t : Tables) (start word at : ℕ) : Type 0 where
   pub number : ℕ
   pub block : IsStrayBlock t start number
   pub word_is : word_of number ≡ word
-  pub is : at ≡ (slab_block start (t.class start) number).at
-
-pub record IsStrayInWords (t : Tables) (start n at : ℕ) : Type 0 where
-  pub number : ℕ
-  pub block : IsStrayBlock t start number
-  pub word_below : word_of number < n
   pub is : at ≡ (slab_block start (t.class start) number).at
 
 -- a place of the index table has a live old block at the address, and no root has it

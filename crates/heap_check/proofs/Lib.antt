@@ -4,13 +4,6 @@ pub mod Forms
 pub mod IndexForms
 pub mod StateWords
 pub mod Formatted
-pub mod HandMadeParts
-pub mod HandMadeBlock
-pub mod HandMade
-pub mod HandMadeSlab
-pub mod HandMadeMorphed
-pub mod HandMadeMorphing
-pub mod HandMadeMove
 pub mod Claims
 pub mod Touch
 pub mod Geometry

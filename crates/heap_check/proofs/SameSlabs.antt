@@ -1,11 +1,15 @@
 -- Of a slab two tables say the same: so it holds the same blocks, and the same blocks of it are unused.
-use Rattle.std.proofs.Common.{◌↔◌, ℕ, ◌<◌, Bool, Option, refl, sym, ap, subst, ◌∙◌, arith, inl, inr, ⊎_elim}
+use Rattle.std.proofs.Common.{◌↔◌, ℕ, ◌<◌, Bool, Option, List, refl, sym, ap, subst, ◌∙◌, arith, inl, inr, ⊎_elim}
 use Rattle.size_classes.specs.Classes.{class_capacity}
-use Rattle.image_tables.specs.Tables.{Tables}
+use Rattle.image_tables.specs.Tables.{Tables, tables_of}
 use Rattle.image_tables.specs.declared.entry.WalEntry.{WalEntry}
 use Rattle.heap_model.specs.Machine.{Range, slab_block}
 use Rattle.heap_check.specs.Heap.{Holds, HoldsBit, HoldsOld, IsUnusedIn}
 use Rattle.heap_check.specs.Slabs.{IsSameSlab}
+
+-- both words say the same of each slab
+pub record KeepsSlabs (old new : List ℕ) : Type 0 where
+  pub each : (start : ℕ) → IsSameSlab (tables_of old) (tables_of new) start
 
 pub IsSameSlab-back : {t new : Tables} {start : ℕ} → IsSameSlab t new start → IsSameSlab new t start
 IsSameSlab-back {t} {new} {start} same = record {

@@ -8,7 +8,7 @@ use Rattle.image_tables.specs.declared.entry.WalEntry.{WalEntry}
 use Rattle.image_tables.specs.declared.entry.WalEntry.TheVariants.{Place}
 use Rattle.image_tables.specs.Tables.{Tables}
 use Rattle.heap_model.specs.Machine.{Bounds, Range, AreApart, LiesIn, slab_block}
-use Rattle.heap_model.proofs.Slabbing.{LiesIn-block}
+use Rattle.heap_model.proofs.Slabbing.{LiesIn-block, one_number}
 use Rattle.heap_model.proofs.Below.{any_below-true}
 use Rattle.heap_check.specs.Heap.{slab_of, is_old_of, is_old, size_at, entry_at, IsClaim, Holds, HoldsBit, HoldsOld}
 use Rattle.heap_check.specs.Sound.{IsInSlab, IsOpen, IsSound, IsExactBut}

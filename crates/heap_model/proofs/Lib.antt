@@ -15,12 +15,4 @@ pub mod Placements
 pub mod SoundStacks
 pub mod Outcomes
 pub mod Counts
-pub mod Morphs
-pub mod MorphRows
-pub mod WorkedHeaps
-pub mod MoveRows
-pub mod TransitionRows
-pub mod StackRows
-pub mod BestSlabRows
-pub mod FreeRows
 pub mod LeftSlabs

@@ -16,7 +16,7 @@ use Rattle.heap_model.specs.Choice.Site.{Granules, InSlab, InMorph, InNewSlab}
 use Rattle.heap_model.specs.Slabs.{is_within, begins_in, live_below, view_of}
 use Rattle.heap_model.specs.Step.{with_block, with_moved, without_block, IsGrant}
 use Rattle.heap_model.specs.Placement.{Stacks, PlacedState, bare, with_stack, without_slab, without_left, with_class, has_left, addresses, Has, HasTop, HasStacked, HasAvailable, IsInNoStack, IsAvailable, IsRefill, IsMorphRefill, IsNewRefill, IsWay, GaveSmall, TookBlock, IsKeepable, IsReturned, IsStacked, IsPlacedStep, IsReserved, AreSound}
-use Rattle.heap_model.specs.Journal.{LawOfNoStacks, LawOfStacks}
+use Rattle.heap_model.specs.Journal.{LawOfNoStacks, LawOfSoundStacks}
 use Rattle.heap_model.proofs.Maps.{with_key-cases, with_key-here, with_key-other}
 use Rattle.heap_model.specs.Below.{any_below}
 use Rattle.heap_model.proofs.Below.{any_below-true}
@@ -478,7 +478,7 @@ pub law_of_no_stacks : LawOfNoStacks
 law_of_no_stacks m = record { distinct = AreDistinct-none; reserved = λ seat class at has. absurd has }
 
 -- every journal
-pub law_of_stacks : LawOfStacks
-law_of_stacks b s last [] seats free sound leads = subst AreSound (sym leads) sound
-law_of_stacks b s last (entry ∷ entries) seats free sound leads =
-    law_of_stacks b leads.0 last entries seats.1 (step b s.machine leads.0.machine entry.call entry.reply free leads.1.step) (sound_step b entry.seat s leads.0 entry.call entry.reply seats.0 free sound leads.1) leads.2
+pub law_of_sound_stacks : LawOfSoundStacks
+law_of_sound_stacks b s last [] seats free sound leads = subst AreSound (sym leads) sound
+law_of_sound_stacks b s last (entry ∷ entries) seats free sound leads =
+    law_of_sound_stacks b leads.0 last entries seats.1 (step b s.machine leads.0.machine entry.call entry.reply free leads.1.step) (sound_step b entry.seat s leads.0 entry.call entry.reply seats.0 free sound leads.1) leads.2

@@ -1,5 +1,5 @@
 -- Legal journals: each entry is a step from the state that the entries before it lead to.
-use Rattle.std.specs.Prelude.{◌≡◌, ◌<◌, List, [], ◌∷◌}
+use Rattle.std.specs.Prelude.{◌≡◌, ◌<◌, ℕ, List, [], ◌∷◌}
 use Rattle.heap_model.specs.declared.call.Call.{Call}
 use Rattle.heap_model.specs.declared.call.Call.TheVariants.{Malloc, Free, Write, Read, Move}
 use Rattle.heap_model.specs.declared.call.Entry.{Entry}
@@ -24,18 +24,18 @@ IsPlacedEntry b s entry next = IsPlacedStep b entry.seat s entry.call entry.repl
 abbrev pub LawOfOverlap : Type 0
 LawOfOverlap = (b : Bounds) (m last : Machine) (entries : List Entry) → IsOverlapFree b m → Leads (IsEntry b) m entries last → IsOverlapFree b last
 
--- each entry is of a seat, whose number is below 64
-abbrev pub AreOfSeats : List Entry → Type 0
-AreOfSeats [] = Unit {0}
-AreOfSeats (entry ∷ entries) = (entry.seat < 64) × AreOfSeats entries
+-- each entry bears a number below n
+abbrev pub AllBelow : ℕ → List Entry → Type 0
+AllBelow n [] = Unit {0}
+AllBelow n (e ∷ es) = (e.seat < n) × AllBelow n es
 
 -- where no stack has a block, the stacks are sound
 abbrev pub LawOfNoStacks : Type 0
 LawOfNoStacks = (m : Machine) → AreSound (bare m)
 
--- from an overlap-free state with sound stacks every journal of the placement leads to sound stacks
-abbrev pub LawOfStacks : Type 0
-LawOfStacks = (b : Bounds) (s last : PlacedState) (entries : List Entry) → AreOfSeats entries → IsOverlapFree b s.machine → AreSound s → Leads (IsPlacedEntry b) s entries last → AreSound last
+-- from an overlap-free state with sound stacks every journal of the placement, by seats below 64, leads to sound stacks
+abbrev pub LawOfSoundStacks : Type 0
+LawOfSoundStacks = (b : Bounds) (s last : PlacedState) (entries : List Entry) → AllBelow 64 entries → IsOverlapFree b s.machine → AreSound s → Leads (IsPlacedEntry b) s entries last → AreSound last
 
 -- a call that gives, takes or moves a block
 abbrev pub IsOfBlock : Call → Type 0

@@ -13,4 +13,4 @@ mod laws;
 
 pub use block::{Block, Slab};
 pub use call::{Call, Entry, Reply};
-pub use laws::{law_of_one_journal, law_of_overlap, law_of_stacks};
+pub use laws::{law_of_one_journal, law_of_overlap, law_of_sound_stacks};

@@ -3,12 +3,13 @@ use Rattle.std.proofs.Common.{◌≡◌, ◌≢◌, ℕ, ◌<◌, ◌≤◌, Lis
 use Rattle.std.proofs.lemmas.Bool.{cases_eq, cases_lt}
 use Rattle.pool_layout.specs.declared.defect.Defect.{Defect}
 use Rattle.pool_layout.specs.declared.defect.Defect.TheVariants.{BadDirectory, BadEntry, Overlap}
-use Rattle.pool_layout.specs.Header.{granules_in, version_in, IsHeader, IsHeaderDefect}
+use Rattle.pool_layout.specs.Header.{granules_in, version_in, IsPoolFields, IsHeader, IsHeaderDefect}
 use Rattle.image_tables.specs.Tables.{tables_of}
 use Rattle.book_log.specs.Log.{IsChunk, logged}
 use Rattle.heap_check.specs.Image.{header_in}
 use Rattle.image_defects.specs.Least.{IsLeast}
 use Rattle.image_defects.specs.Log.{chunk_in, HasDirectory, IsDirectoryDefect, HasEntries, IsBadLogWord, IsEntryDefect, AreDisjoint, IsOverlap, IsOverlapDefect}
+use Rattle.pool_layout.proofs.OneImage.{one_bad_line}
 use Rattle.image_defects.proofs.LeastNumbers.{least_once}
 
 -- header
@@ -16,25 +17,13 @@ use Rattle.image_defects.proofs.LeastNumbers.{least_once}
 pub header_bad : (words : List ℕ) (d : Defect) → IsHeaderDefect words d → ¬ (IsHeader words (header_in words))
 header_bad words d is header = ⊎_elim
     (λ short. omega (arith, short.0, header.whole))
-    (λ rest. ⊎_elim (λ text. text.1.0 header.text) (λ fields. fields.2 (header_in words) header.word header.valid) rest)
+    (λ line. ⊎_elim (λ text. text.0 header.text) (λ fields. fields.1 (header_in words, header.valid, header.word)) line.1)
     is
 
 pub header_once : (words : List ℕ) (d e : Defect) → IsHeaderDefect words d → IsHeaderDefect words e → d ≡ e
 header_once words d e is also = ⊎_elim
-    (λ short. ⊎_elim
-    (λ other. short.1 ∙ sym other.1)
-    (λ rest. ⊎_elim (λ text. absurd (omega (arith, short.0, text.0))) (λ fields. absurd (omega (arith, short.0, fields.0))) rest)
-    also)
-    (λ rest. ⊎_elim
-    (λ text. ⊎_elim
-    (λ short. absurd (omega (arith, short.0, text.0)))
-    (λ more. ⊎_elim (λ other. text.1.1 ∙ sym other.1.1) (λ fields. absurd (text.1.0 fields.1)) more)
-    also)
-    (λ fields. ⊎_elim
-    (λ short. absurd (omega (arith, short.0, fields.0)))
-    (λ more. ⊎_elim (λ text. absurd (text.1.0 fields.1)) (λ other. fields.3 ∙ sym other.3) more)
-    also)
-    rest)
+    (λ short. ⊎_elim (λ other. short.1 ∙ sym other.1) (λ line. absurd (omega (arith, short.0, line.0))) also)
+    (λ line. ⊎_elim (λ short. absurd (omega (arith, short.0, line.0))) (λ other. one_bad_line words IsPoolFields d e line.1 other.1) also)
     is
 
 -- directory

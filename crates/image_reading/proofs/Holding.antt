@@ -15,7 +15,7 @@ use Rattle.slab_header.specs.State.{IsWordOfState, IsNoStateWord, SaysOfState}
 use Rattle.image_reading.specs.declared.slab.Slab.{Slab}
 use Rattle.image_reading.specs.Slabs.{IsSlabAt, IsRead}
 use Rattle.image_defects.specs.Headers.{IsGoodSlab}
-use Rattle.image_reading.specs.Held.{IsHeldBy, HasBitAt, HasOldAt, IsNumberAt, HasNoNumber, HasNoBack, IsReadBack, IsBack, HasBack, AreSlabsAt}
+use Rattle.image_reading.specs.Held.{IsHeldBy, HasBitAt, HasOldAt, IsNumberAt, HasNoNumber, HasNoBack, IsReadBack, IsBack, AreSlabsAt}
 use Rattle.pool_layout.specs.Header.{version_in, granules_in}
 use Rattle.pool_layout.proofs.Layouts.{layout_rules}
 use Rattle.image_reading.specs.Extents.{HasExtents}
@@ -151,6 +151,10 @@ held_near words at good start h =
 
 pub held_of : (t : Tables) (start at : ℕ) → IsHeldBy t start at → IsHeld t at
 held_of t start at h = record { start = start; range = h.range; holds = h.holds; here = h.here }
+
+-- the slab that begins there holds a block at the address
+abbrev pub HasBack : Tables → ℕ → ℕ → ℕ → Type 0
+HasBack t last back at = IsBack (λ start. IsHeldBy t start at) last back
 
 -- where none of the four holds one, none does
 pub unheld : (words : List ℕ) (at last n : ℕ) → AreSlabsAt words → at / 16384 ≡ last → 4 ≤ n → ((d : ℕ) → d < n → ¬ (HasBack (tables_of words) last d at)) → ¬ (IsHeld (tables_of words) at)

@@ -53,7 +53,3 @@ pub record IsBack (Has : ℕ → Type 0) (last back : ℕ) : Type 0 where
   pub start : ℕ
   pub is : start + back ≡ last
   pub has : Has start
-
--- the slab that begins there holds a block at the address
-abbrev pub HasBack : Tables → ℕ → ℕ → ℕ → Type 0
-HasBack t last back at = IsBack (λ start. IsHeldBy t start at) last back

@@ -1,6 +1,7 @@
 // Two threads at one lock.
 ghost use Rattle.std.specs.Prelude.{◌≡◌, ℕ, ◌^◌, ◌<◌, ◌≤◌, [], ◌∷◌, map, length, IfOk, OnOk};
-ghost use Rattle.arena_lock.specs.Journal.{calls_by, AllBelow};
+ghost use Rattle.arena_lock.specs.Journal.{calls_by};
+ghost use Rattle.heap_model.specs.Journal.{AllBelow};
 ghost use Rattle.arena_lock.specs.Legality.{IsLegal, no_opening};
 ghost use Rattle.arena_lock.specs.Known.{seat_at};
 ghost use Rattle.lock_tests.specs.Tally.{refusal};

@@ -1,13 +1,18 @@
 -- What holds of every crash within events, from what holds of each step.
-use Rattle.std.proofs.Common.{◌≡◌, ℕ, zero, suc, ◌-◌, ◌/◌, ◌<◌, ◌≤◌, List, [], ◌∷◌, ◌++◌, length, take, sym, ◌∙◌, ap, subst, refl, inl, inr, ⊎_elim, arith}
+use Rattle.std.proofs.Common.{◌≡◌, ◌⊎◌, ℕ, zero, suc, ◌-◌, ◌/◌, ◌<◌, ◌≤◌, List, [], ◌∷◌, ◌++◌, length, take, sym, ◌∙◌, ap, subst, refl, inl, inr, ⊎_elim, arith}
 use Rattle.std.proofs.lemmas.Bool.{cases_lt}
 use Rattle.std.proofs.lemmas.List.{take-append-le}
 use Rattle.std.proofs.lemmas.Grind.{common_steps}
 use Rattle.pmem_lines.specs.declared.event.Event.{Event}
 use Rattle.pmem_lines.specs.declared.event.Event.TheVariants.{Store, Flush, Fence}
-use Rattle.pmem_lines.specs.Words.{put_word}
-use Rattle.pmem_lines.specs.Events.{reading, IsQuiet, IsImage, CrashOnly, IsBlend}
+use Rattle.pmem_lines.specs.Words.{word_at, put_word}
+use Rattle.pmem_lines.specs.Events.{reading, IsQuiet, IsImage, CrashOnly, IsStored}
 use Rattle.pmem_lines.proofs.Kept.{length-image_of, blend_of, IsStored-take, fences, image_of_none, first_store}
+
+-- each word is the old one, or some event stores it there
+pub record IsBlend (base : List ℕ) (events : List Event) (image : List ℕ) : Type 0 where
+  pub same_length : length image ≡ length base
+  pub each : (word : ℕ) → (word_at image word ≡ word_at base word) ⊎ IsStored events word (word_at image word)
 
 -- what holds of every blend holds after every crash
 pub by_blend : (base : List ℕ) (events : List Event) (P : List ℕ → Type 0) → ((image : List ℕ) → IsBlend base events image → P image) → CrashOnly base events P

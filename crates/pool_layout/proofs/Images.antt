@@ -8,12 +8,18 @@ use Rattle.pool_layout.specs.declared.defect.Defect.{Defect}
 use Rattle.pool_layout.specs.declared.defect.Defect.TheVariants.{BadHeader}
 use Rattle.pool_layout.specs.Layout.{layout_of, IsLayout}
 use Rattle.pool_layout.specs.Places.{fields_word}
-use Rattle.pool_layout.specs.Header.{header_word, fields_of, IsPoolHeader, IsHeader, IsSecondWord, IsHeaderDefect}
+use Rattle.pool_layout.specs.Header.{header_word, fields_of, IsPoolHeader, IsHeader, IsSecondWord, IsHeaderDefect, IsBadHeaderLine}
 use Rattle.pool_layout.specs.Bytes.{words_of_bytes}
-use Rattle.pool_layout.specs.Image.{part_of, header_of_arena, image_length, IsFirstHeader, IsFirstLine, IsFirstFields, IsBadLine, HasBadArena, HasHeaders, IsPoolImage, IsImageOf}
+use Rattle.pool_layout.specs.Image.{part_of, header_of_arena, image_length, IsFirstHeader, IsFirstLine, IsFirstFields, HasBadArena, IsPoolImage, IsImageOf}
 use Rattle.pool_layout.proofs.Layouts.{layout_rules}
 use Rattle.pool_layout.proofs.Headers.{header_fits, fields_of-header_word}
 use Rattle.pool_layout.proofs.Words.{length-words_of_bytes}
+
+-- the bytes are as many as this header of arena 0 calls for, and each arena has its header line
+pub record HasHeaders (bytes : List ℕ) (header : PoolHeader) : Type 0 where
+  pub first : IsFirstHeader header
+  pub size : length bytes ≡ image_length header
+  pub each : (arena : ℕ) → arena < header.arenas → IsHeader (part_of (words_of_bytes bytes) header.granules arena) (header_of_arena header arena)
 
 -- an arena's words lie in those of its pool
 pub part_inside : (granules arenas arena : ℕ) → arena < arenas → 2048 * granules * arena + 2048 * granules ≤ arenas * granules * 2048
@@ -51,7 +57,7 @@ arena_header_valid header arena first below = record {
 }
 
 -- the text is good, and the second word is bad
-pub bad_fields : (words : List ℕ) (Is : ℕ → Type 0) (word : ℕ) → IsSecondWord words word → ¬ (Is word) → IsBadLine words Is (BadHeader fields_word word)
+pub bad_fields : (words : List ℕ) (Is : ℕ → Type 0) (word : ℕ) → IsSecondWord words word → ¬ (Is word) → IsBadHeaderLine words Is (BadHeader fields_word word)
 bad_fields words Is word second bad = inr (second.text, (λ is. bad (subst Is (sym second.is) is)), ap (BadHeader fields_word) second.is)
 
 -- a word is the second one of some pool's arena 0 where what it says is that arena's header
@@ -61,16 +67,13 @@ first_fields word found =
     subst IsFirstHeader (sym (ap fields_of found.2 ∙ fields_of-header_word header (header_fits header found.1.valid))) found.1
 
 -- the header line of arena 0 is bad where it is that of no arena, and where it is that of another one
-pub bad_first : (words : List ℕ) → 8 ≤ length words → {defect : Defect} → IsHeaderDefect words defect → IsBadLine words IsFirstFields defect
+pub bad_first : (words : List ℕ) → 8 ≤ length words → {defect : Defect} → IsHeaderDefect words defect → IsBadHeaderLine words IsFirstFields defect
 bad_first words whole bad = ⊎_elim
     (λ short. absurd (omega (arith, whole, short.0)))
-    (λ more. ⊎_elim
-    (λ text. inl text.1)
-    (λ fields. inr (fields.1, (λ first. fields.2 first.0 first.2 first.1.valid), fields.3))
-    more)
+    (λ line. ⊎_elim (λ text. inl text) (λ fields. inr (fields.0, (λ first. fields.1 (first.0, first.1.valid, first.2)), fields.2)) line.1)
     bad
 
-pub other_first : (words : List ℕ) (header : PoolHeader) → IsHeader words header → header.number ≢ 0 → IsBadLine words IsFirstFields (BadHeader fields_word (word_at words fields_word))
+pub other_first : (words : List ℕ) (header : PoolHeader) → IsHeader words header → header.number ≢ 0 → IsBadHeaderLine words IsFirstFields (BadHeader fields_word (word_at words fields_word))
 other_first words header is other =
     let says : fields_of (word_at words fields_word) ≡ header = ap fields_of is.word ∙ fields_of-header_word header (header_fits header is.valid) in
     inr (is.text, (λ first. other (sym (ap (λ (h : PoolHeader). h.number) says) ∙ (first_fields (word_at words fields_word) first).number)), refl)
@@ -105,7 +108,7 @@ IsHeader-first words header size line =
 -- the header line of an arena is bad, and no earlier one
 pub bad_arena : (bytes words : List ℕ) (header : PoolHeader) (arena : ℕ) (defect : Defect) → words ≡ words_of_bytes bytes → length bytes ≡ image_length header → IsFirstLine words header → 1 ≤ arena → arena < header.arenas →
     ((earlier : ℕ) → earlier < arena → IsHeader (part_of words header.granules earlier) (header_of_arena header earlier)) →
-    IsBadLine (part_of words header.granules arena) (λ word. word ≡ header_word (header_of_arena header arena)) defect → HasBadArena bytes arena defect
+    IsBadHeaderLine (part_of words header.granules arena) (λ word. word ≡ header_word (header_of_arena header arena)) defect → HasBadArena bytes arena defect
 bad_arena bytes words header arena defect is size line later inside before bad = record {
   header = header;
   line = subst (λ (ws : List ℕ). IsFirstLine ws header) is line;
@@ -113,7 +116,7 @@ bad_arena bytes words header arena defect is size line later inside before bad =
   later = later;
   inside = inside;
   before = subst (λ (ws : List ℕ). (earlier : ℕ) → earlier < arena → IsHeader (part_of ws header.granules earlier) (header_of_arena header earlier)) is before;
-  is = subst (λ (ws : List ℕ). IsBadLine (part_of ws header.granules arena) (λ word. word ≡ header_word (header_of_arena header arena)) defect) is bad;
+  is = subst (λ (ws : List ℕ). IsBadHeaderLine (part_of ws header.granules arena) (λ word. word ≡ header_word (header_of_arena header arena)) defect) is bad;
 }
 
 -- bytes with good header lines are an image

@@ -8,24 +8,24 @@ use Rattle.pool_layout.specs.declared.defect.Defect.{Defect}
 use Rattle.pool_layout.specs.declared.defect.Defect.TheVariants.{BadLength, BadHeader}
 use Rattle.pool_layout.specs.Layout.{layout_of, all_granules, pool_granules, IsVersion}
 use Rattle.pool_layout.specs.Places.{text_word, fields_word}
-use Rattle.pool_layout.specs.Header.{header_text, header_word, fields_of, IsHeader}
+use Rattle.pool_layout.specs.Header.{header_text, header_word, fields_of, IsHeader, IsBadHeaderLine}
 use Rattle.pool_layout.specs.Bytes.{words_of_bytes}
-use Rattle.pool_layout.specs.Image.{part_of, header_of_arena, image_length, IsFirstHeader, IsFirstLine, IsFirstFields, IsBadLine, HasBadArena, HasHeaders, IsImageOf, IsImageDefect}
+use Rattle.pool_layout.specs.Image.{part_of, header_of_arena, image_length, IsFirstHeader, IsFirstLine, IsFirstFields, HasBadArena, IsImageOf, IsImageDefect}
 use Rattle.pool_layout.specs.Laws.{LawOfImages, LawOfNoDefect, LawOfOneDefect}
 use Rattle.pool_layout.proofs.Headers.{header_fits, fields_of-header_word}
-use Rattle.pool_layout.proofs.Images.{some_granules, word_at-part_of, first_fields, IsHeader-first, IsHeader-part, words_in_image, IsImageOf-headers}
+use Rattle.pool_layout.proofs.Images.{some_granules, word_at-part_of, first_fields, IsHeader-first, IsHeader-part, words_in_image, IsImageOf-headers, HasHeaders}
 
 -- header lines say one thing
 
 -- a header line has one first bad word
-one_bad_line : (words : List ℕ) (Is : ℕ → Type 0) (d e : Defect) → IsBadLine words Is d → IsBadLine words Is e → d ≡ e
+pub one_bad_line : (words : List ℕ) (Is : ℕ → Type 0) (d e : Defect) → IsBadHeaderLine words Is d → IsBadHeaderLine words Is e → d ≡ e
 one_bad_line words Is d e (inl p) (inl q) = p.1 ∙ sym q.1
 one_bad_line words Is d e (inl p) (inr q) = absurd (p.0 q.0)
 one_bad_line words Is d e (inr p) (inl q) = absurd (q.0 p.0)
 one_bad_line words Is d e (inr p) (inr q) = p.2 ∙ sym q.2
 
 -- a line whose words are good has none
-no_bad_line : (words : List ℕ) (Is : ℕ → Type 0) (d : Defect) → word_at words text_word ≡ header_text → Is (word_at words fields_word) → ¬ (IsBadLine words Is d)
+no_bad_line : (words : List ℕ) (Is : ℕ → Type 0) (d : Defect) → word_at words text_word ≡ header_text → Is (word_at words fields_word) → ¬ (IsBadHeaderLine words Is d)
 no_bad_line words Is d text fields (inl p) = p.0 text
 no_bad_line words Is d text fields (inr p) = p.1 fields
 
@@ -37,7 +37,7 @@ same_header header other p q same =
 one_first : (words : List ℕ) (header other : PoolHeader) → IsFirstLine words header → IsFirstLine words other → header ≡ other
 one_first words header other p q = same_header header other p.valid q.valid (sym p.fields ∙ q.fields)
 
-first_is_good : (words : List ℕ) (header : PoolHeader) (d : Defect) → IsFirstLine words header → ¬ (IsBadLine words IsFirstFields d)
+first_is_good : (words : List ℕ) (header : PoolHeader) (d : Defect) → IsFirstLine words header → ¬ (IsBadHeaderLine words IsFirstFields d)
 first_is_good words header d line = no_bad_line words IsFirstFields d line.text (header, line.valid, line.fields)
 
 -- an image of a pool begins with the header line of arena 0
@@ -93,9 +93,9 @@ law_of_no_defect bytes words arena defect image = no_defect bytes image.header a
 
 one_bad_arena : (bytes : List ℕ) (a b : ℕ) (d e : Defect) (header : PoolHeader) →
     ((k : ℕ) → k < a → IsHeader (part_of (words_of_bytes bytes) header.granules k) (header_of_arena header k)) →
-    IsBadLine (part_of (words_of_bytes bytes) header.granules a) (λ word. word ≡ header_word (header_of_arena header a)) d →
+    IsBadHeaderLine (part_of (words_of_bytes bytes) header.granules a) (λ word. word ≡ header_word (header_of_arena header a)) d →
     ((k : ℕ) → k < b → IsHeader (part_of (words_of_bytes bytes) header.granules k) (header_of_arena header k)) →
-    IsBadLine (part_of (words_of_bytes bytes) header.granules b) (λ word. word ≡ header_word (header_of_arena header b)) e → (a ≡ b) × (d ≡ e)
+    IsBadHeaderLine (part_of (words_of_bytes bytes) header.granules b) (λ word. word ≡ header_word (header_of_arena header b)) e → (a ≡ b) × (d ≡ e)
 one_bad_arena bytes a b d e header before bad earlier worse =
     let words = words_of_bytes bytes in
     let Is : ℕ → ℕ → Type 0 = λ k word. word ≡ header_word (header_of_arena header k) in
@@ -106,7 +106,7 @@ one_bad_arena bytes a b d e header before bad earlier worse =
     (λ (low : b < a). let good = before b low in absurd (no_bad_line (part b) (Is b) e good.text good.word worse))
     (λ (other : a ≤ b).
     let same : a ≡ b = omega arith in
-    (same, one_bad_line (part b) (Is b) d e (subst (λ k. IsBadLine (part k) (Is k) d) same bad) worse))
+    (same, one_bad_line (part b) (Is b) d e (subst (λ k. IsBadHeaderLine (part k) (Is k) d) same bad) worse))
     (cases_lt b a))
     (cases_lt a b)
 
@@ -136,7 +136,7 @@ law_of_one_defect bytes a b d e (inr (inr (inr p))) (inr (inr (inr q))) =
     let same : q.header ≡ p.header = one_first (words_of_bytes bytes) q.header p.header q.line p.line in
     one_bad_arena bytes a b d e p.header p.before p.is
     (subst (λ (h : PoolHeader). (k : ℕ) → k < b → IsHeader (part_of (words_of_bytes bytes) h.granules k) (header_of_arena h k)) same q.before)
-    (subst (λ (h : PoolHeader). IsBadLine (part_of (words_of_bytes bytes) h.granules b) (λ word. word ≡ header_word (header_of_arena h b)) e) same q.is)
+    (subst (λ (h : PoolHeader). IsBadHeaderLine (part_of (words_of_bytes bytes) h.granules b) (λ word. word ≡ header_word (header_of_arena h b)) e) same q.is)
 
 -- bytes are an image or have a defect
 
@@ -193,7 +193,7 @@ fields_or_not word =
 
 -- a line is good, or has a first bad word
 line_or_not : (words : List ℕ) (Is : ℕ → Type 0) → Is (word_at words fields_word) ⊎ (¬ (Is (word_at words fields_word))) →
-    ((word_at words text_word ≡ header_text) × Is (word_at words fields_word)) ⊎ ((defect : Defect) × IsBadLine words Is defect)
+    ((word_at words text_word ≡ header_text) × Is (word_at words fields_word)) ⊎ ((defect : Defect) × IsBadHeaderLine words Is defect)
 line_or_not words Is known = ⊎_elim
     (λ (text : word_at words text_word ≡ header_text). ⊎_elim
     (λ (good : Is (word_at words fields_word)). inl (text, good))
@@ -217,7 +217,7 @@ arenas_or_not bytes header line size (suc n) within =
     let here : Good n =
     IsHeader-part words header n (word_at part fields_word) (words_in_image bytes header size) line.valid (omega arith) (record { text = good.0; is = refl }) good.1 in
     inl (λ k below. ⊎_elim (λ (low : k < n). all k low) (λ (high : n ≤ k). let same : n ≡ k = omega arith in subst Good same here) (cases_lt k n)))
-    (λ (bad : (defect : Defect) × IsBadLine part Is defect).
+    (λ (bad : (defect : Defect) × IsBadHeaderLine part Is defect).
     let later : 1 ≤ n = ⊎_elim
     (λ (none : n < 1).
     let first : 0 ≡ n = omega arith in
@@ -256,7 +256,7 @@ law_of_images bytes = ⊎_elim
     (λ (enough : 64 ≤ length bytes). ⊎_elim
     (λ (good : (word_at (words_of_bytes bytes) text_word ≡ header_text) × IsFirstFields (word_at (words_of_bytes bytes) fields_word)).
     image_behind_first bytes good.1.0 enough (record { text = good.0; fields = good.1.2; valid = good.1.1 }))
-    (λ (bad : (defect : Defect) × IsBadLine (words_of_bytes bytes) IsFirstFields defect).
+    (λ (bad : (defect : Defect) × IsBadHeaderLine (words_of_bytes bytes) IsFirstFields defect).
     inr (0, bad.0, inr (inl (record { enough = enough; first = refl; is = bad.1 }))))
     (line_or_not (words_of_bytes bytes) IsFirstFields (fields_or_not (word_at (words_of_bytes bytes) fields_word))))
     (cases_lt (length bytes) 64)

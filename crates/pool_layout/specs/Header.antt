@@ -73,10 +73,17 @@ pub record IsSecondWord (words : List ℕ) (word : ℕ) : Type 0 where
   pub text : word_at words text_word ≡ header_text
   pub is : word ≡ word_at words fields_word
 
+-- The header line that the words begin with has not the text, or its second word is none of these. The defect names the
+-- first such word.
+abbrev pub IsBadHeaderLine : List ℕ → (ℕ → Type 0) → Defect → Type 0
+IsBadHeaderLine words IsFields defect =
+    HasBadText words defect
+    ⊎ ((word_at words text_word ≡ header_text) × ¬ (IsFields (word_at words fields_word)) × (defect ≡ BadHeader fields_word (word_at words fields_word)))
+
+-- the second word of the header line of some arena
+abbrev pub IsPoolFields : ℕ → Type 0
+IsPoolFields word = (header : PoolHeader) × IsPoolHeader header × (word ≡ header_word header)
+
 -- the words do not begin with a header line, and this is the first defect
 abbrev pub IsHeaderDefect : List ℕ → Defect → Type 0
-IsHeaderDefect words defect =
-    ((length words < 8) × (defect ≡ BadLength (8 * length words) 64))
-    ⊎ (((8 ≤ length words) × HasBadText words defect)
-    ⊎ ((8 ≤ length words) × (word_at words text_word ≡ header_text) × ((header : PoolHeader) → word_at words fields_word ≡ header_word header → ¬ (IsPoolHeader header))
-    × (defect ≡ BadHeader fields_word (word_at words fields_word))))
+IsHeaderDefect words defect = ((length words < 8) × (defect ≡ BadLength (8 * length words) 64)) ⊎ ((8 ≤ length words) × IsBadHeaderLine words IsPoolFields defect)

@@ -7,7 +7,7 @@ use Rattle.pool_layout.specs.declared.defect.Defect.TheVariants.{BadLength, BadH
 use Rattle.pool_layout.specs.declared.image.ImageFault.{ImageFault}
 use Rattle.pool_layout.specs.declared.image.ImageFault.TheVariants as faults
 use Rattle.pool_layout.specs.Places.{text_word, fields_word}
-use Rattle.pool_layout.specs.Header.{header_text, header_word, IsPoolHeader, IsHeader, HasBadText}
+use Rattle.pool_layout.specs.Header.{header_text, header_word, IsPoolHeader, IsHeader, IsBadHeaderLine}
 use Rattle.pool_layout.specs.Bytes.{words_of_bytes}
 
 -- the words of an arena, in a pool whose arenas have so many granules
@@ -51,20 +51,7 @@ pub record IsImageOf (bytes words : List ℕ) : Type 0 where
   pub header : PoolHeader
   pub pool : IsPoolImage words header
 
--- the bytes are as many as this header of arena 0 calls for, and each arena has its header line
-pub record HasHeaders (bytes : List ℕ) (header : PoolHeader) : Type 0 where
-  pub first : IsFirstHeader header
-  pub size : length bytes ≡ image_length header
-  pub each : (arena : ℕ) → arena < header.arenas → IsHeader (part_of (words_of_bytes bytes) header.granules arena) (header_of_arena header arena)
-
 -- what may be wrong
-
--- The header line that the words begin with has not the text, or its second word is none of these. The defect names the
--- first such word.
-abbrev pub IsBadLine : List ℕ → (ℕ → Type 0) → Defect → Type 0
-IsBadLine words IsFields defect =
-    HasBadText words defect
-    ⊎ ((word_at words text_word ≡ header_text) × ¬ (IsFields (word_at words fields_word)) × (defect ≡ BadHeader fields_word (word_at words fields_word)))
 
 -- the second word of the header line of some pool's arena 0
 abbrev pub IsFirstFields : ℕ → Type 0
@@ -86,7 +73,7 @@ pub record IsTooShort (bytes : List ℕ) (arena : ℕ) (defect : Defect) : Type 
 pub record HasBadFirst (bytes : List ℕ) (arena : ℕ) (defect : Defect) : Type 0 where
   pub enough : 64 ≤ length bytes
   pub first : arena ≡ 0
-  pub is : IsBadLine (words_of_bytes bytes) IsFirstFields defect
+  pub is : IsBadHeaderLine (words_of_bytes bytes) IsFirstFields defect
 
 -- there are more or fewer bytes than arena 0's header calls for
 pub record HasOtherLength (bytes : List ℕ) (arena : ℕ) (defect : Defect) : Type 0 where
@@ -105,7 +92,7 @@ pub record HasBadArena (bytes : List ℕ) (arena : ℕ) (defect : Defect) : Type
   pub later : 1 ≤ arena
   pub inside : arena < header.arenas
   pub before : (earlier : ℕ) → earlier < arena → IsHeader (part_of (words_of_bytes bytes) header.granules earlier) (header_of_arena header earlier)
-  pub is : IsBadLine (part_of (words_of_bytes bytes) header.granules arena) (λ word. word ≡ header_word (header_of_arena header arena)) defect
+  pub is : IsBadHeaderLine (part_of (words_of_bytes bytes) header.granules arena) (λ word. word ≡ header_word (header_of_arena header arena)) defect
 
 -- the bytes are no image of a pool: the first defect, and the arena that has it
 abbrev pub IsImageDefect : List ℕ → ℕ → Defect → Type 0

@@ -1,8 +1,8 @@
 // The image of a pool.
 ghost use Rattle.std.specs.Prelude.{◌≡◌, ◌↔◌, ◌*◌, ◌<◌, ◌≤◌, List, ℕ, length, IsTrue, IfOk, IfErr, OnOk, MatchResult};
-ghost use Rattle.pool_layout.specs.Header.{header_word, IsPoolHeader, IsHeader};
+ghost use Rattle.pool_layout.specs.Header.{header_word, IsPoolHeader, IsHeader, IsBadHeaderLine};
 ghost use Rattle.pool_layout.specs.Bytes.{words_of_bytes};
-ghost use Rattle.pool_layout.specs.Image.{part_of, header_of_arena, image_length, IsFirstHeader, IsFirstLine, IsFirstFields, IsBadLine, HasBadArena, AreWordsOf, AreWords, IsPoolImage, IsImageOf, IsImageDefect, IfDefect};
+ghost use Rattle.pool_layout.specs.Image.{part_of, header_of_arena, image_length, IsFirstHeader, IsFirstLine, IsFirstFields, HasBadArena, AreWordsOf, AreWords, IsPoolImage, IsImageOf, IsImageDefect, IfDefect};
 
 use crate::bytes::add_words;
 use crate::header::{header_of, header_word, second_word};
@@ -34,7 +34,8 @@ pub fn parts<'a>(h: &PoolHeader, words: &'a [u64], arena: u32) -> &'a [u64]
 }
 
 /// The first defect of the image of a pool, and the number of the arena that has it.
-#[derive(Clone, Copy)]
+#[derive(Clone, Copy, Debug, Error)]
+#[error("ArenaDefect")]
 pub struct ArenaDefect {
     pub arena: u32,
     pub defect: Defect,
@@ -93,7 +94,7 @@ pub fn pool_header(words: &[u64], bytes: u64) -> Result<PoolHeader, ArenaDefect>
 // The header of arena 0; the first word of its line that is bad, where one is.
 fn first_header(words: &[u64]) -> Result<PoolHeader, Defect>
     requires { 8 ≤ length words.now }
-    ensures { MatchResult result (IsFirstLine words.now) (IsBadLine words.now IsFirstFields) }
+    ensures { MatchResult result (IsFirstLine words.now) (IsBadHeaderLine words.now IsFirstFields) }
 {
     let header = header_of(words)?;
     if header.number != 0 {
@@ -110,7 +111,7 @@ fn check_arena(words: &[u64], header: &PoolHeader, arena: u32) -> Result<(), Def
     requires size { length words.now ≡ header.now.arenas * header.now.granules * 2048 }
     requires first { IsFirstHeader header.now }
     requires inside { arena < header.now.arenas }
-    ensures { MatchResult result (λ _. IsHeader (part_of words.now header.now.granules arena) (header_of_arena header.now arena)) (λ defect. IsBadLine (part_of words.now header.now.granules arena) (λ word. word ≡ header_word (header_of_arena header.now arena)) defect) }
+    ensures { MatchResult result (λ _. IsHeader (part_of words.now header.now.granules arena) (header_of_arena header.now arena)) (λ defect. IsBadHeaderLine (part_of words.now header.now.granules arena) (λ word. word ≡ header_word (header_of_arena header.now arena)) defect) }
 {
     let part = parts(header, words, arena);
     let word = second_word(part)?;

@@ -3,7 +3,7 @@ use Rattle.std.proofs.Common.{◌≡◌, ⊎_elim, ℕ, ◌*◌, ◌<◌, ◌≤
 use Rattle.pool_layout.specs.declared.header.PoolHeader.{PoolHeader}
 use Rattle.pool_layout.specs.declared.defect.Defect.{Defect}
 use Rattle.pool_layout.specs.declared.defect.Defect.TheVariants.{BadLength}
-use Rattle.pool_layout.specs.Header.{fields_of, version_in, granules_in, HasBadText, IsHeader, IsHeaderDefect}
+use Rattle.pool_layout.specs.Header.{fields_of, version_in, granules_in, IsHeader, IsHeaderDefect}
 use Rattle.pool_layout.proofs.Headers.{fields_of-header_word, header_fits}
 use Rattle.heap_model.specs.Machine.{Bounds}
 use Rattle.heap_check.specs.Image.{header_in, IsSoundImage, IsExactImage}
@@ -27,11 +27,8 @@ version_is words header version line has = ap (λ (h : PoolHeader). h.version) (
 -- a bad header line says none
 pub none_said : (words : List ℕ) (defect : Defect) (version : ℕ) → IsHeaderDefect words defect → HasVersion words version → ⊥
 none_said words defect version bad has = ⊎_elim
-    (λ (short : (length words < 8) × (defect ≡ BadLength (8 * length words) 64)). omega (arith, short.0, has.line.whole))
-    (λ rest. ⊎_elim
-    (λ (text : (8 ≤ length words) × HasBadText words defect). text.1.0 has.line.text)
-    (λ fields. fields.2 has.header has.line.word has.line.valid)
-    rest)
+    (λ short. omega (arith, short.0, has.line.whole))
+    (λ line. ⊎_elim (λ text. text.0 has.line.text) (λ fields. fields.1 (has.header, has.line.valid, has.line.word)) line.1)
     bad
 
 pub granules_is : (words : List ℕ) (header : PoolHeader) → IsHeader words header → header.granules ≡ granules_in words

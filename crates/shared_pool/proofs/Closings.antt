@@ -7,7 +7,8 @@ use mathlib.Core.List.{IsPrefix, map-append}
 use Rattle.atomic_table.specs.Seated.{TableId}
 use Rattle.heap_model.specs.declared.call.Entry.{Entry}
 use Rattle.arena_lock.specs.declared.opening.Opening.{Opening}
-use Rattle.arena_lock.specs.Journal.{calls_by, calls_of, owns, Since, AllBelow}
+use Rattle.arena_lock.specs.Journal.{calls_by, calls_of, owns, Since}
+use Rattle.heap_model.specs.Journal.{AllBelow}
 use Rattle.shared_pool.specs.Begun.{AllNew}
 use Rattle.shared_pool.specs.Closed.{behead, AllFitLocks, is_in, HasAll, AllAgree, IsClosed, AllClosed}
 use Rattle.shared_pool.specs.Passes.{PassState, seen_at, mine_at, part_at, first_calls}

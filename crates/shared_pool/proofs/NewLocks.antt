@@ -6,7 +6,8 @@ use native.Mathlib.Decide.{ℕ_discrete}
 use Rattle.atomic_table.specs.Seated.{TableId}
 use Rattle.heap_model.specs.declared.call.Entry.{Entry}
 use Rattle.arena_lock.specs.declared.opening.Opening.{Opening}
-use Rattle.arena_lock.specs.Journal.{calls_by, owns, AllBelow, Since}
+use Rattle.arena_lock.specs.Journal.{calls_by, owns, Since}
+use Rattle.heap_model.specs.Journal.{AllBelow}
 use Rattle.shared_pool.specs.Begun.{IsBegun, AllBegun}
 use Rattle.arena_journal.specs.Journals.{opened, arena_of, IsBehind}
 use Rattle.shared_pool.specs.Passes.{first_calls}

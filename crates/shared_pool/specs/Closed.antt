@@ -5,7 +5,8 @@ use Rattle.atomic_table.specs.Seated.{TableId}
 use Rattle.heap_model.specs.declared.call.Entry.{Entry}
 use Rattle.arena_core.specs.Arena.{ArenaState}
 use Rattle.arena_lock.specs.declared.opening.Opening.{Opening}
-use Rattle.arena_lock.specs.Journal.{calls_by, AllBelow}
+use Rattle.arena_lock.specs.Journal.{calls_by}
+use Rattle.heap_model.specs.Journal.{AllBelow}
 use Rattle.arena_lock.specs.Known.{Known}
 use Rattle.arena_journal.specs.Journals.{IsBehind}
 use Rattle.shared_pool.specs.Passes.{PassState, part_at, seen_at, mine_at}

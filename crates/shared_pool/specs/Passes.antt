@@ -85,7 +85,8 @@ pub record Called (arena : ℕ) (call : Call) (p q : PassState) (r : Receipt) : 
   pub pass : q ≡ with_part p arena (record (part_at p arena) { seen = before ++ r.entry ∷ []; mine = (mine_at p arena ++ r.entry ∷ []) ∷ []; turns = (part_at p arena).turns - 1 })
 
 -- For want of memory no call was made, and no entry. The pass may have seen more of the legal journal, and has spent a turn
--- there; nothing else of it changed.
+-- there; nothing else of it changed. Nor has the arena's device an event: at `close` the arena is what its journal leads to, and
+-- the pass's own entries there are those that it was answered.
 pub record Refused (arena : ℕ) (p q : PassState) : Type 0 where
   pub seen : List Entry
   pub begins : IsPrefix (seen_at p arena) seen
@@ -93,7 +94,8 @@ pub record Refused (arena : ℕ) (p q : PassState) : Type 0 where
   pub legal : IsLegal (part_at p arena).opening seen
   pub pass : q ≡ with_part p arena (record (part_at p arena) { seen = seen; turns = (part_at p arena).turns - 1 })
 
--- a try lost its exchange there, and nothing else of the pass changed
+-- A try lost its exchange there, and nothing else of the pass changed. It had no turn, so that it has no entry and the arena's
+-- device no event.
 abbrev pub Missed : ℕ → PassState → PassState → Type 0
 Missed arena p q = q ≡ with_part p arena (after_loss (part_at p arena))
 

@@ -23,6 +23,7 @@ use pmem_lines::{OutOfMemory, Pmem};
 use std::alloc::Global;
 use std::marker::Model;
 use std::sync::Wait;
+use thiserror::Error;
 
 /// Arenas that threads share by reference, each behind a lock of its own.
 #[derive(Drop)]
@@ -53,11 +54,13 @@ pub struct Started<P: Pmem> {
 }
 
 /// Why a try made no call.
-#[derive(Debug, Drop)]
+#[derive(Debug, Drop, Error)]
 pub enum TryRefusal {
     /// There was no memory for the entry.
+    #[error("Memory")]
     Memory(OutOfMemory),
     /// Somebody else had the arena's turn, or waited for it.
+    #[error("Busy")]
     Busy,
 }
 

@@ -1,5 +1,5 @@
 -- The events by which a slab takes another class while blocks of the old one live in it, and by which it has them no
--- more. `slab_morph` makes them; no call of an arena does yet.
+-- more. `slab_morph` makes them: in a malloc that finds no other place, in a free of the last old block, and in recovery.
 use Rattle.std.specs.Prelude.{ℕ, zero, suc, ◌+◌, ◌*◌, ◌/◌, min, Bool, true, List, [], ◌∷◌, ◌++◌, length, if◌then◌else◌}
 use Rattle.pmem_lines.specs.Words.{zeros}
 use Rattle.pmem_lines.specs.declared.event.Event.{Event}

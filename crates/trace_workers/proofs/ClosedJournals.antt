@@ -4,7 +4,8 @@ use Rattle.std.proofs.lemmas.Bool.{false≢true}
 use Rattle.heap_model.specs.declared.call.Entry.{Entry}
 use Rattle.arena_lock.specs.declared.opening.Opening.{Opening}
 use Rattle.arena_lock.specs.Known.{Lock, Known}
-use Rattle.arena_lock.specs.Journal.{calls_by, AllBelow}
+use Rattle.arena_lock.specs.Journal.{calls_by}
+use Rattle.heap_model.specs.Journal.{AllBelow}
 use Rattle.shared_pool.specs.Closed.{behead, is_in, HasAll, AllFitLocks, AllAgree, AllClosed}
 use Rattle.shared_pool.specs.Passes.{PassState, PoolState, mine_at, fresh_pass, fresh_passes}
 use Rattle.shared_pool.proofs.AllPasses.{fresh_fits}

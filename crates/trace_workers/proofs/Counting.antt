@@ -4,7 +4,8 @@ use Rattle.std.proofs.lemmas.List.{length-map}
 use Rattle.std.proofs.lemmas.Bool.{cases_lt, cases_eq}
 use Rattle.heap_model.specs.declared.call.Call.{Call}
 use Rattle.heap_model.specs.declared.call.Entry.{Entry}
-use Rattle.arena_lock.specs.Journal.{calls_by, AllBelow}
+use Rattle.arena_lock.specs.Journal.{calls_by}
+use Rattle.heap_model.specs.Journal.{AllBelow}
 use Rattle.trace_text.specs.declared.call.TraceCall.{TraceCall}
 use Rattle.trace_workers.specs.Answers.{asked, calls_in}
 

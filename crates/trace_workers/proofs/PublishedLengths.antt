@@ -9,7 +9,8 @@ use Rattle.std.proofs.lemmas.List.Elements.{All-head, All-tail}
 use Rattle.heap_model.specs.declared.call.Entry.{Entry}
 use Rattle.arena_core.specs.Arena.{ArenaState}
 use Rattle.arena_lock.specs.declared.opening.Opening.{Opening}
-use Rattle.arena_lock.specs.Journal.{calls_by, AllBelow}
+use Rattle.arena_lock.specs.Journal.{calls_by}
+use Rattle.heap_model.specs.Journal.{AllBelow}
 use Rattle.arena_lock.specs.Known.{Lock, Known, after_read}
 use Rattle.shared_pool.specs.Closed.{behead, is_in, HasAll, AllAgree, AllClosed}
 use Rattle.shared_pool.specs.Passes.{PassState, PoolState, IsPassOf, nobody, part_at, with_part, seen_at, mine_at, first_calls, fresh_passes}

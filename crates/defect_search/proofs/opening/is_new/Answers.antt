@@ -2,8 +2,8 @@ use Rattle.std.proofs.Common.{◌≡◌, ◌↔◌, ℕ, true, ◌/◌, subst, a
 use borrow.Author.Count.{below_more}
 use Rattle.image_tables.specs.Tables.{tables_of}
 use Rattle.image_reading.proofs.Holding.{refuted, not_back, back_without}
-use Rattle.defect_search.specs.Opening.{IsNewBlock, HasNewBlock}
-use Rattle.defect_search.proofs.OpenEntries.{new_none}
+use Rattle.defect_search.specs.Opening.{IsNewBlock}
+use Rattle.defect_search.proofs.OpenEntries.{new_none, HasNewBlock}
 use Rattle.defect_search.proofs.opening.is_new.Goals.{in-Some+else-has_new, in_default}
 use Rattle.defect_search.proofs.opening.is_new.Goals as goal
 

@@ -1,6 +1,6 @@
 use Rattle.std.proofs.Common.{ℕ, ◌<◌}
 use Rattle.image_tables.specs.Tables.{tables_of}
-use Rattle.defect_search.specs.Opening.{HasNewBlock}
+use Rattle.defect_search.proofs.OpenEntries.{HasNewBlock}
 use Rattle.defect_search.proofs.opening.is_new.Given as goal
 
 abbrev pub invariant-loop-back : goal.invariant-loop-back

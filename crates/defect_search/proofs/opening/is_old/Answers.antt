@@ -2,8 +2,8 @@ use Rattle.std.proofs.Common.{◌/◌, arith}
 use borrow.Author.Count.{below_more}
 use Rattle.image_tables.specs.Tables.{tables_of}
 use Rattle.image_reading.proofs.Holding.{refuted, not_back, back_without}
-use Rattle.defect_search.specs.Opening.{IsOldBlock, HasOldBlock}
-use Rattle.defect_search.proofs.OpenEntries.{old_none}
+use Rattle.defect_search.specs.Opening.{IsOldBlock}
+use Rattle.defect_search.proofs.OpenEntries.{old_none, HasOldBlock}
 use Rattle.defect_search.proofs.opening.is_old.Goals.{in-Some+else-has_old_of, in_default}
 use Rattle.defect_search.proofs.opening.is_old.Goals as goal
 

@@ -1,6 +1,6 @@
 use Rattle.std.proofs.Common.{ℕ, ◌<◌}
 use Rattle.image_tables.specs.Tables.{tables_of}
-use Rattle.defect_search.specs.Opening.{HasOldBlock}
+use Rattle.defect_search.proofs.OpenEntries.{HasOldBlock}
 use Rattle.defect_search.proofs.opening.is_old.Given as goal
 
 abbrev pub invariant-loop-back : goal.invariant-loop-back

@@ -1,6 +1,6 @@
 use Rattle.image_tables.specs.Tables.{tables_of}
 use Rattle.image_defects.specs.Least.{IsLeastOf}
-use Rattle.defect_search.specs.Stray.{IsStrayInWords}
+use Rattle.defect_search.proofs.Strays.{IsStrayInWords}
 use Rattle.defect_search.proofs.stray.stray_among_bits.Given as goal
 
 abbrev pub invariant-loop-word : goal.invariant-loop-word

@@ -1,7 +1,7 @@
 use Rattle.std.proofs.Common.{◌/◌, arith, refl}
 use borrow.Author.Count.{below_more}
-use Rattle.image_reading.specs.Held.{IsHeldBy, HasBack}
-use Rattle.image_reading.proofs.Holding.{refuted, not_back, back_without, unheld, unheld_far}
+use Rattle.image_reading.specs.Held.{IsHeldBy}
+use Rattle.image_reading.proofs.Holding.{refuted, not_back, back_without, unheld, unheld_far, HasBack}
 use Rattle.image_tables.specs.Tables.{tables_of}
 use Rattle.image_reading.proofs.held.is_held.Goals.{in-Some+else-holds, in_default}
 use Rattle.image_reading.proofs.held.is_held.Goals as goal

@@ -1,6 +1,6 @@
 use Rattle.std.proofs.Common.{ℕ, ◌<◌}
 use Rattle.image_tables.specs.Tables.{tables_of}
-use Rattle.image_reading.specs.Held.{HasBack}
+use Rattle.image_reading.proofs.Holding.{HasBack}
 use Rattle.image_reading.proofs.held.is_held.Given as goal
 
 abbrev pub invariant-loop-back : goal.invariant-loop-back

@@ -9,7 +9,7 @@ use Rattle.pool_layout.proofs.header.header_of.Goals as goal
 pub returns-in_err-word-clause-defect : goal.returns-in_err-word-clause-defect
 returns-in_err-word-clause-defect c =
     let p = err_from_is_err_and c.from_residual.result c.from_residual.ensures.1 in
-    rw (p.1, p.2) (inr (inl (c.if-words-lt8.false, c.in_err-word.ensures)))
+    rw (p.1, p.2) (inr (c.if-words-lt8.false, inl c.in_err-word.ensures))
 
 pub returns-then-not-is_pool_header-clause-defect :
     goal.returns-then-not-is_pool_header-clause-defect
@@ -17,7 +17,7 @@ returns-then-not-is_pool_header-clause-defect c =
     let word = c.in_ok-word.ensures in
     let fields = ap fields_of (sym word.is) ∙ sym c.fields_of-header.ensures.fields in
     let none : ¬ (IsPoolHeader c.fields_of-header.result) = λ valid. false≢true (c.if-not-is_pool_header.ensures.1 valid) in
-    inr (inr (c.if-words-lt8.false, word.text, no_header _ (rw fields none), ap (BadHeader 1) word.is))
+    inr (c.if-words-lt8.false, inr (word.text, (λ good. no_header _ (rw fields none) good.0 good.2 good.1), ap (BadHeader 1) word.is))
 
 pub returns-clause-header : goal.returns-clause-header
 returns-clause-header c = record {

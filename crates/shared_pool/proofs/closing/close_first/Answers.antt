@@ -3,7 +3,7 @@ use Rattle.arena_lock.specs.Known.{Known, AllAt, Covers, AllFit}
 use Rattle.atomic_table.specs.Seated.{TableId}
 use Rattle.heap_model.specs.declared.call.Entry.{Entry}
 use Rattle.arena_lock.specs.declared.opening.Opening.{Opening}
-use Rattle.arena_lock.specs.Journal.{AllBelow}
+use Rattle.heap_model.specs.Journal.{AllBelow}
 use Rattle.shared_pool.specs.Closed.{AllAgree}
 use Rattle.arena_journal.specs.Journals.{IsBehind}
 use Rattle.shared_pool.specs.Rows.{heads, AllLong, HeadsBelong}

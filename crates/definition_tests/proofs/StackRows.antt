@@ -10,11 +10,11 @@ use Rattle.heap_model.specs.Slabs.{view_of}
 use Rattle.heap_model.specs.Step.{with_block}
 use Rattle.heap_model.proofs.Maps.{with_key-cases}
 use Rattle.heap_model.proofs.Sites.{IsStep-granted}
-use Rattle.heap_model.proofs.Morphs.{small, filled, one_slab, unused_behind}
+use Rattle.definition_tests.proofs.Morphs.{small, filled, one_slab, unused_behind}
 use Rattle.heap_model.specs.Placement.{Stacks, no_stacks, bare, with_stack, with_class, IsAvailable, IsNext, IsPlacedStep}
-use Rattle.heap_model.proofs.MorphRows.{class_above}
-use Rattle.heap_model.proofs.WorkedHeaps.{no_top, no_stacked, morphed, packed, new_slab}
-use Rattle.heap_model.proofs.TransitionRows.{morph_site}
+use Rattle.definition_tests.proofs.MorphRows.{class_above}
+use Rattle.definition_tests.proofs.WorkedHeaps.{no_top, no_stacked, morphed, packed, new_slab}
+use Rattle.definition_tests.proofs.TransitionRows.{morph_site}
 
 -- behind that seven more blocks are on the stack of the seat
 abbrev pub reserved : Stacks

@@ -10,9 +10,9 @@ use Rattle.heap_model.specs.Slabs.{view_of}
 use Rattle.heap_model.specs.Step.{with_block, with_moved}
 use Rattle.heap_model.specs.Journal.{Leads, IsEntry}
 use Rattle.heap_model.proofs.Sites.{IsStep-granted}
-use Rattle.heap_model.proofs.Morphs.{small}
-use Rattle.heap_model.proofs.MorphRows.{class_above}
-use Rattle.heap_model.proofs.WorkedHeaps.{only_fit, by_seat, bare_free}
+use Rattle.definition_tests.proofs.Morphs.{small}
+use Rattle.definition_tests.proofs.MorphRows.{class_above}
+use Rattle.definition_tests.proofs.WorkedHeaps.{only_fit, by_seat, bare_free}
 
 module _ (roots : ℕ) (many : 2001 ≤ roots) where
   abbrev b : Bounds

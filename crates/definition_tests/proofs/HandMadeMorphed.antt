@@ -11,8 +11,8 @@ use Rattle.image_tables.specs.declared.entry.WalEntry.TheVariants.{Place}
 use Rattle.image_tables.specs.Tables.{Tables}
 use Rattle.heap_check.specs.Heap.{slab_of, is_old_of, is_large, heap}
 use Rattle.heap_check.specs.Sound.{IsOpen, IsLeaving, IsNearlyDone, IsSteady, IsExact}
-use Rattle.heap_check.proofs.HandMadeParts.{bounds, slab_is, exact_by, HasBlocks, steady_by}
-use Rattle.heap_check.proofs.HandMadeSlab.{words_of, tables, extents, AreRoots, closed_roots, has_blocks}
+use Rattle.definition_tests.proofs.HandMadeParts.{bounds, slab_is, exact_by, HasBlocks, steady_by}
+use Rattle.definition_tests.proofs.HandMadeSlab.{words_of, tables, extents, AreRoots, closed_roots, has_blocks}
 
 -- the image in which both blocks have their roots
 

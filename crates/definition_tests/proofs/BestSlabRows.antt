@@ -9,7 +9,7 @@ use Rattle.heap_model.specs.Step.{with_block}
 use Rattle.heap_model.proofs.Maps.{with_key-cases}
 use Rattle.heap_model.proofs.Freeing.{live_below-none}
 use Rattle.heap_model.proofs.Counts.{live_below-with, EachBlock, EachBlock-none, EachBlock-with}
-use Rattle.heap_model.proofs.Morphs.{small}
+use Rattle.definition_tests.proofs.Morphs.{small}
 
 module _ (roots : ℕ) (many : 2001 ≤ roots) where
   abbrev b : Bounds

@@ -13,9 +13,9 @@ use Rattle.heap_model.specs.Step.{without_block}
 use Rattle.heap_model.specs.Placement.{Stacks, with_stack, has_left, without_left, IsReturned, IsPlacedStep}
 use Rattle.heap_model.proofs.Maps.{with_key-cases}
 use Rattle.heap_model.proofs.Freeing.{slabs_stay, slabs_stay-away}
-use Rattle.heap_model.proofs.Morphs.{small, filled, one_slab}
-use Rattle.heap_model.proofs.WorkedHeaps.{morphed}
-use Rattle.heap_model.proofs.StackRows.{reserved}
+use Rattle.definition_tests.proofs.Morphs.{small, filled, one_slab}
+use Rattle.definition_tests.proofs.WorkedHeaps.{morphed}
+use Rattle.definition_tests.proofs.StackRows.{reserved}
 
 -- no slab has left where each is as it was
 none_left : (slab now : ℕ → Option ℕ) (at n : ℕ) → ((s : ℕ) → now s ≡ slab s) → any_below (λ s. has_left (slab s) (now s) && is_within s at) n ≡ false

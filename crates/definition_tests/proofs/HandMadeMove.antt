@@ -13,8 +13,8 @@ use Rattle.heap_model.specs.Machine.{Range, slab_block}
 use Rattle.heap_check.specs.Heap.{slab_of, is_old_of, is_large, heap, IsClaim}
 use Rattle.heap_check.specs.Sound.{IsOpen, IsStanding, IsSteady}
 use Rattle.heap_check.proofs.Heaps.{heap-none}
-use Rattle.heap_check.proofs.HandMadeParts.{only, bounds, HasExtents, no_claim, slab_is, steady_by}
-use Rattle.heap_check.proofs.HandMadeBlock.{tables, extents, slab_valid, Holds-block, held_is}
+use Rattle.definition_tests.proofs.HandMadeParts.{only, bounds, HasExtents, no_claim, slab_is, steady_by}
+use Rattle.definition_tests.proofs.HandMadeBlock.{tables, extents, slab_valid, Holds-block, held_is}
 
 abbrev entry : WalEntry
 entry = Move 5 9

@@ -9,8 +9,8 @@ use Rattle.image_tables.specs.Tables.{Tables}
 use Rattle.heap_model.specs.Machine.{Range, AreApart, slab_block}
 use Rattle.heap_check.specs.Heap.{heap, slab_of, is_old_of, is_large, IsClaim}
 use Rattle.heap_check.specs.Sound.{IsStanding, IsExact}
-use Rattle.heap_check.proofs.HandMadeParts.{only, bounds, HasExtents, no_claim, HasBlocks, exact_by}
-use Rattle.heap_check.proofs.HandMadeBlock.{tables, extents, slab_valid, Holds-block, held_is}
+use Rattle.definition_tests.proofs.HandMadeParts.{only, bounds, HasExtents, no_claim, HasBlocks, exact_by}
+use Rattle.definition_tests.proofs.HandMadeBlock.{tables, extents, slab_valid, Holds-block, held_is}
 
 words_of : ℕ → ℕ
 words_of r = only 0 65536 r + only 5 100352 r

@@ -11,7 +11,7 @@ use Rattle.image_tables.specs.Tables.{Tables}
 use Rattle.heap_model.specs.Machine.{Range, AreApart, slab_block}
 use Rattle.heap_check.specs.Heap.{entry_at, is_large, slab_of, is_old_of, IsClaim, Holds, HoldsBit, HoldsOld}
 use Rattle.heap_check.specs.Sound.{IsValidSlab, IsOpen, IsStanding}
-use Rattle.heap_check.proofs.HandMadeParts.{only, bounds, no_claim, HasExtents, HasBlocks}
+use Rattle.definition_tests.proofs.HandMadeParts.{only, bounds, no_claim, HasExtents, HasBlocks}
 
 -- By the slab's kind, the words of roots 1 and 2, and the open entry. That is never one of a move, so that each root holds
 -- its word.

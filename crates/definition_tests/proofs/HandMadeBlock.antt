@@ -9,7 +9,7 @@ use Rattle.image_tables.specs.Tables.{Tables, held_of}
 use Rattle.heap_model.specs.Machine.{Range, slab_block}
 use Rattle.heap_check.specs.Heap.{Holds, HoldsBit, HoldsOld}
 use Rattle.heap_check.specs.Sound.{IsValidSlab}
-use Rattle.heap_check.proofs.HandMadeParts.{only, HasExtents, normal_slab}
+use Rattle.definition_tests.proofs.HandMadeParts.{only, HasExtents, normal_slab}
 
 -- by the granules at which the slab starts and that the large extent has, the words of roots, and the open entry
 unfoldable pub tables : ℕ → ℕ → (ℕ → ℕ) → Option WalEntry → Tables

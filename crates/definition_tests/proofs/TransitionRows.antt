@@ -12,9 +12,9 @@ use Rattle.heap_model.specs.Journal.{Leads, IsEntry}
 use Rattle.heap_model.proofs.Maps.{with_key-cases}
 use Rattle.heap_model.proofs.Freeing.{slabs_stay}
 use Rattle.heap_model.proofs.Sites.{IsStep-granted}
-use Rattle.heap_model.proofs.Morphs.{small, filled, each_filled, takes_class}
-use Rattle.heap_model.proofs.MorphRows.{class_above}
-use Rattle.heap_model.proofs.WorkedHeaps.{only_fit, by_seat, morphed, packed, bare_free, new_slab}
+use Rattle.definition_tests.proofs.Morphs.{small, filled, each_filled, takes_class}
+use Rattle.definition_tests.proofs.MorphRows.{class_above}
+use Rattle.definition_tests.proofs.WorkedHeaps.{only_fit, by_seat, morphed, packed, bare_free, new_slab}
 
 module _ (roots : ℕ) (many : 2001 ≤ roots) where
   abbrev b : Bounds

@@ -7,8 +7,8 @@ use Rattle.size_classes.specs.Classes.{class_size, sizes}
 use Rattle.image_tables.specs.Tables.{Tables}
 use Rattle.heap_check.specs.Heap.{slab_of, is_old_of, is_large, heap}
 use Rattle.heap_check.specs.Sound.{IsMorphing, IsNearlyDone, IsSteady}
-use Rattle.heap_check.proofs.HandMadeParts.{bounds, slab_is, steady_by}
-use Rattle.heap_check.proofs.HandMadeSlab.{words_of, tables, extents, closed_roots, has_blocks}
+use Rattle.definition_tests.proofs.HandMadeParts.{bounds, slab_is, steady_by}
+use Rattle.definition_tests.proofs.HandMadeSlab.{words_of, tables, extents, closed_roots, has_blocks}
 
 morphing : Tables
 morphing = tables 2 198656 0 None

@@ -17,7 +17,7 @@ use Rattle.heap_model.specs.Choice.{IsSite, HasNoSite, Site, range_of}
 use Rattle.heap_model.specs.Choice.Site.{InMorph}
 use Rattle.heap_model.specs.Slabs.{view_of}
 use Rattle.heap_model.specs.Step.{with_block, IsStep}
-use Rattle.heap_model.proofs.Morphs.{small, filled, none_filled, takes_class, takes_none}
+use Rattle.definition_tests.proofs.Morphs.{small, filled, none_filled, takes_class, takes_none}
 
 -- the least class of a size between two
 pub class_above : (size b : ℕ) → suc b < 36 → class_size b < size → size ≤ class_size (suc b) → IsClassOf size (suc b)

@@ -14,7 +14,7 @@ use Rattle.heap_model.specs.Slabs.{view_of}
 use Rattle.heap_model.specs.Step.{with_block}
 use Rattle.heap_model.proofs.Maps.{with_key-cases}
 use Rattle.heap_model.proofs.Sites.{neither_below}
-use Rattle.heap_model.proofs.Morphs.{small, filled}
+use Rattle.definition_tests.proofs.Morphs.{small, filled}
 use Rattle.heap_model.specs.Placement.{HasTop, HasStacked, no_stacks}
 
 -- where all free granules are in one row, that is the only run

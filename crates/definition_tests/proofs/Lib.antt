@@ -1,0 +1,15 @@
+pub mod Morphs
+pub mod MorphRows
+pub mod WorkedHeaps
+pub mod MoveRows
+pub mod TransitionRows
+pub mod StackRows
+pub mod BestSlabRows
+pub mod FreeRows
+pub mod HandMadeParts
+pub mod HandMadeBlock
+pub mod HandMade
+pub mod HandMadeMove
+pub mod HandMadeSlab
+pub mod HandMadeMorphing
+pub mod HandMadeMorphed

@@ -1,5 +1,0 @@
-use Rattle.heap_model.proofs.SoundStacks.{law_of_no_stacks, law_of_stacks}
-use Rattle.heap_model.proofs.laws.law_of_stacks.Goals as goal
-
-pub returns : goal.returns
-returns c = record { none = law_of_no_stacks; along = law_of_stacks }
