@@ -10,7 +10,7 @@ use Rattle.arena_lock.specs.Journal.{calls_by}
 use Rattle.heap_model.specs.Journal.{AllBelow}
 use Rattle.arena_lock.specs.Known.{Known}
 use Rattle.shared_pool.specs.Passes.{PassState, part_at, seen_at, mine_at, first_calls}
-use Rattle.shared_pool.specs.Closed.{behead, is_in, HasAll, AllAgree, IsClosed, AllClosed}
+use Rattle.shared_pool.specs.Closed.{is_in, HasAll, AllAgree, IsClosed, AllClosed}
 use Rattle.arena_core.specs.Arena.{ArenaState}
 use Rattle.arena_server.specs.declared.request.Request.{Request}
 use Rattle.arena_server.specs.declared.owner.Till.{Till}
@@ -18,43 +18,6 @@ use Rattle.arena_server.specs.Senders.{SenderState}
 use Rattle.arena_server.specs.Owners.{asked, made, till_list, owner_of, IsOwner}
 use Rattle.arena_server.specs.Closed.{Desk, AllBear, IsDesk, owner_at, AllDesks}
 use Rattle.arena_server.specs.Emptied.{owners_of, AllOwners, list_at, held_at, IsEmptied, AllEmptied}
-
--- what the pool's end tells of the arenas from a on, with all passes whole
-
-abbrev pub AllClosedFrom : ℕ → ℕ → List PassState → List Opening → List (List Entry × ArenaState) → Type 0
-AllClosedFrom seats a ps [] [] = Unit {0}
-AllClosedFrom seats a ps (o ∷ os) (c ∷ cs) = IsClosed seats a ps o c × AllClosedFrom seats (suc a) ps os cs
-AllClosedFrom seats a ps os cs = ⊥
-
-part_next : (p : PassState) (b : ℕ) → part_at (behead p) b ≡ part_at p (suc b)
-part_next p b = parts p.number p.parts b
-  where
-    parts : (n : ℕ) (ks : List Known) (b : ℕ) → part_at (behead (record { number = n; parts = ks })) b ≡ part_at (record { number = n; parts = ks }) (suc b)
-    parts n [] b = refl
-    parts n (k ∷ ks) b = refl
-
-agree_next : (b : ℕ) (ps : List PassState) (j : List Entry) → AllAgree b (map behead ps) j → AllAgree (suc b) ps j
-agree_next b [] j h = tt
-agree_next b (p ∷ ps) j h = (
-  subst (λ (k : Known). IsPrefix k.seen j × (calls_by p.number j ≡ first_calls k.mine) × (k.known ≤ length j)) (part_next p b) h.0,
-  agree_next b ps j h.1,
-)
-
-closed_from : (seats a : ℕ) (all ps : List PassState) (os : List Opening) (cs : List (List Entry × ArenaState)) → ((b : ℕ) (j : List Entry) → AllAgree b ps j → AllAgree (a + b) all j) → AllClosed seats ps os cs → AllClosedFrom seats a all os cs
-closed_from seats a all ps [] [] agree h = tt
-closed_from seats a all ps [] (c ∷ cs) agree h = h
-closed_from seats a all ps (o ∷ os) [] agree h = h
-closed_from seats a all ps (o ∷ os) (c ∷ cs) agree h = (
-  record {
-    held = h.0.held;
-    below = h.0.below;
-    agree = subst (λ n. AllAgree n all c.0) (let e : a + 0 ≡ a = omega arith in e) (agree 0 c.0 h.0.agree);
-  },
-  closed_from seats (suc a) all (map behead ps) os cs (λ b j k. subst (λ n. AllAgree n all j) (let e : a + suc b ≡ suc a + b = omega arith in e) (agree (suc b) j (agree_next b ps j k))) h.1,
-)
-
-pub closed_all : (seats : ℕ) (ps : List PassState) (os : List Opening) (cs : List (List Entry × ArenaState)) → AllClosed seats ps os cs → AllClosedFrom seats 0 ps os cs
-closed_all seats ps os cs h = closed_from seats 0 ps ps os cs (λ b j k. subst (λ n. AllAgree n ps j) (let e : b ≡ 0 + b = omega arith in e) k) h
 
 -- the journal of an arena has its owner's calls alone
 
@@ -156,7 +119,7 @@ found a (p ∷ ps) (t ∷ ts) j has h agree = found_by a p ps t ts j (p.number =
 -- all of them
 
 desks_from : (seats a : ℕ) (ps : List PassState) (ts : List Till) (ss : List SenderState) (os : List Opening) (ds : List Desk) → HasAll seats (map (λ p. p.number) ps) → AllAtHome ps → AllOwners ps ts → a + length os ≡ seats
-    → AllEmptied a ss ts (map (λ (d : Desk). d.left) ds) → AllClosedFrom seats a ps os (map (λ (d : Desk). (d.journal, d.arena)) ds) → AllDesks a ss (owners_of ps ts) os ds
+    → AllEmptied a ss ts (map (λ (d : Desk). d.left) ds) → AllClosed seats a ps os (map (λ (d : Desk). (d.journal, d.arena)) ds) → AllDesks a ss (owners_of ps ts) os ds
 desks_from seats a ps ts ss [] [] has home owners many emptied closed = tt
 desks_from seats a ps ts ss [] (d ∷ ds) has home owners many emptied closed = absurd closed
 desks_from seats a ps ts ss (o ∷ os) [] has home owners many emptied closed = absurd closed
@@ -168,8 +131,8 @@ desks_from seats a ps ts ss (o ∷ os) (d ∷ ds) has home owners many emptied c
     )
 
 pub all_desks : (seats : ℕ) (ps : List PassState) (ts : List Till) (ss : List SenderState) (os : List Opening) (ds : List Desk) → HasAll seats (map (λ p. p.number) ps) → AllOwners ps ts → length os ≡ seats
-    → AllEmptied 0 ss ts (map (λ (d : Desk). d.left) ds) → AllClosed seats ps os (map (λ (d : Desk). (d.journal, d.arena)) ds) → AllDesks 0 ss (owners_of ps ts) os ds
-all_desks seats ps ts ss os ds has owners many emptied closed = desks_from seats 0 ps ts ss os ds has (all_at_home ps ts owners) owners (omega (arith, many)) emptied (closed_all seats ps os _ closed)
+    → AllEmptied 0 ss ts (map (λ (d : Desk). d.left) ds) → AllClosed seats 0 ps os (map (λ (d : Desk). (d.journal, d.arena)) ds) → AllDesks 0 ss (owners_of ps ts) os ds
+all_desks seats ps ts ss os ds has owners many emptied closed = desks_from seats 0 ps ts ss os ds has (all_at_home ps ts owners) owners (omega (arith, many)) emptied closed
 
 -- lists
 
@@ -177,8 +140,8 @@ pub map_both : {A B C : Type 0} (xs : List A) (g : A → B) (f : B → C) → ma
 map_both [] g f = refl
 map_both (x ∷ xs) g f = ap (λ ys. f (g x) ∷ ys) (map_both xs g f)
 
-pub closed_length : (seats : ℕ) (ps : List PassState) (os : List Opening) (cs : List (List Entry × ArenaState)) → AllClosed seats ps os cs → length cs ≡ length os
-closed_length seats ps [] [] h = refl
-closed_length seats ps [] (c ∷ cs) h = absurd h
-closed_length seats ps (o ∷ os) [] h = absurd h
-closed_length seats ps (o ∷ os) (c ∷ cs) h = ap suc (closed_length seats (map behead ps) os cs h.1)
+pub closed_length : (seats a : ℕ) (ps : List PassState) (os : List Opening) (cs : List (List Entry × ArenaState)) → AllClosed seats a ps os cs → length cs ≡ length os
+closed_length seats a ps [] [] h = refl
+closed_length seats a ps [] (c ∷ cs) h = absurd h
+closed_length seats a ps (o ∷ os) [] h = absurd h
+closed_length seats a ps (o ∷ os) (c ∷ cs) h = ap suc (closed_length seats (suc a) ps os cs h.1)

@@ -1,6 +1,6 @@
 -- The seats at one lock, and what its end tells.
 use Rattle.arena_core.specs.Arena.{ArenaState}
-use Rattle.std.proofs.Common.{◌≡◌, ℕ, ◌<◌, ◌≤◌, ◌==◌, ◌||◌, Bool, true, false, List, [], ◌∷◌, ◌++◌, map, length, refl, ap, sym, ◌∙◌, subst, arith, append_assoc, get_or, remove}
+use Rattle.std.proofs.Common.{◌≡◌, ℕ, suc, ◌+◌, ◌<◌, ◌≤◌, ◌==◌, ◌||◌, Bool, true, false, List, [], ◌∷◌, ◌++◌, map, length, refl, ap, sym, ◌∙◌, subst, arith, append_assoc, get_or, remove}
 use Rattle.std.proofs.lemmas.List.{append-nil}
 use Rattle.std.proofs.lemmas.Bool.{false≢true}
 use mathlib.Core.List.{IsPrefix, map-append}
@@ -10,9 +10,9 @@ use Rattle.arena_lock.specs.declared.opening.Opening.{Opening}
 use Rattle.arena_lock.specs.Journal.{calls_by, calls_of, owns, Since}
 use Rattle.heap_model.specs.Journal.{AllBelow}
 use Rattle.shared_pool.specs.Begun.{AllNew}
-use Rattle.shared_pool.specs.Closed.{behead, AllFitLocks, is_in, HasAll, AllAgree, IsClosed, AllClosed}
+use Rattle.shared_pool.specs.Closed.{AllFitLocks, is_in, HasAll, AllAgree, IsClosed, AllClosed}
 use Rattle.shared_pool.specs.Passes.{PassState, seen_at, mine_at, part_at, first_calls}
-use Rattle.shared_pool.specs.Rows.{head_list, heads, AllLong, HeadBelongs, HeadsBelong}
+use Rattle.shared_pool.specs.Rows.{head_list, heads, behead, AllEnded, AllLong, HeadBelongs, HeadsBelong}
 use Rattle.arena_lock.specs.Known.{Lock, Known, AllAt, all_numbers, Covers, AllFit}
 
 module _ (t : TableId) (ts : List TableId) where
@@ -102,15 +102,15 @@ module _ {L C : Type 0} (xs ys : List L) (x : L) (out next : List C) (c : C) (ps
   longer_ps [] l = l
   longer_ps (p ∷ ps) l = omega arith
 
-  goes : ((cs : List (List Entry × ArenaState)) → AllClosed seats ps (map op xs) cs → Goal (map shown out ++ cs)) → IsClosed seats 0 ps (op x) (shown c) → (cs : List (List Entry × ArenaState)) → AllClosed seats (map behead ps) (map op ys) cs → Goal (map shown next ++ cs)
+  goes : ((cs : List (List Entry × ArenaState)) → AllEnded seats ps (map op xs) cs → Goal (map shown out ++ cs)) → IsClosed seats 0 ps (op x) (shown c) → (cs : List (List Entry × ArenaState)) → AllEnded seats (map behead ps) (map op ys) cs → Goal (map shown next ++ cs)
   goes f closed cs all =
       let e : map shown out ++ shown c ∷ cs ≡ map shown next ++ cs = sym (ap (λ l. l ++ cs) (ap (map shown) pushed ∙ map-append shown out (c ∷ [])) ∙ append_assoc (map shown out) (shown c ∷ []) cs) in
-      subst Goal e (f (shown c ∷ cs) (subst (λ l. AllClosed seats ps (map op l) (shown c ∷ cs)) (sym whole) (closed, all)))
+      subst Goal e (f (shown c ∷ cs) (subst (λ l. AllEnded seats ps (map op l) (shown c ∷ cs)) (sym whole) (closed, all)))
 
-  pub one_closed : 0 < length ps → AllFitLocks (map tid xs) ps → AllNew seats (map new xs) → HasAll seats (map (λ p. p.number) ps) → ((cs : List (List Entry × ArenaState)) → AllClosed seats ps (map op xs) cs → Goal (map shown out ++ cs)) → IsClosed seats 0 ps (op x) (shown c)
-      → (0 < length after) × AllFitLocks (map tid ys) after × AllNew seats (map new ys) × HasAll seats (map (λ p. p.number) after) × ((cs : List (List Entry × ArenaState)) → AllClosed seats after (map op ys) cs → Goal (map shown next ++ cs))
+  pub one_closed : 0 < length ps → AllFitLocks (map tid xs) ps → AllNew seats (map new xs) → HasAll seats (map (λ p. p.number) ps) → ((cs : List (List Entry × ArenaState)) → AllEnded seats ps (map op xs) cs → Goal (map shown out ++ cs)) → IsClosed seats 0 ps (op x) (shown c)
+      → (0 < length after) × AllFitLocks (map tid ys) after × AllNew seats (map new ys) × HasAll seats (map (λ p. p.number) after) × ((cs : List (List Entry × ArenaState)) → AllEnded seats after (map op ys) cs → Goal (map shown next ++ cs))
   one_closed some fits fresh all f closed =
-      subst (λ z. (0 < length z) × AllFitLocks (map tid ys) z × AllNew seats (map new ys) × HasAll seats (map (λ p. p.number) z) × ((cs : List (List Entry × ArenaState)) → AllClosed seats z (map op ys) cs → Goal (map shown next ++ cs))) (sym passed) (
+      subst (λ z. (0 < length z) × AllFitLocks (map tid ys) z × AllNew seats (map new ys) × HasAll seats (map (λ p. p.number) z) × ((cs : List (List Entry × ArenaState)) → AllEnded seats z (map op ys) cs → Goal (map shown next ++ cs))) (sym passed) (
         longer_ps ps some,
         fit_behead (tid x) (map tid ys) ps (subst (λ l. AllFitLocks (map tid l) ps) whole fits),
         (subst (λ l. AllNew seats (map new l)) whole fresh).1,
@@ -119,5 +119,38 @@ module _ {L C : Type 0} (xs ys : List L) (x : L) (out next : List C) (c : C) (ps
       )
 
 pub all_closed : {L C : Type 0} (xs : List L) (out : List C) (ps : List PassState) (seats : ℕ) (op : L → Opening) (shown : C → List Entry × ArenaState) (Goal : List (List Entry × ArenaState) → Type 0)
-    → [] ≡ xs → ((cs : List (List Entry × ArenaState)) → AllClosed seats ps (map op xs) cs → Goal (map shown out ++ cs)) → Goal (map shown out)
-all_closed xs out ps seats op shown Goal none f = subst Goal (append-nil (map shown out)) (f [] (subst (λ l. AllClosed seats ps (map op l) []) none tt))
+    → [] ≡ xs → ((cs : List (List Entry × ArenaState)) → AllEnded seats ps (map op xs) cs → Goal (map shown out ++ cs)) → Goal (map shown out)
+all_closed xs out ps seats op shown Goal none f = subst Goal (append-nil (map shown out)) (f [] (subst (λ l. AllEnded seats ps (map op l) []) none tt))
+
+-- what is left of a pass is of the arenas from the next number on
+
+part_next : (p : PassState) (b : ℕ) → part_at (behead p) b ≡ part_at p (suc b)
+part_next p b = parts p.number p.parts b
+  where
+    parts : (n : ℕ) (ks : List Known) (b : ℕ) → part_at (behead (record { number = n; parts = ks })) b ≡ part_at (record { number = n; parts = ks }) (suc b)
+    parts n [] b = refl
+    parts n (k ∷ ks) b = refl
+
+agree_next : (b : ℕ) (ps : List PassState) (j : List Entry) → AllAgree b (map behead ps) j → AllAgree (suc b) ps j
+agree_next b [] j h = tt
+agree_next b (p ∷ ps) j h = (
+  subst (λ (k : Known). IsPrefix k.seen j × (calls_by p.number j ≡ first_calls k.mine) × (k.known ≤ length j)) (part_next p b) h.0,
+  agree_next b ps j h.1,
+)
+
+ended_from : (seats a : ℕ) (all ps : List PassState) (os : List Opening) (cs : List (List Entry × ArenaState)) → ((b : ℕ) (j : List Entry) → AllAgree b ps j → AllAgree (a + b) all j) → AllEnded seats ps os cs → AllClosed seats a all os cs
+ended_from seats a all ps [] [] agree h = tt
+ended_from seats a all ps [] (c ∷ cs) agree h = h
+ended_from seats a all ps (o ∷ os) [] agree h = h
+ended_from seats a all ps (o ∷ os) (c ∷ cs) agree h = (
+  record {
+    held = h.0.held;
+    below = h.0.below;
+    agree = subst (λ n. AllAgree n all c.0) (let e : a + 0 ≡ a = omega arith in e) (agree 0 c.0 h.0.agree);
+  },
+  ended_from seats (suc a) all (map behead ps) os cs (λ b j k. subst (λ n. AllAgree n all j) (let e : a + suc b ≡ suc a + b = omega arith in e) (agree (suc b) j (agree_next b ps j k))) h.1,
+)
+
+-- arenas that ended one after another are those of the pool, by number
+pub ended_all : (seats : ℕ) (ps : List PassState) (os : List Opening) (cs : List (List Entry × ArenaState)) → AllEnded seats ps os cs → AllClosed seats 0 ps os cs
+ended_all seats ps os cs h = ended_from seats 0 ps ps os cs (λ b j k. subst (λ n. AllAgree n ps j) (let e : b ≡ 0 + b = omega arith in e) k) h

@@ -1,5 +1,5 @@
 -- What a pool leaves when it is closed.
-use Rattle.std.specs.Prelude.{◌≡◌, ℕ, ◌<◌, ◌≤◌, ◌==◌, ◌||◌, Bool, true, false, List, [], ◌∷◌, map, length}
+use Rattle.std.specs.Prelude.{◌≡◌, ℕ, suc, ◌<◌, ◌≤◌, ◌==◌, ◌||◌, Bool, true, false, List, [], ◌∷◌, map, length}
 use mathlib.Core.List.{IsPrefix}
 use Rattle.atomic_table.specs.Seated.{TableId}
 use Rattle.heap_model.specs.declared.call.Entry.{Entry}
@@ -34,24 +34,15 @@ abbrev pub AllAgree : ℕ → List PassState → List Entry → Type 0
 AllAgree a [] journal = Unit {0}
 AllAgree a (p ∷ ps) journal = (IsPrefix (seen_at p a) journal × (calls_by p.number journal ≡ mine_at p a) × ((part_at p a).known ≤ length journal)) × AllAgree a ps journal
 
--- Arena a of so many passes at the end: its journal leads from the opening to the arena as it is, agrees with each pass, and
--- has no calls but theirs.
+-- arena a of a pool with so many passes at the end: its journal leads from the opening to the arena as it is, agrees with each
+-- pass, and has no calls but theirs
 pub record IsClosed (seats a : ℕ) (passes : List PassState) (opening : Opening) (closed : List Entry × ArenaState) : Type 0 where
   pub held : IsBehind opening closed.0 closed.1
   pub below : AllBelow seats closed.0
   pub agree : AllAgree a passes closed.0
 
--- the passes without their first arena
-abbrev pub tail_list : List Known → List Known
-tail_list [] = []
-tail_list (x ∷ xs) = xs
-
-abbrev pub behead : PassState → PassState
-behead p = record { number = p.number; parts = tail_list p.parts }
-
--- every arena of the pool
-abbrev pub AllClosed : ℕ → List PassState → List Opening → List (List Entry × ArenaState) → Type 0
-AllClosed seats passes [] [] = Unit {0}
-AllClosed seats passes [] (c ∷ cs) = ⊥
-AllClosed seats passes (o ∷ os) [] = ⊥
-AllClosed seats passes (o ∷ os) (c ∷ cs) = IsClosed seats 0 passes o c × AllClosed seats (map behead passes) os cs
+-- the arenas of the pool from number a on
+abbrev pub AllClosed : ℕ → ℕ → List PassState → List Opening → List (List Entry × ArenaState) → Type 0
+AllClosed seats a passes [] [] = Unit {0}
+AllClosed seats a passes (o ∷ os) (c ∷ cs) = IsClosed seats a passes o c × AllClosed seats (suc a) passes os cs
+AllClosed seats a passes os cs = ⊥

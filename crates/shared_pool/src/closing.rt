@@ -4,8 +4,8 @@ ghost use Rattle.std.specs.Vec.{vec_capacity};
 ghost use Rattle.crossbeam_utils.specs.Padded.{padded_value};
 ghost use Rattle.atomic_table.specs.Seated.{TableId};
 ghost use Rattle.shared_pool.specs.Begun.{AllNew};
-ghost use Rattle.shared_pool.specs.Closed.{AllFitLocks, HasAll, IsClosed, AllClosed, behead};
-ghost use Rattle.shared_pool.specs.Rows.{each_of, AllRoom, AllLong, HeadsBelong, heads};
+ghost use Rattle.shared_pool.specs.Closed.{AllFitLocks, HasAll, IsClosed, AllClosed};
+ghost use Rattle.shared_pool.specs.Rows.{each_of, AllRoom, AllLong, HeadsBelong, heads, behead};
 
 use crate::pass::Pass;
 use crate::value::PoolArena;
@@ -74,7 +74,7 @@ pub(crate) fn close_all<P: Pmem>(
     requires fits { AllFitLocks (each_of locks.items (λ l. (padded_value l).id)) passes.items }
     requires new { AllNew seats (each_of locks.items (λ l. padded_value l)) }
     requires all { HasAll seats (map (λ p. p.number) passes.items) }
-    ensures { AllClosed seats passes.items (each_of locks.items (λ l. (padded_value l).opening)) (each_of result.items (λ c. (c.journal.items, c.arena))) }
+    ensures { AllClosed seats 0 passes.items (each_of locks.items (λ l. (padded_value l).opening)) (each_of result.items (λ c. (c.journal.items, c.arena))) }
 {
     while !locks.is_empty() {
         let lock = locks.remove(0);

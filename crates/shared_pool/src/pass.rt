@@ -1,8 +1,7 @@
 // The passes of a pool.
 ghost use Rattle.std.specs.Prelude.{◌≡◌, ◌<◌, [], ◌∷◌, map, length};
 ghost use Rattle.shared_pool.specs.Passes.{PassState, seen_at};
-ghost use Rattle.shared_pool.specs.Closed.{behead};
-ghost use Rattle.shared_pool.specs.Rows.{part_of, AllTell, head_list};
+ghost use Rattle.shared_pool.specs.Rows.{part_of, behead, AllTell, head_list};
 
 use arena_lock::LockSeat;
 use std::marker::Model;

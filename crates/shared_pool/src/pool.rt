@@ -297,7 +297,7 @@ impl<P: Pmem> SharedPool<P> {
     ) -> Result<Vec<ClosedArena<P>>, (OutOfMemory, SharedPool<P>, Vec<Pass>)>
         requires fits { AllFitLocks (map (λ (l : Lock). l.id) self.locks) passes.items }
         requires all { HasAll self.seats (map (λ p. p.number) passes.items) }
-        ensures closed { IfOk result (λ v. AllClosed self.seats passes.items (map (λ (l : Lock). l.opening) self.locks) (each_of v.items (λ c. (c.journal.items, c.arena)))) }
+        ensures closed { IfOk result (λ v. AllClosed self.seats 0 passes.items (map (λ (l : Lock). l.opening) self.locks) (each_of v.items (λ c. (c.journal.items, c.arena)))) }
         ensures handed_back { IfErr result (λ r. (r.1 ≡ self) × (r.2 ≡ passes)) }
     {
         let Ok(rows) = rooms(alloc, self.locks.len(), passes.len()) else {

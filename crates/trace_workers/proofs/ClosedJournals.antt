@@ -6,7 +6,7 @@ use Rattle.arena_lock.specs.declared.opening.Opening.{Opening}
 use Rattle.arena_lock.specs.Known.{Lock, Known}
 use Rattle.arena_lock.specs.Journal.{calls_by}
 use Rattle.heap_model.specs.Journal.{AllBelow}
-use Rattle.shared_pool.specs.Closed.{behead, is_in, HasAll, AllFitLocks, AllAgree, AllClosed}
+use Rattle.shared_pool.specs.Closed.{is_in, HasAll, AllFitLocks, AllAgree, AllClosed}
 use Rattle.shared_pool.specs.Passes.{PassState, PoolState, mine_at, fresh_pass, fresh_passes}
 use Rattle.shared_pool.proofs.AllPasses.{fresh_fits}
 use Rattle.trace_workers.specs.Answers.{asked, calls_in, AllAnswer}
@@ -37,57 +37,33 @@ none_called seats t (e ∷ es) l h =
     let other : e.seat ≢ t = λ q. absurd (omega (arith, h.0, q)) in
     ap (λ (b : Bool). if b then e ∷ calls_by t es else calls_by t es) (ne_eqb e.seat t other) ∙ none_called seats t es l h.1
 
--- the passes have done what is asked of the arenas from a on, which their parts are of
-abbrev DoneFrom : ℕ → List TraceCall → List PassState → Type 0
-DoneFrom a calls [] = Unit {0}
-DoneFrom a calls (p ∷ ps) = ((b : ℕ) → calls_in (mine_at p b) ≡ asked p.number (a + b) calls) × DoneFrom a calls ps
-
-from_zero : (calls : List TraceCall) (ps : List PassState) → AllDone calls ps → DoneFrom 0 calls ps
-from_zero calls [] d = tt
-from_zero calls (p ∷ ps) d = ((λ b. d.0 b ∙ ap (λ k. asked p.number k calls) (let e : b ≡ 0 + b = omega arith in e)), from_zero calls ps d.1)
-
-mine_next : (n : ℕ) (parts : List Known) (b : ℕ) → mine_at (behead (record { number = n; parts = parts })) b ≡ mine_at (record { number = n; parts = parts }) (suc b)
-mine_next n [] b = refl
-mine_next n (x ∷ xs) b = refl
-
-from_next : (a : ℕ) (calls : List TraceCall) (ps : List PassState) → DoneFrom a calls ps → DoneFrom (suc a) calls (map behead ps)
-from_next a calls [] d = tt
-from_next a calls (p ∷ ps) d = ((λ b. ap calls_in (mine_next p.number p.parts b) ∙ (d.0 (suc b) ∙ ap (λ k. asked p.number k calls) (let e : a + suc b ≡ suc a + b = omega arith in e))), from_next a calls ps d.1)
-
-found_one : (t a : ℕ) (calls : List TraceCall) (journal : List Entry) (p : PassState) (more : Bool) (b : Bool) → (p.number == t) ≡ b → b || more ≡ true → ((c : ℕ) → calls_in (mine_at p c) ≡ asked p.number (a + c) calls) → calls_by p.number journal ≡ mine_at p 0
+found_one : (t a : ℕ) (calls : List TraceCall) (journal : List Entry) (p : PassState) (more : Bool) (b : Bool) → (p.number == t) ≡ b → b || more ≡ true → calls_in (mine_at p a) ≡ asked p.number a calls → calls_by p.number journal ≡ mine_at p a
     → (more ≡ true → calls_in (calls_by t journal) ≡ asked t a calls) → calls_in (calls_by t journal) ≡ asked t a calls
 found_one t a calls journal p more true is h d g f =
     let here : p.number ≡ t = eqb-true p.number t is in
-    subst (λ n. calls_in (calls_by n journal) ≡ asked n a calls) here (ap calls_in g ∙ (d 0 ∙ ap (λ k. asked p.number k calls) (let z : a + 0 ≡ a = omega arith in z)))
+    subst (λ n. calls_in (calls_by n journal) ≡ asked n a calls) here (ap calls_in g ∙ d)
 found_one t a calls journal p more false is h d g f = f h
 
 -- a thread that has a pass
-found : (t a : ℕ) (calls : List TraceCall) (journal : List Entry) (ps : List PassState) → is_in t (map (λ p. p.number) ps) ≡ true → DoneFrom a calls ps → AllAgree 0 ps journal → calls_in (calls_by t journal) ≡ asked t a calls
+found : (t a : ℕ) (calls : List TraceCall) (journal : List Entry) (ps : List PassState) → is_in t (map (λ p. p.number) ps) ≡ true → AllDone calls ps → AllAgree a ps journal → calls_in (calls_by t journal) ≡ asked t a calls
 found t a calls journal [] e d g = absurd (false≢true e)
-found t a calls journal (p ∷ ps) e d g = found_one t a calls journal p (is_in t (map (λ p. p.number) ps)) (p.number == t) refl e d.0 g.0.1 (λ h. found t a calls journal ps h d.1 g.1)
+found t a calls journal (p ∷ ps) e d g = found_one t a calls journal p (is_in t (map (λ p. p.number) ps)) (p.number == t) refl e (d.0 a) g.0.1 (λ h. found t a calls journal ps h d.1 g.1)
 
-threads_of : (seats t a : ℕ) (calls : List TraceCall) (ps : List PassState) (journal : List Entry) → (t < seats) ⊎ (seats ≤ t) → HasAll seats (map (λ p. p.number) ps) → AllBy seats calls → DoneFrom a calls ps → AllAgree 0 ps journal → AllBelow seats journal → calls_in (calls_by t journal) ≡ asked t a calls
+threads_of : (seats t a : ℕ) (calls : List TraceCall) (ps : List PassState) (journal : List Entry) → (t < seats) ⊎ (seats ≤ t) → HasAll seats (map (λ p. p.number) ps) → AllBy seats calls → AllDone calls ps → AllAgree a ps journal → AllBelow seats journal → calls_in (calls_by t journal) ≡ asked t a calls
 threads_of seats t a calls ps journal (inl l) all by d g below = found t a calls journal ps (all t l) d g
 threads_of seats t a calls ps journal (inr l) all by d g below = ap calls_in (none_called seats t journal l below) ∙ sym (none_asked seats t a calls l by)
 
-numbers_behead : (ps : List PassState) → map (λ p. p.number) (map behead ps) ≡ map (λ p. p.number) ps
-numbers_behead [] = refl
-numbers_behead (p ∷ ps) = ap (λ ns. p.number ∷ ns) (numbers_behead ps)
-
-answers_from : (calls : List TraceCall) (seats a : ℕ) (ps : List PassState) (os : List Opening) (cs : List (List Entry × ArenaState)) → HasAll seats (map (λ p. p.number) ps) → AllBy seats calls → DoneFrom a calls ps → AllClosed seats ps os cs → AllAnswer calls a os cs
-answers_from calls seats a ps [] [] all by d h = tt
-answers_from calls seats a ps [] (c ∷ cs) all by d h = h
-answers_from calls seats a ps (o ∷ os) [] all by d h = h
-answers_from calls seats a ps (o ∷ os) (c ∷ cs) all by d h = (
+pub answers : (calls : List TraceCall) (seats a : ℕ) (ps : List PassState) (os : List Opening) (cs : List (List Entry × ArenaState)) → HasAll seats (map (λ p. p.number) ps) → AllBy seats calls → AllDone calls ps → AllClosed seats a ps os cs → AllAnswer calls a os cs
+answers calls seats a ps [] [] all by d h = tt
+answers calls seats a ps [] (c ∷ cs) all by d h = h
+answers calls seats a ps (o ∷ os) [] all by d h = h
+answers calls seats a ps (o ∷ os) (c ∷ cs) all by d h = (
   (
       let threads : (t : ℕ) → calls_in (calls_by t c.0) ≡ asked t a calls = λ t. threads_of seats t a calls ps c.0 (below_or t seats) all by d h.0.agree h.0.below in
       record { behind = h.0.held; threads = threads; few = few_entries seats a calls c.0 h.0.below threads }
       ),
-  answers_from calls seats (suc a) (map behead ps) os cs (subst (λ ns. HasAll seats ns) (sym (numbers_behead ps)) all) by (from_next a calls ps d) h.1,
+  answers calls seats (suc a) ps os cs all by d h.1,
 )
-
-pub answers : (calls : List TraceCall) (seats : ℕ) (ps : List PassState) (os : List Opening) (cs : List (List Entry × ArenaState)) → HasAll seats (map (λ p. p.number) ps) → AllBy seats calls → AllDone calls ps → AllClosed seats ps os cs → AllAnswer calls 0 os cs
-answers calls seats ps os cs all by d h = answers_from calls seats 0 ps os cs all by (from_zero calls ps d) h
 
 -- the passes of a start
 

@@ -12,7 +12,7 @@ use Rattle.arena_lock.specs.declared.opening.Opening.{Opening}
 use Rattle.arena_lock.specs.Journal.{calls_by}
 use Rattle.heap_model.specs.Journal.{AllBelow}
 use Rattle.arena_lock.specs.Known.{Lock, Known, after_read}
-use Rattle.shared_pool.specs.Closed.{behead, is_in, HasAll, AllAgree, AllClosed}
+use Rattle.shared_pool.specs.Closed.{is_in, HasAll, AllAgree, AllClosed}
 use Rattle.shared_pool.specs.Passes.{PassState, PoolState, IsPassOf, nobody, part_at, with_part, seen_at, mine_at, first_calls, fresh_passes}
 use Rattle.trace_text.specs.declared.call.TraceCall.{TraceCall}
 use Rattle.trace_gen.specs.Draws.{IsOwn}
@@ -285,39 +285,18 @@ counted_is calls seats arena n ps journal own all below agree threads counted =
     (cases_lt arena seats) in
     omega (arith, most, one, few)
 
--- one arena further
-
-part_next : (n : ℕ) (parts : List Known) (a : ℕ) → part_at (behead (record { number = n; parts = parts })) a ≡ part_at (record { number = n; parts = parts }) (suc a)
-part_next n [] a = refl
-part_next n (x ∷ xs) a = refl
-
-agree_next : (a : ℕ) (ps : List PassState) (journal : List Entry) → AllAgree a (map behead ps) journal → AllAgree (suc a) ps journal
-agree_next a [] journal agree = tt
-agree_next a (p ∷ ps) journal agree =
-    (subst (λ (z : Known). IsPrefix z.seen journal × (calls_by p.number journal ≡ first_calls z.mine) × (z.known ≤ length journal)) (part_next p.number p.parts a) agree.0, agree_next a ps journal agree.1)
-
 -- the counts of arenas, from one on, are the lengths of their journals
-lengths_from : (calls : List TraceCall) (seats arena : ℕ) (ps later : List PassState) (os : List Opening) (cs : List (List Entry × ArenaState)) (ns : List ℕ) → All IsOwn calls → HasAll seats (map (λ p. p.number) ps) →
-    ((a : ℕ) (journal : List Entry) → AllAgree a later journal → AllAgree (arena + a) ps journal) → AllClosed seats later os cs → AllAnswer calls arena os cs → AreCounted ps arena ns → length ns ≡ length os → ns ≡ lengths_of cs
-lengths_from calls seats arena ps later [] [] [] own all up closed answers counted many = refl
-lengths_from calls seats arena ps later [] [] (n ∷ ns) own all up closed answers counted many = absurd (omega (arith, many))
-lengths_from calls seats arena ps later [] (c ∷ cs) ns own all up closed answers counted many = absurd closed
-lengths_from calls seats arena ps later (o ∷ os) [] ns own all up closed answers counted many = absurd closed
-lengths_from calls seats arena ps later (o ∷ os) (c ∷ cs) [] own all up closed answers counted many = absurd (omega (arith, many))
-lengths_from calls seats arena ps later (o ∷ os) (c ∷ cs) (n ∷ ns) own all up closed answers counted many =
-    let here : arena + 0 ≡ arena = omega arith in
-    let agree : AllAgree arena ps c.0 = subst (λ a. AllAgree a ps c.0) here (up 0 c.0 closed.0.agree) in
-    let one : n ≡ length c.0 = counted_is calls seats arena n ps c.0 own all closed.0.below agree answers.0.threads counted.0 in
-    let next : (a : ℕ) (journal : List Entry) → AllAgree a (map behead later) journal → AllAgree (suc arena + a) ps journal = λ a journal agrees.
-    let further : arena + suc a ≡ suc arena + a = omega arith in
-    subst (λ k. AllAgree k ps journal) further (up (suc a) journal (agree_next a later journal agrees)) in
-    let rest : ns ≡ lengths_of cs = lengths_from calls seats (suc arena) ps (map behead later) os cs ns own all next closed.1 answers.1 counted.1 (omega (arith, many)) in
+pub lengths_are : (calls : List TraceCall) (seats arena : ℕ) (ps : List PassState) (os : List Opening) (cs : List (List Entry × ArenaState)) (ns : List ℕ) → All IsOwn calls → HasAll seats (map (λ p. p.number) ps) →
+    AllClosed seats arena ps os cs → AllAnswer calls arena os cs → AreCounted ps arena ns → length ns ≡ length os → ns ≡ lengths_of cs
+lengths_are calls seats arena ps [] [] [] own all closed answers counted many = refl
+lengths_are calls seats arena ps [] [] (n ∷ ns) own all closed answers counted many = absurd (omega (arith, many))
+lengths_are calls seats arena ps [] (c ∷ cs) ns own all closed answers counted many = absurd closed
+lengths_are calls seats arena ps (o ∷ os) [] ns own all closed answers counted many = absurd closed
+lengths_are calls seats arena ps (o ∷ os) (c ∷ cs) [] own all closed answers counted many = absurd (omega (arith, many))
+lengths_are calls seats arena ps (o ∷ os) (c ∷ cs) (n ∷ ns) own all closed answers counted many =
+    let one : n ≡ length c.0 = counted_is calls seats arena n ps c.0 own all closed.0.below closed.0.agree answers.0.threads counted.0 in
+    let rest : ns ≡ lengths_of cs = lengths_are calls seats (suc arena) ps os cs ns own all closed.1 answers.1 counted.1 (omega (arith, many)) in
     ap (λ m. m ∷ ns) one ∙ ap (λ ms. length c.0 ∷ ms) rest
-
-pub lengths_are : (calls : List TraceCall) (seats : ℕ) (ps : List PassState) (os : List Opening) (cs : List (List Entry × ArenaState)) (ns : List ℕ) → All IsOwn calls → HasAll seats (map (λ p. p.number) ps) →
-    AllClosed seats ps os cs → AllAnswer calls 0 os cs → AreCounted ps 0 ns → length ns ≡ length os → ns ≡ lengths_of cs
-lengths_are calls seats ps os cs ns own all closed answers counted many =
-    lengths_from calls seats 0 ps ps os cs ns own all (λ a journal agree. subst (λ k. AllAgree k ps journal) (let z : a ≡ 0 + a = omega arith in z) agree) closed answers counted many
 
 -- what holds, holds where an Ok says something
 pub IfOk-always : {X E : Type 0} (r : Result X E) (S : Type 0) → S → IfOk r (λ _. S)

@@ -4,9 +4,8 @@ use Rattle.crossbeam_utils.specs.Padded.{padded_value}
 use Rattle.heap_model.specs.declared.call.Entry.{Entry}
 use Rattle.std.specs.Vec.{vec_len, vec_capacity}
 use Rattle.std.proofs.lemmas.List.{length-map}
-use Rattle.shared_pool.specs.Closed.{AllClosed, behead}
-use Rattle.shared_pool.specs.Rows.{each_of}
-use Rattle.shared_pool.proofs.Closings.{head_back, fits_front, one_closed, all_closed}
+use Rattle.shared_pool.specs.Rows.{each_of, behead, AllEnded}
+use Rattle.shared_pool.proofs.Closings.{head_back, fits_front, one_closed, all_closed, ended_all}
 use Rattle.shared_pool.proofs.FreshPasses.{no_items, room_left}
 use Rattle.shared_pool.proofs.closing.close_all.Goals as goal
 
@@ -25,7 +24,7 @@ loop-locks-preserved g c =
       one_closed c.loop-locks.locks.items c.remove-lock.new.self.items c.remove-lock.result c.loop-locks.out.items c.push_reserved.new.self.items c.close_first.result c.loop-locks.passes.items c.close_first.new.passes.items c.args.seats
           (λ z. (padded_value z).id) (λ z. padded_value z) (λ z. (padded_value z).opening)
           (λ z. (z.journal.items, z.arena))
-          (λ (l : List (List Entry × ArenaState)). AllClosed c.args.seats c.args.passes.items (each_of c.args.locks.items (λ z. (padded_value z).opening)) l)
+          (λ (l : List (List Entry × ArenaState)). AllEnded c.args.seats c.args.passes.items (each_of c.args.locks.items (λ z. (padded_value z).opening)) l)
           whole c.close_first.ensures.passes pushed inv.0 inv.1 inv.2 inv.3 inv.4 c.close_first.ensures.closed,
       search rules,
       room_left c.loop-locks.rows.items c.remove-row.new.self.items (λ r. (vec_len r, vec_capacity r)) (length c.loop-locks.passes.items) (length c.close_first.new.passes.items)
@@ -36,6 +35,7 @@ loop-locks-preserved g c =
 pub returns : goal.returns
 returns g c =
     let empty : length c.loop-locks.locks.items ≡ 0 = search rules in
-    all_closed c.loop-locks.locks.items c.loop-locks.out.items c.loop-locks.passes.items c.args.seats (λ z. (padded_value z).opening) (λ z. (z.journal.items, z.arena))
-    (λ (l : List (List Entry × ArenaState)). AllClosed c.args.seats c.args.passes.items (each_of c.args.locks.items (λ z. (padded_value z).opening)) l)
-    (no_items c.loop-locks.locks.items empty) c.loop-locks.invariant.0.4
+    ended_all c.args.seats c.args.passes.items _ _
+    (all_closed c.loop-locks.locks.items c.loop-locks.out.items c.loop-locks.passes.items c.args.seats (λ z. (padded_value z).opening) (λ z. (z.journal.items, z.arena))
+    (λ (l : List (List Entry × ArenaState)). AllEnded c.args.seats c.args.passes.items (each_of c.args.locks.items (λ z. (padded_value z).opening)) l)
+    (no_items c.loop-locks.locks.items empty) c.loop-locks.invariant.0.4)

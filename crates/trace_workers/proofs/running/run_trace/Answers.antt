@@ -66,14 +66,14 @@ all g c =
     let numbers : map number (passes g c) ≡ map number (fresh_passes pool.locks 0 c.args.seats) = c.work_counted.ensures.numbers ∙ ap (map number) (c.as_mut_slice.ensures.value ∙ c.in-Ok.ensures.passes) in
     subst (λ ns. HasAll c.args.seats ns) (sym numbers) (has_fresh pool.locks c.args.seats)
 
-ended : (g : given.Over) (c : goal.In-Ok-close g) → AllClosed c.args.seats (passes g c) (openings g c) (closed g c)
+ended : (g : given.Over) (c : goal.In-Ok-close g) → AllClosed c.args.seats 0 (passes g c) (openings g c) (closed g c)
 ended g c =
-    subst (λ (z : ℕ × List PassState × List Opening). AllClosed z.0 z.1 z.2 (closed g c))
+    subst (λ (z : ℕ × List PassState × List Opening). AllClosed z.0 0 z.1 z.2 (closed g c))
     (λ i. (c.in-Ok.ensures.seats i, take_front (passes g c) (drop (length (passes g c)) c.in-Ok.started.passes.items) c.in-Ok.started.passes.len (search rules) i, c.in-Ok.ensures.openings i))
     c.in-Ok-close.ensures.closed
 
 told : (g : given.Over) (c : goal.In-Ok-close g) → AllAnswer c.args.calls.now 0 (openings g c) (closed g c)
-told g c = answers c.args.calls.now c.args.seats (passes g c) (openings g c) (closed g c) (all g c) c.requires.threads c.in_ok-lengths.ensures.done (ended g c)
+told g c = answers c.args.calls.now c.args.seats 0 (passes g c) (openings g c) (closed g c) (all g c) c.requires.threads c.in_ok-lengths.ensures.done (ended g c)
 
 pub returns-in-Ok-close-clause-answers : goal.returns-in-Ok-close-clause-answers
 returns-in-Ok-close-clause-answers g c = told g c
@@ -83,4 +83,4 @@ returns-in-Ok-close-clause-lengths g c own =
     let many = length-map {B = Opening} c.args.arenas.items (λ a. opened a) in
     let arenas = c.len-many.ensures in
     let counts = c.in_ok-lengths.ensures.all in
-    lengths_are c.args.calls.now c.args.seats (passes g c) (openings g c) (closed g c) c.in_ok-lengths.lengths.items own (all g c) (ended g c) (told g c) c.in_ok-lengths.ensures.counted (omega (arith, many, arenas, counts))
+    lengths_are c.args.calls.now c.args.seats 0 (passes g c) (openings g c) (closed g c) c.in_ok-lengths.lengths.items own (all g c) (ended g c) (told g c) c.in_ok-lengths.ensures.counted (omega (arith, many, arenas, counts))

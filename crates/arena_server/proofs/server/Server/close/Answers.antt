@@ -33,7 +33,7 @@ close-requires-clause-all g c =
 
 pub close_all-requires-clause-queues : goal.close_all-requires-clause-queues
 close_all-requires-clause-queues g c =
-    let closed = closed_length _ _ _ _ c.in-Ok-close.ensures.closed in
+    let closed = closed_length _ _ _ _ _ c.in-Ok-close.ensures.closed in
     (c.self.invariant.1, sym (length-map c.in-Ok-close.closed.items _) ∙ (closed ∙ (length-map c.self.inside.pool.locks _ ∙ sym c.self.invariant.0)))
 
 pub close_all-requires-clause-tills : goal.close_all-requires-clause-tills
@@ -55,7 +55,7 @@ close_all-requires-clause-senders g c = (
 
 pub returns-in-Ok-close-clause-arenas : goal.returns-in-Ok-close-clause-arenas
 returns-in-Ok-close-clause-arenas g c =
-    let closed = closed_length _ _ _ _ c.in-Ok-close.ensures.closed in
+    let closed = closed_length _ _ _ _ _ c.in-Ok-close.ensures.closed in
     sym (length-map c.close_all.result.items _) ∙ (ap length c.close_all.ensures.closed ∙ (closed ∙ (length-map c.self.inside.pool.locks _ ∙ (sym c.self.invariant.0 ∙ (sym (length-map c.self.inside.queues.items _) ∙ ap (λ (z : ServerState). length z.queues) c.self.view_is)))))
 
 pub returns-in-Ok-close-clause-closed : goal.returns-in-Ok-close-clause-closed
@@ -72,5 +72,5 @@ returns-in-Ok-close-clause-closed g c =
     let all = all_desks c.self.inside.pool.seats P T c.args.senders.items (map (λ (l : Lock). l.opening) c.self.inside.pool.locks) ds
     (subst (λ (z : ℕ × List ℕ). HasAll z.0 z.1) (λ i. (many i, numbers_are i)) c.requires.all_owners) owners.each openings
     (subst (AllEmptied 0 c.args.senders.items T) (sym lefts) c.close_all.ensures.emptied)
-    (subst (AllClosed c.self.inside.pool.seats P (map (λ (l : Lock). l.opening) c.self.inside.pool.locks)) (sym closed) c.in-Ok-close.ensures.closed) in
+    (subst (AllClosed c.self.inside.pool.seats 0 P (map (λ (l : Lock). l.opening) c.self.inside.pool.locks)) (sym closed) c.in-Ok-close.ensures.closed) in
     subst (λ (z : List OwnerState × ServerState). AllDesks 0 c.args.senders.items z.0 (map (λ (l : Lock). l.opening) z.1.pool.locks) ds) (λ i. (owners.owners i, c.self.view_is i)) all
