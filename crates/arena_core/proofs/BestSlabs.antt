@@ -1,7 +1,7 @@
 -- The search for the slab that takes a class: the candidates come in order, so the first one that is fit is the best.
 use Rattle.std.proofs.Common.{◌≡◌, ℕ, ◌+◌, ◌-◌, ◌*◌, ◌<◌, ◌≤◌, true, List, length, Option, Some, None, MatchOption, IfSome, sym, ◌∙◌, subst, arith, inl, inr, ⊎_elim}
 use Rattle.arena_core.proofs.Common.{cases_lt, cond-true, class_capacity, normal_kind, Tables, tables_of, IsBestSlab, HasNoFitSlab, live_below, Lives, heap, bounds_of, AreLivesOf, tables_view, IsMorphable}
-use Rattle.heap_model.specs.Choice.{View, IsFit}
+use Rattle.heap_model.specs.Choice.{View, IsFit, slab_view}
 use Rattle.slab_index.specs.declared.candidates.Candidate.{Candidate}
 use Rattle.slab_index.specs.Candidates.{IsBefore}
 use Rattle.slab_lives.specs.Lives.{IsSparse, HasNoSparse, IsFirstSparse, HasNoSparseBehind, IsNextSparse}
@@ -24,8 +24,8 @@ module _ (words : List ℕ) (lives : Lives) (class : ℕ) where
 
   -- A candidate is such a slab, and none before it is fit; where there is none any more, no slab is fit.
   abbrev pub IsSought : Option Candidate → Type 0
-  IsSought None = HasNoFitSlab (tables_view (bounds_of words) (tables_of words)) class
-  IsSought (Some found) = IsSparse lives class found.start found.live × ((s : ℕ) → IsFit (tables_view (bounds_of words) (tables_of words)) class s → ¬ (IsBefore (live_below (heap (tables_of words)) s (bounds_of words).roots) s found.live found.start))
+  IsSought None = HasNoFitSlab (slab_view (tables_view (bounds_of words) (tables_of words))) class
+  IsSought (Some found) = IsSparse lives class found.start found.live × ((s : ℕ) → IsFit (slab_view (tables_view (bounds_of words) (tables_of words))) class s → ¬ (IsBefore (live_below (heap (tables_of words)) s (bounds_of words).roots) s found.live found.start))
 
   module _ (are : AreLivesOf lives words) where
     -- a candidate is a normal slab
@@ -33,7 +33,7 @@ module _ (words : List ℕ) (lives : Lives) (class : ℕ) where
     sparse_slab start live is = let parts = calm_parts t start is.own (sym (are.calm start) ∙ is.slab) in (parts.0, parts.1)
 
     -- a slab that is fit is a candidate
-    sparse_of_fit : (s : ℕ) → IsFit v class s → IsSparse lives class s (live_below (heap t) s (bounds_of words).roots)
+    sparse_of_fit : (s : ℕ) → IsFit (slab_view v) class s → IsSparse lives class s (live_below (heap t) s (bounds_of words).roots)
     sparse_of_fit s fit = grind arith
 
     -- what the first candidate is, and what the one behind another
@@ -42,7 +42,7 @@ module _ (words : List ℕ) (lives : Lives) (class : ℕ) where
     first_sought (Some found) first = (first.is, λ s fit. first.first s _ (sparse_of_fit s fit))
 
     -- a slab that is fit is not the one that isn't, and so it comes behind
-    comes_behind : (found : Candidate) → IsSought (Some found) → ¬ (IsFitIn words found.start class) → (s : ℕ) → IsFit v class s → IsBefore found.live found.start (live_below (heap t) s (bounds_of words).roots) s
+    comes_behind : (found : Candidate) → IsSought (Some found) → ¬ (IsFitIn words found.start class) → (s : ℕ) → IsFit (slab_view v) class s → IsBefore found.live found.start (live_below (heap t) s (bounds_of words).roots) s
     comes_behind found sought unfit s fit = grind arith
 
     pub next_sought : (found : Candidate) → IsSought (Some found) → ¬ (IsFitIn words found.start class) → (next : Option Candidate) → MatchOption next (HasNoSparseBehind lives class found.live found.start) (IsNextSparse lives class found.live found.start) → IsSought next
@@ -50,7 +50,7 @@ module _ (words : List ℕ) (lives : Lives) (class : ℕ) where
     next_sought found sought unfit (Some later) next = (next.is, λ s fit. next.first s _ (sparse_of_fit s fit) (comes_behind found sought unfit s fit))
 
     -- a candidate that is fit is the best slab
-    pub best_sought : (found : Candidate) → IsSought (Some found) → IsReadyFor words found.start class → IsBestSlab (tables_view (bounds_of words) (tables_of words)) class found.start × IsMorphable (tables_of words) found.start class
+    pub best_sought : (found : Candidate) → IsSought (Some found) → IsReadyFor words found.start class → IsBestSlab (slab_view (tables_view (bounds_of words) (tables_of words))) class found.start × IsMorphable (tables_of words) found.start class
     best_sought found sought ready =
         let is = sought.0 in
         let parts = calm_parts t found.start is.own (sym (are.calm found.start) ∙ is.slab) in

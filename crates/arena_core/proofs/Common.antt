@@ -28,7 +28,7 @@ pub use Rattle.book_log.specs.Entry.{extent_of, start_of}
 pub use Rattle.book_log.specs.declared.entry.LogEntry.TheVariants.{Large, Tomb}
 pub use Rattle.book_log.specs.declared.entry.LogEntry.{LogEntry}
 pub use Rattle.heap_model.specs.Below.{any_below}
-pub use Rattle.heap_model.specs.Choice.{IsBestSlab, HasNoFitSlab, Site, IsSite, range_of, slabs_with}
+pub use Rattle.heap_model.specs.Choice.{IsBestSlab, HasNoFitSlab, Site, IsSite, range_of, slabs_with, block_view, slab_view}
 pub use Rattle.heap_model.specs.Machine.{Bounds, with_key, Range, AreApart, slab_block, Machine, IsUnused, IsFreeGranule}
 pub use Rattle.heap_model.specs.Runs.{IsBestFit, HasNoFit, IsFreeRow}
 pub use Rattle.heap_model.specs.Slabs.{live_below, begins_in, view_of}

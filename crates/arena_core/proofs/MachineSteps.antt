@@ -1,6 +1,6 @@
 -- What a call means to the heap machine: the step from the state that the old words have to one that the new words have.
 use Rattle.std.proofs.Common.{◌≡◌, ◌≢◌, ◌*◌, ◌<◌, ℕ, Bool, List, Option, Some, None, Err, refl, sym, ap, ◌∙◌, arith, inl, inr, ⊎_elim}
-use Rattle.arena_core.proofs.Common.{Tables, tables_of, Call, Reply, Range, Machine, with_key, view_of, Site, IsSite, range_of, slabs_with, slabs_without, forgotten, class_size, class_capacity, slab_block, class_small, stacks_of, Supply, supply_view, TookBlock, HasNoOpen, IsSlabsOf, heap, slabs, IsInSlab, bounds_of, IsExactImage, HasState, is_large-start, malloc_reply, free_reply, IsStepOf, IsStepOfAny, slabs_but, stacks_but, IsPutBack, IsSuppliedFresh, IsSuppliedMorph, IsLastOf, GivesRoot, IsAskedOf, tables_view, IsTakable, IsFreePlan, Granules, InSlab, InMorph, InNewSlab, IsClassOf, Stacks, without_left, IsReturned, AgreeOnBlocks, law_of_exact_state, MallocRefusal, NoSpace, FreeRefusal, iff_then, named_at}
+use Rattle.arena_core.proofs.Common.{Tables, tables_of, Call, Reply, Range, Machine, with_key, view_of, Site, IsSite, range_of, slabs_with, slabs_without, forgotten, class_size, class_capacity, slab_block, class_small, stacks_of, Supply, supply_view, TookBlock, HasNoOpen, IsSlabsOf, heap, slabs, IsInSlab, bounds_of, IsExactImage, HasState, is_large-start, malloc_reply, free_reply, IsStepOf, IsStepOfAny, slabs_but, stacks_but, IsPutBack, IsSuppliedFresh, IsSuppliedMorph, IsLastOf, GivesRoot, IsAskedOf, tables_view, IsTakable, IsFreePlan, Granules, InSlab, InMorph, InNewSlab, IsClassOf, Stacks, without_left, IsReturned, AgreeOnBlocks, law_of_exact_state, MallocRefusal, NoSpace, FreeRefusal, iff_then, named_at, block_view}
 use Rattle.heap_model.specs.declared.call.Call.TheVariants as calls
 use Rattle.heap_model.specs.declared.call.Reply.TheVariants as replies
 use Rattle.heap_model.specs.Step.{with_block, without_block, IsStep}
@@ -46,7 +46,7 @@ placed_step old new was next seat root size site image supply asked chosen serve
       );
 }
   where
-    agree : (m : Machine) → HasState old m → AgreeOnBlocks (supply_view was) (view_of (bounds_of old) m)
+    agree : (m : Machine) → HasState old m → AgreeOnBlocks (supply_view was) (block_view (view_of (bounds_of old) m))
     agree m state = record { slab = grind arith; unused = λ s c n slab within. let is = slab_of_set supply s c slab in iff_then (block_is supply s c n is.0 is.1 within) ((tables_agree image state).unused s c c n (sym (supply.classes s) ∙ slab) within) }
 
     gave : (start class number : ℕ) → IsClassOf size class → GaveSmall size (placed_reply (slab_block start class number))

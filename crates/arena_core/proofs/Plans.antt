@@ -4,7 +4,7 @@ use Rattle.std.proofs.Common.{◌≡◌, ◌≢◌, ℕ, ◌+◌, ◌-◌, ◌*�
 use Rattle.arena_core.proofs.Common.{word_at, root_word, HasNoMove-closed, IsHeldBy, class_size, class_capacity, class_size-least, class_size-most, Tables, tables_of, Bounds, Range, slab_block, IsBestSlab, HasNoFitSlab, IsBestFit, HasNoFit, SlabBlock, class_in, FreeSet, IsFree, entry_at, slabs, HoldsBit, IsUnusedIn, is_old, IsVacant, bounds_of, IsExactImage, sizes_of, plain_size, IsClaim-word, granules_at-slab, granules_at-live, IsInSlab-held, IsWithin-claim, Holds-claim, IsIndexOf, IsSlabsOf, Supply, IsOpen, IsInNoSlabOf, HasNoOpen, IsAskedOf, IsVacantRow, tables_view, IsMorphable, IsPlacing, IsTakable, IsNamedSmall, IsClassOf, Small, Morph, Fresh, Held, is_old-held, slab_parts}
 use Rattle.std.proofs.lemmas.Nat.{le-div}
 use Rattle.size_classes.specs.Classes.{granules_of}
-use Rattle.heap_model.specs.Choice.{HasNoSite}
+use Rattle.heap_model.specs.Choice.{HasNoSite, slab_view}
 use Rattle.heap_model.proofs.Fits.{IsBestFit-same, HasNoFit-same, fit_free}
 use Rattle.heap_check.proofs.Geometry.{is_large-parts}
 use Rattle.arena_core.specs.declared.plan.Place.TheVariants.{Large}
@@ -54,18 +54,18 @@ module _ {set : FreeSet} {words : List ℕ} (index : IsIndexOf set words) (root 
     placing_small class at block least slab within is_open at_is = grind arith
 
     -- a slab that takes the class for it
-    pub placing_morph : (class start : ℕ) → IsClassOf size class → HasNoOpen parts class → IsBestSlab (tables_view (bounds_of words) (tables_of words)) class start × IsMorphable (tables_of words) start class →
+    pub placing_morph : (class start : ℕ) → IsClassOf size class → HasNoOpen parts class → IsBestSlab (slab_view (tables_view (bounds_of words) (tables_of words))) class start × IsMorphable (tables_of words) start class →
         IsPlacing (bounds_of words) (tables_of words) root size (Morph start class)
     placing_morph class start least none found = grind arith
 
     -- a new slab for it
-    pub placing_fresh : (class start : ℕ) → IsClassOf size class → HasNoOpen parts class → HasNoFitSlab (tables_view (bounds_of words) (tables_of words)) class → IsBestFit (IsFree set) 4 start →
+    pub placing_fresh : (class start : ℕ) → IsClassOf size class → HasNoOpen parts class → HasNoFitSlab (slab_view (tables_view (bounds_of words) (tables_of words))) class → IsBestFit (IsFree set) 4 start →
         IsPlacing (bounds_of words) (tables_of words) root size (Fresh start class)
     placing_fresh class start least none no_fit fit =
         let vacant = IsBestFit-same (IsFree set) (IsVacant (bounds_of words) (tables_of words)) 4 start index.each fit in
         grind (arith, class_capacity-some, IsVacantRow-fit (bounds_of words) (tables_of words) 4 start (omega arith) vacant)
 
-    pub no_site_small : (class : ℕ) → IsClassOf size class → HasNoOpen parts class → HasNoFitSlab (tables_view (bounds_of words) (tables_of words)) class → HasNoFit (IsFree set) 4 → HasNoSite (tables_view (bounds_of words) (tables_of words)) size
+    pub no_site_small : (class : ℕ) → IsClassOf size class → HasNoOpen parts class → HasNoFitSlab (slab_view (tables_view (bounds_of words) (tables_of words))) class → HasNoFit (IsFree set) 4 → HasNoSite (tables_view (bounds_of words) (tables_of words)) size
     no_site_small class least none no_fit no_run = grind (arith, HasNoFit-same)
 
 -- what a root names

@@ -1,6 +1,6 @@
 -- What a malloc takes of the stacks, and what a free puts back, is what the placement says.
 use Rattle.std.proofs.Common.{◌≡◌, ◌≢◌, ◌==◌, not, ℕ, ◌+◌, ◌*◌, ◌<◌, ◌≤◌, ◌⊎◌, ◌↔◌, Bool, true, false, [], Option, Some, None, if◌then◌else◌, sym, ap, ◌∙◌, subst, arith, inl, inr, ⊎_elim}
-use Rattle.arena_core.proofs.Common.{cases_lt, class_size, class_capacity, class_size-rises, Bounds, Range, Machine, with_key, slab_block, IsUnused, IsFreeGranule, IsBestFit, IsBestSlab, HasNoFitSlab, view_of, class_known, class_in, stacks_of, Supply, supply_view, HasNoOpen, Tables, IsUnusedIn, stacks_but, IsPutBack, IsSuppliedFresh, IsSuppliedMorph, Stacks, without_left, IsReturned, AgreeOnBlocks, with_key-twice}
+use Rattle.arena_core.proofs.Common.{cases_lt, class_size, class_capacity, class_size-rises, Bounds, Range, Machine, with_key, slab_block, IsUnused, IsFreeGranule, IsBestFit, IsBestSlab, HasNoFitSlab, view_of, class_known, class_in, stacks_of, Supply, supply_view, HasNoOpen, Tables, IsUnusedIn, stacks_but, IsPutBack, IsSuppliedFresh, IsSuppliedMorph, Stacks, without_left, IsReturned, AgreeOnBlocks, with_key-twice, block_view, slab_view}
 use Rattle.std.specs.List.{filter}
 use Rattle.heap_model.specs.Machine.{IsBlockOf, IsOverlapFree}
 use Rattle.heap_model.specs.Slabs.{is_within}
@@ -10,9 +10,9 @@ use Rattle.block_supply.proofs.Ways.{refill_anew, way_anew}
 
 -- malloc
 
-module _ (b : Bounds) (m : Machine) (was next : Supply) (seat class : ℕ) (agree : AgreeOnBlocks (supply_view was) (view_of b m)) where
+module _ (b : Bounds) (m : Machine) (was next : Supply) (seat class : ℕ) (agree : AgreeOnBlocks (supply_view was) (block_view (view_of b m))) where
   -- the first one of a new slab
-  pub way_fresh : (start : ℕ) → HasNoOpen was class → HasNoFitSlab (view_of b m) class → IsSuppliedFresh was next seat start class → ((n : ℕ) → n < class_capacity class → IsUnused m (slab_block start class n)) → IsBestFit (IsFreeGranule b m) 4 start →
+  pub way_fresh : (start : ℕ) → HasNoOpen was class → HasNoFitSlab (slab_view (view_of b m)) class → IsSuppliedFresh was next seat start class → ((n : ℕ) → n < class_capacity class → IsUnused m (slab_block start class n)) → IsBestFit (IsFreeGranule b m) 4 start →
       IsWay b (record { machine = m; stacks = stacks_of was.stacks }) seat class (slab_block start class 0).at (stacks_of next.stacks)
   way_fresh start none no_fit fresh clear fit =
       let mid = fresh.mid in
@@ -21,7 +21,7 @@ module _ (b : Bounds) (m : Machine) (was next : Supply) (seat class : ℕ) (agre
       grind (arith, way_anew)
 
   -- one of a slab that takes the class
-  pub way_morph : (t : Tables) (start number : ℕ) → HasNoOpen was class → IsBestSlab (view_of b m) class start → IsSuppliedMorph t was next seat start class number →
+  pub way_morph : (t : Tables) (start number : ℕ) → HasNoOpen was class → IsBestSlab (slab_view (view_of b m)) class start → IsSuppliedMorph t was next seat start class number →
       ((n : ℕ) → n < class_capacity class → IsUnusedIn t start class n ↔ IsUnused m (slab_block start class n)) → IsWay b (record { machine = m; stacks = stacks_of was.stacks }) seat class (slab_block start class number).at (stacks_of next.stacks)
   way_morph t start number none best supplied unused =
       let mid = supplied.anew.mid in

@@ -5,7 +5,7 @@ use Rattle.image_tables.specs.Forms.{normal_kind}
 use Rattle.pmem_lines.specs.Pmem.{PmemState, words_of}
 use Rattle.image_tables.specs.Tables.{Tables, tables_of}
 use Rattle.heap_model.specs.Machine.{Bounds, Range, slab_block}
-use Rattle.heap_model.specs.Choice.{View, HasUnusedBlock, IsFit, IsBestSlab, IsFromGranules, IsFromSlab, IsFromNewSlab, HasNoSite}
+use Rattle.heap_model.specs.Choice.{View, HasUnusedBlock, IsFit, IsBestSlab, IsFromGranules, IsFromSlab, IsFromNewSlab, HasNoSite, block_view, slab_view}
 use Rattle.heap_check.specs.Heap.{IsUnusedIn}
 use Rattle.heap_check.specs.Sound.{IsInSlab}
 use Rattle.heap_check.specs.Image.{bounds_of}
@@ -60,8 +60,8 @@ pub record IsBlockAs (block : SmallBlock) (start class number : ℕ) : Type 0 wh
 -- a slab is the one that takes a class for a request: whichever unused block of it is given, that is a site
 pub record IsFromFit (v : View) (size start class : ℕ) : Type 0 where
   pub least : IsClassOf size class
-  pub full : ¬ (HasUnusedBlock v class)
-  pub best : IsBestSlab v class start
+  pub full : ¬ (HasUnusedBlock (block_view v) class)
+  pub best : IsBestSlab (slab_view v) class start
 
 -- a request has a site at a place
 abbrev pub HasSiteAt : View → ℕ → Place → Type 0

@@ -2,7 +2,7 @@
 ghost use Rattle.std.specs.Prelude.{MatchOption, ◌<◌};
 ghost use Rattle.pmem_lines.specs.Pmem.{words_of};
 ghost use Rattle.image_tables.specs.Tables.{tables_of};
-ghost use Rattle.heap_model.specs.Choice.{IsBestSlab, HasNoFitSlab};
+ghost use Rattle.heap_model.specs.Choice.{IsBestSlab, HasNoFitSlab, slab_view};
 ghost use Rattle.heap_check.specs.Image.{bounds_of, IsExactImage};
 ghost use Rattle.arena_core.specs.Arena.{AreLivesOf};
 ghost use Rattle.heap_check.specs.Views.{tables_view};
@@ -20,7 +20,7 @@ pub(crate) fn best_slab<P: Pmem>(device: &P, lives: &SlabLives, class: u8) -> Op
     requires exact { IsExactImage (words_of (P.state device.now)) }
     requires lives { AreLivesOf lives.now (words_of (P.state device.now)) }
     requires class { class < 36 }
-    ensures { let b = bounds_of (words_of (P.state device.now)) in let t = tables_of (words_of (P.state device.now)) in MatchOption result (HasNoFitSlab (tables_view b t) class) (λ start. IsBestSlab (tables_view b t) class start × IsMorphable t start class) }
+    ensures { let b = bounds_of (words_of (P.state device.now)) in let t = tables_of (words_of (P.state device.now)) in MatchOption result (HasNoFitSlab (slab_view (tables_view b t)) class) (λ start. IsBestSlab (slab_view (tables_view b t)) class start × IsMorphable t start class) }
 {
     let mut next = lives.first(class);
     while let Some(slab) = next {

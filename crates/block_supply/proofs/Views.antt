@@ -1,26 +1,26 @@
 -- A seat is served the same by views that say the same of slabs and unused blocks.
 use Rattle.std.proofs.Common.{◌≡◌, ◌↔◌, ℕ, ◌<◌, ◌∷◌, Some, sym, ◌∙◌, ⊎_elim, inl, inr}
 use Rattle.size_classes.specs.Classes.{class_capacity}
-use Rattle.heap_model.specs.Choice.{View}
+use Rattle.heap_model.specs.Choice.{BlockView}
 use Rattle.heap_model.specs.Placement.{Stacks, IsAvailable, HasAvailable, IsRefill}
 use Rattle.heap_model.proofs.Lowest.{AreLowest-same}
 use Rattle.block_supply.specs.Supply.{IsServed}
 
 -- two views say the same of slabs, and of which of their blocks are unused
-pub record AgreeOnBlocks (v w : View) : Type 0 where
+pub record AgreeOnBlocks (v w : BlockView) : Type 0 where
   pub slab : (s : ℕ) → v.slab s ≡ w.slab s
   pub unused : (s c number : ℕ) → v.slab s ≡ Some c → number < class_capacity c → v.unused s c number ↔ w.unused s c number
 
-pub AgreeOnBlocks-back : (v w : View) → AgreeOnBlocks v w → AgreeOnBlocks w v
+pub AgreeOnBlocks-back : (v w : BlockView) → AgreeOnBlocks v w → AgreeOnBlocks w v
 AgreeOnBlocks-back v w agree = record { slab = λ s. sym (agree.slab s); unused = λ s c number slab within. let same = agree.unused s c number (agree.slab s ∙ slab) within in (same.1, same.0) }
 
-available_by : (v w : View) → AgreeOnBlocks v w → (stacks : Stacks) (s c number : ℕ) → v.slab s ≡ Some c → IsAvailable v stacks s c number → IsAvailable w stacks s c number
+available_by : (v w : BlockView) → AgreeOnBlocks v w → (stacks : Stacks) (s c number : ℕ) → v.slab s ≡ Some c → IsAvailable v stacks s c number → IsAvailable w stacks s c number
 available_by v w agree stacks s c number slab is = record { block = record { within = is.block.within; unused = (agree.unused s c number slab is.block.within).0 is.block.unused }; loose = is.loose }
 
-pub HasAvailable-by : (v w : View) → AgreeOnBlocks v w → (stacks : Stacks) (c : ℕ) → HasAvailable v stacks c → HasAvailable w stacks c
+pub HasAvailable-by : (v w : BlockView) → AgreeOnBlocks v w → (stacks : Stacks) (c : ℕ) → HasAvailable v stacks c → HasAvailable w stacks c
 HasAvailable-by v w agree stacks c has = record { start = has.start; slab = sym (agree.slab has.start) ∙ has.slab; number = has.number; available = available_by v w agree stacks has.start c has.number has.slab has.available }
 
-pub IsRefill-by : (v w : View) → AgreeOnBlocks v w → (stacks : Stacks) (seat class at : ℕ) (after : Stacks) → IsRefill v stacks seat class at after → IsRefill w stacks seat class at after
+pub IsRefill-by : (v w : BlockView) → AgreeOnBlocks v w → (stacks : Stacks) (seat class at : ℕ) (after : Stacks) → IsRefill v stacks seat class at after → IsRefill w stacks seat class at after
 IsRefill-by v w agree stacks seat class at after refill =
     let slab = sym (agree.slab refill.start) ∙ refill.slab in
     record {
@@ -35,7 +35,7 @@ IsRefill-by v w agree stacks seat class at after refill =
       after_is = refill.after_is;
     }
 
-pub IsServed-by : (v w : View) → AgreeOnBlocks v w → (stacks : Stacks) (seat class at : ℕ) (after : Stacks) → IsServed v stacks seat class at after → IsServed w stacks seat class at after
+pub IsServed-by : (v w : BlockView) → AgreeOnBlocks v w → (stacks : Stacks) (seat class at : ℕ) (after : Stacks) → IsServed v stacks seat class at after → IsServed w stacks seat class at after
 IsServed-by v w agree stacks seat class at after served = ⊎_elim
     (λ own. inl own)
     (λ rest. inr (

@@ -1,6 +1,7 @@
 -- What a malloc takes of the stacks is one of the ways of the placement.
 use Rattle.std.proofs.Common.{◌≡◌, ◌≢◌, ◌==◌, ℕ, ◌<◌, ◌⊎◌, ◌↔◌, [], Option, Some, if◌then◌else◌, sym, ap, ◌∙◌, subst, arith, inl, inr, ⊎_elim}
 use Rattle.heap_model.specs.Machine.{Bounds, Machine, with_key, slab_block, IsUnused}
+use Rattle.heap_model.specs.Choice.{block_view}
 use Rattle.heap_model.specs.Slabs.{view_of}
 use Rattle.heap_model.specs.Placement.{with_class, IsRefill, IsMorphRefill, IsNewRefill, IsWay}
 use Rattle.block_supply.proofs.Takes.{no_top}
@@ -13,13 +14,13 @@ use Rattle.slab_index.specs.SlabSet.{class_in}
 use Rattle.thread_cache.specs.Stacks.{stacks_of}
 use Rattle.block_supply.specs.Supply.{Supply, IsOpen, supply_view, TookBlock, HasNoOpen}
 
-module _ (b : Bounds) (m : Machine) (was next : Supply) (seat class : ℕ) (agree : AgreeOnBlocks (supply_view was) (view_of b m)) where
+module _ (b : Bounds) (m : Machine) (was next : Supply) (seat class : ℕ) (agree : AgreeOnBlocks (supply_view was) (block_view (view_of b m))) where
   -- a block that is there
   pub way_there : (block : SlabBlock) → TookBlock was seat class block next → IsWay b (record { machine = m; stacks = stacks_of was.stacks }) seat class (slab_block block.start class block.number).at (stacks_of next.stacks)
   way_there block took = ⊎_elim
       (λ own. inl own)
       (λ rest. inr (rest.0, ⊎_elim (λ some. inl some) (λ none. inr (none.0, inl none.1)) rest.1))
-      (IsServed-by (supply_view was) (view_of b m) agree (stacks_of was.stacks) seat class (slab_block block.start class block.number).at (stacks_of next.stacks) took.served)
+      (IsServed-by (supply_view was) (block_view (view_of b m)) agree (stacks_of was.stacks) seat class (slab_block block.start class block.number).at (stacks_of next.stacks) took.served)
 
   -- where no block of the class is open, a slab takes the class or is made for it
   pub way_anew : HasNoOpen was class → (at : ℕ) → IsMorphRefill b (record { machine = m; stacks = stacks_of was.stacks }) seat class at (stacks_of next.stacks) ⊎ IsNewRefill b (record { machine = m; stacks = stacks_of was.stacks }) seat class at (stacks_of next.stacks) →
@@ -31,7 +32,7 @@ module _ (b : Bounds) (m : Machine) (was next : Supply) (seat class : ℕ) (agre
       (here : (n : ℕ) → n < class_capacity class → IsOpen mid start n ↔ IsUnused m (slab_block start class n)) (others : (s n : ℕ) → s ≢ start → IsOpen mid s n ↔ IsOpen was s n)
       (bare : (other : ℕ) → stacks_of mid.stacks other class ≡ []) where
     -- with it the views agree still
-    agree_more : AgreeOnBlocks (supply_view mid) (view_of b (with_class m start class))
+    agree_more : AgreeOnBlocks (supply_view mid) (block_view (view_of b (with_class m start class)))
     agree_more = record {
       slab = λ s. classes s ∙ ap (λ (x : Option ℕ). if s == start then Some class else x) (agree.slab s);
       unused = λ s c n slab within. ⊎_elim
@@ -50,5 +51,5 @@ module _ (b : Bounds) (m : Machine) (was next : Supply) (seat class : ℕ) (agre
     }
 
     -- so the seat is given a block of it by a refill
-    pub refill_anew : TookBlock mid seat class (record { start = start; number = number }) next → IsRefill (view_of b (with_class m start class)) (stacks_of mid.stacks) seat class (slab_block start class number).at (stacks_of next.stacks)
+    pub refill_anew : TookBlock mid seat class (record { start = start; number = number }) next → IsRefill (block_view (view_of b (with_class m start class))) (stacks_of mid.stacks) seat class (slab_block start class number).at (stacks_of next.stacks)
     refill_anew took = grind (arith, IsRefill-by, agree_more, no_top)

@@ -3,7 +3,7 @@
 use Rattle.std.specs.Prelude.{◌≡◌, ◌≢◌, ◌⊎◌, ◌↔◌, ℕ, ◌+◌, ◌<◌, ◌≤◌, true, [], ◌∷◌, length, Option, Some, None}
 use Rattle.size_classes.specs.Classes.{class_capacity}
 use Rattle.heap_model.specs.Machine.{with_key, slab_block}
-use Rattle.heap_model.specs.Choice.{View}
+use Rattle.heap_model.specs.Choice.{BlockView}
 use Rattle.heap_model.specs.Step.{First}
 use Rattle.heap_model.specs.Placement.{Stacks, with_stack, without_slab, Has, IsInNoStack, HasAvailable, IsRefill, HasTop, HasStacked, IsPop}
 use Rattle.slab_index.specs.declared.block.SlabBlock.{SlabBlock}
@@ -75,13 +75,13 @@ pub record IsWith (old new : Supply) (start number : ℕ) : Type 0 where
   pub here : IsOpen new start number
   pub others : (s i : ℕ) → (s ≢ start) ⊎ (i ≢ number) → IsOpen new s i ↔ IsOpen old s i
 
--- the view of a supply: of free granules it knows nothing, and no slab takes another class
-abbrev pub supply_view : Supply → View
-supply_view supply = record { free = λ k. ⊥; slab = class_in supply.slabs; unused = λ s c number. IsOpen supply s number; live = λ s. 0; in_transition = λ s. ⊥ }
+-- the slabs of a supply, and its open blocks
+abbrev pub supply_view : Supply → BlockView
+supply_view supply = record { slab = class_in supply.slabs; unused = λ s c number. IsOpen supply s number }
 
 -- the address that a seat is given of a class, and the stacks after it, as the placement says where no slab takes the class
 -- or is made for it: the top of the seat's own stack, or of a refill, or of the stack of the lowest-numbered seat
-abbrev pub IsServed : View → Stacks → (seat class at : ℕ) → Stacks → Type 0
+abbrev pub IsServed : BlockView → Stacks → (seat class at : ℕ) → Stacks → Type 0
 IsServed v stacks seat class at after =
     First (HasTop stacks seat class) (λ top. IsPop top at after)
     (First (HasAvailable v stacks class) (λ _. IsRefill v stacks seat class at after)

@@ -2,7 +2,7 @@
 use Rattle.std.proofs.Common.{◌≡◌, ◌≢◌, ◌⊎◌, ◌<◌, ◌≤◌, ◌+◌, ℕ, Some, None, if◌then◌else◌, refl, sym, ap, ◌∙◌, arith, inl, inr, ⊎_elim, lit<, lit≤}
 use Rattle.size_classes.specs.Classes.{sizes, class_size, class_capacity}
 use Rattle.heap_model.specs.Machine.{Bounds, Range, Machine, LiesIn, AreApart, no_heap, with_key, slab_block}
-use Rattle.heap_model.specs.Choice.{IsFit, IsBestSlab, range_of}
+use Rattle.heap_model.specs.Choice.{IsFit, IsBestSlab, range_of, slab_view}
 use Rattle.heap_model.specs.Choice.Site.{Granules, InSlab, InNewSlab}
 use Rattle.heap_model.specs.Slabs.{live_below, begins_in, view_of}
 use Rattle.heap_model.specs.Step.{with_block}
@@ -87,7 +87,7 @@ module _ (roots : ℕ) (many : 2001 ≤ roots) where
     apart : AreApart (slab_block s 19 1) range
 
   -- with two blocks at most, a slab where that is so of all is fit for class 19, that of 1000 bytes
-  fit_with : (m : Machine) (s d : ℕ) → m.slab s ≡ Some d → 19 ≢ d → 10 ≤ class_capacity d → 1 < class_capacity 19 → count m s ≤ 2 → EachBlock m (λ root. IsBeside s d) → IsFit (view_of b m) 19 s
+  fit_with : (m : Machine) (s d : ℕ) → m.slab s ≡ Some d → 19 ≢ d → 10 ≤ class_capacity d → 1 < class_capacity 19 → count m s ≤ 2 → EachBlock m (λ root. IsBeside s d) → IsFit (slab_view (view_of b m)) 19 s
   fit_with m s d slab differs holds within few each = record {
     class = d;
     slab = slab;
@@ -102,7 +102,7 @@ module _ (roots : ℕ) (many : 2001 ≤ roots) where
   }
 
   -- both are fit
-  fit_first : (m : Machine) → EachBlock m IsEither → m.slab 4 ≡ Some 3 → count m 4 ≤ 2 → IsFit (view_of b m) 19 4
+  fit_first : (m : Machine) → EachBlock m IsEither → m.slab 4 ≡ Some 3 → count m 4 ≤ 2 → IsFit (slab_view (view_of b m)) 19 4
   unfolding class_size sizes
   fit_first m each slab few = fit_with m 4 3 slab (λ same. omega (arith, same)) (lit≤ tt) (lit< tt) few (record {
     each = λ root range named. in_first m each root range named
@@ -110,7 +110,7 @@ module _ (roots : ℕ) (many : 2001 ≤ roots) where
         (λ far. record { size = λ lies. absurd (omega (arith, far, lies.high)); apart = inl (omega (arith, far)) });
   })
 
-  fit_second : (m : Machine) → EachBlock m IsEither → m.slab 8 ≡ Some 6 → count m 8 ≡ 1 → IsFit (view_of b m) 19 8
+  fit_second : (m : Machine) → EachBlock m IsEither → m.slab 8 ≡ Some 6 → count m 8 ≡ 1 → IsFit (slab_view (view_of b m)) 19 8
   unfolding class_size sizes
   fit_second m each slab few = fit_with m 8 6 slab (λ same. omega (arith, same)) (lit≤ tt) (lit< tt) (omega (arith, few)) (record {
     each = λ root range named. in_second m each root range named
@@ -120,19 +120,19 @@ module _ (roots : ℕ) (many : 2001 ≤ roots) where
   })
 
   -- among equals the lowest is the best, and else the one with the fewest live blocks
-  lowest_of_equals : IsBestSlab (view_of b even) 19 4
+  lowest_of_equals : IsBestSlab (slab_view (view_of b even)) 19 4
   lowest_of_equals = record {
     fit = fit_first even each_even refl (omega (arith, counts.0));
     fewest = λ t fit. ⊎_elim (λ here. omega (arith, ap (count even) here)) (λ there. omega (arith, ap (count even) there, counts.0, counts.1)) (slab_either t fit.class fit.slab);
     lowest = λ t fit same. ⊎_elim (λ here. omega (arith, here)) (λ there. omega (arith, there)) (slab_either t fit.class fit.slab);
   }
 
-  fewest_first : IsBestSlab (view_of b uneven) 19 8
+  fewest_first : IsBestSlab (slab_view (view_of b uneven)) 19 8
   fewest_first = record {
     fit = fit_second uneven each_uneven refl counts.3;
     fewest = λ t fit. ⊎_elim (λ here. omega (arith, ap (count uneven) here, counts.2, counts.3)) (λ there. omega (arith, ap (count uneven) there)) (slab_either t fit.class fit.slab);
     lowest = λ t fit same. ⊎_elim (λ here. absurd (omega (arith, ap (count uneven) here, same, counts.2, counts.3))) (λ there. omega (arith, there)) (slab_either t fit.class fit.slab);
   }
 
-  first_still_fit : IsFit (view_of b uneven) 19 4
+  first_still_fit : IsFit (slab_view (view_of b uneven)) 19 4
   first_still_fit = fit_first uneven each_uneven refl (omega (arith, counts.2))

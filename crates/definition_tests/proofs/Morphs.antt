@@ -5,7 +5,7 @@ use Rattle.std.proofs.lemmas.Bool.{cases_lt}
 use native.Mathlib.Nat.{mul-le-mul_right}
 use Rattle.size_classes.specs.Classes.{class_size, class_capacity, IsClassOf}
 use Rattle.heap_model.specs.Machine.{Bounds, Range, Machine, no_heap, with_key, slab_block, LiesIn, AreApart, IsUnused, IsFreeGranule}
-use Rattle.heap_model.specs.Choice.{IsUnusedBlock, HasUnusedBlock, range_of, IsSite, HasNoSite}
+use Rattle.heap_model.specs.Choice.{IsUnusedBlock, HasUnusedBlock, range_of, IsSite, HasNoSite, block_view}
 use Rattle.heap_model.specs.Choice.Site.{Granules, InSlab, InMorph, InNewSlab}
 use Rattle.heap_model.specs.Slabs.{live_below, begins_in, IsInTransition, view_of}
 use Rattle.heap_model.specs.Step.{with_block}
@@ -105,14 +105,14 @@ module _ (roots d n : ℕ) (some : 0 < class_size d) (within : n < class_capacit
   live : live_below (filled d n).block 12 roots ≡ n + 1
   live = live_filled roots d n some within few
 
-  not_full : (c : ℕ) → c ≢ d → ¬ (HasUnusedBlock (view_of (small roots) (filled d n)) c)
+  not_full : (c : ℕ) → c ≢ d → ¬ (HasUnusedBlock (block_view (view_of (small roots) (filled d n))) c)
   not_full c differ has = differ (sym (one_slab d n has.start c has.slab).1)
 
   -- at most 64 blocks, and at most a fifth of the capacity: the slab takes the class
   pub takes_class : (c j size : ℕ) → n + 1 ≤ 64 → 5 * (n + 1) ≤ class_capacity d → c ≢ d → IsClassOf size c → j < class_capacity c → (n + 1) * class_size d ≤ j * class_size c →
       IsSite (view_of (small roots) (filled d n)) size (InMorph 12 c j)
   takes_class c j size most fifth differ least inside behind =
-      let block : IsUnusedBlock (view_of (small roots) (filled d n)) 12 c j = record { within = inside; unused = unused_behind d n c j behind } in
+      let block : IsUnusedBlock (block_view (view_of (small roots) (filled d n))) 12 c j = record { within = inside; unused = unused_behind d n c j behind } in
       record {
         least = least;
         full = not_full c differ;

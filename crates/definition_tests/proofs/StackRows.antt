@@ -4,7 +4,7 @@ use Rattle.size_classes.specs.Classes.{sizes, class_size, IsClassOf}
 use Rattle.heap_model.specs.declared.call.Call.TheVariants.{Malloc}
 use Rattle.heap_model.specs.declared.call.Reply.TheVariants.{Placed}
 use Rattle.heap_model.specs.Machine.{Bounds, Range, no_heap, slab_block, AreApart, IsUnused}
-use Rattle.heap_model.specs.Choice.{IsFromNewSlab, range_of}
+use Rattle.heap_model.specs.Choice.{IsFromNewSlab, range_of, block_view}
 use Rattle.heap_model.specs.Choice.Site.{Granules, InSlab, InMorph, InNewSlab}
 use Rattle.heap_model.specs.Slabs.{view_of}
 use Rattle.heap_model.specs.Step.{with_block}
@@ -76,10 +76,10 @@ module _ (roots : ℕ) (many : 2001 ≤ roots) where
     );
   }
     where
-      free : (n : ℕ) → 1 ≤ n → n < 62 → IsAvailable (view_of b (with_class (filled 3 0) 12 19)) no_stacks 12 19 n
+      free : (n : ℕ) → 1 ≤ n → n < 62 → IsAvailable (block_view (view_of b (with_class (filled 3 0) 12 19))) no_stacks 12 19 n
       free n low high = record { block = record { within = high; unused = record { each = (unused_behind 3 0 19 n (omega (arith, low))).each } }; loose = record { none = λ seat class has. has } }
 
-      next : (n : ℕ) → 1 ≤ n → n < 62 → IsNext (IsAvailable (view_of b (with_class (filled 3 0) 12 19)) no_stacks 12 19) n n
+      next : (n : ℕ) → 1 ≤ n → n < 62 → IsNext (IsAvailable (block_view (view_of b (with_class (filled 3 0) 12 19))) no_stacks 12 19) n n
       next n low high = record { from = omega arith; passes = free n low high; first = λ lower from less. absurd (omega (arith, from, less)) }
 
       hidden : ¬ (IsUnused (with_class (filled 3 0) 12 19) (slab_block 12 19 0))
@@ -158,7 +158,7 @@ module _ (roots : ℕ) (many : 2001 ≤ roots) where
           (λ there. absurd (let none = there.1 in cc))
           (with_key-cases no_heap.block 0 root (Some (range_of (Granules 4 8))) (Some range) named)
 
-      next : (n : ℕ) → n < 3 → IsNext (IsAvailable (view_of b (with_class packed 12 35)) no_stacks 12 35) n n
+      next : (n : ℕ) → n < 3 → IsNext (IsAvailable (block_view (view_of b (with_class packed 12 35))) no_stacks 12 35) n n
       next n high = record {
         from = omega arith;
         passes = record { block = record { within = high; unused = record { each = apart n } }; loose = record { none = λ seat class has. has } };
@@ -176,14 +176,14 @@ module _ (roots : ℕ) (many : 2001 ≤ roots) where
       inr (
         λ top. absurd (let is = top.is in cc),
         inr (
-          λ has. none has.number (subst (λ (s : ℕ). IsAvailable (view_of b (filled 35 0)) kept s 35 has.number) (one_slab 35 0 has.start 35 has.slab).0 has.available),
+          λ has. none has.number (subst (λ (s : ℕ). IsAvailable (block_view (view_of b (filled 35 0))) kept s 35 has.number) (one_slab 35 0 has.start 35 has.slab).0 has.available),
           inl (record { seat = 0; first = record { top = record { top = 215040; rest = 231424 ∷ []; is = refl }; first = λ other less. absurd (omega (arith, less)) } }, (refl, refl)),
         ),
       ),
     );
   }
     where
-      none : (n : ℕ) → ¬ (IsAvailable (view_of b (filled 35 0)) kept 12 35 n)
+      none : (n : ℕ) → ¬ (IsAvailable (block_view (view_of b (filled 35 0))) kept 12 35 n)
       none zero has = absurd (⊎_elim (λ x. omega (arith, x)) (λ x. omega (arith, x)) (has.block.unused.each 1 (slab_block 12 35 0) refl))
       none (suc zero) has = absurd (has.loose.none 0 35 (inl refl))
       none (suc (suc zero)) has = absurd (has.loose.none 0 35 (inr (inl refl)))

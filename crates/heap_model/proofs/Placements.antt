@@ -8,7 +8,7 @@ use Rattle.heap_model.specs.declared.call.Reply.{Reply}
 use Rattle.heap_model.specs.declared.call.Reply.TheVariants.{Placed, Freed}
 use Rattle.heap_model.specs.declared.call.Entry.{Entry}
 use Rattle.heap_model.specs.Machine.{Bounds, Range, Machine, slab_block, IsBlockOf, IsFreeGranule}
-use Rattle.heap_model.specs.Choice.{View}
+use Rattle.heap_model.specs.Choice.{View, block_view}
 use Rattle.heap_model.specs.Slabs.{view_of}
 use Rattle.heap_model.specs.Placement.{Stacks, PlacedState, with_stack, without_slab, without_left, with_class, addresses, IsAvailable, IsNext, AreLowest, IsRefill, HasTop, IsFirstSeat, HasStacked, IsPop, IsMorphRefill, IsNewRefill, IsWay, GaveSmall, IsKeepable, IsReturned, IsStacked, IsPlacedStep}
 use Rattle.heap_model.specs.Journal.{Leads, IsEntry, IsPlacedEntry, IsOfBlock, LawOfOneJournal}
@@ -42,12 +42,12 @@ head_of : List ℕ → ℕ
 head_of [] = 0
 head_of (top ∷ rest) = top
 
-refill_once : (v : View) (stacks : Stacks) (seat class at other : ℕ) (after later : Stacks) → IsRefill v stacks seat class at after → IsRefill v stacks seat class other later → AreOne at other after later
+refill_once : (v : View) (stacks : Stacks) (seat class at other : ℕ) (after later : Stacks) → IsRefill (block_view v) stacks seat class at after → IsRefill (block_view v) stacks seat class other later → AreOne at other after later
 unfolding head_of tail_of
 refill_once v stacks seat class at other after later one two =
     let start = neither_below one.start two.start (λ less. two.lowest one.start one.number less one.slab one.taken.1.passes) (λ less. one.lowest two.start two.number less two.slab two.taken.1.passes) in
-    let taken : AreLowest (IsAvailable v stacks one.start class) 0 8 (two.number ∷ two.rest) = subst (λ (s : ℕ). AreLowest (IsAvailable v stacks s class) 0 8 (two.number ∷ two.rest)) (sym start) two.taken in
-    let same = lowest_once (IsAvailable v stacks one.start class) 0 8 (one.number ∷ one.rest) (two.number ∷ two.rest) one.taken taken in (
+    let taken : AreLowest (IsAvailable (block_view v) stacks one.start class) 0 8 (two.number ∷ two.rest) = subst (λ (s : ℕ). AreLowest (IsAvailable (block_view v) stacks s class) 0 8 (two.number ∷ two.rest)) (sym start) two.taken in
+    let same = lowest_once (IsAvailable (block_view v) stacks one.start class) 0 8 (one.number ∷ one.rest) (two.number ∷ two.rest) one.taken taken in (
       one.is ∙ (λ i. (slab_block (start i) class (head_of (same i))).at) ∙ sym two.is,
       one.after_is ∙ (λ i. with_stack stacks seat class (addresses (start i) class (tail_of (same i)))) ∙ sym two.after_is,
     )
@@ -80,7 +80,7 @@ module _ (b : Bounds) (was : PlacedState) (seat class : ℕ) where
       (λ (also : IsMorphRefill b was seat class other later).
       let start = best_slab_once (view_of b was.machine) class also.start morph.start also.best morph.best in
       refill_once (view_of b (with_class was.machine morph.start class)) (without_slab was.stacks morph.start) seat class at other after later morph.refill
-      (subst (λ (s : ℕ). IsRefill (view_of b (with_class was.machine s class)) (without_slab was.stacks s) seat class other later) start also.refill))
+      (subst (λ (s : ℕ). IsRefill (block_view (view_of b (with_class was.machine s class))) (without_slab was.stacks s) seat class other later) start also.refill))
       (λ (new : IsNewRefill b was seat class other later). absurd (new.no_fit.none morph.start morph.best.fit))
       two)
       (λ (new : IsNewRefill b was seat class at after). ⊎_elim
@@ -88,7 +88,7 @@ module _ (b : Bounds) (was : PlacedState) (seat class : ℕ) where
       (λ (also : IsNewRefill b was seat class other later).
       let start = best_once (IsFreeGranule b was.machine) 4 also.start new.start also.fit new.fit in
       refill_once (view_of b (with_class was.machine new.start class)) was.stacks seat class at other after later new.refill
-      (subst (λ (s : ℕ). IsRefill (view_of b (with_class was.machine s class)) was.stacks seat class other later) start also.refill))
+      (subst (λ (s : ℕ). IsRefill (block_view (view_of b (with_class was.machine s class))) was.stacks seat class other later) start also.refill))
       two)
       one
 

@@ -12,7 +12,7 @@ use Rattle.heap_model.specs.Machine.{Bounds, Machine, slab_block, with_key}
 use Rattle.heap_model.specs.Slabs.{view_of}
 use Rattle.heap_model.specs.Step.{IsRefused, IsGrant, with_block, IsStep}
 use Rattle.heap_model.specs.Runs.{IsFreeRun, IsBestFit}
-use Rattle.heap_model.specs.Choice.{View, HasUnusedBlock, IsBestSlab, Site, range_of, slabs_with, IsSite, HasNoSite}
+use Rattle.heap_model.specs.Choice.{View, HasUnusedBlock, IsBestSlab, Site, range_of, slabs_with, IsSite, HasNoSite, block_view, slab_view}
 use Rattle.heap_model.specs.Choice.Site.{Granules, InSlab, InMorph, InNewSlab}
 
 -- the best fit is one
@@ -48,7 +48,7 @@ pub class_small : (size c : ℕ) → IsClassOf size c → 16384 < size → ⊥
 class_small size c least large = omega (arith, least.holds, class_size-most c least.is_class)
 
 -- the best slab is one
-pub best_slab_once : (v : View) (c s t : ℕ) → IsBestSlab v c s → IsBestSlab v c t → s ≡ t
+pub best_slab_once : (v : View) (c s t : ℕ) → IsBestSlab (slab_view v) c s → IsBestSlab (slab_view v) c t → s ≡ t
 best_slab_once v c s t one two =
     let same : v.live t ≡ v.live s = omega (arith, one.fewest t two.fit, two.fewest s one.fit) in
     omega (arith, one.lowest t two.fit same, two.lowest s one.fit (sym same))
@@ -67,12 +67,12 @@ slab_once slab s t c d start class = λ k. with_key slab (start k) (Some (class 
 
 module _ (v : View) (size : ℕ) where
   -- no class has an unused block and has none
-  full_not : (c d : ℕ) → IsClassOf size c → IsClassOf size d → HasUnusedBlock v c → ¬ (HasUnusedBlock v d) → ⊥
-  full_not c d one two has full = full (subst (λ (k : ℕ). HasUnusedBlock v k) (class_once size c d one two) has)
+  full_not : (c d : ℕ) → IsClassOf size c → IsClassOf size d → HasUnusedBlock (block_view v) c → ¬ (HasUnusedBlock (block_view v) d) → ⊥
+  full_not c d one two has full = full (subst (λ (k : ℕ). HasUnusedBlock (block_view v) k) (class_once size c d one two) has)
 
   -- nor a best slab where none is fit, and the best slabs of two least classes are one
-  best_same : (c d s t : ℕ) → IsClassOf size c → IsClassOf size d → IsBestSlab v c s → IsBestSlab v d t → s ≡ t
-  best_same c d s t one two best other = best_slab_once v c s t best (subst (λ (k : ℕ). IsBestSlab v k t) (sym (class_once size c d one two)) other)
+  best_same : (c d s t : ℕ) → IsClassOf size c → IsClassOf size d → IsBestSlab (slab_view v) c s → IsBestSlab (slab_view v) d t → s ≡ t
+  best_same c d s t one two best other = best_slab_once v c s t best (subst (λ (k : ℕ). IsBestSlab (slab_view v) k t) (sym (class_once size c d one two)) other)
 
   pub site_once : (one other : Site) → IsSite v size one → IsSite v size other → ((class : ℕ) → IsClassOf size class → (range_of one).at ≡ (range_of other).at) → AreOne v.slab one other
   site_once (Granules s n) (Granules t k) a c at =
@@ -93,8 +93,8 @@ module _ (v : View) (size : ℕ) where
   site_once (InMorph s e i) (InMorph t d j) a c at =
       let class = class_once size e d a.least c.least in
       (block_once s t e d i j (at e a.least) class, slab_once v.slab s t e d (best_same e d s t a.least c.least a.best c.best) class)
-  site_once (InMorph s e i) (InNewSlab t d j) a c at = absurd (c.no_fit.none s (subst (λ (k : ℕ). IsBestSlab v k s) (class_once size e d a.least c.least) a.best).fit)
-  site_once (InNewSlab s e i) (InMorph t d j) a c at = absurd (a.no_fit.none t (subst (λ (k : ℕ). IsBestSlab v k t) (class_once size d e c.least a.least) c.best).fit)
+  site_once (InMorph s e i) (InNewSlab t d j) a c at = absurd (c.no_fit.none s (subst (λ (k : ℕ). IsBestSlab (slab_view v) k s) (class_once size e d a.least c.least) a.best).fit)
+  site_once (InNewSlab s e i) (InMorph t d j) a c at = absurd (a.no_fit.none t (subst (λ (k : ℕ). IsBestSlab (slab_view v) k t) (class_once size d e c.least a.least) c.best).fit)
   site_once (InNewSlab s e i) (InNewSlab t d j) a c at =
       let class = class_once size e d a.least c.least in
       (block_once s t e d i j (at e a.least) class, slab_once v.slab s t e d (best_once v.free 4 s t a.fit c.fit) class)
@@ -110,7 +110,7 @@ module _ (v : View) (size : ℕ) where
       (λ large. class_small size c is.least large.large)
       none
   site_apart (InMorph s c i) is none = ⊎_elim
-      (λ small. small.no_fit.none s (subst (λ (k : ℕ). IsBestSlab v k s) (class_once size c small.class is.least small.least) is.best).fit)
+      (λ small. small.no_fit.none s (subst (λ (k : ℕ). IsBestSlab (slab_view v) k s) (class_once size c small.class is.least small.least) is.best).fit)
       (λ large. class_small size c is.least large.large)
       none
   site_apart (InNewSlab s c i) is none = ⊎_elim

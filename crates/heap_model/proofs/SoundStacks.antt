@@ -11,7 +11,7 @@ use Rattle.heap_model.specs.declared.call.Reply.TheVariants.{Placed, Freed}
 use Rattle.heap_model.specs.declared.call.Entry.{Entry}
 use Rattle.heap_model.specs.Machine.{Bounds, Range, Machine, with_key, slab_block, AreApart, IsUnused, IsFreeGranule, IsOverlapFree}
 use Rattle.heap_model.specs.Runs.{IsFreeRow}
-use Rattle.heap_model.specs.Choice.{HasUnusedBlock, IsBestSlab, Site, range_of, IsSite, IsFromGranules}
+use Rattle.heap_model.specs.Choice.{HasUnusedBlock, IsBestSlab, Site, range_of, IsSite, IsFromGranules, block_view, slab_view}
 use Rattle.heap_model.specs.Choice.Site.{Granules, InSlab, InMorph, InNewSlab}
 use Rattle.heap_model.specs.Slabs.{is_within, begins_in, live_below, view_of}
 use Rattle.heap_model.specs.Step.{with_block, with_moved, without_block, IsGrant}
@@ -112,9 +112,9 @@ module _ (m : Machine) (stacks : Stacks) (sound : AreSound (placed m stacks)) wh
       }))
 
   -- a slab gives up to eight of its available blocks, of which one is out
-  module _ (b : Bounds) (seat class at : ℕ) (after : Stacks) (is_seat : seat < 64) (fill : IsRefill (view_of b m) stacks seat class at after) where
+  module _ (b : Bounds) (seat class at : ℕ) (after : Stacks) (is_seat : seat < 64) (fill : IsRefill (block_view (view_of b m)) stacks seat class at after) where
     abbrev Passes : ℕ → Type 0
-    Passes = IsAvailable (view_of b m) stacks fill.start class
+    Passes = IsAvailable (block_view (view_of b m)) stacks fill.start class
 
     abbrev rest : List ℕ
     rest = addresses fill.start class fill.rest
@@ -177,7 +177,7 @@ module _ (m : Machine) (stacks : Stacks) (sound : AreSound (placed m stacks)) wh
       (first_of class n)
 
   -- where none is available and no stack of the class has one, no block of the class is unused
-  none_unused : (b : Bounds) (class : ℕ) → IsOverlapFree b m → ¬ (HasAvailable (view_of b m) stacks class) → ¬ (HasStacked stacks class) → ¬ (HasUnusedBlock (view_of b m) class)
+  none_unused : (b : Bounds) (class : ℕ) → IsOverlapFree b m → ¬ (HasAvailable (block_view (view_of b m)) stacks class) → ¬ (HasStacked stacks class) → ¬ (HasUnusedBlock (block_view (view_of b m)) class)
   none_unused b class free no_block no_stack has = no_block (record {
     start = has.start;
     slab = has.slab;
@@ -298,30 +298,30 @@ module _ (b : Bounds) (was : PlacedState) (free : IsOverlapFree b was.machine) (
         given b was.machine root c at s i after free (subst (λ (k : ℕ). IsOut was.machine k at after) (class_once size class c least is.least) out) at_is
     in_slab (InMorph s c i) is at_is out = absurd (is.full (unused c is.least out))
       where
-        unused : (c : ℕ) → IsClassOf size c → IsOut was.machine class at after → HasUnusedBlock (view_of b was.machine) c
-        unused c also out = subst (λ (k : ℕ). HasUnusedBlock (view_of b was.machine) k) (class_once size class c least also) (record { start = out.block.start; slab = out.block.slab; number = out.block.number; block = record { within = out.block.within; unused = out.block.unused } })
+        unused : (c : ℕ) → IsClassOf size c → IsOut was.machine class at after → HasUnusedBlock (block_view (view_of b was.machine)) c
+        unused c also out = subst (λ (k : ℕ). HasUnusedBlock (block_view (view_of b was.machine)) k) (class_once size class c least also) (record { start = out.block.start; slab = out.block.slab; number = out.block.number; block = record { within = out.block.within; unused = out.block.unused } })
     in_slab (InNewSlab s c i) is at_is out = absurd (is.full (unused c is.least out))
       where
-        unused : (c : ℕ) → IsClassOf size c → IsOut was.machine class at after → HasUnusedBlock (view_of b was.machine) c
-        unused c also out = subst (λ (k : ℕ). HasUnusedBlock (view_of b was.machine) k) (class_once size class c least also) (record { start = out.block.start; slab = out.block.slab; number = out.block.number; block = record { within = out.block.within; unused = out.block.unused } })
+        unused : (c : ℕ) → IsClassOf size c → IsOut was.machine class at after → HasUnusedBlock (block_view (view_of b was.machine)) c
+        unused c also out = subst (λ (k : ℕ). HasUnusedBlock (block_view (view_of b was.machine)) k) (class_once size class c least also) (record { start = out.block.start; slab = out.block.slab; number = out.block.number; block = record { within = out.block.within; unused = out.block.unused } })
 
     -- a slab takes the class
-    in_morph : (site : Site) → IsSite (view_of b was.machine) size site → at ≡ (range_of site).at → ¬ (HasUnusedBlock (view_of b was.machine) class) → IsMorphRefill b was seat class at after → Sound site
+    in_morph : (site : Site) → IsSite (view_of b was.machine) size site → at ≡ (range_of site).at → ¬ (HasUnusedBlock (block_view (view_of b was.machine)) class) → IsMorphRefill b was seat class at after → Sound site
     in_morph (Granules s n) is at_is none morph = absurd (class_small size class least is.large)
-    in_morph (InSlab s c i) is at_is none morph = absurd (none (subst (λ (k : ℕ). HasUnusedBlock (view_of b was.machine) k) (class_once size c class is.least least) (record { start = s; slab = is.slab; number = i; block = is.block })))
+    in_morph (InSlab s c i) is at_is none morph = absurd (none (subst (λ (k : ℕ). HasUnusedBlock (block_view (view_of b was.machine)) k) (class_once size c class is.least least) (record { start = s; slab = is.slab; number = i; block = is.block })))
     in_morph (InMorph s c i) is at_is none morph =
         let same = class_once size class c least is.least in
-        let start = best_slab_once (view_of b was.machine) c morph.start s (subst (λ (k : ℕ). IsBestSlab (view_of b was.machine) k morph.start) same morph.best) is.best in
+        let start = best_slab_once (view_of b was.machine) c morph.start s (subst (λ (k : ℕ). IsBestSlab (slab_view (view_of b was.machine)) k morph.start) same morph.best) is.best in
         let out = refilled (with_class was.machine morph.start class) (without_slab was.stacks morph.start) (classed was.machine was.stacks morph.start class sound) b seat class at after is_seat morph.refill in
         given b (with_class was.machine s c) root c at s i after (IsOverlapFree-morph b was.machine s c is.best.fit.class free is.best.fit.slab)
         (subst (λ (t : ℕ). IsOut (with_class was.machine t c) c at after) start (subst (λ (k : ℕ). IsOut (with_class was.machine morph.start k) k at after) same out)) at_is
-    in_morph (InNewSlab s c i) is at_is none morph = absurd (is.no_fit.none morph.start (subst (λ (k : ℕ). IsBestSlab (view_of b was.machine) k morph.start) (class_once size class c least is.least) morph.best).fit)
+    in_morph (InNewSlab s c i) is at_is none morph = absurd (is.no_fit.none morph.start (subst (λ (k : ℕ). IsBestSlab (slab_view (view_of b was.machine)) k morph.start) (class_once size class c least is.least) morph.best).fit)
 
     -- a slab is made
-    in_new_slab : (site : Site) → IsSite (view_of b was.machine) size site → at ≡ (range_of site).at → ¬ (HasUnusedBlock (view_of b was.machine) class) → IsNewRefill b was seat class at after → Sound site
+    in_new_slab : (site : Site) → IsSite (view_of b was.machine) size site → at ≡ (range_of site).at → ¬ (HasUnusedBlock (block_view (view_of b was.machine)) class) → IsNewRefill b was seat class at after → Sound site
     in_new_slab (Granules s n) is at_is none new = absurd (class_small size class least is.large)
-    in_new_slab (InSlab s c i) is at_is none new = absurd (none (subst (λ (k : ℕ). HasUnusedBlock (view_of b was.machine) k) (class_once size c class is.least least) (record { start = s; slab = is.slab; number = i; block = is.block })))
-    in_new_slab (InMorph s c i) is at_is none new = absurd (new.no_fit.none s (subst (λ (k : ℕ). IsBestSlab (view_of b was.machine) k s) (class_once size c class is.least least) is.best).fit)
+    in_new_slab (InSlab s c i) is at_is none new = absurd (none (subst (λ (k : ℕ). HasUnusedBlock (block_view (view_of b was.machine)) k) (class_once size c class is.least least) (record { start = s; slab = is.slab; number = i; block = is.block })))
+    in_new_slab (InMorph s c i) is at_is none new = absurd (new.no_fit.none s (subst (λ (k : ℕ). IsBestSlab (slab_view (view_of b was.machine)) k s) (class_once size c class is.least least) is.best).fit)
     in_new_slab (InNewSlab s c i) is at_is none new =
         let same = class_once size class c least is.least in
         let start = best_once (IsFreeGranule b was.machine) 4 new.start s new.fit is.fit in

@@ -1,7 +1,7 @@
 -- Two views that say the same have the same sites, and none for the same requests.
 use Rattle.std.proofs.Common.{◌≡◌, ◌↔◌, ◌<◌, ℕ, Some, sym, ◌∙◌, arith, ⊎_elim, inl, inr}
 use Rattle.size_classes.specs.Classes.{class_capacity, granules_of}
-use Rattle.heap_model.specs.Choice.{View, IsUnusedBlock, HasUnusedBlock, IsFit, IsBestSlab, HasNoFitSlab, Site, IsSite, HasNoSite}
+use Rattle.heap_model.specs.Choice.{View, IsUnusedBlock, HasUnusedBlock, IsFit, IsBestSlab, HasNoFitSlab, Site, IsSite, HasNoSite, block_view, slab_view}
 use Rattle.heap_model.specs.Choice.Site.{Granules, InSlab, InMorph, InNewSlab}
 use Rattle.heap_model.proofs.Fits.{IsBestFit-same, HasNoFit-same}
 
@@ -27,13 +27,13 @@ Agree-back v w agree = record {
 }
 
 module _ (v w : View) (agree : Agree v w) where
-  pub unused_block : (s class c number : ℕ) → v.slab s ≡ Some class → IsUnusedBlock v s c number → IsUnusedBlock w s c number
+  pub unused_block : (s class c number : ℕ) → v.slab s ≡ Some class → IsUnusedBlock (block_view v) s c number → IsUnusedBlock (block_view w) s c number
   unused_block s class c number slab block = record { within = block.within; unused = (agree.unused s class c number slab block.within).0 block.unused }
 
-  has_unused : (c : ℕ) → HasUnusedBlock v c → HasUnusedBlock w c
+  has_unused : (c : ℕ) → HasUnusedBlock (block_view v) c → HasUnusedBlock (block_view w) c
   has_unused c has = record { start = has.start; slab = sym (agree.slab has.start) ∙ has.slab; number = has.number; block = unused_block has.start c c has.number has.slab has.block }
 
-  pub fits : (c s : ℕ) → IsFit v c s → IsFit w c s
+  pub fits : (c s : ℕ) → IsFit (slab_view v) c s → IsFit (slab_view w) c s
   fits c s fit =
       let live = agree.live s in
       record {
@@ -51,17 +51,17 @@ module _ (v w : View) (agree : Agree v w) where
   back : Agree w v
   back = Agree-back v w agree
 
-  full : (c : ℕ) → ¬ (HasUnusedBlock v c) → ¬ (HasUnusedBlock w c)
+  full : (c : ℕ) → ¬ (HasUnusedBlock (block_view v) c) → ¬ (HasUnusedBlock (block_view w) c)
   full c none has = none (has_unused w v back c has)
 
-  pub best_slab : (c s : ℕ) → IsBestSlab v c s → IsBestSlab w c s
+  pub best_slab : (c s : ℕ) → IsBestSlab (slab_view v) c s → IsBestSlab (slab_view w) c s
   best_slab c s best = record {
     fit = fits v w agree c s best.fit;
     fewest = λ t fit. omega (arith, best.fewest t (fits w v back c t fit), agree.live s, agree.live t);
     lowest = λ t fit same. best.lowest t (fits w v back c t fit) (agree.live t ∙ same ∙ sym (agree.live s));
   }
 
-  pub no_fit_slab : (c : ℕ) → HasNoFitSlab v c → HasNoFitSlab w c
+  pub no_fit_slab : (c : ℕ) → HasNoFitSlab (slab_view v) c → HasNoFitSlab (slab_view w) c
   no_fit_slab c none = record { none = λ s fit. none.none s (fits w v back c s fit) }
 
   pub IsSite-same : (size : ℕ) (site : Site) → IsSite v size site → IsSite w size site

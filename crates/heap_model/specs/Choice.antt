@@ -17,15 +17,32 @@ pub record View : Type 1 where
   -- one of them has another size than that of the slab's class
   pub in_transition : ℕ → Type 0
 
+-- what is looked at where a block of a slab is taken: the slabs, and which of their blocks are unused
+pub record BlockView : Type 1 where
+  pub slab : ℕ → Option ℕ
+  pub unused : ℕ → ℕ → ℕ → Type 0
+
+-- what is looked at where a slab may take another class: those, and the live blocks of slabs
+pub record SlabView : Type 1 where
+  pub blocks : BlockView
+  pub live : ℕ → ℕ
+  pub in_transition : ℕ → Type 0
+
+abbrev pub block_view : View → BlockView
+block_view v = record { slab = v.slab; unused = v.unused }
+
+abbrev pub slab_view : View → SlabView
+slab_view v = record { blocks = block_view v; live = v.live; in_transition = v.in_transition }
+
 -- blocks of slabs
 
 -- block `number` of class c in the slab at s is one, and unused
-pub record IsUnusedBlock (v : View) (s c number : ℕ) : Type 0 where
+pub record IsUnusedBlock (v : BlockView) (s c number : ℕ) : Type 0 where
   pub within : number < class_capacity c
   pub unused : v.unused s c number
 
 -- a slab of class c has an unused block of its class
-pub record HasUnusedBlock (v : View) (c : ℕ) : Type 0 where
+pub record HasUnusedBlock (v : BlockView) (c : ℕ) : Type 0 where
   pub start : ℕ
   pub slab : v.slab start ≡ Some c
   pub number : ℕ
@@ -33,24 +50,24 @@ pub record HasUnusedBlock (v : View) (c : ℕ) : Type 0 where
 
 -- the slab at s is fit for class c: it is not in transition and has another class d; at most 64 blocks live in it, and at
 -- most a fifth of those that it holds; and some block of class c in it is unused
-pub record IsFit (v : View) (c s : ℕ) : Type 0 where
+pub record IsFit (v : SlabView) (c s : ℕ) : Type 0 where
   pub class : ℕ
-  pub slab : v.slab s ≡ Some class
+  pub slab : v.blocks.slab s ≡ Some class
   pub calm : ¬ (v.in_transition s)
   pub differs : c ≢ class
   pub few : v.live s ≤ 64
   pub sparse : 5 * v.live s ≤ class_capacity class
   pub number : ℕ
-  pub block : IsUnusedBlock v s c number
+  pub block : IsUnusedBlock v.blocks s c number
 
 -- the fit slab with the fewest live blocks, the lowest among equals
-pub record IsBestSlab (v : View) (c s : ℕ) : Type 0 where
+pub record IsBestSlab (v : SlabView) (c s : ℕ) : Type 0 where
   pub fit : IsFit v c s
   pub fewest : (t : ℕ) → IsFit v c t → v.live s ≤ v.live t
   pub lowest : (t : ℕ) → IsFit v c t → v.live t ≡ v.live s → s ≤ t
 
 -- no slab is fit for class c
-pub record HasNoFitSlab (v : View) (c : ℕ) : Type 0 where
+pub record HasNoFitSlab (v : SlabView) (c : ℕ) : Type 0 where
   pub none : (s : ℕ) → ¬ (IsFit v c s)
 
 -- sites
@@ -90,20 +107,20 @@ pub record IsFromGranules (v : View) (size start count : ℕ) : Type 0 where
 pub record IsFromSlab (v : View) (size start class number : ℕ) : Type 0 where
   pub least : IsClassOf size class
   pub slab : v.slab start ≡ Some class
-  pub block : IsUnusedBlock v start class number
+  pub block : IsUnusedBlock (block_view v) start class number
 
 -- where there is none, any unused one of the best slab that is fit for the class
 pub record IsFromMorph (v : View) (size start class number : ℕ) : Type 0 where
   pub least : IsClassOf size class
-  pub full : ¬ (HasUnusedBlock v class)
-  pub best : IsBestSlab v class start
-  pub block : IsUnusedBlock v start class number
+  pub full : ¬ (HasUnusedBlock (block_view v) class)
+  pub best : IsBestSlab (slab_view v) class start
+  pub block : IsUnusedBlock (block_view v) start class number
 
 -- where there is none either, any one of a new slab at the best fit of four granules
 pub record IsFromNewSlab (v : View) (size start class number : ℕ) : Type 0 where
   pub least : IsClassOf size class
-  pub full : ¬ (HasUnusedBlock v class)
-  pub no_fit : HasNoFitSlab v class
+  pub full : ¬ (HasUnusedBlock (block_view v) class)
+  pub no_fit : HasNoFitSlab (slab_view v) class
   pub fit : IsBestFit v.free 4 start
   pub within : number < class_capacity class
 
@@ -118,8 +135,8 @@ IsSite v size (InNewSlab start class number) = IsFromNewSlab v size start class 
 pub record HasNoSmallSite (v : View) (size : ℕ) : Type 0 where
   pub class : ℕ
   pub least : IsClassOf size class
-  pub full : ¬ (HasUnusedBlock v class)
-  pub no_fit : HasNoFitSlab v class
+  pub full : ¬ (HasUnusedBlock (block_view v) class)
+  pub no_fit : HasNoFitSlab (slab_view v) class
   pub no_run : HasNoFit v.free 4
 
 -- a large one has none

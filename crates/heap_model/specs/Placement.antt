@@ -11,7 +11,7 @@ use Rattle.heap_model.specs.declared.call.Reply.TheVariants.{Placed, Freed}
 use Rattle.heap_model.specs.Below.{any_below}
 use Rattle.heap_model.specs.Machine.{Bounds, Range, Machine, with_key, slab_block, IsBlockOf, IsUnused, IsFreeGranule}
 use Rattle.heap_model.specs.Runs.{IsBestFit}
-use Rattle.heap_model.specs.Choice.{View, IsUnusedBlock, IsBestSlab, HasNoFitSlab}
+use Rattle.heap_model.specs.Choice.{BlockView, block_view, slab_view, IsUnusedBlock, IsBestSlab, HasNoFitSlab}
 use Rattle.heap_model.specs.Slabs.{is_within, view_of}
 use Rattle.heap_model.specs.Step.{First, IsStep}
 
@@ -79,12 +79,12 @@ pub record AreDistinct (stacks : Stacks) : Type 0 where
 -- malloc
 
 -- block `number` of class c in the slab at s is available: it is unused and in no stack
-pub record IsAvailable (v : View) (stacks : Stacks) (s c number : ℕ) : Type 0 where
+pub record IsAvailable (v : BlockView) (stacks : Stacks) (s c number : ℕ) : Type 0 where
   pub block : IsUnusedBlock v s c number
   pub loose : IsInNoStack stacks (slab_block s c number).at
 
 -- some slab of class c has an available block
-pub record HasAvailable (v : View) (stacks : Stacks) (c : ℕ) : Type 0 where
+pub record HasAvailable (v : BlockView) (stacks : Stacks) (c : ℕ) : Type 0 where
   pub start : ℕ
   pub slab : v.slab start ≡ Some c
   pub number : ℕ
@@ -107,7 +107,7 @@ addresses s c numbers = map (λ number. (slab_block s c number).at) numbers
 
 -- the lowest slab of the class that has an available block gives up to eight of its lowest ones to the stack of the seat, the
 -- lowest on top, and the stack gives its top
-pub record IsRefill (v : View) (stacks : Stacks) (seat class at : ℕ) (after : Stacks) : Type 0 where
+pub record IsRefill (v : BlockView) (stacks : Stacks) (seat class at : ℕ) (after : Stacks) : Type 0 where
   pub start : ℕ
   pub slab : v.slab start ≡ Some class
   pub lowest : (other number : ℕ) → other < start → v.slab other ≡ Some class → ¬ (IsAvailable v stacks other class number)
@@ -144,22 +144,22 @@ with_class m s c = record { block = m.block; slab = with_key m.slab s (Some c); 
 -- the best slab that is fit for the class loses its addresses and takes the class, and then a refill follows
 pub record IsMorphRefill (b : Bounds) (was : PlacedState) (seat class at : ℕ) (after : Stacks) : Type 0 where
   pub start : ℕ
-  pub best : IsBestSlab (view_of b was.machine) class start
-  pub refill : IsRefill (view_of b (with_class was.machine start class)) (without_slab was.stacks start) seat class at after
+  pub best : IsBestSlab (slab_view (view_of b was.machine)) class start
+  pub refill : IsRefill (block_view (view_of b (with_class was.machine start class))) (without_slab was.stacks start) seat class at after
 
 -- where none is fit, a new slab is made at the best fit of four granules, and then a refill follows
 pub record IsNewRefill (b : Bounds) (was : PlacedState) (seat class at : ℕ) (after : Stacks) : Type 0 where
-  pub no_fit : HasNoFitSlab (view_of b was.machine) class
+  pub no_fit : HasNoFitSlab (slab_view (view_of b was.machine)) class
   pub start : ℕ
   pub fit : IsBestFit (IsFreeGranule b was.machine) 4 start
-  pub refill : IsRefill (view_of b (with_class was.machine start class)) was.stacks seat class at after
+  pub refill : IsRefill (block_view (view_of b (with_class was.machine start class))) was.stacks seat class at after
 
 -- the address that a seat is given for a request of the class, and the stacks after it: the seat's own stack gives its top;
 -- else there is a refill; else the lowest-numbered seat's stack gives its top; else a slab takes the class, or is made
 abbrev pub IsWay : Bounds → PlacedState → ℕ → ℕ → ℕ → Stacks → Type 0
 IsWay b was seat class at after =
     First (HasTop was.stacks seat class) (λ top. IsPop top at after)
-    (First (HasAvailable (view_of b was.machine) was.stacks class) (λ _. IsRefill (view_of b was.machine) was.stacks seat class at after)
+    (First (HasAvailable (block_view (view_of b was.machine)) was.stacks class) (λ _. IsRefill (block_view (view_of b was.machine)) was.stacks seat class at after)
     (First (HasStacked was.stacks class) (λ stacked. IsPop stacked.first.top at after)
     (IsMorphRefill b was seat class at after ⊎ IsNewRefill b was seat class at after)))
 

@@ -5,7 +5,7 @@ use Rattle.image_tables.specs.Forms.{morphing_kind}
 use Rattle.image_tables.specs.Tables.{Tables}
 use Rattle.slab_header.specs.Morph.{numbers_below, held_numbers}
 use Rattle.heap_model.specs.Machine.{Range, AreApart, slab_block}
-use Rattle.heap_model.specs.Choice.{View, IsFit}
+use Rattle.heap_model.specs.Choice.{SlabView, IsFit}
 use Rattle.heap_check.specs.Heap.{slabs, Holds}
 use Rattle.slab_morph.specs.SlabHeaders.{SlabHeader, alone}
 
@@ -23,15 +23,9 @@ pub record HoldsOther (t : Tables) (start : ℕ) : Type 0 where
 pub record IsClearOf (t : Tables) (start : ℕ) (range : Range) : Type 0 where
   pub each : (other : Range) → Holds t start other → AreApart range other
 
--- The view that the machine's choice has of the slabs by what they hold. Fitness looks at no granule.
-abbrev pub held_view : Tables → View
-held_view t = record {
-  free = λ k. ⊥;
-  slab = slabs t;
-  unused = λ start class number. IsClearOf t start (slab_block start class number);
-  live = held_count t;
-  in_transition = HoldsOther t;
-}
+-- the slabs, by the blocks that they hold
+abbrev pub held_view : Tables → SlabView
+held_view t = record { blocks = record { slab = slabs t; unused = λ start class number. IsClearOf t start (slab_block start class number) }; live = held_count t; in_transition = HoldsOther t }
 
 -- the slab at a granule that has this header is fit for a class, as the machine has it
 abbrev pub IsFitHeader : SlabHeader → ℕ → ℕ → Type 0
