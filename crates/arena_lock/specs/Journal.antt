@@ -30,10 +30,10 @@ abbrev pub numbers : ℕ → ℕ → List ℕ
 numbers k zero = []
 numbers k (suc n) = k ∷ numbers (suc k) n
 
--- a fact of each number
-abbrev pub Each : (ℕ → Type 0) → List ℕ → Type 0
+-- a fact of each of a list, said so that the first of them is taken off it
+abbrev pub Each : {A : Type 0} → (A → Type 0) → List A → Type 0
 Each P [] = Unit {0}
-Each P (n ∷ ns) = P n × Each P ns
+Each P (x ∷ xs) = P x × Each P xs
 
 -- the longer and the shorter of two lists; of two that are equally long the first is the longer
 abbrev pub longer : List Entry → List Entry → List Entry

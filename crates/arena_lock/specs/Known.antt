@@ -6,7 +6,7 @@ use Rattle.atomic_table.specs.declared.badge.Badge.{Badge}
 use Rattle.heap_model.specs.declared.call.Entry.{Entry}
 use Rattle.arena_lock.specs.declared.opening.Opening.{Opening}
 use Rattle.arena_lock.specs.declared.view.SeatView.{SeatView}
-use Rattle.arena_lock.specs.Journal.{Grows, owns, calls_of, longer}
+use Rattle.arena_lock.specs.Journal.{Grows, Each, owns, calls_of, longer}
 use Rattle.arena_lock.specs.Legality.{IsLegal}
 use Rattle.arena_lock.specs.Tickets.{IsIdle, spent_view}
 
@@ -113,8 +113,7 @@ after_join v w = record v { seen = longer v.seen w.seen; numbers = v.numbers ++ 
 
 -- all these seats are of the lock z
 abbrev pub AllAt : TableId → List Known → Type 0
-AllAt z [] = Unit {0}
-AllAt z (p ∷ ps) = (p.lock ≡ z) × AllAt z ps
+AllAt z = Each (λ (p : Known). p.lock ≡ z)
 
 abbrev pub all_numbers : List Known → List ℕ
 all_numbers [] = []
@@ -132,8 +131,7 @@ pub record Fits (log : List Entry) (p : Known) : Type 0 where
   pub known : p.known ≤ length log
 
 abbrev pub AllFit : List Entry → List Known → Type 0
-AllFit log [] = Unit {0}
-AllFit log (p ∷ ps) = Fits log p × AllFit log ps
+AllFit log = Each (Fits log)
 
 -- seats that were joined into one
 
@@ -143,5 +141,4 @@ HasNumbers v p = (a : List ℕ) × (b : List ℕ) × ((a ++ p.numbers) ++ b ≡ 
 
 -- the seat v knows all that these seats did
 abbrev pub KnowsAll : Known → List Known → Type 0
-KnowsAll v [] = Unit {0}
-KnowsAll v (p ∷ ps) = (IsPrefix p.seen v.seen × (p.known ≤ v.known) × HasNumbers v p) × KnowsAll v ps
+KnowsAll v = Each (λ (p : Known). IsPrefix p.seen v.seen × (p.known ≤ v.known) × HasNumbers v p)

@@ -5,7 +5,7 @@ use Rattle.atomic_table.specs.Seated.{TableId}
 use Rattle.heap_model.specs.declared.call.Entry.{Entry}
 use Rattle.arena_core.specs.Arena.{ArenaState}
 use Rattle.arena_lock.specs.declared.opening.Opening.{Opening}
-use Rattle.arena_lock.specs.Journal.{calls_by}
+use Rattle.arena_lock.specs.Journal.{Each, calls_by}
 use Rattle.heap_model.specs.Journal.{AllBelow}
 use Rattle.arena_lock.specs.Known.{Known}
 use Rattle.arena_journal.specs.Journals.{IsBehind}
@@ -15,8 +15,7 @@ use Rattle.shared_pool.specs.Passes.{PassState, part_at, seen_at, mine_at}
 
 -- each of these passes has a seat at each of these locks
 abbrev pub AllFitLocks : List TableId → List PassState → Type 0
-AllFitLocks tables [] = Unit {0}
-AllFitLocks tables (p ∷ ps) = (tables ≡ map (λ (k : Known). k.lock) p.parts) × AllFitLocks tables ps
+AllFitLocks tables = Each (λ (p : PassState). tables ≡ map (λ (k : Known). k.lock) p.parts)
 
 abbrev pub is_in : ℕ → List ℕ → Bool
 is_in k [] = false
@@ -31,8 +30,7 @@ HasAll count ns = (k : ℕ) → k < count → is_in k ns ≡ true
 -- of each pass the journal begins with what the pass had seen, its entries of the pass's number are the pass's own calls,
 -- and it is as long as the pass knew
 abbrev pub AllAgree : ℕ → List PassState → List Entry → Type 0
-AllAgree a [] journal = Unit {0}
-AllAgree a (p ∷ ps) journal = (IsPrefix (seen_at p a) journal × (calls_by p.number journal ≡ mine_at p a) × ((part_at p a).known ≤ length journal)) × AllAgree a ps journal
+AllAgree a passes journal = Each (λ (p : PassState). IsPrefix (seen_at p a) journal × (calls_by p.number journal ≡ mine_at p a) × ((part_at p a).known ≤ length journal)) passes
 
 -- arena a of a pool with so many passes at the end: its journal leads from the opening to the arena as it is, agrees with each
 -- pass, and has no calls but theirs
