@@ -27,3 +27,5 @@ pub mod Answering
 pub mod PlannedCalls
 pub mod ByCall
 pub mod Readiness
+pub mod Callers
+pub mod Replies

@@ -1,117 +1,79 @@
 -- What the steps of a call of a stack did, from what the arena says of its calls.
-use Rattle.std.proofs.Common.{◌≡◌, ◌≢◌, ℕ, ◌<◌, ◌≤◌, List, length, Some, Result, Ok, Err, IsOk, refl, ap, ◌∙◌, subst}
+use Rattle.std.proofs.Common.{◌≡◌, ◌≢◌, ℕ, ◌+◌, ◌/◌, ◌<◌, ◌≤◌, List, length, Some, Result, refl, ap, ◌∙◌, subst, arith}
 use Rattle.pmem_lines.specs.Pmem.{words_of}
+use Rattle.heap_model.specs.Machine.{Range}
 use Rattle.heap_model.specs.declared.call.Call.TheVariants as calls
 use Rattle.heap_model.specs.declared.call.Reply.{Reply}
 use Rattle.heap_model.specs.declared.call.Reply.TheVariants as replies
 use Rattle.heap_check.specs.State.{IsEitherHeap}
 use Rattle.move_steps.specs.Moves.{IsEitherMoved}
-use Rattle.arena_core.specs.declared.answer.Freed.{Freed}
-use Rattle.arena_core.specs.declared.answer.Moved.{Moved}
-use Rattle.arena_core.specs.declared.answer.MallocRefusal.{MallocRefusal}
-use Rattle.arena_core.specs.declared.answer.MallocRefusal.TheVariants as mallocs
-use Rattle.arena_core.specs.declared.answer.FreeRefusal.{FreeRefusal}
-use Rattle.arena_core.specs.declared.answer.FreeRefusal.TheVariants as frees
-use Rattle.arena_core.specs.declared.answer.MoveRefusal.{MoveRefusal}
-use Rattle.arena_core.specs.declared.answer.MoveRefusal.TheVariants as moves
 use Rattle.arena_core.specs.declared.answer.BlockRefusal.{BlockRefusal}
-use Rattle.arena_core.specs.declared.answer.BlockRefusal.TheVariants as blocks
-use Rattle.arena_core.specs.Answer.{malloc_reply, free_reply, move_reply, block_refusal, write_reply}
+use Rattle.arena_core.specs.Answer.{write_reply}
 use Rattle.arena_core.specs.Answered.{IsOneCall, IsAnswered, IsMoveAnswered, IsWriteAnswered}
 use Rattle.arena_core.specs.Arena.{ArenaState}
 use Rattle.arena_core.specs.Events.{call_events, line_after}
-use Rattle.arena_core.specs.Payload.{payload_events, IsWrittenBy, HasWritten, IsEitherWords}
+use Rattle.arena_core.specs.Payload.{payload_events, IsEitherWords}
+use Rattle.arena_core.proofs.Callers.{given, lacking, no_space, lost, passed, wrote}
+use Rattle.arena_core.proofs.Replies.{written_ok}
 use Rattle.uses.specs.Stack.{stage, HasNone}
 use Rattle.uses.specs.Steps.{HasRecordBlock, HasSome, IsTaken, IsUntaken, IsFilled, IsShown, IsReleased}
-use Rattle.uses.proofs.Heaps.{given, lacking, no_space, lost, passed, wrote}
-
--- answers
-
--- a refusal of a malloc, of a free, of a move and of a write is no success
-pub malloc_refused : (refusal : MallocRefusal) (at size : ℕ) → malloc_reply (Err refusal) ≢ replies.Placed at size
-malloc_refused mallocs.NoRoot at size is = cc is
-malloc_refused (mallocs.Occupied other) at size is = cc is
-malloc_refused mallocs.ZeroSize at size is = cc is
-malloc_refused mallocs.TooLarge at size is = cc is
-malloc_refused mallocs.NoSpace at size is = cc is
-
-pub free_ok : (result : Result Freed FreeRefusal) (at size : ℕ) → free_reply result ≡ replies.Freed at size → IsOk result
-free_ok (Ok freed) at size is = refl
-free_ok (Err frees.NoRoot) at size is = absurd (cc is)
-free_ok (Err frees.Empty) at size is = absurd (cc is)
-
-pub move_ok : (result : Result Moved MoveRefusal) (at size : ℕ) → move_reply result ≡ replies.Moved at size → IsOk result
-move_ok (Ok moved) at size is = refl
-move_ok (Err moves.NoRoot) at size is = absurd (cc is)
-move_ok (Err moves.Empty) at size is = absurd (cc is)
-move_ok (Err (moves.Occupied other)) at size is = absurd (cc is)
-
-not_wrote : (refusal : BlockRefusal) → block_refusal refusal ≢ replies.Wrote
-not_wrote blocks.NoRoot is = cc is
-not_wrote blocks.Empty is = cc is
-not_wrote blocks.OutOfRange is = cc is
-
-pub write_ok : (result : Result (Unit {0}) BlockRefusal) → write_reply result ≡ replies.Wrote → IsOk result
-write_ok (Ok done) is = refl
-write_ok (Err refusal) is = absurd (not_wrote refusal is)
-
-written_ok : (old new contents : List ℕ) (result : Result (Unit {0}) BlockRefusal) → write_reply result ≡ replies.Wrote → IsWrittenBy old stage 0 contents new result → HasWritten old stage 0 contents new
-written_ok old new contents (Ok done) is written = written
-written_ok old new contents (Err refusal) is written = absurd (not_wrote refusal is)
+use Rattle.uses.proofs.Heaps.{stage_rooted, record_fits, class_64}
 
 -- calls
 module _ {old new : ArenaState} where
-  pub taken : {at size : ℕ} → IsAnswered 0 old new (calls.Malloc stage 64) (replies.Placed at size) → HasNone (words_of old.device) stage → IsTaken old new
-  taken {at} {size} e none =
+  pub taken : {at size : ℕ} → IsAnswered 0 old new (calls.Malloc stage 64) (replies.Placed at size) → IsTaken old new
+  taken {at} {size} e =
       let words = words_of old.device in
-      let g = given words (words_of new.device) _ _ (replies.Placed at size) e.step e.did.was_exact none at size refl in
+      let g = given words (words_of new.device) 0 _ _ stage 64 (replies.Placed at size) e.step at size refl in
+      let class = g.class_is (omega arith) in
+      let wide : size ≡ 64 = class.2 ∙ class_64 class.0 class.1 in
       record {
         at = at;
-        call = subst (λ (s : ℕ). IsOneCall old.device new.device (call_events words old.line (calls.Malloc stage 64) (replies.Placed at s)) (IsEitherHeap words (words_of new.device))) g.size_is e.did;
-        line = subst (λ (s : ℕ). new.line ≡ line_after old.line (replies.Placed at s)) g.size_is e.line;
-        here = g.here;
-        keeps = record { others = g.others; words = e.keeps };
+        call = subst (λ (s : ℕ). IsOneCall old.device new.device (call_events words old.line (calls.Malloc stage 64) (replies.Placed at s)) (IsEitherHeap words (words_of new.device))) wide e.did;
+        line = subst (λ (s : ℕ). new.line ≡ line_after old.line (replies.Placed at s)) wide e.line;
+        here = g.here ∙ ap (λ (s : ℕ). Some (record { at = at; size = s })) wide;
+        keeps = record { others = g.others.each; words = e.keeps };
         place = g.place;
       }
 
   pub untaken : {reply : Reply} → ((at size : ℕ) → reply ≢ replies.Placed at size) → IsAnswered 0 old new (calls.Malloc stage 64) reply → HasNone (words_of old.device) stage → IsUntaken old new
   untaken {reply} refused e none =
       let words = words_of old.device in
-      let is : reply ≡ replies.NoSpace = no_space words (words_of new.device) _ _ reply e.step e.did.was_exact none refused in
+      let low = stage_rooted words e.did.was_exact in
+      let fits = record_fits words e.did.was_exact in
+      let some : 64 ≢ 0 = λ is. omega (arith, is) in
+      let is : reply ≡ replies.NoSpace = no_space words (words_of new.device) 0 _ _ stage 64 reply e.step low none some fits refused in
       record {
         call = subst (λ (r : Reply). IsOneCall old.device new.device (call_events words old.line (calls.Malloc stage 64) r) (IsEitherHeap words (words_of new.device))) is e.did;
-        no_place = lacking words (words_of new.device) _ _ reply e.step e.did.was_exact none refused;
+        no_place = lacking words (words_of new.device) 0 _ _ stage 64 reply e.step low none some fits refused;
       }
 
-  module _ {root : ℕ} {reply : Reply} (low : root ≤ stage) (some : HasSome (words_of old.device) root) (e : IsAnswered 0 old new (calls.Free root) reply) where
+  module _ {root : ℕ} {reply : Reply} (some : HasSome (words_of old.device) root) (e : IsAnswered 0 old new (calls.Free root) reply) where
     pub freed : reply ≡ replies.Freed some.range.at some.range.size
-    freed = (lost (words_of old.device) (words_of new.device) _ _ root reply e.step e.did.was_exact low some).is
+    freed = (lost (words_of old.device) (words_of new.device) 0 _ _ root some.range reply e.step e.did.was_exact some.named).is
 
     pub released : IsReleased old new root
     released =
         let words = words_of old.device in
-        let l = lost words (words_of new.device) _ _ root reply e.step e.did.was_exact low some in
+        let l = lost words (words_of new.device) 0 _ _ root some.range reply e.step e.did.was_exact some.named in
         record {
           range = some.range;
           named = some.named;
           call = subst (λ (r : Reply). IsOneCall old.device new.device (call_events words old.line (calls.Free root) r) (IsEitherHeap words (words_of new.device))) l.is e.did;
           gone = l.gone;
-          keeps = record { others = l.others; words = e.keeps };
+          keeps = record { others = l.others.each; words = e.keeps };
         }
 
   module _ {root : ℕ} {reply : Reply} (low : root < stage) (block : HasRecordBlock (words_of old.device) stage) (none : HasNone (words_of old.device) root) (e : IsMoveAnswered old new stage root reply) where
-    abbrev some_block : HasSome (words_of old.device) stage
-    some_block = record { range = block.range; named = block.named }
-
     pub moved : reply ≡ replies.Moved block.range.at block.range.size
-    moved = (passed (words_of old.device) (words_of new.device) root reply e.step e.did.was_exact low some_block none).is
+    moved = (passed (words_of old.device) (words_of new.device) stage root block.range reply e.step e.did.was_exact block.named (omega (arith, low, stage_rooted (words_of old.device) e.did.was_exact)) none).is
 
     pub shown : IsShown old new root
     shown =
         let words = words_of old.device in
-        let p = passed words (words_of new.device) root reply e.step e.did.was_exact low some_block none in
+        let p = passed words (words_of new.device) stage root block.range reply e.step e.did.was_exact block.named (omega (arith, low, stage_rooted words e.did.was_exact)) none in
         let wide : block.range ≡ record { at = block.range.at; size = 64 } = λ i. record { at = block.range.at; size = block.size i } in
-        let is : reply ≡ replies.Moved block.range.at 64 = p.is ∙ ap (λ s. replies.Moved block.range.at s) block.size in
+        let is : reply ≡ replies.Moved block.range.at 64 = p.is ∙ ap (λ (s : ℕ). replies.Moved block.range.at s) block.size in
         record {
           at = block.range.at;
           named = block.named ∙ ap Some wide;
@@ -122,7 +84,7 @@ module _ {old new : ArenaState} where
 
   module _ {contents : List ℕ} {result : Result (Unit {0}) BlockRefusal} (block : HasRecordBlock (words_of old.device) stage) (count : length contents ≡ 8) (e : IsWriteAnswered old new stage 0 contents result) where
     pub is_wrote : write_reply result ≡ replies.Wrote
-    is_wrote = wrote (words_of old.device) (words_of new.device) contents (write_reply result) e.step e.did.was_exact block count
+    is_wrote = wrote (words_of old.device) (words_of new.device) stage 0 contents block.range (write_reply result) e.step e.did.was_exact block.named (omega (arith, count, block.size))
 
     pub filled : IsFilled old new contents
     filled =
@@ -130,5 +92,5 @@ module _ {old new : ArenaState} where
         record {
           call = subst (λ (r : Reply). IsOneCall old.device new.device (payload_events words stage 0 contents r) (IsEitherWords words (words_of new.device))) is_wrote e.did;
           line = e.line;
-          written = written_ok words (words_of new.device) contents result is_wrote e.written;
+          written = written_ok words stage 0 contents (words_of new.device) result is_wrote e.written;
         }

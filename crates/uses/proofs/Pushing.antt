@@ -5,18 +5,17 @@ use Rattle.pmem_lines.specs.declared.event.Event.{Event}
 use Rattle.pmem_lines.specs.Words.{word_at}
 use Rattle.pmem_lines.specs.Pmem.{PmemState, words_of}
 use Rattle.image_tables.specs.Tables.{tables_of}
-use Rattle.heap_model.specs.Machine.{Range, AreApart}
+use Rattle.heap_model.specs.Machine.{Range}
 use Rattle.heap_model.specs.declared.call.Call.TheVariants as calls
 use Rattle.heap_model.specs.declared.call.Reply.TheVariants as replies
-use Rattle.heap_check.specs.Heap.{heap, slabs, size_at}
-use Rattle.heap_check.specs.Image.{bounds_of, IsExactImage}
-use Rattle.heap_check.specs.State.{IsWordOf, HasState, HaveSameHeap, IsEitherHeap}
-use Rattle.heap_check.proofs.Blank.{law_of_steady}
-use Rattle.heap_check.proofs.ExactStates.{law_of_exact_state}
+use Rattle.heap_check.specs.Heap.{heap}
+use Rattle.heap_check.specs.Image.{IsExactImage}
+use Rattle.heap_check.specs.State.{HaveSameHeap, IsEitherHeap}
 use Rattle.move_steps.specs.Moves.{MovesOne, IsEitherMoved}
 use Rattle.arena_core.specs.Arena.{ArenaState}
 use Rattle.arena_core.specs.Events.{call_events, line_after}
-use Rattle.arena_core.specs.Payload.{HasWritten, IsNamedWord, IsEitherWords}
+use Rattle.arena_core.specs.Payload.{HasWritten, IsEitherWords}
+use Rattle.arena_core.proofs.Callers.{exact_steady, one_range, root_place, leaves, same_word, left_word}
 use Rattle.uses.specs.Stack.{stage, HasNone, HasRecord, IsStack, IsSteadyStack, StackState, IsKept, records_in}
 use Rattle.arena_core.specs.Answered.{IsOneCall}
 use Rattle.uses.specs.Calls.{IsEitherStack, HasPushed, IsRefused, IsPushedBy}
@@ -27,10 +26,6 @@ use Rattle.uses.proofs.Stacks.{KeepsBelow, keeps_below, stack_kept, stack_more}
 use Rattle.uses.proofs.Counted.{length-records_in, counted_same}
 
 -- crashes
-
--- a call of which each crash leaves more
-pub leaves : {old new : PmemState} {events : List Event} (P Q : List ℕ → Type 0) → ((image : List ℕ) → P image → Q image) → IsOneCall old new events P → IsOneCall old new events Q
-leaves P Q more call = record { device = call.device; was_exact = call.was_exact; exact = call.exact; ready = call.ready; crash = record { each = λ n image is. more image (call.crash.each n image is) } }
 
 -- what a crash leaves while a block comes to the stage or goes from it
 pub left_stack : (old new image : List ℕ) (records : List (List ℕ)) → IsStack old records → KeepsBut old new stage → IsEitherHeap old new image → IsSteadyStack records image
@@ -43,53 +38,28 @@ left_stack old new image records was keeps left = record {
 
 -- the words of the stage's block
 
--- two ranges that one root names
-one_range : (one other : Range) → Some one ≡ Some other → one ≡ other
-one_range one other is = cc is
-
--- a root with a block holds its address
-place_of : (b : Bool) (held range : Range) → (if b then None else Some held) ≡ Some range → held ≡ range
-place_of true held range is = absurd (cc is)
-place_of false held range is = cc is
-
-root_place : (words : List ℕ) (root : ℕ) (range : Range) → heap (tables_of words) root ≡ Some range → (tables_of words).root root ≡ range.at
-root_place words root range named =
-    let t = tables_of words in
-    ap (λ (r : Range). r.at) (place_of (t.root root == 0) (record { at = t.root root; size = size_at t root (t.root root) }) range named)
-
 -- they are no words of a record
 module _ (words : List ℕ) (exact : IsExactImage words) (range : Range) (named : heap (tables_of words) stage ≡ Some range) (size : range.size ≡ 64) where
-  state : HasState words (record { block = heap (tables_of words); slab = slabs (tables_of words); value = λ root index. None })
-  state = record { blocks = λ root. refl; slabs = λ start. refl; values = λ root index word is. absurd (cc is) }
-
-  apart : (root : ℕ) (other : Range) → root < stage → heap (tables_of words) root ≡ Some other → AreApart other range
-  apart root other low is = (law_of_exact_state words _ exact state).apart root stage other range (λ same. omega (arith, same, low)) is named
-
-  unnamed : (root k : ℕ) (other : Range) → root < stage → heap (tables_of words) root ≡ Some other → IsWordOf other k → ¬ (IsNamedWord words stage 0 8 k)
-  unnamed root k other low is word in_stage =
-      let place : (tables_of words).root stage ≡ range.at = root_place words stage range named in
-      ⊎_elim
-      (λ below. omega (arith, below, word.high, in_stage.low, place))
-      (λ above. omega (arith, above, word.low, in_stage.high, place, size))
-      (apart root other low is)
-
   -- so a write of them leaves the records, and so does a crash within it
   module _ (contents new : List ℕ) (count : length contents ≡ 8) (written : HasWritten words stage 0 contents new) where
-    same_word : (root k : ℕ) (other : Range) → root < stage → heap (tables_of words) root ≡ Some other → IsWordOf other k → word_at new k ≡ word_at words k
-    same_word root k other low is word = written.others k (subst (λ (n : ℕ). ¬ (IsNamedWord words stage 0 n k)) (sym count) (unnamed root k other low is word))
+    room : 0 + length contents ≤ range.size / 8
+    room = omega (arith, count, size)
 
     pub written_below : KeepsBelow words new
-    written_below = record { blocks = λ root low. written.heap.each root; words = same_word }
+    written_below = record {
+      blocks = λ root low. written.heap.each root;
+      words = λ root k other low is word. same_word words new exact stage 0 range named contents room written root k other (λ same. omega (arith, same, low)) is word;
+    }
 
     left_below : (image : List ℕ) → IsEitherWords words new image → KeepsBelow words image
     left_below image left = record {
       blocks = λ root low. left.heap.each root;
-      words = λ root k other low is word. ⊎_elim (λ old. old) (λ now. now ∙ same_word root k other low is word) (left.each k);
+      words = λ root k other low is word. left_word words new exact stage 0 range named contents room written image left root k other (λ same. omega (arith, same, low)) is word;
     }
 
     pub left_written : (image : List ℕ) (records : List (List ℕ)) → IsStack words records → IsEitherWords words new image → IsSteadyStack records image
     left_written image records was left = record {
-      steady = record { formed = left.exact.formed; steady = law_of_steady (bounds_of image) (tables_of image) left.exact.exact };
+      steady = exact_steady image left.exact;
       stack = stack_kept words image records was (left_below image left);
     }
 

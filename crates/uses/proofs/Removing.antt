@@ -23,7 +23,8 @@ use Rattle.uses.specs.Steps.{HasSome, IsWhole, IsReleased, IsTidied, AreLeading,
 use Rattle.uses.proofs.Stacks.{keeps_below, stack_kept, stack_less, records_less}
 use Rattle.uses.proofs.Heaps.{stage_rooted}
 use Rattle.uses.proofs.Counted.{length-records_in, counted_stack, counted_same}
-use Rattle.uses.proofs.Pushing.{leaves, left_stack, state_of}
+use Rattle.arena_core.proofs.Callers.{leaves}
+use Rattle.uses.proofs.Pushing.{left_stack, state_of}
 
 -- the last record
 module _ (old new : ArenaState) (n : ℕ) (kept : IsKept (state_of old (n + 1))) (r : IsReleased old new n) where

@@ -56,8 +56,7 @@ pub(crate) fn show_block<P: Pmem>(arena: &mut Arena<P>, root: u32)
 
 /// Frees the block of a root.
 pub(crate) fn release_block<P: Pmem>(arena: &mut Arena<P>, root: u32)
-    requires root { root ≤ stage }
-    requires block { HasSome (words_of arena.old.device) root }
+    requires { HasSome (words_of arena.old.device) root }
     ensures { IsReleased arena.old arena.new root }
 {
     let _ = arena.free_from(SEAT, root).unwrap();

@@ -1,4 +1,5 @@
-use Rattle.uses.proofs.Carried.{is_wrote, filled, write_ok}
+use Rattle.arena_core.proofs.Replies.{write_ok}
+use Rattle.uses.proofs.Carried.{is_wrote, filled}
 use Rattle.uses.proofs.steps.fill_block.Goals as goal
 
 pub unwrap-requires : goal.unwrap-requires

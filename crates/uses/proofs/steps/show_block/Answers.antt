@@ -1,4 +1,5 @@
-use Rattle.uses.proofs.Carried.{moved, shown, move_ok}
+use Rattle.arena_core.proofs.Replies.{move_ok}
+use Rattle.uses.proofs.Carried.{moved, shown}
 use Rattle.uses.proofs.steps.show_block.Goals as goal
 
 pub unwrap-requires : goal.unwrap-requires
