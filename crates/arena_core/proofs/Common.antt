@@ -76,7 +76,7 @@ pub use Rattle.arena_core.specs.Answer.{malloc_reply, free_reply, move_reply, bl
 pub use Rattle.arena_core.specs.Arena.{IsSlabsOf, IsIndexOf, AreLivesOf, IsCurrent, old_range, IsArena, ArenaState}
 pub use Rattle.arena_core.specs.Call.{IsStepOfAny, IsReady, IsStepOf}
 pub use Rattle.arena_core.specs.Carried.{IsTidied, IsDone, IsTaken, HaveOneMore, IsCalled, IsHeldFor, HasClassNow, IsSlabFor, MayOpen, MayTakeClass}
-pub use Rattle.arena_core.specs.Effect.{slabs_but, stacks_but, IsPutBack, IsSuppliedFresh, IsSuppliedMorph, IsLastOf, GivesRoot}
+pub use Rattle.arena_core.specs.Effect.{slabs_but, stacks_but, IsLastOf, GivesRoot}
 pub use Rattle.arena_core.specs.Events.{holds_none, tidy_events, call_events, line_after, write_events, take_events, freed_events, start_at, place_events, placed_events}
 pub use Rattle.arena_core.specs.Moving.{AreRoots, IsMovePlan, IsToMove, IsMoveCarried}
 pub use Rattle.arena_core.specs.Payload.{payload_events, IsWriteStep, AreWordsOf, HasWritten, HasBlockAt, IsWritable, IsWritePlan, IsWriteCarried, range_of_block}

@@ -1,6 +1,6 @@
 -- What a call means to the heap machine: the step from the state that the old words have to one that the new words have.
 use Rattle.std.proofs.Common.{◌≡◌, ◌≢◌, ◌*◌, ◌<◌, ℕ, Bool, List, Option, Some, None, Err, refl, sym, ap, ◌∙◌, arith, inl, inr, ⊎_elim}
-use Rattle.arena_core.proofs.Common.{Tables, tables_of, Call, Reply, Range, Machine, with_key, view_of, Site, IsSite, range_of, slabs_with, slabs_without, forgotten, class_size, class_capacity, slab_block, class_small, stacks_of, Supply, supply_view, TookBlock, HasNoOpen, IsSlabsOf, heap, slabs, IsInSlab, bounds_of, IsExactImage, HasState, is_large-start, malloc_reply, free_reply, IsStepOf, IsStepOfAny, slabs_but, stacks_but, IsPutBack, IsSuppliedFresh, IsSuppliedMorph, IsLastOf, GivesRoot, IsAskedOf, tables_view, IsTakable, IsFreePlan, Granules, InSlab, InMorph, InNewSlab, IsClassOf, Stacks, without_left, IsReturned, AgreeOnBlocks, law_of_exact_state, MallocRefusal, NoSpace, FreeRefusal, iff_then, named_at, block_view}
+use Rattle.arena_core.proofs.Common.{Tables, tables_of, Call, Reply, Range, Machine, with_key, view_of, Site, IsSite, range_of, slabs_with, slabs_without, forgotten, class_size, class_capacity, slab_block, class_small, stacks_of, Supply, supply_view, TookBlock, HasNoOpen, IsSlabsOf, heap, slabs, IsInSlab, bounds_of, IsExactImage, HasState, is_large-start, malloc_reply, free_reply, IsStepOf, IsStepOfAny, slabs_but, stacks_but, IsLastOf, GivesRoot, IsAskedOf, tables_view, IsTakable, IsFreePlan, Granules, InSlab, InMorph, InNewSlab, IsClassOf, Stacks, without_left, IsReturned, AgreeOnBlocks, law_of_exact_state, MallocRefusal, NoSpace, FreeRefusal, iff_then, named_at, block_view}
 use Rattle.heap_model.specs.declared.call.Call.TheVariants as calls
 use Rattle.heap_model.specs.declared.call.Reply.TheVariants as replies
 use Rattle.heap_model.specs.Step.{with_block, without_block, IsStep}
@@ -8,7 +8,7 @@ use Rattle.heap_model.specs.Placement.{GaveSmall, IsStacked}
 use Rattle.heap_model.proofs.Sites.{IsStep-granted}
 use Rattle.heap_model.proofs.Views.{IsSite-same, HasNoSite-same}
 use Rattle.arena_core.proofs.Plans.{slab_of_set, block_is}
-use Rattle.arena_core.proofs.StackSteps.{way_fresh, way_morph, returned_small, returned_old}
+use Rattle.arena_core.proofs.StackSteps.{way_fresh, way_morph, returned_small, returned_old, IsPutBack, IsSuppliedFresh, IsSuppliedMorph}
 use Rattle.arena_core.specs.declared.answer.MallocRefusal.TheVariants.{NoRoot, Occupied, ZeroSize, TooLarge}
 use Rattle.arena_core.specs.Plan.{IsMallocPlan}
 use Rattle.block_supply.proofs.Ways.{way_there}

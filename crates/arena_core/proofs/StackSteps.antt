@@ -1,12 +1,34 @@
 -- What a malloc takes of the stacks, and what a free puts back, is what the placement says.
 use Rattle.std.proofs.Common.{◌≡◌, ◌≢◌, ◌==◌, not, ℕ, ◌+◌, ◌*◌, ◌<◌, ◌≤◌, ◌⊎◌, ◌↔◌, Bool, true, false, [], Option, Some, None, if◌then◌else◌, sym, ap, ◌∙◌, subst, arith, inl, inr, ⊎_elim}
-use Rattle.arena_core.proofs.Common.{cases_lt, class_size, class_capacity, class_size-rises, Bounds, Range, Machine, with_key, slab_block, IsUnused, IsFreeGranule, IsBestFit, IsBestSlab, HasNoFitSlab, view_of, class_known, class_in, stacks_of, Supply, supply_view, HasNoOpen, Tables, IsUnusedIn, stacks_but, IsPutBack, IsSuppliedFresh, IsSuppliedMorph, Stacks, without_left, IsReturned, AgreeOnBlocks, with_key-twice, block_view, slab_view}
+use Rattle.arena_core.proofs.Common.{cases_lt, class_size, class_capacity, class_size-rises, Bounds, Range, Machine, with_key, slab_block, IsUnused, IsFreeGranule, IsBestFit, IsBestSlab, HasNoFitSlab, view_of, class_known, class_in, stacks_of, Supply, supply_view, HasNoOpen, Tables, IsUnusedIn, stacks_but, HasSlabMore, HasSlabLess, IsPutOn, TookBlock, Stacks, without_left, IsReturned, AgreeOnBlocks, with_key-twice, block_view, slab_view}
 use Rattle.std.specs.List.{filter}
 use Rattle.heap_model.specs.Machine.{IsBlockOf, IsOverlapFree}
 use Rattle.heap_model.specs.Slabs.{is_within}
 use Rattle.heap_model.specs.Placement.{without_slab, IsWay, IsKeepable}
 use Rattle.heap_model.proofs.LeftSlabs.{not_kept, purged_put, one_left, within, below, one_home, none_left}
 use Rattle.block_supply.proofs.Ways.{refill_anew, way_anew}
+
+-- a block of a slab came back from a seat, and its slab went, or not
+pub record IsPutBack (was : Stacks) (seat class at start : ℕ) (gone : Bool) (after : Stacks) : Type 0 where
+  pub mid : Stacks
+  pub put : IsPutOn was seat class at mid
+  pub left : after ≡ stacks_but mid start gone
+
+-- a slab of the class came into the supply, in which these blocks are open, and one of them was taken for a seat
+pub record IsSuppliedAnew (old new : Supply) (seat start class number : ℕ) (Opens : ℕ → Type 0) : Type 0 where
+  pub mid : Supply
+  pub more : HasSlabMore old mid start class Opens
+  pub took : TookBlock mid seat class (record { start = start; number = number }) new
+
+-- of a slab that is opened it is the first
+abbrev pub IsSuppliedFresh : Supply → Supply → (seat start class : ℕ) → Type 0
+IsSuppliedFresh old new seat start class = IsSuppliedAnew old new seat start class 0 (λ i. i < class_capacity class)
+
+-- a slab that takes the class went out of the supply, and came back with the unused blocks of the class
+pub record IsSuppliedMorph (t : Tables) (old new : Supply) (seat start class number : ℕ) : Type 0 where
+  pub less : Supply
+  pub gone : HasSlabLess old less start
+  pub anew : IsSuppliedAnew less new seat start class number (λ i. (i < class_capacity class) × IsUnusedIn t start class i)
 
 -- malloc
 

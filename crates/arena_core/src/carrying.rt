@@ -21,7 +21,7 @@ ghost use Rattle.attach_steps.specs.Steps.{attach_events, detach_events, detach_
 ghost use Rattle.arena_core.specs.Answer.{malloc_reply, free_reply};
 ghost use Rattle.arena_core.specs.Arena.{IsIndexOf, IsSlabsOf, AreSlabsLess, AreSlabsBut, AreLivesOf, IsCurrent, IsArena};
 ghost use Rattle.arena_core.specs.Carried.{MayOpen, MayTakeClass, IsHeldFor, IsSlabFor, HasClassNow, HaveOneMore, IsDone, IsUntidy, IsTaken, IsTidied, IsCalled};
-ghost use Rattle.arena_core.specs.Effect.{IsLastOf, slabs_but, stacks_but, IsPutBack, IsSuppliedFresh, IsSuppliedMorph};
+ghost use Rattle.arena_core.specs.Effect.{IsLastOf, slabs_but, stacks_but};
 ghost use Rattle.arena_core.specs.Events.{place_events, take_events, fresh_events, morphed_events, unsmall_events, tidy_events, holds_none};
 ghost use Rattle.arena_core.specs.Plan.{IsBlockAs, number_of, IsGivable, IsTakable, IsNamedSmall, IsNamedOld, IsHeldBy, IsPlanned, IsFreePlan, range_held};
 

@@ -15,7 +15,8 @@ use Rattle.attach_wal.specs.Entry.{IsEntryWord}
 use Rattle.image_defects.specs.Wal.{IsOpenAlone, IsOpenWord}
 use Rattle.image_reading.specs.declared.slab.Slab.{Slab}
 use Rattle.image_reading.specs.Slabs.{slab_in, AreSlabs}
-use Rattle.image_reading.specs.Held.{IsNumberAt, HasNoNumber, AreSlabsAt, IsBack}
+use Rattle.image_reading.specs.Held.{IsNumberAt, HasNoNumber, AreSlabsAt}
+use Rattle.image_reading.proofs.Holding.{IsBack}
 use Rattle.defect_search.specs.Opening.{IsNewBlock, IsOldBlock, IsCalm, IsMovable}
 
 -- a block of the slab that begins so many granules before another stands at the address, by its class or by its index table

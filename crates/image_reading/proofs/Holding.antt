@@ -15,12 +15,18 @@ use Rattle.slab_header.specs.State.{IsWordOfState, IsNoStateWord, SaysOfState}
 use Rattle.image_reading.specs.declared.slab.Slab.{Slab}
 use Rattle.image_reading.specs.Slabs.{IsSlabAt, IsRead}
 use Rattle.image_defects.specs.Headers.{IsGoodSlab}
-use Rattle.image_reading.specs.Held.{IsHeldBy, HasBitAt, HasOldAt, IsNumberAt, HasNoNumber, HasNoBack, IsReadBack, IsBack, AreSlabsAt}
+use Rattle.image_reading.specs.Held.{IsHeldBy, HasBitAt, HasOldAt, IsNumberAt, HasNoNumber, HasNoBack, IsReadBack, AreSlabsAt}
 use Rattle.pool_layout.specs.Header.{version_in, granules_in}
 use Rattle.pool_layout.proofs.Layouts.{layout_rules}
 use Rattle.image_reading.specs.Extents.{HasExtents}
 use Rattle.heap_check.proofs.Geometry.{is_large-parts, granules_at-slab, granules_at-large}
 use Rattle.image_defects.proofs.SlabDefects.{has_state}
+
+-- what begins so many granules before another granule has the property
+pub record IsBack (Has : ℕ → Type 0) (last back : ℕ) : Type 0 where
+  pub start : ℕ
+  pub is : start + back ≡ last
+  pub has : Has start
 
 -- what does not hold
 pub refuted : {A : Type 0} → ¬ A → ((false ≡ true) ↔ A)

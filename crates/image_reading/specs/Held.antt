@@ -47,9 +47,3 @@ pub record HasNoBack (words : List ℕ) (last back : ℕ) : Type 0 where
 pub record IsReadBack (words : List ℕ) (last back : ℕ) (slab : Slab) : Type 0 where
   pub is : slab.start + back ≡ last
   pub read : IsRead words slab
-
--- what begins so many granules before another granule has the property
-pub record IsBack (Has : ℕ → Type 0) (last back : ℕ) : Type 0 where
-  pub start : ℕ
-  pub is : start + back ≡ last
-  pub has : Has start

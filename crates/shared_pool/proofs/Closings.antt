@@ -12,8 +12,14 @@ use Rattle.heap_model.specs.Journal.{AllBelow}
 use Rattle.shared_pool.specs.Begun.{AllNew}
 use Rattle.shared_pool.specs.Closed.{AllFitLocks, is_in, HasAll, AllAgree, IsClosed, AllClosed}
 use Rattle.shared_pool.specs.Passes.{PassState, seen_at, mine_at, part_at, first_calls}
-use Rattle.shared_pool.specs.Rows.{head_list, heads, behead, AllEnded, AllLong, HeadBelongs, HeadsBelong}
+use Rattle.shared_pool.specs.Rows.{head_list, heads, behead, AllLong, HeadBelongs, HeadsBelong}
 use Rattle.arena_lock.specs.Known.{Lock, Known, AllAt, all_numbers, Covers, AllFit}
+
+-- arenas that end one after another, each with the first seats of the passes, which lose these
+abbrev pub AllEnded : ℕ → List PassState → List Opening → List (List Entry × ArenaState) → Type 0
+AllEnded seats passes [] [] = Unit {0}
+AllEnded seats passes (o ∷ os) (c ∷ cs) = IsClosed seats 0 passes o c × AllEnded seats (map behead passes) os cs
+AllEnded seats passes os cs = ⊥
 
 module _ (t : TableId) (ts : List TableId) where
   long_one : (parts : List Known) → t ∷ ts ≡ map (λ (z : Known). z.lock) parts → 0 < length parts

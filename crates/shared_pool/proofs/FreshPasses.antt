@@ -3,9 +3,8 @@ use Rattle.std.proofs.Common.{◌≡◌, ℕ, zero, suc, ◌+◌, ◌^◌, ◌<�
 use mathlib.Core.List.{map-append}
 use Rattle.arena_lock.specs.Known.{Lock, Known, seat_at, new_seats}
 use Rattle.shared_pool.specs.Begun.{AllNew}
-use Rattle.shared_pool.specs.Closed.{tail_list}
+use Rattle.shared_pool.specs.Rows.{tail_list, AllRoom, AllSome, AllFirst, FirstIs, firsts, lines}
 use Rattle.shared_pool.specs.Passes.{fresh_pass, fresh_passes}
-use Rattle.shared_pool.specs.Rows.{AllRoom, AllSome, AllFirst, FirstIs, firsts, lines}
 
 pub fresh_more : (locks : List Lock) (n count : ℕ) → fresh_passes locks n (suc count) ≡ fresh_passes locks n count ++ fresh_pass locks (n + count) ∷ []
 fresh_more locks n zero = ap (λ k. fresh_pass locks k ∷ []) (let e : n ≡ n + 0 = omega arith in e)

@@ -6,11 +6,7 @@ use Rattle.shared_pool.specs.declared.job.Receipt.{Receipt}
 use Rattle.shared_pool.specs.declared.pass.Spot.{Spot}
 use Rattle.shared_pool.specs.declared.pool.TryRefusal.{TryRefusal}
 use Rattle.shared_pool.specs.declared.pool.TryRefusal.TheVariants.{Memory}
-use Rattle.heap_model.specs.declared.call.Entry.{Entry}
-use Rattle.arena_core.specs.Arena.{ArenaState}
-use Rattle.arena_lock.specs.declared.opening.Opening.{Opening}
 use Rattle.shared_pool.specs.Passes.{PassState}
-use Rattle.shared_pool.specs.Closed.{IsClosed}
 
 -- a list, each by a function (the list comes first, so that its type is known)
 abbrev pub each_of : {A B : Type 0} → List A → (A → B) → List B
@@ -70,12 +66,6 @@ tail_list (x ∷ xs) = xs
 
 abbrev pub behead : PassState → PassState
 behead p = record { number = p.number; parts = tail_list p.parts }
-
--- arenas that end one after another, each with the first seats of the passes, which lose these
-abbrev pub AllEnded : ℕ → List PassState → List Opening → List (List Entry × ArenaState) → Type 0
-AllEnded seats passes [] [] = Unit {0}
-AllEnded seats passes (o ∷ os) (c ∷ cs) = IsClosed seats 0 passes o c × AllEnded seats (map behead passes) os cs
-AllEnded seats passes os cs = ⊥
 
 abbrev pub AllLong : List PassState → Type 0
 AllLong [] = Unit {0}

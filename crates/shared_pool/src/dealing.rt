@@ -5,8 +5,7 @@ ghost use Rattle.crossbeam_utils.specs.Padded.{padded_value};
 ghost use Rattle.arena_lock.specs.Known.{Lock};
 ghost use Rattle.shared_pool.specs.Passes.{fresh_passes};
 ghost use Rattle.shared_pool.specs.Begun.{AllBegun, AllNew};
-ghost use Rattle.shared_pool.specs.Closed.{tail_list};
-ghost use Rattle.shared_pool.specs.Rows.{each_of, AllRoom, AllSome, AllFirst, AllTell, firsts, lines, part_of};
+ghost use Rattle.shared_pool.specs.Rows.{tail_list, each_of, AllRoom, AllSome, AllFirst, AllTell, firsts, lines, part_of};
 
 use crate::pass::{Pass, Spot};
 use crate::starting::Begun;

@@ -4,8 +4,8 @@ use Rattle.crossbeam_utils.specs.Padded.{padded_value}
 use Rattle.heap_model.specs.declared.call.Entry.{Entry}
 use Rattle.std.specs.Vec.{vec_len, vec_capacity}
 use Rattle.std.proofs.lemmas.List.{length-map}
-use Rattle.shared_pool.specs.Rows.{each_of, behead, AllEnded}
-use Rattle.shared_pool.proofs.Closings.{head_back, fits_front, one_closed, all_closed, ended_all}
+use Rattle.shared_pool.specs.Rows.{each_of, behead}
+use Rattle.shared_pool.proofs.Closings.{AllEnded, head_back, fits_front, one_closed, all_closed, ended_all}
 use Rattle.shared_pool.proofs.FreshPasses.{no_items, room_left}
 use Rattle.shared_pool.proofs.closing.close_all.Goals as goal
 

@@ -5,7 +5,8 @@ use Rattle.crossbeam_utils.specs.Padded.{padded_value}
 use Rattle.heap_model.specs.declared.call.Entry.{Entry}
 use Rattle.shared_pool.specs.Begun.{AllNew}
 use Rattle.shared_pool.specs.Closed.{AllFitLocks, HasAll}
-use Rattle.shared_pool.specs.Rows.{each_of, AllRoom, AllEnded}
+use Rattle.shared_pool.specs.Rows.{each_of, AllRoom}
+use Rattle.shared_pool.proofs.Closings.{AllEnded}
 use Rattle.shared_pool.proofs.closing.close_all.Given as goal
 
 abbrev pub invariant-loop-locks : goal.invariant-loop-locks

@@ -1,9 +1,8 @@
 use Rattle.std.proofs.Common.{rules, arith, ◌≡◌, ◌+◌, ◌++◌, [], ◌∷◌, ◌∙◌, ℕ, suc, ap, sym, subst, map, length, List}
 use Rattle.std.specs.Vec.{vec_len, vec_capacity}
 use Rattle.shared_pool.specs.declared.pass.Spot.{Spot}
-use Rattle.shared_pool.specs.Closed.{tail_list}
+use Rattle.shared_pool.specs.Rows.{tail_list, AllTell, part_of, each_of, AllSome, AllFirst, firsts, lines}
 use Rattle.shared_pool.specs.Passes.{PassState, fresh_pass, fresh_passes}
-use Rattle.shared_pool.specs.Rows.{AllTell, part_of, each_of, AllSome, AllFirst, firsts, lines}
 use Rattle.shared_pool.proofs.FreshPasses.{one_left, some_lines, first_lines, firsts_lines, tails_lines, fresh_more, room_left, no_items, one_less}
 use Rattle.shared_pool.proofs.dealing.deal_out.Goals as goal
 

@@ -17,5 +17,5 @@ close_all-requires-clause-some g c =
 
 pub returns-clause-closed : goal.returns-clause-closed
 returns-clause-closed g c =
-    subst (λ (z : ℕ × List Opening). AllClosed z.0 c.args.passes.items z.1 (each_of c.close_all.result.items (λ e. (e.journal.items, e.arena))))
+    subst (λ (z : ℕ × List Opening). AllClosed z.0 0 c.args.passes.items z.1 (each_of c.close_all.result.items (λ e. (e.journal.items, e.arena))))
     (λ i. (ap (λ (z : PoolState). z.seats) c.self.view_is i, (sym (map_twice (λ (l : Lock). l.opening) _ c.self.inside.locks.items) ∙ ap (λ (z : PoolState). map (λ (l : Lock). l.opening) z.locks) c.self.view_is) i)) c.close_all.ensures
