@@ -24,10 +24,7 @@ recovered old new part steady exact keeps left =
     let same = events_are old new part in
     record {
       state = part.step.appends.state ∙ ap (λ (es : List Event). appended (began old) es) same;
-      quiet = part.step.quiet;
-      exact = exact;
-      heap = keeps.heap;
-      blocks = keeps.blocks;
+      image = record { quiet = part.step.quiet; exact = exact; heap = keeps.heap; blocks = keeps.blocks };
       bounds = left.bounds;
       slabs = left.slabs;
       stores = subst (λ (es : List Event). RecoversSound (words_of old) es) same part.stores;
@@ -41,10 +38,7 @@ pub recovered_device : (words : List ℕ) (room : ℕ) (device : PmemState) → 
 recovered_device words room device is = record {
   base = ap (λ (s : PmemState). s.base) is.state;
   begins = ap (λ (s : PmemState). s.begins) is.state;
-  quiet = is.quiet;
-  exact = is.exact;
-  heap = is.heap;
-  blocks = is.blocks;
+  image = is.image;
 }
 
 -- the room of every row of the table

@@ -25,14 +25,19 @@ pub record IsPrepared (words : List ℕ) (prepared : Prepared) : Type 0 where
   pub names : AreNames prepared.names words
   pub space : prepared.space ≡ granules_in words
 
--- One call began on the device, and its events are those of recovery. It is quiet, and its image is exact with the heap
--- that it had, in which each block has its words, and with the same numbers; each live slab was one of the same class.
+-- The device is quiet, and its image is exact with the heap of these words, in which each block has the words that it has in
+-- them.
+pub record IsExactOf (words : List ℕ) (device : PmemState) : Type 0 where
+  pub quiet : IsQuiet device.events
+  pub exact : IsExactImage (words_of device)
+  pub heap : HaveSameHeap words (words_of device)
+  pub blocks : KeepsBlocks words (words_of device)
+
+-- One call began on the device, and its events are those of recovery. Its image is the exact one of the words that it had,
+-- with the same numbers; each live slab was one of the same class.
 pub record IsRecovered (old new : PmemState) : Type 0 where
   pub state : new ≡ appended (began old) new.events
-  pub quiet : IsQuiet new.events
-  pub exact : IsExactImage (words_of new)
-  pub heap : HaveSameHeap (words_of old) (words_of new)
-  pub blocks : KeepsBlocks (words_of old) (words_of new)
+  pub image : IsExactOf (words_of old) new
   pub bounds : bounds_of (words_of new) ≡ bounds_of (words_of old)
   pub slabs : KeepsClasses (tables_of (words_of old)) (tables_of (words_of new))
   -- what is stored
@@ -42,12 +47,8 @@ pub record IsRecovered (old new : PmemState) : Type 0 where
   pub steady_stores : IsSteadyImage (words_of old) → Recovers (words_of old) new.events
   pub crash : IsSteadyImage (words_of old) → CrashOnly (words_of old) new.events (KeepsHeap (words_of old))
 
--- A recovered device of these words: one call began on it, over just these words. It is quiet, and its image is exact with
--- their heap, in which each block has the words that it has in them.
+-- A recovered device of these words: one call began on it, over just these words, and its image is the exact one of them.
 pub record IsRecoveredDevice (words : List ℕ) (device : PmemState) : Type 0 where
   pub base : device.base ≡ words
   pub begins : device.begins ≡ 1
-  pub quiet : IsQuiet device.events
-  pub exact : IsExactImage (words_of device)
-  pub heap : HaveSameHeap words (words_of device)
-  pub blocks : KeepsBlocks words (words_of device)
+  pub image : IsExactOf words device

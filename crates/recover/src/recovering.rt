@@ -9,6 +9,8 @@ ghost use Rattle.log_steps.specs.Log.{IsBookOf};
 ghost use Rattle.recovery_steps.specs.Names.{AreNames};
 ghost use Rattle.image_defects.specs.Defects.{IsFirstDefect};
 ghost use Rattle.recover.specs.Faults.{IfDefect};
+ghost use Rattle.heap_model.specs.Placement.{no_stacks};
+ghost use Rattle.thread_cache.specs.Stacks.{stacks_of};
 ghost use Rattle.arena_core.specs.Call.{IsReady};
 ghost use Rattle.recover.specs.Recovered.{HasVersionRoom, IsPrepared, IsRecovered};
 
@@ -21,7 +23,7 @@ use recovery_steps::{RootNames, all_words, make_exact};
 use std::alloc::Global;
 
 /// Recovers an arena from its device: the image becomes exact with the heap that it has, in which each block keeps its
-/// words, and an arena is made over it. The device is quiet and has the room of its version, where its header line is good;
+/// words, and an arena is made over it, in which no block is reserved: all stacks are empty. The device is quiet and has the room of its version, where its header line is good;
 /// of this one call's events are done, the `recovery_events` of the version at most. Ok comes exactly where the image is
 /// sound, a defect exactly where it is not, and it is the first in the order of the format; either yields to want of memory.
 /// All memory is taken before the first event. On a refusal the device comes back as it was. From a steady image a crash
@@ -32,6 +34,7 @@ pub fn recover<P: Pmem>(alloc: Global, p: P) -> Result<Arena<P>, (RecoverFault, 
     ensures sound { OnOk result (IsSoundImage (words_of (P.state p))) }
     ensures recovered { IfOk result (λ arena. IsRecovered (P.state p) arena.device) }
     ensures line { IfOk result (λ arena. arena.line ≡ 0) }
+    ensures stacks { IfOk result (λ arena. stacks_of arena.stacks ≡ no_stacks) }
     ensures ready { IfOk result (λ arena. IsReady arena.device) }
     ensures defect { IfErr result (λ refused. IfDefect refused.0 (IsFirstDefect (words_of (P.state p)))) }
     ensures unchanged { IfErr result (λ refused. P.state refused.1 ≡ P.state p) }
@@ -50,6 +53,7 @@ fn recover_prepared<P: Pmem>(p: P, prepared: Prepared) -> Arena<P>
     requires prepared { IsPrepared (words_of (P.state p)) prepared }
     ensures recovered { IsRecovered (P.state p) result.device }
     ensures line { result.line ≡ 0 }
+    ensures stacks { stacks_of result.stacks ≡ no_stacks }
     ensures ready { IsReady result.device }
 {
     let Prepared {

@@ -26,7 +26,7 @@ left_recovering old records was image keeps = record { steady = keeps.steady; st
 
 pub reopened : (old : PmemState) (arena : ArenaState) (new : StackState) → IsRecovered old arena.device → IsOpened arena new → IsReopened old new
 reopened old arena new is opened =
-    let was : IsStack (words_of old) new.records = stack_kept (words_of arena.device) (words_of old) new.records opened.records (back_below (words_of old) (words_of arena.device) is.heap is.blocks) in
+    let was : IsStack (words_of old) new.records = stack_kept (words_of arena.device) (words_of old) new.records opened.records (back_below (words_of old) (words_of arena.device) is.image.heap is.image.blocks) in
     record {
       records = was;
       recovered = arena;
@@ -38,4 +38,4 @@ reopened old arena new is opened =
 -- a device that is no stack was none
 pub still_none : (old : PmemState) (arena : ArenaState) → IsRecovered old arena.device → ¬ (HoldsStack (words_of arena.device)) → ¬ (HoldsStack (words_of old))
 still_none old arena is none holds =
-    none (record { records = holds.records; stack = stack_kept (words_of old) (words_of arena.device) holds.records holds.stack (same_below (words_of old) (words_of arena.device) is.heap is.blocks) })
+    none (record { records = holds.records; stack = stack_kept (words_of old) (words_of arena.device) holds.records holds.stack (same_below (words_of old) (words_of arena.device) is.image.heap is.image.blocks) })

@@ -6,4 +6,4 @@ use Rattle.image_runs.proofs.recovering.recover_heap.Goals as goal
 pub returns-in-Ok-blocks_of-clause-heap : goal.returns-in-Ok-blocks_of-clause-heap
 returns-in-Ok-blocks_of-clause-heap g c =
     let done = c.in-Ok.ensures in
-    c.in-Ok-blocks_of.ensures ∙ blocks_in-same (words_of (g.P.Pmem.state c.args.device)) (words_of c.in-Ok.arena.device) done.recovered.bounds done.recovered.heap
+    c.in-Ok-blocks_of.ensures ∙ blocks_in-same (words_of (g.P.Pmem.state c.args.device)) (words_of c.in-Ok.arena.device) done.recovered.bounds done.recovered.image.heap
