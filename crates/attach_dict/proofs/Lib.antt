@@ -17,3 +17,4 @@ pub mod Layouts
 pub mod Freed
 pub mod Staged
 pub mod Published
+pub mod Lengths

@@ -11,32 +11,36 @@ use Rattle.attach_dict.proofs.Maps.{value_here, value_else, value_none}
 
 -- lists
 
-tail_has : (r : Ranked) (rest : List Ranked) (s : Ranked) → Contains rest s → Contains (r ∷ rest) s
+pub tail_has : (r : Ranked) (rest : List Ranked) (s : Ranked) → Contains rest s → Contains (r ∷ rest) s
 tail_has r rest s (k, inside, is) = (suc k, omega arith, is)
 
-head_has : (r : Ranked) (rest : List Ranked) → Contains (r ∷ rest) r
+pub head_has : (r : Ranked) (rest : List Ranked) → Contains (r ∷ rest) r
 head_has r rest = (0, omega arith, refl)
 
-head_or_tail : (r : Ranked) (rest : List Ranked) (s : Ranked) → Contains (r ∷ rest) s → (r ≡ s) ⊎ Contains rest s
+pub head_or_tail : (r : Ranked) (rest : List Ranked) (s : Ranked) → Contains (r ∷ rest) s → (r ≡ s) ⊎ Contains rest s
 head_or_tail r rest s (zero, inside, is) = inl is
 head_or_tail r rest s (suc k, inside, is) = inr (k, omega arith, is)
 
 -- the pairs of a list of roots
 
-abbrev pair_of : List ℕ → Ranked → Pair
+abbrev pub pair_of : List ℕ → Ranked → Pair
 pair_of words r = record { key = r.first; value = value_in words r.root }
 
 module _ (words : List ℕ) where
-  one_in : (r : Ranked) → pairs_in words (r ∷ []) ≡ pair_of words r ∷ []
+  pub none_in : pairs_in words [] ≡ []
+  unfolding pairs_in
+  none_in = refl
+
+  pub one_in : (r : Ranked) → pairs_in words (r ∷ []) ≡ pair_of words r ∷ []
   unfolding pairs_in
   one_in r = refl
 
   -- a root before another one of its key is passed over
-  passed_over : (r s : Ranked) (rest : List Ranked) → r.first ≡ s.first → pairs_in words (r ∷ s ∷ rest) ≡ pairs_in words (s ∷ rest)
+  pub passed_over : (r s : Ranked) (rest : List Ranked) → r.first ≡ s.first → pairs_in words (r ∷ s ∷ rest) ≡ pairs_in words (s ∷ rest)
   unfolding pairs_in
   passed_over r s rest same = cond-true (eqb r.first s.first) (pairs_in words (s ∷ rest)) (pair_of words r ∷ pairs_in words (s ∷ rest)) (eq-eqb r.first s.first same)
 
-  taken : (r s : Ranked) (rest : List Ranked) → r.first ≢ s.first → pairs_in words (r ∷ s ∷ rest) ≡ pair_of words r ∷ pairs_in words (s ∷ rest)
+  pub taken : (r s : Ranked) (rest : List Ranked) → r.first ≢ s.first → pairs_in words (r ∷ s ∷ rest) ≡ pair_of words r ∷ pairs_in words (s ∷ rest)
   unfolding pairs_in
   taken r s rest apart = cond-false (eqb r.first s.first) (pairs_in words (s ∷ rest)) (pair_of words r ∷ pairs_in words (s ∷ rest)) (ne_eqb r.first s.first apart)
 
@@ -66,10 +70,10 @@ module _ (words : List ℕ) where
 
   -- where they rise
 
-  rising_tail : (r : Ranked) (rest : List Ranked) → AllPairs IsBefore (r ∷ rest) → AllPairs IsBefore rest
+  pub rising_tail : (r : Ranked) (rest : List Ranked) → AllPairs IsBefore (r ∷ rest) → AllPairs IsBefore rest
   rising_tail r rest rising i k d less inside = rising (suc i) (suc k) d (omega arith) (omega arith)
 
-  rising_head : (r : Ranked) (rest : List Ranked) → AllPairs IsBefore (r ∷ rest) → (s : Ranked) → Contains rest s → IsBefore r s
+  pub rising_head : (r : Ranked) (rest : List Ranked) → AllPairs IsBefore (r ∷ rest) → (s : Ranked) → Contains rest s → IsBefore r s
   rising_head r rest rising s (k, inside, is) = subst (IsBefore r) is (rising zero (suc k) s (omega arith) (omega arith))
 
   pub rising_in : (ranked : List Ranked) → AllPairs IsBefore ranked → AreRising (pairs_in words ranked)

@@ -1,5 +1,5 @@
 -- For the functions on what a dictionary keeps beside its arena: what became of its orders and its sets of roots.
-use Rattle.std.specs.Prelude.{◌≡◌, ◌≢◌, ◌⊎◌, ℕ, ◌<◌, ◌≤◌, length}
+use Rattle.std.specs.Prelude.{◌≡◌, ◌≢◌, ◌⊎◌, ℕ, ◌+◌, ◌<◌, ◌≤◌, length}
 use Rattle.pair_order.specs.declared.order.Ranked.{Ranked}
 use Rattle.pair_order.specs.Order.{Order, IsRanked, HasPlace, HasNoPlace, IsNew, HasMore, HasLess, HasNoneOf, IsLastOf, IsEmpty}
 use Rattle.attach_dict.specs.declared.index.DictIndex.{DictIndex}
@@ -65,6 +65,10 @@ pub record MayDrop (index : DictIndex) (root : ℕ) : Type 0 where
 pub record HasDroppedStale (old : DictIndex) (root : ℕ) (new : DictIndex) : Type 0 where
   pub stale : HasFewerRoots old.stale root new.stale
   pub pair : ((root ≡ stage) × (new ≡ record old { stale = new.stale })) ⊎ ((root ≢ stage) × HasLessPair (record old { stale = new.stale }) root new)
+
+-- so many roots of a set are not the stage
+abbrev pub AreStaleBesides : Roots → ℕ → Type 0
+AreStaleBesides stale count = (IsIn stale stage × (count + 1 ≡ stale.count)) ⊎ (¬ (IsIn stale stage) × (count ≡ stale.count))
 
 -- the greatest first number of an order, or 0 where it has none
 pub record IsGreatestNumber (order : Order) (number : ℕ) : Type 0 where

@@ -1,5 +1,5 @@
 // A dictionary over an arena.
-ghost use Rattle.std.specs.Prelude.{◌≡◌, length, MatchOption};
+ghost use Rattle.std.specs.Prelude.{◌≡◌, ◌↔◌, [], length, IsTrue, MatchOption};
 ghost use Rattle.pmem_lines.specs.Pmem.{words_of};
 ghost use Rattle.attach_dict.specs.Calls.{IsGot, LawOfOtherKeys};
 ghost use Rattle.attach_dict.specs.Dict.{LawOfDicts, LawOfKeptDicts};
@@ -36,6 +36,21 @@ impl<P: Pmem> Model for Dict<P> {
 }
 
 impl<P: Pmem> Dict<P> {
+    /// How many keys there are.
+    pub fn len(&self) -> u32
+        ensures count { result ≡ length self.now.pairs }
+        ensures kept { IsKept self.now }
+    {
+        self.index.by_key.len() - self.index.stale_pairs()
+    }
+
+    /// There is no key.
+    pub fn is_empty(&self) -> bool
+        ensures { IsTrue result ↔ (self.now.pairs ≡ []) }
+    {
+        self.len() == 0
+    }
+
     /// How many stale roots there are.
     pub fn stale(&self) -> u32
         ensures count { IsStaleCount (words_of self.now.arena.device) self.now.phase result }

@@ -1,8 +1,9 @@
 // What a dictionary keeps beside its arena: which root has which pair, which are free, and which are stale.
 ghost use Rattle.std.specs.Prelude.{◌≡◌, ◌≤◌, ◌<◌, ◌^◌, IfOk};
 ghost use Rattle.pair_order.specs.Order.{HasNoPlace, HasPlace};
-ghost use Rattle.attach_dict.specs.Index.{IsBlank, HasMorePair, HasLessPair, MayComeNext, HasPutPair, MayDrop, HasDroppedStale, IsGreatestNumber};
-ghost use Rattle.attach_dict.specs.Roots.{IsIn, IsOut};
+ghost use Rattle.attach_dict.specs.Index.{IsBlank, HasMorePair, HasLessPair, MayComeNext, HasPutPair, MayDrop, HasDroppedStale, AreStaleBesides, IsGreatestNumber};
+ghost use Rattle.attach_dict.specs.Dict.{stage};
+ghost use Rattle.attach_dict.specs.Roots.{IsIn, IsOut, AreRoots};
 
 use crate::layout::STAGE;
 use crate::root_set::RootSet;
@@ -97,6 +98,20 @@ impl DictIndex {
         self.stale.remove(root);
         if root != STAGE {
             self.drop_pair(root);
+        }
+    }
+
+    /// How many roots besides the stage are stale.
+    pub(crate) fn stale_pairs(&self) -> u32
+        requires { stage < self.now.stale.below }
+        ensures count { AreStaleBesides self.now.stale result }
+        ensures sound { AreRoots self.now.stale }
+    {
+        let stale = self.stale.len();
+        if self.stale.contains(STAGE) {
+            stale - 1
+        } else {
+            stale
         }
     }
 
