@@ -1,0 +1,337 @@
+-- A root's block was freed: that of a pair which counted, or that of a stale root.
+use Rattle.std.proofs.Common.{◌≡◌, ◌≢◌, ◌⊎◌, ℕ, ◌<◌, ◌≤◌, List, length, Option, Some, None, inl, inr, refl, sym, ap, ◌∙◌, subst, arith, ⊎_elim}
+use Rattle.std.proofs.lemmas.Bool.{cases_eq}
+use Rattle.pmem_lines.specs.Pmem.{words_of}
+use Rattle.image_tables.specs.Tables.{tables_of}
+use Rattle.heap_model.specs.Machine.{Bounds}
+use Rattle.heap_check.specs.Heap.{heap}
+use Rattle.heap_check.specs.Image.{bounds_of, IsExactImage}
+use Rattle.heap_check.specs.State.{HaveSameHeap, IsEitherHeap}
+use Rattle.image_defects.specs.Least.{HasNone as HasNoNumber, IsLeast}
+use Rattle.pair_order.specs.declared.order.Ranked.{Ranked}
+use Rattle.pair_order.specs.Order.{IsRanked, HasPlace, HasLess}
+use Rattle.arena_core.specs.Arena.{ArenaState}
+use Rattle.arena_core.proofs.Callers.{rooted}
+use Rattle.attach_dict.specs.declared.index.DictIndex.{DictIndex}
+use Rattle.attach_dict.specs.declared.progress.Progress.{Progress}
+use Rattle.attach_dict.specs.declared.progress.Progress.TheVariants as stages
+use Rattle.attach_dict.specs.Calls.{IsEitherDict, Leaves, KeepsMap, HasTidied, HasRemoved}
+use Rattle.attach_dict.specs.Dict.{Pair, stage, HasSome, HasNone, IsPair, Counts, IsFit, IsDict, IsStaleRoot, IsSteadyDict}
+use Rattle.attach_dict.specs.Index.{HasLessPair, MayDrop, HasDroppedStale}
+use Rattle.attach_dict.specs.Roots.{Roots, IsIn, IsOut, HasMoreRoots, HasFewerRoots}
+use Rattle.attach_dict.specs.Stages.{Phase, Idle, Staged, Filled, IsStale, AreNoneStale, IsAtStage, IsKept}
+use Rattle.attach_dict.specs.Steps.{IsFreed}
+use Rattle.attach_dict.specs.View.{pairs_in, phase_in, turned, IsPairOf, AreOrders, AreStaleRoots}
+use Rattle.attach_dict.specs.Whole.{state_of, IsWhole}
+use Rattle.attach_dict.proofs.Answered.{stage_rooted, left_keeps, left_dict, freed_others, freed_none, freed_keeps}
+use Rattle.attach_dict.proofs.Counting.{law_of_dicts}
+use Rattle.attach_dict.proofs.Indexed.{dict_of, ranked_of_pair}
+use Rattle.attach_dict.proofs.Kept.{KeepsRoots, keeps_back, keeps_heap, dict_same, stale_same}
+use Rattle.attach_dict.proofs.Less.{none_not_some, fit_less, both_less, orders_less, puts_none, still_tidy, dict_less, stale_left, stale_was}
+use Rattle.attach_dict.proofs.Pairs.{some_of}
+use Rattle.attach_dict.proofs.Still.{leaves_by, stale_none, orders_still, dict_still, map_still}
+
+-- phases
+
+-- nothing is staged where the phase says so
+pub idle_is : (words : List ℕ) (key : ℕ) (progress : Progress) → phase_in words key progress ≡ Idle → progress ≡ stages.Idle
+idle_is words key stages.Idle is = refl
+idle_is words key (stages.Staged count) is = absurd (cc is)
+idle_is words key stages.Filled is = absurd (cc is)
+
+-- nor where a root is stale
+pub idle_where : (words : List ℕ) (key : ℕ) (progress : Progress) (root : ℕ) → IsAtStage words (phase_in words key progress) → IsStale words (phase_in words key progress) root → progress ≡ stages.Idle
+idle_where words key stages.Idle root at_stage so = refl
+idle_where words key (stages.Staged count) root at_stage so = absurd (at_stage.2 root so)
+idle_where words key stages.Filled root at_stage so = absurd (at_stage.2 root so)
+
+-- a stale root has a block, and is one of the arena's
+stale_some : (words : List ℕ) (root : ℕ) → IsStale words Idle root → HasSome words root
+stale_some words root so = ⊎_elim (λ s. s.some) (λ s. subst (λ (r : ℕ). HasSome words r) (sym s.0) s.1) so
+
+stale_rooted : (words : List ℕ) (root : ℕ) → IsExactImage words → IsStale words Idle root → root < (bounds_of words).roots
+stale_rooted words root exact so = let some = stale_some words root so in rooted words root some.range exact some.named
+
+-- the pair that a root's block is has its places in the orders
+module _ (words : List ℕ) (exact : IsExactImage words) (index : DictIndex) (orders : AreOrders words (bounds_of words).roots index.by_key index.by_number index.free) where
+  pub key_place : (root key number : ℕ) (value : List ℕ) → IsPair words root key number value → HasPlace index.by_key root
+  key_place root key number value pair = record { ranked = record { root = root; first = key; second = number }; is = ranked_of_pair words exact index.by_key index.by_number index.free orders root key number value pair; root_is = refl }
+
+  pub number_place : (root key number : ℕ) (value : List ℕ) → IsPair words root key number value → HasPlace index.by_number root
+  number_place root key number value pair = record {
+    ranked = record { root = root; first = number; second = key };
+    is = orders.to_number (record { root = root; first = key; second = number }) (ranked_of_pair words exact index.by_key index.by_number index.free orders root key number value pair);
+    root_is = refl;
+  }
+
+  -- and is not free
+  pub some_out : (root : ℕ) → HasSome words root → IsOut index.free root
+  some_out root some = record { none = λ is. none_not_some (orders.free_are root is).none some }
+
+  pub some_low : (root : ℕ) → HasSome words root → root < index.free.below
+  some_low root some = subst (λ (n : ℕ). root < n) (sym orders.free_below) (rooted words root some.range exact some.named)
+
+-- a pair goes
+
+module _ (old new : ArenaState) (index after : DictIndex) (key : ℕ) (whole : IsWhole old index key stages.Idle) (root : ℕ) (low : stage < root) (f : IsFreed old new root) (keys : HasLess index.by_key root after.by_key) (numbers : HasLess index.by_number root after.by_number) (frees : HasMoreRoots index.free root after.free) where
+  abbrev was : List ℕ
+  was = words_of old.device
+
+  abbrev is : List ℕ
+  is = words_of new.device
+
+  abbrev pairs : List Pair
+  pairs = pairs_in was index.by_key.ranked
+
+  abbrev left : List Pair
+  left = pairs_in is after.by_key.ranked
+
+  bounds : bounds_of is ≡ bounds_of was
+  bounds = f.did.step.bounds
+
+  in_arena : root < (bounds_of was).roots
+  in_arena = rooted was root f.range f.did.did.was_exact f.named
+
+  pub orders_after : AreOrders is (bounds_of is).roots after.by_key after.by_number after.free
+  orders_after = subst (λ (b : Bounds). AreOrders is b.roots after.by_key after.by_number after.free) (sym bounds)
+      (orders_less (freed_keeps f) (freed_none f) (bounds_of was).roots index.by_key index.by_number after.by_key after.by_number index.free after.free bounds low in_arena whole.indexes.orders keys numbers frees)
+
+  pub dict_after : IsDict is left
+  dict_after = dict_of is f.did.did.exact after.by_key after.by_number after.free orders_after (fit_less (freed_keeps f) (freed_none f) whole.kept.dict.fit)
+
+  -- a crash leaves the map of before or the one of behind
+  pub left_either : (image : List ℕ) → IsEitherHeap was is image → IsEitherDict pairs left image
+  left_either image l = ⊎_elim
+      (λ (before : HaveSameHeap was image). inl (record { steady = l.steady; dict = dict_same (keeps_heap before l.words) pairs whole.kept.dict }))
+      (λ (behind : HaveSameHeap is image). inr (record { steady = l.steady; dict = dict_same (both_less (freed_keeps f) (freed_none f) (left_keeps was is image root (freed_others f) l) (behind.each root ∙ freed_none f)) left dict_after }))
+      l.heap
+
+  -- the stage is as it was
+  stage_same : heap (tables_of is) stage ≡ heap (tables_of was) stage
+  stage_same = (freed_others f).each stage (λ same. omega (arith, same, low))
+
+  -- it counted for a key, and nothing was stale
+  module _ (gone : ℕ) (value : List ℕ) (counted : Counts was root gone value) (tidy : AreNoneStale was Idle) (stale : after.stale ≡ index.stale) (block : after.block ≡ index.block) where
+    tidy_after : AreNoneStale is Idle
+    tidy_after other so = ⊎_elim
+        (λ s. still_tidy (freed_keeps f) (freed_none f) pairs left whole.kept.dict dict_after gone value counted (λ r s. tidy r (inl s)) other s)
+        (λ s. tidy other (inr (s.0, record { range = s.1.range; named = sym stage_same ∙ s.1.named })))
+        so
+
+    pub whole_removed : IsWhole new after key stages.Idle
+    whole_removed = record {
+      kept = record { ready = f.did.did.ready; exact = f.did.did.exact; dict = dict_after; at_stage = tt };
+      indexes = record {
+        orders = orders_after;
+        stale_roots = subst (λ (s : Roots). AreStaleRoots is Idle (bounds_of is).roots s) (sym stale) (stale_none was is Idle Idle index.stale bounds whole.indexes.stale_roots tidy tidy_after);
+        wide = ap (λ b. length b.items) block ∙ whole.indexes.wide;
+      };
+    }
+
+    pub removed : HasRemoved (state_of old index key stages.Idle) (state_of new after key stages.Idle) gone
+    removed = record {
+      root = root;
+      value = value;
+      at = f.range.at;
+      size = f.range.size;
+      counts = counted;
+      did = f.did;
+      puts = puts_none (freed_keeps f) (freed_none f) pairs left whole.kept.dict dict_after gone value counted (λ r s. tidy r (inl s));
+      phase = refl;
+      crash = leaves_by old new (IsEitherHeap was is) (IsEitherDict pairs left) left_either f.did.did;
+    }
+
+  -- it was stale
+  module _ (so : IsStaleRoot was root) (fewer : HasFewerRoots index.stale root after.stale) (block : after.block ≡ index.block) where
+    same_dict : IsDict is pairs
+    same_dict = dict_less (freed_keeps f) (freed_none f) pairs left whole.kept.dict dict_after so
+
+    pub same_map_after : left ≡ pairs
+    same_map_after = law_of_dicts is left pairs dict_after same_dict
+
+    gone_apart : {other : ℕ} → HasSome is other → other ≢ root
+    gone_apart {other} some same = none_not_some (freed_none f) (subst (λ (r : ℕ). HasSome is r) same some)
+
+    stale_after : AreStaleRoots is Idle (bounds_of is).roots after.stale
+    stale_after = record {
+      stale_below = fewer.below ∙ (whole.indexes.stale_roots.stale_below ∙ ap (λ (b : Bounds). b.roots) (sym bounds));
+      are = λ other held.
+          let apart : other ≢ root = λ same. fewer.out.none (subst (λ (r : ℕ). IsIn after.stale r) same held) in
+          ⊎_elim
+          (λ s. inl (stale_left (freed_keeps f) (freed_none f) pairs left whole.kept.dict dict_after so other apart s))
+          (λ s. inr (s.0, record { range = s.1.range; named = stage_same ∙ s.1.named }))
+          (whole.indexes.stale_roots.are other (fewer.each other held));
+      inside = λ other held. subst (λ (b : Bounds). other < b.roots) (sym bounds) (whole.indexes.stale_roots.inside other (fewer.each other held));
+      each = λ other below s.
+          let before : IsStale was Idle other = ⊎_elim
+          (λ t. inl (stale_was (freed_keeps f) (freed_none f) pairs left whole.kept.dict dict_after so other t))
+          (λ t. inr (t.0, record { range = t.1.range; named = sym stage_same ∙ t.1.named }))
+          s in
+          fewer.kept other (whole.indexes.stale_roots.each other (subst (λ (b : Bounds). other < b.roots) bounds below) before) (gone_apart (stale_some is other s));
+    }
+
+    pub whole_tidied : IsWhole new after key stages.Idle
+    whole_tidied = record {
+      kept = record { ready = f.did.did.ready; exact = f.did.did.exact; dict = dict_after; at_stage = tt };
+      indexes = record { orders = orders_after; stale_roots = stale_after; wide = ap (λ b. length b.items) block ∙ whole.indexes.wide };
+    }
+
+    pub tidied_map : KeepsMap (state_of old index key stages.Idle) (state_of new after key stages.Idle) Idle
+    tidied_map = record {
+      pairs = same_map_after;
+      phase_is = refl;
+      crash = leaves_by old new (IsEitherHeap was is) (IsSteadyDict pairs)
+          (λ image l. ⊎_elim (λ before. before) (λ behind. subst (λ (ps : List Pair). IsSteadyDict ps image) same_map_after behind) (left_either image l)) f.did.did;
+    }
+
+-- the stage's block goes, where nothing is staged
+
+module _ (old new : ArenaState) (index after : DictIndex) (key : ℕ) (whole : IsWhole old index key stages.Idle) (f : IsFreed old new stage) (fewer : HasFewerRoots index.stale stage after.stale) (same : after ≡ record { by_key = index.by_key; by_number = index.by_number; free = index.free; stale = after.stale; block = index.block }) where
+  abbrev were : List ℕ
+  were = words_of old.device
+
+  abbrev are : List ℕ
+  are = words_of new.device
+
+  stale_cleared : AreStaleRoots are Idle (bounds_of are).roots after.stale
+  stale_cleared = record {
+    stale_below = fewer.below ∙ (whole.indexes.stale_roots.stale_below ∙ ap (λ (b : Bounds). b.roots) (sym f.did.step.bounds));
+    are = λ other held. ⊎_elim
+        (λ s. inl (stale_same (freed_keeps f) s))
+        (λ s. absurd (fewer.out.none (subst (λ (r : ℕ). IsIn after.stale r) s.0 held)))
+        (whole.indexes.stale_roots.are other (fewer.each other held));
+    inside = λ other held. subst (λ (b : Bounds). other < b.roots) (sym f.did.step.bounds) (whole.indexes.stale_roots.inside other (fewer.each other held));
+    each = λ other below s. ⊎_elim
+        (λ t. fewer.kept other (whole.indexes.stale_roots.each other (subst (λ (b : Bounds). other < b.roots) f.did.step.bounds below) (inl (stale_same (keeps_back (freed_keeps f)) t))) (λ is. omega (arith, is, t.low)))
+        (λ t. absurd (none_not_some (freed_none f) t.1))
+        s;
+  }
+
+  abbrev cleared : DictIndex
+  cleared = record { by_key = index.by_key; by_number = index.by_number; free = index.free; stale = after.stale; block = index.block }
+
+  whole_at : IsWhole new cleared key stages.Idle
+  whole_at = record {
+    kept = record { ready = f.did.did.ready; exact = f.did.did.exact; dict = dict_still old new index key stages.Idle whole (freed_keeps f) f.did.step.bounds f.did.did.exact; at_stage = tt };
+    indexes = record { orders = orders_still old new index key stages.Idle whole (freed_keeps f) f.did.step.bounds f.did.did.exact; stale_roots = stale_cleared; wide = whole.indexes.wide };
+  }
+
+  pub whole_cleared : IsWhole new after key stages.Idle
+  whole_cleared = subst (λ (i : DictIndex). IsWhole new i key stages.Idle) (sym same) whole_at
+
+  pub cleared_map : KeepsMap (state_of old index key stages.Idle) (state_of new after key stages.Idle) Idle
+  cleared_map = subst (λ (i : DictIndex). KeepsMap (state_of old index key stages.Idle) (state_of new i key stages.Idle) Idle) (sym same) (record {
+    pairs = map_still old new index key stages.Idle whole (freed_keeps f) f.did.step.bounds f.did.did.exact;
+    phase_is = refl;
+    crash = leaves_by old new (IsEitherHeap were are) (IsSteadyDict (pairs_in were index.by_key.ranked)) (λ image l. left_dict were are image (pairs_in were index.by_key.ranked) whole.kept.dict (freed_others f) l) f.did.did;
+  })
+
+-- a stale root goes, whichever it is
+
+module _ (old new : ArenaState) (index after : DictIndex) (key : ℕ) (whole : IsWhole old index key stages.Idle) (root : ℕ) (f : IsFreed old new root) (dropped : HasDroppedStale index root after) (held : IsIn index.stale root) where
+  not_stage : root ≢ stage → IsStaleRoot (words_of old.device) root
+  not_stage apart = ⊎_elim (λ s. s) (λ s. absurd (apart s.0)) (whole.indexes.stale_roots.are root held)
+
+  pub whole_dropped : IsWhole new after key stages.Idle
+  whole_dropped = ⊎_elim
+      (λ at. whole_cleared old new index after key whole (subst (λ (r : ℕ). IsFreed old new r) at.0 f) (subst (λ (r : ℕ). HasFewerRoots index.stale r after.stale) at.0 dropped.stale) at.1)
+      (λ at.
+      let s = not_stage at.0 in
+      whole_tidied old new index after key whole root s.low f at.1.keys at.1.numbers at.1.free s dropped.stale at.1.block)
+      dropped.pair
+
+  pub dropped_map : KeepsMap (state_of old index key stages.Idle) (state_of new after key stages.Idle) Idle
+  dropped_map = ⊎_elim
+      (λ at. cleared_map old new index after key whole (subst (λ (r : ℕ). IsFreed old new r) at.0 f) (subst (λ (r : ℕ). HasFewerRoots index.stale r after.stale) at.0 dropped.stale) at.1)
+      (λ at.
+      let s = not_stage at.0 in
+      tidied_map old new index after key whole root s.low f at.1.keys at.1.numbers at.1.free s dropped.stale at.1.block)
+      dropped.pair
+
+  pub has_tidied : IsLeast (IsIn index.stale) root → HasTidied (state_of old index key stages.Idle) (state_of new after key stages.Idle)
+  has_tidied least = record {
+    root = root;
+    at = f.range.at;
+    size = f.range.size;
+    stale = record {
+      here = whole.indexes.stale_roots.are root held;
+      least = λ other so. least.least other (whole.indexes.stale_roots.each other (stale_rooted (words_of old.device) other whole.kept.exact so) so);
+    };
+    did = f.did;
+    keeps = dropped_map;
+  }
+
+-- as the calls have it
+
+module _ (old : ArenaState) (index : DictIndex) (key : ℕ) (progress : Progress) (whole : IsWhole old index key progress) (root : ℕ) (held : IsIn index.stale root) where
+  tidy_idle : progress ≡ stages.Idle
+  tidy_idle = idle_where (words_of old.device) key progress root whole.kept.at_stage (whole.indexes.stale_roots.are root held)
+
+  still_whole : IsWhole old index key stages.Idle
+  still_whole = subst (λ (p : Progress). IsWhole old index key p) tidy_idle whole
+
+  pub tidy_some : HasSome (words_of old.device) root
+  tidy_some = stale_some (words_of old.device) root (still_whole.indexes.stale_roots.are root held)
+
+  -- a stale root that is not the stage has a pair
+  tidy_pair : root ≢ stage → IsFit (words_of old.device) root
+  tidy_pair apart = ⊎_elim (λ s. whole.kept.dict.fit root s.low s.some) (λ s. absurd (apart s.0)) (still_whole.indexes.stale_roots.are root held)
+
+  pub may_drop : MayDrop index root
+  may_drop = record {
+    stale = held;
+    key = λ apart. let fit = tidy_pair apart in key_place (words_of old.device) whole.kept.exact index whole.indexes.orders root fit.key fit.number fit.value fit.pair;
+    number = λ apart. let fit = tidy_pair apart in number_place (words_of old.device) whole.kept.exact index whole.indexes.orders root fit.key fit.number fit.value fit.pair;
+    low = some_low (words_of old.device) whole.kept.exact index whole.indexes.orders root tidy_some;
+    out = λ apart. some_out (words_of old.device) whole.kept.exact index whole.indexes.orders root tidy_some;
+  }
+
+  module _ (new : ArenaState) (after : DictIndex) (f : IsFreed old new root) (dropped : HasDroppedStale index root after) where
+    pub whole_behind : IsWhole new after key progress
+    whole_behind = subst (λ (p : Progress). IsWhole new after key p) (sym tidy_idle) (whole_dropped old new index after key still_whole root f dropped held)
+
+    pub tidied_behind : IsLeast (IsIn index.stale) root → HasTidied (state_of old index key progress) (state_of new after key progress)
+    tidied_behind least = subst (λ (p : Progress). HasTidied (state_of old index key p) (state_of new after key p)) (sym tidy_idle) (has_tidied old new index after key still_whole root f dropped held least)
+
+-- no root is stale
+stale_all : (words : List ℕ) (phase : Phase) (root : ℕ) → IsExactImage words → IsStale words phase root → root < (bounds_of words).roots
+stale_all words Idle root exact so = stale_rooted words root exact so
+stale_all words (Staged key count) root exact so = rooted words root so.some.range exact so.some.named
+stale_all words (Filled key value) root exact so = rooted words root so.some.range exact so.some.named
+
+pub none_found : (old : ArenaState) (index : DictIndex) (key : ℕ) (progress : Progress) → IsWhole old index key progress → HasNoNumber (IsIn index.stale) → AreNoneStale (words_of old.device) (phase_in (words_of old.device) key progress)
+none_found old index key progress whole none root so = none.none root (whole.indexes.stale_roots.each root (stale_all (words_of old.device) (phase_in (words_of old.device) key progress) root whole.kept.exact so) so)
+
+-- a key is removed
+module _ (old : ArenaState) (index : DictIndex) (key : ℕ) (progress : Progress) (whole : IsWhole old index key progress) (r : Ranked) (is_in : IsRanked index.by_key r) where
+  abbrev pair_in : IsPairOf (words_of old.device) r
+  pair_in = whole.indexes.orders.are r is_in
+
+  pub remove_some : HasSome (words_of old.device) r.root
+  remove_some = some_of pair_in.pair
+
+  pub remove_key : HasPlace index.by_key r.root
+  remove_key = record { ranked = r; is = is_in; root_is = refl }
+
+  pub remove_number : HasPlace index.by_number r.root
+  remove_number = record { ranked = turned r; is = whole.indexes.orders.to_number r is_in; root_is = refl }
+
+  pub remove_low : r.root < index.free.below
+  remove_low = some_low (words_of old.device) whole.kept.exact index whole.indexes.orders r.root remove_some
+
+  pub remove_out : IsOut index.free r.root
+  remove_out = some_out (words_of old.device) whole.kept.exact index whole.indexes.orders r.root remove_some
+
+  module _ (new : ArenaState) (after : DictIndex) (f : IsFreed old new r.root) (less : HasLessPair index r.root after) (idle : phase_in (words_of old.device) key progress ≡ Idle) (tidy : AreNoneStale (words_of old.device) Idle) (gone : ℕ) (value : List ℕ) (counted : Counts (words_of old.device) r.root gone value) where
+    remove_idle : progress ≡ stages.Idle
+    remove_idle = idle_is (words_of old.device) key progress idle
+
+    whole_was : IsWhole old index key stages.Idle
+    whole_was = subst (λ (p : Progress). IsWhole old index key p) remove_idle whole
+
+    pub whole_less : IsWhole new after key progress
+    whole_less = subst (λ (p : Progress). IsWhole new after key p) (sym remove_idle) (whole_removed old new index after key whole_was r.root pair_in.pair.low f less.keys less.numbers less.free gone value counted tidy less.stale less.block)
+
+    pub removed_behind : HasRemoved (state_of old index key progress) (state_of new after key progress) gone
+    removed_behind = subst (λ (p : Progress). HasRemoved (state_of old index key p) (state_of new after key p) gone) (sym remove_idle)
+        (removed old new index after key whole_was r.root pair_in.pair.low f less.keys less.numbers less.free gone value counted tidy less.stale less.block)

@@ -1,0 +1,268 @@
+-- The block at the stage comes to a free root: its pair is in the map, and the pair that its key had is stale.
+use Rattle.std.proofs.Common.{◌≡◌, ◌≢◌, ◌⊎◌, ℕ, ◌+◌, ◌-◌, ◌^◌, ◌<◌, ◌≤◌, List, [], length, Option, Some, None, IsSome, inl, inr, refl, sym, ap, ◌∙◌, subst, arith, ⊎_elim}
+use Rattle.std.proofs.lemmas.Bool.{cases_eq}
+use Rattle.pmem_lines.specs.Words.{word_at}
+use Rattle.pmem_lines.specs.Pmem.{words_of}
+use Rattle.image_tables.specs.Tables.{tables_of}
+use Rattle.heap_model.specs.Machine.{Bounds, Range}
+use Rattle.heap_model.specs.declared.call.Call.TheVariants as calls
+use Rattle.heap_model.specs.declared.call.Reply.TheVariants as replies
+use Rattle.heap_check.specs.Heap.{heap}
+use Rattle.heap_check.specs.Image.{bounds_of, IsExactImage}
+use Rattle.heap_check.specs.State.{IsWordOf, HaveSameHeap}
+use Rattle.image_defects.specs.Least.{IsLeastOf}
+use Rattle.move_steps.specs.Moves.{MovesOne, IsEitherMoved}
+use Rattle.pair_order.specs.declared.order.Ranked.{Ranked}
+use Rattle.pair_order.specs.Order.{IsRanked, HasNoPlace, HasNoneOf, IsLastOf}
+use Rattle.arena_core.specs.Arena.{ArenaState}
+use Rattle.arena_core.proofs.Callers.{IsPassed, passed}
+use Rattle.attach_dict.specs.declared.index.DictIndex.{DictIndex}
+use Rattle.attach_dict.specs.declared.progress.Progress.{Progress}
+use Rattle.attach_dict.specs.declared.progress.Progress.TheVariants as stages
+use Rattle.attach_dict.specs.Calls.{IsEitherDict, Leaves, HasPublished}
+use Rattle.attach_dict.specs.Dict.{Pair, stage, HasSome, HasNone, HasPair, IsPair, Counts, IsDict, IsStaleRoot, IsSteadyDict, IsNextNumber, IsFreeRoot}
+use Rattle.attach_dict.specs.Index.{IsGreatestNumber, MayComeNext, HasPutPair, IsLastStale}
+use Rattle.attach_dict.specs.Roots.{Roots, IsIn, IsOut, HasMoreRoots}
+use Rattle.attach_dict.specs.Stages.{Phase, Idle, Staged, Filled, IsStale, AreNoneStale, IsAtStage, HasNumbered, HasRoomForPair, HasFilledPhase}
+use Rattle.attach_dict.specs.Steps.{IsShown}
+use Rattle.attach_dict.specs.View.{value_in, pairs_in, phase_in, turned, IsVacant, AreOrders, AreStaleRoots}
+use Rattle.attach_dict.specs.Whole.{state_of, IsWhole}
+use Rattle.attach_dict.proofs.Indexed.{dict_of, counts_last, none_of}
+use Rattle.attach_dict.proofs.Counting.{counts_once}
+use Rattle.attach_dict.proofs.Kept.{KeepsRoots, keeps_heap, dict_same}
+use Rattle.attach_dict.proofs.Less.{none_not_some}
+use Rattle.attach_dict.proofs.More.{fit_more, orders_more, puts_some, stale_counted, counted_stale}
+use Rattle.attach_dict.proofs.Pairs.{some_of, pair_kept}
+use Rattle.attach_dict.proofs.Room.{next_above, next_number, next_once, not_last, found_free}
+use Rattle.attach_dict.proofs.Still.{leaves_by}
+
+-- what is to be published was filled
+pub filled_is : (words : List ℕ) (key : ℕ) (progress : Progress) (k : ℕ) (v : List ℕ) → phase_in words key progress ≡ Filled k v → progress ≡ stages.Filled
+filled_is words key stages.Idle k v is = absurd (cc is)
+filled_is words key (stages.Staged count) k v is = absurd (cc is)
+filled_is words key stages.Filled k v is = refl
+
+-- before it moves
+
+module _ (old : ArenaState) (index : DictIndex) (key : ℕ) (whole : IsWhole old index key stages.Filled) where
+  abbrev held : HasNumbered (words_of old.device) key (value_in (words_of old.device) stage)
+  held = whole.kept.at_stage.0
+
+  pub filled_block : HasSome (words_of old.device) stage
+  filled_block = record { range = held.pair.range; named = held.pair.named }
+
+  filled_tidy : (root : ℕ) → ¬ (IsStaleRoot (words_of old.device) root)
+  filled_tidy root s = whole.kept.at_stage.2 root s
+
+  -- the root that it comes to
+  module _ (found : Option ℕ) (least : IsLeastOf (IsIn index.free) found) where
+    free_found : (root : ℕ) × (found ≡ Some root) × IsFreeRoot (words_of old.device) root
+    free_found = found_free (words_of old.device) index.by_key index.by_number index.free whole.indexes.orders found least whole.kept.at_stage.1.root
+
+    pub free_some : IsSome found
+    free_some = subst (λ (f : Option ℕ). IsSome f) (sym free_found.1) refl
+
+    pub free_at : (root : ℕ) → found ≡ Some root → IsFreeRoot (words_of old.device) root
+    free_at root is =
+        let both : Some free_found.0 ≡ Some root = sym free_found.1 ∙ is in
+        let same : free_found.0 ≡ root = cc both in
+        subst (λ (r : ℕ). IsFreeRoot (words_of old.device) r) same free_found.2
+
+  module _ (root : ℕ) (free : IsFreeRoot (words_of old.device) root) (number : ℕ) (next : IsNextNumber (words_of old.device) number) where
+    number_is : held.number ≡ number
+    number_is = next_once (words_of old.device) held.number number held.next next
+
+    -- a root with a pair is another one
+    not_root : (r : Ranked) → IsRanked index.by_key r → r.root ≢ root
+    not_root r is same = none_not_some free.none (subst (λ (n : ℕ). HasSome (words_of old.device) n) same (some_of (whole.indexes.orders.are r is).pair))
+
+    pub may_come : MayComeNext index (record { root = root; first = key; second = number })
+    may_come = record {
+      key_root = subst (λ (n : ℕ). root < n) (sym whole.indexes.orders.key_roots) free.high;
+      number_root = subst (λ (n : ℕ). root < n) (sym whole.indexes.orders.number_roots) free.high;
+      key = record { none = not_root };
+      number = record { none = λ r is. not_root (turned r) (whole.indexes.orders.to_key r is) };
+      free = whole.indexes.orders.free_each root (record { low = free.low; high = free.high; none = free.none });
+      fresh = λ r is. record { none = λ s. filled_tidy r.root (whole.indexes.stale_roots.are r.root s) };
+      below = λ r is. subst (λ (n : ℕ). r.root < n) (sym whole.indexes.stale_roots.stale_below) (whole.indexes.orders.below r is);
+    }
+
+    -- behind the move
+
+    module _ (new : ArenaState) (after : DictIndex) (s : IsShown old new root) (put : HasPutPair index (record { root = root; first = key; second = number }) after) where
+      abbrev was : List ℕ
+      was = words_of old.device
+
+      abbrev is : List ℕ
+      is = words_of new.device
+
+      abbrev value : List ℕ
+      value = value_in was stage
+
+      abbrev pairs : List Pair
+      pairs = pairs_in was index.by_key.ranked
+
+      abbrev more : List Pair
+      more = pairs_in is after.by_key.ranked
+
+      p : IsPassed was is stage root s.range (replies.Moved s.range.at s.range.size)
+      p = passed was is stage root s.range (replies.Moved s.range.at s.range.size) s.did.step s.did.did.was_exact s.named free.high free.none
+
+      bounds : bounds_of is ≡ bounds_of was
+      bounds = (s.did.step 0 (λ seat class. [])).bounds
+
+      -- any image whose heap is the new one, where the blocks that were there have their words
+      module _ (image : List ℕ) (heap_is : (other : ℕ) → heap (tables_of image) other ≡ heap (tables_of is) other) (words : (other another : ℕ) (range : Range) (k : ℕ) → heap (tables_of was) other ≡ Some range → heap (tables_of image) another ≡ Some range → IsWordOf range k → word_at image k ≡ word_at was k) where
+        blocks_in : (other : ℕ) → stage < other → other ≢ root → heap (tables_of image) other ≡ heap (tables_of was) other
+        blocks_in other low apart = heap_is other ∙ p.moves.others other (λ same. omega (arith, same, low)) apart
+
+        pub keeps_in : KeepsRoots was image root
+        keeps_in = record {
+          blocks = blocks_in;
+          words = λ other k range low apart named word. words other other range k named (blocks_in other low apart ∙ named) word;
+        }
+
+        named_in : heap (tables_of image) root ≡ Some held.pair.range
+        named_in = heap_is root ∙ (p.moves.here ∙ held.pair.named)
+
+        pub pair_in : IsPair image root key number value
+        pair_in = record {
+          low = free.low;
+          has = subst (λ (n : ℕ). HasPair image root key n value) number_is (pair_kept was image stage root key held.number value held.pair named_in (λ k word. words stage root held.pair.range k held.pair.named named_in word));
+        }
+
+      new_keeps : KeepsRoots was is root
+      new_keeps = keeps_in is (λ other. refl) s.did.keeps.each
+
+      new_pair : IsPair is root key number value
+      new_pair = pair_in is (λ other. refl) s.did.keeps.each
+
+      above : (other k n : ℕ) (v : List ℕ) → IsPair was other k n v → n < number
+      above other k n v pair = next_above was number next other k n v pair
+
+      orders_new : AreOrders is (bounds_of is).roots after.by_key after.by_number after.free
+      orders_new = subst (λ (b : Bounds). AreOrders is b.roots after.by_key after.by_number after.free) (sym bounds)
+          (orders_more new_keeps free.none new_pair above (bounds_of was).roots index.by_key index.by_number after.by_key after.by_number index.free after.free bounds free.high whole.indexes.orders put.keys put.numbers put.free)
+
+      dict_new : IsDict is more
+      dict_new = dict_of is s.did.did.exact after.by_key after.by_number after.free orders_new (fit_more new_keeps free.none new_pair above whole.kept.dict.fit)
+
+      -- what is stale is what counted for the key before
+
+      stage_empty : ¬ (HasSome is stage)
+      stage_empty some = none_not_some p.moves.gone some
+
+      counted : (other : ℕ) → IsStale is Idle other → (v : List ℕ) × Counts was other key v
+      counted other so = ⊎_elim (λ t. stale_counted new_keeps free.none new_pair above pairs more whole.kept.dict dict_new filled_tidy other t) (λ t. absurd (stage_empty t.1)) so
+
+      last_counts : (r : Ranked) → IsLastOf index.by_key key r → Counts was r.root key (value_in was r.root)
+      last_counts r last = counts_last was whole.kept.exact index.by_key index.by_number index.free whole.indexes.orders key r last
+
+      stale_by : (stale : Roots) → IsLastStale index key stale → AreStaleRoots is Idle (bounds_of is).roots stale
+      stale_by stale (inl none) = record {
+        stale_below = ap (λ (f : Roots). f.below) none.1 ∙ (whole.indexes.stale_roots.stale_below ∙ ap (λ (b : Bounds). b.roots) (sym bounds));
+        are = λ other in_set. absurd (filled_tidy other (whole.indexes.stale_roots.are other (subst (λ (f : Roots). IsIn f other) none.1 in_set)));
+        inside = λ other in_set. absurd (filled_tidy other (whole.indexes.stale_roots.are other (subst (λ (f : Roots). IsIn f other) none.1 in_set)));
+        each = λ other below so. let c = counted other so in absurd (none_of was whole.kept.exact index.by_key index.by_number index.free whole.indexes.orders key none.0 other c.1.number c.0 c.1.pair);
+      }
+      stale_by stale (inr (r, last, came)) = record {
+        stale_below = came.below ∙ (whole.indexes.stale_roots.stale_below ∙ ap (λ (b : Bounds). b.roots) (sym bounds));
+        are = λ other in_set. ⊎_elim
+            (λ had. absurd (filled_tidy other (whole.indexes.stale_roots.are other had)))
+            (λ same. inl (subst (λ (n : ℕ). IsStaleRoot is n) (sym same) (counted_stale new_keeps free.none new_pair above pairs more whole.kept.dict dict_new r.root (value_in was r.root) (last_counts r last))))
+            (came.each other in_set);
+        inside = λ other in_set. ⊎_elim
+            (λ had. absurd (filled_tidy other (whole.indexes.stale_roots.are other had)))
+            (λ same. subst (λ (b : Bounds). other < b.roots) (sym bounds) (subst (λ (n : ℕ). n < (bounds_of was).roots) (sym same) (whole.indexes.orders.below r last.is)))
+            (came.each other in_set);
+        each = λ other below so.
+            let c = counted other so in
+            let same : other ≡ r.root = (counts_once was whole.kept.dict.fit other r.root key c.0 (value_in was r.root) c.1 (last_counts r last)).0 in
+            subst (λ (n : ℕ). IsIn stale n) (sym same) came.here;
+      }
+
+      pub whole_published : IsWhole new after key stages.Idle
+      whole_published = record {
+        kept = record { ready = s.did.did.ready; exact = s.did.did.exact; dict = dict_new; at_stage = tt };
+        indexes = record { orders = orders_new; stale_roots = stale_by after.stale put.stale; wide = ap (λ b. length b.items) put.block ∙ whole.indexes.wide };
+      }
+
+      -- a crash leaves the map of before or the one of behind
+      left_published : (image : List ℕ) → IsEitherMoved was is root image → IsEitherDict pairs more image
+      left_published image l = ⊎_elim
+          (λ (before : HaveSameHeap was image). inl (record { steady = l.steady; dict = dict_same (keeps_heap before l.words) pairs whole.kept.dict }))
+          (λ (behind : HaveSameHeap is image). inr (record { steady = l.steady; dict = dict_same (both_more image behind l.words.each) more dict_new }))
+          l.heap
+        where
+          both_more : (image : List ℕ) → HaveSameHeap is image → ((other another : ℕ) (range : Range) (k : ℕ) → heap (tables_of was) other ≡ Some range → heap (tables_of image) another ≡ Some range → IsWordOf range k → word_at image k ≡ word_at was k) → KeepsRoots is image stage
+          both_more image behind words = record {
+            blocks = λ other low apart. behind.each other;
+            words = λ other k range low apart named word. ⊎_elim
+                (λ (same : other ≡ root).
+                let here : heap (tables_of was) stage ≡ Some range = sym p.moves.here ∙ (ap (heap (tables_of is)) (sym same) ∙ named) in
+                words stage other range k here (behind.each other ∙ named) word ∙ sym (s.did.keeps.each stage other range k here named word))
+                (λ (differs : other ≢ root).
+                let here : heap (tables_of was) other ≡ Some range = sym (p.moves.others other (λ is_stage. omega (arith, is_stage, low)) differs) ∙ named in
+                words other other range k here (behind.each other ∙ named) word ∙ sym (s.did.keeps.each other other range k here named word))
+                (cases_eq other root);
+          }
+
+      pub has_published : HasPublished (state_of old index key stages.Filled) (state_of new after key stages.Idle) key value
+      has_published = record {
+        root = root;
+        at = s.range.at;
+        size = s.range.size;
+        free = free;
+        did = s.did;
+        puts = puts_some new_keeps free.none new_pair above pairs more whole.kept.dict dict_new;
+        phase = refl;
+        crash = leaves_by old new (IsEitherMoved was is root) (IsEitherDict pairs more) left_published s.did.did;
+      }
+
+-- as the call has it
+
+-- the key and the value that were filled
+same_filled : (old new : ArenaState) (index after : DictIndex) (key k : ℕ) (v : List ℕ) → Filled key (value_in (words_of old.device) stage) ≡ Filled k v →
+    HasPublished (state_of old index key stages.Filled) (state_of new after key stages.Idle) key (value_in (words_of old.device) stage) → HasPublished (state_of old index key stages.Filled) (state_of new after key stages.Idle) k v
+same_filled old new index after key k v is done =
+    let keys : key ≡ k = cc is in
+    let values : value_in (words_of old.device) stage ≡ v = cc is in
+    subst (λ (n : ℕ). HasPublished (state_of old index key stages.Filled) (state_of new after key stages.Idle) n v) keys
+    (subst (λ (w : List ℕ). HasPublished (state_of old index key stages.Filled) (state_of new after key stages.Idle) key w) values done)
+
+module _ (old : ArenaState) (index : DictIndex) (key : ℕ) (progress : Progress) (whole : IsWhole old index key progress) (filled : HasFilledPhase (phase_in (words_of old.device) key progress)) where
+  is_filled : progress ≡ stages.Filled
+  is_filled = filled_is (words_of old.device) key progress filled.key filled.value filled.is
+
+  whole_at : IsWhole old index key stages.Filled
+  whole_at = subst (λ (p : Progress). IsWhole old index key p) is_filled whole
+
+  pub publish_some : (found : Option ℕ) → IsLeastOf (IsIn index.free) found → IsSome found
+  publish_some found least = free_some old index key whole_at found least
+
+  pub publish_free : (found : Option ℕ) (root : ℕ) → IsLeastOf (IsIn index.free) found → found ≡ Some root → IsFreeRoot (words_of old.device) root
+  publish_free found root least is = free_at old index key whole_at found least root is
+
+  pub publish_block : HasSome (words_of old.device) stage
+  publish_block = filled_block old index key whole_at
+
+  module _ (greatest : ℕ) (is : IsGreatestNumber index.by_number greatest) where
+    pub publish_room : greatest ≢ 2 ^ 64 - 1
+    publish_room = not_last (words_of old.device) whole.kept.exact index.by_key index.by_number index.free whole.indexes.orders greatest is whole_at.kept.at_stage.1.number
+
+    next : IsNextNumber (words_of old.device) (greatest + 1)
+    next = next_number (words_of old.device) whole.kept.exact index.by_key index.by_number index.free whole.indexes.orders greatest is
+
+    module _ (root : ℕ) (free : IsFreeRoot (words_of old.device) root) where
+      pub publish_may : MayComeNext index (record { root = root; first = key; second = greatest + 1 })
+      publish_may = may_come old index key whole_at root free (greatest + 1) next
+
+      module _ (new : ArenaState) (after : DictIndex) (s : IsShown old new root) (put : HasPutPair index (record { root = root; first = key; second = greatest + 1 }) after) where
+        pub publish_whole : IsWhole new after key stages.Idle
+        publish_whole = whole_published old index key whole_at root free (greatest + 1) next new after s put
+
+        pub published : (k : ℕ) (v : List ℕ) → phase_in (words_of old.device) key progress ≡ Filled k v → HasPublished (state_of old index key progress) (state_of new after key stages.Idle) k v
+        published k v phase =
+            let at : Filled key (value_in (words_of old.device) stage) ≡ Filled k v = subst (λ (p : Progress). phase_in (words_of old.device) key p ≡ Filled k v) is_filled phase in
+            subst (λ (p : Progress). HasPublished (state_of old index key p) (state_of new after key stages.Idle) k v) (sym is_filled)
+            (same_filled old new index after key k v at (has_published old index key whole_at root free (greatest + 1) next new after s put))

@@ -1,0 +1,136 @@
+-- Room for a new pair: a free root, and a number above those of all pairs.
+use Rattle.std.proofs.Common.{◌≡◌, ◌≢◌, ◌⊎◌, ℕ, ◌+◌, ◌-◌, ◌^◌, ◌<◌, ◌≤◌, List, Option, Some, None, inl, inr, refl, sym, ap, ◌∙◌, subst, arith, ⊎_elim}
+use Rattle.image_tables.specs.Tables.{tables_of}
+use Rattle.heap_model.specs.Machine.{Range}
+use Rattle.heap_check.specs.Heap.{heap}
+use Rattle.heap_check.specs.Image.{bounds_of, IsExactImage}
+use Rattle.image_defects.specs.Least.{HasNone as HasNoNumber, IsLeast, IsLeastOf}
+use Rattle.image_defects.proofs.Counts.{none_below, some_below}
+use Rattle.pair_order.specs.declared.order.Ranked.{Ranked}
+use Rattle.pair_order.specs.Order.{Order, IsRanked, IsEmpty}
+use Rattle.attach_dict.specs.Dict.{stage, HasSome, HasNone, IsPair, IsGreatest, IsNextNumber, AreNumbersSpent, IsFreeRoot, IsFull}
+use Rattle.attach_dict.specs.Index.{IsGreatestNumber}
+use Rattle.attach_dict.specs.Roots.{Roots, IsIn, AreRoots}
+use Rattle.attach_dict.specs.Stages.{HasRoomForPair}
+use Rattle.attach_dict.specs.View.{turned, IsPairOf, IsVacant, AreOrders}
+use Rattle.attach_dict.proofs.Kept.{KeepsRoots, keeps_back, some_to, greatest_same}
+use Rattle.attach_dict.proofs.Less.{none_not_some}
+use Rattle.attach_dict.proofs.Indexed.{ranked_of_pair}
+
+-- a root names a block, or none
+some_by : (words : List ℕ) (root : ℕ) (block : Option Range) → heap (tables_of words) root ≡ block → HasSome words root ⊎ HasNone words root
+some_by words root None is = inr is
+some_by words root (Some range) is = inl (record { range = range; named = is })
+
+pub some_or_none : (words : List ℕ) (root : ℕ) → HasSome words root ⊎ HasNone words root
+some_or_none words root = some_by words root (heap (tables_of words) root) refl
+
+-- numbers
+
+module _ (words : List ℕ) (exact : IsExactImage words) (by_key by_number : Order) (free : Roots) (orders : AreOrders words (bounds_of words).roots by_key by_number free) (number : ℕ) (greatest : IsGreatestNumber by_number number) where
+  -- no pair has a greater number than the order has
+  pub most_number : (root key n : ℕ) (value : List ℕ) → IsPair words root key n value → n ≤ number
+  most_number root key n value pair =
+      greatest.most (record { root = root; first = n; second = key }) (orders.to_number (record { root = root; first = key; second = n }) (ranked_of_pair words exact by_key by_number free orders root key n value pair))
+
+  -- there is no pair and it is 0, or it is the greatest number of a pair
+  pub greatest_or_none : (((root key n : ℕ) (value : List ℕ) → ¬ (IsPair words root key n value)) × (number ≡ 0)) ⊎ IsGreatest words number
+  greatest_or_none = ⊎_elim
+      (λ (empty : IsEmpty by_number × (number ≡ 0)). inl (
+        (λ root key n value pair. empty.0.none (record { root = root; first = n; second = key }) (orders.to_number (record { root = root; first = key; second = n }) (ranked_of_pair words exact by_key by_number free orders root key n value pair))),
+        empty.1,
+      ))
+      (λ (some : (r : Ranked) × IsRanked by_number r × (r.first ≡ number)).
+      let has : IsPairOf words (turned some.0) = orders.are (turned some.0) (orders.to_key some.0 some.1) in
+      inr (record {
+        root = some.0.root;
+        key = some.0.second;
+        value = has.value;
+        pair = subst (λ (n : ℕ). IsPair words some.0.root some.0.second n has.value) some.2 has.pair;
+        most = λ other k n v pair. most_number other k n v pair;
+      }))
+      greatest.is
+
+  -- the one behind it is the number of a new pair
+  pub next_number : IsNextNumber words (number + 1)
+  next_number = ⊎_elim
+      (λ none. inr (none.0, omega (arith, none.1)))
+      (λ some. inl (number, some, refl))
+      greatest_or_none
+
+  -- the numbers are spent exactly where it is the last
+  pub spent : number ≡ 2 ^ 64 - 1 → AreNumbersSpent words
+  spent last = ⊎_elim
+      (λ none. absurd (omega (arith, none.1, last)))
+      (λ some. subst (λ (n : ℕ). IsGreatest words n) last some)
+      greatest_or_none
+
+  pub not_spent : number < 2 ^ 64 - 1 → ¬ (AreNumbersSpent words)
+  not_spent less all = omega (arith, less, most_number all.root all.key (2 ^ 64 - 1) all.value all.pair)
+
+  pub not_last : ¬ (AreNumbersSpent words) → number ≢ 2 ^ 64 - 1
+  not_last room last = room (spent last)
+
+-- a number that is next is above those of all pairs
+pub next_above : (words : List ℕ) (number : ℕ) → IsNextNumber words number → (root key n : ℕ) (value : List ℕ) → IsPair words root key n value → n < number
+next_above words number next root key n value pair = ⊎_elim
+    (λ some. omega (arith, some.1.most root key n value pair, some.2))
+    (λ none. absurd (none.0 root key n value pair))
+    next
+
+-- and is one number
+pub next_once : (words : List ℕ) (one other : ℕ) → IsNextNumber words one → IsNextNumber words other → one ≡ other
+next_once words one other a b = ⊎_elim
+    (λ some. ⊎_elim
+    (λ also. omega (arith, some.2, also.2, some.1.most also.1.root also.1.key also.0 also.1.value also.1.pair, also.1.most some.1.root some.1.key some.0 some.1.value some.1.pair))
+    (λ none. absurd (none.0 some.1.root some.1.key some.0 some.1.value some.1.pair))
+    b)
+    (λ none. ⊎_elim
+    (λ some. absurd (none.0 some.1.root some.1.key some.0 some.1.value some.1.pair))
+    (λ also. none.1 ∙ sym also.1)
+    b)
+    a
+
+-- roots
+
+module _ (words : List ℕ) (by_key by_number : Order) (free : Roots) (orders : AreOrders words (bounds_of words).roots by_key by_number free) where
+  vacant_in : (root : ℕ) → IsVacant words (bounds_of words).roots root → ¬ (IsFull words)
+  vacant_in root vacant full = none_not_some vacant.none (full.each root vacant.low vacant.high)
+
+  -- every root has a block where none is free
+  pub full_where : ((root : ℕ) → ¬ (IsIn free root)) → IsFull words
+  full_where none = record { each = λ root low high. ⊎_elim (λ some. some) (λ (empty : HasNone words root). absurd (none root (orders.free_each root (record { low = low; high = high; none = empty })))) (some_or_none words root) }
+
+  pub full_counted : AreRoots free → free.count ≡ 0 → IsFull words
+  full_counted are zero = full_where (λ root is. none_below (IsIn free) free.below free.count are.count_is zero root (are.inside root is) is)
+
+  pub not_full : AreRoots free → free.count ≢ 0 → ¬ (IsFull words)
+  not_full are some = let found = some_below (IsIn free) free.below free.count are.count_is (omega (arith, some)) in vacant_in found.0 (orders.free_are found.0 found.2)
+
+  -- a root is found where there is room, and it is the free one
+  found_by : (found : Option ℕ) → IsLeastOf (IsIn free) found → ¬ (IsFull words) → (root : ℕ) × (found ≡ Some root) × IsFreeRoot words root
+  found_by None none room = absurd (room (full_where none.none))
+  found_by (Some root) least room =
+      let vacant = orders.free_are root least.here in (
+        root,
+        refl,
+        record {
+          low = vacant.low;
+          high = vacant.high;
+          none = vacant.none;
+          least = λ other low below. ⊎_elim
+              (λ some. some)
+              (λ (empty : HasNone words other). absurd (omega (arith, below, least.least other (orders.free_each other (record { low = low; high = omega (arith, below, vacant.high); none = empty })))))
+              (some_or_none words other);
+        },
+      )
+
+  pub found_free : (found : Option ℕ) → IsLeastOf (IsIn free) found → ¬ (IsFull words) → (root : ℕ) × (found ≡ Some root) × IsFreeRoot words root
+  found_free found least room = found_by found least room
+
+-- where the pairs stay, so does the room for one
+pub room_same : {old new : List ℕ} → KeepsRoots old new stage → bounds_of new ≡ bounds_of old → HasRoomForPair old → HasRoomForPair new
+room_same {old} {new} keeps bounds room = record {
+  root = λ full. room.root (record { each = λ root low high. some_to (keeps_back keeps) low (λ is. omega (arith, is, low)) (full.each root low (subst (λ b. root < b.roots) (sym bounds) high)) });
+  number = λ all. room.number (greatest_same (keeps_back keeps) all);
+}

@@ -1,0 +1,9 @@
+pub mod Dict
+pub mod Stages
+pub mod Calls
+pub mod Roots
+pub mod View
+pub mod Index
+pub mod Reading
+pub mod Steps
+pub mod Whole

@@ -1,0 +1,30 @@
+// The pair at the stage comes to the map.
+ghost use Rattle.std.specs.Prelude.{◌≡◌, ℕ, List};
+ghost use Rattle.attach_dict.specs.Calls.{HasPublished};
+ghost use Rattle.attach_dict.specs.Stages.{Filled, IsKept, HasFilledPhase};
+
+use crate::dict::Dict;
+use crate::progress::Progress;
+use crate::steps::show_block;
+use pair_order::Ranked;
+use pmem_lines::Pmem;
+
+impl<P: Pmem> Dict<P> {
+    /// Moves the block at the stage to the lowest root from 1 on that has none: the map has its key with its value from then
+    /// on. The pair that the key had is stale then. After a crash within it the map is the one from before the call or the one
+    /// from behind it. It makes one call of the arena, and takes no memory. The pair was filled.
+    pub fn publish(&mut self)
+        requires { HasFilledPhase self.old.phase }
+        ensures published { (key : ℕ) (value : List ℕ) → self.old.phase ≡ Filled key value → HasPublished self.old self.new key value }
+        ensures kept { IsKept self.new }
+    {
+        let pair = Ranked {
+            root: self.index.free.lowest().unwrap(),
+            first: self.key,
+            second: self.index.greatest_number() + 1,
+        };
+        show_block(&mut self.arena, pair.root);
+        self.index.put_pair(pair);
+        self.progress = Progress::Idle;
+    }
+}
