@@ -1,5 +1,5 @@
 -- Journals as lists of entries, and the entries that bear a number.
-use Rattle.std.specs.Prelude.{◌≡◌, ◌⊎◌, ℕ, zero, suc, ◌<◌, ltb, Bool, false, ◌==◌, ◌||◌, if◌then◌else◌, List, [], ◌∷◌, ◌++◌, map, length}
+use Rattle.std.specs.Prelude.{◌≡◌, ◌⊎◌, ℕ, zero, suc, ltb, Bool, false, ◌==◌, ◌||◌, if◌then◌else◌, List, [], ◌∷◌, ◌++◌, map, length}
 use Rattle.heap_model.specs.declared.call.Entry.{Entry}
 use Rattle.heap_model.specs.Journal.{AllBelow}
 

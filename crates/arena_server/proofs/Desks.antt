@@ -8,8 +8,7 @@ use Rattle.heap_model.specs.declared.call.Entry.{Entry}
 use Rattle.arena_lock.specs.declared.opening.Opening.{Opening}
 use Rattle.arena_lock.specs.Journal.{calls_by}
 use Rattle.heap_model.specs.Journal.{AllBelow}
-use Rattle.arena_lock.specs.Known.{Known}
-use Rattle.shared_pool.specs.Passes.{PassState, part_at, seen_at, mine_at, first_calls}
+use Rattle.shared_pool.specs.Passes.{PassState, part_at, seen_at, mine_at}
 use Rattle.shared_pool.specs.Closed.{is_in, HasAll, AllAgree, IsClosed, AllClosed}
 use Rattle.arena_core.specs.Arena.{ArenaState}
 use Rattle.arena_server.specs.declared.request.Request.{Request}

@@ -1,11 +1,7 @@
 -- Lists of addresses and of numbers: what they have.
-use Rattle.std.proofs.Common.{◌≡◌, ◌≢◌, ◌⊎◌, ℕ, ◌+◌, ◌-◌, ◌*◌, ◌<◌, ◌≤◌, Bool, true, false, cond, zero, suc, List, [], ◌∷◌, length, slice_index_or, refl, sym, ap, ◌∙◌, subst, arith, inl, inr, ⊎_elim}
-use Rattle.std.proofs.lemmas.Bool.{cases_eq, true≢false}
-use Rattle.std.specs.List.{filter}
-use native.Mathlib.Nat.{mul-le-mul_right}
-use Rattle.size_classes.specs.Classes.{class_size}
-use Rattle.heap_model.specs.Machine.{slab_block}
-use Rattle.heap_model.specs.Placement.{Has, AreLowest, addresses, AreRising}
+use Rattle.std.proofs.Common.{◌≡◌, ◌≢◌, ◌⊎◌, ℕ, ◌-◌, ◌<◌, zero, suc, List, [], ◌∷◌, length, slice_index_or, refl, arith, inl, inr, ⊎_elim}
+use Rattle.std.proofs.lemmas.Bool.{cases_eq}
+use Rattle.heap_model.specs.Placement.{Has}
 
 -- a list has a number or not
 pub cases_Has : (xs : List ℕ) (n : ℕ) → Has xs n ⊎ (¬ (Has xs n))

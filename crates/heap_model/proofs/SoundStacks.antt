@@ -1,5 +1,5 @@
 -- Every placed step keeps the stacks sound: behind each call of a seat they are what the placement says that they are.
-use Rattle.std.proofs.Common.{◌≡◌, ◌≢◌, ◌⊎◌, ◌==◌, ◌&&◌, ℕ, zero, suc, ◌+◌, ◌-◌, ◌*◌, ◌<◌, ◌≤◌, Bool, true, false, cond, true≢false, not, List, [], ◌∷◌, length, Some, None, Option, refl, sym, ap, ◌∙◌, subst, arith, inl, inr, ⊎_elim}
+use Rattle.std.proofs.Common.{◌≡◌, ◌≢◌, ◌⊎◌, ◌==◌, ◌&&◌, ℕ, zero, suc, ◌+◌, ◌-◌, ◌*◌, ◌<◌, ◌≤◌, Bool, true, false, cond, true≢false, not, List, [], ◌∷◌, Some, None, Option, refl, sym, ap, ◌∙◌, subst, arith, inl, inr, ⊎_elim}
 use Rattle.std.proofs.lemmas.Bool.{cases_eq, cases_lt, and_from}
 use native.Mathlib.Nat.{mul-le-mul_right}
 use Rattle.size_classes.specs.Classes.{class_size, class_capacity, IsClassOf}
@@ -8,16 +8,15 @@ use Rattle.heap_model.specs.declared.call.Call.{Call}
 use Rattle.heap_model.specs.declared.call.Call.TheVariants.{Malloc, Free, Write, Read, Move}
 use Rattle.heap_model.specs.declared.call.Reply.{Reply}
 use Rattle.heap_model.specs.declared.call.Reply.TheVariants.{Placed, Freed}
-use Rattle.heap_model.specs.declared.call.Entry.{Entry}
-use Rattle.heap_model.specs.Machine.{Bounds, Range, Machine, with_key, slab_block, AreApart, IsUnused, IsFreeGranule, IsOverlapFree}
+use Rattle.heap_model.specs.Machine.{Bounds, Range, Machine, with_key, slab_block, AreApart, IsFreeGranule, IsOverlapFree}
 use Rattle.heap_model.specs.Runs.{IsFreeRow}
 use Rattle.heap_model.specs.Choice.{HasUnusedBlock, IsBestSlab, Site, range_of, IsSite, IsFromGranules, block_view, slab_view}
 use Rattle.heap_model.specs.Choice.Site.{Granules, InSlab, InMorph, InNewSlab}
 use Rattle.heap_model.specs.Slabs.{is_within, begins_in, live_below, view_of}
 use Rattle.heap_model.specs.Step.{with_block, with_moved, without_block, IsGrant}
-use Rattle.heap_model.specs.Placement.{Stacks, PlacedState, bare, with_stack, without_slab, without_left, with_class, has_left, addresses, Has, HasTop, HasStacked, HasAvailable, IsInNoStack, IsAvailable, IsRefill, IsMorphRefill, IsNewRefill, IsWay, GaveSmall, TookBlock, IsKeepable, IsReturned, IsStacked, IsPlacedStep, IsReserved, AreSound}
+use Rattle.heap_model.specs.Placement.{Stacks, PlacedState, bare, with_stack, without_slab, without_left, with_class, has_left, addresses, Has, HasTop, HasStacked, HasAvailable, IsInNoStack, IsAvailable, IsRefill, IsMorphRefill, IsNewRefill, IsWay, GaveSmall, IsKeepable, IsReturned, IsStacked, IsPlacedStep, IsReserved, AreSound}
 use Rattle.heap_model.specs.Journal.{LawOfNoStacks, LawOfSoundStacks}
-use Rattle.heap_model.proofs.Maps.{with_key-cases, with_key-here, with_key-other}
+use Rattle.heap_model.proofs.Maps.{with_key-cases, with_key-other}
 use Rattle.heap_model.specs.Below.{any_below}
 use Rattle.heap_model.proofs.Below.{any_below-true}
 use Rattle.heap_model.proofs.AddressLists.{Has-filter, has_address, lowest_passes, lowest_few, addresses_rise}
@@ -27,7 +26,7 @@ use Rattle.heap_model.proofs.Placing.{with_range, rows_apart, moved_named}
 use Rattle.heap_model.proofs.Slabbing.{IsOverlapFree-morph, IsOverlapFree-slab, LiesIn-block, blocks_apart}
 use Rattle.heap_model.proofs.Freeing.{begins_in-here, left_named}
 use Rattle.heap_model.proofs.Steps.{row_of_fit, step}
-use Rattle.heap_model.proofs.Outcomes.{outcome, IsOfHeap, IsGiven, IsTaken}
+use Rattle.heap_model.proofs.Outcomes.{outcome, IsOfHeap, IsTaken}
 use Rattle.heap_model.proofs.Outcomes.Outcome.{Stayed, Given, Taken, Written, Passed}
 
 -- a state of the machine with stacks beside it
@@ -149,10 +148,12 @@ module _ (m : Machine) (stacks : Stacks) (sound : AreSound (placed m stacks)) wh
             reserved = AreSound-with seat class rest (λ one has. (of_rest one has).0);
           };
           block = block_of fill.number fill.taken.1.passes;
-          loose = record { none = λ other c has. ⊎_elim
-              (λ same. let above = (of_rest _ (subst (λ (xs : List ℕ). Has xs (slab_block fill.start class fill.number).at) (stack_here stacks seat class other c rest same.0 same.1) has)).2 in omega (arith, above))
-              (λ is. fill.taken.1.passes.loose.none other c (subst (λ (xs : List ℕ). Has xs (slab_block fill.start class fill.number).at) (stack_there stacks seat class other c rest is) has))
-              (here_or_there seat class other c) };
+          loose = record {
+            none = λ other c has. ⊎_elim
+                (λ same. let above = (of_rest _ (subst (λ (xs : List ℕ). Has xs (slab_block fill.start class fill.number).at) (stack_here stacks seat class other c rest same.0 same.1) has)).2 in omega (arith, above))
+                (λ is. fill.taken.1.passes.loose.none other c (subst (λ (xs : List ℕ). Has xs (slab_block fill.start class fill.number).at) (stack_there stacks seat class other c rest is) has))
+                (here_or_there seat class other c);
+          };
         }))
 
   -- a stack of a class that has a top, and so a first one
@@ -184,13 +185,15 @@ module _ (m : Machine) (stacks : Stacks) (sound : AreSound (placed m stacks)) wh
     number = has.number;
     available = record {
       block = has.block;
-      loose = record { none = λ seat c stands.
-          let r = sound.reserved seat c (slab_block has.start class has.number).at stands in
-          let same : r.start ≡ has.start = one_slab b m r.start has.start c class r.number has.number free r.slab has.slab r.within has.block.within (sym r.is) in
-          let one : Some c ≡ Some class = sym r.slab ∙ ap m.slab same ∙ has.slab in
-          let is : c ≡ class = cc in
-          let stack = subst (λ (k : ℕ). Has (stacks seat k) (slab_block has.start class has.number).at) is stands in
-          top_behind seat (stacks seat class) refl stack };
+      loose = record {
+        none = λ seat c stands.
+            let r = sound.reserved seat c (slab_block has.start class has.number).at stands in
+            let same : r.start ≡ has.start = one_slab b m r.start has.start c class r.number has.number free r.slab has.slab r.within has.block.within (sym r.is) in
+            let one : Some c ≡ Some class = sym r.slab ∙ ap m.slab same ∙ has.slab in
+            let is : c ≡ class = cc in
+            let stack = subst (λ (k : ℕ). Has (stacks seat k) (slab_block has.start class has.number).at) is stands in
+            top_behind seat (stacks seat class) refl stack;
+      };
     };
   })
     where
@@ -206,8 +209,8 @@ classed m stacks start class sound = record {
       let left = Has-filter (λ a. not (is_within start a)) (stacks seat c) at has in
       let r = sound.reserved seat c at left.0 in
       let other : r.start ≢ start = λ same.
-          let inside : is_within start at ≡ true = ap (is_within start) r.is ∙ ap (λ s. is_within s (slab_block r.start c r.number).at) (sym same) ∙ begins r.start c r.number r.within in
-          true≢false (sym left.1 ∙ ap not inside) in
+      let inside : is_within start at ≡ true = ap (is_within start) r.is ∙ ap (λ s. is_within s (slab_block r.start c r.number).at) (sym same) ∙ begins r.start c r.number r.within in
+      true≢false (sym left.1 ∙ ap not inside) in
       record { start = r.start; slab = with_key-other m.slab start r.start (Some class) other ∙ r.slab; number = r.number; within = r.within; unused = record { each = r.unused.each }; is = r.is };
 }
 
@@ -236,10 +239,12 @@ given b m root class at s i after free out at_is =
             slab = r.slab;
             number = r.number;
             within = r.within;
-            unused = record { each = λ another x named. ⊎_elim
-                (λ here. let same : range ≡ x = (let is = here.1 in cc) in subst (λ (y : Range). AreApart (slab_block r.start c r.number) y) same apart)
-                (λ there. r.unused.each another x there.1)
-                (with_key-cases m.block root another (Some range) (Some x) named) };
+            unused = record {
+              each = λ another x named. ⊎_elim
+                  (λ here. let same : range ≡ x = (let is = here.1 in cc) in subst (λ (y : Range). AreApart (slab_block r.start c r.number) y) same apart)
+                  (λ there. r.unused.each another x there.1)
+                  (with_key-cases m.block root another (Some range) (Some x) named);
+            };
             is = r.is;
           };
     }
@@ -252,8 +257,8 @@ given b m root class at s i after free out at_is =
         let both : Some c ≡ Some class = sym r.slab ∙ ap m.slab same ∙ out.block.slab in
         let is : c ≡ class = cc in
         let differ : r.number ≢ out.block.number = λ number.
-            let address : other ≡ at = r.is ∙ (λ k. (slab_block (same k) (is k) (number k)).at) ∙ sym out.block.is in
-            out.loose.none seat c (subst (λ (a : ℕ). Has (after seat c) a) address has) in
+        let address : other ≡ at = r.is ∙ (λ k. (slab_block (same k) (is k) (number k)).at) ∙ sym out.block.is in
+        out.loose.none seat c (subst (λ (a : ℕ). Has (after seat c) a) address has) in
         subst (λ (k : ℕ). AreApart (slab_block r.start k r.number) (slab_block out.block.start class out.block.number)) (sym is)
         (subst (λ (t : ℕ). AreApart (slab_block t class r.number) (slab_block out.block.start class out.block.number)) (sym same) (blocks_apart out.block.start class r.number out.block.number differ)))
         (λ (differ : r.start ≢ out.block.start). ⊎_elim
@@ -270,10 +275,12 @@ module _ (b : Bounds) (was : PlacedState) (free : IsOverlapFree b was.machine) (
     slab = r.slab;
     number = r.number;
     within = r.within;
-    unused = record { each = λ another x named. ⊎_elim
-        (λ here. let same : range_of (Granules start count) ≡ x = (let is = here.1 in cc) in subst (λ (y : Range). AreApart (slab_block r.start class r.number) y) same (clear r.start class r.number r.slab r.within))
-        (λ there. r.unused.each another x there.1)
-        (with_key-cases was.machine.block root another (Some (range_of (Granules start count))) (Some x) named) };
+    unused = record {
+      each = λ another x named. ⊎_elim
+          (λ here. let same : range_of (Granules start count) ≡ x = (let is = here.1 in cc) in subst (λ (y : Range). AreApart (slab_block r.start class r.number) y) same (clear r.start class r.number r.slab r.within))
+          (λ there. r.unused.each another x there.1)
+          (with_key-cases was.machine.block root another (Some (range_of (Granules start count))) (Some x) named);
+    };
     is = r.is;
   })
     where
@@ -374,7 +381,7 @@ module _ (b : Bounds) (was : PlacedState) (free : IsOverlapFree b was.machine) (
     stays c at other has r = ⊎_elim
         (λ gone. absurd (let test = (Has-filter (λ a. not (any_below (λ s. has_left (was.machine.slab s) (next.slab s) && is_within s a) b.granules)) (was.stacks other c) at has).1 in
         let some = any_below-true (λ s. has_left (was.machine.slab s) (next.slab s) && is_within s at) b.granules r.start (omega (arith, (free.slabs r.start c r.slab).1))
-            (and_from _ _ (ap (λ (x : Option ℕ). has_left x (next.slab r.start)) r.slab ∙ ap (has_left (Some c)) gone) (ap (is_within r.start) r.is ∙ begins r.start c r.number r.within)) in
+        (and_from _ _ (ap (λ (x : Option ℕ). has_left x (next.slab r.start)) r.slab ∙ ap (has_left (Some c)) gone) (ap (is_within r.start) r.is ∙ begins r.start c r.number r.within)) in
         true≢false (sym test ∙ ap not some)))
         (λ (same : next.slab r.start ≡ was.machine.slab r.start). same ∙ r.slab)
         (slab_cases r.start)
@@ -397,12 +404,14 @@ module _ (b : Bounds) (was : PlacedState) (free : IsOverlapFree b was.machine) (
 
     -- the freed block is in no stack
     range_loose : IsInNoStack left range.at
-    range_loose = record { none = λ other c has.
-        let r = sound.reserved other c range.at (Has-filter _ (was.stacks other c) range.at has).0 in
-        ⊎_elim
-        (λ before. omega (arith, before, r.is, some r.start c r.number r.within))
-        (λ behind. omega (arith, behind, r.is, free.sized root range named))
-        (r.unused.each root range named) }
+    range_loose = record {
+      none = λ other c has.
+          let r = sound.reserved other c range.at (Has-filter _ (was.stacks other c) range.at has).0 in
+          ⊎_elim
+          (λ before. omega (arith, before, r.is, some r.start c r.number r.within))
+          (λ behind. omega (arith, behind, r.is, free.sized root range named))
+          (r.unused.each root range named);
+    }
 
     -- and it is unused now
     range_reserved : (keep : IsKeepable next left seat range) → IsReserved next keep.class range.at
@@ -411,9 +420,11 @@ module _ (b : Bounds) (was : PlacedState) (free : IsOverlapFree b was.machine) (
       slab = keep.slab;
       number = keep.block.number;
       within = keep.block.within;
-      unused = record { each = λ other x there.
-          let was_there = left_named was.machine root other x there in
-          subst (λ (y : Range). AreApart y x) keep.block.is (free.apart root other range x (λ same. was_there.0 (sym same)) named was_there.1) };
+      unused = record {
+        each = λ other x there.
+            let was_there = left_named was.machine root other x there in
+            subst (λ (y : Range). AreApart y x) keep.block.is (free.apart root other range x (λ same. was_there.0 (sym same)) named was_there.1);
+      };
       is = ap (λ (y : Range). y.at) keep.block.is;
     }
 

@@ -3,7 +3,7 @@ use Rattle.std.specs.Prelude.{◌≡◌, ◌≢◌, ◌⊎◌, ℕ, ◌*◌, ◌
 use Rattle.pmem_lines.specs.Words.{word_at, words_at}
 use Rattle.pool_layout.specs.declared.header.PoolHeader.{PoolHeader}
 use Rattle.pool_layout.specs.declared.defect.Defect.{Defect}
-use Rattle.pool_layout.specs.declared.defect.Defect.TheVariants.{BadLength, BadHeader}
+use Rattle.pool_layout.specs.declared.defect.Defect.TheVariants.{BadLength}
 use Rattle.pool_layout.specs.declared.image.ImageFault.{ImageFault}
 use Rattle.pool_layout.specs.declared.image.ImageFault.TheVariants as faults
 use Rattle.pool_layout.specs.Places.{text_word, fields_word}

@@ -1,8 +1,7 @@
 -- What recovery leaves of the words of an arena of version 1; a header line says one header.
-use Rattle.std.proofs.Common.{◌≡◌, ⊎_elim, ℕ, ◌*◌, ◌<◌, ◌≤◌, List, length, sym, ap, ◌∙◌, arith}
+use Rattle.std.proofs.Common.{◌≡◌, ⊎_elim, ℕ, List, sym, ap, ◌∙◌, arith}
 use Rattle.pool_layout.specs.declared.header.PoolHeader.{PoolHeader}
 use Rattle.pool_layout.specs.declared.defect.Defect.{Defect}
-use Rattle.pool_layout.specs.declared.defect.Defect.TheVariants.{BadLength}
 use Rattle.pool_layout.specs.Header.{fields_of, version_in, granules_in, IsHeader, IsHeaderDefect}
 use Rattle.pool_layout.proofs.Headers.{fields_of-header_word, header_fits}
 use Rattle.heap_model.specs.Machine.{Bounds}

@@ -1,5 +1,5 @@
 -- Locks with all their seats, none of which was used.
-use Rattle.std.specs.Prelude.{◌≡◌, ℕ, List, [], ◌∷◌}
+use Rattle.std.specs.Prelude.{◌≡◌, ℕ, List, []}
 use Rattle.arena_lock.specs.Journal.{Each}
 use Rattle.arena_lock.specs.Known.{Lock, Known, new_seats}
 

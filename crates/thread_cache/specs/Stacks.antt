@@ -1,7 +1,7 @@
 -- The stacks of reserved blocks that caches mean: those of the placement, a list of addresses for each seat and class, the
 -- top one first.
-use Rattle.std.specs.Prelude.{◌≡◌, ℕ, ◌+◌, ◌*◌, ◌<◌, ◌≤◌, ◌&&◌, nat_lt, List, [], ◌∷◌, length, slice_index_or, if◌then◌else◌}
-use Rattle.heap_model.specs.Placement.{Stacks, Has, HasTop, HasStacked, IsPop, IsInNoStack, AllDiffer}
+use Rattle.std.specs.Prelude.{◌≡◌, ℕ, ◌+◌, ◌*◌, ◌&&◌, nat_lt, List, [], slice_index_or, if◌then◌else◌}
+use Rattle.heap_model.specs.Placement.{Stacks, Has, HasTop, HasStacked, IsPop}
 
 -- the stacks, one after another: 64 of seats for each class
 pub record StackTable : Type 0 where

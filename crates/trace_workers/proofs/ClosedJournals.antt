@@ -3,7 +3,7 @@ use Rattle.std.proofs.Common.{◌≡◌, ◌≢◌, ◌⊎◌, inl, inr, ℕ, ze
 use Rattle.std.proofs.lemmas.Bool.{false≢true}
 use Rattle.heap_model.specs.declared.call.Entry.{Entry}
 use Rattle.arena_lock.specs.declared.opening.Opening.{Opening}
-use Rattle.arena_lock.specs.Known.{Lock, Known}
+use Rattle.arena_lock.specs.Known.{Lock}
 use Rattle.arena_lock.specs.Journal.{calls_by}
 use Rattle.heap_model.specs.Journal.{AllBelow}
 use Rattle.shared_pool.specs.Closed.{is_in, HasAll, AllFitLocks, AllAgree, AllClosed}

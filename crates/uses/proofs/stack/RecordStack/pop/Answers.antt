@@ -1,4 +1,4 @@
-use Rattle.std.proofs.Common.{◌-◌, refl, subst, arith}
+use Rattle.std.proofs.Common.{◌-◌, refl, subst}
 use Rattle.pmem_lines.specs.Pmem.{words_of}
 use Rattle.uses.specs.Stack.{StackState}
 use Rattle.uses.specs.Calls.{HasPopped}
