@@ -1,7 +1,7 @@
 -- Which block counts for a key: one root at most, and a pair that does not count is stale.
-use Rattle.std.proofs.Common.{◌≡◌, ◌≢◌, ◌⊎◌, ℕ, ◌<◌, ◌≤◌, List, Option, Some, None, inl, inr, refl, sym, ap, ◌∙◌, subst, arith, ⊎_elim}
+use Rattle.std.proofs.Common.{◌≡◌, ◌≢◌, ◌⊎◌, ℕ, ◌<◌, ◌≤◌, List, Option, Some, None, inl, inr, refl, sym, ap, subst, arith, ⊎_elim}
 use Rattle.std.proofs.lemmas.Bool.{cases_eq, cases_lt}
-use Rattle.attach_dict.specs.Dict.{Pair, stage, HasSome, HasPair, IsPair, Counts, IsFit, IsValueOf, value_of, IsDict, IsStaleRoot, Puts, LawOfDicts}
+use Rattle.attach_dict.specs.Dict.{Pair, stage, HasSome, IsPair, Counts, IsFit, IsValueOf, value_of, IsDict, IsStaleRoot, LawOfDicts}
 use Rattle.attach_dict.proofs.Pairs.{some_of, IsSamePair, pair_once}
 use Rattle.attach_dict.proofs.Maps.{same_map}
 

@@ -1,6 +1,5 @@
 -- A root's block was freed: that of a pair which counted, or that of a stale root.
-use Rattle.std.proofs.Common.{◌≡◌, ◌≢◌, ◌⊎◌, ℕ, ◌<◌, ◌≤◌, List, length, Option, Some, None, inl, inr, refl, sym, ap, ◌∙◌, subst, arith, ⊎_elim}
-use Rattle.std.proofs.lemmas.Bool.{cases_eq}
+use Rattle.std.proofs.Common.{◌≡◌, ◌≢◌, ℕ, ◌<◌, List, length, inl, inr, refl, sym, ap, ◌∙◌, subst, arith, ⊎_elim}
 use Rattle.pmem_lines.specs.Pmem.{words_of}
 use Rattle.image_tables.specs.Tables.{tables_of}
 use Rattle.heap_model.specs.Machine.{Bounds}
@@ -15,18 +14,18 @@ use Rattle.arena_core.proofs.Callers.{rooted}
 use Rattle.attach_dict.specs.declared.index.DictIndex.{DictIndex}
 use Rattle.attach_dict.specs.declared.progress.Progress.{Progress}
 use Rattle.attach_dict.specs.declared.progress.Progress.TheVariants as stages
-use Rattle.attach_dict.specs.Calls.{IsEitherDict, Leaves, KeepsMap, HasTidied, HasRemoved}
-use Rattle.attach_dict.specs.Dict.{Pair, stage, HasSome, HasNone, IsPair, Counts, IsFit, IsDict, IsStaleRoot, IsSteadyDict}
+use Rattle.attach_dict.specs.Calls.{IsEitherDict, KeepsMap, HasTidied, HasRemoved}
+use Rattle.attach_dict.specs.Dict.{Pair, stage, HasSome, IsPair, Counts, IsFit, IsDict, IsStaleRoot, IsSteadyDict}
 use Rattle.attach_dict.specs.Index.{HasLessPair, MayDrop, HasDroppedStale}
 use Rattle.attach_dict.specs.Roots.{Roots, IsIn, IsOut, HasMoreRoots, HasFewerRoots}
-use Rattle.attach_dict.specs.Stages.{Phase, Idle, Staged, Filled, IsStale, AreNoneStale, IsAtStage, IsKept}
+use Rattle.attach_dict.specs.Stages.{Phase, Idle, Staged, Filled, IsStale, AreNoneStale, IsAtStage}
 use Rattle.attach_dict.specs.Steps.{IsFreed}
 use Rattle.attach_dict.specs.View.{pairs_in, phase_in, turned, IsPairOf, AreOrders, AreStaleRoots}
 use Rattle.attach_dict.specs.Whole.{state_of, IsWhole}
-use Rattle.attach_dict.proofs.Answered.{stage_rooted, left_keeps, left_dict, freed_others, freed_none, freed_keeps}
+use Rattle.attach_dict.proofs.Answered.{left_keeps, left_dict, freed_others, freed_none, freed_keeps}
 use Rattle.attach_dict.proofs.Counting.{law_of_dicts}
 use Rattle.attach_dict.proofs.Indexed.{dict_of, ranked_of_pair}
-use Rattle.attach_dict.proofs.Kept.{KeepsRoots, keeps_back, keeps_heap, dict_same, stale_same}
+use Rattle.attach_dict.proofs.Kept.{keeps_back, keeps_heap, dict_same, stale_same}
 use Rattle.attach_dict.proofs.Less.{none_not_some, fit_less, both_less, orders_less, puts_none, still_tidy, dict_less, stale_left, stale_was}
 use Rattle.attach_dict.proofs.Pairs.{some_of}
 use Rattle.attach_dict.proofs.Still.{leaves_by, stale_none, orders_still, dict_still, map_still}

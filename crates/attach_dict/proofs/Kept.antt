@@ -1,11 +1,11 @@
 -- What a dictionary keeps of its pairs while one block comes, goes or is written.
-use Rattle.std.proofs.Common.{◌≡◌, ◌≢◌, ◌⊎◌, ℕ, ◌+◌, ◌<◌, ◌≤◌, List, Option, Some, None, inl, inr, sym, ◌∙◌, arith, ⊎_elim}
+use Rattle.std.proofs.Common.{◌≡◌, ◌≢◌, ℕ, ◌<◌, List, Option, Some, None, inl, inr, sym, ◌∙◌, arith, ⊎_elim}
 use Rattle.pmem_lines.specs.Words.{word_at}
 use Rattle.image_tables.specs.Tables.{tables_of}
 use Rattle.heap_model.specs.Machine.{Range}
 use Rattle.heap_check.specs.Heap.{heap}
 use Rattle.heap_check.specs.State.{IsWordOf, HaveSameHeap, KeepsBlocks}
-use Rattle.attach_dict.specs.Dict.{Pair, stage, HasSome, HasNone, HasPair, IsPair, Counts, IsFit, IsValueOf, value_of, IsDict, IsStaleRoot, IsGreatest, IsNextNumber, LawOfKeptDicts}
+use Rattle.attach_dict.specs.Dict.{Pair, stage, HasSome, HasNone, IsPair, Counts, IsFit, IsValueOf, value_of, IsDict, IsStaleRoot, IsGreatest, IsNextNumber, LawOfKeptDicts}
 use Rattle.attach_dict.proofs.Pairs.{pair_kept}
 
 -- every root but the stage and one more names the block that it named, with its words

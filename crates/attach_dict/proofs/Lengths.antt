@@ -1,14 +1,14 @@
 -- How many keys there are: as many as pairs of roots, less those that are stale.
-use Rattle.std.proofs.Common.{◌≡◌, ◌≢◌, ◌⊎◌, ◌↔◌, ◌==◌, IsTrue, ℕ, suc, ◌+◌, ◌<◌, ◌≤◌, List, [], ◌∷◌, length, inl, inr, refl, sym, ap, ◌∙◌, subst, arith, ⊎_elim}
-use Rattle.std.proofs.lemmas.Bool.{cases_eq, cases_lt}
+use Rattle.std.proofs.Common.{◌≡◌, ◌≢◌, ◌⊎◌, ◌↔◌, ◌==◌, IsTrue, ℕ, ◌+◌, ◌<◌, ◌≤◌, List, [], ◌∷◌, length, inl, inr, refl, sym, ap, ◌∙◌, subst, arith, ⊎_elim}
+use Rattle.std.proofs.lemmas.Bool.{cases_eq}
 use Rattle.std.specs.List.{AllPairs, Contains}
 use Rattle.heap_check.specs.Image.{bounds_of, IsExactImage}
 use Rattle.image_defects.specs.Count.{IsCount}
 use Rattle.image_defects.proofs.Counts.{count_once}
 use Rattle.pair_order.specs.declared.order.Ranked.{Ranked}
-use Rattle.pair_order.specs.Order.{Order, IsBefore, IsRanked, IsOrder, HasNoneOf, IsLastOf}
+use Rattle.pair_order.specs.Order.{Order, IsBefore, IsRanked, HasNoneOf, IsLastOf}
 use Rattle.pair_order.proofs.Before.{before_first, before_second, before_root, before_from, before_irreflexive, before_one_way}
-use Rattle.attach_dict.specs.Dict.{Pair, stage, HasSome, IsPair, Counts, IsFit, IsStaleRoot}
+use Rattle.attach_dict.specs.Dict.{Pair, stage, IsPair, Counts, IsFit, IsStaleRoot}
 use Rattle.attach_dict.specs.Roots.{Roots, IsIn, AreRoots}
 use Rattle.attach_dict.specs.Stages.{Phase, Idle, Staged, Filled, IsStale}
 use Rattle.pmem_lines.specs.Pmem.{words_of}
@@ -21,7 +21,7 @@ use Rattle.attach_dict.proofs.Answered.{stage_rooted}
 use Rattle.attach_dict.specs.View.{value_in, pairs_in, phase_in, IsPairOf, AreOrders, AreStaleRoots}
 use Rattle.attach_dict.proofs.Counting.{AllFit, one_root}
 use Rattle.attach_dict.proofs.Counts.{count_none, count_same, count_more, count_less}
-use Rattle.attach_dict.proofs.Indexed.{counts_last, none_of, ranked_of_pair}
+use Rattle.attach_dict.proofs.Indexed.{counts_last, ranked_of_pair}
 use Rattle.attach_dict.proofs.Pairs.{some_of, IsSamePair, pair_once}
 use Rattle.attach_dict.proofs.Ranks.{tail_has, head_has, head_or_tail, none_in, one_in, passed_over, taken, rising_tail, rising_head, last_or_none}
 

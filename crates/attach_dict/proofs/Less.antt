@@ -1,16 +1,15 @@
 -- The dictionary of an image in which the block of a root has gone.
-use Rattle.std.proofs.Common.{◌≡◌, ◌≢◌, ◌⊎◌, ℕ, ◌<◌, ◌≤◌, List, Option, Some, None, inl, inr, refl, sym, ap, ◌∙◌, subst, arith, ⊎_elim}
+use Rattle.std.proofs.Common.{◌≡◌, ◌≢◌, ℕ, ◌<◌, List, Option, Some, None, sym, ap, ◌∙◌, subst, ⊎_elim}
 use Rattle.std.proofs.lemmas.Bool.{cases_eq}
 use Rattle.image_tables.specs.Tables.{tables_of}
 use Rattle.heap_check.specs.Heap.{heap}
 use Rattle.heap_check.specs.Image.{bounds_of}
-use Rattle.pair_order.specs.declared.order.Ranked.{Ranked}
-use Rattle.pair_order.specs.Order.{Order, IsRanked, IsOrder, HasLess}
-use Rattle.attach_dict.specs.Dict.{Pair, stage, HasSome, HasNone, HasPair, IsPair, Counts, IsFit, IsValueOf, value_of, IsDict, IsStaleRoot, Puts}
+use Rattle.pair_order.specs.Order.{Order, HasLess}
+use Rattle.attach_dict.specs.Dict.{Pair, stage, HasSome, HasNone, HasPair, IsPair, Counts, IsValueOf, value_of, IsDict, IsStaleRoot, Puts}
 use Rattle.attach_dict.specs.Roots.{Roots, IsIn, HasMoreRoots}
 use Rattle.attach_dict.specs.View.{turned, IsPairOf, IsVacant, AreOrders}
-use Rattle.attach_dict.proofs.Pairs.{some_of, IsSamePair, pair_once}
-use Rattle.attach_dict.proofs.Kept.{KeepsRoots, keeps_back, some_to, none_to, pair_to, dict_same}
+use Rattle.attach_dict.proofs.Pairs.{some_of, pair_once}
+use Rattle.attach_dict.proofs.Kept.{KeepsRoots, keeps_back, some_to, none_to, pair_to}
 use Rattle.attach_dict.proofs.Counting.{AllFit, counts_once, value_is, value_counts, counts_or_stale}
 
 -- a root names a block or none

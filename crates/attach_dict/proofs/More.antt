@@ -1,16 +1,15 @@
 -- The dictionary of an image in which a root has a pair anew, with a number above those of all others.
-use Rattle.std.proofs.Common.{◌≡◌, ◌≢◌, ◌⊎◌, ℕ, ◌+◌, ◌<◌, ◌≤◌, List, Option, Some, None, inl, inr, refl, sym, ap, ◌∙◌, subst, arith, ⊎_elim}
+use Rattle.std.proofs.Common.{◌≡◌, ◌≢◌, ◌⊎◌, ℕ, ◌<◌, ◌≤◌, List, Option, Some, None, inl, inr, sym, ap, ◌∙◌, subst, arith, ⊎_elim}
 use Rattle.std.proofs.lemmas.Bool.{cases_eq}
-use Rattle.image_tables.specs.Tables.{tables_of}
 use Rattle.heap_check.specs.Image.{bounds_of}
 use Rattle.pair_order.specs.declared.order.Ranked.{Ranked}
-use Rattle.pair_order.specs.Order.{Order, IsRanked, IsOrder, HasMore}
-use Rattle.attach_dict.specs.Dict.{Pair, stage, HasSome, HasNone, HasPair, IsPair, Counts, IsFit, IsValueOf, value_of, IsDict, IsStaleRoot, Puts}
+use Rattle.pair_order.specs.Order.{Order, IsRanked, HasMore}
+use Rattle.attach_dict.specs.Dict.{Pair, HasSome, HasNone, HasPair, IsPair, Counts, IsFit, IsValueOf, value_of, IsDict, IsStaleRoot, Puts}
 use Rattle.attach_dict.specs.Roots.{Roots, IsIn, HasFewerRoots}
-use Rattle.attach_dict.specs.View.{turned, IsPairOf, IsVacant, AreOrders}
+use Rattle.attach_dict.specs.View.{turned, IsPairOf, AreOrders}
 use Rattle.attach_dict.proofs.Pairs.{some_of, IsSamePair, pair_once}
 use Rattle.attach_dict.proofs.Kept.{KeepsRoots, keeps_back, some_to, none_to, pair_to}
-use Rattle.attach_dict.proofs.Counting.{AllFit, counts_once, value_is, value_counts, counts_or_stale, other_stale}
+use Rattle.attach_dict.proofs.Counting.{AllFit, value_is, counts_or_stale, other_stale}
 use Rattle.attach_dict.proofs.Less.{none_not_some}
 
 module _ {old new : List ℕ} {come key number : ℕ} {value : List ℕ} (keeps : KeepsRoots old new come) (none : HasNone old come) (pair : IsPair new come key number value) (above : (root k n : ℕ) (v : List ℕ) → IsPair old root k n v → n < number) where

@@ -1,12 +1,12 @@
 -- The pairs of an image: a root has one at most, and what keeps it, under whichever root.
-use Rattle.std.proofs.Common.{◌≡◌, ◌≢◌, ℕ, ◌+◌, ◌*◌, ◌/◌, ◌<◌, ◌≤◌, List, length, Some, refl, sym, ap, ◌∙◌, arith, ext_get_or}
+use Rattle.std.proofs.Common.{◌≡◌, ℕ, ◌+◌, ◌/◌, ◌<◌, ◌≤◌, List, length, Some, sym, ap, ◌∙◌, arith, ext_get_or}
 use Rattle.pmem_lines.specs.Words.{word_at}
 use Rattle.image_tables.specs.Tables.{tables_of}
 use Rattle.heap_model.specs.Machine.{Range}
 use Rattle.heap_check.specs.Heap.{heap}
 use Rattle.heap_check.specs.State.{IsWordOf}
 use Rattle.arena_core.proofs.Callers.{one_range}
-use Rattle.attach_dict.specs.Dict.{stage, head_words, HasSome, HasPair, IsPair}
+use Rattle.attach_dict.specs.Dict.{head_words, HasSome, HasPair, IsPair}
 
 -- a root with a pair has a block
 pub some_of : {words : List ℕ} {root key number : ℕ} {value : List ℕ} → IsPair words root key number value → HasSome words root

@@ -1,31 +1,30 @@
 -- The block at the stage comes to a free root: its pair is in the map, and the pair that its key had is stale.
-use Rattle.std.proofs.Common.{◌≡◌, ◌≢◌, ◌⊎◌, ℕ, ◌+◌, ◌-◌, ◌^◌, ◌<◌, ◌≤◌, List, [], length, Option, Some, None, IsSome, inl, inr, refl, sym, ap, ◌∙◌, subst, arith, ⊎_elim}
+use Rattle.std.proofs.Common.{◌≡◌, ◌≢◌, ℕ, ◌+◌, ◌-◌, ◌^◌, ◌<◌, List, [], length, Option, Some, IsSome, inl, inr, refl, sym, ap, ◌∙◌, subst, arith, ⊎_elim}
 use Rattle.std.proofs.lemmas.Bool.{cases_eq}
 use Rattle.pmem_lines.specs.Words.{word_at}
 use Rattle.pmem_lines.specs.Pmem.{words_of}
 use Rattle.image_tables.specs.Tables.{tables_of}
 use Rattle.heap_model.specs.Machine.{Bounds, Range}
-use Rattle.heap_model.specs.declared.call.Call.TheVariants as calls
 use Rattle.heap_model.specs.declared.call.Reply.TheVariants as replies
 use Rattle.heap_check.specs.Heap.{heap}
-use Rattle.heap_check.specs.Image.{bounds_of, IsExactImage}
+use Rattle.heap_check.specs.Image.{bounds_of}
 use Rattle.heap_check.specs.State.{IsWordOf, HaveSameHeap}
 use Rattle.image_defects.specs.Least.{IsLeastOf}
-use Rattle.move_steps.specs.Moves.{MovesOne, IsEitherMoved}
+use Rattle.move_steps.specs.Moves.{IsEitherMoved}
 use Rattle.pair_order.specs.declared.order.Ranked.{Ranked}
-use Rattle.pair_order.specs.Order.{IsRanked, HasNoPlace, HasNoneOf, IsLastOf}
+use Rattle.pair_order.specs.Order.{IsRanked, IsLastOf}
 use Rattle.arena_core.specs.Arena.{ArenaState}
 use Rattle.arena_core.proofs.Callers.{IsPassed, passed}
 use Rattle.attach_dict.specs.declared.index.DictIndex.{DictIndex}
 use Rattle.attach_dict.specs.declared.progress.Progress.{Progress}
 use Rattle.attach_dict.specs.declared.progress.Progress.TheVariants as stages
-use Rattle.attach_dict.specs.Calls.{IsEitherDict, Leaves, HasPublished}
-use Rattle.attach_dict.specs.Dict.{Pair, stage, HasSome, HasNone, HasPair, IsPair, Counts, IsDict, IsStaleRoot, IsSteadyDict, IsNextNumber, IsFreeRoot}
+use Rattle.attach_dict.specs.Calls.{IsEitherDict, HasPublished}
+use Rattle.attach_dict.specs.Dict.{Pair, stage, HasSome, HasPair, IsPair, Counts, IsDict, IsStaleRoot, IsNextNumber, IsFreeRoot}
 use Rattle.attach_dict.specs.Index.{IsGreatestNumber, MayComeNext, HasPutPair, IsLastStale}
-use Rattle.attach_dict.specs.Roots.{Roots, IsIn, IsOut, HasMoreRoots}
-use Rattle.attach_dict.specs.Stages.{Phase, Idle, Staged, Filled, IsStale, AreNoneStale, IsAtStage, HasNumbered, HasRoomForPair, HasFilledPhase}
+use Rattle.attach_dict.specs.Roots.{Roots, IsIn}
+use Rattle.attach_dict.specs.Stages.{Idle, Filled, IsStale, HasNumbered, HasFilledPhase}
 use Rattle.attach_dict.specs.Steps.{IsShown}
-use Rattle.attach_dict.specs.View.{value_in, pairs_in, phase_in, turned, IsVacant, AreOrders, AreStaleRoots}
+use Rattle.attach_dict.specs.View.{value_in, pairs_in, phase_in, turned, AreOrders, AreStaleRoots}
 use Rattle.attach_dict.specs.Whole.{state_of, IsWhole}
 use Rattle.attach_dict.proofs.Indexed.{dict_of, counts_last, none_of}
 use Rattle.attach_dict.proofs.Counting.{counts_once}

@@ -1,6 +1,6 @@
 -- The pairs that an order says: they go by rising key, and each is the last one of its key.
-use Rattle.std.proofs.Common.{◌≡◌, ◌≢◌, ◌⊎◌, ℕ, zero, suc, ◌<◌, ◌≤◌, eqb, List, [], ◌∷◌, length, get_or, Some, None, inl, inr, refl, sym, ap, ◌∙◌, subst, arith, ⊎_elim}
-use Rattle.std.proofs.lemmas.Bool.{cases_eq, cases_lt, cond-true, cond-false, eq-eqb, ne_eqb}
+use Rattle.std.proofs.Common.{◌≡◌, ◌≢◌, ◌⊎◌, ℕ, zero, suc, ◌<◌, ◌≤◌, eqb, List, [], ◌∷◌, Some, None, inl, inr, refl, sym, ap, ◌∙◌, subst, arith, ⊎_elim}
+use Rattle.std.proofs.lemmas.Bool.{cases_eq, cond-true, cond-false, eq-eqb, ne_eqb}
 use Rattle.std.specs.List.{AllPairs, Contains}
 use Rattle.pair_order.specs.declared.order.Ranked.{Ranked}
 use Rattle.pair_order.specs.Order.{Order, IsBefore, IsRanked, IsOrder, HasNoneOf, IsLastOf, HasNoneFrom as IsAllBelow, IsNextFrom as IsNext}

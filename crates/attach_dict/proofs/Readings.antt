@@ -1,21 +1,19 @@
 -- What the words of a block say of the pair that it is, and what is read of it.
-use Rattle.std.proofs.Common.{◌≡◌, ◌≢◌, ℕ, ◌+◌, ◌-◌, ◌*◌, ◌/◌, ◌<◌, ◌≤◌, List, length, get_or, take, drop, Some, None, Result, Ok, Err, IsOk, refl, sym, ap, ◌∙◌, subst, arith, ⊎_elim}
+use Rattle.std.proofs.Common.{◌≡◌, ℕ, ◌+◌, ◌/◌, ◌<◌, ◌≤◌, List, length, get_or, take, drop, Result, Ok, Err, IsOk, refl, sym, ap, ◌∙◌, subst, arith, ⊎_elim}
 use Rattle.std.specs.Borrow.{Bor}
 use Rattle.pmem_lines.specs.Words.{word_at, words_at}
 use Rattle.pmem_lines.proofs.Words.{length-words_at, get_or-words_at}
-use Rattle.image_tables.specs.Tables.{tables_of}
 use Rattle.heap_model.specs.Machine.{Range}
-use Rattle.heap_check.specs.Heap.{heap}
 use Rattle.heap_check.specs.Image.{bounds_of, IsExactImage}
 use Rattle.pair_order.specs.declared.order.Ranked.{Ranked}
 use Rattle.arena_core.specs.declared.answer.BlockRefusal.{BlockRefusal}
 use Rattle.arena_core.specs.declared.answer.BlockRefusal.TheVariants.{NoRoot, Empty, OutOfRange}
 use Rattle.arena_core.specs.Payload.{AreWordsOf, IsViewOf}
-use Rattle.arena_core.proofs.Callers.{one_range, rooted, root_place}
+use Rattle.arena_core.proofs.Callers.{one_range, rooted}
 use Rattle.attach_dict.specs.declared.reading.Reading.{Reading}
 use Rattle.attach_dict.specs.declared.reading.Reading.TheVariants as readings
 use Rattle.attach_dict.specs.Dict.{head_words, most_values, HasSome, HasNone, HasPair}
-use Rattle.attach_dict.specs.Reading.{HoldsPair, HoldsPairOf, HoldsNoPair, IsReadAs, AreWordsOfPair, AreWordsOfNone, IsReadOf}
+use Rattle.attach_dict.specs.Reading.{HoldsPair, IsReadAs, AreWordsOfPair, AreWordsOfNone, IsReadOf}
 use Rattle.attach_dict.specs.View.{value_in}
 use Rattle.attach_dict.proofs.Pairs.{IsSamePair, pair_once}
 use Rattle.attach_dict.proofs.Indexed.{value_in_is}

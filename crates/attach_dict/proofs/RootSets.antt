@@ -1,5 +1,5 @@
 -- Sets of roots as bits: one without roots, a root that comes and one that goes, and the lowest.
-use Rattle.std.proofs.Common.{◌≡◌, ◌≢◌, ◌⊎◌, ◌↔◌, IsTrue, ℕ, ◌+◌, ◌*◌, ◌/◌, ◌^◌, ◌<◌, ◌≤◌, Bool, true, false, true≢false, cond, eqb, List, length, replicate, Option, Some, None, MatchOption, refl, sym, ap, ◌∙◌, subst, arith, inl, inr, ⊎_elim}
+use Rattle.std.proofs.Common.{◌≡◌, ◌≢◌, ◌↔◌, IsTrue, ℕ, ◌+◌, ◌*◌, ◌/◌, ◌^◌, ◌<◌, ◌≤◌, Bool, true, false, true≢false, eqb, List, length, replicate, Option, Some, None, MatchOption, refl, sym, ◌∙◌, subst, arith, inl, inr, ⊎_elim}
 use Rattle.std.proofs.lemmas.Bool.{cases_eq, cases_lt, cond-true, cond-false, eq-eqb, ne_eqb}
 use Rattle.std.proofs.lemmas.List.{length-replicate}
 use Rattle.bit_words.specs.Numbers.{has, IsPut, HasNoneIn, IsLeastIn}
@@ -8,7 +8,7 @@ use Rattle.image_defects.specs.Count.{IsCount}
 use Rattle.image_defects.proofs.Counts.{none_below}
 use Rattle.image_defects.specs.Least.{IsLeastOf}
 use Rattle.attach_dict.specs.Roots.{Roots, IsIn, AreRoots, AreNoRoots, IsOut, HasMoreRoots, HasFewerRoots}
-use Rattle.attach_dict.proofs.Counts.{count_most, count_none, count_more, count_less}
+use Rattle.attach_dict.proofs.Counts.{count_none, count_more, count_less}
 
 -- a set by its parts
 abbrev pub set_of : ℕ → List ℕ → ℕ → Roots

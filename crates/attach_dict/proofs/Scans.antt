@@ -1,15 +1,10 @@
 -- The indexes of an arena while its roots are gone through, one by one.
-use Rattle.std.proofs.Common.{◌≡◌, ◌≢◌, ◌⊎◌, ◌↔◌, ℕ, ◌+◌, ◌^◌, ◌<◌, ◌≤◌, Bool, true, false, not, eqb, true≢false, IsTrue, IsSome, List, length, Option, Some, None, MatchOption, inl, inr, refl, sym, ap, ◌∙◌, subst, arith, ⊎_elim}
-use Rattle.std.proofs.lemmas.Bool.{cases_eq, cases_lt, eq-eqb, ne_eqb}
-use Rattle.pool_layout.specs.Layout.{layout_of}
+use Rattle.std.proofs.Common.{◌≡◌, ◌≢◌, ◌⊎◌, ℕ, ◌+◌, ◌^◌, ◌<◌, ◌≤◌, not, eqb, true≢false, IsTrue, IsSome, List, length, Option, Some, None, MatchOption, inl, inr, refl, sym, ap, ◌∙◌, subst, arith, ⊎_elim}
+use Rattle.std.proofs.lemmas.Bool.{cases_lt, eq-eqb, ne_eqb}
 use Rattle.pool_layout.specs.Header.{version_in}
 use Rattle.pool_layout.proofs.Layouts.{layout_rules}
-use Rattle.image_tables.specs.Tables.{tables_of}
-use Rattle.heap_model.specs.Machine.{Range}
-use Rattle.heap_check.specs.Heap.{heap}
 use Rattle.heap_check.specs.Image.{bounds_of, IsExactImage}
 use Rattle.image_defects.specs.Count.{IsCount}
-use Rattle.image_defects.specs.Least.{IsLeast}
 use Rattle.pmem_lines.specs.Pmem.{words_of}
 use Rattle.arena_core.specs.Arena.{ArenaState}
 use Rattle.arena_core.specs.Call.{IsReady}
@@ -19,12 +14,12 @@ use Rattle.arena_core.proofs.Callers.{rooted}
 use Rattle.pair_order.specs.declared.order.Ranked.{Ranked}
 use Rattle.pair_order.specs.Order.{Order, IsRanked, HasNoPlace, HasNoneWith, IsHighestWith, HasNoneOf, IsLastOf}
 use Rattle.attach_dict.specs.declared.index.DictIndex.{DictIndex}
-use Rattle.attach_dict.specs.Dict.{stage, HasSome, HasNone, HasPair, IsPair, Counts, IsFit, IsMisfit, IsNotDict, IsDict, IsStaleRoot}
+use Rattle.attach_dict.specs.Dict.{stage, HasSome, HasNone, HasPair, IsPair, Counts, IsFit, IsMisfit, IsNotDict, IsDict}
 use Rattle.attach_dict.specs.Index.{IsBlank, HasMorePair}
 use Rattle.attach_dict.specs.Reading.{HoldsPairOf, HoldsNoPair, IsScanned, IsReadThrough, IsHalfStale, IsIndexed}
 use Rattle.attach_dict.specs.Roots.{Roots, IsIn, IsOut, AreRoots, AreNoRoots, HasMoreRoots}
 use Rattle.attach_dict.specs.Stages.{Phase, Idle, IsStale, IsStaleCount}
-use Rattle.attach_dict.specs.View.{value_in, pairs_in, turned, IsPairOf, IsVacant, AreOrders, AreStaleRoots}
+use Rattle.attach_dict.specs.View.{value_in, pairs_in, turned, IsPairOf, IsVacant, AreStaleRoots}
 use Rattle.attach_dict.proofs.Counts.{count_same}
 use Rattle.attach_dict.proofs.Pairs.{some_of, IsSamePair, pair_once}
 use Rattle.attach_dict.proofs.Counting.{other_stale}

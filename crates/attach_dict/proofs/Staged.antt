@@ -1,12 +1,11 @@
 -- A pair is made ready at the stage: its block is given, is written, and is freed again.
-use Rattle.std.proofs.Common.{◌≡◌, ◌≢◌, ◌⊎◌, ℕ, suc, ◌+◌, ◌-◌, ◌*◌, ◌/◌, ◌^◌, ◌<◌, ◌≤◌, List, ◌∷◌, length, get_or, Some, None, Result, Ok, Err, inl, inr, refl, sym, ap, ◌∙◌, subst, arith, ⊎_elim}
+use Rattle.std.proofs.Common.{◌≡◌, ◌≢◌, ℕ, suc, ◌+◌, ◌-◌, ◌/◌, ◌^◌, ◌<◌, ◌≤◌, List, ◌∷◌, length, get_or, Ok, Err, inl, inr, refl, sym, ap, ◌∙◌, subst, arith, ⊎_elim}
 use Rattle.pmem_lines.specs.Words.{word_at}
 use Rattle.pmem_lines.specs.Pmem.{PmemState, words_of}
 use Rattle.image_tables.specs.Tables.{tables_of}
 use Rattle.heap_model.specs.declared.call.Call.TheVariants as calls
 use Rattle.heap_model.specs.declared.call.Reply.TheVariants as replies
 use Rattle.heap_check.specs.Heap.{heap}
-use Rattle.heap_check.specs.Image.{bounds_of, IsExactImage}
 use Rattle.heap_check.specs.State.{IsEitherHeap}
 use Rattle.arena_core.specs.Arena.{ArenaState}
 use Rattle.arena_core.specs.Answered.{IsAnswered, IsWriteAnswered}
@@ -17,9 +16,9 @@ use Rattle.attach_dict.specs.declared.progress.Progress.{Progress}
 use Rattle.attach_dict.specs.declared.progress.Progress.TheVariants as stages
 use Rattle.attach_dict.specs.declared.refusal.StageRefusal.{StageRefusal}
 use Rattle.attach_dict.specs.declared.refusal.StageRefusal.TheVariants.{Full, NumbersSpent, NoSpace}
-use Rattle.attach_dict.specs.Calls.{block_words, KeepsMap, HasAsked, HasStaged, IsStagedBy, HasFilled, HasCancelled}
-use Rattle.attach_dict.specs.Dict.{Pair, stage, head_words, most_values, bytes_for, HasSome, HasNone, HasPair, IsNextNumber, IsSteadyDict}
-use Rattle.attach_dict.specs.Stages.{Phase, Idle, Staged, Filled, AreNoneStale, IsAtStage, HasRoomAt, HasNumbered, HasRoomForPair}
+use Rattle.attach_dict.specs.Calls.{block_words, HasAsked, HasStaged, IsStagedBy, HasFilled, HasCancelled}
+use Rattle.attach_dict.specs.Dict.{stage, most_values, bytes_for, HasSome, HasNone, HasPair, IsNextNumber, IsSteadyDict}
+use Rattle.attach_dict.specs.Stages.{Idle, Staged, Filled, AreNoneStale, IsAtStage, HasRoomAt, HasRoomForPair}
 use Rattle.attach_dict.specs.Steps.{IsTaken, IsTakenBy, HasRoomFor, IsFreed}
 use Rattle.attach_dict.specs.View.{value_in, pairs_in, phase_in}
 use Rattle.attach_dict.specs.Whole.{state_of, IsWhole}

@@ -1,7 +1,7 @@
 -- A call after which the pairs of all roots but the stage are as they were: the map stays, also in an image of a crash.
-use Rattle.std.proofs.Common.{◌≡◌, ◌≢◌, ◌⊎◌, ℕ, ◌<◌, ◌≤◌, List, length, Some, None, inl, inr, refl, sym, ap, ◌∙◌, subst, arith, ⊎_elim}
+use Rattle.std.proofs.Common.{◌≡◌, ℕ, List, length, refl, sym, ap, ◌∙◌, subst, arith}
 use Rattle.pmem_lines.specs.declared.event.Event.{Event}
-use Rattle.pmem_lines.specs.Pmem.{PmemState, words_of}
+use Rattle.pmem_lines.specs.Pmem.{words_of}
 use Rattle.heap_model.specs.Machine.{Bounds}
 use Rattle.heap_check.specs.Image.{bounds_of, IsExactImage}
 use Rattle.pair_order.specs.Order.{Order}
@@ -12,8 +12,8 @@ use Rattle.attach_dict.specs.declared.index.DictIndex.{DictIndex}
 use Rattle.attach_dict.specs.declared.progress.Progress.{Progress}
 use Rattle.attach_dict.specs.Calls.{KeepsMap, Leaves}
 use Rattle.attach_dict.specs.Dict.{Pair, stage, IsDict, IsSteadyDict}
-use Rattle.attach_dict.specs.Roots.{Roots, IsIn}
-use Rattle.attach_dict.specs.Stages.{Phase, DictState, AreNoneStale, IsAtStage, IsKept}
+use Rattle.attach_dict.specs.Roots.{Roots}
+use Rattle.attach_dict.specs.Stages.{Phase, AreNoneStale, IsAtStage}
 use Rattle.attach_dict.specs.View.{pairs_in, phase_in, AreOrders, AreStaleRoots}
 use Rattle.attach_dict.specs.Whole.{state_of, IsWhole}
 use Rattle.attach_dict.proofs.Kept.{KeepsRoots, keeps_back, none_to, pair_same, pair_back, dict_same}

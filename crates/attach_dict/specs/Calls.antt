@@ -13,7 +13,7 @@ use Rattle.arena_core.specs.Answered.{IsAnswered, IsMoveAnswered, IsWriteAnswere
 use Rattle.attach_dict.specs.declared.refusal.StageRefusal.{StageRefusal}
 use Rattle.attach_dict.specs.declared.refusal.StageRefusal.TheVariants.{Full, NumbersSpent, NoSpace}
 use Rattle.attach_dict.specs.declared.refusal.Absent.{Absent}
-use Rattle.attach_dict.specs.Dict.{Pair, stage, bytes_for, HasNone, Counts, value_of, Puts, IsNextNumber, IsGreatest, IsFreeRoot, IsFull, AreNumbersSpent, IsSteadyDict}
+use Rattle.attach_dict.specs.Dict.{Pair, stage, bytes_for, HasNone, Counts, value_of, Puts, IsNextNumber, IsFreeRoot, IsFull, AreNumbersSpent, IsSteadyDict}
 use Rattle.attach_dict.specs.Stages.{Phase, Idle, Staged, Filled, DictState, IsStale, AreNoneStale}
 
 -- what a crash leaves within a call of the arena: the map of before or the one of behind

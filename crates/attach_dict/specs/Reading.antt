@@ -8,7 +8,7 @@ use Rattle.attach_dict.specs.declared.reading.Reading.TheVariants.{Empty, Unfit,
 use Rattle.attach_dict.specs.declared.refusal.OpenFault.{OpenFault}
 use Rattle.attach_dict.specs.declared.refusal.OpenFault.TheVariants as faults
 use Rattle.attach_dict.specs.Dict.{stage, head_words, most_values, HasSome, HasNone, HasPair, IsFit, IsMisfit, IsNotDict}
-use Rattle.attach_dict.specs.Stages.{Phase, Idle}
+use Rattle.attach_dict.specs.Stages.{Idle}
 use Rattle.attach_dict.specs.Roots.{AreNoRoots}
 use Rattle.attach_dict.specs.View.{AreOrders, AreStaleRoots, AreIndexes}
 

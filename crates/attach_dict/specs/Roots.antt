@@ -1,5 +1,5 @@
 -- A set of roots below a number, and how many they are.
-use Rattle.std.specs.Prelude.{◌≡◌, ◌≢◌, ◌⊎◌, ◌^◌, ℕ, ◌+◌, ◌*◌, ◌<◌, ◌≤◌, true, List, length, slice_index}
+use Rattle.std.specs.Prelude.{◌≡◌, ◌≢◌, ◌⊎◌, ◌^◌, ℕ, ◌+◌, ◌*◌, ◌<◌, ◌≤◌, true, List, length}
 use Rattle.bit_words.specs.Numbers.{has}
 use Rattle.image_defects.specs.Count.{IsCount}
 

@@ -8,7 +8,7 @@ use Rattle.pair_order.specs.Order.{Order, IsRanked, IsOrder}
 use Rattle.attach_dict.specs.declared.index.DictIndex.{DictIndex}
 use Rattle.attach_dict.specs.declared.progress.Progress.{Progress}
 use Rattle.attach_dict.specs.declared.progress.Progress.TheVariants as stages
-use Rattle.attach_dict.specs.Dict.{Pair, stage, head_words, HasNone, HasPair, IsPair, value_of}
+use Rattle.attach_dict.specs.Dict.{Pair, stage, head_words, HasNone, IsPair, value_of}
 use Rattle.attach_dict.specs.Roots.{Roots, IsIn}
 use Rattle.attach_dict.specs.Stages.{Phase, Idle, Staged, Filled, IsStale}
 

@@ -1,4 +1,4 @@
-use Rattle.std.proofs.Common.{◌<◌, false, arith}
+use Rattle.std.proofs.Common.{◌<◌, arith}
 use Rattle.pmem_lines.specs.Pmem.{words_of}
 use Rattle.attach_dict.specs.Dict.{stage}
 use Rattle.attach_dict.proofs.Scans.{has_last, last_some, last_at, stale_apart, apart_stale, apart_test, test_apart, unfit_stale}

@@ -1,4 +1,3 @@
-use Rattle.std.proofs.Common.{◌≡◌, ◌≤◌}
 use Rattle.pmem_lines.specs.Pmem.{words_of}
 use Rattle.attach_dict.specs.Reading.{IsScanned}
 use Rattle.attach_dict.proofs.opening.scan_pairs.Given as goal

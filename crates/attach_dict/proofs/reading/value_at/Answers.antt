@@ -1,4 +1,4 @@
-use Rattle.std.proofs.Common.{◌+◌, ◌-◌, ◌≤◌, length, get_or, refl, arith}
+use Rattle.std.proofs.Common.{◌+◌, ◌-◌, ◌≤◌, length, get_or, arith}
 use Rattle.pmem_lines.specs.Pmem.{words_of}
 use Rattle.attach_dict.specs.Dict.{head_words, most_values}
 use Rattle.attach_dict.proofs.Readings.{lent_ok, view_of, room_in, few_in, lent_value}

@@ -1,4 +1,4 @@
-use Rattle.std.proofs.Common.{List, ℕ, Result, subst}
+use Rattle.std.proofs.Common.{Result, subst}
 use Rattle.arena_core.specs.declared.answer.BlockRefusal.{BlockRefusal}
 use Rattle.arena_core.specs.Answered.{IsWriteAnswered}
 use Rattle.arena_core.proofs.Replies.{write_ok}

@@ -1,10 +1,10 @@
-use Rattle.std.proofs.Common.{◌≡◌, ◌≢◌, ◌+◌, ◌-◌, ◌^◌, ℕ, List, length, take, ap, arith, sym, ◌∙◌, subst}
+use Rattle.std.proofs.Common.{◌≡◌, ◌≢◌, ◌+◌, ◌-◌, ◌^◌, ℕ, List, length, take, ap, arith, ◌∙◌, subst}
 use Rattle.std.proofs.lemmas.List.{with_items_is}
 use Rattle.std.specs.Vec.{with_items}
 use Rattle.attach_dict.specs.declared.index.DictIndex.{DictIndex}
 use Rattle.attach_dict.specs.declared.progress.Progress.TheVariants as stages
 use Rattle.attach_dict.specs.Calls.{block_words, HasFilled}
-use Rattle.attach_dict.specs.Stages.{DictState, Staged}
+use Rattle.attach_dict.specs.Stages.{DictState}
 use Rattle.attach_dict.specs.Whole.{state_of}
 use Rattle.attach_dict.proofs.Staged.{fill_room, fill_whole, fill_done}
 use Rattle.attach_dict.proofs.dict.Dict.fill.Goals as goal

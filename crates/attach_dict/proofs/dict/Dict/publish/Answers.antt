@@ -1,4 +1,4 @@
-use Rattle.std.proofs.Common.{◌≡◌, ◌≢◌, ◌+◌, ◌-◌, ◌^◌, arith, subst}
+use Rattle.std.proofs.Common.{◌≢◌, ◌-◌, ◌^◌, arith, subst}
 use Rattle.pmem_lines.specs.Pmem.{words_of}
 use Rattle.attach_dict.specs.declared.progress.Progress.TheVariants as stages
 use Rattle.attach_dict.specs.Calls.{HasPublished}

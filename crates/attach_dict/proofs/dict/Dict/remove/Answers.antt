@@ -1,4 +1,4 @@
-use Rattle.std.proofs.Common.{◌≡◌, refl, sym, ap, ◌∙◌, subst}
+use Rattle.std.proofs.Common.{◌≡◌, refl, subst}
 use Rattle.pmem_lines.specs.Pmem.{words_of}
 use Rattle.attach_dict.specs.Calls.{HasRemoved}
 use Rattle.attach_dict.specs.Dict.{Counts}

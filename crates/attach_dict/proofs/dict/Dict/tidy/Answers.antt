@@ -1,5 +1,4 @@
 use Rattle.std.proofs.Common.{refl, subst}
-use Rattle.pmem_lines.specs.Pmem.{words_of}
 use Rattle.attach_dict.specs.Calls.{HasTidied}
 use Rattle.attach_dict.specs.Stages.{DictState}
 use Rattle.attach_dict.specs.Whole.{state_of}

@@ -1,7 +1,7 @@
-use Rattle.std.proofs.Common.{◌+◌, ◌<◌, length, true, refl, sym, subst, arith}
+use Rattle.std.proofs.Common.{◌+◌, ◌<◌, true, refl, arith}
 use Rattle.std.proofs.lemmas.List.{with_items_is}
 use Rattle.bit_words.specs.Numbers.{IsPut}
-use Rattle.attach_dict.specs.Roots.{Roots, IsOut, IsIn}
+use Rattle.attach_dict.specs.Roots.{IsOut, IsIn}
 use Rattle.attach_dict.proofs.Counts.{count_most}
 use Rattle.attach_dict.proofs.RootSets.{set_of, more_set, has_more}
 use Rattle.attach_dict.proofs.root_set.RootSet.add.Goals as goal

@@ -1,5 +1,4 @@
-use Rattle.std.proofs.Common.{◌≡◌, ◌*◌, length, MatchOption, refl, ap, ◌∙◌, sym}
-use Rattle.bit_words.specs.Numbers.{HasNoneIn, IsLeastIn}
+use Rattle.std.proofs.Common.{◌≡◌, length, ◌∙◌}
 use Rattle.attach_dict.proofs.RootSets.{set_of, lowest_in}
 use Rattle.attach_dict.proofs.root_set.RootSet.lowest.Goals as goal
 

@@ -1,7 +1,7 @@
-use Rattle.std.proofs.Common.{◌≡◌, ◌+◌, ◌-◌, ◌≤◌, length, false, refl, sym, subst, arith}
+use Rattle.std.proofs.Common.{◌≡◌, ◌+◌, ◌-◌, ◌≤◌, false, refl, arith}
 use Rattle.std.proofs.lemmas.List.{with_items_is}
 use Rattle.bit_words.specs.Numbers.{IsPut}
-use Rattle.attach_dict.specs.Roots.{Roots, IsIn}
+use Rattle.attach_dict.specs.Roots.{IsIn}
 use Rattle.attach_dict.proofs.RootSets.{set_of, some_count, fewer_set, has_fewer}
 use Rattle.attach_dict.proofs.root_set.RootSet.remove.Goals as goal
 
