@@ -72,7 +72,6 @@ left_of crashed = record { call = crashed.call; side = crashed.side; image = cra
 pub record IsCrashOf (header : PoolHeader) (calls : List TraceCall) (event seed : ℕ) (left : CrashLeft) : Type 0 where
   pub stages : List Stage
   pub run : IsRunOf header (calls_up_to left.call calls) stages
-  pub within : event ≤ total_events stages
   pub leaves : IsLeft (formatted header) 0 stages event seed left
 
 -- the calls have so many events, which are fewer than are asked for
