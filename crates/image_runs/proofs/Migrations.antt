@@ -1,5 +1,5 @@
 -- The migrations of the arenas that were looked at, one after another.
-use Rattle.std.proofs.Common.{◌≡◌, ℕ, zero, suc, ◌+◌, ◌<◌, ◌^◌, ◌%◌, List, [], ◌∷◌, ◌++◌, length, flat_map, refl, sym, ap, subst, ◌∙◌, arith, length-append}
+use Rattle.std.proofs.Common.{◌≡◌, ℕ, ◌+◌, ◌<◌, ◌^◌, ◌%◌, List, [], ◌∷◌, ◌++◌, length, flat_map, refl, sym, ap, subst, ◌∙◌, arith, length-append}
 use Rattle.std.proofs.lemmas.Grind.{flat_map-append}
 use Rattle.std.proofs.lemmas.List.{append-nil}
 use Rattle.pool_layout.specs.declared.header.PoolHeader.{PoolHeader}
@@ -8,6 +8,7 @@ use Rattle.pool_layout.specs.Image.{part_of, header_of_arena, IsPoolImage}
 use Rattle.heap_check.specs.Image.{IsSoundImage}
 use Rattle.heap_check.proofs.Sizes.{sizes_of}
 use Rattle.image_defects.specs.Defects.{IsFirstDefect}
+use Rattle.trace_runs.proofs.Each.{EachFrom-more, EachFrom-at}
 use Rattle.pool_migrate.specs.declared.fault.MigrateFault.{MigrateFault}
 use Rattle.pool_migrate.specs.declared.fault.MigrateFault.TheVariants as arenas
 use Rattle.pool_migrate.specs.Faults.{IsCause}
@@ -15,32 +16,19 @@ use Rattle.pool_migrate.specs.Migrated.{IsMigrated}
 use Rattle.pool_migrate.proofs.Made.{version_is}
 use Rattle.image_runs.specs.declared.migrating.PoolMigrateFault.{PoolMigrateFault}
 use Rattle.image_runs.specs.declared.migrating.PoolMigrateFault.TheVariants as faults
-use Rattle.image_runs.specs.Migrations.{AreMigrated, HasMigrations, AddsMigration, IsWhyNot, IsOwnWhyNot, pool_fault}
+use Rattle.image_runs.specs.Migrations.{HasMigrations, AddsMigration, IsWhyNot, IsOwnWhyNot, pool_fault}
 
 -- no arena yet
 pub no_migrations : (words : List ℕ) (granules : ℕ) → HasMigrations words granules 0 []
 no_migrations words granules = record { news = []; all = refl; each = tt; is = refl }
 
 module _ (words : List ℕ) (granules : ℕ) where
-  migrated_more : (arena : ℕ) (news : List (List ℕ)) (new : List ℕ) → AreMigrated words granules arena news → IsSoundImage (part_of words granules (arena + length news)) → IsMigrated (part_of words granules (arena + length news)) new →
-      AreMigrated words granules arena (news ++ new ∷ [])
-  migrated_more arena [] new all sound migrated =
-      let same : arena + 0 ≡ arena = omega arith in
-      (subst (λ a. IsSoundImage (part_of words granules a)) same sound, subst (λ a. IsMigrated (part_of words granules a) new) same migrated, tt)
-  migrated_more arena (x ∷ news) new all sound migrated =
-      let same : arena + suc (length news) ≡ (arena + 1) + length news = omega arith in
-      (all.0, all.1, migrated_more (arena + 1) news new all.2 (subst (λ a. IsSoundImage (part_of words granules a)) same sound) (subst (λ a. IsMigrated (part_of words granules a) new) same migrated))
-
-  -- each of them is sound
-  sound_at : (arena : ℕ) (news : List (List ℕ)) → AreMigrated words granules arena news → (k : ℕ) → k < length news → IsSoundImage (part_of words granules (arena + k))
-  sound_at arena [] all k below = absurd (omega arith)
-  sound_at arena (x ∷ news) all zero below = subst (λ a. IsSoundImage (part_of words granules a)) (omega arith) all.0
-  sound_at arena (x ∷ news) all (suc k) below =
-      let same : (arena + 1) + k ≡ arena + suc k = omega arith in
-      subst (λ a. IsSoundImage (part_of words granules a)) same (sound_at (arena + 1) news all.2 k (omega arith))
+  -- an arena is sound, and these are the words of its migration
+  abbrev Migrates : ℕ → List ℕ → Type 0
+  Migrates arena new = IsSoundImage (part_of words granules arena) × IsMigrated (part_of words granules arena) new
 
   pub sound_before : {count : ℕ} {bytes : List ℕ} → HasMigrations words granules count bytes → (earlier : ℕ) → earlier < count → IsSoundImage (part_of words granules earlier)
-  sound_before has earlier below = subst (λ a. IsSoundImage (part_of words granules a)) (omega arith) (sound_at 0 has.news has.each earlier (omega (arith, below, has.all)))
+  sound_before has earlier below = subst (λ a. IsSoundImage (part_of words granules a)) (omega arith) (EachFrom-at Migrates 0 has.news earlier has.each (omega (arith, below, has.all))).1.0
 
   -- one arena more
   pub migrations_more : {count : ℕ} {bytes new : List ℕ} → HasMigrations words granules count bytes → AddsMigration (part_of words granules count) bytes new → HasMigrations words granules (count + 1) new
@@ -49,7 +37,7 @@ module _ (words : List ℕ) (granules : ℕ) where
       record {
         news = has.news ++ last ∷ [];
         all = length-append has.news (last ∷ []) ∙ omega (arith, has.all);
-        each = migrated_more 0 has.news last has.each (subst (λ n. IsSoundImage (part_of words granules n)) (omega (arith, has.all)) adds.sound) (subst (λ n. IsMigrated (part_of words granules n) last) (omega (arith, has.all)) adds.migrated);
+        each = EachFrom-more Migrates 0 has.news last has.each (subst (λ n. Migrates n last) (omega (arith, has.all)) (adds.sound, adds.migrated));
         is = adds.is
             ∙ ap (λ (bs : List ℕ). bs ++ bytes_of_words last) has.is
             ∙ ap (λ (bs : List ℕ). flat_map bytes_of_words has.news ++ bs) (sym (append-nil (bytes_of_words last)))
@@ -71,8 +59,9 @@ pool_why words header arena (faults.Newer number) pool version inside before is 
 pool_why words header arena (faults.Defect found defect) pool version inside before is = (
   version,
   record {
+    low = omega arith;
     inside = omega (arith, is.same, inside);
-    before = λ earlier below. before earlier (omega (arith, below, is.same));
+    before = λ earlier from below. before earlier (omega (arith, below, is.same));
     first = subst (λ a. IsFirstDefect (part_of words header.granules a) defect) (sym is.same) is.first;
   },
 )

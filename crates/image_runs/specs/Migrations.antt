@@ -1,26 +1,23 @@
 -- What `migrate` makes of the image of a pool of version 1: one of version 2, arena by arena.
-use Rattle.std.specs.Prelude.{◌≡◌, ℕ, ◌+◌, List, [], ◌∷◌, ◌++◌, length, flat_map}
+use Rattle.std.specs.Prelude.{◌≡◌, ℕ, List, ◌++◌, length, flat_map}
 use Rattle.pool_layout.specs.declared.header.PoolHeader.{PoolHeader}
 use Rattle.pool_layout.specs.Bytes.{bytes_of_words}
 use Rattle.pool_layout.specs.Image.{part_of}
 use Rattle.heap_check.specs.Image.{IsSoundImage}
+use Rattle.trace_runs.specs.Each.{EachFrom}
 use Rattle.pool_migrate.specs.declared.fault.MigrateFault.{MigrateFault}
 use Rattle.pool_migrate.specs.declared.fault.MigrateFault.TheVariants as arenas
 use Rattle.pool_migrate.specs.Migrated.{HasVersion, IsMigrated}
 use Rattle.image_runs.specs.declared.migrating.PoolMigrateFault.{PoolMigrateFault}
 use Rattle.image_runs.specs.declared.migrating.PoolMigrateFault.TheVariants as faults
-use Rattle.image_runs.specs.Checks.{HasUnsound, IsOwnDefect}
+use Rattle.image_runs.specs.Checks.{HasUnsoundFrom, IsOwnDefect}
 
--- the arenas of a pool of so many granules each, from one on, are sound, and these are migrations of them
-abbrev pub AreMigrated : List ℕ → ℕ → ℕ → List (List ℕ) → Type 0
-AreMigrated words granules arena [] = Unit {0}
-AreMigrated words granules arena (new ∷ news) = IsSoundImage (part_of words granules arena) × IsMigrated (part_of words granules arena) new × AreMigrated words granules (arena + 1) news
-
--- the first so many arenas are sound, and the bytes are those of one migration of each, in order
+-- the first so many arenas of a pool of so many granules each are sound, and the bytes are those of one migration of each, in
+-- order
 pub record HasMigrations (words : List ℕ) (granules count : ℕ) (bytes : List ℕ) : Type 0 where
   pub news : List (List ℕ)
   pub all : length news ≡ count
-  pub each : AreMigrated words granules 0 news
+  pub each : EachFrom (λ arena new. IsSoundImage (part_of words granules arena) × IsMigrated (part_of words granules arena) new) 0 news
   pub is : bytes ≡ flat_map bytes_of_words news
 
 -- All arenas of a pool of version 1 are sound, and the bytes are those of one migration of each, in order.
@@ -32,7 +29,7 @@ pub record IsPoolMigrated (words : List ℕ) (header : PoolHeader) (bytes : List
 abbrev pub IsWhyNot : List ℕ → PoolHeader → PoolMigrateFault → Type 0
 IsWhyNot words header (faults.Memory error) = Unit {0}
 IsWhyNot words header (faults.Newer version) = (version ≡ 2) × (header.version ≡ 2)
-IsWhyNot words header (faults.Defect arena defect) = (header.version ≡ 1) × HasUnsound words header arena defect
+IsWhyNot words header (faults.Defect arena defect) = (header.version ≡ 1) × HasUnsoundFrom words header 0 arena defect
 
 -- the fault of an arena's migration, as one of its pool
 abbrev pub pool_fault : ℕ → MigrateFault → PoolMigrateFault

@@ -1,7 +1,7 @@
 // The report of `check`.
 ghost use Rattle.std.specs.Prelude.{◌≡◌, ◌*◌, ℕ, List, length, IfOk, IfErr, OnOk};
 ghost use Rattle.pool_layout.specs.Image.{AreWordsOf, AreWords, IfDefect};
-ghost use Rattle.image_runs.specs.Checks.{HasLines, HasUnsound, IsChecked, IsPoolDefect, AddsLine, IsOwnDefect};
+ghost use Rattle.image_runs.specs.Checks.{HasLines, HasUnsoundFrom, IsChecked, IsPoolDefect, AddsLine, IsOwnDefect};
 
 use image_check::{CheckFault, check_arena};
 use pool_layout::{ImageFault, PoolHeader, parts, pool_header};
@@ -28,7 +28,7 @@ pub fn check_pool(alloc: Global, words: &[u64], bytes: u64) -> Result<Vec<u8>, I
 fn check_arenas(alloc: Global, words: &[u64], header: &PoolHeader) -> Result<Vec<u8>, ImageFault>
     requires { length words.now ≡ header.now.arenas * header.now.granules * 2048 }
     ensures lines { IfOk result (λ text. HasLines words.now header.now.granules header.now.arenas text.items) }
-    ensures unsound { IfErr result (λ fault. IfDefect fault (HasUnsound words.now header.now)) }
+    ensures unsound { IfErr result (λ fault. IfDefect fault (HasUnsoundFrom words.now header.now 0)) }
 {
     let mut text = Vec::new(alloc);
     for arena in 0..header.arenas {

@@ -8,8 +8,8 @@ use Rattle.nvheap.specs.declared.status.Status.TheVariants as ends
 use Rattle.nvheap.specs.Outside.{Outside, Gives}
 use Rattle.nvheap.specs.Inputs.{limit_of, HasLeft, HasRead, HasReadMore}
 use Rattle.nvheap.specs.Meaning.{Meaning}
-use Rattle.nvheap.specs.Command.{meaning_of, IsCommand}
-use Rattle.nvheap.specs.Ends.{Ends, HasAcceptable, IsAccepted}
+use Rattle.nvheap.specs.Command.{meaning_of, IsCommand, IsSaid}
+use Rattle.nvheap.specs.Ends.{Ends, HasAcceptable}
 use Rattle.nvheap.proofs.Table.{settled, said_holds}
 
 -- one input
@@ -35,7 +35,8 @@ not_more (Some n) left None input has more =
     gives
 not_more (Some n) left (Some after) input has more =
     let gives : Gives (Some input) (Some after) more.bytes = subst (λ (o : Option (List ℕ)). Gives o (Some after) more.bytes) has.0 more.gives in
-    omega (arith, has.1, more.count, ap length gives, length-append more.bytes after)
+    let many : length more.bytes ≡ n + 1 = more.many in
+    omega (arith, has.1, many, ap length gives, length-append more.bytes after)
 
 -- how a command ends on what it accepts, where neither the source nor the sink failed
 ends_well : (m : Meaning) → ((input : List ℕ) (why : Cause) → m.accepts input → ¬ (m.refuses input why)) → (old new : Outside) (status : Status) → Ends m old new status → HasAcceptable m old.left → ¬ (status ≡ ends.ReadFault) → ¬ (status ≡ ends.WriteFault) →
@@ -52,6 +53,6 @@ ends_well m settled old new ends.TooLong is has reads writes = absurd (not_more 
 
 -- the same by the words, where the counts of faults did not rise
 pub completes : (words : List (List ℕ)) (command : Command) (old new : Outside) (status : Status) (Read Written : Type 0) → IsCommand words command → Ends (meaning_of command) old new status →
-    (status ≡ ends.ReadFault → Read) → (status ≡ ends.WriteFault → Written) → IsAccepted words old → ¬ Read → ¬ Written → (status ≡ ends.Done) ⊎ (status ≡ ends.Memory)
+    (status ≡ ends.ReadFault → Read) → (status ≡ ends.WriteFault → Written) → IsSaid words (λ m. HasAcceptable m old.left) → ¬ Read → ¬ Written → (status ≡ ends.Done) ⊎ (status ≡ ends.Memory)
 completes words command old new status Read Written said is read written accepted reads writes =
-    ends_well (meaning_of command) (settled command) old new status is (said_holds words command (λ c. HasAcceptable (meaning_of c) old.left) said accepted) (λ fault. reads (read fault)) (λ fault. writes (written fault))
+    ends_well (meaning_of command) (settled command) old new status is (said_holds words command (λ m. HasAcceptable m old.left) said accepted) (λ fault. reads (read fault)) (λ fault. writes (written fault))

@@ -6,13 +6,12 @@ use Rattle.heap_check.specs.Image.{IsSoundImage}
 use Rattle.heap_check.proofs.Sizes.{sizes_of}
 use Rattle.pmem_lines.specs.Pmem.{PmemState, words_of}
 use Rattle.pool_layout.specs.Bytes.{bytes_of_words}
-use Rattle.arena_core.specs.Arena.{ArenaState}
 use Rattle.trace_text.specs.declared.call.PoolSize.{PoolSize}
 use Rattle.trace_text.specs.declared.call.TraceCall.{TraceCall}
-use Rattle.trace_runs.specs.Arenas.{header_for, IsNewArena}
+use Rattle.trace_runs.specs.Arenas.{header_for}
 use Rattle.trace_runs.specs.Calls.{calls_of}
 use Rattle.trace_runs.specs.Journals.{IsRunThrough}
-use Rattle.trace_workers.specs.Reports.{AreNew}
+use Rattle.trace_runs.proofs.Each.{EachFrom-more}
 use Rattle.nvheap.specs.Outside.{put_device, put_devices}
 use Rattle.nvheap.specs.Imaging.{AreRunThrough, images_of}
 
@@ -23,19 +22,6 @@ put_devices-last places arena [] last = ap (λ n. put_device places n last) (let
 put_devices-last places arena (d ∷ ds) last =
     let next : suc arena + length ds ≡ arena + suc (length ds) = omega arith in
     ap (λ (rest : Option (List (Option PmemState))). put_device rest arena d) (put_devices-last places (suc arena) ds last ∙ ap (λ n. put_devices (put_device places n last) (suc arena) ds) next)
-
--- one new arena more
-pub AreNew-more : (pool : PoolSize) (arena : ℕ) (arenas : List ArenaState) (last : ArenaState) → AreNew pool arena arenas → IsNewArena (header_for pool (arena + length arenas)) last → AreNew pool arena (arenas ++ last ∷ [])
-AreNew-more pool arena [] last are new = (subst (λ n. IsNewArena (header_for pool n) last) (let here : arena + 0 ≡ arena = omega arith in here) new, tt)
-AreNew-more pool arena (a ∷ rest) last are new =
-    (are.0, AreNew-more pool (suc arena) rest last are.1 (subst (λ n. IsNewArena (header_for pool n) last) (let next : arena + suc (length rest) ≡ suc arena + length rest = omega arith in next) new))
-
--- one device more that went through its calls
-pub AreRunThrough-more : (pool : PoolSize) (calls : List TraceCall) (arena : ℕ) (devices : List PmemState) (last : PmemState) → AreRunThrough pool calls arena devices →
-    IsRunThrough (header_for pool (arena + length devices)) (calls_of (arena + length devices) calls) last → AreRunThrough pool calls arena (devices ++ last ∷ [])
-AreRunThrough-more pool calls arena [] last are run = (subst (λ n. IsRunThrough (header_for pool n) (calls_of n calls) last) (let here : arena + 0 ≡ arena = omega arith in here) run, tt)
-AreRunThrough-more pool calls arena (d ∷ ds) last are run =
-    (are.0, AreRunThrough-more pool calls (suc arena) ds last are.1 (subst (λ n. IsRunThrough (header_for pool n) (calls_of n calls) last) (let next : arena + suc (length ds) ≡ suc arena + length ds = omega arith in next) run))
 
 -- no device
 pub put_devices-none : {D : Type 0} (state : D → PmemState) (places : Option (List (Option PmemState))) (devices : List D) → length devices ≡ 0 → put_devices places 0 (map state devices) ≡ places
@@ -66,7 +52,7 @@ pub AreRunThrough-pushed : {D : Type 0} (state : D → PmemState) (pool : PoolSi
 AreRunThrough-pushed state pool calls devices last arena many are run =
     let here : arena ≡ 0 + length (map state devices) = omega (arith, many, length-map devices state) in
     subst (AreRunThrough pool calls 0) (sym (map-append state devices (last ∷ [])))
-    (AreRunThrough-more pool calls 0 (map state devices) (state last) are (subst (λ n. IsRunThrough (header_for pool n) (calls_of n calls) (state last)) here run))
+    (EachFrom-more (λ n device. IsRunThrough (header_for pool n) (calls_of n calls) device) 0 (map state devices) (state last) are (subst (λ n. IsRunThrough (header_for pool n) (calls_of n calls) (state last)) here run))
 
 -- the words of a sound image are as many as a device may have
 pub few_words : (words : List ℕ) → IsSoundImage words → (length words ≤ 8388608) × (32768 ≤ length words) × (length words % 8 ≡ 0)

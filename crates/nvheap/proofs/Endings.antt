@@ -12,18 +12,18 @@ use Rattle.nvheap.specs.Ends.{IsAnswer, CountsImages, IsWritten, Ends}
 -- a command that wrote what it has to say
 pub ends_written : (m : Meaning) (old new : Outside) (input : List ℕ) (answer : Answer) (status : Status) → HasRead (limit_of m.reads) old.left new.left input →
     IsAnswer m input old.places new.places answer → CountsImages m input old.images new.images answer → IsWritten answer old.taken new.taken status → Ends m old new status
-ends_written m old new input (Output text) Done read is counts written = record { input = input; read = read; output = text.items; answer = record { answers = is; images = counts }; takes = written }
+ends_written m old new input (Output text) Done read is counts written = record { input = input; read = read; text = text.items; says = record { answers = is; images = counts }; takes = written }
 ends_written m old new input (Output text) Usage read is counts written = absurd written
 ends_written m old new input (Output text) Refused read is counts written = absurd written
 ends_written m old new input (Output text) ReadFault read is counts written = absurd written
-ends_written m old new input (Output text) WriteFault read is counts written = record { input = input; read = read; text = text.items; whole = inl (record { answers = is; images = counts }); takes = written }
+ends_written m old new input (Output text) WriteFault read is counts written = record { input = input; read = read; text = text.items; says = inl (record { answers = is; images = counts }); takes = written }
 ends_written m old new input (Output text) Memory read is counts written = absurd written
 ends_written m old new input (Output text) TooLong read is counts written = absurd written
 ends_written m old new input (FaultLine text) Done read is counts written = absurd written
 ends_written m old new input (FaultLine text) Usage read is counts written = absurd written
-ends_written m old new input (FaultLine text) Refused read is counts written = record { input = input; read = read; line = text.items; says = is; takes = written }
+ends_written m old new input (FaultLine text) Refused read is counts written = record { input = input; read = read; text = text.items; says = is; takes = written }
 ends_written m old new input (FaultLine text) ReadFault read is counts written = absurd written
-ends_written m old new input (FaultLine text) WriteFault read is counts written = record { input = input; read = read; text = text.items; whole = inr is; takes = written }
+ends_written m old new input (FaultLine text) WriteFault read is counts written = record { input = input; read = read; text = text.items; says = inr is; takes = written }
 ends_written m old new input (FaultLine text) Memory read is counts written = absurd written
 ends_written m old new input (FaultLine text) TooLong read is counts written = absurd written
 

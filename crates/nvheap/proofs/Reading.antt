@@ -1,13 +1,20 @@
 -- An input, as the bytes of a source come into it.
-use Rattle.std.proofs.Common.{◌≡◌, ℕ, ◌+◌, ◌%◌, ◌≤◌, List, [], ◌++◌, length, take, drop, Option, refl, sym, ap, ◌∙◌, subst, arith, length-append, inl, inr}
+use Rattle.std.proofs.Common.{◌≡◌, ℕ, ◌+◌, ◌%◌, ◌<◌, ◌≤◌, List, [], ◌++◌, length, take, drop, Option, Some, refl, sym, ap, ◌∙◌, subst, arith, length-append, inl, inr}
 use Rattle.std.proofs.lemmas.List.{take-take, take-append-le, length-take-le, length-drop}
 use Rattle.std.proofs.lemmas.Slice.{take-put_mid}
 use Rattle.std.proofs.Math.Seq.{take-append-add}
 use borrow.Rule.Slice.PartMut.{put_mid}
 use Rattle.nvheap.specs.declared.input.Input.{Input}
-use Rattle.nvheap.specs.Outside.{Rose, Gives, IsAtEnd, GivesFew, GivesMore}
-use Rattle.nvheap.specs.Inputs.{HasBytes, HasCome, HasAllCome, GivesLess}
+use Rattle.nvheap.specs.Outside.{Rose, Gives, GivesSome, IsAtEnd}
+use Rattle.nvheap.specs.Inputs.{HasBytes, IsRead}
 use Rattle.nvheap.proofs.Bytes.{Gives-none, Gives-then}
+
+-- so many bytes of a source came into an input
+pub record HasCome (old new : Option (List ℕ)) (input : Input) (size : ℕ) : Type 0 where
+  pub bytes : List ℕ
+  pub has : HasBytes input bytes
+  pub count : length bytes ≡ size
+  pub gives : Gives old new bytes
 
 -- nothing has come
 pub come_none : (left : Option (List ℕ)) (input : Input) → HasBytes input [] → HasCome left left input 0
@@ -35,19 +42,19 @@ come_filled {a} {b} {c} {old} {new} {size} {len} {lent} n piece items come whole
     come_more a b c old new size n (take n lent) come whole (subst (λ (bytes : List ℕ). Gives b c bytes) (sym front) gives) (ap length front ∙ length-take-le n piece inside) adds
 
 -- all has come
-pub come_all : {old new : Option (List ℕ)} {input : Input} {size : ℕ} (limit : ℕ) → HasCome old new input size → size ≤ limit → IsAtEnd new → HasAllCome old new input limit
+pub come_all : {old new : Option (List ℕ)} {input : Input} {size : ℕ} (limit : ℕ) → HasCome old new input size → size ≤ limit → IsAtEnd new → IsRead (Some limit) old new input
 come_all limit come few ended =
-    record { bytes = come.bytes; has = come.has; all = record { gives = come.gives; ended = ended }; few = omega (arith, come.count, few) }
+    record { bytes = come.bytes; has = come.has; read = (record { gives = come.gives; ended = ended }, omega (arith, come.count, few)) }
 
 -- too much has come
-pub come_too_much : (old new : Option (List ℕ)) (input : Input) (size limit : ℕ) → HasCome old new input size → size ≡ limit + 1 → GivesMore old new limit
-come_too_much old new input size limit come much = record { bytes = come.bytes; count = come.count ∙ much; gives = come.gives }
+pub come_too_much : (old new : Option (List ℕ)) (input : Input) (size limit : ℕ) → HasCome old new input size → size ≡ limit + 1 → GivesSome old new (λ n. n ≡ limit + 1)
+come_too_much old new input size limit come much = record { bytes = come.bytes; many = come.count ∙ much; gives = come.gives }
 
 -- a source failed in a piece, of which there was room for so many bytes
-pub come_few : (a b c : Option (List ℕ)) (input : Input) (size most limit : ℕ) → HasCome a b input size → GivesLess b c most → size + most ≤ limit + 1 → GivesFew a c limit
+pub come_few : (a b c : Option (List ℕ)) (input : Input) (size most limit : ℕ) → HasCome a b input size → GivesSome b c (λ n. n < most) → size + most ≤ limit + 1 → GivesSome a c (λ n. n ≤ limit)
 come_few a b c input size most limit come less few = record {
   bytes = come.bytes ++ less.bytes;
-  few = omega (arith, length-append come.bytes less.bytes, come.count, less.less, few);
+  many = let less_many : length less.bytes < most = less.many in omega (arith, length-append come.bytes less.bytes, come.count, less_many, few);
   gives = Gives-then a b c come.bytes less.bytes come.gives less.gives;
 }
 

@@ -14,11 +14,11 @@ use Rattle.heap_check.specs.Image.{IsSoundImage}
 use Rattle.image_defects.specs.Defects.{IsFirstDefect}
 use Rattle.recover.specs.Recovered.{HasVersionRoom, IsRecovered}
 use Rattle.recover.proofs.Recoveries.{recovered_device}
-use Rattle.image_runs.specs.Checks.{IsOwnDefect, IsPoolDefect}
+use Rattle.image_runs.specs.Checks.{HasUnsoundFrom, IsOwnDefect, IsPoolDefect}
 use Rattle.image_runs.specs.Recoveries.{heap_lines, heaps_from}
 use Rattle.image_runs.proofs.Faults.{wider}
 use Rattle.nvheap.specs.Outside.{put_device}
-use Rattle.nvheap.specs.Recovering.{HasRecovered, HasUnsoundFrom, AnswersRecover}
+use Rattle.nvheap.specs.Recovering.{HasRecovered, AnswersRecover}
 
 split : (a b : ℕ) → a ≤ b → (a ≡ b) ⊎ (a + 1 ≤ b)
 split a b low = ⊎_elim (λ (h : a < b). inr (omega (arith, h))) (λ (h : b ≤ a). inl (omega (arith, h, low))) (cases_lt a b)
@@ -87,7 +87,7 @@ unsound_of_pool bytes words image fault =
     (λ arena defect from. inr (record {
       words = words;
       image = image;
-      unsound = record { inside = from.inside; before = λ earlier below. from.before earlier (omega arith) below; first = from.first };
+      unsound = from;
     }))
 
 -- an arena of a pool has so many granules at most

@@ -11,8 +11,7 @@ use Rattle.pool_layout.proofs.Images.{some_granules, word_at-part_of}
 use Rattle.pool_layout.proofs.OneImage.{law_of_no_defect}
 use Rattle.image_defects.proofs.Faultless.{faultless_of}
 use Rattle.image_defects.proofs.Order.{no_defect}
-use Rattle.image_runs.specs.Checks.{HasUnsound, IsPoolDefect}
-use Rattle.trace_text.specs.declared.call.Refusal.{Refusal}
+use Rattle.image_runs.specs.Checks.{HasUnsoundFrom, IsPoolDefect}
 use Rattle.trace_text.specs.declared.call.Refusal.TheVariants.{BadLine, NoArena, NoEvent}
 use Rattle.trace_text.specs.declared.call.PoolSize.{PoolSize}
 use Rattle.trace_text.specs.declared.call.TraceCall.{TraceCall}
@@ -21,24 +20,11 @@ use Rattle.trace_runs.specs.Calls.{calls_of}
 use Rattle.trace_text.proofs.OneMeaning.{law_of_one_trace, law_of_no_refusal}
 use Rattle.trace_crashes.specs.Crash.{HasFewer}
 use Rattle.nvheap.specs.declared.cause.Cause.{Cause}
-use Rattle.nvheap.specs.declared.cause.Cause.TheVariants as causes
-use Rattle.nvheap.specs.Causes.{OnText, OnImage}
+use Rattle.nvheap.specs.declared.cause.Cause.TheVariants.{Text, Image, Version}
 use Rattle.nvheap.specs.Traces.{HasTrace, RefusesTrace}
-use Rattle.nvheap.specs.Checking.{HasSoundArenas}
+use Rattle.nvheap.specs.Checking.{HasSoundArenas, RefusesImage}
 use Rattle.nvheap.specs.Crashing.{RefusesCrash, HasEvents}
-use Rattle.nvheap.specs.Migrating.{IsFirstPoolDefect, HasSecondVersion, HasSoundFirst, migrating}
-
--- a text that is refused for nothing, and an image
-
-pub on_text : (Is : Refusal → Type 0) → ((refusal : Refusal) → ¬ (Is refusal)) → (why : Cause) → ¬ (OnText Is why)
-on_text Is none (causes.Text refusal) refused = none refusal refused
-on_text Is none (causes.Image arena defect) refused = refused
-on_text Is none (causes.Version version) refused = refused
-
-pub on_image : (Is : ℕ → Defect → Type 0) → ((arena : ℕ) (defect : Defect) → ¬ (Is arena defect)) → (why : Cause) → ¬ (OnImage Is why)
-on_image Is none (causes.Text refusal) refused = refused
-on_image Is none (causes.Image arena defect) refused = none arena defect refused
-on_image Is none (causes.Version version) refused = refused
+use Rattle.nvheap.specs.Migrating.{HasSoundFirst, RefusesMigrate}
 
 -- images
 
@@ -59,52 +45,56 @@ one_header input words other image another =
     header_said other another.header another.pool ∙ ap (λ (ws : List ℕ). fields_of (word_at ws fields_word)) same ∙ sym (header_said words image.header image.pool)
 
 -- of sound arenas none has a defect
-sound_not_unsound : (input words : List ℕ) (image : IsImageOf input words) (arena : ℕ) (defect : Defect) (all : HasSoundArenas input) → ¬ (HasUnsound words image.header arena defect)
+sound_not_unsound : (input words : List ℕ) (image : IsImageOf input words) (arena : ℕ) (defect : Defect) (all : HasSoundArenas input) → ¬ (HasUnsoundFrom words image.header 0 arena defect)
 sound_not_unsound input words image arena defect all un =
     let same : words ≡ all.words = image.words_are ∙ sym all.image.words_are in
-    let unsound : HasUnsound all.words all.image.header arena defect =
-    subst (λ (h : PoolHeader). HasUnsound all.words h arena defect) (one_header input all.words words all.image image) (subst (λ (ws : List ℕ). HasUnsound ws image.header arena defect) same un) in
+    let unsound : HasUnsoundFrom all.words all.image.header 0 arena defect =
+    subst (λ (h : PoolHeader). HasUnsoundFrom all.words h 0 arena defect) (one_header input all.words words all.image image) (subst (λ (ws : List ℕ). HasUnsoundFrom ws image.header 0 arena defect) same un) in
     no_defect (part_of all.words all.image.header.granules arena) defect
     (faultless_of (part_of all.words all.image.header.granules arena) (all.sound arena unsound.inside)) unsound.first
 
 -- a pool of sound arenas has no defect
-pub sound_not_refused : (input : List ℕ) (arena : ℕ) (defect : Defect) → HasSoundArenas input → ¬ (IsPoolDefect input arena defect)
+sound_not_refused : (input : List ℕ) (arena : ℕ) (defect : Defect) → HasSoundArenas input → ¬ (IsPoolDefect input arena defect)
 sound_not_refused input arena defect all (inl is) = law_of_no_defect input all.words arena defect all.image is
 sound_not_refused input arena defect all (inr un) = sound_not_unsound input un.words un.image arena defect all un.unsound
 
--- where it is of version 1, `migrate` refuses nothing
-first_not_refused : (input : List ℕ) (arena : ℕ) (defect : Defect) → HasSoundArenas input → ¬ (IsFirstPoolDefect input arena defect)
-first_not_refused input arena defect all (inl is) = law_of_no_defect input all.words arena defect all.image is
-first_not_refused input arena defect all (inr un) = sound_not_unsound input un.words un.image arena defect all un.unsound
+-- so `check` and `recover` refuse nothing
+pub image_not_refused : (input : List ℕ) (why : Cause) → HasSoundArenas input → ¬ (RefusesImage input why)
+image_not_refused input (Text refusal) all refused = refused
+image_not_refused input (Image arena defect) all refused = sound_not_refused input arena defect all refused
+image_not_refused input (Version version) all refused = refused
 
-first_not_second : (input : List ℕ) (version : ℕ) → HasSoundFirst input → ¬ (HasSecondVersion input version)
-first_not_second input version has second =
+-- where it is of version 1, `migrate` refuses nothing
+pub migrate_not_refused : (input : List ℕ) (why : Cause) → HasSoundFirst input → ¬ (RefusesMigrate input why)
+migrate_not_refused input (Text refusal) has refused = refused
+migrate_not_refused input (Image arena defect) has (inl is) = law_of_no_defect input has.arenas.words arena defect has.arenas.image is
+migrate_not_refused input (Image arena defect) has (inr un) = sound_not_unsound input un.words un.image arena defect has.arenas un.unsound
+migrate_not_refused input (Version version) has second =
     let same = one_header input has.arenas.words second.words has.arenas.image second.image in
     omega (arith, ap (λ (h : PoolHeader). h.version) same, second.is, second.second, has.first)
-
-pub migrate_not_refused : (input : List ℕ) (why : Cause) → HasSoundFirst input → ¬ (migrating.refuses input why)
-migrate_not_refused input (causes.Text refusal) has refused = refused
-migrate_not_refused input (causes.Image arena defect) has refused = first_not_refused input arena defect has.arenas refused
-migrate_not_refused input (causes.Version version) has refused = first_not_second input version has refused
 
 -- traces
 
 -- a trace has no refused line
-pub trace_not_refused : (input : List ℕ) (refusal : Refusal) → HasTrace input → ¬ (RefusesTrace input refusal)
-trace_not_refused input (BadLine line) has refused = law_of_no_refusal input has.pool has.calls line has.trace refused
-trace_not_refused input (NoArena arena arenas) has refused = refused
-trace_not_refused input (NoEvent event events) has refused = refused
+pub trace_not_refused : (input : List ℕ) (why : Cause) → HasTrace input → ¬ (RefusesTrace input why)
+trace_not_refused input (Text (BadLine line)) has refused = law_of_no_refusal input has.pool has.calls line has.trace refused
+trace_not_refused input (Text (NoArena arena arenas)) has refused = refused
+trace_not_refused input (Text (NoEvent event events)) has refused = refused
+trace_not_refused input (Image arena defect) has refused = refused
+trace_not_refused input (Version version) has refused = refused
 
 -- where the trace has the arena, and its calls the event, `crash` refuses nothing
-pub crash_not_refused : (arena event : ℕ) (input : List ℕ) (refusal : Refusal) → HasEvents arena event input → ¬ (RefusesCrash arena event input refusal)
-crash_not_refused arena event input (BadLine line) has refused = law_of_no_refusal input has.pool has.calls line has.trace refused
-crash_not_refused arena event input (NoArena number arenas) has refused =
-    let same = law_of_one_trace input refused.pool has.pool refused.calls has.calls refused.trace has.trace in
-    let few : refused.pool.arenas ≡ has.pool.arenas = ap (λ (p : PoolSize). p.arenas) same.0 in
+pub crash_not_refused : (arena event : ℕ) (input : List ℕ) (why : Cause) → HasEvents arena event input → ¬ (RefusesCrash arena event input why)
+crash_not_refused arena event input (Text (BadLine line)) has refused = law_of_no_refusal input has.trace.pool has.trace.calls line has.trace.trace refused
+crash_not_refused arena event input (Text (NoArena number arenas)) has refused =
+    let same = law_of_one_trace input refused.trace.pool has.trace.pool refused.trace.calls has.trace.calls refused.trace.trace has.trace.trace in
+    let few : refused.trace.pool.arenas ≡ has.trace.pool.arenas = ap (λ (p : PoolSize). p.arenas) same.0 in
     omega (arith, few, refused.lacks, has.inside)
-crash_not_refused arena event input (NoEvent number events) has lacks =
-    let same = law_of_one_trace input lacks.pool has.pool lacks.calls has.calls lacks.trace has.trace in
-    let fewer : HasFewer (header_for has.pool arena) (calls_of arena has.calls) event events =
-    subst (λ (cs : List TraceCall). HasFewer (header_for has.pool arena) (calls_of arena cs) event events) same.1
-    (subst (λ (p : PoolSize). HasFewer (header_for p arena) (calls_of arena lacks.calls) event events) same.0 lacks.fewer) in
+crash_not_refused arena event input (Text (NoEvent number events)) has lacks =
+    let same = law_of_one_trace input lacks.trace.pool has.trace.pool lacks.trace.calls has.trace.calls lacks.trace.trace has.trace.trace in
+    let fewer : HasFewer (header_for has.trace.pool arena) (calls_of arena has.trace.calls) event events =
+    subst (λ (cs : List TraceCall). HasFewer (header_for has.trace.pool arena) (calls_of arena cs) event events) same.1
+    (subst (λ (p : PoolSize). HasFewer (header_for p arena) (calls_of arena lacks.trace.calls) event events) same.0 lacks.fewer) in
     omega (arith, fewer.lacks, fewer.is_all, has.enough fewer.stages fewer.run)
+crash_not_refused arena event input (Image number defect) has refused = refused
+crash_not_refused arena event input (Version version) has refused = refused

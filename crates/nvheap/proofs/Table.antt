@@ -2,14 +2,12 @@
 use Rattle.std.proofs.Common.{◌≡◌, ◌==◌, ℕ, ◌+◌, ◌*◌, List, [], ◌∷◌, length, map, get_or, Option, Some, None, if◌then◌else◌, refl, sym, ap, ◌∙◌, subst, codes}
 use Rattle.std.specs.Prelude.{decimal}
 use Rattle.std.proofs.lemmas.Fmt.{decimal_injective}
-use Rattle.image_runs.specs.Checks.{IsPoolDefect}
 use Rattle.nvheap.specs.declared.cause.Cause.{Cause}
 use Rattle.nvheap.specs.declared.command.Command.{Command}
 use Rattle.nvheap.specs.declared.command.Command.TheVariants.{Replay, Image, Check, Recover, Crash, Gen, Migrate}
-use Rattle.nvheap.specs.Traces.{RefusesTrace}
-use Rattle.nvheap.specs.Crashing.{RefusesCrash}
+use Rattle.nvheap.specs.Meaning.{Meaning}
 use Rattle.nvheap.specs.Command.{row_of, meaning_of, AreNumbers, IsCommand, IsNoCommand, IsSaid}
-use Rattle.nvheap.proofs.Refusals.{on_text, on_image, trace_not_refused, sound_not_refused, crash_not_refused, migrate_not_refused}
+use Rattle.nvheap.proofs.Refusals.{trace_not_refused, image_not_refused, crash_not_refused, migrate_not_refused}
 
 -- a row for each command
 
@@ -41,11 +39,11 @@ back Migrate = refl
 
 -- what a command accepts it does not refuse
 pub settled : (command : Command) (input : List ℕ) (why : Cause) → (meaning_of command).accepts input → ¬ ((meaning_of command).refuses input why)
-settled Replay input why has = on_text (RefusesTrace input) (λ refusal. trace_not_refused input refusal has) why
-settled Image input why has = on_text (RefusesTrace input) (λ refusal. trace_not_refused input refusal has) why
-settled Check input why has = on_image (IsPoolDefect input) (λ arena defect. sound_not_refused input arena defect has) why
-settled Recover input why has = on_image (IsPoolDefect input) (λ arena defect. sound_not_refused input arena defect has) why
-settled (Crash arena event seed) input why has = on_text (RefusesCrash arena event input) (λ refusal. crash_not_refused arena event input refusal has) why
+settled Replay input why has = trace_not_refused input why has
+settled Image input why has = trace_not_refused input why has
+settled Check input why has = image_not_refused input why has
+settled Recover input why has = image_not_refused input why has
+settled (Crash arena event seed) input why has = crash_not_refused arena event input why has
 settled (Gen count seed) input why has = λ refused. refused
 settled Migrate input why has = migrate_not_refused input why has
 
@@ -69,9 +67,9 @@ one_command words a b p q =
     let both : Some a ≡ Some b = sym (back a) ∙ ap (λ t. command_by (key t) (row_of a).numbers) text ∙ ap (command_by (key (row_of b).text)) numbers ∙ back b in
     cc both
 
--- what holds of the command that words say holds of each that they say
-pub said_holds : (words : List (List ℕ)) (command : Command) (Holds : Command → Type 0) → IsCommand words command → IsSaid words Holds → Holds command
-said_holds words command Holds said is = subst Holds (one_command words is.command command is.said said) is.holds
+-- what holds of the meaning of the command that words say holds of that of each that they say
+pub said_holds : (words : List (List ℕ)) (command : Command) (Holds : Meaning → Type 0) → IsCommand words command → IsSaid words Holds → Holds (meaning_of command)
+said_holds words command Holds said is = subst (λ (c : Command). Holds (meaning_of c)) (one_command words is.command command is.said said) is.holds
 
 -- the command that words say whose first is known
 by_first : (text : List ℕ) (rest : List (List ℕ)) (command : Command) → IsCommand (text ∷ rest) command → command_by (key text) (row_of command).numbers ≡ Some command

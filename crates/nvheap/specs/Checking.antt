@@ -3,8 +3,9 @@ use Rattle.std.specs.Prelude.{◌≡◌, ℕ, ◌<◌, List, Some, true, false}
 use Rattle.pool_layout.specs.Image.{part_of, IsImageOf}
 use Rattle.heap_check.specs.Image.{IsSoundImage}
 use Rattle.image_runs.specs.Checks.{IsChecked, IsPoolDefect}
+use Rattle.nvheap.specs.declared.cause.Cause.{Cause}
+use Rattle.nvheap.specs.declared.cause.Cause.TheVariants.{Image}
 use Rattle.nvheap.specs.declared.input.Kind.TheVariants as kinds
-use Rattle.nvheap.specs.Causes.{OnImage}
 use Rattle.nvheap.specs.Meaning.{Places, Meaning, MakesNone}
 
 -- The output has the line of each arena of the image, and the places stay.
@@ -17,6 +18,11 @@ pub record HasSoundArenas (input : List ℕ) : Type 0 where
   pub image : IsImageOf input words
   pub sound : (arena : ℕ) → arena < image.header.arenas → IsSoundImage (part_of words image.header.granules arena)
 
+-- why an image is refused: the first defect
+abbrev pub RefusesImage : List ℕ → Cause → Type 0
+RefusesImage input (Image arena defect) = IsPoolDefect input arena defect
+RefusesImage input cause = ⊥
+
 abbrev pub checking : Meaning
 checking = record {
   reads = Some kinds.Pool;
@@ -25,6 +31,6 @@ checking = record {
   recovers = false;
   answers = AnswersCheck;
   images = MakesNone;
-  refuses = λ input. OnImage (IsPoolDefect input);
+  refuses = RefusesImage;
   accepts = HasSoundArenas;
 }

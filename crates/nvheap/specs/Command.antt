@@ -1,5 +1,5 @@
 -- The words of the program.
-use Rattle.std.specs.Prelude.{◌≡◌, ℕ, ◌<◌, ◌≤◌, ◌^◌, List, [], ◌∷◌, map, None, T, decimal, codes}
+use Rattle.std.specs.Prelude.{◌≡◌, ℕ, ◌<◌, ◌≤◌, ◌^◌, List, [], ◌∷◌, map, decimal, codes}
 use Rattle.nvheap.specs.declared.command.Command.{Command}
 use Rattle.nvheap.specs.declared.command.Command.TheVariants.{Replay, Image, Check, Recover, Crash, Gen, Migrate}
 use Rattle.nvheap.specs.Meaning.{Meaning}
@@ -51,24 +51,8 @@ pub record IsCommand (words : List (List ℕ)) (command : Command) : Type 0 wher
 abbrev pub IsNoCommand : List (List ℕ) → Type 0
 IsNoCommand words = (command : Command) → ¬ (IsCommand words command)
 
--- the words say a command that this holds of
-pub record IsSaid (words : List (List ℕ)) (Holds : Command → Type 0) : Type 0 where
+-- the words say a command, of whose meaning this holds
+pub record IsSaid (words : List (List ℕ)) (Holds : Meaning → Type 0) : Type 0 where
   pub command : Command
   pub said : IsCommand words command
-  pub holds : Holds command
-
--- the command recovers what an image says, on devices that the shelf makes of images
-abbrev pub Recovers : Command → Type 0
-Recovers command = T (meaning_of command).recovers
-
--- the command has workers, and may wait
-abbrev pub MayWait : Command → Type 0
-MayWait command = T (meaning_of command).waits
-
--- the command leaves the shelf as it is, as a whole
-abbrev pub IsIdle : Command → Type 0
-IsIdle command = T (meaning_of command).idle
-
--- the command reads no input
-abbrev pub ReadsNone : Command → Type 0
-ReadsNone command = (meaning_of command).reads ≡ None
+  pub holds : Holds (meaning_of command)

@@ -12,7 +12,6 @@ use Rattle.nvheap.specs.Outside.{Outside, Takes, TakesFront}
 use Rattle.nvheap.specs.Inputs.{limit_of, HasLeft, HasRead, HasReadFew, HasReadMore}
 use Rattle.nvheap.specs.Causes.{cause_text}
 use Rattle.nvheap.specs.Meaning.{Places, Meaning}
-use Rattle.nvheap.specs.Command.{meaning_of, IsSaid}
 
 -- the exit code
 abbrev pub code_of : Status → ℕ
@@ -24,17 +23,62 @@ code_of WriteFault = 4
 code_of Memory = 5
 code_of TooLong = 6
 
+-- the text is the output on an input, with what is left on the shelf, and with the images counted
+pub record IsOutput (m : Meaning) (old new : Outside) (input text : List ℕ) : Type 0 where
+  pub answers : m.answers input text old.places new.places
+  pub images : m.images input old.images new.images
+
 -- the text is the line that says why an input is refused, and the shelf's places are as they were
-pub record SaysWhy (m : Meaning) (input text : List ℕ) (old new : Places) : Type 0 where
+pub record SaysWhy (m : Meaning) (old new : Places) (input text : List ℕ) : Type 0 where
   pub why : Cause
   pub cause : m.refuses input why
   pub line : text ≡ cause_text why
   pub aside : new ≡ old
 
+-- the input was read, this holds of it and a text, and the text was taken so far
+pub record HasSaid (m : Meaning) (old new : Outside) (Says : List ℕ → List ℕ → Type 0) (Taken : Option (List ℕ) → Option (List ℕ) → List ℕ → Type 0) : Type 0 where
+  pub input : List ℕ
+  pub read : HasRead (limit_of m.reads) old.left new.left input
+  pub text : List ℕ
+  pub says : Says input text
+  pub takes : Taken old.taken new.taken text
+
+-- How a command ends. Done: the input was read, and its whole output was taken. Refused: it was read, and the line that says
+-- why it is refused was taken whole. WriteFault: it was read, and the front of its output, or of that line, was taken. ReadFault
+-- and TooLong: of the input no more was read than it may have, or one byte more and no further.
+abbrev pub Ends : Meaning → Outside → Outside → Status → Type 0
+Ends m old new Done = HasSaid m old new (IsOutput m old new) Takes
+Ends m old new Usage = ⊥
+Ends m old new Refused = HasSaid m old new (SaysWhy m old.places new.places) Takes
+Ends m old new ReadFault = HasReadFew (limit_of m.reads) old.left new.left
+Ends m old new WriteFault = HasSaid m old new (λ input text. IsOutput m old new input text ⊎ SaysWhy m old.places new.places input text) TakesFront
+Ends m old new Memory = Unit {0}
+Ends m old new TooLong = HasReadMore (limit_of m.reads) old.left new.left
+
+-- the source has an input, within its limit, that has an output
+pub record HasAcceptable (m : Meaning) (left : Option (List ℕ)) : Type 0 where
+  pub input : List ℕ
+  pub left_is : HasLeft (limit_of m.reads) left input
+  pub accepts : m.accepts input
+
+-- nothing is written
+abbrev pub IsSilent : Status → Type 0
+IsSilent Done = ⊥
+IsSilent Refused = ⊥
+IsSilent WriteFault = ⊥
+IsSilent status = Unit {0}
+
+-- no device is put
+abbrev pub IsAside : Status → Type 0
+IsAside Refused = Unit {0}
+IsAside status = IsSilent status
+
+-- for the functions below
+
 -- what a command has to say of an input: its output, or the line that says why it is refused
 abbrev pub IsAnswer : Meaning → List ℕ → Places → Places → Answer → Type 0
 IsAnswer m input old new (Output text) = m.answers input text.items old new
-IsAnswer m input old new (FaultLine text) = SaysWhy m input text.items old new
+IsAnswer m input old new (FaultLine text) = SaysWhy m old new input text.items
 
 -- what became of the count of images with it
 abbrev pub CountsImages : Meaning → List ℕ → ℕ → ℕ → Answer → Type 0
@@ -64,92 +108,3 @@ IsUnread limit old new ReadFault = HasReadFew limit old new
 IsUnread limit old new Memory = Unit {0}
 IsUnread limit old new TooLong = HasReadMore limit old new
 IsUnread limit old new _ = ⊥
-
--- the text is the output on an input, with what is left on the shelf, and with the images counted
-pub record IsOutput (m : Meaning) (input text : List ℕ) (old new : Outside) : Type 0 where
-  pub answers : m.answers input text old.places new.places
-  pub images : m.images input old.images new.images
-
--- Done: the input was read, and the whole output was taken
-pub record HasDone (m : Meaning) (old new : Outside) : Type 0 where
-  pub input : List ℕ
-  pub read : HasRead (limit_of m.reads) old.left new.left input
-  pub output : List ℕ
-  pub answer : IsOutput m input output old new
-  pub takes : Takes old.taken new.taken output
-
--- Refused: the input was read, and the line that says why it is refused was taken whole
-pub record HasRefused (m : Meaning) (old new : Outside) : Type 0 where
-  pub input : List ℕ
-  pub read : HasRead (limit_of m.reads) old.left new.left input
-  pub line : List ℕ
-  pub says : SaysWhy m input line old.places new.places
-  pub takes : Takes old.taken new.taken line
-
--- WriteFault: the input was read, and the front of the output, or of the line that says why there is none, was taken
-pub record WasCutShort (m : Meaning) (old new : Outside) : Type 0 where
-  pub input : List ℕ
-  pub read : HasRead (limit_of m.reads) old.left new.left input
-  pub text : List ℕ
-  pub whole : IsOutput m input text old new ⊎ SaysWhy m input text old.places new.places
-  pub takes : TakesFront old.taken new.taken text
-
--- how a command ends
-abbrev pub Ends : Meaning → Outside → Outside → Status → Type 0
-Ends m old new Done = HasDone m old new
-Ends m old new Usage = ⊥
-Ends m old new Refused = HasRefused m old new
-Ends m old new ReadFault = HasReadFew (limit_of m.reads) old.left new.left
-Ends m old new WriteFault = WasCutShort m old new
-Ends m old new Memory = Unit {0}
-Ends m old new TooLong = HasReadMore (limit_of m.reads) old.left new.left
-
--- the source has an input, within its limit, that has an output
-pub record HasAcceptable (m : Meaning) (left : Option (List ℕ)) : Type 0 where
-  pub input : List ℕ
-  pub left_is : HasLeft (limit_of m.reads) left input
-  pub accepts : m.accepts input
-
--- the words say a command, its input was read, and its whole output was taken
-abbrev pub IsDone : List (List ℕ) → Outside → Outside → Type 0
-IsDone words old new = IsSaid words (λ command. HasDone (meaning_of command) old new)
-
--- the words say a command, its input was read, and the line that says why it is refused was taken whole
-abbrev pub IsRefused : List (List ℕ) → Outside → Outside → Type 0
-IsRefused words old new = IsSaid words (λ command. HasRefused (meaning_of command) old new)
-
--- the words say a command, and no more was read than its input may have
-abbrev pub IsWithinLimit : List (List ℕ) → Outside → Outside → Type 0
-IsWithinLimit words old new = IsSaid words (λ command. HasReadFew (limit_of (meaning_of command).reads) old.left new.left)
-
--- the words say a command, its input was read, and the front of what it has to say was taken
-abbrev pub IsCutShort : List (List ℕ) → Outside → Outside → Type 0
-IsCutShort words old new = IsSaid words (λ command. WasCutShort (meaning_of command) old new)
-
--- the words say a command, and one byte more than its input may have was read, and no more
-abbrev pub IsTooLong : List (List ℕ) → Outside → Outside → Type 0
-IsTooLong words old new = IsSaid words (λ command. HasReadMore (limit_of (meaning_of command).reads) old.left new.left)
-
--- the words say a command, and the source has an input that it accepts, within its limit
-abbrev pub IsAccepted : List (List ℕ) → Outside → Type 0
-IsAccepted words old = IsSaid words (λ command. HasAcceptable (meaning_of command) old.left)
-
--- nothing is written
-abbrev pub IsSilent : Status → Type 0
-IsSilent Done = ⊥
-IsSilent Usage = Unit {0}
-IsSilent Refused = ⊥
-IsSilent ReadFault = Unit {0}
-IsSilent WriteFault = ⊥
-IsSilent Memory = Unit {0}
-IsSilent TooLong = Unit {0}
-
--- no device is put
-abbrev pub IsAside : Status → Type 0
-IsAside Done = ⊥
-IsAside Usage = Unit {0}
-IsAside Refused = Unit {0}
-IsAside ReadFault = Unit {0}
-IsAside WriteFault = ⊥
-IsAside Memory = Unit {0}
-IsAside TooLong = Unit {0}

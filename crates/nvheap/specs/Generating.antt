@@ -4,7 +4,6 @@ use Rattle.pmem_lines.specs.Pmem.{PmemState}
 use Rattle.trace_gen.specs.Draws.{the_pool, generated}
 use Rattle.trace_workers.specs.Summaries.{IsSummed}
 use Rattle.nvheap.specs.Outside.{put_devices}
-use Rattle.nvheap.specs.Causes.{Never}
 use Rattle.nvheap.specs.Meaning.{Places, Meaning, MakesNone}
 
 -- The output is the summary of runs that answer the calls of generated work, one for each arena of its pool, and the place of
@@ -22,6 +21,6 @@ generating count seed = record {
   recovers = false;
   answers = AnswersGen count seed;
   images = MakesNone;
-  refuses = λ input. Never;
+  refuses = λ input cause. ⊥;
   accepts = λ input. Unit {0};
 }

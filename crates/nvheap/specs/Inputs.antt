@@ -1,12 +1,12 @@
 -- What a command reads, and how much of it.
-use Rattle.std.specs.Prelude.{◌≡◌, ◌*◌, ◌<◌, ◌≤◌, ◌^◌, ℕ, List, [], length, Option, Some, None}
+use Rattle.std.specs.Prelude.{◌≡◌, ◌+◌, ◌*◌, ◌<◌, ◌≤◌, ◌^◌, ℕ, List, [], length, Option, Some, None}
 use Rattle.pool_layout.specs.Layout.{pool_granules}
 use Rattle.pool_layout.specs.Image.{AreWordsOf}
 use Rattle.nvheap.specs.declared.input.Kind.{Kind}
 use Rattle.nvheap.specs.declared.input.Kind.TheVariants as kinds
 use Rattle.nvheap.specs.declared.input.Input.{Input}
 use Rattle.nvheap.specs.declared.input.Input.TheVariants.{Text, Pool}
-use Rattle.nvheap.specs.Outside.{Gives, GivesAll, GivesFew, GivesMore}
+use Rattle.nvheap.specs.Outside.{GivesAll, GivesSome}
 
 -- the most bytes that a text may have
 unfoldable pub longest_text : ℕ
@@ -38,15 +38,15 @@ HasRead None old new input = (input ≡ []) × (new ≡ old)
 
 -- of the input no more was read than it may have
 abbrev pub HasReadFew : Option ℕ → Option (List ℕ) → Option (List ℕ) → Type 0
-HasReadFew (Some limit) old new = GivesFew old new limit
+HasReadFew (Some limit) old new = GivesSome old new (λ n. n ≤ limit)
 HasReadFew None old new = ⊥
 
 -- one byte more than the input may have was read, and no more
 abbrev pub HasReadMore : Option ℕ → Option (List ℕ) → Option (List ℕ) → Type 0
-HasReadMore (Some limit) old new = GivesMore old new limit
+HasReadMore (Some limit) old new = GivesSome old new (λ n. n ≡ limit + 1)
 HasReadMore None old new = ⊥
 
--- what the code has of an input
+-- for the functions below
 
 -- these are its bytes: a text's own, or of an image those of its words
 abbrev pub HasBytes : Input → List ℕ → Type 0
@@ -62,39 +62,16 @@ pub record IsInput (input : Input) : Type 0 where
 -- it is of this kind
 abbrev pub IsOfKind : Kind → Input → Type 0
 IsOfKind kinds.Text (Text text) = Unit {0}
-IsOfKind kinds.Text (Pool words size) = ⊥
-IsOfKind kinds.Pool (Text text) = ⊥
 IsOfKind kinds.Pool (Pool words size) = Unit {0}
+IsOfKind kind input = ⊥
 
 -- it is of the kind that is read
 abbrev pub Fits : Option Kind → Input → Type 0
 Fits (Some kind) input = IsOfKind kind input
 Fits None input = ⊥
 
--- it was read: its bytes were all that the source had, within the limit of what is read
-pub record IsRead (reads : Option Kind) (old new : Option (List ℕ)) (input : Input) : Type 0 where
+-- it was read: its bytes were all that the source had, within the limit
+pub record IsRead (limit : Option ℕ) (old new : Option (List ℕ)) (input : Input) : Type 0 where
   pub bytes : List ℕ
   pub has : HasBytes input bytes
-  pub read : HasRead (limit_of reads) old new bytes
-
--- for the functions below
-
--- so many bytes of a source came into an input
-pub record HasCome (old new : Option (List ℕ)) (input : Input) (size : ℕ) : Type 0 where
-  pub bytes : List ℕ
-  pub has : HasBytes input bytes
-  pub count : length bytes ≡ size
-  pub gives : Gives old new bytes
-
--- all bytes of a source came, and they are this many at most
-pub record HasAllCome (old new : Option (List ℕ)) (input : Input) (limit : ℕ) : Type 0 where
-  pub bytes : List ℕ
-  pub has : HasBytes input bytes
-  pub all : GivesAll old new bytes
-  pub few : length bytes ≤ limit
-
--- a source gave fewer bytes than this
-pub record GivesLess (old new : Option (List ℕ)) (limit : ℕ) : Type 0 where
-  pub bytes : List ℕ
-  pub less : length bytes < limit
-  pub gives : Gives old new bytes
+  pub read : HasRead limit old new bytes

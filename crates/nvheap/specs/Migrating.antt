@@ -2,10 +2,11 @@
 use Rattle.std.specs.Prelude.{◌≡◌, ◌⊎◌, ℕ, List, Some, true, false}
 use Rattle.pool_layout.specs.declared.defect.Defect.{Defect}
 use Rattle.pool_layout.specs.Image.{IsImageOf, IsImageDefect}
-use Rattle.image_runs.specs.Checks.{HasUnsound}
+use Rattle.image_runs.specs.Checks.{HasUnsoundFrom}
 use Rattle.image_runs.specs.Migrations.{IsPoolMigrated}
+use Rattle.nvheap.specs.declared.cause.Cause.{Cause}
+use Rattle.nvheap.specs.declared.cause.Cause.TheVariants.{Image, Version}
 use Rattle.nvheap.specs.declared.input.Kind.TheVariants as kinds
-use Rattle.nvheap.specs.Causes.{OnVersion}
 use Rattle.nvheap.specs.Meaning.{Places, Meaning, MakesNone}
 use Rattle.nvheap.specs.Checking.{HasSoundArenas}
 
@@ -29,12 +30,14 @@ pub record HasUnsoundFirst (input : List ℕ) (arena : ℕ) (defect : Defect) : 
   pub words : List ℕ
   pub image : IsImageOf input words
   pub first : image.header.version ≡ 1
-  pub unsound : HasUnsound words image.header arena defect
+  pub unsound : HasUnsoundFrom words image.header 0 arena defect
 
--- for which defect the bytes are refused: they are the image of no pool; or else of one of version 1, and this is the first
--- defect of the lowest arena that is not sound
-abbrev pub IsFirstPoolDefect : List ℕ → ℕ → Defect → Type 0
-IsFirstPoolDefect input arena defect = IsImageDefect input arena defect ⊎ HasUnsoundFirst input arena defect
+-- why the bytes are refused: they are the image of no pool; or else of one of version 2; or of one of version 1, and this is
+-- the first defect of the lowest arena that is not sound
+abbrev pub RefusesMigrate : List ℕ → Cause → Type 0
+RefusesMigrate input (Image arena defect) = IsImageDefect input arena defect ⊎ HasUnsoundFirst input arena defect
+RefusesMigrate input (Version version) = HasSecondVersion input version
+RefusesMigrate input cause = ⊥
 
 -- the bytes are the image of a pool of version 1 of which every arena is sound
 pub record HasSoundFirst (input : List ℕ) : Type 0 where
@@ -49,6 +52,6 @@ migrating = record {
   recovers = false;
   answers = AnswersMigrate;
   images = MakesNone;
-  refuses = λ input. OnVersion (IsFirstPoolDefect input) (HasSecondVersion input);
+  refuses = RefusesMigrate;
   accepts = HasSoundFirst;
 }

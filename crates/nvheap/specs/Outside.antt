@@ -1,7 +1,7 @@
 -- What the outside tells: what a source gives and a sink takes, where they tell their bytes, and what stands on a shelf, where
 -- it tells that.
-use Rattle.std.specs.Prelude.{◌≡◌, ◌⊎◌, ◌<◌, ◌≤◌, ℕ, suc, ◌-◌, ◌+◌, ◌^◌, List, [], ◌∷◌, ◌++◌, length, Option, Some, None, slice_set}
-use Rattle.pmem_lines.specs.Pmem.{PmemState}
+use Rattle.std.specs.Prelude.{◌≡◌, ◌⊎◌, ◌<◌, ℕ, suc, ◌-◌, ◌^◌, List, [], ◌∷◌, ◌++◌, length, Option, Some, None, slice_set}
+use Rattle.pmem_lines.specs.Pmem.{PmemState, risen}
 
 -- what the outside tells: the bytes that the source has left, those that the sink took, what stands in the places of
 -- the shelf, and how many devices the shelf made of images
@@ -15,17 +15,15 @@ pub record Outside : Type 0 where
 abbrev pub told_by : {S K H : Type 0} → (S → Option (List ℕ)) → (K → Option (List ℕ)) → (H → Option (List (Option PmemState))) → (H → ℕ) → S → K → H → Outside
 told_by left taken places images source sink shelf = record { left = left source; taken = taken sink; places = places shelf; images = images shelf }
 
--- what stands in the shelf's places stays
-abbrev pub KeepsPlaces : Outside → Outside → Type 0
-KeepsPlaces old new = new.places ≡ old.places
-
--- the shelf's count of devices made of images stays
-abbrev pub KeepsImages : Outside → Outside → Type 0
-KeepsImages old new = new.images ≡ old.images
-
 -- a count of faults rose, or it stands at the end of its type
 abbrev pub Rose : ℕ → ℕ → Type 0
 Rose old new = (old < new) ⊎ (new ≡ 2 ^ 64 - 1)
+
+-- a call of a source or a sink in memory, which has the numbers of the calls that are to fail, counted from 0: it is counted,
+-- up to 2^64 - 1, and the numbers stay
+pub record IsCounted (failing later : List ℕ) (calls counted : ℕ) : Type 0 where
+  pub same : later ≡ failing
+  pub next : counted ≡ risen calls 1
 
 -- a source that had these bytes left gave some, and has those left
 abbrev pub Gives : Option (List ℕ) → Option (List ℕ) → List ℕ → Type 0
@@ -43,16 +41,10 @@ pub record GivesAll (old new : Option (List ℕ)) (bytes : List ℕ) : Type 0 wh
   pub gives : Gives old new bytes
   pub ended : IsAtEnd new
 
--- a source gave more bytes than this, one more and no further
-pub record GivesMore (old new : Option (List ℕ)) (limit : ℕ) : Type 0 where
+-- a source gave bytes, and this holds of their number
+pub record GivesSome (old new : Option (List ℕ)) (Many : ℕ → Type 0) : Type 0 where
   pub bytes : List ℕ
-  pub count : length bytes ≡ limit + 1
-  pub gives : Gives old new bytes
-
--- a source gave so many bytes at most
-pub record GivesFew (old new : Option (List ℕ)) (limit : ℕ) : Type 0 where
-  pub bytes : List ℕ
-  pub few : length bytes ≤ limit
+  pub many : Many (length bytes)
   pub gives : Gives old new bytes
 
 -- a sink took these bytes

@@ -1,19 +1,14 @@
 -- What `recover` means.
-use Rattle.std.specs.Prelude.{◌≡◌, ℕ, zero, suc, ◌+◌, ◌<◌, ◌≤◌, List, Some, true, false}
+use Rattle.std.specs.Prelude.{◌≡◌, ℕ, zero, suc, ◌+◌, List, Some, true, false}
 use Rattle.pmem_lines.specs.Pmem.{PmemState, risen}
-use Rattle.pool_layout.specs.declared.header.PoolHeader.{PoolHeader}
-use Rattle.pool_layout.specs.declared.defect.Defect.{Defect}
 use Rattle.pool_layout.specs.Image.{part_of, IsImageOf}
 use Rattle.heap_check.specs.Image.{IsSoundImage}
-use Rattle.image_defects.specs.Defects.{IsFirstDefect}
 use Rattle.recover.specs.Recovered.{IsRecoveredDevice}
-use Rattle.image_runs.specs.Checks.{IsPoolDefect}
 use Rattle.image_runs.specs.Recoveries.{heaps_from}
 use Rattle.nvheap.specs.declared.input.Kind.TheVariants as kinds
 use Rattle.nvheap.specs.Outside.{put_device}
-use Rattle.nvheap.specs.Causes.{OnImage}
 use Rattle.nvheap.specs.Meaning.{Places, Meaning}
-use Rattle.nvheap.specs.Checking.{HasSoundArenas}
+use Rattle.nvheap.specs.Checking.{HasSoundArenas, RefusesImage}
 
 -- Of n arenas of a pool from one on each is sound, and its place on the shelf has a recovered device of its words; the other
 -- places stay.
@@ -35,13 +30,6 @@ pub record AnswersRecover (input output : List ℕ) (old new : Places) : Type 0 
 abbrev pub MakesAll : List ℕ → ℕ → ℕ → Type 0
 MakesAll input old new = (words : List ℕ) × (image : IsImageOf input words) × (new ≡ risen old image.header.arenas)
 
--- an arena is the first from one on that is not sound, and this is its first defect
-pub record HasUnsoundFrom (words : List ℕ) (header : PoolHeader) (from arena : ℕ) (defect : Defect) : Type 0 where
-  pub low : from ≤ arena
-  pub inside : arena < header.arenas
-  pub before : (earlier : ℕ) → from ≤ earlier → earlier < arena → IsSoundImage (part_of words header.granules earlier)
-  pub first : IsFirstDefect (part_of words header.granules arena) defect
-
 abbrev pub recovering : Meaning
 recovering = record {
   reads = Some kinds.Pool;
@@ -50,6 +38,6 @@ recovering = record {
   recovers = true;
   answers = AnswersRecover;
   images = MakesAll;
-  refuses = λ input. OnImage (IsPoolDefect input);
+  refuses = RefusesImage;
   accepts = HasSoundArenas;
 }

@@ -1,8 +1,8 @@
 // What each command has to say of its input.
-ghost use Rattle.std.specs.Prelude.{◌≡◌, ◌≤◌, ℕ, List, length, IfOk, IfErr, OnErr};
+ghost use Rattle.std.specs.Prelude.{◌≡◌, ◌≤◌, ℕ, List, length, IfOk, IfErr, OnErr, IsTrue};
 ghost use Rattle.std.specs.List.{All};
 ghost use Rattle.trace_text.specs.Grammar.{pool_of, IsPool, IsTrace, IsTraceCall};
-ghost use Rattle.nvheap.specs.Command.{meaning_of, MayWait, Recovers, IsIdle};
+ghost use Rattle.nvheap.specs.Command.{meaning_of};
 ghost use Rattle.nvheap.specs.Inputs.{HasBytes, IsInput, Fits};
 ghost use Rattle.nvheap.specs.Ends.{IsAnswer, CountsImages, IsFaultLine, IsBadLine};
 
@@ -35,14 +35,14 @@ pub(crate) fn answer_to<H: Shelf>(
     input: &Input,
     shelf: &mut H,
 ) -> Result<Answer, OutOfMemory>
-    requires returns { ¬ (MayWait command) }
+    requires returns { ¬ (IsTrue (meaning_of command).waits) }
     requires fits { Fits (meaning_of command).reads input.now }
     requires input { IsInput input.now }
     ensures answer { IfOk result (λ answer. (bytes : List ℕ) → HasBytes input.now bytes → IsAnswer (meaning_of command) bytes (H.places shelf.old) (H.places shelf.new) answer) }
     ensures counts { IfOk result (λ answer. (bytes : List ℕ) → HasBytes input.now bytes → CountsImages (meaning_of command) bytes (H.images shelf.old) (H.images shelf.new) answer) }
     ensures kept { OnErr result (H.places shelf.new ≡ H.places shelf.old) }
-    ensures images { ¬ (Recovers command) → H.images shelf.new ≡ H.images shelf.old }
-    ensures idle { IsIdle command → shelf.new ≡ shelf.old }
+    ensures images { ¬ (IsTrue (meaning_of command).recovers) → H.images shelf.new ≡ H.images shelf.old }
+    ensures idle { IsTrue (meaning_of command).idle → shelf.new ≡ shelf.old }
 {
     match (command, input) {
         (Command::Image, Input::Text(text)) => image_answer(alloc, text, shelf),

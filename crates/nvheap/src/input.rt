@@ -1,8 +1,8 @@
 // What a command reads.
-ghost use Rattle.std.specs.Prelude.{◌≡◌, ◌-◌, ◌<◌, ◌≤◌, ◌%◌, ◌^◌, ◌++◌, ℕ, List, [], length, take, IfOk, IfErr, OnOk, OnErr, Err};
-ghost use Rattle.nvheap.specs.Outside.{Rose, Gives, GivesFew, GivesMore, IsAtEnd};
-ghost use Rattle.nvheap.specs.Command.{meaning_of, ReadsNone};
-ghost use Rattle.nvheap.specs.Inputs.{longest, limit_of, longest_image, HasBytes, IsInput, IsOfKind, Fits, IsRead, HasCome, HasAllCome, GivesLess};
+ghost use Rattle.std.specs.Prelude.{◌≡◌, ◌≢◌, ◌+◌, ◌-◌, ◌<◌, ◌≤◌, ◌%◌, ◌^◌, ◌++◌, ℕ, List, [], length, take, Some, None, IfOk, IfErr, OnOk, OnErr, Err};
+ghost use Rattle.nvheap.specs.Outside.{Rose, Gives, GivesSome, IsAtEnd};
+ghost use Rattle.nvheap.specs.Command.{meaning_of};
+ghost use Rattle.nvheap.specs.Inputs.{longest, limit_of, longest_image, HasBytes, IsInput, IsOfKind, Fits, IsRead};
 ghost use Rattle.nvheap.specs.Ends.{IsUnread};
 
 use crate::command::Command;
@@ -76,12 +76,13 @@ pub(crate) fn read_input<S: Source>(
     command: Command,
     source: &mut S,
 ) -> Result<Input, Status>
-    requires { ¬ (ReadsNone command) }
-    ensures read { IfOk result (IsRead (meaning_of command).reads (S.left source.old) (S.left source.new)) }
+    requires { (meaning_of command).reads ≢ None }
+    ensures read { IfOk result (IsRead (limit_of (meaning_of command).reads) (S.left source.old) (S.left source.new)) }
     ensures fits { IfOk result (Fits (meaning_of command).reads) }
     ensures input { IfOk result IsInput }
     ensures unread { IfErr result (IsUnread (limit_of (meaning_of command).reads) (S.left source.old) (S.left source.new)) }
     ensures failed { result ≡ Err Status.ReadFault → Rose (S.faults source.old) (S.faults source.new) }
+    ensures unfailed { result ≡ Err Status.TooLong → S.faults source.new ≡ S.faults source.old }
 {
     let Some(kind) = command.reads() else {
         unreachable!();
@@ -141,11 +142,12 @@ fn read_all<S: Source>(
 ) -> Result<(), Unread>
     requires few { limit < 2 ^ 32 - 65536 }
     requires none { HasBytes input.old [] }
-    ensures all { OnOk result (HasAllCome (S.left source.old) (S.left source.new) input.new limit) }
+    ensures all { OnOk result (IsRead (Some limit) (S.left source.old) (S.left source.new) input.new) }
     ensures fits { (kind : Kind) → IsOfKind kind input.old → IsOfKind kind input.new }
-    ensures too_long { result ≡ Err Unread.TooLong → GivesMore (S.left source.old) (S.left source.new) limit }
-    ensures few { result ≡ Err Unread.Failed → GivesFew (S.left source.old) (S.left source.new) limit }
+    ensures too_long { result ≡ Err Unread.TooLong → GivesSome (S.left source.old) (S.left source.new) (λ n. n ≡ limit + 1) }
+    ensures few { result ≡ Err Unread.Failed → GivesSome (S.left source.old) (S.left source.new) (λ n. n ≤ limit) }
     ensures failed { result ≡ Err Unread.Failed → Rose (S.faults source.old) (S.faults source.new) }
+    ensures unfailed { result ≡ Err Unread.TooLong → S.faults source.new ≡ S.faults source.old }
 {
     let mut piece = vec![in alloc; 0u8; PIECE]?;
     let mut size = 0;
@@ -168,7 +170,8 @@ fn fill<S: Source>(source: &mut S, piece: &mut [u8], most: usize) -> Result<usiz
     ensures count { IfOk result (λ n. n ≤ most) }
     ensures gives { IfOk result (λ n. Gives (S.left source.old) (S.left source.new) (take n piece.new)) }
     ensures end { IfOk result (λ n. n < most → IsAtEnd (S.left source.new)) }
-    ensures less { OnErr result (GivesLess (S.left source.old) (S.left source.new) most) }
+    ensures still { OnOk result (S.faults source.new ≡ S.faults source.old) }
+    ensures less { OnErr result (GivesSome (S.left source.old) (S.left source.new) (λ n. n < most)) }
     ensures failed { OnErr result (Rose (S.faults source.old) (S.faults source.new)) }
     ensures later { S.faults source.old ≤ S.faults source.new }
 {

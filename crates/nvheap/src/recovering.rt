@@ -2,9 +2,9 @@
 ghost use Rattle.std.specs.Prelude.{◌≡◌, ◌≤◌, ◌-◌, ◌++◌, ℕ, List, IfOk, IfErr, OnOk, OnErr};
 ghost use Rattle.pmem_lines.specs.Pmem.{risen};
 ghost use Rattle.pool_layout.specs.Image.{AreWordsOf, AreWords, IsPoolImage, IfDefect};
-ghost use Rattle.image_runs.specs.Checks.{IsPoolDefect};
+ghost use Rattle.image_runs.specs.Checks.{HasUnsoundFrom, IsPoolDefect};
 ghost use Rattle.image_runs.specs.Recoveries.{heaps_from};
-ghost use Rattle.nvheap.specs.Recovering.{AnswersRecover, HasRecovered, HasUnsoundFrom, MakesAll, recovering};
+ghost use Rattle.nvheap.specs.Recovering.{AnswersRecover, HasRecovered, MakesAll, recovering};
 ghost use Rattle.nvheap.specs.Ends.{IsAnswer, CountsImages};
 
 use crate::answers::{Answer, fault_line};

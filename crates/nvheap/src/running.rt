@@ -1,10 +1,10 @@
 // The top call.
-ghost use Rattle.std.specs.Prelude.{◌≡◌, ◌↔◌, ◌⊎◌, ℕ, List, Option, map, string_bytes};
-ghost use Rattle.nvheap.specs.Outside.{told_by, Rose, KeepsPlaces, KeepsImages};
+ghost use Rattle.std.specs.Prelude.{◌≡◌, ◌≢◌, ◌↔◌, ◌⊎◌, ℕ, List, Option, None, IsTrue, map, string_bytes};
+ghost use Rattle.nvheap.specs.Outside.{told_by, Rose};
 ghost use Rattle.nvheap.specs.Replaying.{replaying};
 ghost use Rattle.nvheap.specs.Generating.{generating};
-ghost use Rattle.nvheap.specs.Command.{meaning_of, IsNoCommand, IsSaid, MayWait, ReadsNone, Recovers, IsIdle};
-ghost use Rattle.nvheap.specs.Ends.{Ends, IsDone, IsRefused, IsWithinLimit, IsCutShort, IsTooLong, IsAccepted, IsSilent, IsAside};
+ghost use Rattle.nvheap.specs.Command.{meaning_of, IsNoCommand, IsSaid};
+ghost use Rattle.nvheap.specs.Ends.{Ends, HasAcceptable, IsSilent, IsAside};
 
 use crate::answers::answer_to;
 use crate::command::{Command, command_of};
@@ -38,27 +38,25 @@ pub fn run<R: Threads + Wait + Sync, S: Source, K: Sink, G: Gate + Sync, H: Shel
     ensures usage { (result ≡ Status.Usage) ↔ IsNoCommand (map string_bytes words.now) }
     ensures untouched { result ≡ Status.Usage → (source.new ≡ source.old) × (sink.new ≡ sink.old) × (shelf.new ≡ shelf.old) }
     ensures done { let told = told_by S.left K.taken H.places H.images in
-        result ≡ Status.Done → IsDone (map string_bytes words.now) (told source.old sink.old shelf.old) (told source.new sink.new shelf.new) }
+        result ≡ Status.Done → IsSaid (map string_bytes words.now) (λ m. Ends m (told source.old sink.old shelf.old) (told source.new sink.new shelf.new) Status.Done) }
     ensures refused { let told = told_by S.left K.taken H.places H.images in
-        result ≡ Status.Refused → IsRefused (map string_bytes words.now) (told source.old sink.old shelf.old) (told source.new sink.new shelf.new) }
+        result ≡ Status.Refused → IsSaid (map string_bytes words.now) (λ m. Ends m (told source.old sink.old shelf.old) (told source.new sink.new shelf.new) Status.Refused) }
     ensures read_fault { result ≡ Status.ReadFault → Rose (S.faults source.old) (S.faults source.new) }
     ensures within_limit { let told = told_by S.left K.taken H.places H.images in
-        result ≡ Status.ReadFault → IsWithinLimit (map string_bytes words.now) (told source.old sink.old shelf.old) (told source.new sink.new shelf.new) }
+        result ≡ Status.ReadFault → IsSaid (map string_bytes words.now) (λ m. Ends m (told source.old sink.old shelf.old) (told source.new sink.new shelf.new) Status.ReadFault) }
     ensures write_fault { result ≡ Status.WriteFault → Rose (K.faults sink.old) (K.faults sink.new) }
     ensures cut_short { let told = told_by S.left K.taken H.places H.images in
-        result ≡ Status.WriteFault → IsCutShort (map string_bytes words.now) (told source.old sink.old shelf.old) (told source.new sink.new shelf.new) }
+        result ≡ Status.WriteFault → IsSaid (map string_bytes words.now) (λ m. Ends m (told source.old sink.old shelf.old) (told source.new sink.new shelf.new) Status.WriteFault) }
     ensures too_long { let told = told_by S.left K.taken H.places H.images in
-        result ≡ Status.TooLong → IsTooLong (map string_bytes words.now) (told source.old sink.old shelf.old) (told source.new sink.new shelf.new) }
-    ensures complete { let told = told_by S.left K.taken H.places H.images in
-        IsAccepted (map string_bytes words.now) (told source.old sink.old shelf.old) → ¬ (Rose (S.faults source.old) (S.faults source.new)) → ¬ (Rose (K.faults sink.old) (K.faults sink.new)) →
+        result ≡ Status.TooLong → IsSaid (map string_bytes words.now) (λ m. Ends m (told source.old sink.old shelf.old) (told source.new sink.new shelf.new) Status.TooLong) }
+    ensures unfailed { result ≡ Status.TooLong → S.faults source.new ≡ S.faults source.old }
+    ensures complete { IsSaid (map string_bytes words.now) (λ m. HasAcceptable m (S.left source.old)) → ¬ (Rose (S.faults source.old) (S.faults source.new)) → ¬ (Rose (K.faults sink.old) (K.faults sink.new)) →
         (result ≡ Status.Done) ⊎ (result ≡ Status.Memory) }
     ensures silent { IsSilent result → sink.new ≡ sink.old }
-    ensures aside { let told = told_by S.left K.taken H.places H.images in
-        IsAside result → KeepsPlaces (told source.old sink.old shelf.old) (told source.new sink.new shelf.new) }
-    ensures idle { IsSaid (map string_bytes words.now) IsIdle → shelf.new ≡ shelf.old }
-    ensures images { let told = told_by S.left K.taken H.places H.images in
-        ¬ (IsSaid (map string_bytes words.now) Recovers) → KeepsImages (told source.old sink.old shelf.old) (told source.new sink.new shelf.new) }
-    ensures unread { IsSaid (map string_bytes words.now) ReadsNone → source.new ≡ source.old }
+    ensures aside { IsAside result → H.places shelf.new ≡ H.places shelf.old }
+    ensures idle { IsSaid (map string_bytes words.now) (λ m. IsTrue m.idle) → shelf.new ≡ shelf.old }
+    ensures images { ¬ (IsSaid (map string_bytes words.now) (λ m. IsTrue m.recovers)) → H.images shelf.new ≡ H.images shelf.old }
+    ensures unread { IsSaid (map string_bytes words.now) (λ m. m.reads ≡ None) → source.new ≡ source.old }
 {
     let Some(command) = command_of(words) else {
         return Status::Usage;
@@ -82,6 +80,7 @@ fn run_replay<R: Threads + Wait + Sync, S: Source, K: Sink, G: Gate + Sync, H: S
     ensures ends { let told = told_by S.left K.taken H.places H.images in
         Ends replaying (told source.old sink.old shelf.old) (told source.new sink.new shelf.new) result }
     ensures read_fault { result ≡ Status.ReadFault → Rose (S.faults source.old) (S.faults source.new) }
+    ensures unfailed { result ≡ Status.TooLong → S.faults source.new ≡ S.faults source.old }
     ensures write_fault { result ≡ Status.WriteFault → Rose (K.faults sink.old) (K.faults sink.new) }
     ensures silent { IsSilent result → sink.new ≡ sink.old }
     ensures aside { IsAside result → H.places shelf.new ≡ H.places shelf.old }
@@ -129,17 +128,18 @@ fn run_returning<S: Source, K: Sink, H: Shelf>(
     sink: &mut K,
     shelf: &mut H,
 ) -> Status
-    requires returns { ¬ (MayWait command) }
-    requires reads { ¬ (ReadsNone command) }
+    requires returns { ¬ (IsTrue (meaning_of command).waits) }
+    requires reads { (meaning_of command).reads ≢ None }
     ensures ends { let told = told_by S.left K.taken H.places H.images in
         Ends (meaning_of command) (told source.old sink.old shelf.old) (told source.new sink.new shelf.new) result }
     ensures read_fault { result ≡ Status.ReadFault → Rose (S.faults source.old) (S.faults source.new) }
+    ensures unfailed { result ≡ Status.TooLong → S.faults source.new ≡ S.faults source.old }
     ensures write_fault { result ≡ Status.WriteFault → Rose (K.faults sink.old) (K.faults sink.new) }
     ensures silent { IsSilent result → sink.new ≡ sink.old }
     ensures aside { IsAside result → H.places shelf.new ≡ H.places shelf.old }
-    ensures images { ¬ (Recovers command) → H.images shelf.new ≡ H.images shelf.old }
-    ensures idle { IsIdle command → shelf.new ≡ shelf.old }
-    ensures unread { ReadsNone command → source.new ≡ source.old }
+    ensures images { ¬ (IsTrue (meaning_of command).recovers) → H.images shelf.new ≡ H.images shelf.old }
+    ensures idle { IsTrue (meaning_of command).idle → shelf.new ≡ shelf.old }
+    ensures unread { (meaning_of command).reads ≡ None → source.new ≡ source.old }
 {
     let input = match read_input(alloc, command, source) {
         Ok(input) => input,

@@ -1,6 +1,7 @@
 // Where bytes go.
-ghost use Rattle.std.specs.Prelude.{◌≡◌, ℕ, ◌<◌, ◌≤◌, List, [], ◌++◌, Option, Some, None, length, take, IfOk, OnErr, OnOk, IfSome};
-ghost use Rattle.nvheap.specs.Outside.{Rose, Takes};
+ghost use Rattle.std.specs.Prelude.{◌≡◌, ℕ, ◌<◌, ◌≤◌, min, List, [], ◌++◌, Option, Some, None, length, take, IfOk, IsErr, OnErr, OnOk, IfSome};
+ghost use Rattle.std.specs.List.{Contains};
+ghost use Rattle.nvheap.specs.Outside.{Rose, Takes, IsCounted};
 
 use crate::source::{Failed, counted};
 use std::alloc::Global;
@@ -41,6 +42,9 @@ impl<'a> MemSink<'a> {
     pub fn new(alloc: Global, failing: &'a [u64], most: usize) -> Self
         requires { 0 < most }
         ensures bytes { result.bytes.items ≡ [] }
+        ensures listed { result.failing.now ≡ failing.now }
+        ensures calls { result.calls ≡ 0 }
+        ensures most { result.most ≡ most }
         ensures failed { result.failed ≡ 0 }
     {
         MemSink {
@@ -65,7 +69,20 @@ impl Sink for MemSink<'_> {
 
     ghost faults = { λ s. s.failed };
 
-    fn write(&mut self, piece: &[u8]) -> Result<usize, Failed> {
+    /// Takes `most` bytes of the piece, or all where it has fewer. It fails where the number of this call is listed, and else
+    /// for want of memory alone.
+    fn write(&mut self, piece: &[u8]) -> Result<usize, Failed>
+        ensures count { IfOk result (λ n. n ≤ length piece.now) }
+        ensures some { IfOk result (λ n. 0 < length piece.now → 0 < n) }
+        ensures bytes { IfOk result (λ n. Takes (Some self.old.bytes.items) (Some self.new.bytes.items) (take n piece.now)) }
+        ensures err { OnErr result (Takes (Some self.old.bytes.items) (Some self.new.bytes.items) []) }
+        ensures cause { OnErr result (Rose self.old.failed self.new.failed) }
+        ensures later { self.old.failed ≤ self.new.failed }
+        ensures listed { Contains self.old.failing.now self.old.calls → IsErr result }
+        ensures most { IfOk result (λ n. n ≡ min (length piece.now) self.old.most) }
+        ensures counted { IsCounted self.old.failing.now self.new.failing.now self.old.calls self.new.calls }
+        ensures same_most { self.new.most ≡ self.old.most }
+    {
         let fails = self.failing.contains(&self.calls);
         self.calls = self.calls.saturating_add(1);
         if fails {

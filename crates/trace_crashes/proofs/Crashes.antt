@@ -75,7 +75,6 @@ IsCrashOf-within header calls event seed device number done left sought within =
     record {
       stages = stages;
       run = subst (λ (n : ℕ). IsRunOf header (calls_up_to n calls) stages) (sym within.call) (subst (λ (cs : List TraceCall). IsRunOf header cs stages) (sym (calls_up_to-some number calls sought.some)) sought.run);
-      within = sought.within;
       leaves = sought.leaves seed left within;
     }
 
@@ -84,7 +83,6 @@ pub IsCrashOf-idle : (header : PoolHeader) (calls : List TraceCall) (event seed 
 IsCrashOf-idle header calls event seed events left behind few idle = record {
   stages = behind.stages;
   run = subst (λ (n : ℕ). IsRunOf header (calls_up_to n calls) behind.stages) (sym idle.no_call) behind.run;
-  within = omega (arith, behind.total, few);
   leaves = behind.leaves few seed left idle;
 }
 

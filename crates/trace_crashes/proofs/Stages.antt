@@ -19,8 +19,8 @@ use Rattle.arena_journal.specs.Journals.{begins_call, HasBegun, HasDone, HasAnsw
 use Rattle.arena_journal.proofs.Journals.{begun_done}
 use Rattle.trace_text.specs.declared.call.TraceCall.{TraceCall}
 use Rattle.trace_runs.specs.Arenas.{bounds_for, formatted}
-use Rattle.trace_runs.specs.Runs.{Stage, IsRunTo}
-use Rattle.trace_runs.proofs.Runs.{stage_of, IsRunTo-call}
+use Rattle.trace_runs.specs.Runs.{Stage}
+use Rattle.trace_runs.proofs.Runs.{IsRunTo, stage_of, IsRunTo-call}
 use Rattle.trace_crashes.specs.Seek.{last_stage, IsBehindEntry}
 
 -- the device's events are those of the call where the call begins one, and the call has none where it is a Read

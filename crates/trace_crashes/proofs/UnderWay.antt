@@ -13,10 +13,10 @@ use Rattle.pool_layout.specs.declared.header.PoolHeader.{PoolHeader}
 use Rattle.trace_runs.specs.Arenas.{bounds_for, formatted, IsNewArena}
 use Rattle.trace_runs.specs.Calls.{calls_of}
 use Rattle.trace_crashes.specs.Crash.{CrashLeft, IsLeft, IsLeftWithin, IsLeftIdle, is_under_way}
-use Rattle.trace_runs.specs.Runs.{Stage, IsRun, total_events, IsRunTo}
+use Rattle.trace_runs.specs.Runs.{Stage, IsRun, total_events}
 use Rattle.trace_crashes.specs.Seek.{IsBehindSought, IsBehindAll}
 use Rattle.trace_runs.proofs.Answers.{calls_of-append, calls_of-here, calls_of-other}
-use Rattle.trace_runs.proofs.Runs.{IsRunTo-none, IsRun-to}
+use Rattle.trace_runs.proofs.Runs.{IsRunTo, IsRunTo-none, IsRun-to}
 use Rattle.trace_crashes.proofs.Stages.{IsNextStage}
 
 -- the arena's calls among the first i calls of a trace are so many, they have these many events, and the event lies so many
@@ -122,13 +122,11 @@ module _ (header : PoolHeader) (number : ℕ) (calls : List TraceCall) (event : 
       let Within : Type 0 = IsLeftWithin next.stage (many + 1) left seed found in
       let Later : Type 0 = IsLeft (formatted header) (many + 1) [] (left - length next.stage.events) seed found in
       seeking.leaves (next.stage ∷ []) seed found (subst (λ b. MatchBool b Within Later) (sym (under (length next.stage.events) next.count)) is) in
-      let enough : event ≤ total_events (seeking.stages ++ next.stage ∷ []) = omega (arith, total, sum, within) in
       record {
         some = omega arith;
         before = seeking.stages;
         run = subst (λ (s : Stage). IsRun b (formatted header) 0 (bare no_heap) (take (many + 1) (calls_of number calls)) (seeking.stages ++ s ∷ [])) (next.last some) run;
         leaves = subst (λ (s : Stage). (seed : ℕ) (found : CrashLeft) → IsLeftWithin s (many + 1) left seed found → IsLeft (formatted header) 0 (seeking.stages ++ s ∷ []) event seed found) (next.last some) leaves;
-        within = subst (λ (s : Stage). event ≤ total_events (seeking.stages ++ s ∷ [])) (next.last some) enough;
       }
 
 -- no call is under way

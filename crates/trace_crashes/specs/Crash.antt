@@ -1,5 +1,5 @@
 -- What a crash leaves after the first so many events of all calls of an arena.
-use Rattle.std.specs.Prelude.{◌≡◌, ◌&&◌, ℕ, zero, suc, ◌+◌, ◌-◌, ◌≤◌, ◌<◌, nat_lt, nat_le, Bool, List, [], ◌∷◌, length, take}
+use Rattle.std.specs.Prelude.{◌≡◌, ◌&&◌, ℕ, zero, suc, ◌+◌, ◌-◌, ◌<◌, nat_lt, nat_le, Bool, List, [], ◌∷◌, length, take}
 use Rattle.std.specs.Bool.{MatchBool}
 use Rattle.pool_layout.specs.declared.header.PoolHeader.{PoolHeader}
 use Rattle.pmem_lines.specs.declared.event.Event.{Event}
@@ -72,7 +72,6 @@ left_of crashed = record { call = crashed.call; side = crashed.side; image = cra
 pub record IsCrashOf (header : PoolHeader) (calls : List TraceCall) (event seed : ℕ) (left : CrashLeft) : Type 0 where
   pub stages : List Stage
   pub run : IsRunOf header (calls_up_to left.call calls) stages
-  pub within : event ≤ total_events stages
   pub leaves : IsLeft (formatted header) 0 stages event seed left
 
 -- the calls have so many events, which are fewer than are asked for

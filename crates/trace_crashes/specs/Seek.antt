@@ -37,7 +37,6 @@ pub record IsBehindSought (header : PoolHeader) (calls : List TraceCall) (event 
   pub before : List Stage
   pub run : IsRunOf header (take number calls) (before ++ last_stage device ∷ [])
   pub leaves : (seed : ℕ) (left : CrashLeft) → IsLeftWithin (last_stage device) number done seed left → IsLeft (formatted header) 0 (before ++ last_stage device ∷ []) event seed left
-  pub within : event ≤ total_events (before ++ last_stage device ∷ [])
 
 -- no call is under way at the event: the calls have so many events, and where that is enough none is done
 pub record IsBehindAll (header : PoolHeader) (calls : List TraceCall) (event events : ℕ) : Type 0 where

@@ -1,6 +1,6 @@
+pub mod Each
 pub mod Answers
 pub mod Formatting
-mod Gone
 pub mod Journals
 pub mod Listing
 mod OneWay

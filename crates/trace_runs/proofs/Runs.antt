@@ -10,11 +10,27 @@ use Rattle.heap_check.specs.Image.{bounds_of}
 use Rattle.heap_check.specs.State.{HasState}
 use Rattle.arena_core.specs.Arena.{ArenaState}
 use Rattle.trace_text.specs.declared.call.TraceCall.{TraceCall}
-use Rattle.trace_runs.specs.Runs.{IsRun, IsRunTo, IsStage, Stage, beside, words_after, words_behind}
+use Rattle.trace_runs.specs.Runs.{IsRun, IsStage, Stage, words_after}
 use Rattle.arena_journal.specs.Journals.{HasDone, HasAnswered}
 use Rattle.arena_core.specs.Events.{call_events}
 use Rattle.heap_model.specs.declared.call.Call.{Call}
 use Rattle.heap_model.specs.declared.call.Call.TheVariants.{Malloc, Free, Write, Read, Move}
+
+-- the words behind them
+abbrev pub words_behind : List ℕ → List Stage → List ℕ
+words_behind words [] = words
+words_behind words (stage ∷ stages) = words_behind (words_after stage) stages
+
+-- an arena's stacks beside a state
+abbrev pub beside : ArenaState → Machine → PlacedState
+beside arena machine = record { machine = machine; stacks = stacks_of arena.stacks }
+
+-- these calls made these stages and led to this arena and this state, and whatever more calls make comes behind them
+pub record IsRunTo (b : Bounds) (start : List ℕ) (first : PlacedState) (calls : List TraceCall) (arena : ArenaState) (machine : Machine) (stages : List Stage) : Type 0 where
+  pub state : HasState (words_of arena.device) machine
+  pub bounds : bounds_of (words_of arena.device) ≡ b
+  pub words : words_of arena.device ≡ words_behind start stages
+  pub run : (rest : List TraceCall) (more : List Stage) → IsRun b (words_of arena.device) arena.line (beside arena machine) rest more → IsRun b start 0 first (calls ++ rest) (stages ++ more)
 
 words_behind-last : (start : List ℕ) (stages : List Stage) (last : Stage) → words_behind start (stages ++ last ∷ []) ≡ words_after last
 words_behind-last start [] last = refl

@@ -14,7 +14,6 @@ use Rattle.arena_core.specs.Events.{format_events, call_events}
 use Rattle.arena_journal.specs.Journals.{begun_by, line_behind, words_along, LastBegun}
 use Rattle.trace_text.specs.declared.call.TraceCall.{TraceCall}
 use Rattle.trace_runs.specs.Arenas.{bounds_for, formatted}
-use Rattle.trace_runs.specs.Runs.{Stage, words_behind, IsRunOf}
 use Rattle.trace_runs.specs.Calls.{AreAnswers}
 
 -- The entries are a legal journal of an arena of this header, from the empty heap and empty stacks to this state with its
@@ -54,13 +53,9 @@ pub record HasRun (header : PoolHeader) (device : PmemState) (journal : List Ent
   pub begins : device.begins ≡ 1 + begun_by journal
   pub last : IsAsFormatted header device journal ⊎ IsBehindLast header device journal
 
--- The device went through a legal journal that answers these calls, in order. Its words are those that the calls make of the
--- words of an arena that was formatted with this header.
+-- The device of an arena that was formatted with this header went through a legal journal that answers these calls, in order.
 pub record IsRunThrough (header : PoolHeader) (calls : List TraceCall) (device : PmemState) : Type 0 where
   pub journal : List Entry
   pub machine : Machine
   pub answers : AreAnswers calls journal
   pub run : HasRun header device journal machine
-  pub stages : List Stage
-  pub made : IsRunOf header calls stages
-  pub words : words_of device ≡ words_behind (formatted header) stages

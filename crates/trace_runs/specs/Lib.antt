@@ -1,3 +1,4 @@
+pub mod Each
 pub mod Arenas
 pub mod Blocks
 pub mod Calls

@@ -1,19 +1,15 @@
 -- The calls of an arena, one after another: the words at each call's begin, and its events.
-use Rattle.std.specs.Prelude.{◌≡◌, ℕ, ◌+◌, List, [], ◌∷◌, ◌++◌, length}
+use Rattle.std.specs.Prelude.{◌≡◌, ℕ, ◌+◌, List, [], ◌∷◌, length}
 use Rattle.pmem_lines.specs.declared.event.Event.{Event}
 use Rattle.pmem_lines.specs.Events.{reading}
-use Rattle.pmem_lines.specs.Pmem.{words_of}
 use Rattle.pool_layout.specs.declared.header.PoolHeader.{PoolHeader}
 use Rattle.heap_model.specs.declared.call.Reply.{Reply}
-use Rattle.heap_model.specs.Machine.{Bounds, Machine, no_heap}
+use Rattle.heap_model.specs.Machine.{Bounds, no_heap}
 use Rattle.heap_model.specs.Placement.{PlacedState, bare, IsPlacedStep}
-use Rattle.thread_cache.specs.Stacks.{stacks_of}
-use Rattle.heap_check.specs.Image.{bounds_of}
 use Rattle.heap_check.specs.State.{HasState}
-use Rattle.arena_core.specs.Arena.{ArenaState}
 use Rattle.arena_core.specs.Events.{call_events, line_after}
 use Rattle.trace_text.specs.declared.call.TraceCall.{TraceCall}
-use Rattle.trace_runs.specs.Arenas.{bounds_for, formatted, IsNewArena}
+use Rattle.trace_runs.specs.Arenas.{bounds_for, formatted}
 
 -- a call of a run: the words at its begin, and its events
 pub record Stage : Type 0 where
@@ -47,34 +43,6 @@ abbrev pub total_events : List Stage → ℕ
 total_events [] = 0
 total_events (stage ∷ stages) = length stage.events + total_events stages
 
--- the words behind them
-abbrev pub words_behind : List ℕ → List Stage → List ℕ
-words_behind words [] = words
-words_behind words (stage ∷ stages) = words_behind (words_after stage) stages
-
 -- the calls make these stages, in an arena that was formatted with this header: it has no block, and no stack has one
 abbrev pub IsRunOf : PoolHeader → List TraceCall → List Stage → Type 0
 IsRunOf header calls stages = IsRun (bounds_for header) (formatted header) 0 (bare no_heap) calls stages
-
--- for the functions below
-
--- an arena's stacks beside a state
-abbrev pub beside : ArenaState → Machine → PlacedState
-beside arena machine = record { machine = machine; stacks = stacks_of arena.stacks }
-
--- these calls made these stages and led to this arena and this state, and whatever more calls make comes behind them
-pub record IsRunTo (b : Bounds) (start : List ℕ) (first : PlacedState) (calls : List TraceCall) (arena : ArenaState) (machine : Machine) (stages : List Stage) : Type 0 where
-  pub state : HasState (words_of arena.device) machine
-  pub bounds : bounds_of (words_of arena.device) ≡ b
-  pub words : words_of arena.device ≡ words_behind start stages
-  pub run : (rest : List TraceCall) (more : List Stage) → IsRun b (words_of arena.device) arena.line (beside arena machine) rest more → IsRun b start 0 first (calls ++ rest) (stages ++ more)
-
--- the calls led from an arena that was formatted with this header to this one
-pub record HasGone (header : PoolHeader) (calls : List TraceCall) (arena : ArenaState) : Type 0 where
-  pub machine : Machine
-  pub stages : List Stage
-  pub to : IsRunTo (bounds_for header) (formatted header) (bare no_heap) calls arena machine stages
-
--- the same, where the arena was formatted
-abbrev pub GoesOn : List TraceCall → ArenaState → ArenaState → Type 0
-GoesOn calls first arena = (header : PoolHeader) → IsNewArena header first → HasGone header calls arena

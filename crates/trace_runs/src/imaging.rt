@@ -9,7 +9,6 @@ ghost use Rattle.trace_text.specs.Grammar.{pool_of};
 ghost use Rattle.trace_runs.specs.Arenas.{header_for};
 ghost use Rattle.trace_runs.specs.Calls.{calls_of, CanBeMade, IsArenaOf, HasMadeAll};
 ghost use Rattle.trace_runs.specs.Journals.{IsRunThrough};
-ghost use Rattle.trace_runs.specs.Runs.{GoesOn};
 
 use crate::opening::new_arena;
 use arena_core::Arena;
@@ -39,8 +38,7 @@ pub fn run_calls<P: Pmem + Drop>(
 // Makes those calls that are of the arena of this number, in order.
 fn make_calls<P: Pmem>(made: &mut Arena<P>, arena: u32, calls: &[TraceCall])
     requires each { All CanBeMade calls.now }
-    ensures made { HasMadeAll made.old made.new (calls_of arena calls.now) }
-    ensures gone { GoesOn (calls_of arena calls.now) made.old made.new }
+    ensures { HasMadeAll made.old made.new (calls_of arena calls.now) }
 {
     let _device = made.pmem();
     for call in calls {

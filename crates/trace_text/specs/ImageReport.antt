@@ -1,7 +1,7 @@
 -- What is printed of images, byte by byte. Every line ends with a line feed.
 use Rattle.std.specs.Prelude.{ℕ, List, [], ◌∷◌, ◌++◌, decimal, codes}
 use Rattle.pool_layout.specs.declared.defect.Defect.{Defect}
-use Rattle.pool_layout.specs.declared.defect.Defect.TheVariants.{BadLength, BadHeader, BadDirectory, BadEntry, Overlap, BadSlab, BadWal, StrayRoot, SharedBlock, StrayBit, TooManyLoose}
+use Rattle.pool_layout.specs.declared.defect.Defect.TheVariants.{BadLength}
 use Rattle.pool_layout.specs.Defect.{defect_text}
 use Rattle.heap_model.specs.declared.block.Block.{Block}
 use Rattle.trace_text.specs.Report.{heap_text}
@@ -19,16 +19,7 @@ recovered_text arena blocks = codes "arena " ++ decimal arena ++ 32 ∷ heap_tex
 -- whose defect it is: a length is that of the whole image
 abbrev pub defect_place : ℕ → Defect → List ℕ
 defect_place arena (BadLength have need) = []
-defect_place arena (BadHeader word value) = codes "arena " ++ decimal arena ++ 32 ∷ []
-defect_place arena (BadDirectory value) = codes "arena " ++ decimal arena ++ 32 ∷ []
-defect_place arena (BadEntry chunk entry value) = codes "arena " ++ decimal arena ++ 32 ∷ []
-defect_place arena (Overlap first second) = codes "arena " ++ decimal arena ++ 32 ∷ []
-defect_place arena (BadSlab start value) = codes "arena " ++ decimal arena ++ 32 ∷ []
-defect_place arena (BadWal line value) = codes "arena " ++ decimal arena ++ 32 ∷ []
-defect_place arena (StrayRoot root at) = codes "arena " ++ decimal arena ++ 32 ∷ []
-defect_place arena (SharedBlock first second) = codes "arena " ++ decimal arena ++ 32 ∷ []
-defect_place arena (StrayBit at) = codes "arena " ++ decimal arena ++ 32 ∷ []
-defect_place arena (TooManyLoose large empty morphing done) = codes "arena " ++ decimal arena ++ 32 ∷ []
+defect_place arena defect = codes "arena " ++ decimal arena ++ 32 ∷ []
 
 -- why an image is refused
 abbrev pub defect_line : ℕ → Defect → List ℕ

@@ -1,6 +1,7 @@
 -- What was asked so far.
 use Rattle.std.proofs.Common.{◌≡◌, ◌≢◌, ℕ, zero, suc, ◌+◌, ◌-◌, ◌^◌, ◌<◌, ◌==◌, ◌&&◌, Bool, true, false, if◌then◌else◌, List, [], ◌∷◌, ◌++◌, map, length, take, get_or, set, refl, ap, sym, ◌∙◌, subst, arith, eq-eqb, ne_eqb}
 use Rattle.std.proofs.lemmas.List.{append-nil, length-map}
+use Rattle.std.proofs.lemmas.List.Elements.{All-get_or}
 use mathlib.Core.List.{map-append}
 use mathlib.Core.Logic.{dite}
 use native.Mathlib.Decide.{ℕ_discrete}
@@ -102,9 +103,7 @@ pub take_next : {A : Type 0} (xs : List A) (k : ℕ) (d : A) → k < length xs �
 take_next xs k d l = sym (take_suc xs k d l) ∙ ap (λ n. take n xs) (let up : suc k ≡ k + 1 = omega arith in up)
 
 pub in_at : (n : ℕ) (xs : List TraceCall) (k : ℕ) (d : TraceCall) → k < length xs → AllIn n xs → (get_or xs k d).arena < n
-in_at n [] k d l h = absurd (omega arith)
-in_at n (x ∷ xs) zero d l h = h.0
-in_at n (x ∷ xs) (suc k) d l h = in_at n xs k d (omega arith) h.1
+in_at n xs k d l h = All-get_or (λ (x : TraceCall). x.arena < n) xs k d l h
 
 pub ready_front : (pool : PoolState) (xs ys : List PassState) → AllReady pool (xs ++ ys) → AllReady pool xs
 ready_front pool [] ys h = tt

@@ -1,6 +1,7 @@
 -- The journals at the end answer the trace.
 use Rattle.std.proofs.Common.{◌≡◌, ◌≢◌, ◌⊎◌, inl, inr, ℕ, zero, suc, ◌+◌, ◌<◌, ◌≤◌, ◌==◌, ◌||◌, ◌&&◌, Bool, true, false, if◌then◌else◌, List, [], ◌∷◌, ◌++◌, map, length, refl, ap, sym, ◌∙◌, subst, arith, eqb-true, ne_eqb, take}
 use Rattle.std.proofs.lemmas.Bool.{false≢true}
+use Rattle.std.proofs.lemmas.List.Elements.{All-head, All-tail}
 use Rattle.heap_model.specs.declared.call.Entry.{Entry}
 use Rattle.arena_lock.specs.declared.opening.Opening.{Opening}
 use Rattle.arena_lock.specs.Known.{Lock}
@@ -28,8 +29,9 @@ below_or (suc t) (suc n) = up (below_or t n)
 none_asked : (seats t a : ℕ) (calls : List TraceCall) → seats ≤ t → AllBy seats calls → asked t a calls ≡ []
 none_asked seats t a [] l h = refl
 none_asked seats t a (c ∷ cs) l h =
-    let other : c.thread ≢ t = λ e. absurd (omega (arith, h.0, e)) in
-    ap (λ (b : Bool). if b && (c.arena == a) then c.call ∷ asked t a cs else asked t a cs) (ne_eqb c.thread t other) ∙ none_asked seats t a cs l h.1
+    let first = All-head (λ (x : TraceCall). x.thread < seats) c cs h in
+    let other : c.thread ≢ t = λ e. absurd (omega (arith, first, e)) in
+    ap (λ (b : Bool). if b && (c.arena == a) then c.call ∷ asked t a cs else asked t a cs) (ne_eqb c.thread t other) ∙ none_asked seats t a cs l (All-tail (λ (x : TraceCall). x.thread < seats) c cs h)
 
 none_called : (seats t : ℕ) (journal : List Entry) → seats ≤ t → AllBelow seats journal → calls_by t journal ≡ []
 none_called seats t [] l h = refl

@@ -1,5 +1,5 @@
 -- Passes that are told the lengths of journals, and what these lengths are.
-use Rattle.std.proofs.Common.{◌≡◌, ◌≢◌, ◌⊎◌, inl, inr, ℕ, zero, suc, ◌+◌, ◌<◌, ◌≤◌, ◌==◌, ◌||◌, ◌&&◌, Bool, true, false, if◌then◌else◌, List, [], ◌∷◌, ◌++◌, map, length, get_or, set, refl, ap, sym, ◌∙◌, subst, arith, eqb-true, eq-eqb, ne_eqb, ⊎_elim, Result, Ok, Err}
+use Rattle.std.proofs.Common.{◌≡◌, ◌≢◌, ◌⊎◌, inl, inr, ℕ, zero, suc, ◌+◌, ◌<◌, ◌≤◌, ◌==◌, ◌||◌, ◌&&◌, Bool, true, false, if◌then◌else◌, List, [], ◌∷◌, map, length, get_or, set, refl, ap, sym, ◌∙◌, subst, arith, eqb-true, eq-eqb, ne_eqb, ⊎_elim, Result, Ok, Err}
 use Rattle.std.specs.Result.{IfOk}
 use Rattle.std.specs.List.{All}
 use Rattle.std.proofs.lemmas.Bool.{false≢true, cases_lt, cases_eq}
@@ -16,7 +16,8 @@ use Rattle.shared_pool.specs.Passes.{PassState, PoolState, IsPassOf, nobody, par
 use Rattle.trace_text.specs.declared.call.TraceCall.{TraceCall}
 use Rattle.trace_gen.specs.Draws.{IsOwn}
 use Rattle.trace_workers.specs.Answers.{asked, calls_in, AllAnswer}
-use Rattle.trace_workers.specs.Lengths.{HasAsked, AllAsked, AreInOrder, SomeKnows, HasMadeFew, IsCounted, AreCounted}
+use Rattle.trace_runs.specs.Each.{EachFrom}
+use Rattle.trace_workers.specs.Lengths.{HasAsked, AllAsked, AreInOrder, SomeKnows, HasMadeFew, IsCounted}
 use Rattle.trace_workers.specs.Summaries.{lengths_of}
 use Rattle.trace_workers.specs.Workers.{HasMadeOwn, AllOf, AllDone}
 
@@ -185,15 +186,10 @@ few_asked number arena n (p ∷ ps) [] asked few = tt
 few_asked number arena n (p ∷ ps) (q ∷ qs) asked few =
     ((λ is. let was = few.0 (sym asked.0.number ∙ is) in let same = ap length (asked.0.mine arena) in omega (arith, was, same)), few_asked number arena n ps qs asked.1 few.1)
 
-pub counted_asked : (arena : ℕ) (ns : List ℕ) (ps qs : List PassState) → AllAsked ps qs → AreCounted ps arena ns → AreCounted qs arena ns
+pub counted_asked : (arena : ℕ) (ns : List ℕ) (ps qs : List PassState) → AllAsked ps qs → EachFrom (IsCounted ps) arena ns → EachFrom (IsCounted qs) arena ns
 counted_asked arena [] ps qs asked counted = tt
 counted_asked arena (n ∷ ns) ps qs asked counted =
     (record { known = knows_asked arena n ps qs asked counted.0.known; own = few_asked arena arena n ps qs asked counted.0.own }, counted_asked (suc arena) ns ps qs asked counted.1)
-
-pub counted_push : (ps : List PassState) (arena : ℕ) (ns : List ℕ) (n : ℕ) → AreCounted ps arena ns → IsCounted ps (arena + length ns) n → AreCounted ps arena (ns ++ n ∷ [])
-counted_push ps arena [] n counted one = (subst (λ a. IsCounted ps a n) (let here : arena + 0 ≡ arena = omega arith in here) one, tt)
-counted_push ps arena (m ∷ ns) n counted one =
-    (counted.0, counted_push ps (suc arena) ns n counted.1 (subst (λ a. IsCounted ps a n) (let next : arena + suc (length ns) ≡ suc arena + length ns = omega arith in next) one))
 
 -- passes with the same numbers
 
@@ -286,7 +282,7 @@ counted_is calls seats arena n ps journal own all below agree threads counted =
 
 -- the counts of arenas, from one on, are the lengths of their journals
 pub lengths_are : (calls : List TraceCall) (seats arena : ℕ) (ps : List PassState) (os : List Opening) (cs : List (List Entry × ArenaState)) (ns : List ℕ) → All IsOwn calls → HasAll seats (map (λ p. p.number) ps) →
-    AllClosed seats arena ps os cs → AllAnswer calls arena os cs → AreCounted ps arena ns → length ns ≡ length os → ns ≡ lengths_of cs
+    AllClosed seats arena ps os cs → AllAnswer calls arena os cs → EachFrom (IsCounted ps) arena ns → length ns ≡ length os → ns ≡ lengths_of cs
 lengths_are calls seats arena ps [] [] [] own all closed answers counted many = refl
 lengths_are calls seats arena ps [] [] (n ∷ ns) own all closed answers counted many = absurd (omega (arith, many))
 lengths_are calls seats arena ps [] (c ∷ cs) ns own all closed answers counted many = absurd closed

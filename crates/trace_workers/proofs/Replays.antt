@@ -1,9 +1,10 @@
 -- What is told of closed arenas is told of runs that answer the trace.
-use Rattle.std.proofs.Common.{◌≡◌, ℕ, zero, suc, ◌+◌, ◌≤◌, ◌<◌, ◌^◌, List, [], ◌∷◌, ◌++◌, length, map, take, get_or, remove, sym, ap, ◌∙◌, refl, arith, subst, Result, Ok, Err}
+use Rattle.std.proofs.Common.{◌≡◌, ℕ, suc, ◌+◌, ◌≤◌, ◌<◌, ◌^◌, List, [], ◌∷◌, ◌++◌, length, map, max, take, get_or, remove, sym, ap, ◌∙◌, refl, arith, subst, Result, Ok, Err}
 use Rattle.std.specs.List.{All}
 use Rattle.std.specs.Result.{IfOk}
 use Rattle.std.proofs.lemmas.List.{append_assoc, append-nil}
-use Rattle.std.proofs.lemmas.List.Elements.{All-head, All-tail}
+use Rattle.std.proofs.lemmas.List.Elements.{All-push, All-get_or}
+use Rattle.std.proofs.Math.Nat.{max_comm}
 use mathlib.Core.List.{map-append}
 use Rattle.pmem_lines.specs.Pmem.{PmemState, words_of}
 use Rattle.image_tables.specs.Tables.{tables_of}
@@ -15,50 +16,56 @@ use Rattle.arena_journal.specs.Journals.{opened}
 use Rattle.trace_text.specs.declared.call.PoolSize.{PoolSize}
 use Rattle.trace_text.specs.declared.call.TraceCall.{TraceCall}
 use Rattle.trace_text.specs.Grammar.{IsTraceCall}
+use Rattle.trace_runs.specs.Each.{EachFrom}
 use Rattle.trace_runs.specs.Arenas.{header_for}
 use Rattle.trace_runs.specs.Blocks.{blocks_of, blocks_in}
 use Rattle.trace_runs.proofs.Journals.{HasRun-behind}
 use Rattle.trace_runs.proofs.Listing.{blocks_of-same}
 use Rattle.trace_workers.specs.Answers.{AllAnswer}
-use Rattle.trace_workers.specs.Reports.{ArenaRun, AreRuns, Telling, told_from, devices_of, IsTold, AreNew, closed_text, closed_texts, closed_devices}
-use Rattle.trace_workers.specs.Workers.{AllIn, AllBy}
+use Rattle.trace_workers.specs.Reports.{ArenaRun, HasRunThreads, Telling, told_from, devices_of, IsTold, AreNew, closed_text, closed_texts, closed_devices}
+use Rattle.trace_workers.specs.Workers.{seats_for, AllIn, AllBy}
 use Rattle.trace_workers.proofs.Calls.{take_next}
 
 -- each call of a trace is of one of its arenas
 pub AllIn-trace : (arenas : ℕ) (calls : List TraceCall) → All (IsTraceCall arenas) calls → AllIn arenas calls
-AllIn-trace arenas [] valid = tt
-AllIn-trace arenas (c ∷ cs) valid =
-    ((All-head (IsTraceCall arenas) c cs valid).arena, AllIn-trace arenas cs (All-tail (IsTraceCall arenas) c cs valid))
+AllIn-trace arenas calls valid = λ k d below. (valid k d below).arena
 
 -- threads below a number
 
 by_up : (n m : ℕ) (xs : List TraceCall) → n ≤ m → AllBy n xs → AllBy m xs
-by_up n m [] le by = tt
-by_up n m (x ∷ xs) le by = (omega (arith, le, by.0), by_up n m xs le by.1)
+by_up n m xs le by = λ k d below. let one = by k d below in omega (arith, le, one)
 
 by_append : (n : ℕ) (xs : List TraceCall) (c : TraceCall) → AllBy n xs → c.thread < n → AllBy n (xs ++ c ∷ [])
-by_append n [] c by below = (below, tt)
-by_append n (x ∷ xs) c by below = (by.0, by_append n xs c by.1 below)
+by_append n xs c by below = All-push (λ (x : TraceCall). x.thread < n) xs c by below
 
 pub by_at : (n : ℕ) (calls : List TraceCall) (i : ℕ) (d : TraceCall) → i < length calls → AllBy n calls → (get_or calls i d).thread < n
-by_at n [] i d here by = absurd (omega (arith, here))
-by_at n (c ∷ cs) zero d here by = by.0
-by_at n (c ∷ cs) (suc i) d here by = by_at n cs i d (omega (arith, here)) by.1
+by_at n calls i d here by = All-get_or (λ (x : TraceCall). x.thread < n) calls i d here by
 
 -- each thread of a trace is one of 64
 pub AllBy-trace : (arenas : ℕ) (calls : List TraceCall) → All (IsTraceCall arenas) calls → AllBy 64 calls
-AllBy-trace arenas [] valid = tt
-AllBy-trace arenas (c ∷ cs) valid = ((All-head (IsTraceCall arenas) c cs valid).thread, AllBy-trace arenas cs (All-tail (IsTraceCall arenas) c cs valid))
+AllBy-trace arenas calls valid = λ k d below. (valid k d below).thread
 
 -- one call further
 pub by_more : (n m : ℕ) (calls : List TraceCall) (i : ℕ) (d : TraceCall) → i < length calls → n ≤ m → (get_or calls i d).thread < m → AllBy n (take i calls) → AllBy m (take (i + 1) calls)
 by_more n m calls i d here le below by =
     subst (AllBy m) (take_next calls i d here) (by_append m (take i calls) (get_or calls i d) (by_up n m (take i calls) le by) below)
 
+-- the seats for one call more
+
+max-assoc : (a b c : ℕ) → max a (max b c) ≡ max (max a b) c
+max-assoc a b c = omega arith
+
+seats_more : (calls : List TraceCall) (c : TraceCall) → seats_for (calls ++ c ∷ []) ≡ max (seats_for calls) (c.thread + 1)
+seats_more [] c = max_comm (c.thread + 1) 1
+seats_more (x ∷ xs) c = ap (max (x.thread + 1)) (seats_more xs c) ∙ max-assoc (x.thread + 1) (seats_for xs) (c.thread + 1)
+
+pub seats_one_more : (calls : List TraceCall) (i : ℕ) (d : TraceCall) → i < length calls → max (seats_for (take i calls)) ((get_or calls i d).thread + 1) ≡ seats_for (take (i + 1) calls)
+seats_one_more calls i d here = sym (seats_more (take i calls) (get_or calls i d)) ∙ ap seats_for (take_next calls i d here)
+
 -- the runs of arenas, from one on
 record Runs (tell : Telling) (pool : PoolSize) (calls : List TraceCall) (arena : ℕ) (news : List ArenaState) (closed : List (List Entry × ArenaState)) : Type 0 where
   runs : List ArenaRun
-  each : AreRuns pool calls arena runs
+  each : EachFrom (HasRunThreads pool calls) arena runs
   all : length runs ≡ length news
   told : closed_texts tell arena closed ≡ told_from tell arena runs
   devices : closed_devices closed ≡ devices_of runs

@@ -1,6 +1,7 @@
 -- The lengths of journals that passes are told once all workers have ended.
-use Rattle.std.specs.Prelude.{◌≡◌, ◌⊎◌, ℕ, suc, ◌≤◌, List, [], ◌∷◌, length}
+use Rattle.std.specs.Prelude.{◌≡◌, ◌⊎◌, ℕ, ◌≤◌, List, [], ◌∷◌, length}
 use Rattle.shared_pool.specs.Passes.{PassState, part_at, mine_at}
+use Rattle.trace_runs.specs.Each.{EachFrom}
 
 -- the pass was told lengths, and nothing else of it changed
 pub record HasAsked (p q : PassState) : Type 0 where
@@ -16,8 +17,7 @@ AllAsked (p ∷ ps) (q ∷ qs) = HasAsked p q × AllAsked ps qs
 
 -- the passes have the numbers from n on, in order
 abbrev pub AreInOrder : ℕ → List PassState → Type 0
-AreInOrder n [] = Unit {0}
-AreInOrder n (p ∷ ps) = (p.number ≡ n) × AreInOrder (suc n) ps
+AreInOrder n passes = EachFrom (λ number p. p.number ≡ number) n passes
 
 -- one of the passes knows the arena's journal to be so long
 abbrev pub SomeKnows : ℕ → ℕ → List PassState → Type 0
@@ -33,8 +33,3 @@ HasMadeFew number arena count (p ∷ ps) = (p.number ≡ number → length (mine
 pub record IsCounted (passes : List PassState) (arena count : ℕ) : Type 0 where
   pub known : SomeKnows arena count passes
   pub own : HasMadeFew arena arena count passes
-
--- the same of each arena, from this number on
-abbrev pub AreCounted : List PassState → ℕ → List ℕ → Type 0
-AreCounted passes arena [] = Unit {0}
-AreCounted passes arena (n ∷ ns) = IsCounted passes arena n × AreCounted passes (suc arena) ns

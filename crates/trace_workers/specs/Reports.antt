@@ -9,6 +9,7 @@ use Rattle.arena_lock.specs.Journal.{calls_by}
 use Rattle.trace_text.specs.declared.call.PoolSize.{PoolSize}
 use Rattle.trace_text.specs.declared.call.TraceCall.{TraceCall}
 use Rattle.trace_text.specs.Report.{arena_text}
+use Rattle.trace_runs.specs.Each.{EachFrom}
 use Rattle.trace_runs.specs.Arenas.{header_for, IsNewArena}
 use Rattle.trace_runs.specs.Blocks.{blocks_of, blocks_in}
 use Rattle.trace_runs.specs.Journals.{HasRun}
@@ -25,11 +26,6 @@ pub record ArenaRun : Type 0 where
 pub record HasRunThreads (pool : PoolSize) (calls : List TraceCall) (arena : ℕ) (r : ArenaRun) : Type 0 where
   pub run : HasRun (header_for pool arena) r.device r.journal r.machine
   pub threads : (thread : ℕ) → calls_in (calls_by thread r.journal) ≡ asked thread arena calls
-
--- the same of each arena, from this number on
-abbrev pub AreRuns : PoolSize → List TraceCall → ℕ → List ArenaRun → Type 0
-AreRuns pool calls arena [] = Unit {0}
-AreRuns pool calls arena (r ∷ rs) = HasRunThreads pool calls arena r × AreRuns pool calls (suc arena) rs
 
 -- what is told of an arena: by its number, its journal and the blocks at the end
 abbrev pub Telling : Type 0
@@ -48,7 +44,7 @@ devices_of rs = map (λ r. r.device) rs
 pub record IsTold (tell : Telling) (pool : PoolSize) (calls : List TraceCall) (text : List ℕ) (devices : List PmemState) : Type 0 where
   pub runs : List ArenaRun
   pub all : length runs ≡ pool.arenas
-  pub each : AreRuns pool calls 0 runs
+  pub each : EachFrom (HasRunThreads pool calls) 0 runs
   pub told : text ≡ told_from tell 0 runs
   pub left : devices ≡ devices_of runs
 
@@ -60,8 +56,7 @@ IsReplayed pool calls text devices = IsTold arena_text pool calls text devices
 
 -- each of these arenas, from this number on, was formatted, and nothing was asked of it since
 abbrev pub AreNew : PoolSize → ℕ → List ArenaState → Type 0
-AreNew pool arena [] = Unit {0}
-AreNew pool arena (a ∷ rest) = IsNewArena (header_for pool arena) a × AreNew pool (suc arena) rest
+AreNew pool arena arenas = EachFrom (λ number a. IsNewArena (header_for pool number) a) arena arenas
 
 -- what is told of an arena as it is, and of its journal
 abbrev pub closed_text : Telling → ℕ → List Entry × ArenaState → List ℕ

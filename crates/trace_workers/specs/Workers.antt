@@ -1,5 +1,5 @@
 -- What workers need and do.
-use Rattle.std.specs.Prelude.{◌≡◌, ℕ, ◌+◌, ◌^◌, ◌<◌, ◌≤◌, List, [], ◌∷◌, length}
+use Rattle.std.specs.Prelude.{◌≡◌, ℕ, ◌+◌, ◌^◌, ◌<◌, ◌≤◌, max, List, [], ◌∷◌, length}
 use Rattle.std.specs.List.{All}
 use Rattle.shared_pool.specs.Passes.{PassState, PoolState, IsPassOf, part_at, mine_at}
 use Rattle.trace_text.specs.declared.call.PoolSize.{PoolSize}
@@ -7,15 +7,18 @@ use Rattle.trace_text.specs.declared.call.TraceCall.{TraceCall}
 use Rattle.trace_text.specs.Grammar.{IsPool, IsTraceCall}
 use Rattle.trace_workers.specs.Answers.{asked, calls_in}
 
+-- the seats of a pool for these calls: one more than the greatest thread number, and one where there is no call
+abbrev pub seats_for : List TraceCall → ℕ
+seats_for [] = 1
+seats_for (c ∷ cs) = max (c.thread + 1) (seats_for cs)
+
 -- each call is of one of so many arenas
 abbrev pub AllIn : ℕ → List TraceCall → Type 0
-AllIn arenas [] = Unit {0}
-AllIn arenas (c ∷ cs) = (c.arena < arenas) × AllIn arenas cs
+AllIn arenas calls = All (λ c. c.arena < arenas) calls
 
 -- each call's thread is below this number
 abbrev pub AllBy : ℕ → List TraceCall → Type 0
-AllBy seats [] = Unit {0}
-AllBy seats (c ∷ cs) = (c.thread < seats) × AllBy seats cs
+AllBy seats calls = All (λ c. c.thread < seats) calls
 
 -- with the calls that the pass has made, it had 2^57 turns at each arena
 abbrev pub HasTurns : ℕ → PassState → Type 0

@@ -1,8 +1,9 @@
 // The lengths of the journals, asked of the pool once all workers have ended.
 ghost use Rattle.std.specs.Prelude.{◌≡◌, ◌≤◌, ◌<◌, length, IfOk};
 ghost use Rattle.shared_pool.specs.Passes.{IsPassOf, part_at, mine_at};
+ghost use Rattle.trace_runs.specs.Each.{EachFrom};
 ghost use Rattle.trace_workers.specs.Workers.{AllOf};
-ghost use Rattle.trace_workers.specs.Lengths.{HasAsked, AllAsked, AreInOrder, IsCounted, AreCounted};
+ghost use Rattle.trace_workers.specs.Lengths.{HasAsked, AllAsked, AreInOrder, IsCounted};
 
 use pmem_lines::{OutOfMemory, Pmem};
 use shared_pool::{Pass, SharedPool};
@@ -56,7 +57,7 @@ pub(crate) fn lengths_of<P: Pmem>(
     requires arenas { arenas ≤ length pool.now.locks }
     ensures of { AllOf pool.now passes.new }
     ensures asked { AllAsked passes.old passes.new }
-    ensures counted { IfOk result (λ counts. AreCounted passes.new 0 counts.items) }
+    ensures counted { IfOk result (λ counts. EachFrom (IsCounted passes.new) 0 counts.items) }
     ensures all { IfOk result (λ counts. length counts.items ≡ arenas) }
 {
     let mut counts = Vec::new(alloc);

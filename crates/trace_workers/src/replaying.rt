@@ -1,12 +1,12 @@
 // The calls of a trace, and what is told of them.
-ghost use Rattle.std.specs.Prelude.{◌≡◌, ◌≤◌, ◌<◌, length, IfOk};
+ghost use Rattle.std.specs.Prelude.{◌≡◌, ◌≤◌, ◌<◌, ◌+◌, max, length, IfOk};
 ghost use Rattle.std.specs.List.{All};
 ghost use Rattle.arena_journal.specs.Journals.{opened};
 ghost use Rattle.shared_pool.specs.Rows.{each_of};
 ghost use Rattle.trace_text.specs.Grammar.{pool_of};
 ghost use Rattle.trace_gen.specs.Draws.{IsOwn};
 ghost use Rattle.trace_workers.specs.Answers.{AllAnswer};
-ghost use Rattle.trace_workers.specs.Workers.{AllBy, IsWorkOf};
+ghost use Rattle.trace_workers.specs.Workers.{seats_for, AllBy, IsWorkOf};
 ghost use Rattle.trace_workers.specs.Reports.{IsTold, AreNew};
 ghost use Rattle.trace_workers.specs.Summaries.{telling_of, lengths_of};
 ghost use Rattle.trace_workers.specs.declared.telling.Account.TheVariants as accounts;
@@ -60,6 +60,7 @@ pub fn make_calls<R: Threads + Wait + Sync, P: Pmem + Drop + Send, G: Gate + Syn
 // How many seats the threads of these calls need: one more than the greatest thread number, and one for no calls.
 fn seats_of(calls: &[TraceCall]) -> u32
     requires { AllBy 64 calls.now }
+    ensures seats { result ≡ seats_for calls.now }
     ensures some { 1 ≤ result }
     ensures few { result ≤ 64 }
     ensures threads { AllBy result calls.now }
@@ -75,6 +76,7 @@ fn seats_of(calls: &[TraceCall]) -> u32
 fn seats_with(seats: u32, thread: u32) -> u32
     requires few { seats ≤ 64 }
     requires below { thread < 64 }
+    ensures greater { result ≡ max seats (thread + 1) }
     ensures more { seats ≤ result }
     ensures few { result ≤ 64 }
     ensures thread { thread < result }

@@ -6,7 +6,8 @@ ghost use Rattle.arena_journal.specs.Journals.{opened};
 ghost use Rattle.shared_pool.specs.Rows.{each_of};
 ghost use Rattle.trace_workers.specs.Workers.{AllIn, AllBy, AllReady, AllOf, AllDone};
 ghost use Rattle.trace_gen.specs.Draws.{IsOwn};
-ghost use Rattle.trace_workers.specs.Lengths.{AreInOrder, AreCounted};
+ghost use Rattle.trace_runs.specs.Each.{EachFrom};
+ghost use Rattle.trace_workers.specs.Lengths.{AreInOrder, IsCounted};
 ghost use Rattle.trace_workers.specs.Answers.{AllAnswer};
 ghost use Rattle.trace_workers.specs.Summaries.{lengths_of};
 
@@ -87,7 +88,7 @@ fn work_counted<R: Threads + Wait + Sync, P: Pmem + Drop + Send, G: Gate + Sync>
     ensures of { AllOf pool.now passes.new }
     ensures numbers { map (λ p. p.number) passes.new ≡ map (λ p. p.number) passes.old }
     ensures done { IfOk result (λ _. AllDone calls.now passes.new) }
-    ensures counted { IfOk result (λ counts. AreCounted passes.new 0 counts.items) }
+    ensures counted { IfOk result (λ counts. EachFrom (IsCounted passes.new) 0 counts.items) }
     ensures all { IfOk result (λ counts. length counts.items ≡ arenas) }
 {
     match work_all(rt, pool, passes, calls, gate) {

@@ -1,7 +1,7 @@
 use Rattle.std.proofs.Common.{ℕ, List, sym, subst, ap, ◌∙◌, arith}
 use Rattle.pool_layout.specs.Image.{part_of}
 use Rattle.image_defects.specs.Defects.{IsFirstDefect}
-use Rattle.image_runs.specs.Checks.{HasUnsound, AddsLine, IsOwnDefect}
+use Rattle.image_runs.specs.Checks.{HasUnsoundFrom, AddsLine, IsOwnDefect}
 use Rattle.image_runs.proofs.Faults.{wider}
 use Rattle.image_runs.proofs.Lines.{lines_more, sound_before}
 use Rattle.image_runs.proofs.checking.check_arenas.Goals as goal
@@ -11,10 +11,11 @@ returns-in-Err-clause-unsound c =
     let words = c.args.words.now in
     let header = c.args.header.now in
     let k = c.loop-arena.arena in
-    wider c.in-Err.fault (IsOwnDefect c.parts.result.now k) (HasUnsound words header)
+    wider c.in-Err.fault (IsOwnDefect c.parts.result.now k) (HasUnsoundFrom words header 0)
     (λ arena defect own. record {
+      low = omega arith;
       inside = omega (arith, own.same, c.loop-arena-test.true);
-      before = λ earlier below. sound_before words header.granules c.loop-arena.invariant earlier (omega (arith, below, own.same));
+      before = λ earlier from below. sound_before words header.granules c.loop-arena.invariant earlier (omega (arith, below, own.same));
       first = subst (λ (ws : List ℕ). IsFirstDefect ws defect) (c.parts.ensures ∙ ap (λ n. part_of words header.granules n) (sym own.same)) own.first;
     })
     c.in-Err.ensures.defect

@@ -1,6 +1,7 @@
 use Rattle.std.proofs.Common.{arith, refl}
 use Rattle.trace_text.specs.declared.call.Refusal.TheVariants.{NoArena, NoEvent}
 use Rattle.trace_text.specs.Grammar.{pool_of}
+use Rattle.trace_crashes.specs.Crash.{left_of}
 use Rattle.nvheap.specs.declared.cause.Cause.TheVariants.{Text}
 use Rattle.nvheap.specs.Crashing.{crashing}
 use Rattle.nvheap.proofs.Answering.{refused, refused_line}
@@ -14,7 +15,7 @@ pub returns-then-arena-trace-clause-answer : goal.returns-then-arena-trace-claus
 returns-then-arena-trace-clause-answer g c =
     let trace = c.in-Ok.trace in
     refused (crashing c.args.arena c.args.event c.args.seed) c.args.input.now (g.H.Shelf.places c.args.shelf.now) (Text (NoArena c.from.result c.from-then-arena-trace.result)) c.fault_line.result
-    (record { pool = pool_of trace; calls = trace.calls.items; trace = c.in-Ok.ensures.trace; is_asked = c.from.ensures; is_all = c.from-then-arena-trace.ensures; lacks = c.if-arena-trace.true })
+    (record { trace = record { pool = pool_of trace; calls = trace.calls.items; trace = c.in-Ok.ensures.trace }; is_asked = c.from.ensures; is_all = c.from-then-arena-trace.ensures; lacks = c.if-arena-trace.true })
     c.fault_line.ensures
 
 pub returns-in-Err-NoEvent-clause-answer : goal.returns-in-Err-NoEvent-clause-answer
@@ -22,5 +23,17 @@ returns-in-Err-NoEvent-clause-answer g c =
     let trace = c.in-Ok.trace in
     let fewer = rw c.in-Err-NoEvent.field-0-is at c.in-Err-NoEvent.ensures.fault in
     refused (crashing c.args.arena c.args.event c.args.seed) c.args.input.now (g.H.Shelf.places c.args.shelf.now) (Text (NoEvent c.args.event c.in-Err-NoEvent.events)) c.fault_line-in-Err-NoEvent.result
-    (record { pool = pool_of trace; calls = trace.calls.items; trace = c.in-Ok.ensures.trace; inside = omega (arith, c.if-arena-trace.false); is_asked = refl; fewer = fewer })
+    (record { trace = record { pool = pool_of trace; calls = trace.calls.items; trace = c.in-Ok.ensures.trace }; inside = omega (arith, c.if-arena-trace.false); is_asked = refl; fewer = fewer })
     c.fault_line-in-Err-NoEvent.ensures
+
+pub returns-in-Ok-crash-clause-answer : goal.returns-in-Ok-crash-clause-answer
+returns-in-Ok-crash-clause-answer g c =
+    let trace = c.in-Ok.trace in
+    record {
+      trace = record { pool = pool_of trace; calls = trace.calls.items; trace = c.in-Ok.ensures.trace };
+      inside = omega (arith, c.if-arena-trace.false);
+      left = left_of c.in-Ok-crash.crashed;
+      leaves = c.in-Ok-crash.ensures.crashed;
+      is = c.in_ok-recovered_report-in-Ok-crash.ensures.text;
+      shelf = c.in_ok-recovered_report-in-Ok-crash.ensures.put;
+    }

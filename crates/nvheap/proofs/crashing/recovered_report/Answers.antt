@@ -32,9 +32,8 @@ pub returns-clause-put : goal.returns-clause-put
 returns-clause-put g c =
     let image = c.args.crashed.now.image.items in
     let room = c.room_of.result in
-    let device : PmemState = g.H.Device.Pmem.state c.in-Ok.recovered.device in
-    record {
-      device = device;
-      recovered = recovered_device image room device (subst (λ (s : PmemState). IsRecovered s device) (c.in_ok-device.ensures.device ∙ ap (λ (ws : List ℕ). fresh ws room) c.deref-image.ensures.value) c.in-Ok.ensures.recovered);
-      put = c.put.ensures.places ∙ ap (λ (places : Option (List (Option PmemState))). put_device places c.args.arena device) c.in_ok-device.ensures.places;
-    }
+    let device : PmemState = g.H.Device.Pmem.state c.in-Ok.recovered.device in (
+      device,
+      recovered_device image room device (subst (λ (s : PmemState). IsRecovered s device) (c.in_ok-device.ensures.device ∙ ap (λ (ws : List ℕ). fresh ws room) c.deref-image.ensures.value) c.in-Ok.ensures.recovered),
+      c.put.ensures.places ∙ ap (λ (places : Option (List (Option PmemState))). put_device places c.args.arena device) c.in_ok-device.ensures.places,
+    )

@@ -25,5 +25,5 @@ loop-done-preserved g c =
       size = same ∙ buffer;
       gives = subst (λ (bytes : List ℕ). Gives (left c.args.source.now) (left c.read.new.self) bytes) (sym (two_reads piece into done rest n inside size few))
           (Gives-then (left c.args.source.now) (left c.loop-done.source) (left c.read.new.self) (take done piece) (take n into) c.loop-done.invariant.gives c.in_ok-n.ensures.bytes);
-      later = let later = c.loop-done.invariant.later in omega (arith, later, c.in_ok-n.ensures.later);
+      still = c.in_ok-n.ensures.still ∙ c.loop-done.invariant.still;
     }

@@ -7,7 +7,7 @@ invariant-loop-done g l = record {
   within : l.done ≤ l.most;
   size : length l.piece ≡ length l.fn.piece;
   gives : Gives (g.S.Source.left l.fn.source) (g.S.Source.left l.source) (take l.done l.piece);
-  later : g.S.Source.faults l.fn.source ≤ g.S.Source.faults l.source;
+  still : g.S.Source.faults l.source ≡ g.S.Source.faults l.fn.source;
 }
 
 abbrev pub decreases-loop-done : goal.decreases-loop-done

@@ -1,4 +1,4 @@
-use Rattle.std.proofs.Common.{refl, arith}
+use Rattle.std.proofs.Common.{◌∙◌, refl, arith}
 use Rattle.nvheap.proofs.Reading.{come_none, come_filled, come_all, come_too_much, come_few, Rose-before}
 use Rattle.nvheap.proofs.input.read_all.Goals as goal
 
@@ -9,7 +9,7 @@ loop-size-init g c = record {
   whole = λ few. refl;
   buffer = c.in_ok-piece.ensures.len;
   fits = λ kind fits. fits;
-  later = omega arith;
+  still = refl;
 }
 
 pub returns-in_err-n-clause-few : goal.returns-in_err-n-clause-few
@@ -22,7 +22,7 @@ returns-in_err-n-clause-few g c failed =
 pub returns-in_err-n-clause-failed : goal.returns-in_err-n-clause-failed
 returns-in_err-n-clause-failed g c failed =
     let faults = g.S.Source.faults in
-    Rose-before (faults c.args.source.now) (faults c.loop-size.source) (faults c.fill.new.source) c.loop-size.invariant.later c.in_err-n.ensures.failed
+    Rose-before (faults c.args.source.now) (faults c.loop-size.source) (faults c.fill.new.source) (let still = c.loop-size.invariant.still in omega (arith, still)) c.in_err-n.ensures.failed
 
 pub returns-in_err-add-clause-fits : goal.returns-in_err-add-clause-fits
 returns-in_err-add-clause-fits g c kind fits = c.in_err-add.ensures.fits kind (c.loop-size.invariant.fits kind fits)
@@ -42,14 +42,13 @@ loop-size-preserved g c =
     let count = c.in_ok-n.ensures.count in
     let most = c.min-most.ensures in
     let whole = inv.whole c.loop-size-test.true in
-    let later = inv.later in
     record {
       come = come_filled c.in_ok-n.n c.fill.new.piece c.loop-size.piece.items inv.come whole c.deref.ensures.value (omega (arith, inv.buffer, count, most)) (omega (arith, inv.buffer, count, most, c.in_ok-n.ensures.size, c.deref_mut.ensures.len)) c.in_ok-n.ensures.gives c.in_ok-add.ensures.bytes;
       within = omega (arith, most, count, c.loop-size-test.true);
       whole = λ few. omega (arith, whole, most, count, c.if-n-most.false, few);
       buffer = inv.buffer;
       fits = λ kind fits. c.in_ok-add.ensures.fits kind (inv.fits kind fits);
-      later = omega (arith, later, c.in_ok-n.ensures.later);
+      still = c.in_ok-n.ensures.still ∙ inv.still;
     }
 
 pub returns-clause-too_long : goal.returns-clause-too_long

@@ -1,6 +1,7 @@
 use Rattle.std.proofs.Common.{◌≡◌, ◌+◌, ◌-◌, ◌%◌, ◌≤◌, vec_len}
 use Rattle.nvheap.specs.declared.input.Kind.{Kind}
-use Rattle.nvheap.specs.Inputs.{HasCome, IsOfKind}
+use Rattle.nvheap.specs.Inputs.{IsOfKind}
+use Rattle.nvheap.proofs.Reading.{HasCome}
 use Rattle.nvheap.proofs.input.read_all.Given as goal
 
 abbrev pub invariant-loop-size : goal.invariant-loop-size
@@ -10,7 +11,7 @@ invariant-loop-size g l = record {
   whole : l.size ≤ l.limit → l.size % 8 ≡ 0;
   buffer : vec_len l.piece ≡ 65536;
   fits : (kind : Kind) → IsOfKind kind l.fn.input → IsOfKind kind l.input;
-  later : g.S.Source.faults l.fn.source ≤ g.S.Source.faults l.source;
+  still : g.S.Source.faults l.source ≡ g.S.Source.faults l.fn.source;
 }
 
 abbrev pub decreases-loop-size : goal.decreases-loop-size

@@ -1,6 +1,21 @@
+use Rattle.std.proofs.Common.{◌∙◌, ap}
+use Rattle.shared_pool.specs.Rows.{each_of}
+use Rattle.trace_text.specs.Grammar.{pool_of}
+use Rattle.nvheap.specs.Outside.{put_devices}
+use Rattle.nvheap.specs.Meaning.{Places}
 use Rattle.nvheap.specs.Replaying.{replaying}
 use Rattle.nvheap.proofs.Answering.{refused_line}
 use Rattle.nvheap.proofs.replaying.replay_answer.Goals as goal
 
 pub returns-in-Err-clause-answer : goal.returns-in-Err-clause-answer
 returns-in-Err-clause-answer g c = refused_line replaying c.args.input.now (g.H.Shelf.places c.args.shelf.now) c.in-Err.answer (λ line is. is) c.in-Err.ensures.refused
+
+pub returns-clause-answer : goal.returns-clause-answer
+returns-clause-answer g c =
+    let devices = each_of c.in_ok-done.done.devices.items (λ d. g.H.Device.Pmem.state d) in
+    record {
+      trace = record { pool = pool_of c.in-Ok.trace; calls = c.in-Ok.trace.calls.items; trace = c.in-Ok.ensures.trace };
+      devices = devices;
+      replayed = c.in_ok-done.ensures;
+      put = c.put_all.ensures.places ∙ ap (λ (places : Places). put_devices places 0 devices) c.take_arenas.ensures.places;
+    }

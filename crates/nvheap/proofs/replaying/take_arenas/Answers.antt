@@ -3,7 +3,7 @@ use Rattle.arena_core.specs.Arena.{ArenaState}
 use Rattle.trace_text.specs.Grammar.{pool_of}
 use Rattle.trace_runs.specs.Arenas.{header_for, IsNewArena}
 use Rattle.trace_workers.specs.Reports.{AreNew}
-use Rattle.nvheap.proofs.Devices.{AreNew-more}
+use Rattle.trace_runs.proofs.Each.{EachFrom-more}
 use Rattle.nvheap.proofs.replaying.take_arenas.Goals as goal
 
 pub loop-number-preserved : goal.loop-number-preserved
@@ -15,7 +15,7 @@ loop-number-preserved g c =
     let many = ap length c.in_ok-push.ensures.items ∙ length-append arenas (last ∷ []) in
     record {
       all = let all = c.loop-number.invariant.all in omega (arith, many, all);
-      new = subst (AreNew pool 0) (sym c.in_ok-push.ensures.items) (AreNew-more pool 0 arenas last c.loop-number.invariant.new (subst (λ n. IsNewArena (header_for pool n) last) here c.in_ok-new_arena.ensures));
+      new = subst (AreNew pool 0) (sym c.in_ok-push.ensures.items) (EachFrom-more (λ n a. IsNewArena (header_for pool n) a) 0 arenas last c.loop-number.invariant.new (subst (λ n. IsNewArena (header_for pool n) last) here c.in_ok-new_arena.ensures));
       places = c.in_ok-device.ensures.places ∙ c.loop-number.invariant.places;
       images = c.in_ok-device.ensures.images ∙ c.loop-number.invariant.images;
     }

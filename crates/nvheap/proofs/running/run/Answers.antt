@@ -1,11 +1,11 @@
-use Rattle.std.proofs.Common.{◌≡◌, map, subst}
+use Rattle.std.proofs.Common.{◌≡◌, None, IsTrue, map, subst}
 use Rattle.std.specs.String.{string_bytes}
 use Rattle.nvheap.specs.declared.command.Command.{Command}
 use Rattle.nvheap.specs.declared.command.Command.TheVariants.{Replay, Gen}
 use Rattle.nvheap.specs.declared.status.Status.{Status}
 use Rattle.nvheap.specs.declared.status.Status.TheVariants.{Done, Usage, Refused, ReadFault, WriteFault, TooLong}
 use Rattle.nvheap.specs.Outside.{Outside, told_by, Rose}
-use Rattle.nvheap.specs.Command.{meaning_of, IsCommand, IsIdle, ReadsNone}
+use Rattle.nvheap.specs.Command.{meaning_of, IsCommand}
 use Rattle.nvheap.specs.Ends.{Ends}
 use Rattle.nvheap.proofs.Table.{said_holds}
 use Rattle.nvheap.proofs.Completeness.{completes}
@@ -26,10 +26,10 @@ returns-in-Replay-clause-complete g c =
     (replay_said g c) c.run_replay.ensures.ends c.run_replay.ensures.read_fault c.run_replay.ensures.write_fault
 
 pub returns-in-Replay-clause-idle : goal.returns-in-Replay-clause-idle
-returns-in-Replay-clause-idle g c said = absurd (said_holds (map string_bytes c.args.words.now) Replay IsIdle (replay_said g c) said)
+returns-in-Replay-clause-idle g c said = absurd (cc (said_holds (map string_bytes c.args.words.now) Replay (λ m. IsTrue m.idle) (replay_said g c) said))
 
 pub returns-in-Replay-clause-unread : goal.returns-in-Replay-clause-unread
-returns-in-Replay-clause-unread g c said = absurd (cc (said_holds (map string_bytes c.args.words.now) Replay ReadsNone (replay_said g c) said))
+returns-in-Replay-clause-unread g c said = absurd (cc (said_holds (map string_bytes c.args.words.now) Replay (λ m. m.reads ≡ None) (replay_said g c) said))
 
 -- commands that do not wait
 
@@ -43,11 +43,11 @@ returns-in_default-command-clause-complete g c =
 
 pub returns-in_default-command-clause-idle : goal.returns-in_default-command-clause-idle
 returns-in_default-command-clause-idle g c said =
-    c.run_returning.ensures.idle (said_holds (map string_bytes c.args.words.now) c.in-Some.command IsIdle c.in-Some.ensures said)
+    c.run_returning.ensures.idle (said_holds (map string_bytes c.args.words.now) c.in-Some.command (λ m. IsTrue m.idle) c.in-Some.ensures said)
 
 pub returns-in_default-command-clause-unread : goal.returns-in_default-command-clause-unread
 returns-in_default-command-clause-unread g c said =
-    c.run_returning.ensures.unread (said_holds (map string_bytes c.args.words.now) c.in-Some.command ReadsNone c.in-Some.ensures said)
+    c.run_returning.ensures.unread (said_holds (map string_bytes c.args.words.now) c.in-Some.command (λ m. m.reads ≡ None) c.in-Some.ensures said)
 
 -- generated work
 
@@ -99,4 +99,4 @@ returns-in-Gen-clause-complete g c =
     (gen_said g c) (c.run_gen.ensures.ends (g.S.Source.left c.args.source.now)) (λ is. absurd (gen_ends g c ReadFault is)) c.run_gen.ensures.write_fault
 
 pub returns-in-Gen-clause-idle : goal.returns-in-Gen-clause-idle
-returns-in-Gen-clause-idle g c said = absurd (said_holds (map string_bytes c.args.words.now) (gen g c) IsIdle (gen_said g c) said)
+returns-in-Gen-clause-idle g c said = absurd (cc (said_holds (map string_bytes c.args.words.now) (gen g c) (λ m. IsTrue m.idle) (gen_said g c) said))

@@ -1,10 +1,6 @@
 use Rattle.std.proofs.Common.{take}
 use Rattle.trace_runs.specs.Calls.{calls_of, HasMadeAll}
-use Rattle.trace_runs.specs.Runs.{GoesOn}
 use Rattle.trace_runs.proofs.imaging.make_calls.Given as goal
 
 abbrev pub invariant-loop-call : goal.invariant-loop-call
-invariant-loop-call g l = record {
-  made : HasMadeAll l.fn.made l.made (calls_of l.arena (take l.call-index l.calls));
-  gone : GoesOn (calls_of l.arena (take l.call-index l.calls)) l.fn.made l.made;
-}
+invariant-loop-call g l = HasMadeAll l.fn.made l.made (calls_of l.arena (take l.call-index l.calls))

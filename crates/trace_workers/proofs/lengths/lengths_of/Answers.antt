@@ -1,6 +1,8 @@
 use Rattle.std.proofs.Common.{rules, ◌≡◌, ◌∙◌, ◌+◌, ◌∷◌, [], ap, sym, subst, length, arith, length-append}
-use Rattle.trace_workers.specs.Lengths.{AreCounted, IsCounted}
-use Rattle.trace_workers.proofs.PublishedLengths.{all_asked_then, all_asked_same, order_asked, counted_asked, counted_push, length_asked}
+use Rattle.trace_runs.specs.Each.{EachFrom}
+use Rattle.trace_runs.proofs.Each.{EachFrom-more}
+use Rattle.trace_workers.specs.Lengths.{IsCounted}
+use Rattle.trace_workers.proofs.PublishedLengths.{all_asked_then, all_asked_same, order_asked, counted_asked, length_asked}
 use Rattle.trace_workers.proofs.lengths.lengths_of.Goals as goal
 
 pub ask_own-requires-clause-some : goal.ask_own-requires-clause-some
@@ -14,7 +16,7 @@ loop-arena-init g c = record {
   of = c.requires.of;
   order = c.requires.order;
   asked = all_asked_same c.args.passes.now;
-  counted = subst (AreCounted c.args.passes.now 0) (sym c.new-counts.ensures.items) tt;
+  counted = subst (EachFrom (IsCounted c.args.passes.now) 0) (sym c.new-counts.ensures.items) tt;
   all = search rules;
 }
 
@@ -32,7 +34,7 @@ loop-arena-preserved g c =
       of = c.ask_own.ensures.of;
       order = order_asked 0 before after asked c.loop-arena.invariant.order;
       asked = all_asked_then c.args.passes.now before after c.loop-arena.invariant.asked asked;
-      counted = subst (AreCounted after 0) (sym pushed) (counted_push after 0 counts count (counted_asked 0 counts before after asked c.loop-arena.invariant.counted) (subst (λ a. IsCounted after a count) here c.ask_own.ensures.counted));
+      counted = subst (EachFrom (IsCounted after) 0) (sym pushed) (EachFrom-more (IsCounted after) 0 counts count (counted_asked 0 counts before after asked c.loop-arena.invariant.counted) (subst (λ a. IsCounted after a count) here c.ask_own.ensures.counted));
       all = let all = c.loop-arena.invariant.all in omega (arith, many, all);
     }
 
