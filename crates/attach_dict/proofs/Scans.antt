@@ -16,7 +16,7 @@ use Rattle.pair_order.specs.Order.{Order, IsRanked, HasNoPlace, HasNoneWith, IsH
 use Rattle.attach_dict.specs.declared.index.DictIndex.{DictIndex}
 use Rattle.attach_dict.specs.Dict.{stage, HasSome, HasNone, HasPair, IsPair, Counts, IsFit, IsMisfit, IsNotDict, IsDict}
 use Rattle.attach_dict.specs.Index.{IsBlank, HasMorePair}
-use Rattle.attach_dict.specs.Reading.{HoldsPairOf, HoldsNoPair, IsScanned, IsReadThrough, IsHalfStale, IsIndexed}
+use Rattle.attach_dict.specs.Reading.{HoldsPairOf, HoldsNoPair, IsScanned, IsReadThrough, IsIndexed}
 use Rattle.attach_dict.specs.Roots.{Roots, IsIn, IsOut, AreRoots, AreNoRoots, HasMoreRoots}
 use Rattle.attach_dict.specs.Stages.{Phase, Idle, IsStale, IsStaleCount}
 use Rattle.attach_dict.specs.View.{value_in, pairs_in, turned, IsPairOf, IsVacant, AreStaleRoots}
@@ -25,6 +25,12 @@ use Rattle.attach_dict.proofs.Pairs.{some_of, IsSamePair, pair_once}
 use Rattle.attach_dict.proofs.Counting.{other_stale}
 use Rattle.attach_dict.proofs.Indexed.{counts_last, none_of, dict_of}
 use Rattle.attach_dict.proofs.Less.{none_not_some}
+
+-- every block but the stage's was read, and the stale roots below an end are known
+pub record IsHalfStale (words : List ℕ) (end : ℕ) (index : DictIndex) : Type 0 where
+  pub read : IsReadThrough words index
+  pub stale : AreStaleRoots words Idle end index.stale
+  pub wide : length index.block.items ≡ 512
 
 -- the roots of an arena are few
 pub roots_few : (words : List ℕ) → (bounds_of words).roots < 2 ^ 16

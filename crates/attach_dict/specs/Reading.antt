@@ -10,7 +10,7 @@ use Rattle.attach_dict.specs.declared.refusal.OpenFault.TheVariants as faults
 use Rattle.attach_dict.specs.Dict.{stage, head_words, most_values, HasSome, HasNone, HasPair, IsFit, IsMisfit, IsNotDict}
 use Rattle.attach_dict.specs.Stages.{Idle}
 use Rattle.attach_dict.specs.Roots.{AreNoRoots}
-use Rattle.attach_dict.specs.View.{AreOrders, AreStaleRoots, AreIndexes}
+use Rattle.attach_dict.specs.View.{AreOrders, AreIndexes}
 
 -- one root
 
@@ -71,12 +71,6 @@ IsScannedBy words root index false = IsMisfit words root
 pub record IsReadThrough (words : List ℕ) (index : DictIndex) : Type 0 where
   pub orders : AreOrders words (bounds_of words).roots index.by_key index.by_number index.free
   pub fit : (root : ℕ) → stage < root → HasSome words root → IsFit words root
-
--- and the stale roots below an end are known
-pub record IsHalfStale (words : List ℕ) (end : ℕ) (index : DictIndex) : Type 0 where
-  pub read : IsReadThrough words index
-  pub stale : AreStaleRoots words Idle end index.stale
-  pub wide : length index.block.items ≡ 512
 
 -- the image is a dictionary, and the indexes are its own
 pub record IsIndexed (words : List ℕ) (index : DictIndex) : Type 0 where

@@ -1,5 +1,5 @@
 use Rattle.pmem_lines.specs.Pmem.{words_of}
-use Rattle.attach_dict.specs.Reading.{IsHalfStale}
+use Rattle.attach_dict.proofs.Scans.{IsHalfStale}
 use Rattle.attach_dict.proofs.opening.scan_stale.Given as goal
 
 abbrev pub invariant-loop-root : goal.invariant-loop-root
