@@ -1,6 +1,6 @@
 -- What one call of an arena leaves its caller, over any roots and sizes: the reply that it had, which root has the block now,
 -- and that the others have theirs; and what a crash within the call leaves of that.
-use Rattle.std.proofs.Common.{◌≡◌, ◌≢◌, ◌⊎◌, ◌==◌, ℕ, ◌+◌, ◌-◌, ◌*◌, ◌/◌, ◌<◌, ◌≤◌, Bool, true, false, if◌then◌else◌, List, [], length, Option, Some, None, inl, inr, refl, sym, ap, ◌∙◌, subst, arith, ⊎_elim}
+use Rattle.std.proofs.Common.{◌≡◌, ◌≢◌, ◌⊎◌, ◌==◌, ℕ, ◌+◌, ◌-◌, ◌*◌, ◌/◌, ◌<◌, ◌≤◌, Bool, true, false, if◌then◌else◌, List, [], length, Option, Some, None, refl, sym, ap, ◌∙◌, subst, arith, ⊎_elim}
 use Rattle.size_classes.specs.Classes.{class_size, IsClassOf}
 use Rattle.pmem_lines.specs.declared.event.Event.{Event}
 use Rattle.pmem_lines.specs.Words.{word_at}
@@ -14,15 +14,15 @@ use Rattle.heap_model.specs.Placement.{Stacks}
 use Rattle.heap_model.specs.Slabs.{view_of}
 use Rattle.heap_model.specs.Choice.{View, Site, range_of, IsSite, HasNoSite}
 use Rattle.heap_model.specs.Choice.Site.{Granules, InSlab, InMorph, InNewSlab}
-use Rattle.heap_model.specs.Step.{IsRefused, IsGrant, IsMalloc, HasBlock}
+use Rattle.heap_model.specs.Step.{IsRefused, IsGrant, IsMalloc}
 use Rattle.heap_model.proofs.Maps.{with_key-here, with_key-other}
 use Rattle.heap_model.proofs.Sites.{site_apart}
 use Rattle.heap_check.specs.Heap.{heap, slabs, size_at}
 use Rattle.heap_check.specs.Image.{bounds_of, IsExactImage, IsSteadyImage}
-use Rattle.heap_check.specs.State.{IsWordOf, HasState, HaveSameHeap, KeepsBlocks, IsEitherHeap}
+use Rattle.heap_check.specs.State.{IsWordOf, HasState, HaveSameHeap}
 use Rattle.heap_check.proofs.Blank.{law_of_steady}
 use Rattle.heap_check.proofs.ExactStates.{law_of_exact_state}
-use Rattle.move_steps.specs.Moves.{MovesOne, IsEitherMoved}
+use Rattle.move_steps.specs.Moves.{MovesOne}
 use Rattle.arena_core.specs.Answered.{IsOneCall}
 use Rattle.arena_core.specs.Call.{IsStepOf, IsStepOfAny}
 use Rattle.arena_core.specs.Payload.{IsWriteStep, IsNamedWord, HasWritten, IsEitherWords}

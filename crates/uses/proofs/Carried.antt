@@ -1,7 +1,6 @@
 -- What the steps of a call of a stack did, from what the arena says of its calls.
-use Rattle.std.proofs.Common.{◌≡◌, ◌≢◌, ℕ, ◌+◌, ◌/◌, ◌<◌, ◌≤◌, List, length, Some, Result, refl, ap, ◌∙◌, subst, arith}
+use Rattle.std.proofs.Common.{◌≡◌, ◌≢◌, ℕ, ◌<◌, List, length, Some, Result, refl, ap, ◌∙◌, subst, arith}
 use Rattle.pmem_lines.specs.Pmem.{words_of}
-use Rattle.heap_model.specs.Machine.{Range}
 use Rattle.heap_model.specs.declared.call.Call.TheVariants as calls
 use Rattle.heap_model.specs.declared.call.Reply.{Reply}
 use Rattle.heap_model.specs.declared.call.Reply.TheVariants as replies

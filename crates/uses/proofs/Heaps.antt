@@ -1,5 +1,5 @@
 -- The stage of a stack is a root of an arena of either version, and a record has a class of 64 bytes.
-use Rattle.std.proofs.Common.{◌≡◌, ℕ, ◌-◌, ◌*◌, ◌<◌, ◌≤◌, List, refl, ap, ◌∙◌, arith, ⊎_elim}
+use Rattle.std.proofs.Common.{◌≡◌, ℕ, ◌-◌, ◌*◌, ◌<◌, ◌≤◌, List, ap, arith, ⊎_elim}
 use Rattle.size_classes.specs.Classes.{sizes, class_size, IsClassOf}
 use Rattle.size_classes.proofs.Least.{low_class}
 use Rattle.pool_layout.specs.declared.layout.Layout.{Layout}
