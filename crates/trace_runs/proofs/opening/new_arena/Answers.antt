@@ -1,4 +1,4 @@
-use Rattle.std.proofs.Common.{◌≡◌, ◌⊎◌, ⊎_elim}
+use Rattle.std.proofs.Common.{◌≡◌, ⊎_elim}
 use Rattle.pool_layout.proofs.Layouts.{version_cases}
 use Rattle.trace_text.proofs.Pools.{pool_least, pool_most}
 use Rattle.trace_runs.specs.Arenas.{header_for}
