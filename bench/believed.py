@@ -122,15 +122,15 @@ def main(words):
             for name in listed:
                 file = File(crate, name)
                 files[file.module()] = file
-    reached, todo = set(), []
+    reached, ahead = set(), []
     for crate, path, names in roots:
         clauses, uses = clauses_of(f"{TOP}/crates/{crate}/src/{path}", names)
-        todo += names_in(clauses, uses, {}, "")
-    while todo:
-        module, name = todo.pop()
+        ahead += names_in(clauses, uses, {}, "")
+    while ahead:
+        module, name = ahead.pop()
         if module in files and name in files[module].defs and (module, name) not in reached:
             reached.add((module, name))
-            todo += files[module].reached_by(name)
+            ahead += files[module].reached_by(name)
     lines = every = 0
     for module, file in files.items():
         here = [it for it in file.defs if (module, it) in reached]
