@@ -18,16 +18,17 @@ use Rattle.attach_dict.specs.Calls.{IsEitherDict, KeepsMap, HasTidied, HasRemove
 use Rattle.attach_dict.specs.Dict.{Pair, stage, HasSome, IsPair, Counts, IsFit, IsDict, IsStaleRoot, IsSteadyDict}
 use Rattle.attach_dict.specs.Index.{HasLessPair, MayDrop, HasDroppedStale}
 use Rattle.attach_dict.specs.Roots.{Roots, IsIn, IsOut, HasMoreRoots, HasFewerRoots}
-use Rattle.attach_dict.specs.Stages.{Phase, Idle, Staged, Filled, IsStale, AreNoneStale, IsAtStage}
+use Rattle.attach_dict.specs.Stages.{Idle, IsStale, AreNoneStale, IsAtStage}
 use Rattle.attach_dict.specs.Steps.{IsFreed}
 use Rattle.attach_dict.specs.View.{pairs_in, phase_in, turned, IsPairOf, AreOrders, AreStaleRoots}
 use Rattle.attach_dict.specs.Whole.{state_of, IsWhole}
 use Rattle.attach_dict.proofs.Answered.{left_keeps, left_dict, freed_others, freed_none, freed_keeps}
 use Rattle.attach_dict.proofs.Counting.{law_of_dicts}
 use Rattle.attach_dict.proofs.Indexed.{dict_of, ranked_of_pair}
-use Rattle.attach_dict.proofs.Kept.{keeps_back, keeps_heap, dict_same, stale_same}
-use Rattle.attach_dict.proofs.Less.{none_not_some, fit_less, both_less, orders_less, puts_none, still_tidy, dict_less, stale_left, stale_was}
+use Rattle.attach_dict.proofs.Kept.{keeps_back, keeps_heap, dict_same, stale_same, numbers_same}
+use Rattle.attach_dict.proofs.Less.{none_not_some, numbers_less, fit_less, both_less, orders_less, puts_none, still_tidy, dict_less, stale_left, stale_was}
 use Rattle.attach_dict.proofs.Pairs.{some_of}
+use Rattle.attach_dict.proofs.Stale.{stale_some, stale_rooted}
 use Rattle.attach_dict.proofs.Still.{leaves_by, stale_none, orders_still, dict_still, map_still}
 
 -- phases
@@ -43,13 +44,6 @@ pub idle_where : (words : List ℕ) (key : ℕ) (progress : Progress) (root : �
 idle_where words key stages.Idle root at_stage so = refl
 idle_where words key (stages.Staged count) root at_stage so = absurd (at_stage.2 root so)
 idle_where words key stages.Filled root at_stage so = absurd (at_stage.2 root so)
-
--- a stale root has a block, and is one of the arena's
-stale_some : (words : List ℕ) (root : ℕ) → IsStale words Idle root → HasSome words root
-stale_some words root so = ⊎_elim (λ s. s.some) (λ s. subst (λ (r : ℕ). HasSome words r) (sym s.0) s.1) so
-
-stale_rooted : (words : List ℕ) (root : ℕ) → IsExactImage words → IsStale words Idle root → root < (bounds_of words).roots
-stale_rooted words root exact so = let some = stale_some words root so in rooted words root some.range exact some.named
 
 -- the pair that a root's block is has its places in the orders
 module _ (words : List ℕ) (exact : IsExactImage words) (index : DictIndex) (orders : AreOrders words (bounds_of words).roots index.by_key index.by_number index.free) where
@@ -137,6 +131,8 @@ module _ (old new : ArenaState) (index after : DictIndex) (key : ℕ) (whole : I
       did = f.did;
       puts = puts_none (freed_keeps f) (freed_none f) pairs left whole.kept.dict dict_after gone value counted (λ r s. tidy r (inl s));
       phase = refl;
+      tidy = tidy_after;
+      numbers = λ n up. numbers_less (freed_keeps f) (freed_none f) n up;
       crash = leaves_by old new (IsEitherHeap was is) (IsEitherDict pairs left) left_either f.did.did;
     }
 
@@ -166,7 +162,7 @@ module _ (old new : ArenaState) (index after : DictIndex) (key : ℕ) (whole : I
           (λ t. inl (stale_was (freed_keeps f) (freed_none f) pairs left whole.kept.dict dict_after so other t))
           (λ t. inr (t.0, record { range = t.1.range; named = sym stage_same ∙ t.1.named }))
           s in
-          fewer.kept other (whole.indexes.stale_roots.each other (subst (λ (b : Bounds). other < b.roots) bounds below) before) (gone_apart (stale_some is other s));
+          fewer.kept other (whole.indexes.stale_roots.each other (subst (λ (b : Bounds). other < b.roots) bounds below) before) (gone_apart (stale_some is Idle other s));
     }
 
     pub whole_tidied : IsWhole new after key stages.Idle
@@ -179,6 +175,7 @@ module _ (old new : ArenaState) (index after : DictIndex) (key : ℕ) (whole : I
     tidied_map = record {
       pairs = same_map_after;
       phase_is = refl;
+      numbers = λ n up. numbers_less (freed_keeps f) (freed_none f) n up;
       crash = leaves_by old new (IsEitherHeap was is) (IsSteadyDict pairs)
           (λ image l. ⊎_elim (λ before. before) (λ behind. subst (λ (ps : List Pair). IsSteadyDict ps image) same_map_after behind) (left_either image l)) f.did.did;
     }
@@ -222,6 +219,7 @@ module _ (old new : ArenaState) (index after : DictIndex) (key : ℕ) (whole : I
   cleared_map = subst (λ (i : DictIndex). KeepsMap (state_of old index key stages.Idle) (state_of new i key stages.Idle) Idle) (sym same) (record {
     pairs = map_still old new index key stages.Idle whole (freed_keeps f) f.did.step.bounds f.did.did.exact;
     phase_is = refl;
+    numbers = λ n up. numbers_same (freed_keeps f) n up;
     crash = leaves_by old new (IsEitherHeap were are) (IsSteadyDict (pairs_in were index.by_key.ranked)) (λ image l. left_dict were are image (pairs_in were index.by_key.ranked) whole.kept.dict (freed_others f) l) f.did.did;
   })
 
@@ -247,6 +245,12 @@ module _ (old new : ArenaState) (index after : DictIndex) (key : ℕ) (whole : I
       tidied_map old new index after key whole root s.low f at.1.keys at.1.numbers at.1.free s dropped.stale at.1.block)
       dropped.pair
 
+  -- what is stale behind it was so before
+  still_stale : (other : ℕ) → IsStale (words_of new.device) Idle other → IsStale (words_of old.device) Idle other × (other ≢ root)
+  still_stale other so =
+      let had : IsIn after.stale other = whole_dropped.indexes.stale_roots.each other (stale_rooted (words_of new.device) Idle other whole_dropped.kept.exact so) so in
+      (whole.indexes.stale_roots.are other (dropped.stale.each other had), λ same. dropped.stale.out.none (subst (λ (r : ℕ). IsIn after.stale r) same had))
+
   pub has_tidied : IsLeast (IsIn index.stale) root → HasTidied (state_of old index key stages.Idle) (state_of new after key stages.Idle)
   has_tidied least = record {
     root = root;
@@ -254,9 +258,10 @@ module _ (old new : ArenaState) (index after : DictIndex) (key : ℕ) (whole : I
     size = f.range.size;
     stale = record {
       here = whole.indexes.stale_roots.are root held;
-      least = λ other so. least.least other (whole.indexes.stale_roots.each other (stale_rooted (words_of old.device) other whole.kept.exact so) so);
+      least = λ other so. least.least other (whole.indexes.stale_roots.each other (stale_rooted (words_of old.device) Idle other whole.kept.exact so) so);
     };
     did = f.did;
+    left = still_stale;
     keeps = dropped_map;
   }
 
@@ -270,7 +275,7 @@ module _ (old : ArenaState) (index : DictIndex) (key : ℕ) (progress : Progress
   still_whole = subst (λ (p : Progress). IsWhole old index key p) tidy_idle whole
 
   pub tidy_some : HasSome (words_of old.device) root
-  tidy_some = stale_some (words_of old.device) root (still_whole.indexes.stale_roots.are root held)
+  tidy_some = stale_some (words_of old.device) Idle root (still_whole.indexes.stale_roots.are root held)
 
   -- a stale root that is not the stage has a pair
   tidy_pair : root ≢ stage → IsFit (words_of old.device) root
@@ -293,13 +298,8 @@ module _ (old : ArenaState) (index : DictIndex) (key : ℕ) (progress : Progress
     tidied_behind least = subst (λ (p : Progress). HasTidied (state_of old index key p) (state_of new after key p)) (sym tidy_idle) (has_tidied old new index after key still_whole root f dropped held least)
 
 -- no root is stale
-stale_all : (words : List ℕ) (phase : Phase) (root : ℕ) → IsExactImage words → IsStale words phase root → root < (bounds_of words).roots
-stale_all words Idle root exact so = stale_rooted words root exact so
-stale_all words (Staged key count) root exact so = rooted words root so.some.range exact so.some.named
-stale_all words (Filled key value) root exact so = rooted words root so.some.range exact so.some.named
-
 pub none_found : (old : ArenaState) (index : DictIndex) (key : ℕ) (progress : Progress) → IsWhole old index key progress → HasNoNumber (IsIn index.stale) → AreNoneStale (words_of old.device) (phase_in (words_of old.device) key progress)
-none_found old index key progress whole none root so = none.none root (whole.indexes.stale_roots.each root (stale_all (words_of old.device) (phase_in (words_of old.device) key progress) root whole.kept.exact so) so)
+none_found old index key progress whole none root so = none.none root (whole.indexes.stale_roots.each root (stale_rooted (words_of old.device) (phase_in (words_of old.device) key progress) root whole.kept.exact so) so)
 
 -- a key is removed
 module _ (old : ArenaState) (index : DictIndex) (key : ℕ) (progress : Progress) (whole : IsWhole old index key progress) (r : Ranked) (is_in : IsRanked index.by_key r) where

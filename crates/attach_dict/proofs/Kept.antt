@@ -5,7 +5,7 @@ use Rattle.image_tables.specs.Tables.{tables_of}
 use Rattle.heap_model.specs.Machine.{Range}
 use Rattle.heap_check.specs.Heap.{heap}
 use Rattle.heap_check.specs.State.{IsWordOf, HaveSameHeap, KeepsBlocks}
-use Rattle.attach_dict.specs.Dict.{Pair, stage, HasSome, HasNone, IsPair, Counts, IsFit, IsValueOf, value_of, IsDict, IsStaleRoot, IsGreatest, IsNextNumber, LawOfKeptDicts}
+use Rattle.attach_dict.specs.Dict.{Pair, stage, HasSome, HasNone, IsPair, Counts, IsFit, IsValueOf, value_of, IsDict, IsStaleRoot, IsGreatest, IsNextNumber, AreNumbersUpTo, LawOfKeptDicts}
 use Rattle.attach_dict.proofs.Pairs.{pair_kept}
 
 -- every root but the stage and one more names the block that it named, with its words
@@ -88,6 +88,9 @@ module _ {old new : List ℕ} (keeps : KeepsRoots old new stage) where
   -- with the same stale roots and numbers
   pub stale_same : {root : ℕ} → IsStaleRoot old root → IsStaleRoot new root
   stale_same was = record { low = was.low; some = some_same was.low was.some; less = λ key value is. was.less key value (counts_back is) }
+
+  pub numbers_same : (n : ℕ) → AreNumbersUpTo old n → AreNumbersUpTo new n
+  numbers_same n up = record { each = λ root key number value is. up.each root key number value (pair_back is) }
 
   pub greatest_same : {number : ℕ} → IsGreatest old number → IsGreatest new number
   greatest_same was = record { root = was.root; key = was.key; value = was.value; pair = pair_same was.pair; most = λ other k n v is. was.most other k n v (pair_back is) }

@@ -5,7 +5,7 @@ use Rattle.image_tables.specs.Tables.{tables_of}
 use Rattle.heap_check.specs.Heap.{heap}
 use Rattle.heap_check.specs.Image.{bounds_of}
 use Rattle.pair_order.specs.Order.{Order, HasLess}
-use Rattle.attach_dict.specs.Dict.{Pair, stage, HasSome, HasNone, HasPair, IsPair, Counts, IsValueOf, value_of, IsDict, IsStaleRoot, Puts}
+use Rattle.attach_dict.specs.Dict.{Pair, stage, HasSome, HasNone, HasPair, IsPair, Counts, IsValueOf, value_of, IsDict, IsStaleRoot, AreNumbersUpTo, Puts}
 use Rattle.attach_dict.specs.Roots.{Roots, IsIn, HasMoreRoots}
 use Rattle.attach_dict.specs.View.{turned, IsPairOf, IsVacant, AreOrders}
 use Rattle.attach_dict.proofs.Pairs.{some_of, pair_once}
@@ -23,6 +23,10 @@ module _ {old new : List ℕ} {gone : ℕ} (keeps : KeepsRoots old new gone) (no
   -- a pair that is left was there
   pub pair_was : {root key number : ℕ} {value : List ℕ} → IsPair new root key number value → IsPair old root key number value
   pair_was pair = pair_to (keeps_back keeps) (not_gone (some_of pair)) pair
+
+  -- no number came
+  pub numbers_less : (n : ℕ) → AreNumbersUpTo old n → AreNumbersUpTo new n
+  numbers_less n up = record { each = λ root key number value is. up.each root key number value (pair_was is) }
 
   pub fit_less : AllFit old → AllFit new
   fit_less fit root low some =
@@ -63,6 +67,7 @@ module _ {old new : List ℕ} {gone : ℕ} (keeps : KeepsRoots old new gone) (no
         let was : IsPairOf old r = were.are r (keys.each r is) in
         record { value = was.value; pair = pair_to keeps (keys.gone.none r is) was.pair };
     below = λ r is. were.below r (keys.each r is);
+    narrow = λ r is. were.narrow r (keys.each r is);
     to_number = λ r is. numbers.kept (turned r) (were.to_number r (keys.each r is)) (keys.gone.none r is);
     to_key = λ r is. keys.kept (turned r) (were.to_key r (numbers.each r is)) (numbers.gone.none r is);
     free_below = frees.below ∙ (were.free_below ∙ ap (λ b. b.roots) (sym bounds));

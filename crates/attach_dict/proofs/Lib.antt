@@ -6,6 +6,7 @@ pub mod Kept
 pub mod Counting
 pub mod Ranks
 pub mod Indexed
+pub mod Stale
 pub mod Less
 pub mod More
 pub mod Room

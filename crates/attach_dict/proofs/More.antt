@@ -1,10 +1,10 @@
 -- The dictionary of an image in which a root has a pair anew, with a number above those of all others.
-use Rattle.std.proofs.Common.{◌≡◌, ◌≢◌, ◌⊎◌, ℕ, ◌<◌, ◌≤◌, List, Option, Some, None, inl, inr, sym, ap, ◌∙◌, subst, arith, ⊎_elim}
+use Rattle.std.proofs.Common.{◌≡◌, ◌≢◌, ◌⊎◌, ℕ, ◌+◌, ◌^◌, ◌<◌, ◌≤◌, List, Option, Some, None, inl, inr, sym, ap, ◌∙◌, subst, arith, ⊎_elim}
 use Rattle.std.proofs.lemmas.Bool.{cases_eq}
 use Rattle.heap_check.specs.Image.{bounds_of}
 use Rattle.pair_order.specs.declared.order.Ranked.{Ranked}
 use Rattle.pair_order.specs.Order.{Order, IsRanked, HasMore}
-use Rattle.attach_dict.specs.Dict.{Pair, HasSome, HasNone, HasPair, IsPair, Counts, IsFit, IsValueOf, value_of, IsDict, IsStaleRoot, Puts}
+use Rattle.attach_dict.specs.Dict.{Pair, HasSome, HasNone, HasPair, IsPair, Counts, IsFit, IsValueOf, value_of, IsDict, IsStaleRoot, AreNumbersUpTo, Puts}
 use Rattle.attach_dict.specs.Roots.{Roots, IsIn, HasFewerRoots}
 use Rattle.attach_dict.specs.View.{turned, IsPairOf, AreOrders}
 use Rattle.attach_dict.proofs.Pairs.{some_of, IsSamePair, pair_once}
@@ -31,6 +31,10 @@ module _ {old new : List ℕ} {come key number : ℕ} {value : List ℕ} (keeps 
   most : (root k n : ℕ) (v : List ℕ) → IsPair new root k n v → n ≤ number
   most root k n v is = ⊎_elim (λ new_one. omega (arith, new_one.1.number_is)) (λ was. omega (arith, above root k n v was)) (new_or_old root k n v is)
 
+  -- so the numbers rise by one at most where the new one does
+  pub numbers_more : (n : ℕ) → AreNumbersUpTo old n → number ≤ n + 1 → AreNumbersUpTo new (n + 1)
+  numbers_more n up less = record { each = λ root k m v is. omega (arith, most root k m v is, less) }
+
   pub counts_new : Counts new come key value
   counts_new = record { number = number; pair = pair; greatest = λ other n v is. most other key n v is }
 
@@ -49,9 +53,9 @@ module _ {old new : List ℕ} {come key number : ℕ} {value : List ℕ} (keeps 
       (cases_eq root come)
 
   -- the orders with the root's pair are those of the image
-  pub orders_more : (end : ℕ) (by_key by_number key_more number_more : Order) (free less : Roots) → bounds_of new ≡ bounds_of old → come < end → AreOrders old end by_key by_number free → HasMore by_key (record { root = come; first = key; second = number }) key_more →
+  pub orders_more : (end : ℕ) (by_key by_number key_more number_more : Order) (free less : Roots) → bounds_of new ≡ bounds_of old → come < end → key < 2 ^ 64 → AreOrders old end by_key by_number free → HasMore by_key (record { root = come; first = key; second = number }) key_more →
       HasMore by_number (record { root = come; first = number; second = key }) number_more → HasFewerRoots free come less → AreOrders new end key_more number_more less
-  orders_more end by_key by_number key_more number_more free less bounds high were keys numbers frees = record {
+  orders_more end by_key by_number key_more number_more free less bounds high small were keys numbers frees = record {
     keys = keys.sound;
     numbers = numbers.sound;
     key_roots = keys.roots ∙ (were.key_roots ∙ ap (λ b. b.roots) (sym bounds));
@@ -69,6 +73,10 @@ module _ {old new : List ℕ} {come key number : ℕ} {value : List ℕ} (keeps 
     below = λ r is. ⊎_elim
         (λ (had : IsRanked by_key r). were.below r had)
         (λ (same : r ≡ record { root = come; first = key; second = number }). omega (arith, high, ap (λ (x : Ranked). x.root) same))
+        (keys.each r is);
+    narrow = λ r is. ⊎_elim
+        (λ (had : IsRanked by_key r). were.narrow r had)
+        (λ (same : r ≡ record { root = come; first = key; second = number }). subst (λ (x : Ranked). x.first < 2 ^ 64) (sym same) small)
         (keys.each r is);
     to_number = λ r is. ⊎_elim
         (λ (had : IsRanked by_key r). numbers.kept (turned r) (were.to_number r had))

@@ -30,9 +30,9 @@ use Rattle.attach_dict.proofs.Indexed.{dict_of, counts_last, none_of}
 use Rattle.attach_dict.proofs.Counting.{counts_once}
 use Rattle.attach_dict.proofs.Kept.{KeepsRoots, keeps_heap, dict_same}
 use Rattle.attach_dict.proofs.Less.{none_not_some}
-use Rattle.attach_dict.proofs.More.{fit_more, orders_more, puts_some, stale_counted, counted_stale}
+use Rattle.attach_dict.proofs.More.{fit_more, numbers_more, orders_more, puts_some, stale_counted, counted_stale}
 use Rattle.attach_dict.proofs.Pairs.{some_of, pair_kept}
-use Rattle.attach_dict.proofs.Room.{next_above, next_number, next_once, not_last, found_free}
+use Rattle.attach_dict.proofs.Room.{next_above, next_most, next_number, next_once, not_last, found_free}
 use Rattle.attach_dict.proofs.Still.{leaves_by}
 
 -- what is to be published was filled
@@ -141,7 +141,7 @@ module _ (old : ArenaState) (index : DictIndex) (key : ℕ) (whole : IsWhole old
 
       orders_new : AreOrders is (bounds_of is).roots after.by_key after.by_number after.free
       orders_new = subst (λ (b : Bounds). AreOrders is b.roots after.by_key after.by_number after.free) (sym bounds)
-          (orders_more new_keeps free.none new_pair above (bounds_of was).roots index.by_key index.by_number after.by_key after.by_number index.free after.free bounds free.high whole.indexes.orders put.keys put.numbers put.free)
+          (orders_more new_keeps free.none new_pair above (bounds_of was).roots index.by_key index.by_number after.by_key after.by_number index.free after.free bounds free.high put.narrow whole.indexes.orders put.keys put.numbers put.free)
 
       dict_new : IsDict is more
       dict_new = dict_of is s.did.did.exact after.by_key after.by_number after.free orders_new (fit_more new_keeps free.none new_pair above whole.kept.dict.fit)
@@ -215,6 +215,9 @@ module _ (old : ArenaState) (index : DictIndex) (key : ℕ) (whole : IsWhole old
         did = s.did;
         puts = puts_some new_keeps free.none new_pair above pairs more whole.kept.dict dict_new;
         phase = refl;
+        one_stale = record { same = λ one other a b. let c = counted one a in let d = counted other b in (counts_once was whole.kept.dict.fit one other key c.0 d.0 c.1 d.1).0 };
+        replaced = counted;
+        numbers = λ n up. numbers_more new_keeps free.none new_pair above n up (next_most was number n next up);
         crash = leaves_by old new (IsEitherMoved was is root) (IsEitherDict pairs more) left_published s.did.did;
       }
 

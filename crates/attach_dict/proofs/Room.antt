@@ -8,7 +8,7 @@ use Rattle.image_defects.specs.Least.{IsLeastOf}
 use Rattle.image_defects.proofs.Counts.{none_below, some_below}
 use Rattle.pair_order.specs.declared.order.Ranked.{Ranked}
 use Rattle.pair_order.specs.Order.{Order, IsRanked, IsEmpty}
-use Rattle.attach_dict.specs.Dict.{stage, HasSome, HasNone, IsPair, IsGreatest, IsNextNumber, AreNumbersSpent, IsFreeRoot, IsFull}
+use Rattle.attach_dict.specs.Dict.{stage, HasSome, HasNone, IsPair, IsGreatest, IsNextNumber, AreNumbersUpTo, AreNumbersSpent, IsFreeRoot, IsFull}
 use Rattle.attach_dict.specs.Index.{IsGreatestNumber}
 use Rattle.attach_dict.specs.Roots.{Roots, IsIn, AreRoots}
 use Rattle.attach_dict.specs.Stages.{HasRoomForPair}
@@ -76,6 +76,13 @@ pub next_above : (words : List ℕ) (number : ℕ) → IsNextNumber words number
 next_above words number next root key n value pair = ⊎_elim
     (λ some. omega (arith, some.1.most root key n value pair, some.2))
     (λ none. absurd (none.0 root key n value pair))
+    next
+
+-- by one at most
+pub next_most : (words : List ℕ) (number n : ℕ) → IsNextNumber words number → AreNumbersUpTo words n → number ≤ n + 1
+next_most words number n next up = ⊎_elim
+    (λ some. omega (arith, some.2, up.each some.1.root some.1.key some.0 some.1.value some.1.pair))
+    (λ none. omega (arith, none.1))
     next
 
 -- and is one number

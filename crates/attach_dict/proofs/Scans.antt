@@ -4,7 +4,6 @@ use Rattle.std.proofs.lemmas.Bool.{cases_lt, eq-eqb, ne_eqb}
 use Rattle.pool_layout.specs.Header.{version_in}
 use Rattle.pool_layout.proofs.Layouts.{layout_rules}
 use Rattle.heap_check.specs.Image.{bounds_of, IsExactImage}
-use Rattle.image_defects.specs.Count.{IsCount}
 use Rattle.pmem_lines.specs.Pmem.{words_of}
 use Rattle.arena_core.specs.Arena.{ArenaState}
 use Rattle.arena_core.specs.Call.{IsReady}
@@ -17,10 +16,9 @@ use Rattle.attach_dict.specs.declared.index.DictIndex.{DictIndex}
 use Rattle.attach_dict.specs.Dict.{stage, HasSome, HasNone, HasPair, IsPair, Counts, IsFit, IsMisfit, IsNotDict, IsDict}
 use Rattle.attach_dict.specs.Index.{IsBlank, HasMorePair}
 use Rattle.attach_dict.specs.Reading.{HoldsPairOf, HoldsNoPair, IsScanned, IsReadThrough, IsIndexed}
-use Rattle.attach_dict.specs.Roots.{Roots, IsIn, IsOut, AreRoots, AreNoRoots, HasMoreRoots}
-use Rattle.attach_dict.specs.Stages.{Phase, Idle, IsStale, IsStaleCount}
+use Rattle.attach_dict.specs.Roots.{Roots, IsIn, IsOut, AreNoRoots, HasMoreRoots}
+use Rattle.attach_dict.specs.Stages.{Idle, IsStale}
 use Rattle.attach_dict.specs.View.{value_in, pairs_in, turned, IsPairOf, IsVacant, AreStaleRoots}
-use Rattle.attach_dict.proofs.Counts.{count_same}
 use Rattle.attach_dict.proofs.Pairs.{some_of, IsSamePair, pair_once}
 use Rattle.attach_dict.proofs.Counting.{other_stale}
 use Rattle.attach_dict.proofs.Indexed.{counts_last, none_of, dict_of}
@@ -47,6 +45,7 @@ scanned_none words index blank = record {
     ranked = λ root key number value low pair. absurd (omega (arith, low, pair.low));
     are = λ r is. absurd (blank.keys.none r is);
     below = λ r is. absurd (blank.keys.none r is);
+    narrow = λ r is. absurd (blank.keys.none r is);
     to_number = λ r is. absurd (blank.keys.none r is);
     to_key = λ r is. absurd (blank.numbers.none r is);
     free_below = blank.free.below_is;
@@ -88,6 +87,7 @@ module _ (words : List ℕ) (root : ℕ) (index : DictIndex) (scanned : IsScanne
           (at_or_below other below);
       are = scanned.orders.are;
       below = λ r is. omega (arith, scanned.orders.below r is);
+      narrow = scanned.orders.narrow;
       to_number = scanned.orders.to_number;
       to_key = scanned.orders.to_key;
       free_below = more.below ∙ scanned.orders.free_below;
@@ -157,6 +157,10 @@ module _ (words : List ℕ) (root : ℕ) (index : DictIndex) (scanned : IsScanne
           below = λ s in_order. ⊎_elim
               (λ (had : IsRanked index.by_key s). omega (arith, scanned.orders.below s had))
               (λ (same : s ≡ r). omega (arith, is, ap (λ (x : Ranked). x.root) same))
+              (more.keys.each s in_order);
+          narrow = λ s in_order. ⊎_elim
+              (λ (had : IsRanked index.by_key s). scanned.orders.narrow s had)
+              (λ (same : s ≡ r). subst (λ (x : Ranked). x.first < 2 ^ 64) (sym same) more.narrow)
               (more.keys.each s in_order);
           to_number = λ s in_order. ⊎_elim
               (λ (had : IsRanked index.by_key s). more.numbers.kept (turned s) (scanned.orders.to_number s had))
@@ -273,12 +277,6 @@ module _ (words : List ℕ) (index : DictIndex) where
           (λ s. s.less r.first (value_in words root) (subst (λ (n : ℕ). Counts words n r.first (value_in words n)) same (counts_last words exact index.by_key index.by_number index.free read.orders r.first last found)))
           (λ s. omega (arith, low, s.0))
           so
-
--- how many are stale
-pub stale_counted : (words : List ℕ) (phase : Phase) (stale : Roots) → AreStaleRoots words phase (bounds_of words).roots stale → AreRoots stale → IsStaleCount words phase stale.count
-stale_counted words phase stale were are =
-    subst (λ (n : ℕ). IsCount (IsStale words phase) n stale.count) were.stale_below
-    (count_same (IsIn stale) (IsStale words phase) stale.below stale.count (λ k low is. were.are k is) (λ k low so. were.each k (omega (arith, low, were.stale_below)) so) are.count_is)
 
 -- a search that does not find nothing finds something
 pub last_some : (order : Order) (key : ℕ) (found : Option Ranked) → MatchOption found (HasNoneOf order key) (IsLastOf order key) → ¬ (HasNoneOf order key) → IsSome found

@@ -68,6 +68,7 @@ module _ (old new : ArenaState) (index : DictIndex) (key : ℕ) (whole : IsWhole
       room = room.root;
       numbers = room.number;
       did = e;
+      tidy = still;
       keeps = keeps_still old new index key stages.Idle whole keeps e.step.bounds e.did.exact e.did.ready index whole.indexes.wide key stages.Idle tidy still tt
           (leaves_by old new (IsEitherHeap (words_of old.device) (words_of new.device)) (IsSteadyDict (pairs_in (words_of old.device) index.by_key.ranked)) (λ image l. left_dict (words_of old.device) (words_of new.device) image (pairs_in (words_of old.device) index.by_key.ranked) whole.kept.dict others l) e.did);
     }
@@ -94,6 +95,7 @@ module _ (old new : ArenaState) (index : DictIndex) (key : ℕ) (whole : IsWhole
         room = room.root;
         numbers = room.number;
         did = t.did;
+        tidy = staged_still;
         keeps = keeps_still old new index key stages.Idle whole given_keeps t.did.step.bounds t.did.did.exact t.did.did.ready index whole.indexes.wide next (stages.Staged count) tidy staged_still at_staged
             (leaves_by old new (IsEitherHeap (words_of old.device) (words_of new.device)) (IsSteadyDict (pairs_in (words_of old.device) index.by_key.ranked)) (λ image l. left_dict (words_of old.device) (words_of new.device) image (pairs_in (words_of old.device) index.by_key.ranked) whole.kept.dict (taken_others t) l) t.did.did);
       };
@@ -205,7 +207,7 @@ module _ (old new : ArenaState) (index after : DictIndex) (key : ℕ) (value : L
           number = number;
           next = next;
           did = e;
-          keeps = record { pairs = kept.pairs; phase_is = ap (λ (v : List ℕ). Filled key v) value_read; crash = kept.crash };
+          keeps = record { pairs = kept.pairs; phase_is = ap (λ (v : List ℕ). Filled key v) value_read; numbers = kept.numbers; crash = kept.crash };
         }
 
 -- as the call has it
@@ -272,6 +274,7 @@ module _ (old new : ArenaState) (index : DictIndex) (key : ℕ) (progress : Prog
     size = f.range.size;
     did = f.did;
     gone = freed_none f;
+    tidy = none_now;
     keeps = keeps_still old new index key progress whole (freed_keeps f) f.did.step.bounds f.did.did.exact f.did.did.ready index whole.indexes.wide key stages.Idle none_here none_now tt
         (leaves_by old new (IsEitherHeap (words_of old.device) (words_of new.device)) (IsSteadyDict (pairs_in (words_of old.device) index.by_key.ranked)) (λ image l. left_dict (words_of old.device) (words_of new.device) image (pairs_in (words_of old.device) index.by_key.ranked) whole.kept.dict (freed_others f) l) f.did.did);
   }

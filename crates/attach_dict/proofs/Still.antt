@@ -16,7 +16,7 @@ use Rattle.attach_dict.specs.Roots.{Roots}
 use Rattle.attach_dict.specs.Stages.{Phase, AreNoneStale, IsAtStage}
 use Rattle.attach_dict.specs.View.{pairs_in, phase_in, AreOrders, AreStaleRoots}
 use Rattle.attach_dict.specs.Whole.{state_of, IsWhole}
-use Rattle.attach_dict.proofs.Kept.{KeepsRoots, keeps_back, none_to, pair_same, pair_back, dict_same}
+use Rattle.attach_dict.proofs.Kept.{KeepsRoots, keeps_back, none_to, pair_same, pair_back, dict_same, numbers_same}
 use Rattle.attach_dict.proofs.Counting.{law_of_dicts}
 use Rattle.attach_dict.proofs.Indexed.{dict_of}
 
@@ -34,6 +34,7 @@ orders_same {old} {new} keeps bounds end by_key by_number free were = record {
   ranked = λ root key number value below pair. were.ranked root key number value below (pair_back keeps pair);
   are = λ r is. let was = were.are r is in record { value = was.value; pair = pair_same keeps was.pair };
   below = were.below;
+  narrow = were.narrow;
   to_number = were.to_number;
   to_key = were.to_key;
   free_below = were.free_below ∙ ap (λ (b : Bounds). b.roots) (sym bounds);
@@ -84,4 +85,4 @@ module _ (old new : ArenaState) (index : DictIndex) (key : ℕ) (progress : Prog
     }
 
     pub keeps_still : Leaves new (IsSteadyDict pairs) → KeepsMap (state_of old index key progress) (state_of new (laid_out after) next come) (phase_in is next come)
-    keeps_still crash = record { pairs = map_still; phase_is = refl; crash = crash }
+    keeps_still crash = record { pairs = map_still; phase_is = refl; numbers = λ n up. numbers_same keeps n up; crash = crash }

@@ -1,6 +1,6 @@
 -- What the calls of a dictionary do. Each that changes the arena makes one call of it, whose whole clause it has; it says besides
 -- what became of the map and the phase, and which map a crash within it leaves.
-use Rattle.std.specs.Prelude.{◌≡◌, ◌⊎◌, ◌≢◌, ℕ, List, ◌∷◌, length, Option, Some, None, Result, Ok, Err, Bool, true, false}
+use Rattle.std.specs.Prelude.{◌≡◌, ◌⊎◌, ◌≢◌, ℕ, List, ◌+◌, ◌∷◌, length, Option, Some, None, Result, Ok, Err, Bool, true, false}
 use Rattle.std.specs.Borrow.{Bor}
 use Rattle.pmem_lines.specs.Events.{CrashOnly}
 use Rattle.pmem_lines.specs.Pmem.{words_of}
@@ -13,8 +13,8 @@ use Rattle.arena_core.specs.Answered.{IsAnswered, IsMoveAnswered, IsWriteAnswere
 use Rattle.attach_dict.specs.declared.refusal.StageRefusal.{StageRefusal}
 use Rattle.attach_dict.specs.declared.refusal.StageRefusal.TheVariants.{Full, NumbersSpent, NoSpace}
 use Rattle.attach_dict.specs.declared.refusal.Absent.{Absent}
-use Rattle.attach_dict.specs.Dict.{Pair, stage, bytes_for, HasNone, Counts, value_of, Puts, IsNextNumber, IsFreeRoot, IsFull, AreNumbersSpent, IsSteadyDict}
-use Rattle.attach_dict.specs.Stages.{Phase, Idle, Staged, Filled, DictState, IsStale, AreNoneStale}
+use Rattle.attach_dict.specs.Dict.{Pair, stage, bytes_for, HasNone, Counts, value_of, Puts, IsNextNumber, IsFreeRoot, IsFull, AreNumbersUpTo, AreNumbersSpent, IsSteadyDict}
+use Rattle.attach_dict.specs.Stages.{Phase, Idle, Staged, Filled, DictState, IsStale, AreNoneStale, AtMostOneStale}
 
 -- what a crash leaves within a call of the arena: the map of before or the one of behind
 abbrev pub IsEitherDict : List Pair → List Pair → List ℕ → Type 0
@@ -24,10 +24,16 @@ IsEitherDict before behind image = IsSteadyDict before image ⊎ IsSteadyDict be
 abbrev pub Leaves : ArenaState → (List ℕ → Type 0) → Type 0
 Leaves arena Left = CrashOnly arena.device.base arena.device.events Left
 
+-- no pair has a number above those of before
+abbrev pub KeepsNumbers : DictState → DictState → Type 0
+KeepsNumbers old new = (n : ℕ) → AreNumbersUpTo (words_of old.arena.device) n → AreNumbersUpTo (words_of new.arena.device) n
+
 -- the map and the phase are these, and a crash within the call leaves the map
 pub record KeepsMap (old new : DictState) (phase : Phase) : Type 0 where
   pub pairs : new.pairs ≡ old.pairs
   pub phase_is : new.phase ≡ phase
+  -- the numbers rise no further
+  pub numbers : KeepsNumbers old new
   pub crash : Leaves new.arena (IsSteadyDict old.pairs)
 
 -- open
@@ -46,6 +52,8 @@ pub record HasTidied (old new : DictState) : Type 0 where
   pub size : ℕ
   pub stale : IsLeast (IsStale (words_of old.arena.device) old.phase) root
   pub did : IsAnswered 0 old.arena new.arena (calls.Free root) (replies.Freed at size)
+  -- what is stale behind it was so before, and is another root
+  pub left : (other : ℕ) → IsStale (words_of new.arena.device) old.phase other → IsStale (words_of old.arena.device) old.phase other × (other ≢ root)
   pub keeps : KeepsMap old new old.phase
 
 -- by the answer: where there is none, nothing was done
@@ -60,6 +68,8 @@ pub record HasAsked (old new : DictState) (count : ℕ) (reply : Reply) (phase :
   pub room : ¬ (IsFull (words_of old.arena.device))
   pub numbers : ¬ (AreNumbersSpent (words_of old.arena.device))
   pub did : IsAnswered 0 old.arena new.arena (calls.Malloc stage (bytes_for count)) reply
+  -- none is stale behind it
+  pub tidy : AreNoneStale (words_of new.arena.device) phase
   pub keeps : KeepsMap old new phase
 
 -- the stage has a block for a value of so many words
@@ -99,6 +109,12 @@ pub record HasPublished (old new : DictState) (key : ℕ) (value : List ℕ) : T
   pub did : IsMoveAnswered old.arena new.arena stage root (replies.Moved at size)
   pub puts : Puts old.pairs key (Some value) new.pairs
   pub phase : new.phase ≡ Idle
+  -- one root at most is stale behind it
+  pub one_stale : AtMostOneStale (words_of new.arena.device) Idle
+  -- its block counted for the key before
+  pub replaced : (other : ℕ) → IsStale (words_of new.arena.device) Idle other → (had : List ℕ) × Counts (words_of old.arena.device) other key had
+  -- the numbers rise by one at most
+  pub numbers : (n : ℕ) → AreNumbersUpTo (words_of old.arena.device) n → AreNumbersUpTo (words_of new.arena.device) (n + 1)
   pub crash : Leaves new.arena (IsEitherDict old.pairs new.pairs)
 
 -- cancel
@@ -109,6 +125,8 @@ pub record HasCancelled (old new : DictState) : Type 0 where
   pub size : ℕ
   pub did : IsAnswered 0 old.arena new.arena (calls.Free stage) (replies.Freed at size)
   pub gone : HasNone (words_of new.arena.device) stage
+  -- none is stale behind it
+  pub tidy : AreNoneStale (words_of new.arena.device) Idle
   pub keeps : KeepsMap old new Idle
 
 -- get
@@ -130,6 +148,10 @@ pub record HasRemoved (old new : DictState) (key : ℕ) : Type 0 where
   pub did : IsAnswered 0 old.arena new.arena (calls.Free root) (replies.Freed at size)
   pub puts : Puts old.pairs key None new.pairs
   pub phase : new.phase ≡ old.phase
+  -- none is stale behind it
+  pub tidy : AreNoneStale (words_of new.arena.device) old.phase
+  -- the numbers rise no further
+  pub numbers : KeepsNumbers old new
   pub crash : Leaves new.arena (IsEitherDict old.pairs new.pairs)
 
 -- by the answer: a map that lacks the key is as it was

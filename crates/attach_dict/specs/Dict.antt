@@ -141,6 +141,10 @@ abbrev pub IsNextNumber : List ℕ → ℕ → Type 0
 IsNextNumber words number =
     ((greatest : ℕ) × IsGreatest words greatest × (number ≡ greatest + 1)) ⊎ (((root key n : ℕ) (value : List ℕ) → ¬ (IsPair words root key n value)) × (number ≡ 1))
 
+-- no pair has a number above this one
+pub record AreNumbersUpTo (words : List ℕ) (most : ℕ) : Type 0 where
+  pub each : (root key number : ℕ) (value : List ℕ) → IsPair words root key number value → number ≤ most
+
 -- the greatest number is that of the type's end
 abbrev pub AreNumbersSpent : List ℕ → Type 0
 AreNumbersSpent words = IsGreatest words (2 ^ 64 - 1)

@@ -1,5 +1,5 @@
 -- For the functions on what a dictionary keeps beside its arena: what became of its orders and its sets of roots.
-use Rattle.std.specs.Prelude.{◌≡◌, ◌≢◌, ◌⊎◌, ℕ, ◌+◌, ◌<◌, ◌≤◌, length}
+use Rattle.std.specs.Prelude.{◌≡◌, ◌≢◌, ◌⊎◌, ℕ, ◌+◌, ◌^◌, ◌<◌, ◌≤◌, length}
 use Rattle.pair_order.specs.declared.order.Ranked.{Ranked}
 use Rattle.pair_order.specs.Order.{Order, IsRanked, HasPlace, HasNoPlace, IsNew, HasMore, HasLess, HasNoneOf, IsLastOf, IsEmpty}
 use Rattle.attach_dict.specs.declared.index.DictIndex.{DictIndex}
@@ -15,8 +15,9 @@ pub record IsBlank (index : DictIndex) (roots : ℕ) : Type 0 where
   pub stale : AreNoRoots index.stale roots
   pub wide : length index.block.items ≡ 512
 
--- a root's pair came to both orders
+-- a root's pair, with a key of 64 bits, came to both orders
 pub record HasMorePair (old : DictIndex) (pair : Ranked) (new : DictIndex) : Type 0 where
+  pub narrow : pair.first < 2 ^ 64
   pub keys : HasMore old.by_key pair new.by_key
   pub numbers : HasMore old.by_number (turned pair) new.by_number
   pub free : new.free ≡ old.free
@@ -45,8 +46,9 @@ pub record MayComeNext (index : DictIndex) (pair : Ranked) : Type 0 where
 abbrev pub IsLastStale : DictIndex → ℕ → Roots → Type 0
 IsLastStale old key stale = (HasNoneOf old.by_key key × (stale ≡ old.stale)) ⊎ ((r : Ranked) × IsLastOf old.by_key key r × HasMoreRoots old.stale r.root stale)
 
--- a free root got a pair, and the one that its key had is stale
+-- a free root got a pair, with a key of 64 bits, and the one that its key had is stale
 pub record HasPutPair (old : DictIndex) (pair : Ranked) (new : DictIndex) : Type 0 where
+  pub narrow : pair.first < 2 ^ 64
   pub keys : HasMore old.by_key pair new.by_key
   pub numbers : HasMore old.by_number (turned pair) new.by_number
   pub free : HasFewerRoots old.free pair.root new.free

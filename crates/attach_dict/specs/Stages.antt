@@ -1,7 +1,8 @@
 -- The block that is made ready at the stage, and what a dictionary keeps between its calls.
-use Rattle.std.specs.Prelude.{◌≡◌, ◌⊎◌, ℕ, ◌≤◌, List}
+use Rattle.std.specs.Prelude.{◌≡◌, ◌⊎◌, ◌↔◌, ℕ, ◌≤◌, List}
 use Rattle.pmem_lines.specs.Pmem.{words_of}
 use Rattle.heap_check.specs.Image.{bounds_of, IsExactImage}
+use Rattle.heap_check.specs.Sound.{AtMostOne}
 use Rattle.image_defects.specs.Count.{IsCount}
 use Rattle.arena_core.specs.Arena.{ArenaState}
 use Rattle.arena_core.specs.Call.{IsReady}
@@ -40,6 +41,10 @@ IsStale words (Filled key value) root = IsStaleRoot words root
 abbrev pub AreNoneStale : List ℕ → Phase → Type 0
 AreNoneStale words phase = (root : ℕ) → ¬ (IsStale words phase root)
 
+-- at most one root is
+abbrev pub AtMostOneStale : List ℕ → Phase → Type 0
+AtMostOneStale words phase = AtMostOne (IsStale words phase)
+
 -- so many are
 abbrev pub IsStaleCount : List ℕ → Phase → ℕ → Type 0
 IsStaleCount words phase count = IsCount (IsStale words phase) (bounds_of words).roots count
@@ -73,3 +78,9 @@ pub record IsKept (s : DictState) : Type 0 where
   pub exact : IsExactImage (words_of s.arena.device)
   pub dict : IsDict (words_of s.arena.device) s.pairs
   pub at_stage : IsAtStage (words_of s.arena.device) s.phase
+
+-- laws
+
+-- of an exact image 0 roots are stale by their count exactly where none is
+abbrev pub LawOfStaleCounts : Type 0
+LawOfStaleCounts = (words : List ℕ) (phase : Phase) → IsExactImage words → IsStaleCount words phase 0 ↔ AreNoneStale words phase

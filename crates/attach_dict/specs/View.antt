@@ -1,5 +1,5 @@
 -- What a dictionary keeps beside its arena, and how it is seen: its map and its phase are read off the image.
-use Rattle.std.specs.Prelude.{◌≡◌, ◌==◌, ℕ, ◌+◌, ◌/◌, ◌<◌, ◌≤◌, List, [], ◌∷◌, length, None, Some, if◌then◌else◌}
+use Rattle.std.specs.Prelude.{◌≡◌, ◌==◌, ℕ, ◌+◌, ◌/◌, ◌^◌, ◌<◌, ◌≤◌, List, [], ◌∷◌, length, None, Some, if◌then◌else◌}
 use Rattle.pmem_lines.specs.Words.{word_at, words_at}
 use Rattle.image_tables.specs.Tables.{tables_of}
 use Rattle.heap_check.specs.Image.{bounds_of}
@@ -57,6 +57,8 @@ pub record AreOrders (words : List ℕ) (end : ℕ) (by_key by_number : Order) (
   pub ranked : (root key number : ℕ) (value : List ℕ) → root < end → IsPair words root key number value → IsRanked by_key (record { root = root; first = key; second = number })
   pub are : (r : Ranked) → IsRanked by_key r → IsPairOf words r
   pub below : (r : Ranked) → IsRanked by_key r → r.root < end
+  -- a key has 64 bits
+  pub narrow : (r : Ranked) → IsRanked by_key r → r.first < 2 ^ 64
   pub to_number : (r : Ranked) → IsRanked by_key r → IsRanked by_number (turned r)
   pub to_key : (r : Ranked) → IsRanked by_number r → IsRanked by_key (turned r)
   pub free_below : free.below ≡ (bounds_of words).roots

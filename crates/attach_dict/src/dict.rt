@@ -1,9 +1,9 @@
 // A dictionary over an arena.
-ghost use Rattle.std.specs.Prelude.{◌≡◌, ◌↔◌, [], length, IsTrue, MatchOption};
+ghost use Rattle.std.specs.Prelude.{◌≡◌, ◌↔◌, ◌^◌, [], length, IsTrue, MatchOption};
 ghost use Rattle.pmem_lines.specs.Pmem.{words_of};
 ghost use Rattle.attach_dict.specs.Calls.{IsGot, LawOfOtherKeys};
 ghost use Rattle.attach_dict.specs.Dict.{LawOfDicts, LawOfKeptDicts};
-ghost use Rattle.attach_dict.specs.Stages.{IsKept, IsStaleCount};
+ghost use Rattle.attach_dict.specs.Stages.{IsKept, IsStaleCount, LawOfStaleCounts};
 ghost use Rattle.attach_dict.specs.View.{HasNoneFrom, IsNextFrom};
 
 use crate::index::DictIndex;
@@ -36,9 +36,10 @@ impl<P: Pmem> Model for Dict<P> {
 }
 
 impl<P: Pmem> Dict<P> {
-    /// How many keys there are.
+    /// How many keys there are. Each key has 64 bits.
     pub fn len(&self) -> u32
         ensures count { result ≡ length self.now.pairs }
+        ensures keys { HasNoneFrom self.now.pairs (2 ^ 64) }
         ensures kept { IsKept self.now }
     {
         self.index.by_key.len() - self.index.stale_pairs()
@@ -112,6 +113,11 @@ pub fn law_of_dicts()
 /// Where the heap and the words of blocks stay, so does the dictionary: what recovery promises gives the map again.
 pub fn law_of_kept_dicts()
     ensures { LawOfKeptDicts }
+{}
+
+/// Of an exact image 0 roots are stale by their count exactly where none is: a caller may read off `stale` that none is.
+pub fn law_of_stale_counts()
+    ensures { LawOfStaleCounts }
 {}
 
 /// What is lent of a key is lent again after any calls on other keys.

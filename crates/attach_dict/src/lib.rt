@@ -23,5 +23,5 @@ mod root_set;
 mod staging;
 mod steps;
 
-pub use dict::{Dict, law_of_dicts, law_of_kept_dicts, law_of_other_keys};
+pub use dict::{Dict, law_of_dicts, law_of_kept_dicts, law_of_other_keys, law_of_stale_counts};
 pub use refusal::{Absent, OpenFault, StageRefusal};

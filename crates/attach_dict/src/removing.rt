@@ -10,9 +10,9 @@ use crate::steps::free_block;
 use pmem_lines::Pmem;
 
 impl<P: Pmem> Dict<P> {
-    /// Frees the root whose block counts for a key, and the map loses the key. Nothing is staged, and no root is stale. `Absent`
-    /// exactly where the map lacks the key; nothing changes then. After a crash within it the map is the one from before the
-    /// call or the one from behind it. It makes one call of the arena, by seat 0, and takes no memory.
+    /// Frees the root whose block counts for a key, and the map loses the key. Nothing is staged, and no root is stale, before it
+    /// and behind it. `Absent` exactly where the map lacks the key; nothing changes then. After a crash within it the map is the
+    /// one from before the call or the one from behind it. It makes one call of the arena, by seat 0, and takes no memory.
     pub fn remove(&mut self, key: u64) -> Result<(), Absent>
         requires idle { self.old.phase ≡ Idle }
         requires tidy { AreNoneStale (words_of self.old.arena.device) Idle }
@@ -29,8 +29,8 @@ impl<P: Pmem> Dict<P> {
         }
     }
 
-    /// Frees the lowest stale root. False exactly where there is none; nothing changes then. The map stays, also in a crash. It
-    /// makes one call of the arena, by seat 0, and takes no memory.
+    /// Frees the lowest stale root, and makes no other one stale. False exactly where there is none; nothing changes then. The map
+    /// stays, also in a crash. It makes one call of the arena, by seat 0, and takes no memory.
     pub fn tidy(&mut self) -> bool
         ensures tidied { IsTidiedBy self.old self.new result }
         ensures kept { IsKept self.new }

@@ -52,8 +52,8 @@ impl<P: Pmem> Dict<P> {
         self.progress = Progress::Filled;
     }
 
-    /// Frees the block at the stage, with or without its value. The map stays, also in a crash. It makes one call of the arena,
-    /// by seat 0, and takes no memory.
+    /// Frees the block at the stage, with or without its value. No root is stale behind it. The map stays, also in a crash. It
+    /// makes one call of the arena, by seat 0, and takes no memory.
     pub fn cancel(&mut self)
         requires { self.old.phase ≢ Idle }
         ensures cancelled { HasCancelled self.old self.new }

@@ -1,10 +1,13 @@
 // The calls of a dictionary, one by one.
-ghost use Rattle.std.specs.Prelude.{◌≡◌, ◌≤◌, length, OnOk, IfOk};
+ghost use Rattle.std.specs.Prelude.{◌≡◌, ◌≢◌, ◌≤◌, IsTrue, length, Err, OnOk, IfOk};
+ghost use Rattle.attach_dict.specs.declared.refusal.StageRefusal.TheVariants.{NumbersSpent};
+ghost use Rattle.attach_dict.specs.Calls.{KeepsNumbers};
 ghost use Rattle.attach_dict.specs.Dict.{most_values};
 ghost use Rattle.attach_dict.specs.Stages.{Idle, HasFilledPhase};
+ghost use Rattle.dict_tests.specs.Rest.{IsAtRest, IsNew, HasNumber, RaisesNumbers};
 
 use arena_core::{Arena, ArenaRoom};
-use attach_dict::{Dict, StageRefusal};
+use attach_dict::{Dict, StageRefusal, law_of_stale_counts};
 use pmem_lines::{OutOfMemory, SimPmem};
 use std::alloc::Global;
 use std::process::Abort;
@@ -27,15 +30,23 @@ fn opened(alloc: Global, arena: Arena<SimPmem>) -> Result<Dict<SimPmem>, Fail>
     }
 }
 
-// A pair is made ready, where no root is stale.
-fn make_ready(dict: &mut Dict<SimPmem>, key: u64, value: &[u64]) -> Result<(), StageRefusal>
-    requires idle { dict.old.phase ≡ Idle }
-    requires few { length value.now ≤ most_values }
-    ensures { OnOk result (HasFilledPhase dict.new.phase) }
+// True only where there is no pair and no root is stale. Nothing is staged.
+fn is_new(dict: &Dict<SimPmem>) -> bool
+    requires { dict.now.phase ≡ Idle }
+    ensures { IsTrue result → IsNew dict.now }
 {
-    if dict.tidy() {
-        return Err(StageRefusal::Full);
-    }
+    law_of_stale_counts();
+    dict.stale() == 0 && dict.is_empty()
+}
+
+// A pair is made ready.
+fn make_ready(dict: &mut Dict<SimPmem>, key: u64, value: &[u64]) -> Result<(), StageRefusal>
+    requires rest { IsAtRest dict.old }
+    requires few { length value.now ≤ most_values }
+    ensures ready { OnOk result (HasFilledPhase dict.new.phase) }
+    ensures numbers { OnOk result (KeepsNumbers dict.old dict.new) }
+    ensures left { HasNumber dict.old → result ≢ Err NumbersSpent }
+{
     dict.stage(key, value.len() as u32)?;
     dict.fill(value);
     Ok(())
@@ -43,9 +54,11 @@ fn make_ready(dict: &mut Dict<SimPmem>, key: u64, value: &[u64]) -> Result<(), S
 
 // A key gets a value, and what it had is freed.
 fn put(dict: &mut Dict<SimPmem>, key: u64, value: &[u64]) -> Result<(), StageRefusal>
-    requires idle { dict.old.phase ≡ Idle }
+    requires rest { IsAtRest dict.old }
     requires few { length value.now ≤ most_values }
-    ensures { OnOk result (dict.new.phase ≡ Idle) }
+    ensures rest { OnOk result (IsAtRest dict.new) }
+    ensures numbers { OnOk result (RaisesNumbers dict.old dict.new) }
+    ensures left { HasNumber dict.old → result ≢ Err NumbersSpent }
 {
     make_ready(dict, key, value)?;
     dict.publish();
@@ -53,14 +66,23 @@ fn put(dict: &mut Dict<SimPmem>, key: u64, value: &[u64]) -> Result<(), StageRef
     Ok(())
 }
 
-// A key goes, where no root is stale.
-fn drop_key(dict: &mut Dict<SimPmem>, key: u64) -> Result<(), Fail>
-    requires { dict.old.phase ≡ Idle }
-    ensures { OnOk result (dict.new.phase ≡ Idle) }
+// A key gets the words below a number as its values, one behind the other. There is no pair, so the numbers last.
+fn put_each(dict: &mut Dict<SimPmem>, key: u64, end: u32) -> Result<(), StageRefusal>
+    requires { IsNew dict.old }
+    ensures rest { OnOk result (IsAtRest dict.new) }
+    ensures left { result ≢ Err NumbersSpent }
 {
-    if dict.tidy() {
-        return Err(Fail::from("a stale root"));
+    for word in 0..end {
+        put(dict, key, &[u64::from(word)])?;
     }
+    Ok(())
+}
+
+// A key goes.
+fn drop_key(dict: &mut Dict<SimPmem>, key: u64) -> Result<(), Fail>
+    requires { IsAtRest dict.old }
+    ensures { OnOk result (IsAtRest dict.new) }
+{
     match dict.remove(key) {
         Ok(()) => Ok(()),
         Err(_) => Err(Fail::from("no such key")),
@@ -69,20 +91,23 @@ fn drop_key(dict: &mut Dict<SimPmem>, key: u64) -> Result<(), Fail>
 
 // A pair that is made ready goes again.
 fn make_and_cancel(dict: &mut Dict<SimPmem>, key: u64) -> Result<(), StageRefusal>
-    requires { dict.old.phase ≡ Idle }
-    ensures { OnOk result (dict.new.phase ≡ Idle) }
+    requires { IsAtRest dict.old }
+    ensures { OnOk result (IsAtRest dict.new) }
 {
     make_ready(dict, key, &[3])?;
     dict.cancel();
     Ok(())
 }
 
-// Two keys, of which one gets another value; a third that is not put in the end; and one of them goes.
+// Three keys, of which one gets four values and one goes; and one that is not put in the end.
 fn change(dict: &mut Dict<SimPmem>) -> Result<(), Fail>
     requires { dict.old.phase ≡ Idle }
-    ensures { OnOk result (dict.new.phase ≡ Idle) }
+    ensures { OnOk result (IsAtRest dict.new) }
 {
-    put(dict, 7, &[1, 2])?;
+    if !is_new(dict) {
+        return Err(Fail::from("a pair or a stale root"));
+    }
+    put_each(dict, 7, 3)?;
     put(dict, u64::MAX, &[])?;
     put(dict, 7, &[5])?;
     put(dict, 3, &[8, 8, 8])?;

@@ -1,5 +1,5 @@
-use Rattle.dict_tests.proofs.Phases.{none_tidied}
+use Rattle.dict_tests.proofs.Rest.{rest_removed}
 use Rattle.dict_tests.proofs.calls.drop_key.Goals as goal
 
-pub remove-requires-clause-tidy : goal.remove-requires-clause-tidy
-remove-requires-clause-tidy c = none_tidied c.args.dict.now c.tidy.new.self c.requires c.if-tidy.ensures.tidied
+pub returns-in-Ok : goal.returns-in-Ok
+returns-in-Ok c = rest_removed c.args.dict.now c.remove.new.self c.args.key c.requires c.in-Ok.ensures.removed

@@ -1,6 +1,6 @@
 use Rattle.pmem_lines.specs.Pmem.{words_of}
 use Rattle.attach_dict.specs.View.{phase_in}
-use Rattle.attach_dict.proofs.Scans.{stale_counted}
+use Rattle.attach_dict.proofs.Stale.{stale_counted}
 use Rattle.attach_dict.proofs.dict.Dict.stale.Goals as goal
 
 pub returns-clause-count : goal.returns-clause-count
