@@ -23,7 +23,7 @@ use std::thread::Threads;
 use std::time::Instant;
 use std::{env, io};
 use trace_runs::new_arena;
-use trace_text::{Trace, TraceFault, read_trace};
+use trace_text::{TextFault, Trace, read_trace};
 use trace_workers::{OpenGate, make_calls};
 
 const GRANULE_LINES: u32 = 256;
@@ -64,11 +64,11 @@ impl From<io::Error> for Fault {
     }
 }
 
-impl From<TraceFault> for Fault {
-    fn from(fault: TraceFault) -> Self {
+impl From<TextFault> for Fault {
+    fn from(fault: TextFault) -> Self {
         match fault {
-            TraceFault::Memory(_) => Fault::Memory,
-            TraceFault::BadLine { .. } => Fault::NoTrace,
+            TextFault::Memory(_) => Fault::Memory,
+            TextFault::BadLine { .. } => Fault::NoTrace,
         }
     }
 }

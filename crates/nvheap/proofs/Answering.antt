@@ -3,7 +3,6 @@ use Rattle.std.proofs.Common.{ℕ, List, refl, Result, Ok, Err}
 use Rattle.std.specs.Result.{IfOk}
 use Rattle.pool_layout.specs.Image.{AreWordsOf}
 use Rattle.trace_text.specs.declared.call.Refusal.TheVariants.{BadLine}
-use Rattle.trace_text.specs.Grammar.{IsRefusedLine}
 use Rattle.nvheap.specs.declared.cause.Cause.{Cause}
 use Rattle.nvheap.specs.declared.cause.Cause.TheVariants.{Text}
 use Rattle.nvheap.specs.declared.answers.Answer.{Answer}
@@ -26,10 +25,10 @@ IsAnswer-refused m input places why (FaultLine text) cause line = record { why =
 pub refused : {E : Type 0} (m : Meaning) (input : List ℕ) (places : Places) (why : Cause) (result : Result Answer E) → m.refuses input why → IfOk result (IsFaultLine why) → IfOk result (IsAnswer m input places places)
 refused m input places why result cause line = IfOk-more result (IsFaultLine why) (IsAnswer m input places places) (λ answer. IsAnswer-refused m input places why answer cause) line
 
--- and so has one that makes the line of a trace that is refused, of a command that refuses such traces
-pub refused_line : {E : Type 0} (m : Meaning) (input : List ℕ) (places : Places) (result : Result Answer E) → ((line : ℕ) → IsRefusedLine input line → m.refuses input (Text (BadLine line))) →
-    IfOk result (IsBadLine input) → IfOk result (IsAnswer m input places places)
-refused_line m input places result refuses = IfOk-more result (IsBadLine input) (IsAnswer m input places places) (λ answer bad. IsAnswer-refused m input places (Text (BadLine bad.0)) answer (refuses bad.0 bad.1) bad.2)
+-- and so has one that makes the line of a text that is refused, of a command that refuses such texts
+pub refused_line : {E : Type 0} (m : Meaning) (input : List ℕ) (places : Places) (IsRefused : ℕ → Type 0) (result : Result Answer E) → ((line : ℕ) → IsRefused line → m.refuses input (Text (BadLine line))) →
+    IfOk result (IsBadLine IsRefused) → IfOk result (IsAnswer m input places places)
+refused_line m input places IsRefused result refuses = IfOk-more result (IsBadLine IsRefused) (IsAnswer m input places places) (λ answer bad. IsAnswer-refused m input places (Text (BadLine bad.0)) answer (refuses bad.0 bad.1) bad.2)
 
 -- and so has one that makes the line of an image that is refused, whichever bytes its words are of
 pub refused_image : {E : Type 0} (m : Meaning) (words : List ℕ) (size : ℕ) (why : Cause) (result : Result Answer E) → ((image : List ℕ) → AreWordsOf words size image → m.refuses image why) →

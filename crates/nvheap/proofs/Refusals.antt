@@ -1,4 +1,4 @@
--- What is accepted is not refused: traces, and images of pools.
+-- What is accepted is not refused: traces, images of pools, and scripts.
 use Rattle.std.proofs.Common.{◌≡◌, ℕ, ◌+◌, ◌*◌, ◌≤◌, List, sym, ap, ◌∙◌, subst, inl, inr, arith}
 use Rattle.pmem_lines.specs.Words.{word_at}
 use Rattle.pool_layout.specs.declared.header.PoolHeader.{PoolHeader}
@@ -19,12 +19,17 @@ use Rattle.trace_runs.specs.Arenas.{header_for}
 use Rattle.trace_runs.specs.Calls.{calls_of}
 use Rattle.trace_text.proofs.OneMeaning.{law_of_one_trace, law_of_no_refusal}
 use Rattle.trace_crashes.specs.Crash.{HasFewer}
+use Rattle.dict_text.specs.Script.{DictCall}
+use Rattle.dict_text.proofs.OneMeaning.{law_of_one_script, law_of_no_refused_script}
+use Rattle.dict_runs.specs.Crashes.{HasFewer as HasFewerEvents}
 use Rattle.nvheap.specs.declared.cause.Cause.{Cause}
 use Rattle.nvheap.specs.declared.cause.Cause.TheVariants.{Text, Image, Version}
 use Rattle.nvheap.specs.Traces.{HasTrace, RefusesTrace}
 use Rattle.nvheap.specs.Checking.{HasSoundArenas, RefusesImage}
 use Rattle.nvheap.specs.Crashing.{RefusesCrash, HasEvents}
 use Rattle.nvheap.specs.Migrating.{HasSoundFirst, RefusesMigrate}
+use Rattle.nvheap.specs.Scripting.{HasScript, RefusesScript}
+use Rattle.nvheap.specs.ScriptCrashing.{HasScriptEvents, RefusesDictCrash}
 
 -- images
 
@@ -98,3 +103,25 @@ crash_not_refused arena event input (Text (NoEvent number events)) has lacks =
     omega (arith, fewer.lacks, fewer.is_all, has.enough fewer.stages fewer.run)
 crash_not_refused arena event input (Image number defect) has refused = refused
 crash_not_refused arena event input (Version version) has refused = refused
+
+-- scripts
+
+-- a script has no refused line
+pub script_not_refused : (input : List ℕ) (why : Cause) → HasScript input → ¬ (RefusesScript input why)
+script_not_refused input (Text (BadLine line)) has refused = law_of_no_refused_script input has.granules has.calls line has.script refused
+script_not_refused input (Text (NoArena arena arenas)) has refused = refused
+script_not_refused input (Text (NoEvent event events)) has refused = refused
+script_not_refused input (Image arena defect) has refused = refused
+script_not_refused input (Version version) has refused = refused
+
+-- where its calls have the event, `dict-crash` refuses nothing
+pub dict_crash_not_refused : (event : ℕ) (input : List ℕ) (why : Cause) → HasScriptEvents event input → ¬ (RefusesDictCrash event input why)
+dict_crash_not_refused event input (Text (BadLine line)) has refused = law_of_no_refused_script input has.script.granules has.script.calls line has.script.script refused
+dict_crash_not_refused event input (Text (NoArena number arenas)) has refused = refused
+dict_crash_not_refused event input (Text (NoEvent number events)) has lacks =
+    let same = law_of_one_script input lacks.script.granules has.script.granules lacks.script.calls has.script.calls lacks.script.script has.script.script in
+    let fewer : HasFewerEvents has.script.granules has.script.calls event events =
+    subst (λ (cs : List DictCall). HasFewerEvents has.script.granules cs event events) same.1 (subst (λ g. HasFewerEvents g lacks.script.calls event events) same.0 lacks.fewer) in
+    omega (arith, fewer.lacks, fewer.is_all, has.enough fewer.turns fewer.to fewer.last fewer.run)
+dict_crash_not_refused event input (Image number defect) has refused = refused
+dict_crash_not_refused event input (Version version) has refused = refused

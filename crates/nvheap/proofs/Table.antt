@@ -4,10 +4,10 @@ use Rattle.std.specs.Prelude.{decimal}
 use Rattle.std.proofs.lemmas.Fmt.{decimal_injective}
 use Rattle.nvheap.specs.declared.cause.Cause.{Cause}
 use Rattle.nvheap.specs.declared.command.Command.{Command}
-use Rattle.nvheap.specs.declared.command.Command.TheVariants.{Replay, Image, Check, Recover, Crash, Gen, Migrate}
+use Rattle.nvheap.specs.declared.command.Command.TheVariants.{Replay, Image, Check, Recover, Crash, Gen, Migrate, Dict, DictCrash}
 use Rattle.nvheap.specs.Meaning.{Meaning}
 use Rattle.nvheap.specs.Command.{row_of, meaning_of, AreNumbers, IsCommand, IsNoCommand, IsSaid}
-use Rattle.nvheap.proofs.Refusals.{trace_not_refused, image_not_refused, crash_not_refused, migrate_not_refused}
+use Rattle.nvheap.proofs.Refusals.{trace_not_refused, image_not_refused, crash_not_refused, migrate_not_refused, script_not_refused, dict_crash_not_refused}
 
 -- a row for each command
 
@@ -25,6 +25,8 @@ command_by k numbers =
     if k == 1394 then Some (Crash (get_or numbers 0 0) (get_or numbers 1 0) (get_or numbers 2 0)) else
     if k == 869 then Some (Gen (get_or numbers 0 0) (get_or numbers 1 0)) else
     if k == 1897 then Some Migrate else
+    if k == 1129 then Some Dict else
+    if k == 2665 then Some (DictCrash (get_or numbers 0 0) (get_or numbers 1 0)) else
     None
 
 -- it is the one whose text and numbers they are
@@ -36,6 +38,8 @@ back Recover = refl
 back (Crash arena event seed) = refl
 back (Gen count seed) = refl
 back Migrate = refl
+back Dict = refl
+back (DictCrash event seed) = refl
 
 -- what a command accepts it does not refuse
 pub settled : (command : Command) (input : List ℕ) (why : Cause) → (meaning_of command).accepts input → ¬ ((meaning_of command).refuses input why)
@@ -46,6 +50,8 @@ settled Recover input why has = image_not_refused input why has
 settled (Crash arena event seed) input why has = crash_not_refused arena event input why has
 settled (Gen count seed) input why has = λ refused. refused
 settled Migrate input why has = migrate_not_refused input why has
+settled Dict input why has = script_not_refused input why has
+settled (DictCrash event seed) input why has = dict_crash_not_refused event input why has
 
 -- one command
 

@@ -1,7 +1,6 @@
 -- How a run ends, whichever command it is of: what each status says of the words, the input, the output and the shelf.
 use Rattle.std.specs.Prelude.{◌≡◌, ◌⊎◌, ℕ, List, Option}
 use Rattle.trace_text.specs.declared.call.Refusal.TheVariants.{BadLine}
-use Rattle.trace_text.specs.Grammar.{IsRefusedLine}
 use Rattle.nvheap.specs.declared.answers.Answer.{Answer}
 use Rattle.nvheap.specs.declared.answers.Answer.TheVariants.{Output, FaultLine}
 use Rattle.nvheap.specs.declared.cause.Cause.{Cause}
@@ -90,9 +89,9 @@ abbrev pub IsFaultLine : Cause → Answer → Type 0
 IsFaultLine cause (Output text) = ⊥
 IsFaultLine cause (FaultLine text) = text.items ≡ cause_text cause
 
--- the line that says that a trace is refused, at a line outside the grammar
-abbrev pub IsBadLine : List ℕ → Answer → Type 0
-IsBadLine input answer = (line : ℕ) × IsRefusedLine input line × IsFaultLine (Text (BadLine line)) answer
+-- the line that says that a text is refused, at a line outside its grammar
+abbrev pub IsBadLine : (ℕ → Type 0) → Answer → Type 0
+IsBadLine IsRefused answer = (line : ℕ) × IsRefused line × IsFaultLine (Text (BadLine line)) answer
 
 -- what a sink took of an answer, by how its writing ended: all of it, or at a fault its front
 abbrev pub IsWritten : Answer → Option (List ℕ) → Option (List ℕ) → Status → Type 0

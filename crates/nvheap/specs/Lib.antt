@@ -10,5 +10,7 @@ pub mod Recovering
 pub mod Crashing
 pub mod Generating
 pub mod Migrating
+pub mod Scripting
+pub mod ScriptCrashing
 pub mod Command
 pub mod Ends

@@ -1,7 +1,7 @@
 // What each command has to say of its input.
 ghost use Rattle.std.specs.Prelude.{◌≡◌, ◌≤◌, ℕ, List, length, IfOk, IfErr, OnErr, IsTrue};
 ghost use Rattle.std.specs.List.{All};
-ghost use Rattle.trace_text.specs.Grammar.{pool_of, IsPool, IsTrace, IsTraceCall};
+ghost use Rattle.trace_text.specs.Grammar.{pool_of, IsPool, IsTrace, IsTraceCall, IsRefusedLine};
 ghost use Rattle.nvheap.specs.Command.{meaning_of};
 ghost use Rattle.nvheap.specs.Inputs.{HasBytes, IsInput, Fits};
 ghost use Rattle.nvheap.specs.Ends.{IsAnswer, CountsImages, IsFaultLine, IsBadLine};
@@ -14,10 +14,12 @@ use crate::imaging::image_answer;
 use crate::input::Input;
 use crate::migrating::migrate_answer;
 use crate::recovering::recover_answer;
+use crate::script_crashing::dict_crash_answer;
+use crate::scripting::dict_answer;
 use crate::shelf::Shelf;
 use pmem_lines::OutOfMemory;
 use std::alloc::Global;
-use trace_text::{Refusal, Trace, TraceFault, read_trace};
+use trace_text::{Refusal, TextFault, Trace, read_trace};
 
 /// What a command has to say of its input.
 #[derive(Drop)]
@@ -54,6 +56,10 @@ pub(crate) fn answer_to<H: Shelf>(
             crash_answer(alloc, text, arena, event, seed, shelf)
         }
         (Command::Migrate, Input::Pool { words, bytes }) => migrate_answer(alloc, words, *bytes),
+        (Command::Dict, Input::Text(text)) => dict_answer(alloc, text, shelf),
+        (Command::DictCrash { event, seed }, Input::Text(text)) => {
+            dict_crash_answer(alloc, text, event, seed, shelf)
+        }
         _ => unreachable!(),
     }
 }
@@ -65,12 +71,12 @@ pub(crate) fn trace_of(alloc: Global, input: &[u8]) -> Result<Trace, Result<Answ
     ensures pool { IfOk result (λ trace. IsPool (pool_of trace)) }
     ensures each { IfOk result (λ trace. All (IsTraceCall trace.arenas) trace.calls.items) }
     ensures few { IfOk result (λ trace. length trace.calls.items ≤ length input.now) }
-    ensures refused { IfErr result (λ answer. IfOk answer (IsBadLine input.now)) }
+    ensures refused { IfErr result (λ answer. IfOk answer (IsBadLine (IsRefusedLine input.now))) }
 {
     match read_trace(alloc, input) {
         Ok(trace) => Ok(trace),
-        Err(TraceFault::Memory(fault)) => Err(Err(fault)),
-        Err(TraceFault::BadLine { line }) => Err(fault_line(
+        Err(TextFault::Memory(fault)) => Err(Err(fault)),
+        Err(TextFault::BadLine { line }) => Err(fault_line(
             alloc,
             Cause::Text(Refusal::BadLine { line }),
         )),

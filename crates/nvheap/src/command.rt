@@ -22,6 +22,10 @@ pub enum Command {
     Gen { count: u32, seed: u64 },
     /// Migrate the image of a pool of version 1, and write that of the pool of version 2.
     Migrate,
+    /// Run a script on a dictionary, and print what its lines came to and the map behind them.
+    Dict,
+    /// Run a script up to an event, and print the map that a crash leaves.
+    DictCrash { event: u64, seed: u64 },
 }
 
 const MOST_CALLS: u64 = 1_000_000;
@@ -33,6 +37,7 @@ impl Command {
     {
         match self {
             Command::Replay | Command::Image | Command::Crash { .. } => Some(Kind::Text),
+            Command::Dict | Command::DictCrash { .. } => Some(Kind::Text),
             Command::Check | Command::Recover | Command::Migrate => Some(Kind::Pool),
             Command::Gen { .. } => None,
         }
@@ -56,6 +61,9 @@ pub(crate) fn command_of(words: &[String]) -> Option<Command>
     if words.len() == 3 && is_word(&words[0], "gen") {
         return gen_of(words[1].as_bytes(), words[2].as_bytes());
     }
+    if words.len() == 3 && is_word(&words[0], "dict-crash") {
+        return dict_crash_of(words[1].as_bytes(), words[2].as_bytes());
+    }
     None
 }
 
@@ -77,6 +85,9 @@ fn plain_command(word: &String) -> Option<Command>
     }
     if is_word(word, "migrate") {
         return Some(Command::Migrate);
+    }
+    if is_word(word, "dict") {
+        return Some(Command::Dict);
     }
     None
 }
@@ -100,6 +111,15 @@ fn crash_of(arena: &[u8], event: &[u8], seed: &[u8]) -> Option<Command>
         event,
         seed,
     })
+}
+
+// The crash of a script that these two numbers ask for, if they are numbers.
+fn dict_crash_of(event: &[u8], seed: &[u8]) -> Option<Command>
+    ensures { MatchOption result (IsNoCommand (codes "dict-crash" ∷ event.now ∷ seed.now ∷ [])) (IsCommand (codes "dict-crash" ∷ event.now ∷ seed.now ∷ [])) }
+{
+    let event = whole_number(event, u64::MAX)?;
+    let seed = whole_number(seed, u64::MAX)?;
+    Some(Command::DictCrash { event, seed })
 }
 
 // The generated work that these two numbers ask for, if they are numbers, and not of no calls.

@@ -84,8 +84,8 @@ fn recovered_report<H: Shelf>(
     Ok(text)
 }
 
-// How much room a device with the words of a sound image must have: that of its version.
-fn room_of(image: &[u64]) -> u32
+/// How much room a device with the words of a sound image must have: that of its version.
+pub(crate) fn room_of(image: &[u64]) -> u32
     requires { IsSoundImage image.now }
     ensures { result ≡ (layout_of (version_in image.now)).room }
 {

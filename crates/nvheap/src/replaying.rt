@@ -17,7 +17,8 @@ use trace_runs::new_arena;
 use trace_text::{PoolSize, Trace};
 use trace_workers::{Account, Gate, replay};
 
-const GRANULE_LINES: u32 = 256;
+/// The bytes of a granule, in lines.
+pub(crate) const GRANULE_LINES: u32 = 256;
 
 /// The report of a trace, whose calls are made by a worker for each thread. Each arena's device comes from the shelf, and is
 /// put into the place of the arena's number once all calls are made.

@@ -145,16 +145,21 @@ fn has_events<R: Abort + Threads + Wait + Sync>(
 
 /// The heap that has these blocks, as the program writes it; `none` says that it has none.
 pub(crate) fn heap_of(alloc: Global, blocks: &str) -> Result<String, AllocError> {
+    counted(alloc, "heap", blocks)
+}
+
+/// The line that says how many lines follow, and these; `none` says that there are none.
+pub(crate) fn counted(alloc: Global, name: &str, parts: &str) -> Result<String, AllocError> {
     let mut lines = String::new(alloc);
     let mut count = 0u32;
-    for block in blocks.split(", ") {
-        if block != "none" {
+    for part in parts.split(", ") {
+        if part != "none" {
             count = count.saturating_add(1);
-            lines.push_str(block)?;
+            lines.push_str(part)?;
             lines.push_str("\n")?;
         }
     }
-    format!(in alloc; "heap {count}\n{lines}")
+    format!(in alloc; "{name} {count}\n{lines}")
 }
 
 /// The word at an address of the device that a replay of a trace leaves on a shelf. The address lies in the first 16

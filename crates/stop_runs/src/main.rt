@@ -4,19 +4,25 @@
 // error which one it was.
 //
 // The words are `brief` or `whole`, and a script's name or none, which is for all. `scripts` has the scripts, of which
-// `full_arena` draws one, `stopping` makes their calls and stops these, and `heaps` has what is compared. That each image is
-// recovered to one of the two heaps is proved of every call (`IsEitherHeap`); here the definitions meet what runs.
+// `full_arena` draws one, `stopping` makes their calls and stops these, and `heaps` has what is compared. `stores` does so with a
+// script of a dictionary, and compares maps. That each image is recovered to one of the two heaps, or maps, is proved of every
+// call (`IsEitherHeap`, `IsEitherDict`); here the definitions meet what runs.
 #![tactic(auto, using(recover::proofs::Recoveries::room_of_any, arena_core::proofs::Readiness::first_room, arena_core::proofs::Readiness::first_most))]
 
 mod full_arena;
 mod heaps;
 mod scripts;
 mod stopping;
+mod stores;
 
 use anyhow::{Context, Result, bail};
 use scripts::{Amount, NAMES, script_of};
 use std::env;
-use stopping::stop_calls;
+use stopping::{Counts, stop_calls};
+use stores::stop_store;
+
+/// The name of the script of a dictionary, which runs behind the others.
+const STORE: &str = "store";
 
 /// The words after the program's name.
 fn words_of_program(rt: &HostRuntime) -> Result<Vec<String>> {
@@ -27,13 +33,21 @@ fn words_of_program(rt: &HostRuntime) -> Result<Vec<String>> {
     Ok(words)
 }
 
-/// Stops the calls of a script, and prints its line.
-fn run_script(rt: &HostRuntime, name: &str, amount: Amount) -> Result<()> {
+/// Stops the calls of a script.
+fn stop_script(rt: &HostRuntime, name: &str, amount: Amount) -> Result<Counts> {
+    if name == STORE {
+        return stop_store(rt.alloc(), amount);
+    }
     let Some(script) = script_of(rt.alloc(), name)? else {
         bail!("there is no script {name}");
     };
     let first = script.first_of(amount);
-    let counts = stop_calls(rt.alloc(), &script, first).context(format_args!("{name}"))?;
+    stop_calls(rt.alloc(), &script, first)
+}
+
+/// Stops the calls of a script, and prints its line.
+fn run_script(rt: &HostRuntime, name: &str, amount: Amount) -> Result<()> {
+    let counts = stop_script(rt, name, amount).context(format_args!("{name}"))?;
     let events = counts.events;
     let stops = counts.stops;
     let recovered = counts.recovered;
@@ -59,7 +73,7 @@ fn main(rt: HostRuntime) -> Result<()> {
             for name in NAMES {
                 run_script(&rt, name, amount)?;
             }
-            Ok(())
+            run_script(&rt, STORE, amount)
         }
     }
 }

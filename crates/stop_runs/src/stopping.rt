@@ -11,8 +11,8 @@ use recover::{RecoverFault, recover};
 use std::alloc::Global;
 use thiserror::Error;
 
-// How many seeds pick an image at each stop.
-const SEEDS: u64 = 3;
+/// How many seeds pick an image at each stop.
+pub(crate) const SEEDS: u64 = 3;
 
 // The roots of an arena of version 2, more than one of version 1 has.
 const ALL_ROOTS: u32 = 16384;
@@ -232,15 +232,32 @@ fn recovers(alloc: Global, device: &SimPmem, k: u32, roots: u32, heap: &[Held]) 
 // The arena that is recovered from the image behind the first `k` events of a device, as a generator from `seed` picks.
 // `None` where the device has fewer events, or the image is not sound.
 fn recovered(alloc: Global, device: &SimPmem, k: u32, seed: u64) -> Result<Option<Arena<SimPmem>>> {
+    match stopped_image(alloc, device, k, seed)? {
+        Some(image) => of_image(alloc, &image),
+        None => Ok(None),
+    }
+}
+
+/// The image behind the first `k` events of a device, as a generator from `seed` picks. `None` where the device has fewer.
+pub(crate) fn stopped_image(
+    alloc: Global,
+    device: &SimPmem,
+    k: u32,
+    seed: u64,
+) -> Result<Option<Vec<u64>>> {
     if k > device.event_count() {
         return Ok(None);
     }
     let mut picks = SplitMix64::seed_from_u64(seed);
-    let image = device.image(alloc, k, &mut picks)?;
+    Ok(Some(device.image(alloc, k, &mut picks)?))
+}
+
+/// The arena that is recovered from an image. `None` where it is not sound.
+pub(crate) fn of_image(alloc: Global, image: &[u64]) -> Result<Option<Arena<SimPmem>>> {
     if image.len() % 8 != 0 || image.len() < 8 || image.len() > 8_388_608 {
         return Ok(None);
     }
-    match recover(alloc, SimPmem::from_image(alloc, &image, ROOM)?) {
+    match recover(alloc, SimPmem::from_image(alloc, image, ROOM)?) {
         Ok(arena) => Ok(Some(arena)),
         Err((RecoverFault::Memory(error), _)) => Err(error.into()),
         Err((RecoverFault::Defect(_), _)) => Ok(None),

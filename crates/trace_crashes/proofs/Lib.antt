@@ -1,5 +1,5 @@
 mod Changes
-mod Crashes
+pub mod Crashes
 mod Roots
 mod UnderWay
 mod Sides

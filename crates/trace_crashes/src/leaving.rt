@@ -114,9 +114,14 @@ fn root_of(call: &Call) -> u32
     }
 }
 
-// The words that a crash leaves.
+/// The words that a crash leaves after the first `done` events of a device's last call, as a generator from the seed picks.
 #[tactic(auto, unfolding(crate::specs::Crash::crash_image))]
-fn image_of(alloc: Global, device: &SimPmem, done: u32, seed: u64) -> Result<Vec<u64>, OutOfMemory>
+pub fn image_of(
+    alloc: Global,
+    device: &SimPmem,
+    done: u32,
+    seed: u64,
+) -> Result<Vec<u64>, OutOfMemory>
     requires { done ≤ length device.now.events }
     ensures image { IfOk result (λ image. image.items ≡ crash_image (last_stage device.now) done seed) }
     ensures one { IfOk result (λ image. IsImage device.now.base (take done device.now.events) image.items) }

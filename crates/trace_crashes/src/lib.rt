@@ -5,6 +5,8 @@
 // `specs/Crash.antt` (`IsCrashOf`, `HasFewer`), over the run that the calls make (`IsRunOf` of `trace_runs`), which they settle.
 // The rest of `specs/` is for the functions below it.
 //
+// `image_of` gives such an image of a device alone.
+//
 // The layer above has a parsed trace, recovers the image, and knows where bytes go.
 #![tactic(auto)]
 
@@ -14,4 +16,4 @@ mod opening;
 mod seeking;
 
 pub use crashing::{CrashFault, crash};
-pub use leaving::Crashed;
+pub use leaving::{Crashed, image_of};

@@ -2,6 +2,8 @@ pub mod Fronts
 pub mod Numbers
 pub mod CallLines
 pub mod Lines
+pub mod Texts
+pub mod OneText
 pub mod OneMeaning
 pub mod Calls
 pub mod Pools

@@ -1,31 +1,13 @@
--- The grammar of traces. Each call and each pool has one text; a trace is lines of such texts, among lines that are
--- passed over.
-use Rattle.std.specs.Prelude.{◌≡◌, ◌==◌, ◌⊎◌, ℕ, zero, suc, ◌+◌, ◌<◌, ◌≤◌, ◌^◌, List, [], ◌∷◌, ◌++◌, length, decimal, codes, if◌then◌else◌}
-use Rattle.std.specs.List.{slice_split}
+-- The grammar of traces: texts of lines whose head is a pool. Each pool and each call has one text.
+use Rattle.std.specs.Prelude.{◌≡◌, ◌==◌, ℕ, ◌<◌, ◌≤◌, ◌^◌, List, ◌∷◌, ◌++◌, decimal, codes, if◌then◌else◌}
 use Rattle.pool_layout.specs.Layout.{layout_of, all_granules, pool_granules, IsVersion}
 use Rattle.heap_model.specs.declared.call.Call.{Call}
 use Rattle.heap_model.specs.declared.call.Call.TheVariants.{Malloc, Free, Write, Read, Move}
 use Rattle.trace_text.specs.declared.call.PoolSize.{PoolSize}
 use Rattle.trace_text.specs.declared.call.TraceCall.{TraceCall}
 use Rattle.trace_text.specs.declared.trace.Trace.{Trace}
-use Rattle.trace_text.specs.declared.trace.TraceFault.{TraceFault}
-use Rattle.trace_text.specs.declared.trace.TraceFault.TheVariants.{Memory, BadLine}
 use Rattle.trace_text.specs.Words.{call_text}
-
--- the pieces of a text without an empty last one
-abbrev pub without_empty_end : List (List ℕ) → List (List ℕ)
-without_empty_end [] = []
-without_empty_end (piece ∷ []) = if length piece == 0 then [] else piece ∷ []
-without_empty_end (piece ∷ next ∷ pieces) = piece ∷ without_empty_end (next ∷ pieces)
-
--- the lines of a text: each ends with a line feed, which the last one may lack
-abbrev pub lines_of : List ℕ → List (List ℕ)
-lines_of text = without_empty_end (slice_split (λ byte. byte == 10) text)
-
--- a line that is passed over: it is empty, or begins with `#`
-abbrev pub IsPassedOver : List ℕ → Type 0
-IsPassedOver [] = Unit {0}
-IsPassedOver (byte ∷ line) = byte ≡ 35
+use Rattle.trace_text.specs.Texts.{Lines, IsText, IsFirstOutside}
 
 -- the pool of a trace
 abbrev pub pool_of : Trace → PoolSize
@@ -73,41 +55,15 @@ pub record IsCallLine (arenas : ℕ) (line : List ℕ) (call : TraceCall) : Type
   pub text : line ≡ decimal call.thread ++ 32 ∷ decimal call.arena ++ 32 ∷ call_text call.call
   pub valid : IsTraceCall arenas call
 
--- the lines make these calls, in order, and say nothing else
-abbrev pub AreCalls : ℕ → List (List ℕ) → List TraceCall → Type 0
-AreCalls arenas [] calls = calls ≡ []
-AreCalls arenas (line ∷ lines) [] = IsPassedOver line × AreCalls arenas lines []
-AreCalls arenas (line ∷ lines) (call ∷ calls) = (IsPassedOver line × AreCalls arenas lines (call ∷ calls)) ⊎ (IsCallLine arenas line call × AreCalls arenas lines calls)
-
--- the first line that isn't passed over says the pool, and the lines after it make the calls
-abbrev pub AreTrace : List (List ℕ) → PoolSize → List TraceCall → Type 0
-AreTrace [] pool calls = ⊥
-AreTrace (line ∷ lines) pool calls = (IsPassedOver line × AreTrace lines pool calls) ⊎ (IsPoolLine line pool × AreCalls pool.arenas lines calls)
-
--- behind n lines of calls there is one that is no call
-abbrev pub IsNoCallAt : ℕ → List (List ℕ) → ℕ → Type 0
-IsNoCallAt arenas [] n = ⊥
-IsNoCallAt arenas (line ∷ lines) zero = ¬ (IsPassedOver line) × ((call : TraceCall) → ¬ (IsCallLine arenas line call))
-IsNoCallAt arenas (line ∷ lines) (suc n) = (IsPassedOver line ⊎ ((call : TraceCall) × IsCallLine arenas line call)) × IsNoCallAt arenas lines n
-
--- behind n lines in the grammar there is one that isn't, or the text ends with no pool
-abbrev pub IsNoTraceAt : List (List ℕ) → ℕ → Type 0
-IsNoTraceAt [] n = n ≡ 0
-IsNoTraceAt (line ∷ lines) zero = ¬ (IsPassedOver line) × ((pool : PoolSize) → ¬ (IsPoolLine line pool))
-IsNoTraceAt (line ∷ lines) (suc n) = (IsPassedOver line × IsNoTraceAt lines n) ⊎ ((pool : PoolSize) × IsPoolLine line pool × IsNoCallAt pool.arenas lines n)
+-- what the lines of a trace say: its pool, and calls of it
+abbrev pub trace_lines : Lines PoolSize TraceCall
+trace_lines = record { head = IsPoolLine; call = λ pool. IsCallLine pool.arenas }
 
 -- the text is a trace of this pool and these calls
-pub record IsTrace (text : List ℕ) (pool : PoolSize) (calls : List TraceCall) : Type 0 where
-  pub lines : AreTrace (lines_of text) pool calls
+abbrev pub IsTrace : List ℕ → PoolSize → List TraceCall → Type 0
+IsTrace text pool calls = IsText trace_lines text pool calls
 
--- the line of this number, counted from 1, is the first outside the grammar; a text that ends with no pool is refused
+-- the line of this number, counted from 1, is the first outside the grammar of traces; a text that ends with no pool is refused
 -- just behind its last line
-pub record IsRefusedLine (text : List ℕ) (number : ℕ) : Type 0 where
-  pub before : ℕ
-  pub is_next : number ≡ before + 1
-  pub lines : IsNoTraceAt (lines_of text) before
-
--- what a fault of reading says of the text, where it is a bad line
-abbrev pub IfBadLine : TraceFault → (ℕ → Type 0) → Type 0
-IfBadLine (Memory error) IsLine = Unit {0}
-IfBadLine (BadLine line) IsLine = IsLine line
+abbrev pub IsRefusedLine : List ℕ → ℕ → Type 0
+IsRefusedLine text number = IsFirstOutside trace_lines text number

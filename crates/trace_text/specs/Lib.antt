@@ -1,4 +1,5 @@
 pub mod Words
+pub mod Texts
 pub mod Grammar
 pub mod Numbers
 pub mod Lines

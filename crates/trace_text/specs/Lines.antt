@@ -1,8 +1,8 @@
 -- What was read of a line and of the lines of a text, and what is left.
 use Rattle.std.specs.Prelude.{◌≡◌, ℕ, ◌+◌, ◌≤◌, List, length}
 use Rattle.trace_text.specs.declared.call.PoolSize.{PoolSize}
-use Rattle.trace_text.specs.declared.call.TraceCall.{TraceCall}
-use Rattle.trace_text.specs.Grammar.{lines_of, pool_sizes, IsPool, AreCalls, AreTrace, IsNoCallAt, IsNoTraceAt}
+use Rattle.trace_text.specs.Texts.{Lines, lines_of, AreCalls, AreText, IsNoCallAt, IsNoTextAt}
+use Rattle.trace_text.specs.Grammar.{pool_sizes, IsPool}
 
 -- the words behind the first of a pool's line say this pool of the version
 pub record IsPoolOf (version : ℕ) (words : List ℕ) (pool : PoolSize) : Type 0 where
@@ -10,15 +10,17 @@ pub record IsPoolOf (version : ℕ) (words : List ℕ) (pool : PoolSize) : Type 
   pub text : words ≡ pool_sizes pool
   pub valid : IsPool pool
 
--- these many lines of the text, the last of them the pool's, and then the rest
-pub record IsBehindPool (text rest : List ℕ) (pool : PoolSize) (many : ℕ) : Type 0 where
-  pub valid : IsPool pool
-  pub made : (calls : List TraceCall) → AreCalls pool.arenas (lines_of rest) calls → AreTrace (lines_of text) pool calls
-  pub refused : (n : ℕ) → IsNoCallAt pool.arenas (lines_of rest) n → IsNoTraceAt (lines_of text) (many + n)
-  pub within : many + length rest ≤ length text
+module _ {H C : Type 0} (g : Lines H C) where
+  -- these many lines of the text, the last of them one that says the head, and then the rest
+  pub record IsBehindHead (text rest : List ℕ) (head : H) (many : ℕ) : Type 0 where
+    pub line : List ℕ
+    pub says : g.head line head
+    pub made : (calls : List C) → AreCalls g head (lines_of rest) calls → AreText g (lines_of text) head calls
+    pub refused : (n : ℕ) → IsNoCallAt g head (lines_of rest) n → IsNoTextAt g (lines_of text) (many + n)
+    pub within : many + length rest ≤ length text
 
--- a line of the text, counted from one behind as many lines before it, is the first that is no call
-pub record IsRefusedCall (arenas : ℕ) (text : List ℕ) (before line : ℕ) : Type 0 where
-  pub many : ℕ
-  pub is_next : line ≡ before + many + 1
-  pub lines : IsNoCallAt arenas (lines_of text) many
+  -- a line of the text, counted from one behind as many lines before it, is the first that is no call
+  pub record IsRefusedCall (head : H) (text : List ℕ) (before line : ℕ) : Type 0 where
+    pub many : ℕ
+    pub is_next : line ≡ before + many + 1
+    pub lines : IsNoCallAt g head (lines_of text) many

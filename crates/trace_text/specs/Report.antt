@@ -51,9 +51,14 @@ side_text Same = codes "same"
 side_text Before = codes "before"
 side_text After = codes "after"
 
--- the report of a crash: the number of the call under way, and the heap that the crash left
+-- the line that a report of a crash begins with: the number of the call under way, and on which side of it that stands which the
+-- crash left
+abbrev pub crash_line : ℕ → CrashSide → List ℕ
+crash_line call side = codes "call " ++ decimal call ++ 32 ∷ side_text side ++ 10 ∷ []
+
+-- the report of a crash: its line, and the heap that the crash left
 abbrev pub crash_text : ℕ → CrashSide → List Block → List ℕ
-crash_text call side blocks = codes "call " ++ decimal call ++ 32 ∷ side_text side ++ 10 ∷ heap_text blocks
+crash_text call side blocks = crash_line call side ++ heap_text blocks
 
 -- why an input is refused
 abbrev pub refusal_text : Refusal → List ℕ

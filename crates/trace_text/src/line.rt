@@ -1,11 +1,11 @@
 // One line of a trace.
-ghost use Rattle.std.specs.Prelude.{◌≡◌, ◌≢◌, ◌↔◌, ℕ, ◌<◌, ◌≤◌, ◌^◌, ◌∷◌, ◌++◌, decimal, IsTrue, MatchOption};
+ghost use Rattle.std.specs.Prelude.{◌≡◌, ◌≢◌, ℕ, ◌<◌, ◌≤◌, ◌^◌, ◌∷◌, ◌++◌, decimal, MatchOption};
 ghost use Rattle.pool_layout.specs.Layout.{IsVersion};
 ghost use Rattle.heap_model.specs.declared.call.Call.{Call};
 ghost use Rattle.trace_text.specs.declared.call.PoolSize.{PoolSize};
 ghost use Rattle.trace_text.specs.declared.call.TraceCall.{TraceCall};
 ghost use Rattle.trace_text.specs.Words.{call_text};
-ghost use Rattle.trace_text.specs.Grammar.{IsPassedOver, IsAsked, IsCallLine, IsPoolLine};
+ghost use Rattle.trace_text.specs.Grammar.{IsAsked, IsCallLine, IsPoolLine};
 ghost use Rattle.trace_text.specs.Lines.{IsPoolOf};
 
 use crate::number::{after, read_field, whole_number};
@@ -24,13 +24,6 @@ const LAST_INDEX: u64 = 0xFFFF_FFFF;
 
 /// The most arenas of a pool.
 const MOST_ARENAS: u64 = 16;
-
-/// Whether a line is empty or begins with `#`.
-pub(crate) fn is_passed_over(line: &[u8]) -> bool
-    ensures { IsTrue result ↔ IsPassedOver line.now }
-{
-    line.is_empty() || line[0] == b'#'
-}
 
 /// The pool of this version that the words behind its line's first word say; none where they say no pool.
 fn read_pool_of(version: u32, words: &[u8]) -> Option<PoolSize>

@@ -36,7 +36,7 @@ fn is_padded(text: &[u8], many: usize) -> bool
 }
 
 /// The number of 64 bits at the front of a text, and what follows it; none where there is no such number.
-fn read_number(text: &[u8]) -> Option<(u64, &[u8])>
+pub fn read_number(text: &[u8]) -> Option<(u64, &[u8])>
     ensures { MatchOption result ((number : ℕ) (rest : List ℕ) → ¬ (IsNumberThen text.now number rest)) (λ found. IsNumberThen text.now found.0 found.1.now) }
 {
     let (number, many) = read_digits(text)?;
@@ -50,7 +50,7 @@ fn read_number(text: &[u8]) -> Option<(u64, &[u8])>
 }
 
 /// What follows these bytes in a text; none where the text does not begin with them.
-pub(crate) fn after<'a>(text: &'a [u8], front: &[u8]) -> Option<&'a [u8]>
+pub fn after<'a>(text: &'a [u8], front: &[u8]) -> Option<&'a [u8]>
     ensures { MatchOption result ((rest : List ℕ) → text.now ≢ front.now ++ rest) (λ rest. text.now ≡ front.now ++ rest.now) }
 {
     text.strip_prefix(front)

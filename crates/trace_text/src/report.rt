@@ -2,7 +2,7 @@
 ghost use Rattle.std.specs.Prelude.{◌≡◌, [], ◌+◌, ◌≤◌, ◌∷◌, ◌++◌, codes, decimal, flat_map, length, OnOk, OnErr};
 ghost use Rattle.trace_text.specs.Words.{call_text};
 ghost use Rattle.trace_text.specs.Fronts.{BeginsWith};
-ghost use Rattle.trace_text.specs.Report.{reply_text, arena_line, entry_line, block_line, heap_text, side_text, crash_text, refusal_text};
+ghost use Rattle.trace_text.specs.Report.{reply_text, arena_line, entry_line, block_line, heap_text, side_text, crash_line, crash_text, refusal_text};
 
 use crate::line_end::LineEnd;
 use crate::writing::{write_bytes, write_number, write_pair, write_word};
@@ -128,9 +128,19 @@ fn write_side(out: &mut Vec<u8>, side: CrashSide) -> Result<(), OutOfMemory>
     }
 }
 
-/// Writes the report of a crash behind what stands in `out`: the number of the call under way, counted from 1, on which
-/// side of it the heap stands, and the blocks of that heap. Where memory runs out, what stood there still stands at the
-/// front.
+/// Writes the line that the report of a crash begins with behind what stands in `out`: the number of the call under way,
+/// counted from 1, and on which side of it that stands which the crash left. Where memory runs out, what stood there still
+/// stands at the front.
+pub fn write_crash_line(out: &mut Vec<u8>, call: u64, side: CrashSide) -> Result<(), OutOfMemory>
+    ensures text { OnOk result (out.new.items ≡ out.old.items ++ crash_line call side) }
+    ensures kept { OnErr result (BeginsWith out.new.items out.old.items) }
+{
+    write_word(out, b"call ", call)?;
+    write_side(out, side)
+}
+
+/// Writes the report of a crash behind what stands in `out`: its line, and the blocks of the heap that the crash left. Where
+/// memory runs out, what stood there still stands at the front.
 pub fn write_crash(
     out: &mut Vec<u8>,
     call: u64,
@@ -140,8 +150,7 @@ pub fn write_crash(
     ensures text { OnOk result (out.new.items ≡ out.old.items ++ crash_text call side blocks.now) }
     ensures kept { OnErr result (BeginsWith out.new.items out.old.items) }
 {
-    write_word(out, b"call ", call)?;
-    write_side(out, side)?;
+    write_crash_line(out, call, side)?;
     write_heap(out, blocks)
 }
 

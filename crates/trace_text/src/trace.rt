@@ -1,15 +1,15 @@
 // Traces, read from their text.
 ghost use Rattle.std.specs.Prelude.{◌≡◌, ◌+◌, ◌<◌, ◌≤◌, ◌^◌, ◌∷◌, length, IfOk, IfErr, MatchResult};
 ghost use Rattle.std.specs.List.{All};
-ghost use Rattle.trace_text.specs.Grammar.{lines_of, AreCalls, pool_of, IsPool, IsTraceCall, IsTrace, IsRefusedLine, IfBadLine};
-ghost use Rattle.trace_text.specs.Lines.{IsBehindPool, IsRefusedCall};
+ghost use Rattle.trace_text.specs.Texts.{lines_of, AreCalls, IfBadLine};
+ghost use Rattle.trace_text.specs.Grammar.{trace_lines, pool_of, IsPool, IsTraceCall, IsTrace, IsRefusedLine};
+ghost use Rattle.trace_text.specs.Lines.{IsBehindHead, IsRefusedCall};
 
-use crate::line::{is_passed_over, read_call_line, read_pool_line};
+use crate::line::{read_call_line, read_pool_line};
+use crate::text::{TextFault, is_passed_over, next_line};
 use crate::{PoolSize, TraceCall};
-use memchr::memchr;
 use pmem_lines::OutOfMemory;
 use std::alloc::Global;
-use thiserror::Error;
 
 /// What a trace says: the pool's version, how many arenas it has, how many granules each arena has, and the calls in order.
 #[derive(Debug, Drop)]
@@ -33,17 +33,6 @@ impl Trace {
     }
 }
 
-/// Why a text gives no trace.
-#[derive(Debug, Drop, Error)]
-pub enum TraceFault {
-    /// There was no memory.
-    #[error("Memory")]
-    Memory(OutOfMemory),
-    /// This line, counted from 1, is the first outside the grammar.
-    #[error("BadLine")]
-    BadLine { line: u64 },
-}
-
 /// What stands behind the pool's line: the pool that it says, the number of lines up to it, and the rest.
 #[derive(Clone, Copy)]
 struct BehindPool<'a> {
@@ -52,22 +41,10 @@ struct BehindPool<'a> {
     rest: &'a [u8],
 }
 
-/// The first line of a text that has one, and what follows its line feed.
-fn next_line(text: &[u8]) -> (&[u8], &[u8])
-    requires { 0 < length text.now }
-    ensures lines { lines_of text.now ≡ result.0.now ∷ lines_of result.1.now }
-    ensures shorter { length result.1.now < length text.now }
-{
-    match memchr(b'\n', text) {
-        Some(end) => (&text[..end], &text[end + 1..]),
-        None => (text, &text[text.len()..]),
-    }
-}
-
 /// The pool that a text begins with, behind lines that are passed over; the number of the line that says none where
 /// it doesn't.
 fn read_pool(text: &[u8]) -> Result<BehindPool<'_>, u64>
-    ensures { MatchResult result (λ behind. IsBehindPool text.now behind.rest.now behind.pool behind.many) (IsRefusedLine text.now) }
+    ensures { MatchResult result (λ behind. IsBehindHead trace_lines text.now behind.rest.now behind.pool behind.many) (IsRefusedLine text.now) }
 {
     let mut rest = text;
     let mut many: u64 = 0;
@@ -89,18 +66,18 @@ fn read_pool(text: &[u8]) -> Result<BehindPool<'_>, u64>
     Err(many + 1)
 }
 
-/// The calls of a pool of so many arenas, at least one, that a text makes, of which as many lines stand before it.
+/// The calls of a pool, of at least one arena, that a text makes, of which as many lines stand before it.
 fn read_calls(
     alloc: Global,
-    arenas: u32,
+    pool: PoolSize,
     text: &[u8],
     before: u64,
-) -> Result<Vec<TraceCall>, TraceFault>
-    requires some { 1 ≤ arenas }
+) -> Result<Vec<TraceCall>, TextFault>
+    requires some { 1 ≤ pool.arenas }
     requires short { before + length text.now < 2 ^ 64 }
-    ensures calls { IfOk result (λ calls. AreCalls arenas (lines_of text.now) calls.items) }
+    ensures calls { IfOk result (λ calls. AreCalls trace_lines pool (lines_of text.now) calls.items) }
     ensures few { IfOk result (λ calls. length calls.items ≤ length text.now) }
-    ensures refused { IfErr result (λ fault. IfBadLine fault (IsRefusedCall arenas text.now before)) }
+    ensures refused { IfErr result (λ fault. IfBadLine fault (IsRefusedCall trace_lines pool text.now before)) }
 {
     let mut calls = Vec::new(alloc);
     let mut rest = text;
@@ -110,14 +87,14 @@ fn read_calls(
         rest = after;
         many += 1;
         if !is_passed_over(line) {
-            match read_call_line(arenas, line) {
+            match read_call_line(pool.arenas, line) {
                 Some(call) => {
                     if calls.push(call).is_err() {
-                        return Err(TraceFault::Memory(OutOfMemory));
+                        return Err(TextFault::Memory(OutOfMemory));
                     }
                 }
                 None => {
-                    return Err(TraceFault::BadLine {
+                    return Err(TextFault::BadLine {
                         line: before + many,
                     });
                 }
@@ -135,7 +112,7 @@ fn read_calls(
 /// block, `T B r R I` to read that word, and `T B v R Q` to move the block of root R to root Q. S and X are numbers of 64
 /// bits, the roots and I of 32. A text that is no trace is refused with the number of its first line outside this grammar,
 /// or, where it ends with no pool, with the number behind its last line.
-pub fn read_trace(alloc: Global, bytes: &[u8]) -> Result<Trace, TraceFault>
+pub fn read_trace(alloc: Global, bytes: &[u8]) -> Result<Trace, TextFault>
     ensures trace { IfOk result (λ trace. IsTrace bytes.now (pool_of trace) trace.calls.items) }
     ensures pool { IfOk result (λ trace. IsPool (pool_of trace)) }
     ensures each { IfOk result (λ trace. All (IsTraceCall trace.arenas) trace.calls.items) }
@@ -143,9 +120,9 @@ pub fn read_trace(alloc: Global, bytes: &[u8]) -> Result<Trace, TraceFault>
     ensures refused { IfErr result (λ fault. IfBadLine fault (IsRefusedLine bytes.now)) }
 {
     match read_pool(bytes) {
-        Err(line) => Err(TraceFault::BadLine { line }),
+        Err(line) => Err(TextFault::BadLine { line }),
         Ok(behind) => {
-            let calls = read_calls(alloc, behind.pool.arenas, behind.rest, behind.many)?;
+            let calls = read_calls(alloc, behind.pool, behind.rest, behind.many)?;
             Ok(Trace {
                 version: behind.pool.version,
                 arenas: behind.pool.arenas,

@@ -5,16 +5,16 @@ ghost use Rattle.trace_text.specs.Fronts.{BeginsWith};
 use itoa::Buffer;
 use pmem_lines::OutOfMemory;
 
-/// Writes these bytes. What stood there stays.
-pub(crate) fn write_bytes(out: &mut Vec<u8>, bytes: &[u8]) -> Result<(), OutOfMemory>
+/// Writes these bytes behind what stands in `out`. Where memory runs out, what stood there still stands at the front.
+pub fn write_bytes(out: &mut Vec<u8>, bytes: &[u8]) -> Result<(), OutOfMemory>
     ensures text { OnOk result (out.new.items ≡ out.old.items ++ bytes.now) }
     ensures kept { OnErr result (BeginsWith out.new.items out.old.items) }
 {
     Ok(out.extend_from_slice(bytes)?)
 }
 
-/// Writes a number. What stood there stays.
-pub(crate) fn write_number(out: &mut Vec<u8>, number: u64) -> Result<(), OutOfMemory>
+/// Writes a number behind what stands in `out`. Where memory runs out, what stood there still stands at the front.
+pub fn write_number(out: &mut Vec<u8>, number: u64) -> Result<(), OutOfMemory>
     ensures text { OnOk result (out.new.items ≡ out.old.items ++ decimal number) }
     ensures kept { OnErr result (BeginsWith out.new.items out.old.items) }
 {
@@ -22,8 +22,9 @@ pub(crate) fn write_number(out: &mut Vec<u8>, number: u64) -> Result<(), OutOfMe
     write_bytes(out, buffer.format(number).as_bytes())
 }
 
-/// Writes these bytes and then a number. What stood there stays.
-pub(crate) fn write_word(out: &mut Vec<u8>, bytes: &[u8], number: u64) -> Result<(), OutOfMemory>
+/// Writes these bytes and then a number behind what stands in `out`. Where memory runs out, what stood there still stands at
+/// the front.
+pub fn write_word(out: &mut Vec<u8>, bytes: &[u8], number: u64) -> Result<(), OutOfMemory>
     ensures text { OnOk result (out.new.items ≡ out.old.items ++ (bytes.now ++ decimal number)) }
     ensures kept { OnErr result (BeginsWith out.new.items out.old.items) }
 {

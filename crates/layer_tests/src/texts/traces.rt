@@ -1,14 +1,14 @@
 // Texts in and outside the grammar.
 use heap_model::Call;
 use std::alloc::Global;
-use trace_text::{TraceCall, TraceFault, read_trace};
+use trace_text::{TextFault, TraceCall, read_trace};
 
 // The refused line, 0 of a trace, and the greatest number where there was no memory.
 fn refused_line(alloc: Global, text: &str) -> u64 {
     match read_trace(alloc, text.as_bytes()) {
         Ok(_) => 0,
-        Err(TraceFault::BadLine { line }) => line,
-        Err(TraceFault::Memory(_)) => u64::MAX,
+        Err(TextFault::BadLine { line }) => line,
+        Err(TextFault::Memory(_)) => u64::MAX,
     }
 }
 

@@ -1,74 +1,7 @@
 // Crashes at every event of some calls, with several seeds each.
-use crate::runs::{halves, heap_of, tells};
+use crate::crashes::{all_leave, crash_leaves};
 use crate::traces::{ROLLS, around_sixteen, writes_anew};
-use std::alloc::{AllocError, Global};
-use std::process::Abort;
-use std::sync::Wait;
 use std::test::Fail;
-use std::thread::Threads;
-use worked_runs::expanded;
-
-// The first and the last of some numbers of events, and what `crash` may write after so many: one text or the other, as
-// the seed picks.
-type Events<'a> = (u32, u32, &'a str, &'a str);
-
-// Whatever the seed, of the seeds below a number, the run writes one of both texts after so many events; and each of both
-// with some seed.
-fn crash_writes<R: Abort + Threads + Wait + Sync>(
-    rt: &R,
-    alloc: Global,
-    trace: &str,
-    seeds: u32,
-    events: &[Events<'_>],
-) -> Result<(), Fail> {
-    for (first, last, one, other) in events {
-        for event in *first..=*last {
-            let (mut is_one, mut is_other) = (false, false);
-            for seed in 0..seeds {
-                let words = format!(in alloc; "crash 0 {event} {seed}")?;
-                let (code, text) = tells(rt, alloc, &words, trace.as_bytes())?;
-                assert_eq!(rt; code, 0, "{words}");
-                assert!(rt;
-                    text.as_str() == *one || text.as_str() == *other,
-                    "{words}: {text}"
-                );
-                is_one = is_one || text.as_str() == *one;
-                is_other = is_other || text.as_str() == *other;
-            }
-            assert!(rt; is_one && is_other, "one text alone after {event} events");
-        }
-    }
-    Ok(())
-}
-
-// Over each trace of a table `crash` writes what stands below it. A line has the first and the last of some numbers of events,
-// and how a call stands after each of them with the blocks of the heap; behind a bar stands what else it may be.
-fn all_write<R: Abort + Threads + Wait + Sync>(
-    rt: &R,
-    alloc: Global,
-    table: &str,
-    seeds: u32,
-) -> Result<(), Fail> {
-    for case in expanded(alloc, table)?.split("----\n") {
-        let (trace, lines) = halves(case, '$');
-        for line in lines.split("\n$") {
-            let (numbers, told) = halves(line.trim_end(), ' ');
-            let (first, last) = numbers.split_once("..").unwrap_or((numbers, numbers));
-            let (one, other) = told.split_once(" | ").unwrap_or((told, told));
-            let (one, other) = (text_of(alloc, one)?, text_of(alloc, other)?);
-            let events = [(first.parse()?, last.parse()?, one.as_str(), other.as_str())];
-            crash_writes(rt, alloc, trace, seeds, &events)?;
-        }
-    }
-    Ok(())
-}
-
-// What `crash` writes of a call and of these blocks: `call 1 after, 5 67584 112`.
-fn text_of(alloc: Global, told: &str) -> Result<String, AllocError> {
-    let (call, blocks) = told.split_once(", ").unwrap_or((told, "none"));
-    let heap = heap_of(alloc, blocks)?;
-    format!(in alloc; "{call}\n{heap}")
-}
 
 // The first block of a slab: 75 events make the slab, 3 put it into the log, 3 open the entry, and then the bit is
 // stored and flushed, and the root. Its fence is event 86. The free opens its entry by events 90 to 92, stores and
@@ -90,7 +23,7 @@ $97..103 call 2 after
 
 #[test]
 fn in_small_calls(rt: HostRuntime) -> Result<(), Fail> {
-    all_write(&rt, rt.alloc(), SMALL_CALLS, 3)
+    all_leave(&rt, rt.alloc(), "crash 0", "heap", SMALL_CALLS, 3)
 }
 
 // The last malloc finds the log full. Behind the 12 events of each of 60 pairs it has 139 that make room and 3 that put
@@ -107,7 +40,7 @@ $868..871 call 122 after
 #[test]
 fn where_the_log_rolls(rt: HostRuntime) -> Result<(), Fail> {
     let table = format!(in rt.alloc(); "{ROLLS}{ROLLING}")?;
-    all_write(&rt, rt.alloc(), &table, 3)
+    all_leave(&rt, rt.alloc(), "crash 0", "heap", &table, 3)
 }
 
 // The last malloc writes the log anew. It begins behind event 6733, and has 139 events that do so and 3 that put the
@@ -134,7 +67,7 @@ fn where_the_log_is_written_anew(rt: HostRuntime) -> Result<(), Fail> {
         (6878, 6878, after, after),
     ];
     let trace = writes_anew(rt.alloc(), 1)?;
-    crash_writes(&rt, rt.alloc(), &trace, 3, &events)
+    crash_leaves(&rt, rt.alloc(), "crash 0", &trace, 3, &events)
 }
 
 // A slab of class 3 with one block, which root 1 has, takes class 19 for root 2. The first two calls have 95 events. Behind
@@ -152,7 +85,7 @@ $185..188 call 3 after, 0 65536 131072, 1 198656 64, 2 199680 1024
 
 #[test]
 fn where_a_slab_takes_a_class(rt: HostRuntime) -> Result<(), Fail> {
-    all_write(&rt, rt.alloc(), TAKES_A_CLASS, 8)
+    all_leave(&rt, rt.alloc(), "crash 0", "heap", TAKES_A_CLASS, 8)
 }
 
 // The free of the old block opens its entry by events 189 to 191, stores and flushes the root and then the index entry, and
@@ -170,5 +103,5 @@ $196..202 call 4 after, 0 65536 131072, 2 199680 1024
 
 #[test]
 fn where_the_last_old_block_goes(rt: HostRuntime) -> Result<(), Fail> {
-    all_write(&rt, rt.alloc(), OLD_BLOCK_GOES, 8)
+    all_leave(&rt, rt.alloc(), "crash 0", "heap", OLD_BLOCK_GOES, 8)
 }

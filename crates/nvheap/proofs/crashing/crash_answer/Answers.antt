@@ -1,6 +1,6 @@
 use Rattle.std.proofs.Common.{arith, refl}
 use Rattle.trace_text.specs.declared.call.Refusal.TheVariants.{NoArena, NoEvent}
-use Rattle.trace_text.specs.Grammar.{pool_of}
+use Rattle.trace_text.specs.Grammar.{pool_of, IsRefusedLine}
 use Rattle.trace_crashes.specs.Crash.{left_of}
 use Rattle.nvheap.specs.declared.cause.Cause.TheVariants.{Text}
 use Rattle.nvheap.specs.Crashing.{crashing}
@@ -9,7 +9,7 @@ use Rattle.nvheap.proofs.crashing.crash_answer.Goals as goal
 
 pub returns-in-Err-clause-answer : goal.returns-in-Err-clause-answer
 returns-in-Err-clause-answer g c =
-    refused_line (crashing c.args.arena c.args.event c.args.seed) c.args.input.now (g.H.Shelf.places c.args.shelf.now) c.in-Err.answer (λ line is. is) c.in-Err.ensures.refused
+    refused_line (crashing c.args.arena c.args.event c.args.seed) c.args.input.now (g.H.Shelf.places c.args.shelf.now) (IsRefusedLine c.args.input.now) c.in-Err.answer (λ line is. is) c.in-Err.ensures.refused
 
 pub returns-then-arena-trace-clause-answer : goal.returns-then-arena-trace-clause-answer
 returns-then-arena-trace-clause-answer g c =

@@ -1,6 +1,6 @@
 use Rattle.std.proofs.Common.{◌∙◌, ap}
 use Rattle.shared_pool.specs.Rows.{each_of}
-use Rattle.trace_text.specs.Grammar.{pool_of}
+use Rattle.trace_text.specs.Grammar.{pool_of, IsRefusedLine}
 use Rattle.nvheap.specs.Outside.{put_devices}
 use Rattle.nvheap.specs.Meaning.{Places}
 use Rattle.nvheap.specs.Replaying.{replaying}
@@ -8,7 +8,7 @@ use Rattle.nvheap.proofs.Answering.{refused_line}
 use Rattle.nvheap.proofs.replaying.replay_answer.Goals as goal
 
 pub returns-in-Err-clause-answer : goal.returns-in-Err-clause-answer
-returns-in-Err-clause-answer g c = refused_line replaying c.args.input.now (g.H.Shelf.places c.args.shelf.now) c.in-Err.answer (λ line is. is) c.in-Err.ensures.refused
+returns-in-Err-clause-answer g c = refused_line replaying c.args.input.now (g.H.Shelf.places c.args.shelf.now) (IsRefusedLine c.args.input.now) c.in-Err.answer (λ line is. is) c.in-Err.ensures.refused
 
 pub returns-clause-answer : goal.returns-clause-answer
 returns-clause-answer g c =

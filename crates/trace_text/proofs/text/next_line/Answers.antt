@@ -1,7 +1,7 @@
 use Rattle.std.proofs.Common.{get_or, arith}
 use Rattle.std.proofs.lemmas.Bool.{eq-eqb, eqb-true}
 use Rattle.trace_text.proofs.Lines.{lines_at_feed, lines_without_feed}
-use Rattle.trace_text.proofs.trace.next_line.Goals as goal
+use Rattle.trace_text.proofs.text.next_line.Goals as goal
 
 pub returns-in-Some-clause-lines : goal.returns-in-Some-clause-lines
 returns-in-Some-clause-lines c =

@@ -1,0 +1,9 @@
+mod Leads
+mod Crossings
+mod Turns
+mod Runs
+mod Sides
+mod Searches
+mod Listing
+mod Reports
+mod Sizes

@@ -1,0 +1,5 @@
+use Rattle.dict_text.proofs.OneMeaning.{law_of_no_refused_script}
+use Rattle.dict_text.proofs.laws.law_of_no_refused_script.Goals as goal
+
+pub returns : goal.returns
+returns c = law_of_no_refused_script

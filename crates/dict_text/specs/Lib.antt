@@ -1,0 +1,5 @@
+pub mod Script
+pub mod Calls
+pub mod Lines
+pub mod Report
+pub mod Laws
