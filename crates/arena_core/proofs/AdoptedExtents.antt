@@ -1,6 +1,6 @@
 -- The indexes take over the live extents of an exact image, one after another by rising start.
 use Rattle.std.proofs.Common.{◌≡◌, ◌≢◌, ◌↔◌, ◌⊎◌, ◌+◌, ◌<◌, ◌≤◌, ℕ, true, false, List, Some, None, sym, ap, subst, ◌∙◌, inr, ⊎_elim, arith}
-use Rattle.arena_core.proofs.Common.{cases_eq, cases_lt, class_capacity, tables_of, granules_in, Large, start_of, extent_of, IsFreeRow, FreeSet, IsFree, class_in, Supply, IsOpen, IsClearOf, IsUnusedIn, granules_at, bounds_of, IsExactImage, Covers-slab, IsIndexOf, IsSlabsOf, IsReadBelow, IsWithSlabOf, extent_at, LogEntry, iff_then, slab_is}
+use Rattle.arena_core.proofs.Common.{cases_eq, cases_lt, class_capacity, tables_of, granules_in, Large, start_of, extent_of, IsFreeRow, FreeSet, IsFree, class_in, Supply, MayBeGiven, IsClearOf, IsUnusedIn, granules_at, bounds_of, IsExactImage, Covers-slab, IsIndexOf, IsSlabsOf, IsReadBelow, IsWithSlabOf, extent_at, LogEntry, iff_then, slab_is}
 use Rattle.image_tables.specs.declared.extent.Extent.{Extent}
 use Rattle.image_tables.specs.declared.extent.Extent.TheVariants as extent
 use Rattle.book_log.specs.declared.entry.LogEntry.TheVariants.{Slab}
@@ -43,11 +43,11 @@ module _ {words : List ℕ} {set : FreeSet} {parts : Supply} {start : ℕ} {here
     each = λ k from to.
         let sound = image.exact.sound in
         let size = size_is words start here next.live in
-        let lies = sound.starts start (omega (arith, size, from, to)) in
+        let lies = sound.extents.starts start (omega (arith, size, from, to)) in
         (next.read.free k).1 (record {
           low = omega (arith, lies.0, from);
           high = omega (arith, lies.1, to, size);
-          none = λ other less covers. omega (arith, sound.disjoint start other k (record { low = from; high = omega (arith, to, size) }) covers, less);
+          none = λ other less covers. omega (arith, sound.extents.disjoint start other k (record { low = from; high = omega (arith, to, size) }) covers, less);
         });
   }
 
@@ -63,7 +63,7 @@ module _ {words : List ℕ} {set : FreeSet} {parts : Supply} {start : ℕ} {here
         let lives : (tables_of words).slab other ≡ true = grind (arith, next.read.classes) in
         ⊎_elim
         (λ (near : start < other + 4).
-        let same = image.exact.sound.disjoint start other start (Covers-slab (tables_of words) start start slab (omega arith) (omega arith)) (Covers-slab (tables_of words) other start lives (omega (arith, lower)) near) in
+        let same = image.exact.sound.extents.disjoint start other start (Covers-slab (tables_of words) start start slab (omega arith) (omega arith)) (Covers-slab (tables_of words) other start lives (omega (arith, lower)) near) in
         absurd (omega (arith, same, lower)))
         (λ (far : other + 4 ≤ start). inr far)
         (cases_lt start (other + 4));
@@ -98,7 +98,7 @@ IsReadBelow-slab {words} {set} {new} {parts} {more} {start} next granules taken 
       slab_granules = with_slab.granules ∙ read.slab_granules;
       classes = λ other. grind (arith, cases_eq);
       blocks = λ other i less is_slab few. ⊎_elim
-          (λ (here : other ≡ start). subst (λ s. i < class_capacity (t.class s) → IsOpen more s i ↔ IsUnusedIn t s (t.class s) i) (sym here) (with_slab.blocks i) few)
+          (λ (here : other ≡ start). subst (λ s. i < class_capacity (t.header s).class → MayBeGiven more s i ↔ IsUnusedIn t s (t.header s).class i) (sym here) (with_slab.blocks i) few)
           (λ (apart : other ≢ start). iff_then (with_slab.others other i apart) (read.blocks other i (omega (arith, less, apart)) is_slab few))
           (cases_eq other start);
     }

@@ -6,12 +6,12 @@ use Rattle.heap_model.proofs.Counts.{live_next, live_below-most}
 use Rattle.heap_check.proofs.LiveCounts.{more_by_slab, most_by_slab}
 
 -- a slab was added, in which the blocks are open that are not used
-pub with_slab : (words : List ℕ) (old new : Supply) (start slab class : ℕ) {used : ℕ → Bool} → slab / 16384 ≡ start → class ≡ (tables_of words).class start → HasSlabMore old new start class (λ i. (i < class_capacity class) × (used i ≡ false)) →
-    ((i : ℕ) → i < class_capacity ((tables_of words).class (slab / 16384)) → (used i ≡ false) ↔ IsUnusedIn (tables_of words) (slab / 16384) ((tables_of words).class (slab / 16384)) i) → IsWithSlabOf words old new start
+pub with_slab : (words : List ℕ) (old new : Supply) (start slab class : ℕ) {used : ℕ → Bool} → slab / 16384 ≡ start → class ≡ ((tables_of words).header start).class → HasSlabMore old new start class (λ i. (i < class_capacity class) × (used i ≡ false)) →
+    ((i : ℕ) → i < class_capacity ((tables_of words).header (slab / 16384)).class → (used i ≡ false) ↔ IsUnusedIn (tables_of words) (slab / 16384) ((tables_of words).header (slab / 16384)).class i) → IsWithSlabOf words old new start
 with_slab words old new start slab class {used} at is more unused = grind arith
 
 -- the class that was read is the slab's
-pub class_read : (words : List ℕ) (at start class : ℕ) → at ≡ 16384 * start → (tables_of words).slab start ≡ true → (is_slab words (at / 16384) ≡ true → class ≡ (tables_of words).class (at / 16384)) → class ≡ (tables_of words).class start
+pub class_read : (words : List ℕ) (at start class : ℕ) → at ≡ 16384 * start → (tables_of words).slab start ≡ true → (is_slab words (at / 16384) ≡ true → class ≡ ((tables_of words).header (at / 16384)).class) → class ≡ ((tables_of words).header start).class
 class_read words at start class is slab read = grind (arith, slab_table)
 
 -- the live blocks of the slabs are counted, root by root

@@ -3,6 +3,7 @@ use Rattle.std.proofs.Common.{◌≡◌, ◌↔◌, ◌⊎◌, ℕ, ◌+◌, ◌
 use Rattle.arena_core.proofs.Common.{put_word, layout_of, root_word, SameLog, version_in, granules_in, Tables, tables_of, Book, FreeSet, IsFree, Bounds, IsVacant, granules_at, bounds_of, with_large, IsBookOf, class_capacity, Supply, IsIndexOf, IsSlabsOf, KeepsSlabs, IsUnusedIn, IsUnusedIn-same, IsStageOf, iff_then}
 use Rattle.image_tables.proofs.Stores.{IsOffLog-root, granules_in-put_root}
 use Rattle.book_log.proofs.Books.{Reads-elsewhere, Reads-same}
+use Rattle.image_tables.specs.Tables.{SlabHeader}
 
 -- a log reads the same where a root's word is stored
 pub book_root : (book : Book) (words : List ℕ) (root value : ℕ) → root < (layout_of (version_in words)).roots → IsBookOf book words → IsBookOf book (put_word words (root_word root) value)
@@ -26,8 +27,9 @@ slabs_kept {words} {image} parts keeps granules index = record {
   classes = grind arith;
   blocks = λ s i is below.
       let same = keeps.each s in
-      iff_then (index.blocks s i (sym same.slab ∙ is) (subst (λ c. i < class_capacity c) same.class below))
-      (subst (λ c. IsUnusedIn (tables_of words) s ((tables_of words).class s) i ↔ IsUnusedIn (tables_of image) s c i) (sym same.class) (IsUnusedIn-same same ((tables_of words).class s) i));
+      let class = ap (λ (h : SlabHeader). h.class) same.header in
+      iff_then (index.blocks s i (sym same.slab ∙ is) (subst (λ c. i < class_capacity c) class below))
+      (subst (λ c. IsUnusedIn (tables_of words) s ((tables_of words).header s).class i ↔ IsUnusedIn (tables_of image) s c i) (sym class) (IsUnusedIn-same same ((tables_of words).header s).class i));
 }
 
 -- the index of an image, by what is vacant in it

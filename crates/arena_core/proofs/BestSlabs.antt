@@ -6,7 +6,7 @@ use Rattle.slab_index.specs.declared.candidates.Candidate.{Candidate}
 use Rattle.slab_index.specs.Candidates.{IsBefore}
 use Rattle.slab_lives.specs.Lives.{IsSparse, HasNoSparse, IsFirstSparse, HasNoSparseBehind, IsNextSparse}
 use Rattle.class_steps.specs.Classes.{IsReadyFor, IsFitIn}
-use Rattle.heap_check.proofs.CalmSlabs.{calm_parts}
+use Rattle.heap_check.proofs.NormalSlabs.{normal_of-parts}
 
 -- the order of candidates
 
@@ -29,8 +29,8 @@ module _ (words : List ℕ) (lives : Lives) (class : ℕ) where
 
   module _ (are : AreLivesOf lives words) where
     -- a candidate is a normal slab
-    pub sparse_slab : (start live : ℕ) → IsSparse lives class start live → ((tables_of words).slab start ≡ true) × ((tables_of words).kind start ≡ normal_kind)
-    sparse_slab start live is = let parts = calm_parts t start is.own (sym (are.calm start) ∙ is.slab) in (parts.0, parts.1)
+    pub sparse_slab : (start live : ℕ) → IsSparse lives class start live → ((tables_of words).slab start ≡ true) × (((tables_of words).header start).kind ≡ normal_kind)
+    sparse_slab start live is = let parts = normal_of-parts t start is.own (sym (are.normal start) ∙ is.slab) in (parts.0, parts.1)
 
     -- a slab that is fit is a candidate
     sparse_of_fit : (s : ℕ) → IsFit (slab_view v) class s → IsSparse lives class s (live_below (heap t) s (bounds_of words).roots)
@@ -53,13 +53,13 @@ module _ (words : List ℕ) (lives : Lives) (class : ℕ) where
     pub best_sought : (found : Candidate) → IsSought (Some found) → IsReadyFor words found.start class → IsBestSlab (slab_view (tables_view (bounds_of words) (tables_of words))) class found.start × IsMorphable (tables_of words) found.start class
     best_sought found sought ready =
         let is = sought.0 in
-        let parts = calm_parts t found.start is.own (sym (are.calm found.start) ∙ is.slab) in
+        let parts = normal_of-parts t found.start is.own (sym (are.normal found.start) ∙ is.slab) in
         let live : found.live ≡ live_below (heap t) found.start (bounds_of words).roots = is.count ∙ are.counts.each found.start ∙ cond-true (t.slab found.start) _ 0 ready.slab in (
           record {
             fit = record {
-              class = t.class found.start;
-              slab = cond-true (t.slab found.start) (Some (t.class found.start)) None ready.slab;
-              calm = λ moving. moving ready.normal;
+              class = (t.header found.start).class;
+              slab = cond-true (t.slab found.start) (Some (t.header found.start).class) None ready.slab;
+              no_transition = λ moving. moving ready.normal;
               differs = λ own. is.differs (own ∙ sym parts.2);
               few = omega (arith, live, is.few);
               sparse = subst (λ (c : ℕ). 5 * live_below (heap t) found.start (bounds_of words).roots ≤ class_capacity c) parts.2 (omega (arith, live, is.sparse));

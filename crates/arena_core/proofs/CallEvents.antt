@@ -1,6 +1,6 @@
 -- What a call has done, put together: by the place of its block.
 use Rattle.std.proofs.Common.{◌==◌, ◌≡◌, ◌≢◌, ◌*◌, ◌/◌, ◌+◌, ◌-◌, ◌%◌, ◌<◌, ◌≤◌, ℕ, true, false, cond, leb, List, [], Option, Some, refl, sym, ap, ◌∙◌, arith, ◌++◌, ◌&&◌}
-use Rattle.arena_core.proofs.Common.{ne_eqb, class_size, class_capacity, class_size-least, class_size-most, class_size-rises, Event, reading, PmemState, words_of, IsQuietStep, step_none, Tables, tables_of, stacks_of, Call, Reply, Bounds, Range, slab_block, is_old, heap, slabs, Holds, IsVacant, IsInSlab, IsSound, IsInSlab-held, SmallBlock, attach_events, detach_old_events, bounds_of, IsExactImage, IsEitherHeap, live_in, IsCurrent, IsArena, Volatile, IsStepOf, IsStepOfAny, IsDone, IsCalled, GivesRoot, KeepsSlabs, IsNamedSmall, IsHeldBy, range_held, IsNamedOld, sizes_of, start_at, place_events, take_events, placed_events, freed_events, call_events, line_after, tidy_events, OldBlock, Held, is_old-held, same_heap, counts_kept, calm_same}
+use Rattle.arena_core.proofs.Common.{ne_eqb, class_size, class_capacity, class_size-least, class_size-most, class_size-rises, Event, reading, PmemState, words_of, IsQuietStep, step_none, Tables, tables_of, stacks_of, Call, Reply, Bounds, Range, slab_block, is_old, heap, slabs, Holds, IsVacant, IsInSlab, IsSound, IsInSlab-held, SmallBlock, attach_events, detach_old_events, bounds_of, IsExactImage, IsEitherHeap, live_in, IsCurrent, IsArena, Volatile, IsStepOf, IsStepOfAny, IsDone, IsCalled, GivesRoot, KeepsSlabs, IsNamedSmall, IsHeldBy, range_held, IsNamedOld, sizes_of, start_at, place_events, take_events, placed_events, freed_events, call_events, line_after, tidy_events, OldBlock, Held, is_old-held, same_heap, counts_kept, normal_of-same}
 use Rattle.std.proofs.lemmas.Bool.{lt-leb}
 use Rattle.heap_model.specs.declared.call.Reply.TheVariants as replies
 use Rattle.heap_check.specs.Heap.{slab_of}
@@ -57,13 +57,13 @@ module _ (words : List ℕ) (line root : ℕ) (block : SmallBlock) (class : ℕ)
     found : block_at (start_at t range.at) range.at (class_size class) ≡ block
     found = grind (arith, class_size-least)
 
-    pub placed_there : t.slab block.start ≡ true → t.class block.start ≡ class → attach_events words line root block ≡ placed_events words line root range.at (class_size class)
+    pub placed_there : t.slab block.start ≡ true → (t.header block.start).class ≡ class → attach_events words line root block ≡ placed_events words line root range.at (class_size class)
     placed_there slab of_class = grind (arith, class_is, small_class, found)
 
-    pub placed_morph : t.slab block.start ≡ true → t.class block.start ≢ class → morphed_events words line root block class ≡ placed_events words line root range.at (class_size class)
+    pub placed_morph : t.slab block.start ≡ true → (t.header block.start).class ≢ class → morphed_events words line root block class ≡ placed_events words line root range.at (class_size class)
     placed_morph slab of_other = grind (arith, ne_eqb, class_is, small_class, found)
 
-    pub freed_there : is_old t block.start range.at ≡ false → unsmall_events words line root block ≡ freed_events words line root range.at (class_size class)
+    pub freed_there : is_old (t.header block.start) block.start range.at ≡ false → unsmall_events words line root block ≡ freed_events words line root range.at (class_size class)
     freed_there new = grind (arith, small_class, found)
 
 -- the slab of a block
@@ -94,7 +94,7 @@ module _ (words : List ℕ) (image : IsExactImage words) (root : ℕ) (block : S
   at_class = slab_block block.start class block.number
 
   -- no live old block begins where it does
-  pub named_new : is_old (tables_of words) block.start at_class.at ≡ false
+  pub named_new : is_old ((tables_of words).header block.start) block.start at_class.at ≡ false
   named_new = rw named.class_is at (no_old-held image.exact.sound image.exact.closed block.start block.number named.slab (class_detachable image named).block_in.below (class_holds (class_detachable image named)))
 
   -- it lies in the slab, and is the root's in the heap
@@ -114,24 +114,24 @@ module _ (words : List ℕ) (image : IsExactImage words) (root : ℕ) (block : O
       (IsInSlab-held image.exact.sound block.start at_old held, heap_held image.exact.sound image.exact.closed root block.start at_old held named.named)
 
   -- its class is another than that of the slab now
-  pub old_differs : class ≢ (tables_of words).class block.start
+  pub old_differs : class ≢ ((tables_of words).header block.start).class
   old_differs same = grind arith
 
   abbrev other_there : ℕ → ℕ
-  other_there place = cond ((tables_of words).live block.start place && ((slab_block block.start ((tables_of words).old block.start) ((tables_of words).number block.start place)).at == block.at)) 0 1
+  other_there place = cond (((tables_of words).header block.start).live place && ((slab_block block.start ((tables_of words).header block.start).old (((tables_of words).header block.start).number place)).at == block.at)) 0 1
 
   -- it is the first of the index table that begins there
   old_place_is : old_place (tables_of words) block.start block.at ≡ block.place
   old_place_is =
       let valid = image.exact.sound.slabs block.start named.slab in
-      let number = λ (place : ℕ). one_number block.start ((tables_of words).old block.start) ((tables_of words).number block.start place) ((tables_of words).number block.start block.place) (omega (arith, class_size-least _ valid.state.is_old_class)) in
-      first_zero-is other_there ((tables_of words).index_count block.start) block.place named.place.below (grind arith) (λ place before none. let one = number place in grind arith)
+      let number = λ (place : ℕ). one_number block.start ((tables_of words).header block.start).old (((tables_of words).header block.start).number place) (((tables_of words).header block.start).number block.place) (omega (arith, class_size-least _ valid.state.is_old_class)) in
+      first_zero-is other_there ((tables_of words).header block.start).index_count block.place named.place.below (grind arith) (λ place before none. let one = number place in grind arith)
 
   pub freed_old : (line : ℕ) → (detach_old_events (tables_of words) line root block.at block.start block.place ++ tidy_events (reading words (detach_old_events (tables_of words) line root block.at block.start block.place)) block.start)
       ≡ freed_events words line root block.at (class_size class)
   freed_old line =
       let here = slab_of-here image.exact.sound block.start (block.at / 16384) named.slab (omega (arith, old_lies.0)) (omega (arith, old_lies.0)) in
-      grind (arith, small_class, old_place_is, is_old-held (tables_of words) block.start block.at at_old)
+      grind (arith, small_class, old_place_is, is_old-held ((tables_of words).header block.start) block.start block.at at_old)
 
 -- so is what a root holds
 pub held_heap : (words : List ℕ) → IsExactImage words → (root : ℕ) (held : Held) → IsHeldBy (bounds_of words) (tables_of words) root held → heap (tables_of words) root ≡ Some (range_held held)
@@ -146,7 +146,7 @@ pub IsDone-large : {old new : PmemState} {was left : Volatile} {root : ℕ} {blo
 IsDone-large {old} {new} {was} {left} {root} {block} {events} arena same same_lives lives step kept gives keeps =
     let granules = ap (λ (b : Bounds). b.granules) gives.bounds in
     let counts = counts_kept (words_of old) (words_of new) was.lives.counts granules lives arena.lives.counts in
-    let lives_now = lives_kept (words_of old) (words_of new) was.lives was.lives counts arena.lives (λ s. refl) (λ s. calm_same (tables_of (words_of old)) (tables_of (words_of new)) s (keeps.each s)) in
+    let lives_now = lives_kept (words_of old) (words_of new) was.lives was.lives counts arena.lives (λ s. refl) (λ s. normal_of-same (tables_of (words_of old)) (tables_of (words_of new)) s (keeps.each s)) in
     record { step = step; current = kept; slabs = rw same (slabs_kept was.supply keeps granules arena.slabs); lives = rw same_lives lives_now; gives = gives }
 
 -- a call that is refused

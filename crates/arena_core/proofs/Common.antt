@@ -11,17 +11,17 @@ pub use Rattle.size_classes.specs.Classes.{class_capacity, class_size, IsClassOf
 pub use Rattle.size_classes.proofs.Spacing.{class_size-most, class_size-rises, class_size-least}
 pub use Rattle.pool_layout.specs.Header.{version_in, granules_in}
 pub use Rattle.pool_layout.specs.Layout.{layout_of}
-pub use Rattle.pool_layout.specs.Places.{entry_word, text_word, root_word, fields_word, directory_word, granule_word}
+pub use Rattle.pool_layout.specs.Places.{entry_slot, text_word, root_word, fields_word, directory_word, granule_word}
 pub use Rattle.pool_layout.specs.declared.layout.Layout.{Layout}
 pub use Rattle.pool_layout.proofs.Layouts.{layout_rules}
 pub use Rattle.image_tables.specs.Forms.{morphed_kind, normal_kind}
-pub use Rattle.image_tables.specs.Tables.{Tables, tables_of, is_slab, index_word, large_of, is_slab_of}
-pub use Rattle.image_tables.specs.Updates.{HasNoMove, put_at}
+pub use Rattle.image_tables.specs.Tables.{SlabHeader, Tables, tables_of, is_slab, index_word, large_of, is_slab_of}
+pub use Rattle.image_tables.specs.Updates.{put_header, HasNoMove, put_at}
 pub use Rattle.image_tables.proofs.Logs.{SameLog, same_log}
 pub use Rattle.image_tables.proofs.Stores.{HasNoMove-closed, root_word-low, roots_plain}
 pub use Rattle.image_tables.proofs.Tables.{root_table-past, slab_table, large_table}
 pub use Rattle.image_tables.proofs.Updates.{put_at-same, put_at-own, put_at-other}
-pub use Rattle.image_tables.proofs.Places.{entry_word-low, log_word-low}
+pub use Rattle.image_tables.proofs.Places.{entry_slot-low, log_start-low}
 pub use Rattle.image_tables.specs.Extents.{extent_at}
 pub use Rattle.book_log.specs.Book.{Book}
 pub use Rattle.book_log.specs.Entry.{extent_of, start_of}
@@ -42,9 +42,9 @@ pub use Rattle.heap_model.specs.Placement.{IsReturned, Stacks, without_left}
 pub use Rattle.extent_index.specs.FreeSet.{FreeSet, IsFree}
 pub use Rattle.slab_index.specs.SlabSet.{class_in}
 pub use Rattle.slab_index.specs.declared.block.SlabBlock.{SlabBlock}
-pub use Rattle.slab_lives.specs.Lives.{Lives, calm_at}
+pub use Rattle.slab_lives.specs.Lives.{Lives, normal_at}
 pub use Rattle.thread_cache.specs.Stacks.{stacks_of}
-pub use Rattle.block_supply.specs.Supply.{Supply, IsOpen, supply_view, TookBlock, HasNoOpen, IsInNoSlabOf, IsWith, IsClearOf, HasSlabMore, HasSlabLess, IsPutOn, HadNoOpen}
+pub use Rattle.block_supply.specs.Supply.{Supply, MayBeGiven, supply_view, TookBlock, HasNoOpen, IsInNoSlabOf, IsWith, IsClearOf, HasSlabMore, HasSlabLess, IsPutOn, HadNoOpen}
 pub use Rattle.block_supply.proofs.Takes.{none_open}
 pub use Rattle.block_supply.proofs.Views.{AgreeOnBlocks}
 pub use Rattle.heap_check.specs.Heap.{slabs, IsUnusedIn, heap, entry_at, Holds, HoldsBit, HoldsOld, is_old}
@@ -60,15 +60,14 @@ pub use Rattle.heap_check.proofs.Heaps.{heap-claim, IsClaim-heap, heap-none}
 pub use Rattle.heap_check.proofs.Large.{with_large, IsLargePlace}
 pub use Rattle.heap_check.proofs.SameSlabs.{KeepsSlabs, IsUnusedIn-same}
 pub use Rattle.heap_check.proofs.Sizes.{sizes_of, heap_inside, root_inside}
-pub use Rattle.heap_check.proofs.SmallPlaces.{calm_but, Holds-claim}
+pub use Rattle.heap_check.proofs.SmallPlaces.{none_morphing_but, Holds-claim}
 pub use Rattle.heap_check.proofs.Within.{IsInSlab-held, IsWithin-claim}
-pub use Rattle.slab_morph.specs.SlabHeaders.{header_of, SlabHeader, put_header}
 pub use Rattle.log_steps.specs.Log.{IsBookOf, IsLogged, IsLoggedOrNot}
 pub use Rattle.log_steps.specs.Events.{log_events}
 pub use Rattle.extent_steps.specs.Large.{IsExtentGone, IsLooseExtent}
 pub use Rattle.extent_steps.proofs.Images.{keeps_blocks}
 pub use Rattle.extent_steps.specs.Slabs.{open_events}
-pub use Rattle.attach_steps.specs.Steps.{IsBlockIn, IsDetachable, IsDetached, KeepsOthers, IsOldDetachable, IsOldDetached, detach_events, detach_old_events, attach_events, root_events, PutsRootOrNot, GivesOne}
+pub use Rattle.attach_steps.specs.Steps.{IsBlockIn, IsDetachable, IsDetached, KeepsAllButBlock, IsOldDetachable, IsOldDetached, detach_events, detach_old_events, attach_events, root_events, PutsRootOrNot, GivesOne}
 pub use Rattle.attach_steps.specs.declared.block.OldBlock.{OldBlock}
 pub use Rattle.attach_steps.specs.declared.block.SmallBlock.{SmallBlock}
 pub use Rattle.arena_core.specs.Adopting.{IsWithSlabOf, HasCounted, IsReadBelow}
@@ -89,9 +88,9 @@ pub use Rattle.arena_core.specs.declared.answer.MallocRefusal.{MallocRefusal}
 pub use Rattle.arena_core.specs.declared.answer.MallocRefusal.TheVariants.{NoSpace}
 pub use Rattle.arena_core.specs.declared.plan.Held.{Held}
 pub use Rattle.arena_core.specs.declared.plan.Place.TheVariants.{Fresh, Morph, Small}
-pub use Rattle.heap_check.specs.Views.{AreCountsOf, calm_of, live_in, IsVacantRow, tables_view}
+pub use Rattle.heap_check.specs.Views.{AreCountsOf, normal_of, live_in, IsVacantRow, tables_view}
 pub use Rattle.heap_check.proofs.BlockWords.{block_word-header}
-pub use Rattle.heap_check.proofs.CalmSlabs.{calm_none, calm_same}
+pub use Rattle.heap_check.proofs.NormalSlabs.{normal_of-none, normal_of-same}
 pub use Rattle.heap_check.proofs.ExactStates.{law_of_exact_state}
 pub use Rattle.heap_check.proofs.HeapSteps.{same_heap, steps_then}
 pub use Rattle.heap_check.proofs.LargeImages.{IsStageOf, keeps_stage}

@@ -1,12 +1,13 @@
 -- The blocks that an old block covered are given out again, where nothing else covers them.
 use Rattle.std.proofs.Common.{Bool, IsTrue, ◌*◌, ◌/◌, ◌≡◌, ◌≢◌, ◌⊎◌, ◌↔◌, ℕ, ◌+◌, ◌<◌, ◌≤◌, true, false, List, None, refl, sym, ap, subst, ◌∙◌, arith, inl, inr, ⊎_elim}
-use Rattle.arena_core.proofs.Common.{cases_lt, granules_in, class_capacity, Tables, tables_of, put_at, put_at-other, class_in, Supply, IsOpen, IsWith, Bounds, AreApart, slab_block, slabs, IsUnusedIn, IsSameSlab, IsUnusedIn-same, OldBlock, IsOldDetachable, IsOldDetached, old_range, IsSlabsOf, granule_word, iff_then, unused_apart}
+use Rattle.arena_core.proofs.Common.{cases_lt, granules_in, class_capacity, Tables, tables_of, put_at, put_at-other, class_in, Supply, MayBeGiven, IsWith, Bounds, AreApart, slab_block, slabs, IsUnusedIn, IsSameSlab, IsUnusedIn-same, OldBlock, IsOldDetachable, IsOldDetached, old_range, IsSlabsOf, granule_word, iff_then, unused_apart}
 use Rattle.image_tables.specs.Updates.{with_old}
 use Rattle.arena_core.proofs.SmallCalls.{of_each, of_each_block}
 use Rattle.heap_check.proofs.OldBlock.{Holds-relived, Holds-relived_back}
 use Rattle.slab_morph.specs.Overlaps.{IsOverlapRange}
 use Rattle.arena_core.specs.Arena.{AreSlabsBut}
 use Rattle.arena_core.proofs.HeldBlocks.{old_holds}
+use Rattle.image_tables.specs.Tables.{live_rows}
 
 -- the old block went: the set has no block that overlaps it, and of the others those that are unused
 pub slabs_old : (words : List ℕ) (line root : ℕ) (block : OldBlock) → IsOldDetachable words root block → (new : List ℕ) → IsOldDetached words line root block new → (set : Supply) → IsSlabsOf set words → AreSlabsBut set new block
@@ -15,32 +16,32 @@ slabs_old words line root block may new detached set was =
     record {
       granules = was.granules ∙ ap (λ (b : Bounds). b.granules) (sym detached.bounds);
       classes = λ s. was.classes s ∙ sym (ap (λ (x : Tables). slabs x s) detached.tables);
-      blocks = subst (λ (x : Tables). (s i : ℕ) → x.slab s ≡ true → i < class_capacity (x.class s) → (s ≢ block.start) ⊎ AreApart (old_range x block) (slab_block s (x.class s) i) → IsOpen set s i ↔ IsUnusedIn x s (x.class s) i)
+      blocks = subst (λ (x : Tables). (s i : ℕ) → x.slab s ≡ true → i < class_capacity (x.header s).class → (s ≢ block.start) ⊎ AreApart (old_range x block) (slab_block s (x.header s).class i) → MayBeGiven set s i ↔ IsUnusedIn x s (x.header s).class i)
           (sym detached.tables)
           (of_each block.start
           (λ i slab below either. iff_then (was.blocks block.start i slab below)
-          (unused_apart (Holds-relived_back t block.start block.place false (put_at t.word root 0) (put_at t.root root 0) None block.start) (Holds-relived t block.start block.place false (put_at t.word root 0) (put_at t.root root 0) None block.start) (t.class block.start) i (⊎_elim (λ differ. absurd (differ refl)) (λ apart. apart) either)))
-          (λ s differ i slab below either. iff_then (was.blocks s i slab below) (IsUnusedIn-same (same_slab s differ) (t.class s) i)));
-      none = subst (λ (x : Tables). (i : ℕ) → i < class_capacity (x.class block.start) → ¬ (AreApart (old_range x block) (slab_block block.start (x.class block.start) i)) → ¬ (IsOpen set block.start i)) (sym detached.tables)
+          (unused_apart (Holds-relived_back t block.start block.place false (put_at t.word root 0) (put_at t.root root 0) None block.start) (Holds-relived t block.start block.place false (put_at t.word root 0) (put_at t.root root 0) None block.start) (t.header block.start).class i (⊎_elim (λ differ. absurd (differ refl)) (λ apart. apart) either)))
+          (λ s differ i slab below either. iff_then (was.blocks s i slab below) (IsUnusedIn-same (same_slab s differ) (t.header s).class i)));
+      none = subst (λ (x : Tables). (i : ℕ) → i < class_capacity (x.header block.start).class → ¬ (AreApart (old_range x block) (slab_block block.start (x.header block.start).class i)) → ¬ (MayBeGiven set block.start i)) (sym detached.tables)
           (λ i below overlap is. overlap (((was.blocks block.start i may.slab below).0 is).each (old_range t block) (old_holds may)));
     }
   where
     same_slab : (s : ℕ) → s ≢ block.start → IsSameSlab (tables_of words) (with_old (tables_of words) block.start block.place false root 0 None) s
-    same_slab s differ = record { slab = refl; kind = refl; class = refl; old = refl; index_count = refl; bit = refl; live = put_at-other (tables_of words).live block.start s _ differ; number = refl }
+    same_slab s differ = record { slab = refl; header = λ i. record ((tables_of words).header s) { live = put_at-other (live_rows (tables_of words)) block.start s (put_at (live_rows (tables_of words) block.start) block.place false) differ i } }
 
 -- Of the blocks that it covered those below a number are given back, where they are unused.
 pub record AreGiven (set : Supply) (words : List ℕ) (start number end : ℕ) : Type 0 where
   pub granules : set.slabs.granules ≡ granules_in words
   pub classes : (s : ℕ) → class_in set.slabs s ≡ slabs (tables_of words) s
-  pub done : (s i : ℕ) → (tables_of words).slab s ≡ true → i < class_capacity ((tables_of words).class s) → ¬ ((s ≡ start) × (number ≤ i) × (i < end)) → IsOpen set s i ↔ IsUnusedIn (tables_of words) s ((tables_of words).class s) i
-  pub rest : (i : ℕ) → number ≤ i → i < end → ¬ (IsOpen set start i)
+  pub done : (s i : ℕ) → (tables_of words).slab s ≡ true → i < class_capacity ((tables_of words).header s).class → ¬ ((s ≡ start) × (number ≤ i) × (i < end)) → MayBeGiven set s i ↔ IsUnusedIn (tables_of words) s ((tables_of words).header s).class i
+  pub rest : (i : ℕ) → number ≤ i → i < end → ¬ (MayBeGiven set start i)
 
 -- before the first
 pub given_first : {words : List ℕ} {block : OldBlock} {slab from end : ℕ} {set : Supply} → let t = tables_of words in slab ≡ 8 * granule_word block.start →
-    IsOverlapRange (t.old (slab / 16384)) (t.number (slab / 16384) block.place) (t.class (slab / 16384)) from end → AreSlabsBut set words block → AreGiven set words block.start from end
+    IsOverlapRange (t.header (slab / 16384)).old ((t.header (slab / 16384)).number block.place) (t.header (slab / 16384)).class from end → AreSlabsBut set words block → AreGiven set words block.start from end
 given_first {words} {block} {slab} {from} {end} at read was =
     let t = tables_of words in
-    let range : IsOverlapRange (t.old block.start) (t.number block.start block.place) (t.class block.start) from end = grind arith in
+    let range : IsOverlapRange (t.header block.start).old ((t.header block.start).number block.place) (t.header block.start).class from end = grind arith in
     record {
       granules = was.granules;
       classes = was.classes;
@@ -55,11 +56,11 @@ later : (s i number start : ℕ) → s ≡ start → number ≤ i → (s ≢ sta
 later s i number start same low apart = grind arith
 
 -- whether a block of the slab that was read is unused
-pub unused_here : {t : Tables} {slab start number : ℕ} {is : Bool} → slab ≡ 8 * granule_word start → IsTrue is ↔ IsUnusedIn t (slab / 16384) (t.class (slab / 16384)) number → (is ≡ true → IsUnusedIn t start (t.class start) number) × (is ≡ false → ¬ (IsUnusedIn t start (t.class start) number))
+pub unused_here : {t : Tables} {slab start number : ℕ} {is : Bool} → slab ≡ 8 * granule_word start → IsTrue is ↔ IsUnusedIn t (slab / 16384) (t.header (slab / 16384)).class number → (is ≡ true → IsUnusedIn t start (t.header start).class number) × (is ≡ false → ¬ (IsUnusedIn t start (t.header start).class number))
 unused_here at says = grind arith
 
 -- the next one is unused, and open again
-pub given_next : {words : List ℕ} {start number end : ℕ} {set next : Supply} → number < end → IsUnusedIn (tables_of words) start ((tables_of words).class start) number → IsWith set next start number → AreGiven set words start number end → AreGiven next words start (number + 1) end
+pub given_next : {words : List ℕ} {start number end : ℕ} {set next : Supply} → number < end → IsUnusedIn (tables_of words) start ((tables_of words).header start).class number → IsWith set next start number → AreGiven set words start number end → AreGiven next words start (number + 1) end
 given_next {words} {start} {number} {end} {set} {next} below unused came were = record {
   granules = came.granules ∙ were.granules;
   classes = λ s. came.classes s ∙ were.classes s;
@@ -69,7 +70,7 @@ given_next {words} {start} {number} {end} {set} {next} below unused came were = 
 }
 
 -- it is not
-pub given_none : {words : List ℕ} {start number end : ℕ} {set : Supply} → number < end → ¬ (IsUnusedIn (tables_of words) start ((tables_of words).class start) number) → AreGiven set words start number end → AreGiven set words start (number + 1) end
+pub given_none : {words : List ℕ} {start number end : ℕ} {set : Supply} → number < end → ¬ (IsUnusedIn (tables_of words) start ((tables_of words).header start).class number) → AreGiven set words start number end → AreGiven set words start (number + 1) end
 given_none {words} {start} {number} {end} {set} below used were = record {
   granules = were.granules;
   classes = were.classes;

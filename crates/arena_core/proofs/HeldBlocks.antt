@@ -8,10 +8,10 @@ use Rattle.slab_morph.specs.SlabHeaders.{IsSlabHere}
 
 -- the block that a slab holds at a root's word is the root's
 pub heap_held : {b : Bounds} {t : Tables} → IsSound b t → t.open_entry ≡ None → (root start : ℕ) (range : Range) → Holds t start range → t.root root ≡ range.at → heap t root ≡ Some range
-heap_held {b} {t} sound closed root start range holds word = grind (arith, sound.claimed start range holds, IsNamed-claim, IsClaim-word, plain_size-some, IsInSlab-held, one_claim, IsWithin-held, heap-claim)
+heap_held {b} {t} sound closed root start range holds word = grind (arith, sound.owned.claimed start range holds, IsNamed-claim, IsClaim-word, plain_size-some, IsInSlab-held, one_claim, IsWithin-held, heap-claim)
 
 -- a block of its slab's class that a root has
-pub class_holds : {words : List ℕ} {root : ℕ} {block : SmallBlock} → IsDetachable words root block → Holds (tables_of words) block.start (slab_block block.start ((tables_of words).class block.start) block.number)
+pub class_holds : {words : List ℕ} {root : ℕ} {block : SmallBlock} → IsDetachable words root block → Holds (tables_of words) block.start (slab_block block.start ((tables_of words).header block.start).class block.number)
 class_holds {words} {root} {block} may = grind arith
 
 -- an old one

@@ -1,6 +1,7 @@
 -- A large block is given to a root, or taken from it: the image at each of the stores, and what a crash leaves.
 use Rattle.std.proofs.Common.{ap, ◌∙◌, ◌≡◌, ◌≢◌, ◌⊎◌, ℕ, ◌*◌, List, ◌++◌, refl, sym, subst, arith, inl, inr, ⊎_elim, ◌+◌, ◌<◌, ◌≤◌, Some, None}
-use Rattle.arena_core.proofs.Common.{cases_eq, put_word, reading, PmemState, words_of, IsQuietStep, step_by, step_then, step_wider, root_word, Tables, tables_of, put_at, put_at-same, put_at-other, IsLooseExtent, Large, Tomb, bounds_of, IsExactImage, AreSlabsInHeap-sound, granules_at-large, IsLargePlace, HaveSameHeap, KeepsBlocks, IsEitherHeap, root_events, PutsRootOrNot, place_events, take_events, IsLogged, IsLoggedOrNot, IsGivable, IsTakable, sizes_of, root_inside, HasNoMove-closed, Covers, GivesRoot, KeepsSlabs, slabs, live_in, heap-none, Bounds, log_events, same_heap, steps_then, IsStageOf, keeps_stage}
+use Rattle.arena_core.proofs.Common.{cases_eq, put_word, reading, PmemState, words_of, IsQuietStep, step_by, step_then, step_wider, root_word, Tables, tables_of, put_at, put_at-same, put_at-other, IsLooseExtent, Large, Tomb, bounds_of, IsExactImage, AreSlabsInHeap-sound, granules_at-large, IsLargePlace, HaveSameHeap, KeepsBlocks, IsEitherHeap, root_events, PutsRootOrNot, place_events, take_events, IsLogged, IsLoggedOrNot, IsGivable, IsTakable, sizes_of, root_inside, HasNoMove-closed, Covers, GivesRoot, KeepsSlabs, slabs, live_in, heap-none, Bounds, log_events, same_heap, steps_then, IsStageOf, keeps_stage, FreeSet, IsIndexOf}
+use Rattle.extent_index.specs.FreeSet.{IsHeldRow}
 use Rattle.heap_check.proofs.LargePlaces.{IsLargePlace-vacant, IsLargePlace-named}
 use Rattle.arena_core.proofs.LargeStages.{stage_same, stage_entry}
 use Rattle.heap_check.proofs.LargeImages.{stage_none, stage_root, steady_stage, same_none, same_some, either_stage}
@@ -92,6 +93,16 @@ module _ (words : List ℕ) (root start count : ℕ) (exact : IsExactImage words
   -- a granule of the block is covered by its extent
   pub taken_covers : (k : ℕ) → start ≤ k → k < start + count → Covers (tables_of words) start k
   taken_covers k low high = record { low = low; high = omega (arith, high, granules_at-large (tables_of words) start take_place.no_slab, takable.live) }
+
+  -- so its granules are none of those that are free
+  pub taken_held : (set : FreeSet) → IsIndexOf set words → IsHeldRow set start count
+  taken_held set index = record {
+    each = λ k low high. (
+      omega (arith, low, takable.low, (sizes_of words exact.formed).first),
+      omega (arith, high, takable.high, index.granules),
+      λ free. ((index.each k).0 free).none start (taken_covers k low high),
+    );
+  }
 
   -- crashes
   crash_cleared : (image : List ℕ) → PutsRootOrNot words root 0 image → IsEitherHeap words (put_word words (root_word root) 0) image

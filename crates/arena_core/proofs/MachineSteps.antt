@@ -126,7 +126,7 @@ slabs_but_state words m state start gone s = grind arith
 
 -- a block of its slab's class goes on the seat's stack, where that has room and the slab stays
 pub small_returned : (words : List ℕ) (stacks after : Stacks) (seat root start class number : ℕ) (gone : Bool) → IsExactImage words → let t = tables_of words in let range = slab_block start class number in
-    t.class start ≡ class → number < class_capacity class → IsInSlab t start range.at → IsLastOf t root start gone → IsPutBack stacks seat class range.at start gone after → Returns words stacks seat root range after
+    (t.header start).class ≡ class → number < class_capacity class → IsInSlab t start range.at → IsLastOf t root start gone → IsPutBack stacks seat class range.at start gone after → Returns words stacks seat root range after
 small_returned words stacks after seat root start class number gone image class_is within inside last back m state named =
     let range = slab_block start class number in
     returned_small (bounds_of words) m (law_of_exact_state words m image state) start class range (naming_slab state start inside.slab ∙ ap (λ c. Some c) class_is) inside.low inside.high
@@ -134,10 +134,10 @@ small_returned words stacks after seat root start class number gone image class_
     (record { number = number; within = within; is = refl }) back
 
 -- an old one goes on none
-pub old_returned : (words : List ℕ) (stacks after : Stacks) (seat root start old : ℕ) (range : Range) (gone : Bool) → IsExactImage words → old < 36 → old ≢ (tables_of words).class start → range.size ≡ class_size old → IsInSlab (tables_of words) start range.at →
+pub old_returned : (words : List ℕ) (stacks after : Stacks) (seat root start old : ℕ) (range : Range) (gone : Bool) → IsExactImage words → old < 36 → old ≢ ((tables_of words).header start).class → range.size ≡ class_size old → IsInSlab (tables_of words) start range.at →
     IsLastOf (tables_of words) root start gone → after ≡ stacks_but stacks start gone → Returns words stacks seat root range after
 old_returned words stacks after seat root start old range gone image is_class differ wide inside last is m state named =
-    returned_old (bounds_of words) m (law_of_exact_state words m image state) start ((tables_of words).class start) range (naming_slab state start inside.slab) inside.low inside.high
+    returned_old (bounds_of words) m (law_of_exact_state words m image state) start ((tables_of words).header start).class range (naming_slab state start inside.slab) inside.low inside.high
     (without_block (bounds_of words) m root range) stacks after seat old gone (λ s. sym (small_stays words root start range gone image inside last m state named s) ∙ slabs_but_state words m state start gone s) is_class differ wide is
 
 -- a free is refused

@@ -1,7 +1,7 @@
 -- A block moved from a root to another: what stands beside the words is what they say still, the step of the heap machine,
 -- and what a move did behind its begin.
 use Rattle.std.proofs.Common.{◌≡◌, ◌≢◌, ℕ, ◌<◌, List, Option, Some, None, sym, ap, ◌∙◌, arith, ◌⊎◌, ◌+◌, ◌/◌, ◌≤◌, Err, refl, inl, inr, ⊎_elim, ◌%◌, []}
-use Rattle.arena_core.proofs.Common.{entry_word, version_in, granules_in, Tables, tables_of, SameLog, root_word-low, Book, FreeSet, Bounds, Range, with_key, heap, granules_at, bounds_of, heap-none, IsBookOf, Lives, calm_at, IsIndexOf, live_in, AreLivesOf, KeepsSlabs, Reply, Machine, IsExactImage, HasValue, HasState, move_reply, IsStepOfAny, AreRoots, IsMovePlan, PmemState, words_of, IsQuietStep, step_by, step_none, HasNoMove-closed, roots_plain, law_of_steady, Volatile, IsArena, call_events, line_after, IsToMove, IsMoveCarried, log_word-low, entry_word-low, same_log, counts_kept, calm_same, named_at}
+use Rattle.arena_core.proofs.Common.{entry_slot, version_in, granules_in, Tables, tables_of, SameLog, root_word-low, Book, FreeSet, Bounds, Range, with_key, heap, granules_at, bounds_of, heap-none, IsBookOf, Lives, normal_at, IsIndexOf, live_in, AreLivesOf, KeepsSlabs, Reply, Machine, IsExactImage, HasValue, HasState, move_reply, IsStepOfAny, AreRoots, IsMovePlan, PmemState, words_of, IsQuietStep, step_by, step_none, HasNoMove-closed, roots_plain, law_of_steady, Volatile, IsArena, call_events, line_after, IsToMove, IsMoveCarried, log_start-low, entry_slot-low, same_log, counts_kept, normal_of-same, named_at}
 use Rattle.heap_check.specs.Heap.{slabs}
 use Rattle.heap_check.specs.Slabs.{IsSameSlab}
 use Rattle.std.specs.Prelude.{if◌then◌else◌}
@@ -29,8 +29,8 @@ module _ {words new : List ℕ} {line from to at : ℕ} (may : IsMovable words f
   log_moved : SameLog words new
   log_moved = same_log words new (λ k low. moved.rest.others k (λ e. omega (arith, e, low)) (λ e. omega (arith, e, low)) (λ e. omega (arith, e, low))) (λ c e few_chunks below.
       let version = version_in words in
-      let low = entry_word-low version c e in
-      moved.rest.others (entry_word version c e) (λ is. omega (arith, is, low, log_word-low version, few)) (λ is. omega (arith, is, low, root_word-low version from may.from_rooted)) (λ is. omega (arith, is, low, root_word-low version to may.to_rooted)))
+      let low = entry_slot-low version c e in
+      moved.rest.others (entry_slot version c e) (λ is. omega (arith, is, low, log_start-low version, few)) (λ is. omega (arith, is, low, root_word-low version from may.from_rooted)) (λ is. omega (arith, is, low, root_word-low version to may.to_rooted)))
 
   pub granules_moved : granules_in new ≡ granules_in words
   granules_moved = ap (λ (b : Bounds). b.granules) moved.bounds
@@ -53,7 +53,7 @@ module _ {words new : List ℕ} {line from to at : ℕ} (may : IsMovable words f
       grind arith
 
   pub lives_moved : (range : Range) → heap (tables_of words) from ≡ Some range → (lives : Lives) → AreLivesOf lives words → AreLivesOf lives new
-  lives_moved range named lives were = lives_kept words new lives lives (counts_kept words new lives.counts granules_moved (live_in_moved range named) were.counts) were (λ s i. calm_at lives s) (λ s. calm_same t (tables_of new) s (moved.slabs s))
+  lives_moved range named lives were = lives_kept words new lives lives (counts_kept words new lives.counts granules_moved (live_in_moved range named) were.counts) were (λ s i. normal_at lives s) (λ s. normal_of-same t (tables_of new) s (moved.slabs s))
 
 -- whichever seat calls, and whatever stands on the stacks, it is a step of the machine
 pub any_seat : (old new : List ℕ) (from to : ℕ) (reply : Reply) → IsMoveStep old new from to reply → IsStepOfAny old new (calls.Move from to) reply
@@ -98,7 +98,7 @@ module _ {words new : List ℕ} {line from to at : ℕ} (may : IsMovable words f
       }
 
   slab_same : {start : ℕ} → IsSameSlab (tables_of words) (tables_of new) start → slabs (tables_of new) start ≡ slabs (tables_of words) start
-  slab_same same = λ i. if same.slab i then Some (same.class i) else None
+  slab_same same = λ i. if same.slab i then Some (same.header i).class else None
 
   state_moved : HasState new next
   state_moved = record {

@@ -150,7 +150,7 @@ held_block_at words image root held rooted is =
     let claim = IsClaim-heap t root (range_held held) none named in
     let within = IsWithin-claim image.exact.sound root (range_held held) none claim in
     let some : 0 < granules_at t within.0 = omega (arith, within.1.low, within.1.high, within.1.some) in
-    let lies = image.exact.sound.starts within.0 some in
+    let lies = image.exact.sound.extents.starts within.0 some in
     record {
       rooted = rooted;
       named = named;

@@ -1,7 +1,7 @@
 -- What a malloc or a free has done, put together: a malloc by its plan, of which all but the supply of an arena is as it was,
 -- and a free by what the root held.
 use Rattle.std.proofs.Common.{◌≡◌, ℕ, ◌<◌, Option, Some, None, Result, Ok, Err, refl, sym, ap, subst, ◌∙◌, List, ◌+◌, ◌*◌, ◌%◌, inl, inr, ⊎_elim, arith, ◌++◌}
-use Rattle.arena_core.proofs.Common.{place_events, placed_events, line_after, sizes_of, slabs, IsUnusedIn, attach_events, class_in, Site, IsSite, range_of, slabs_with, Event, PmemState, words_of, began, Tables, tables_of, class_size, class_capacity, Bounds, slab_block, class_small, Supply, IsOpen, HasSlabMore, HasSlabLess, TookBlock, Volatile, bounds_of, malloc_reply, IsCalled, IsHeldFor, IsDone, HasClassNow, IsSlabFor, SmallBlock, IsArena, IsAskedOf, tables_view, reading, stacks_of, IsPutOn, Range, heap, IsInSlab, OldBlock, detach_events, detach_old_events, free_reply, IsTaken, IsTidied, stacks_but, holds_none, take_events, freed_events, tidy_events, IsTakable, IsNamedSmall, IsNamedOld, IsFreePlan, open_events, none_open, morph_events, Granules, InSlab, InMorph, InNewSlab, Small, Morph, Fresh, MallocRefusal, NoSpace, MayOpen, MayTakeClass, FreeRefusal, slab_parts}
+use Rattle.arena_core.proofs.Common.{place_events, placed_events, line_after, sizes_of, slabs, IsUnusedIn, attach_events, class_in, Site, IsSite, range_of, slabs_with, Event, PmemState, words_of, began, Tables, tables_of, class_size, class_capacity, Bounds, slab_block, class_small, Supply, MayBeGiven, HasSlabMore, HasSlabLess, TookBlock, Volatile, bounds_of, malloc_reply, IsCalled, IsHeldFor, IsDone, HasClassNow, IsSlabFor, SmallBlock, IsArena, IsAskedOf, tables_view, reading, stacks_of, IsPutOn, Range, heap, IsInSlab, OldBlock, detach_events, detach_old_events, free_reply, IsTaken, IsTidied, stacks_but, holds_none, take_events, freed_events, tidy_events, IsTakable, IsNamedSmall, IsNamedOld, IsFreePlan, open_events, none_open, morph_events, Granules, InSlab, InMorph, InNewSlab, Small, Morph, Fresh, MallocRefusal, NoSpace, MayOpen, MayTakeClass, FreeRefusal, slab_parts}
 use Rattle.arena_core.proofs.StackSteps.{IsSuppliedFresh, IsSuppliedMorph}
 use Rattle.arena_core.proofs.MachineSteps.{IsServedAt, placed_reply, placed_step, refused_malloc, Returns, refused_free, freed_step, large_stays, small_stays, large_returned, small_returned, old_returned}
 use Rattle.arena_core.proofs.CallEvents.{IsCalled-done, IsCalled-refused, placed_large, line_large, placed_there, placed_morph, placed_fresh, start_is, line_small, freed_large, freed_there, named_lies, named_new, old_lies, old_differs, freed_old}
@@ -56,7 +56,7 @@ may_take_class {device} {was} {now} planned = grind (arith, arena_same)
 
 -- and is there for the root then
 came_for : {old mid : PmemState} {was now part : Volatile} {seat root size start class : ℕ} {place : Place} {events : List Event} → IsPlanned old was now seat root size (Ok place) → class < 36 → HasClassNow old mid now part start class events →
-    (number : ℕ) → IsOpen part.supply start number → ((s i : ℕ) → class_in part.supply.slabs s ≡ Some class → IsOpen part.supply s i → s ≡ start) → IsSlabFor mid part root start class
+    (number : ℕ) → MayBeGiven part.supply start number → ((s i : ℕ) → class_in part.supply.slabs s ≡ Some class → MayBeGiven part.supply s i → s ≡ start) → IsSlabFor mid part root start class
 came_for {old} {mid} {was} {now} {part} {seat} {root} planned is_class came number is_open alone =
     let asked = planned.is.0 in
     record {
@@ -80,7 +80,7 @@ fresh_for {old} {mid} {was} {now} {part} {seat} {root} {size} {start} {class} pl
     came_for planned is_class came 0 ((more.here 0).1 (class_capacity-some class is_class)) (in_new (none_open now.supply class (rw planned.supplied.same planned.supplied.none)) more)
 
 -- where none of a class was open, none is once a slab went
-none_less : {old less : Supply} {start class : ℕ} → HasSlabLess old less start → ((s i : ℕ) → class_in old.slabs s ≡ Some class → ¬ (IsOpen old s i)) → (s i : ℕ) → class_in less.slabs s ≡ Some class → ¬ (IsOpen less s i)
+none_less : {old less : Supply} {start class : ℕ} → HasSlabLess old less start → ((s i : ℕ) → class_in old.slabs s ≡ Some class → ¬ (MayBeGiven old s i)) → (s i : ℕ) → class_in less.slabs s ≡ Some class → ¬ (MayBeGiven less s i)
 none_less {old} {less} {start} {class} gone none s i slab is = grind (arith, none s i, gone.others s i)
 
 -- of one that takes the class, those that are unused
@@ -192,7 +192,7 @@ freed_block {old} {mid} {new} {was} {part} {left} {root} {start} {events} seat c
 
 -- of its class
 pub freed_small : {old mid new : PmemState} {was part left : Volatile} {seat root class : ℕ} {block : SmallBlock} → IsArena old was → IsNamedSmall (bounds_of (words_of old)) (tables_of (words_of old)) root block class →
-    IsTaken old mid was part root block.start (detach_events (words_of old) was.line root block) → IsPutOn (stacks_of was.supply.stacks) seat ((tables_of (words_of old)).class block.start) block.at (stacks_of part.supply.stacks) → IsTidied mid new left block.start → left.line ≡ part.line →
+    IsTaken old mid was part root block.start (detach_events (words_of old) was.line root block) → IsPutOn (stacks_of was.supply.stacks) seat (((tables_of (words_of old)).header block.start).class) block.at (stacks_of part.supply.stacks) → IsTidied mid new left block.start → left.line ≡ part.line →
     stacks_of left.supply.stacks ≡ stacks_but (stacks_of part.supply.stacks) block.start (holds_none (tables_of (words_of mid)) block.start) → IsCalled old new was left seat (calls.Free root) (replies.Freed (slab_block block.start class block.number).at (class_size class))
 freed_small {old} {mid} {new} {was} {part} {left} {seat} {root} {class} {block} arena named taken put tidied same_line stacks =
     let words = words_of old in

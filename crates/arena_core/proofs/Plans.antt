@@ -1,7 +1,7 @@
 -- What the reads before a call say of the tables of an exact image: the slabs of the set, the best fits of the vacant
 -- granules, and what a root names.
 use Rattle.std.proofs.Common.{◌≡◌, ◌≢◌, ℕ, ◌+◌, ◌-◌, ◌*◌, ◌/◌, ◌<◌, ◌≤◌, true, false, sym, ap, ◌∙◌, arith, List, Some, ◌↔◌}
-use Rattle.arena_core.proofs.Common.{word_at, root_word, HasNoMove-closed, IsHeldBy, class_size, class_capacity, class_size-least, class_size-most, Tables, tables_of, Bounds, Range, slab_block, IsBestSlab, HasNoFitSlab, IsBestFit, HasNoFit, SlabBlock, class_in, FreeSet, IsFree, entry_at, slabs, HoldsBit, IsUnusedIn, is_old, IsVacant, bounds_of, IsExactImage, sizes_of, plain_size, IsClaim-word, granules_at-slab, granules_at-live, IsInSlab-held, IsWithin-claim, Holds-claim, IsIndexOf, IsSlabsOf, Supply, IsOpen, IsInNoSlabOf, HasNoOpen, IsAskedOf, IsVacantRow, tables_view, IsMorphable, IsPlacing, IsTakable, IsNamedSmall, IsClassOf, Small, Morph, Fresh, Held, is_old-held, slab_parts}
+use Rattle.arena_core.proofs.Common.{word_at, root_word, HasNoMove-closed, IsHeldBy, class_size, class_capacity, class_size-least, class_size-most, Tables, tables_of, Bounds, Range, slab_block, IsBestSlab, HasNoFitSlab, IsBestFit, HasNoFit, SlabBlock, class_in, FreeSet, IsFree, entry_at, slabs, HoldsBit, IsUnusedIn, is_old, IsVacant, bounds_of, IsExactImage, sizes_of, plain_size, IsClaim-word, granules_at-slab, granules_at-live, IsInSlab-held, IsWithin-claim, Holds-claim, IsIndexOf, IsSlabsOf, Supply, MayBeGiven, IsInNoSlabOf, HasNoOpen, IsAskedOf, IsVacantRow, tables_view, IsMorphable, IsPlacing, IsTakable, IsNamedSmall, IsClassOf, Small, Morph, Fresh, Held, is_old-held, slab_parts}
 use Rattle.std.proofs.lemmas.Nat.{le-div}
 use Rattle.size_classes.specs.Classes.{granules_of}
 use Rattle.heap_model.specs.Choice.{HasNoSite, slab_view}
@@ -21,15 +21,15 @@ class_capacity-some class is_class = grind (arith, class_size-least, class_size-
 
 module _ {set : Supply} {words : List ℕ} (parts : IsSlabsOf set words) where
   -- a slab of the supply is one of the tables
-  pub slab_of_set : (start class : ℕ) → class_in set.slabs start ≡ Some class → ((tables_of words).slab start ≡ true) × ((tables_of words).class start ≡ class)
+  pub slab_of_set : (start class : ℕ) → class_in set.slabs start ≡ Some class → ((tables_of words).slab start ≡ true) × (((tables_of words).header start).class ≡ class)
   slab_of_set start class is = slab_parts (tables_of words) start class (sym (parts.classes start) ∙ is)
 
   -- and a slab of the tables is one of the supply
-  pub slab_in_set : (start class : ℕ) → (tables_of words).slab start ≡ true → (tables_of words).class start ≡ class → class_in set.slabs start ≡ Some class
+  pub slab_in_set : (start class : ℕ) → (tables_of words).slab start ≡ true → ((tables_of words).header start).class ≡ class → class_in set.slabs start ≡ Some class
   slab_in_set start class slab is = grind arith
 
   -- a block of the supply is open where it is unused
-  pub block_is : (start class i : ℕ) → (tables_of words).slab start ≡ true → (tables_of words).class start ≡ class → i < class_capacity class → IsOpen set start i ↔ IsUnusedIn (tables_of words) start class i
+  pub block_is : (start class i : ℕ) → (tables_of words).slab start ≡ true → ((tables_of words).header start).class ≡ class → i < class_capacity class → MayBeGiven set start i ↔ IsUnusedIn (tables_of words) start class i
   block_is start class i slab is below = grind arith
 
 -- the granules of a best fit are vacant
@@ -49,7 +49,7 @@ module _ {set : FreeSet} {words : List ℕ} (index : IsIndexOf set words) (root 
 
   module _ {parts : Supply} (slabs : IsSlabsOf parts words) where
     -- a block of a class that is open
-    pub placing_small : (class at : ℕ) (block : SlabBlock) → IsClassOf size class → class_in parts.slabs block.start ≡ Some class → block.number < class_capacity class → IsOpen parts block.start block.number → at ≡ (slab_block block.start class block.number).at →
+    pub placing_small : (class at : ℕ) (block : SlabBlock) → IsClassOf size class → class_in parts.slabs block.start ≡ Some class → block.number < class_capacity class → MayBeGiven parts block.start block.number → at ≡ (slab_block block.start class block.number).at →
         IsPlacing (bounds_of words) (tables_of words) root size (Small (record { start = block.start; number = block.number; at = at }) class)
     placing_small class at block least slab within is_open at_is = grind arith
 
@@ -88,13 +88,13 @@ module _ {words : List ℕ} (image : IsExactImage words) where
       grind (arith, sizes_of)
 
   -- a root's word in a slab is the address of a block of its class, where no live old block begins there
-  pub block_at_root : (root at start class : ℕ) → IsSlabAt (tables_of words) start class → IsRootIn (bounds_of words) (tables_of words) root start at → is_old (tables_of words) start at ≡ false →
+  pub block_at_root : (root at start class : ℕ) → IsSlabAt (tables_of words) start class → IsRootIn (bounds_of words) (tables_of words) root start at → is_old ((tables_of words).header start) start at ≡ false →
       (number : ℕ) × IsNamedSmall (bounds_of words) (tables_of words) root (record { start = start; number = number; at = at }) class
   block_at_root root at start class is named new =
       let range : Range = record { at = t.root root; size = plain_size t (t.root root) } in
       let some : t.root root ≢ 0 = grind (arith, granules_at-slab, sizes_of) in
       let holds = Holds-claim image.exact.sound root start range (unnamed root) (IsClaim-word t root (unnamed root) some) (rw named.named named.inside) in
-      let bit : HoldsBit t start range = grind (arith, is_old-held) in
+      let bit : HoldsBit (t.header start) start range = grind (arith, is_old-held) in
       (bit.number, grind (arith, sizes_of, granules_at-slab))
 
   -- what is held is so in an arena that is not too large

@@ -1,6 +1,6 @@
 -- A block of a slab came to a root, or went from it: what an arena keeps holds again.
 use Rattle.std.proofs.Common.{◌==◌, if◌then◌else◌, ◌≡◌, ℕ, [], ◌+◌, ◌%◌, ◌<◌, ◌≤◌, Bool, true, false, List, length, slice_index, Some, None, refl, sym, ap, subst, ◌∙◌, arith, ◌++◌, inr, ◌*◌, ◌^◌, Option, MatchOption, IsSome, inl}
-use Rattle.arena_core.proofs.Common.{calm_at, heap-none, IsUnusedIn, Event, reading, PmemState, words_of, IsQuietStep, Tables, tables_of, put_at-same, put_at-other, Supply, IsWith, Bounds, Range, heap, slabs, bounds_of, IsExactButImage, IsEitherHeap, granules_at-slab, sizes_of, KeepsOthers, IsDetachable, IsDetached, IsOldDetachable, IsOldDetached, detach_events, detach_old_events, Volatile, Lives, IsSlabsOf, IsCurrent, live_in, AreLivesOf, IsArena, calm_of, IsDone, IsTaken, IsTidied, HaveOneMore, IsLastOf, slabs_but, holds_none, tidy_events, SmallBlock, OldBlock, IsInSlab-held, Holds, class_size, class_capacity, with_key, slab_block, SlabBlock, HadNoOpen, TookBlock, attach_events, IsHeldFor, IsSlabFor, HasClassNow, GivesRoot, stage_of, GivesOne, none_open, steps_then, IsOneMore, begins_only}
+use Rattle.arena_core.proofs.Common.{normal_at, heap-none, IsUnusedIn, Event, reading, PmemState, words_of, IsQuietStep, Tables, tables_of, put_at-same, put_at-other, Supply, IsWith, Bounds, Range, heap, slabs, bounds_of, IsExactButImage, IsEitherHeap, granules_at-slab, sizes_of, KeepsAllButBlock, IsDetachable, IsDetached, IsOldDetachable, IsOldDetached, detach_events, detach_old_events, Volatile, Lives, IsSlabsOf, IsCurrent, live_in, AreLivesOf, IsArena, normal_of, IsDone, IsTaken, IsTidied, HaveOneMore, IsLastOf, slabs_but, holds_none, tidy_events, SmallBlock, OldBlock, IsInSlab-held, Holds, class_size, class_capacity, with_key, slab_block, SlabBlock, HadNoOpen, TookBlock, attach_events, IsHeldFor, IsSlabFor, HasClassNow, GivesRoot, stage_of, GivesOne, none_open, steps_then, IsOneMore, begins_only}
 use Rattle.arena_core.proofs.Readiness.{ready_after}
 use Rattle.image_tables.specs.Updates.{put_in}
 use Rattle.attach_steps.specs.Steps.{IsAttached}
@@ -11,18 +11,19 @@ use Rattle.heap_check.proofs.SmallPlaces.{IsWithin-block, in_slab}
 use Rattle.arena_core.proofs.LiveSlabs.{lives_kept, one_more}
 use Rattle.heap_check.proofs.HeapSteps.{keeps_both}
 use Rattle.heap_check.proofs.LiveCounts.{counts_raised, live_most}
+use Rattle.image_tables.specs.Tables.{bit_rows, live_rows}
 
 -- a slab lies in the arena, so its number of live blocks is one of the counts, and small
 pub counted : (words : List ℕ) (start : ℕ) (lives : Lives) → IsExactButImage words start → (tables_of words).slab start ≡ true → AreLivesOf lives words → (start < length lives.counts) × (slice_index lives.counts start ≡ live_in words start) × (live_in words start < 2 ^ 16)
 counted words start lives image slab were =
     let four = granules_at-slab (tables_of words) start slab in
-    let lies = image.but.sound.starts start (omega (arith, four)) in
+    let lies = image.but.sound.extents.starts start (omega (arith, four)) in
     (omega (arith, lies.1, four, were.counts.size), were.counts.each start, omega (arith, live_most words start, (sizes_of words image.formed).roots.0))
 
 -- a block went from its root, and is counted still
 one_taken : {words new : List ℕ} {root start : ℕ} {range : Range} {lives : Lives} → AreLivesOf lives words → IsExactButImage words start → root < (bounds_of words).roots → Holds (tables_of words) start range → (tables_of words).root root ≡ range.at → bounds_of new ≡ bounds_of words →
-    ((s : ℕ) → (tables_of new).slab s ≡ (tables_of words).slab s) → ((s : ℕ) → calm_of (tables_of new) s ≡ calm_of (tables_of words) s) → GivesOne words root None new → HaveOneMore lives new start
-one_taken {words} {new} {root} {start} {range} {lives} were image rooted holds named bounds slab_same calm gives =
+    ((s : ℕ) → (tables_of new).slab s ≡ (tables_of words).slab s) → ((s : ℕ) → normal_of (tables_of new) s ≡ normal_of (tables_of words) s) → GivesOne words root None new → HaveOneMore lives new start
+one_taken {words} {new} {root} {start} {range} {lives} were image rooted holds named bounds slab_same normal gives =
     let sound = image.but.sound in
     let more : IsOneMore new words root start range = record {
       rooted = subst (λ (b : Bounds). root < b.roots) (sym bounds) rooted;
@@ -34,12 +35,12 @@ one_taken {words} {new} {root} {start} {range} {lives} were image rooted holds n
       inside = slab_same start ∙ holds.slab;
       begins = λ s slab. begins_only sound start range (IsInSlab-held sound start range holds) s (sym (slab_same s) ∙ slab);
     } in
-    one_more lives more (counted words start lives image holds.slab were).0 were (λ s. sym (calm s))
+    one_more lives more (counted words start lives image holds.slab were).0 were (λ s. sym (normal s))
 
 -- a block went
 taken_by : {old new : PmemState} (was : Volatile) (fewer : Supply) (lives_left : Lives) {root start k : ℕ} (bits lives : Bool → ℕ → ℕ → Bool) {events : List Event} → IsBlockChange (words_of old) was.line root start k →
     IsQuietStep old new events (IsEitherHeap (words_of old) (words_of new)) → IsExactButImage (words_of new) start → bounds_of (words_of new) ≡ bounds_of (words_of old) →
-    tables_of (words_of new) ≡ stage_of (tables_of (words_of old)) bits lives root false 0 None → GivesOne (words_of old) root None (words_of new) → KeepsOthers (words_of old) was.line root k (words_of new) →
+    tables_of (words_of new) ≡ stage_of (tables_of (words_of old)) bits lives root false 0 None → GivesOne (words_of old) root None (words_of new) → KeepsAllButBlock (words_of old) was.line root k (words_of new) →
     IsCurrent old was → length new.events ≤ 11 → IsSlabsOf fewer (words_of new) → AreLivesOf lives_left (words_of new) → IsTaken old new was (record was { supply = fewer; lives = lives_left; line = (was.line + 1) % 8 }) root start events
 taken_by {old} {new} was fewer lives_left {root} {start} {k} bits lives {events} change step image bounds tables gives rest current few slabs_are lives_are =
     let words = words_of old in
@@ -66,7 +67,7 @@ taken_by {old} {new} was fewer lives_left {root} {start} {k} bits lives {events}
 -- of its slab's class: it may be given out again, and is counted until then
 pub class_one_more : {old : PmemState} {new : List ℕ} {was : Volatile} {root : ℕ} {block : SmallBlock} → IsArena old was → IsDetachable (words_of old) root block → IsDetached (words_of old) was.line root block new → HaveOneMore was.lives new block.start
 class_one_more {old} {new} {was} {root} {block} arena may detached =
-    one_taken arena.lives may.block_in.image may.block_in.rooted (class_holds may) (may.named ∙ may.block_in.at) detached.bounds (λ s. ap (λ (x : Tables). x.slab s) detached.tables) (λ s. ap (λ (x : Tables). calm_of x s) detached.tables) detached.gives
+    one_taken arena.lives may.block_in.image may.block_in.rooted (class_holds may) (may.named ∙ may.block_in.at) detached.bounds (λ s. ap (λ (x : Tables). x.slab s) detached.tables) (λ s. ap (λ (x : Tables). normal_of x s) detached.tables) detached.gives
 
 pub class_taken : {old new : PmemState} (was : Volatile) {root : ℕ} {block : SmallBlock} → IsArena old was → IsDetachable (words_of old) root block → IsDetached (words_of old) was.line root block (words_of new) → (fewer : Supply) (lives : Lives) → old.events ≡ [] →
     IsQuietStep old new (detach_events (words_of old) was.line root block) (IsEitherHeap (words_of old) (words_of new)) → IsWith was.supply fewer block.start block.number → AreLivesOf lives (words_of new) →
@@ -74,7 +75,7 @@ pub class_taken : {old new : PmemState} (was : Volatile) {root : ℕ} {block : S
 class_taken {old} {new} was {root} {block} arena may detached fewer lives fresh step came lives_are =
     let words = words_of old in
     let t = tables_of words in
-    taken_by was fewer lives (put_in t.bit block.start block.number) (λ on. t.live) (change_bit may.block_in arena.few) step detached.image detached.bounds detached.tables detached.gives detached.rest arena.current
+    taken_by was fewer lives (put_in (bit_rows t) block.start block.number) (λ on. live_rows t) (change_bit may.block_in arena.few) step detached.image detached.bounds detached.tables detached.gives detached.rest arena.current
     (omega (arith, ap length fresh, step.appends.size))
     (slabs_with block.start block.number
     (slabs_less words root block.start block.number false 0 (words_of new) detached.bounds detached.tables was.supply
@@ -85,14 +86,14 @@ class_taken {old} {new} was {root} {block} arena may detached fewer lives fresh 
 -- an old one: the blocks that it alone covered may be given out, and it is counted until then
 pub old_one_more : {old : PmemState} {new : List ℕ} {was : Volatile} {root : ℕ} {block : OldBlock} → IsArena old was → IsOldDetachable (words_of old) root block → IsOldDetached (words_of old) was.line root block new → HaveOneMore was.lives new block.start
 old_one_more {old} {new} {was} {root} {block} arena may detached =
-    one_taken arena.lives may.image may.rooted (old_holds may) (may.named ∙ may.at) detached.bounds (λ s. ap (λ (x : Tables). x.slab s) detached.tables) (λ s. ap (λ (x : Tables). calm_of x s) detached.tables) detached.gives
+    one_taken arena.lives may.image may.rooted (old_holds may) (may.named ∙ may.at) detached.bounds (λ s. ap (λ (x : Tables). x.slab s) detached.tables) (λ s. ap (λ (x : Tables). normal_of x s) detached.tables) detached.gives
 
 pub old_taken : {old new : PmemState} (was : Volatile) {root : ℕ} {block : OldBlock} → IsArena old was → IsOldDetachable (words_of old) root block → IsOldDetached (words_of old) was.line root block (words_of new) → (fewer : Supply) (lives : Lives) → old.events ≡ [] →
     let events = detach_old_events (tables_of (words_of old)) was.line root block.at block.start block.place in
     IsQuietStep old new events (IsEitherHeap (words_of old) (words_of new)) → IsSlabsOf fewer (words_of new) → AreLivesOf lives (words_of new) → IsTaken old new was (record was { supply = fewer; lives = lives; line = (was.line + 1) % 8 }) root block.start events
 old_taken {old} {new} was {root} {block} arena may detached fewer lives fresh step slabs_are lives_are =
     let t = tables_of (words_of old) in
-    taken_by was fewer lives (λ on. t.bit) (put_in t.live block.start block.place) (change_index may arena.few) step detached.image detached.bounds detached.tables detached.gives detached.rest arena.current
+    taken_by was fewer lives (λ on. bit_rows t) (put_in (live_rows t) block.start block.place) (change_index may arena.few) step detached.image detached.bounds detached.tables detached.gives detached.rest arena.current
     (omega (arith, ap length fresh, step.appends.size)) slabs_are lives_are
 
 -- whether it was the last of its slab, by the words that its events leave
@@ -144,7 +145,7 @@ module _ {device : PmemState} {volatile : Volatile} {root start class : ℕ} (re
       let t = tables_of (words_of device) in
       let arena = ready.arena in
       let same = sym ready.class_is in
-      let below : number < class_capacity (t.class start) = subst (λ c. number < class_capacity c) same took.within in
+      let below : number < class_capacity (t.header start).class = subst (λ c. number < class_capacity c) same took.within in
       record {
         ready = arena.ready;
         few = ready.few;
@@ -160,20 +161,20 @@ module _ {device : PmemState} {volatile : Volatile} {root start class : ℕ} (re
       }
 
 -- a block came to the root, and is counted
-pub given_done : {old new : PmemState} {was : Volatile} {next : Lives} {root class line : ℕ} (block : SmallBlock) → IsHeldFor old was root block → (tables_of (words_of old)).class block.start ≡ class →
+pub given_done : {old new : PmemState} {was : Volatile} {next : Lives} {root class line : ℕ} (block : SmallBlock) → IsHeldFor old was root block → ((tables_of (words_of old)).header block.start).class ≡ class →
     IsQuietStep old new (attach_events (words_of old) was.line root block) (IsEitherHeap (words_of old) (words_of new)) → IsAttached (words_of old) was.line root block (words_of new) → length next.counts ≡ length was.lives.counts →
-    ((s : ℕ) → slice_index next.counts s ≡ (if s == block.start then slice_index was.lives.counts s + 1 else slice_index was.lives.counts s)) → ((s : ℕ) → calm_at next s ≡ calm_at was.lives s) →
+    ((s : ℕ) → slice_index next.counts s ≡ (if s == block.start then slice_index was.lives.counts s + 1 else slice_index was.lives.counts s)) → ((s : ℕ) → normal_at next s ≡ normal_at was.lives s) →
     IsDone old new (record was { lives = next; line = line }) root (Some (slab_block block.start class block.number)) (slabs (tables_of (words_of old))) (attach_events (words_of old) was.line root block)
-given_done {old} {new} {was} {next} {root} {class} block held class_is step attached size counts calm =
+given_done {old} {new} {was} {next} {root} {class} block held class_is step attached size counts normal =
     let words = words_of old in
     let after = words_of new in
     let t = tables_of words in
-    let bits = put_in t.bit block.start block.number in
-    let live_bits = λ (on : Bool). t.live in
+    let bits = put_in (bit_rows t) block.start block.number in
+    let live_bits = λ (on : Bool). (live_rows t) in
     let block_in = held.attachable.block_in in
     let but = block_in.image.but in
     let change = change_bit block_in held.few in
-    let range = slab_block block.start (t.class block.start) block.number in
+    let range = slab_block block.start (t.header block.start).class block.number in
     let inside = in_slab but.sound but.closed block.start block.number block_in.slab block_in.below range (IsWithin-block but.sound but.closed block.start block.number block_in.slab block_in.below) in
     let more : IsOneMore words after root block.start range = record {
       rooted = block_in.rooted;
@@ -194,8 +195,8 @@ given_done {old} {new} {was} {next} {root} {class} block held class_is step atta
         index = index_small words bits live_bits root true block.at after attached.bounds attached.tables was.free held.index;
       };
       slabs = slabs_used block.start block.number (slabs_less words root block.start block.number true block.at after attached.bounds attached.tables was.supply held.slabs)
-          (subst (λ (x : Tables). ¬ (IsUnusedIn x block.start (x.class block.start) block.number)) (sym attached.tables) (used_given words root block block.at block_in));
-      lives = lives_kept words after was.lives next (counts_raised words after root block.start range was.lives.counts next.counts more size counts held.lives.counts) held.lives calm (λ s. ap (λ (x : Tables). calm_of x s) attached.tables);
+          (subst (λ (x : Tables). ¬ (IsUnusedIn x block.start (x.header block.start).class block.number)) (sym attached.tables) (used_given words root block block.at block_in));
+      lives = lives_kept words after was.lives next (counts_raised words after root block.start range was.lives.counts next.counts more size counts held.lives.counts) held.lives normal (λ s. ap (λ (x : Tables). normal_of x s) attached.tables);
       gives = subst (λ c. GivesRoot words root (Some (slab_block block.start c block.number)) (slabs (tables_of words)) after) class_is (gives_small change after attached.rest bits live_bits true block.at attached.bounds attached.tables attached.gives);
     }
 

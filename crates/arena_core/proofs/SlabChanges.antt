@@ -1,17 +1,18 @@
 -- A slab comes or goes: what an arena keeps holds again.
 use Rattle.std.proofs.Common.{refl, length, [], ◌≡◌, ◌≢◌, ◌⊎◌, ◌↔◌, ◌==◌, ℕ, ◌+◌, ◌<◌, ◌≤◌, true, List, sym, ap, subst, ◌∙◌, arith, inl, inr, ⊎_elim, Some, if◌then◌else◌}
-use Rattle.arena_core.proofs.Common.{cond-true, cond-false, PmemState, words_of, Volatile, Book, IsQuietStep, IsEitherHeap, IsBookOf, HasClassNow, layout_of, version_in, class_capacity, Tables, tables_of, FreeSet, IsFree, Supply, IsOpen, IsClearOf, HasSlabMore, Bounds, with_key, slabs, IsUnusedIn, IsInSlab, IsDoneSlab, bounds_of, IsExactImage, IsExactButImage, granules_at-slab, Covers, Covers-slab, sizes_of, Lives, calm_at, IsIndexOf, AreCountsOf, calm_of, IsVacantRow, IsUnusedIn-same, live_below, IsFreeRow, slabs-other, IsSlabPlace, open_events, MayOpen, keeps_blocks, counts_kept, live_none, calm_same, with_key-is, slab_parts}
+use Rattle.arena_core.proofs.Common.{cond-true, cond-false, PmemState, words_of, Volatile, Book, IsQuietStep, IsEitherHeap, IsBookOf, HasClassNow, layout_of, version_in, class_capacity, Tables, tables_of, FreeSet, IsFree, Supply, MayBeGiven, IsClearOf, HasSlabMore, Bounds, with_key, slabs, IsUnusedIn, IsInSlab, IsDoneSlab, bounds_of, IsExactImage, IsExactButImage, granules_at-slab, Covers, Covers-slab, sizes_of, Lives, normal_at, IsIndexOf, AreCountsOf, normal_of, IsVacantRow, IsUnusedIn-same, live_below, IsFreeRow, slabs-other, IsSlabPlace, open_events, MayOpen, keeps_blocks, counts_kept, live_none, normal_of-same, with_key-is, slab_parts}
 use Rattle.extent_index.specs.FreeSet.{IsHeldRow}
 use Rattle.heap_check.proofs.BlockWords.{block_word-vacant}
 use Rattle.heap_check.proofs.SlabHeaps.{slabs-slab, IsVacant-slab}
 use Rattle.heap_check.proofs.SlabPlaces.{IsSlabPlace-vacant}
 use Rattle.heap_check.proofs.Slabs.{holds_none-fresh}
-use Rattle.extent_steps.specs.Slabs.{IsOpened}
+use Rattle.extent_steps.specs.Slabs.{IsSlabCreated}
 use Rattle.arena_core.proofs.Readiness.{ready_after, slab_room}
 use Rattle.arena_core.proofs.SmallCalls.{of_each, blocks_kept}
 use Rattle.arena_core.proofs.LiveSlabs.{lives_put}
 use Rattle.arena_core.proofs.Arenas.{index_by, index_less}
-use Rattle.heap_check.proofs.CalmSlabs.{calm_normal}
+use Rattle.heap_check.proofs.NormalSlabs.{normal_of-normal}
+use Rattle.image_tables.specs.Tables.{SlabHeader}
 
 -- a slab that covers none of four granules lies before or behind them
 pub apart_from : (t : Tables) (start other : ℕ) → t.slab other ≡ true → ((k : ℕ) → start ≤ k → k < start + 4 → ¬ (Covers t other k)) → (start + 4 ≤ other) ⊎ (other + 4 ≤ start)
@@ -29,7 +30,7 @@ module _ (device : PmemState) (volatile : Volatile) (start class : ℕ) (may : M
   pub clear_opened : IsClearOf volatile.supply start
   clear_opened = record { apart = λ other c slab. apart_from t start other (slab_parts t other c (sym (may.arena.slabs.classes other) ∙ slab)).0 (λ k low high. (may.row.vacant k low high).none other) }
 
-  module _ (u : PmemState) (opened : IsOpened (words_of device) start class (words_of u)) where
+  module _ (u : PmemState) (opened : IsSlabCreated (words_of device) start class (words_of u)) where
     abbrev new : List ℕ
     new = words_of u
 
@@ -46,18 +47,18 @@ module _ (device : PmemState) (volatile : Volatile) (start class : ℕ) (may : M
     classes_opened = with_key-is (slabs t) (slabs after) start (Some class) (slabs-slab open_place class opened.slab.fresh) (slabs-other open_place)
 
     -- each of its blocks is open, and unused
-    fresh_block : {more : Supply} → HasSlabMore volatile.supply more start class (λ i. i < class_capacity class) → (i : ℕ) → after.slab start ≡ true → i < class_capacity (after.class start) → IsOpen more start i ↔ IsUnusedIn after start (after.class start) i
+    fresh_block : {more : Supply} → HasSlabMore volatile.supply more start class (λ i. i < class_capacity class) → (i : ℕ) → after.slab start ≡ true → i < class_capacity (after.header start).class → MayBeGiven more start i ↔ IsUnusedIn after start (after.header start).class i
     fresh_block added i slab below = grind (arith, holds_none-fresh)
 
-    -- no block lives in it, and it is calm
+    -- no block lives in it, and it is normal
     pub class_opened : {log : Book} {less : FreeSet} {more : Supply} {next : Lives} → device.events ≡ [] → IsQuietStep device u (open_events (words_of device) start class) (IsEitherHeap (words_of device) (words_of u)) →
         length u.events ≤ length device.events + (layout_of (version_in (words_of device))).slab_events → IsBookOf log (words_of u) → less.granules ≡ volatile.free.granules → ((k : ℕ) → IsFree less k ↔ (IsFree volatile.free k × ((k < start) ⊎ (start + 4 ≤ k)))) →
-        HasSlabMore volatile.supply more start class (λ i. i < class_capacity class) → next.counts ≡ volatile.lives.counts → ((s : ℕ) → calm_at next s ≡ with_key (calm_at volatile.lives) start (Some class) s) →
+        HasSlabMore volatile.supply more start class (λ i. i < class_capacity class) → next.counts ≡ volatile.lives.counts → ((s : ℕ) → normal_at next s ≡ with_key (normal_at volatile.lives) start (Some class) s) →
         HasClassNow device u volatile (record volatile { log = log; free = less; supply = more; lives = next }) start class (open_events (words_of device) start class)
     class_opened {log} {less} {more} {next} fresh step few book granules taken added same put =
         let arena = may.arena in
         let ready = arena.current.ready in
-        let none = live_none opened.image.but.sound opened.image.but.closed start opened.slab.more.slab (holds_none-fresh opened.slab.fresh) (bounds_of new).roots in
+        let none = live_none opened.image.but.sound opened.image.but.closed start opened.slab.more.slab (holds_none-fresh (tables_of new) opened.slab.fresh) (bounds_of new).roots in
         let counts : AreCountsOf volatile.lives.counts new = counts_kept words new volatile.lives.counts (ap (λ (b : Bounds). b.granules) opened.bounds) (of_each start
         (cond-true (after.slab start) _ 0 opened.slab.more.slab ∙ none ∙ sym (cond-false (t.slab start) _ 0 opened.slab.more.none))
         (λ s differ. λ i. if (opened.slab.more.others s differ).slab i then live_below (λ root. opened.heap.each root i) s (opened.bounds i).roots else 0)) arena.lives.counts in
@@ -73,10 +74,10 @@ module _ (device : PmemState) (volatile : Volatile) (start class : ℕ) (may : M
               granules = added.granules ∙ arena.slabs.granules ∙ ap (λ (b : Bounds). b.granules) (sym opened.bounds);
               classes = λ s. added.classes s ∙ ap (λ x. if s == start then Some class else x) (arena.slabs.classes s) ∙ sym (classes_opened s);
               blocks = of_each start (λ i slab below. fresh_block added i slab below)
-                  (λ s differ i. let it = opened.slab.more.others s differ in blocks_kept it.slab it.class (IsUnusedIn-same it (t.class s) i) (added.others s i differ) (arena.slabs.blocks s i));
+                  (λ s differ i. let it = opened.slab.more.others s differ in blocks_kept it.slab (ap (λ (h : SlabHeader). h.class) it.header) (IsUnusedIn-same it (t.header s).class i) (added.others s i differ) (arena.slabs.blocks s i));
             };
             lives = lives_put words new volatile.lives next (subst (λ (n : List ℕ). AreCountsOf n new) (sym same) counts) arena.lives start (Some class) put
-                (with_key-is (calm_of t) (calm_of after) start (Some class) (calm_normal after start opened.slab.more.slab opened.slab.fresh.kind ∙ ap (λ c. Some c) opened.slab.fresh.class_is) (λ s differ. calm_same t after s (opened.slab.more.others s differ)));
+                (with_key-is (normal_of t) (normal_of after) start (Some class) (normal_of-normal after start opened.slab.more.slab opened.slab.fresh.kind ∙ ap (λ c. Some c) opened.slab.fresh.class_is) (λ s differ. normal_of-same t after s (opened.slab.more.others s differ)));
           };
           lively = λ done. omega (arith, done.kind, opened.slab.fresh.kind);
           class_is = opened.slab.fresh.class_is;

@@ -1,8 +1,8 @@
 -- A small block and its root come or go: the words of the log stay and those of the other blocks, and what an arena keeps
 -- holds again.
 use Rattle.std.proofs.Common.{true, ◌≤◌, ◌+◌, ◌*◌, ◌≡◌, ℕ, ◌<◌, List, arith, Bool, None, Option, ap, refl, true≢false, ◌≢◌, ◌⊎◌, ◌↔◌, sym, subst, ◌∙◌, inl, inr, ⊎_elim}
-use Rattle.arena_core.proofs.Common.{word_at, entry_word, version_in, tables_of, index_word, SameLog, root_word-low, Book, bounds_of, IsExactButImage, KeepsBlocks, sizes_of, IsBookOf, SmallBlock, KeepsOthers, IsBlockIn, IsOldDetachable, granules_at-slab, OldBlock, GivesRoot, Range, Tables, slabs, cases_eq, class_capacity, put_at-other, FreeSet, Supply, IsOpen, IsWith, Bounds, slab_block, IsUnusedIn, Holds, IsDetachable, IsDetached, IsIndexOf, IsSlabsOf, IsSameSlab, class_size-least, calm_but, IsUnusedIn-same, log_word-low, entry_word-low, block_word-header, stage_of, GivesOne, same_log, iff_then, unused_apart}
-use Rattle.image_tables.proofs.Places.{entry_word-high}
+use Rattle.arena_core.proofs.Common.{word_at, entry_slot, version_in, tables_of, index_word, SameLog, root_word-low, Book, bounds_of, IsExactButImage, KeepsBlocks, sizes_of, IsBookOf, SmallBlock, KeepsAllButBlock, IsBlockIn, IsOldDetachable, granules_at-slab, OldBlock, GivesRoot, Range, Tables, slabs, cases_eq, class_capacity, put_at-other, FreeSet, Supply, MayBeGiven, IsWith, Bounds, slab_block, IsUnusedIn, Holds, IsDetachable, IsDetached, IsIndexOf, IsSlabsOf, IsSameSlab, class_size-least, none_morphing_but, IsUnusedIn-same, log_start-low, entry_slot-low, block_word-header, stage_of, GivesOne, same_log, iff_then, unused_apart, put_at}
+use Rattle.image_tables.proofs.Places.{entry_slot-high}
 use Rattle.heap_check.proofs.BlockWords.{block_word-heap}
 use Rattle.heap_check.proofs.OneBlock.{IsVacant-one}
 use Rattle.attach_steps.specs.Steps.{bit_word}
@@ -15,6 +15,7 @@ use Rattle.heap_model.proofs.Slabbing.{blocks_apart}
 use Rattle.arena_core.specs.Arena.{AreSlabsLess}
 use Rattle.heap_check.proofs.SmallPlaces.{IsSmallPlace-named, clear_unused}
 use Rattle.heap_check.proofs.UnusedBlocks.{unused_freed}
+use Rattle.image_tables.specs.Tables.{bit_rows}
 
 -- One word of a slab's header changes with a root's word and a write-ahead line: where it lies.
 pub record IsBlockChange (words : List ℕ) (line root start k : ℕ) : Type 0 where
@@ -30,12 +31,12 @@ pub change_bit : {words : List ℕ} {line root : ℕ} {block : SmallBlock} → I
 change_bit {words} {line} {root} {block} block_in few = grind arith
 
 -- the words of the log and of blocks are the same
-module _ {words : List ℕ} {line root start place : ℕ} (change : IsBlockChange words line root start place) (new : List ℕ) (rest : KeepsOthers words line root place new) where
+module _ {words : List ℕ} {line root start place : ℕ} (change : IsBlockChange words line root start place) (new : List ℕ) (rest : KeepsAllButBlock words line root place new) where
   start_low : 4 ≤ start
   start_low = grind (arith, sizes_of, granules_at-slab)
 
   in_heap : (bounds_of words).first ≤ start
-  in_heap = (change.image.but.sound.starts start (omega (arith, granules_at-slab (tables_of words) start change.slab))).0
+  in_heap = (change.image.but.sound.extents.starts start (omega (arith, granules_at-slab (tables_of words) start change.slab))).0
 
   root_before : 2048 + root < 2048 * (bounds_of words).first
   root_before = omega (arith, (sizes_of words change.image.formed).roots, change.rooted)
@@ -48,10 +49,10 @@ module _ {words : List ℕ} {line root start place : ℕ} (change : IsBlockChang
       let version = version_in words in
       let sizes = sizes_of words change.image.formed in
       same_log words new keeps_low (λ c e few below.
-      let low = entry_word-low version c e in
-      let high = entry_word-high version c e few below in
-      rest.others (entry_word version c e)
-      (λ is. omega (arith, is, low, log_word-low version, change.few))
+      let low = entry_slot-low version c e in
+      let high = entry_slot-high version c e few below in
+      rest.others (entry_slot version c e)
+      (λ is. omega (arith, is, low, log_start-low version, change.few))
       (λ is. omega (arith, is, high, change.low, in_heap))
       (λ is. omega (arith, is, low, root_word-low version root change.rooted)))
 
@@ -85,10 +86,10 @@ pub of_each_block : {P : ℕ → ℕ → Type 0} (start number : ℕ) → P star
 of_each_block {P} start number here others = of_each {P = λ s. (i : ℕ) → P s i} start (of_each {P = P start} number here (λ i differ. others start i (inr differ))) (λ s differ i. others s i (inl differ))
 
 -- of a slab that has its class still, and of which the same blocks are unused, the same are open
-pub blocks_kept : {t new : Tables} {was set : Supply} {s i : ℕ} → new.slab s ≡ t.slab s → new.class s ≡ t.class s → IsUnusedIn t s (t.class s) i ↔ IsUnusedIn new s (t.class s) i → IsOpen set s i ↔ IsOpen was s i →
-    (t.slab s ≡ true → i < class_capacity (t.class s) → IsOpen was s i ↔ IsUnusedIn t s (t.class s) i) → new.slab s ≡ true → i < class_capacity (new.class s) → IsOpen set s i ↔ IsUnusedIn new s (new.class s) i
+pub blocks_kept : {t new : Tables} {was set : Supply} {s i : ℕ} → new.slab s ≡ t.slab s → (new.header s).class ≡ (t.header s).class → IsUnusedIn t s (t.header s).class i ↔ IsUnusedIn new s (t.header s).class i → MayBeGiven set s i ↔ MayBeGiven was s i →
+    (t.slab s ≡ true → i < class_capacity (t.header s).class → MayBeGiven was s i ↔ IsUnusedIn t s (t.header s).class i) → new.slab s ≡ true → i < class_capacity (new.header s).class → MayBeGiven set s i ↔ IsUnusedIn new s (new.header s).class i
 blocks_kept {t} {new} {was} {set} {s} {i} slab_is class_is unused opens were slab below =
-    iff_then opens (iff_then (were (sym slab_is ∙ slab) (subst (λ c. i < class_capacity c) class_is below)) (subst (λ c. IsUnusedIn t s (t.class s) i ↔ IsUnusedIn new s c i) (sym class_is) unused))
+    iff_then opens (iff_then (were (sym slab_is ∙ slab) (subst (λ c. i < class_capacity c) class_is below)) (subst (λ c. IsUnusedIn t s (t.header s).class i ↔ IsUnusedIn new s c i) (sym class_is) unused))
 
 -- the tables are others in which a block is held or not, with its root's word
 module _ (words : List ℕ) (bits lives : Bool → ℕ → ℕ → Bool) (root : ℕ) (on : Bool) (word : ℕ) (new : List ℕ) (bounds : bounds_of new ≡ bounds_of words) (tables : tables_of new ≡ stage_of (tables_of words) bits lives root on word None) where
@@ -105,23 +106,23 @@ module _ (words : List ℕ) (root start number : ℕ) (on : Bool) (word : ℕ) (
   after = with_small (tables_of words) start number on root word None
 
   same_slab : (s : ℕ) → s ≢ start → IsSameSlab t after s
-  same_slab s differ = record { slab = refl; kind = refl; class = refl; old = refl; index_count = refl; bit = put_at-other t.bit start s _ differ; live = refl; number = refl }
+  same_slab s differ = record { slab = refl; header = λ i. record (t.header s) { bit = put_at-other (bit_rows t) start s (put_at (bit_rows t start) number on) differ i } }
 
   -- so a supply that has not this block open, and of the others those that are unused, has them still
   pub slabs_less : (set : Supply) → AreSlabsLess set words start number → AreSlabsLess set new start number
   slabs_less set was = record {
     granules = was.granules ∙ ap (λ (b : Bounds). b.granules) (sym bounds);
     classes = λ s. was.classes s ∙ sym (ap (λ (x : Tables). slabs x s) tables);
-    blocks = subst (λ (x : Tables). (s i : ℕ) → x.slab s ≡ true → i < class_capacity (x.class s) → (s ≢ start) ⊎ (i ≢ number) → IsOpen set s i ↔ IsUnusedIn x s (x.class s) i) (sym tables)
+    blocks = subst (λ (x : Tables). (s i : ℕ) → x.slab s ≡ true → i < class_capacity (x.header s).class → (s ≢ start) ⊎ (i ≢ number) → MayBeGiven set s i ↔ IsUnusedIn x s (x.header s).class i) (sym tables)
         (of_each start
         (λ i slab below either. iff_then (was.blocks start i slab below either)
-        (unused_apart (Holds-back t start number on root word None start) (Holds-forth t start number on root word None start) (t.class start) i (blocks_apart start (t.class start) number i (λ is. ⊎_elim (λ differ. differ refl) (λ differ. differ (sym is)) either))))
-        (λ s differ i slab below either. iff_then (was.blocks s i slab below either) (IsUnusedIn-same (same_slab s differ) (t.class s) i)));
+        (unused_apart (Holds-back t start number on root word None start) (Holds-forth t start number on root word None start) (t.header start).class i (blocks_apart start (t.header start).class number i (λ is. ⊎_elim (λ differ. differ refl) (λ differ. differ (sym is)) either))))
+        (λ s differ i slab below either. iff_then (was.blocks s i slab below either) (IsUnusedIn-same (same_slab s differ) (t.header s).class i)));
     none = was.none;
   }
 
 -- a block that is not open may be missing
-pub slabs_missing : {set : Supply} {words : List ℕ} (start number : ℕ) → IsSlabsOf set words → ¬ (IsOpen set start number) → AreSlabsLess set words start number
+pub slabs_missing : {set : Supply} {words : List ℕ} (start number : ℕ) → IsSlabsOf set words → ¬ (MayBeGiven set start number) → AreSlabsLess set words start number
 slabs_missing start number was none = record { granules = was.granules; classes = was.classes; blocks = λ s i slab below either. was.blocks s i slab below; none = none }
 
 -- one that was taken is missing
@@ -134,7 +135,7 @@ slabs_without start number was without = record {
 }
 
 -- one that is used may be missing
-pub slabs_used : {set : Supply} {words : List ℕ} (start number : ℕ) → AreSlabsLess set words start number → ¬ (IsUnusedIn (tables_of words) start ((tables_of words).class start) number) → IsSlabsOf set words
+pub slabs_used : {set : Supply} {words : List ℕ} (start number : ℕ) → AreSlabsLess set words start number → ¬ (IsUnusedIn (tables_of words) start ((tables_of words).header start).class number) → IsSlabsOf set words
 slabs_used {set} {words} start number less used = record {
   granules = less.granules;
   classes = less.classes;
@@ -142,7 +143,7 @@ slabs_used {set} {words} start number less used = record {
 }
 
 -- one that came back is not missing any more
-pub slabs_with : {set other : Supply} {words : List ℕ} (start number : ℕ) → AreSlabsLess set words start number → IsWith set other start number → IsUnusedIn (tables_of words) start ((tables_of words).class start) number → IsSlabsOf other words
+pub slabs_with : {set other : Supply} {words : List ℕ} (start number : ℕ) → AreSlabsLess set words start number → IsWith set other start number → IsUnusedIn (tables_of words) start ((tables_of words).header start).class number → IsSlabsOf other words
 slabs_with {set} {other} {words} start number less came unused = record {
   granules = came.granules ∙ less.granules;
   classes = λ s. came.classes s ∙ less.classes s;
@@ -150,31 +151,31 @@ slabs_with {set} {other} {words} start number less came unused = record {
 }
 
 -- a block that a root names is not open
-pub named_used : {set : Supply} {words : List ℕ} {root : ℕ} {block : SmallBlock} → IsSlabsOf set words → IsDetachable words root block → ¬ (IsOpen set block.start block.number)
+pub named_used : {set : Supply} {words : List ℕ} {root : ℕ} {block : SmallBlock} → IsSlabsOf set words → IsDetachable words root block → ¬ (MayBeGiven set block.start block.number)
 named_used {set} {words} {root} {block} slabs may is =
     let block_in = may.block_in in
     let but = block_in.image.but in
     let unused = (slabs.blocks block.start block.number block_in.slab block_in.below).0 is in
-    true≢false (sym may.set ∙ clear_unused but.sound but.closed block.start block.number block_in.slab block_in.below (calm_but but block.start block_in.slab) unused)
+    true≢false (sym may.set ∙ clear_unused but.sound but.closed block.start block.number block_in.slab block_in.below (none_morphing_but but block.start block_in.slab) unused)
 
 -- a block that came to a root is used
 pub used_given : (words : List ℕ) (root : ℕ) (block : SmallBlock) (word : ℕ) → IsBlockIn words root block → let t = tables_of words in
-    ¬ (IsUnusedIn (with_small t block.start block.number true root word None) block.start (t.class block.start) block.number)
+    ¬ (IsUnusedIn (with_small t block.start block.number true root word None) block.start (t.header block.start).class block.number)
 used_given words root block word block_in =
     let t = tables_of words in
     let but = block_in.image.but in
     let after = with_small t block.start block.number true root word None in
-    let size = class_size-least (t.class block.start) (but.sound.slabs block.start block_in.slab).state.is_class in
-    let range : Range = slab_block block.start (t.class block.start) block.number in
-    let held : Holds after block.start range = grind (arith, calm_but, put_in-same) in
+    let size = class_size-least (t.header block.start).class (but.sound.slabs block.start block_in.slab).state.is_class in
+    let range : Range = slab_block block.start (t.header block.start).class block.number in
+    let held : Holds after block.start range = grind (arith, none_morphing_but, put_in-same) in
     λ unused. absurd (⊎_elim (λ x. omega (arith, x, size)) (λ x. omega (arith, x, size)) (unused.each range held))
 
 -- and one that went from its root is unused
-pub unused_taken : (words : List ℕ) (line root : ℕ) (block : SmallBlock) → IsDetachable words root block → (new : List ℕ) → IsDetached words line root block new → IsUnusedIn (tables_of new) block.start ((tables_of new).class block.start) block.number
+pub unused_taken : (words : List ℕ) (line root : ℕ) (block : SmallBlock) → IsDetachable words root block → (new : List ℕ) → IsDetached words line root block new → IsUnusedIn (tables_of new) block.start ((tables_of new).header block.start).class block.number
 unused_taken words line root block may new detached =
     let t = tables_of words in
     let but = may.block_in.image.but in
     let place = IsSmallPlace-named root block.start block.number but (omega (arith, (sizes_of words may.block_in.image.formed).first)) may.block_in.rooted may.block_in.slab may.block_in.below may.set (may.named ∙ may.block_in.at) in
     let left = detached.image.but in
-    let apart = unused_freed left.sound left.closed but.closed root (slab_block block.start (t.class block.start) block.number) detached.gives.here detached.gives.others place.apart block.start in
-    subst (λ c. IsUnusedIn (tables_of new) block.start c block.number) (sym (ap (λ (x : Tables). x.class block.start) detached.tables)) (record { each = apart })
+    let apart = unused_freed left.sound left.closed but.closed root (slab_block block.start (t.header block.start).class block.number) detached.gives.here detached.gives.others place.apart block.start in
+    subst (λ c. IsUnusedIn (tables_of new) block.start c block.number) (sym (ap (λ (x : Tables). (x.header block.start).class) detached.tables)) (record { each = apart })

@@ -1,8 +1,8 @@
 -- Whether a slab keeps a block once one of its blocks goes: it is dropped where it holds none, and its transition ends where
 -- no old one is left.
 use Rattle.std.proofs.Common.{◌<◌, true≢false, ◌⊎◌, ◌≤◌, ◌+◌, ◌≡◌, ◌≢◌, ◌||◌, ℕ, true, false, refl, sym, ap, subst, ◌∙◌, inl, inr, ⊎_elim, Bool, arith, ◌*◌, ◌/◌, ◌↔◌, ◌==◌, not, IsTrue, List, [], slice_index, Some, None, if◌then◌else◌}
-use Rattle.arena_core.proofs.Common.{Book, FreeSet, IsFree, Supply, HasSlabLess, IsEitherHeap, IsBookOf, sizes_of, IsUnusedIn-same, live_below, cases_Bool, class_capacity, Tables, Bounds, Range, slab_block, any_below, entry_at, Holds, HoldsBit, HoldsOld, IsInSlab, IsEmptySlab, IsExactBut, plain_size, IsNamed-claim, IsClaim-word, Holds-claim, calm_but, IsInSlab-held, IsLastOf, holds_none, cond-true, cond-false, eqb-true, and_from, and_parts, false_from_ne_true, PmemState, words_of, IsQuietStep, step_by, step_none, step_wider, morphed_kind, is_slab, tables_of, with_key, slabs, heap, IsDoneSlab, bounds_of, IsExactImage, IsSteadyImage, IsSteady-but, Volatile, Lives, calm_at, AreCountsOf, calm_of, IsTidied, slabs_but, tidy_events, header_of, put_at-same, put_at-own, HasNoMove-closed, granule_word, block_word-header, slabs-other, IsSlabPlace, keeps_blocks, same_heap, live_none, live_same, counts_kept, with_key-is, calm_none, calm_same}
-use Rattle.std.proofs.lemmas.Bool.{or_parts, or_cases, true_from_ne_false}
+use Rattle.arena_core.proofs.Common.{Book, FreeSet, IsFree, Supply, HasSlabLess, IsEitherHeap, IsBookOf, sizes_of, IsUnusedIn-same, live_below, cases_Bool, class_capacity, Tables, Bounds, Range, slab_block, any_below, entry_at, Holds, HoldsBit, HoldsOld, IsInSlab, IsEmptySlab, IsExactBut, plain_size, IsNamed-claim, IsClaim-word, Holds-claim, none_morphing_but, IsInSlab-held, IsLastOf, holds_none, cond-true, cond-false, eqb-true, and_from, and_parts, false_from_ne_true, PmemState, words_of, IsQuietStep, step_by, step_none, step_wider, morphed_kind, is_slab, tables_of, with_key, slabs, heap, IsDoneSlab, bounds_of, IsExactImage, IsSteadyImage, IsSteady-but, Volatile, Lives, normal_at, AreCountsOf, normal_of, IsTidied, slabs_but, tidy_events, HasNoMove-closed, granule_word, block_word-header, slabs-other, IsSlabPlace, keeps_blocks, same_heap, live_none, live_same, counts_kept, with_key-is, normal_of-none, normal_of-same}
+use Rattle.std.proofs.lemmas.Bool.{cases_eq, or_parts, or_cases, true_from_ne_false}
 use Rattle.image_tables.specs.Forms.{morphing_kind}
 use Rattle.heap_model.proofs.Below.{any_below-each, any_below-some}
 use Rattle.arena_core.proofs.Tests.{not_true, not_false}
@@ -16,38 +16,39 @@ use Rattle.arena_core.specs.Carried.{IsUntidy}
 use Rattle.arena_core.specs.Events.{is_done}
 use Rattle.arena_core.proofs.AdoptedSlabs.{class_read}
 use Rattle.arena_core.proofs.Arenas.{index_by, index_more}
-use Rattle.arena_core.proofs.ChangedHeaders.{IsHeaderChange, row, book_header, index_header, unused_header}
+use Rattle.arena_core.proofs.ChangedHeaders.{IsHeaderChange, row, header_now, header_other, book_header, index_header, unused_header}
 use Rattle.arena_core.proofs.LiveSlabs.{lives_put}
 use Rattle.arena_core.proofs.SlabChanges.{exact_held}
 use Rattle.arena_core.proofs.SmallCalls.{of_each, blocks_kept}
 use Rattle.slab_morph.specs.Stages.{settled}
 use Rattle.heap_check.proofs.LiveCounts.{live_some}
+use Rattle.image_tables.specs.Tables.{SlabHeader}
 
 module _ (t : Tables) (start : ℕ) where
   abbrev bits : Bool
-  bits = any_below (t.bit start) (class_capacity (t.class start))
+  bits = any_below (t.header start).bit (class_capacity (t.header start).class)
 
   abbrev olds : Bool
-  olds = any_below (t.live start) (t.index_count start)
+  olds = any_below (t.header start).live (t.header start).index_count
 
   -- a slab that holds no block by its tests holds none
   pub none_by_tests : holds_none t start ≡ true → (range : Range) → ¬ (Holds t start range)
   none_by_tests none range holds =
       let parts = or_parts bits olds (not_true (bits || olds) none) in
       ⊎_elim
-      (λ (bit : HoldsBit t start range). true≢false (sym bit.set ∙ any_below-each (t.bit start) (class_capacity (t.class start)) parts.0 bit.number bit.below))
-      (λ (old : HoldsOld t start range). true≢false (sym old.live ∙ any_below-each (t.live start) (t.index_count start) parts.1 old.place old.below))
+      (λ (bit : HoldsBit (t.header start) start range). true≢false (sym bit.set ∙ any_below-each (t.header start).bit (class_capacity (t.header start).class) parts.0 bit.number bit.below))
+      (λ (old : HoldsOld (t.header start) start range). true≢false (sym old.live ∙ any_below-each (t.header start).live (t.header start).index_count parts.1 old.place old.below))
       holds.block
 
   -- and one that holds some by them holds it
-  pub some_by_tests : t.slab start ≡ true → t.kind start ≢ morphing_kind → holds_none t start ≡ false → (range : Range) × Holds t start range
-  some_by_tests slab calm some = ⊎_elim
+  pub some_by_tests : t.slab start ≡ true → (t.header start).kind ≢ morphing_kind → holds_none t start ≡ false → (range : Range) × Holds t start range
+  some_by_tests slab none_morphing some = ⊎_elim
       (λ (set : bits ≡ true).
-      let found = any_below-some (t.bit start) (class_capacity (t.class start)) set in
-      (slab_block start (t.class start) found.0, record { slab = slab; block = inl (record { number = found.0; below = found.1; read = calm; set = found.2; is = refl }) }))
+      let found = any_below-some (t.header start).bit (class_capacity (t.header start).class) set in
+      (slab_block start (t.header start).class found.0, record { slab = slab; block = inl (record { number = found.0; below = found.1; read = none_morphing; set = found.2; is = refl }) }))
       (λ (live : olds ≡ true).
-      let found = any_below-some (t.live start) (t.index_count start) live in
-      (slab_block start (t.old start) (t.number start found.0), record { slab = slab; block = inr (record { place = found.0; below = found.1; live = found.2; is = refl }) }))
+      let found = any_below-some (t.header start).live (t.header start).index_count live in
+      (slab_block start (t.header start).old ((t.header start).number found.0), record { slab = slab; block = inr (record { place = found.0; below = found.1; live = found.2; is = refl }) }))
       (or_cases bits olds (not_false (bits || olds) some))
 
 -- an image that is exact but for a slab
@@ -67,8 +68,8 @@ module _ {b : Bounds} {t : Tables} (start : ℕ) (but : IsExactBut b t start) (s
   -- where it holds one, some root's does
   pub rooted_by_tests : holds_none t start ≡ false → (root : ℕ) × (t.root root ≢ 0) × IsInSlab t start (t.root root)
   rooted_by_tests some =
-      let held = some_by_tests t start slab (calm_but but start slab) some in
-      let owner = but.sound.claimed start held.0 held.1 in
+      let held = some_by_tests t start slab (none_morphing_but but start slab) some in
+      let owner = but.sound.owned.claimed start held.0 held.1 in
       let its = IsNamed-claim t owner.0 held.0 (unnamed owner.0) owner.1 in
       (owner.0, λ none. its.some (sym its.word ∙ none), subst (IsInSlab t start) (sym its.word) (IsInSlab-held but.sound start held.0 held.1))
 
@@ -96,12 +97,12 @@ done_by_test t start done = grind (arith, and_from, false_from_ne_true, any_belo
 
 pub not_done_by_test : (t : Tables) (start : ℕ) → t.slab start ≡ true → ¬ (IsDoneSlab t start) → is_done t start ≡ false
 not_done_by_test t start slab lively = false_from_ne_true (is_done t start) (λ is.
-    let parts = and_parts (t.kind start == morphed_kind) (not (any_below (t.live start) (t.index_count start))) is in
-    lively (record { slab = slab; kind = eqb-true (t.kind start) morphed_kind parts.0; none = λ place below. any_below-each (t.live start) (t.index_count start) (not_true (any_below (t.live start) (t.index_count start)) parts.1) place below }))
+    let parts = and_parts ((t.header start).kind == morphed_kind) (not (any_below (t.header start).live (t.header start).index_count)) is in
+    lively (record { slab = slab; kind = eqb-true (t.header start).kind morphed_kind parts.0; none = λ place below. any_below-each (t.header start).live (t.header start).index_count (not_true (any_below (t.header start).live (t.header start).index_count) parts.1) place below }))
 
 -- the slab that was read is this one
-pub done_here : {t : Tables} {slab start : ℕ} {is : Bool} → slab ≡ 8 * granule_word start → IsTrue is ↔ IsDoneSlab t (slab / 16384) → (is ≡ true → IsDoneSlab t start) × (is ≡ false → ¬ (IsDoneSlab t start))
-done_here at says = grind arith
+pub done_here : (t : Tables) {slab start : ℕ} {is : Bool} → slab ≡ 8 * granule_word start → IsTrue is ↔ IsDoneSlab t (slab / 16384) → (is ≡ true → IsDoneSlab t start) × (is ≡ false → ¬ (IsDoneSlab t start))
+done_here t at says = grind arith
 
 module _ (s : PmemState) (volatile : Volatile) (start : ℕ) (untidy : IsUntidy s volatile start) where
   abbrev words : List ℕ
@@ -117,7 +118,7 @@ module _ (s : PmemState) (volatile : Volatile) (start : ℕ) (untidy : IsUntidy 
   pub none_by_count : slice_index volatile.lives.counts start ≡ 0 → holds_none (tables_of (words_of s)) start ≡ true
   none_by_count zero = true_from_ne_false (holds_none t start) (λ some.
       let but = untidy.image.but in
-      let held = some_by_tests t start untidy.slab (calm_but but start untidy.slab) some in
+      let held = some_by_tests t start untidy.slab (none_morphing_but but start untidy.slab) some in
       omega (arith, live_some words but.sound but.closed start held.0 held.1, zero, count_is))
 
   pub some_by_count : slice_index volatile.lives.counts start ≢ 0 → holds_none (tables_of (words_of s)) start ≡ false
@@ -160,9 +161,9 @@ module _ (s : PmemState) (volatile : Volatile) (start : ℕ) (untidy : IsUntidy 
     classes_dropped : (o : ℕ) → slabs less o ≡ with_key (slabs t) start None o
     classes_dropped = with_key-is (slabs t) (slabs less) start None (slabs-none drop_place) (λ o differ. sym (slabs-other drop_place o differ))
 
-    -- no block lived in it, and it is calm no more
+    -- no block lived in it, and it is normal no more
     pub tidied_dropped : {log : Book} {more : FreeSet} {set : Supply} {next : Lives} → IsQuietStep s u (drop_events (words_of s) start) (IsEitherHeap (words_of s) (words_of u)) → IsBookOf log (words_of u) → more.granules ≡ volatile.free.granules →
-        ((k : ℕ) → IsFree more k ↔ (IsFree volatile.free k ⊎ ((start ≤ k) × (k < start + 4)))) → HasSlabLess volatile.supply set start → next.counts ≡ volatile.lives.counts → ((o : ℕ) → calm_at next o ≡ with_key (calm_at volatile.lives) start None o) →
+        ((k : ℕ) → IsFree more k ↔ (IsFree volatile.free k ⊎ ((start ≤ k) × (k < start + 4)))) → HasSlabLess volatile.supply set start → next.counts ≡ volatile.lives.counts → ((o : ℕ) → normal_at next o ≡ with_key (normal_at volatile.lives) start None o) →
         IsTidied s u (record volatile { log = log; free = more; supply = set; lives = next }) start
     tidied_dropped {log} {more} {set} {next} step book granules given removed same put =
         let none = none_by_count zero in
@@ -185,10 +186,10 @@ module _ (s : PmemState) (volatile : Volatile) (start : ℕ) (untidy : IsUntidy 
             blocks = λ o i slab.
                 let differ : o ≢ start = λ here. true≢false (sym slab ∙ ap less.slab here ∙ dropped.slab.none) in
                 let kept = IsSameSlab-back (dropped.slab.others o differ) in
-                blocks_kept kept.slab kept.class (IsUnusedIn-same kept (t.class o) i) (removed.others o i differ) (untidy.slabs.blocks o i) slab;
+                blocks_kept kept.slab (ap (λ (h : SlabHeader). h.class) kept.header) (IsUnusedIn-same kept (t.header o).class i) (removed.others o i differ) (untidy.slabs.blocks o i) slab;
           };
           lives = lives_put words fewer volatile.lives next (subst (λ (n : List ℕ). AreCountsOf n fewer) (sym same) counts) untidy.lives start None put
-              (with_key-is (calm_of t) (calm_of less) start None (calm_none less start dropped.slab.none) (λ o differ. sym (calm_same less t o (dropped.slab.others o differ))));
+              (with_key-is (normal_of t) (normal_of less) start None (normal_of-none less start dropped.slab.none) (λ o differ. sym (normal_of-same less t o (dropped.slab.others o differ))));
           bounds = dropped.bounds;
           heap = dropped.heap;
           slab = λ o. classes_dropped o ∙ sym (ap (λ gone. slabs_but (slabs t) start gone o) none);
@@ -207,7 +208,7 @@ module _ (s : PmemState) (volatile : Volatile) (start : ℕ) (untidy : IsUntidy 
     abbrev after : Tables
     after = tables_of new
 
-    change : IsHeaderChange words start (settled (header_of t start)) new
+    change : IsHeaderChange words start (settled (t.header start)) new
     change = record { sound = untidy.image.but.sound; slab = untidy.slab; off = ended.off; bounds = ended.bounds; tables = ended.tables; held = ended.held }
 
     exact : IsExactImage new
@@ -217,13 +218,13 @@ module _ (s : PmemState) (volatile : Volatile) (start : ℕ) (untidy : IsUntidy 
         let large : after.large ≡ t.large = row change (λ x. x.large) in
         let roots : after.root ≡ t.root = row change (λ x. x.root) in
         let slabs_as : after.slab ≡ t.slab = row change (λ x. x.slab) in
-        let kind : after.kind start ≡ 1 = row change (λ x. x.kind start) ∙ put_at-same t.kind start 1 in
+        let kind : (after.header start).kind ≡ 1 = ap (λ (h : SlabHeader). h.kind) (header_now change) in
         let left : IsExactBut (bounds_of new) after start = record {
           sound = ended.image.sound;
           closed = row change (λ x. x.open_entry) ∙ but.closed;
           all_named = grind (arith, but.all_named);
           others_live = grind (arith, but.others_live);
-          calm = λ other morphing. but.calm other (ended.loose.morphing other morphing);
+          none_morphing = λ other morphing. but.none_morphing other (ended.loose.morphing other morphing);
           none_done = λ other differ is. but.none_done other differ (ended.loose.done other is);
         } in
         exact_held new start (record { formed = ended.image.formed; but = left }) (rooted.0, grind arith, grind arith) (λ is. omega (arith, is.kind, kind))
@@ -231,21 +232,24 @@ module _ (s : PmemState) (volatile : Volatile) (start : ℕ) (untidy : IsUntidy 
     slab_same : (o : ℕ) → (tables_of (words_of u)).slab o ≡ (tables_of (words_of s)).slab o
     slab_same o = row change (λ x. x.slab o)
 
-    class_same : (o : ℕ) → (tables_of (words_of u)).class o ≡ (tables_of (words_of s)).class o
-    class_same o = row change (λ x. x.class o) ∙ ap (λ (f : ℕ → ℕ). f o) (put_at-own t.class start)
+    class_same : (o : ℕ) → ((tables_of (words_of u)).header o).class ≡ ((tables_of (words_of s)).header o).class
+    class_same o = ⊎_elim
+        (λ (same : o ≡ start). ap (λ o. (after.header o).class) same ∙ ap (λ (h : SlabHeader). h.class) (header_now change) ∙ ap (λ o. (t.header o).class) (sym same))
+        (λ (differ : o ≢ start). ap (λ (h : SlabHeader). h.class) (header_other change o differ))
+        (cases_eq o start)
 
     classes_ended : (o : ℕ) → slabs after o ≡ slabs t o
     classes_ended o = λ i. if row change (λ x. x.slab o) i then Some (class_same o i) else None
 
-    -- it is calm now
-    calm_ended : (o : ℕ) → calm_of after o ≡ with_key (calm_of t) start (Some (t.class start)) o
-    calm_ended = grind arith
+    -- it is normal now
+    normal_ended : (o : ℕ) → normal_of after o ≡ with_key (normal_of t) start (Some (t.header start).class) o
+    normal_ended = grind arith
 
     -- its class, as it is read from now on
-    pub class_left : {slab class : ℕ} → slab ≡ 8 * granule_word start → (is_slab (words_of u) (slab / 16384) ≡ true → class ≡ (tables_of (words_of u)).class (slab / 16384)) → class ≡ (tables_of (words_of s)).class start
+    pub class_left : {slab class : ℕ} → slab ≡ 8 * granule_word start → (is_slab (words_of u) (slab / 16384) ≡ true → class ≡ ((tables_of (words_of u)).header (slab / 16384)).class) → class ≡ ((tables_of (words_of s)).header start).class
     class_left {slab} {class} at read = class_read new slab start class (omega arith) (slab_same start ∙ untidy.slab) read ∙ class_same start
 
-    pub tidied_ended : (next : Lives) {class : ℕ} → next.counts ≡ volatile.lives.counts → ((o : ℕ) → calm_at next o ≡ with_key (calm_at volatile.lives) start (Some class) o) → class ≡ (tables_of (words_of s)).class start → IsTidied s u (record volatile { lives = next }) start
+    pub tidied_ended : (next : Lives) {class : ℕ} → next.counts ≡ volatile.lives.counts → ((o : ℕ) → normal_at next o ≡ with_key (normal_at volatile.lives) start (Some class) o) → class ≡ ((tables_of (words_of s)).header start).class → IsTidied s u (record volatile { lives = next }) start
     tidied_ended next same put class_is =
         let none = some_by_count some in
         let counts : AreCountsOf volatile.lives.counts new = counts_kept words new volatile.lives.counts (ap (λ (b : Bounds). b.granules) ended.bounds) (live_same words new ended.bounds slab_same ended.heap.each) untidy.lives.counts in
@@ -260,9 +264,9 @@ module _ (s : PmemState) (volatile : Volatile) (start : ℕ) (untidy : IsUntidy 
           slabs = record {
             granules = untidy.slabs.granules ∙ ap (λ (b : Bounds). b.granules) (sym ended.bounds);
             classes = λ o. untidy.slabs.classes o ∙ sym (classes_ended o);
-            blocks = λ o i. blocks_kept (slab_same o) (class_same o) (unused_header change o (t.class o) i) (λ is. is, λ is. is) (untidy.slabs.blocks o i);
+            blocks = λ o i. blocks_kept (slab_same o) (class_same o) (unused_header change o (t.header o).class i) (λ is. is, λ is. is) (untidy.slabs.blocks o i);
           };
-          lives = lives_put words new volatile.lives next (subst (λ (n : List ℕ). AreCountsOf n new) (sym same) counts) untidy.lives start (Some (t.class start)) (λ o. put o ∙ ap (λ c. with_key (calm_at volatile.lives) start (Some c) o) class_is) calm_ended;
+          lives = lives_put words new volatile.lives next (subst (λ (n : List ℕ). AreCountsOf n new) (sym same) counts) untidy.lives start (Some (t.header start).class) (λ o. put o ∙ ap (λ c. with_key (normal_at volatile.lives) start (Some c) o) class_is) normal_ended;
           bounds = ended.bounds;
           heap = ended.heap;
           slab = λ o. classes_ended o ∙ sym (ap (λ gone. slabs_but (slabs t) start gone o) none);

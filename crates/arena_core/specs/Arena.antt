@@ -10,9 +10,9 @@ use Rattle.heap_model.specs.Machine.{Range, AreApart, slab_block}
 use Rattle.extent_index.specs.FreeSet.{FreeSet, IsFree}
 use Rattle.heap_model.specs.Placement.{no_stacks}
 use Rattle.slab_index.specs.SlabSet.{class_in}
-use Rattle.slab_lives.specs.Lives.{Lives, calm_at}
+use Rattle.slab_lives.specs.Lives.{Lives, normal_at}
 use Rattle.thread_cache.specs.Stacks.{StackTable, stacks_of}
-use Rattle.block_supply.specs.Supply.{Supply, IsOpen}
+use Rattle.block_supply.specs.Supply.{Supply, MayBeGiven}
 use Rattle.heap_check.specs.Heap.{heap, slabs, IsUnusedIn}
 use Rattle.heap_check.specs.Sound.{IsVacant}
 use Rattle.heap_check.specs.Image.{bounds_of, IsExactImage}
@@ -20,7 +20,7 @@ use Rattle.log_steps.specs.Log.{IsBookOf}
 use Rattle.attach_steps.specs.declared.block.OldBlock.{OldBlock}
 use Rattle.arena_core.specs.declared.volatile.Volatile.{Volatile}
 use Rattle.arena_core.specs.Call.{IsReady}
-use Rattle.heap_check.specs.Views.{AreCountsOf, calm_of}
+use Rattle.heap_check.specs.Views.{AreCountsOf, normal_of}
 
 -- what an arena means: the state of its memory, the write-ahead line that its next entry goes to, and the stacks of reserved
 -- blocks
@@ -36,33 +36,33 @@ pub record IsIndexOf (set : FreeSet) (words : List ℕ) : Type 0 where
 
 -- the old block in its place of its slab's index table
 abbrev pub old_range : Tables → OldBlock → Range
-old_range t block = slab_block block.start (t.old block.start) (t.number block.start block.place)
+old_range t block = slab_block block.start (t.header block.start).old ((t.header block.start).number block.place)
 
 -- the supply has the slabs of these words, and of each the blocks of its class are open that are unused
 pub record IsSlabsOf (set : Supply) (words : List ℕ) : Type 0 where
   pub granules : set.slabs.granules ≡ granules_in words
   pub classes : (start : ℕ) → class_in set.slabs start ≡ slabs (tables_of words) start
-  pub blocks : (start i : ℕ) → (tables_of words).slab start ≡ true → i < class_capacity ((tables_of words).class start) → IsOpen set start i ↔ IsUnusedIn (tables_of words) start ((tables_of words).class start) i
+  pub blocks : (start i : ℕ) → (tables_of words).slab start ≡ true → i < class_capacity ((tables_of words).header start).class → MayBeGiven set start i ↔ IsUnusedIn (tables_of words) start ((tables_of words).header start).class i
 
 -- the same, but that one block is not open
 pub record AreSlabsLess (set : Supply) (words : List ℕ) (start number : ℕ) : Type 0 where
   pub granules : set.slabs.granules ≡ granules_in words
   pub classes : (s : ℕ) → class_in set.slabs s ≡ slabs (tables_of words) s
-  pub blocks : (s i : ℕ) → (tables_of words).slab s ≡ true → i < class_capacity ((tables_of words).class s) → (s ≢ start) ⊎ (i ≢ number) → IsOpen set s i ↔ IsUnusedIn (tables_of words) s ((tables_of words).class s) i
-  pub none : ¬ (IsOpen set start number)
+  pub blocks : (s i : ℕ) → (tables_of words).slab s ≡ true → i < class_capacity ((tables_of words).header s).class → (s ≢ start) ⊎ (i ≢ number) → MayBeGiven set s i ↔ IsUnusedIn (tables_of words) s ((tables_of words).header s).class i
+  pub none : ¬ (MayBeGiven set start number)
 
 -- The same, but for the blocks that overlap an old block: none of them is open.
 pub record AreSlabsBut (set : Supply) (words : List ℕ) (block : OldBlock) : Type 0 where
   pub granules : set.slabs.granules ≡ granules_in words
   pub classes : (start : ℕ) → class_in set.slabs start ≡ slabs (tables_of words) start
-  pub blocks : (start i : ℕ) → (tables_of words).slab start ≡ true → i < class_capacity ((tables_of words).class start) → (start ≢ block.start) ⊎ AreApart (old_range (tables_of words) block) (slab_block start ((tables_of words).class start) i) →
-      IsOpen set start i ↔ IsUnusedIn (tables_of words) start ((tables_of words).class start) i
-  pub none : (i : ℕ) → i < class_capacity ((tables_of words).class block.start) → ¬ (AreApart (old_range (tables_of words) block) (slab_block block.start ((tables_of words).class block.start) i)) → ¬ (IsOpen set block.start i)
+  pub blocks : (start i : ℕ) → (tables_of words).slab start ≡ true → i < class_capacity ((tables_of words).header start).class → (start ≢ block.start) ⊎ AreApart (old_range (tables_of words) block) (slab_block start ((tables_of words).header start).class i) →
+      MayBeGiven set start i ↔ IsUnusedIn (tables_of words) start ((tables_of words).header start).class i
+  pub none : (i : ℕ) → i < class_capacity ((tables_of words).header block.start).class → ¬ (AreApart (old_range (tables_of words) block) (slab_block block.start ((tables_of words).header block.start).class i)) → ¬ (MayBeGiven set block.start i)
 
--- the counts are those of these words, and the calm slabs are the normal ones
+-- the counts are those of these words, and the normal slabs are those of the tables
 pub record AreLivesOf (lives : Lives) (words : List ℕ) : Type 0 where
   pub counts : AreCountsOf lives.counts words
-  pub calm : (start : ℕ) → calm_at lives start ≡ calm_of (tables_of words) start
+  pub normal : (start : ℕ) → normal_at lives start ≡ normal_of (tables_of words) start
 
 -- what an arena keeps, whatever slabs there are: its memory is ready and its image exact, and log and index are those of
 -- the image
@@ -80,7 +80,7 @@ pub record IsArena (device : PmemState) (volatile : Volatile) : Type 0 where
   pub few : volatile.line < 8
 
 -- memory for an arena of so many granules: an empty log, an index in which all of the heap is free, a supply without slabs and
--- with empty stacks, counts of 0 and no calm slab
+-- with empty stacks, counts of 0 and no normal slab
 pub record IsRoom (granules : ℕ) (volatile : Volatile) : Type 0 where
   pub least : 16 ≤ granules
   pub most : granules ≤ 4096
@@ -92,7 +92,7 @@ pub record IsRoom (granules : ℕ) (volatile : Volatile) : Type 0 where
   pub no_stacks : stacks_of volatile.supply.stacks ≡ no_stacks
   pub counts : length volatile.lives.counts ≡ granules
   pub no_lives : (start : ℕ) → slice_index volatile.lives.counts start ≡ 0
-  pub no_calm : (start : ℕ) → calm_at volatile.lives start ≡ None
+  pub no_normal : (start : ℕ) → normal_at volatile.lives start ≡ None
   pub first : volatile.line ≡ 0
 
 -- the block of a root, where it has one

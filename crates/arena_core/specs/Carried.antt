@@ -9,8 +9,8 @@ use Rattle.heap_model.specs.declared.call.Reply.{Reply}
 use Rattle.pool_layout.specs.Header.{granules_in}
 use Rattle.heap_model.specs.Machine.{Range, with_key}
 use Rattle.slab_index.specs.SlabSet.{class_in}
-use Rattle.slab_lives.specs.Lives.{Lives, calm_at}
-use Rattle.block_supply.specs.Supply.{IsOpen}
+use Rattle.slab_lives.specs.Lives.{Lives, normal_at}
+use Rattle.block_supply.specs.Supply.{MayBeGiven}
 use Rattle.attach_steps.specs.declared.block.SmallBlock.{SmallBlock}
 use Rattle.attach_steps.specs.Steps.{IsAttachable}
 use Rattle.heap_check.specs.Sound.{IsDoneSlab}
@@ -25,7 +25,7 @@ use Rattle.arena_core.specs.Call.{IsReady, IsStepOf}
 use Rattle.arena_core.specs.Plan.{IsMorphable}
 use Rattle.arena_core.specs.Effect.{slabs_but, GivesRoot, IsLastOf}
 use Rattle.arena_core.specs.Events.{holds_none, tidy_events, call_events, line_after}
-use Rattle.heap_check.specs.Views.{live_in, calm_of, IsVacantRow}
+use Rattle.heap_check.specs.Views.{live_in, normal_of, IsVacantRow}
 
 -- a root was given a block, or lost its own: the events, what is kept, and what a crash leaves
 pub record IsDone (old new : PmemState) (left : Volatile) (root : ℕ) (block : Option Range) (slab : ℕ → Option ℕ) (events : List Event) : Type 0 where
@@ -35,12 +35,12 @@ pub record IsDone (old new : PmemState) (left : Volatile) (root : ℕ) (block : 
   pub lives : AreLivesOf left.lives (words_of new)
   pub gives : GivesRoot (words_of old) root block slab (words_of new)
 
--- the counts are those of these words, but that the slab at a start has one more, and the calm slabs are the normal ones
+-- the counts are those of these words, but that the slab at a start has one more, and the normal slabs are those of the tables
 pub record HaveOneMore (lives : Lives) (words : List ℕ) (start : ℕ) : Type 0 where
   pub size : length lives.counts ≡ granules_in words
   pub inside : start < length lives.counts
   pub each : (s : ℕ) → slice_index lives.counts s ≡ (if s == start then live_in words s + 1 else live_in words s)
-  pub calm : (s : ℕ) → calm_at lives s ≡ calm_of (tables_of words) s
+  pub normal : (s : ℕ) → normal_at lives s ≡ normal_of (tables_of words) s
 
 -- what an arena keeps, but that a slab may be without a block, or done
 pub record IsUntidy (device : PmemState) (volatile : Volatile) (start : ℕ) : Type 0 where
@@ -80,12 +80,12 @@ pub record IsSlabFor (device : PmemState) (volatile : Volatile) (root start clas
   pub lively : ¬ (IsDoneSlab (tables_of (words_of device)) start)
   pub few : volatile.line < 8
   pub is_class : class < 36
-  pub class_is : (tables_of (words_of device)).class start ≡ class
+  pub class_is : ((tables_of (words_of device)).header start).class ≡ class
   pub below : root < (bounds_of (words_of device)).roots
   pub none : (tables_of (words_of device)).root root ≡ 0
   pub number : ℕ
-  pub is_open : IsOpen volatile.supply start number
-  pub alone : (s i : ℕ) → class_in volatile.supply.slabs s ≡ Some class → IsOpen volatile.supply s i → s ≡ start
+  pub is_open : MayBeGiven volatile.supply start number
+  pub alone : (s i : ℕ) → class_in volatile.supply.slabs s ≡ Some class → MayBeGiven volatile.supply s i → s ≡ start
 
 -- A slab has the class now, whatever was there before, and may be without a block: no root's block came or went, and there
 -- is room for one to come.
@@ -93,7 +93,7 @@ pub record HasClassNow (old new : PmemState) (was left : Volatile) (start class 
   pub step : IsQuietStep old new events (IsEitherHeap (words_of old) (words_of new))
   pub arena : IsUntidy new left start
   pub lively : ¬ (IsDoneSlab (tables_of (words_of new)) start)
-  pub class_is : (tables_of (words_of new)).class start ≡ class
+  pub class_is : ((tables_of (words_of new)).header start).class ≡ class
   pub slabs : (s : ℕ) → Heap.slabs (tables_of (words_of new)) s ≡ with_key (Heap.slabs (tables_of (words_of old))) start (Some class) s
   pub heap : HaveSameHeap (words_of old) (words_of new)
   pub roots : (root : ℕ) → (tables_of (words_of new)).root root ≡ (tables_of (words_of old)).root root

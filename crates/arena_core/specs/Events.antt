@@ -72,23 +72,23 @@ abbrev pub small_events : List ℕ → ℕ → ℕ → ℕ → ℕ → List Even
 small_events words line root at size =
     let t = tables_of words in
     if in_slab t at then
-    (if t.class (start_at t at) == class_for size then attach_events words line root (block_at (start_at t at) at size)
+    (if (t.header (start_at t at)).class == class_for size then attach_events words line root (block_at (start_at t at) at size)
     else morphed_events words line root (block_at (start_at t at) at size) (class_for size))
     else fresh_events words line root (at / 16384) (class_for size)
 
 -- the slab at a start holds no block, of its class or old
 abbrev pub holds_none : Tables → ℕ → Bool
-holds_none t start = not (any_below (t.bit start) (class_capacity (t.class start)) || any_below (t.live start) (t.index_count start))
+holds_none t start = not (any_below (t.header start).bit (class_capacity (t.header start).class) || any_below (t.header start).live (t.header start).index_count)
 
 -- it took its class, and no old block lives in it
 abbrev pub is_done : Tables → ℕ → Bool
-is_done t start = (t.kind start == morphed_kind) && not (any_below (t.live start) (t.index_count start))
+is_done t start = ((t.header start).kind == morphed_kind) && not (any_below (t.header start).live (t.header start).index_count)
 
 -- behind a block that went, a slab that holds none is dropped, and one whose last old block it was is normal again
 abbrev pub tidy_events : List ℕ → ℕ → List Event
 tidy_events words start =
     let t = tables_of words in
-    if holds_none t start then drop_events words start else (if is_done t start then finish_old_events start (t.class start) else [])
+    if holds_none t start then drop_events words start else (if is_done t start then finish_old_events start (t.header start).class else [])
 
 -- a block of its slab's class goes from a root
 abbrev pub unsmall_events : List ℕ → ℕ → ℕ → SmallBlock → List Event
@@ -96,7 +96,7 @@ unsmall_events words line root block = detach_events words line root block ++ ti
 
 -- the place of the live old block at an address in its slab's index table
 abbrev pub old_place : Tables → ℕ → ℕ → ℕ
-old_place t start at = first_zero (λ place. if t.live start place && ((slab_block start (t.old start) (t.number start place)).at == at) then 0 else 1) (t.index_count start)
+old_place t start at = first_zero (λ place. if (t.header start).live place && ((slab_block start (t.header start).old ((t.header start).number place)).at == at) then 0 else 1) (t.header start).index_count
 
 -- an old block goes from a root
 abbrev pub unold_events : List ℕ → ℕ → ℕ → ℕ → ℕ → List Event
@@ -116,7 +116,7 @@ abbrev pub freed_events : List ℕ → ℕ → ℕ → ℕ → ℕ → List Even
 freed_events words line root at size =
     let t = tables_of words in
     if is_small size then
-    (if is_old t (start_at t at) at then unold_events words line root at (start_at t at) else unsmall_events words line root (block_at (start_at t at) at size))
+    (if is_old (t.header (start_at t at)) (start_at t at) at then unold_events words line root at (start_at t at) else unsmall_events words line root (block_at (start_at t at) at size))
     else take_events words root (at / 16384)
 
 -- words are written into a root's block from an index on: a row of events, and none where there are no words

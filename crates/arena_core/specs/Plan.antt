@@ -46,7 +46,7 @@ pub record IsGivable (b : Bounds) (t : Tables) (root start count : ℕ) : Type 0
 -- a block of a slab of the class is to be given, which is unused
 pub record IsGivableBlock (t : Tables) (block : SmallBlock) (class : ℕ) : Type 0 where
   pub slab : t.slab block.start ≡ true
-  pub class_is : t.class block.start ≡ class
+  pub class_is : (t.header block.start).class ≡ class
   pub below : block.number < class_capacity class
   pub unused : IsUnusedIn t block.start class block.number
   pub at : block.at ≡ (slab_block block.start class block.number).at
@@ -73,7 +73,7 @@ HasSiteAt v size (Fresh start class) = IsFromNewSlab v size start class 0
 -- a slab may take a class, by the blocks that it holds: it is normal, and fit for the class
 pub record IsMorphable (t : Tables) (start class : ℕ) : Type 0 where
   pub slab : t.slab start ≡ true
-  pub normal : t.kind start ≡ normal_kind
+  pub normal : (t.header start).kind ≡ normal_kind
   pub fit : IsFit (held_view t) class start
 
 -- what a place has to be, to be given to a root
@@ -141,7 +141,7 @@ pub record IsTakable (b : Bounds) (t : Tables) (root start count : ℕ) : Type 0
 -- a slab of the class begins at a granule
 pub record IsSlabAt (t : Tables) (start class : ℕ) : Type 0 where
   pub slab : t.slab start ≡ true
-  pub class_is : t.class start ≡ class
+  pub class_is : (t.header start).class ≡ class
 
 -- a root names an address in a slab
 pub record IsRootIn (b : Bounds) (t : Tables) (root start at : ℕ) : Type 0 where
@@ -154,17 +154,17 @@ pub record IsNamedSmall (b : Bounds) (t : Tables) (root : ℕ) (block : SmallBlo
   pub rooted : root < b.roots
   pub named : t.root root ≡ block.at
   pub slab : t.slab block.start ≡ true
-  pub class_is : t.class block.start ≡ class
+  pub class_is : (t.header block.start).class ≡ class
   pub below : block.number < class_capacity class
   pub at : block.at ≡ (slab_block block.start class block.number).at
-  pub set : t.bit block.start block.number ≡ true
+  pub set : (t.header block.start).bit block.number ≡ true
 
 -- a root names a live old block of a slab that took another class
 pub record IsNamedOld (b : Bounds) (t : Tables) (root : ℕ) (block : OldBlock) (class : ℕ) : Type 0 where
   pub rooted : root < b.roots
   pub named : t.root root ≡ block.at
   pub slab : t.slab block.start ≡ true
-  pub old_is : t.old block.start ≡ class
+  pub old_is : (t.header block.start).old ≡ class
   pub is_class : class < 36
   pub place : IsOldAt t block.start block.at block.place
 

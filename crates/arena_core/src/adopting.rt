@@ -9,7 +9,7 @@ ghost use Rattle.slab_index.specs.SlabSet.{class_in};
 ghost use Rattle.block_supply.specs.Supply.{IsClearOf};
 ghost use Rattle.heap_check.specs.Image.{bounds_of, IsExactImage};
 ghost use Rattle.log_steps.specs.Log.{IsBookOf};
-ghost use Rattle.slab_lives.specs.Lives.{calm_at};
+ghost use Rattle.slab_lives.specs.Lives.{normal_at};
 ghost use Rattle.arena_core.specs.Arena.{IsIndexOf, IsSlabsOf, AreLivesOf};
 ghost use Rattle.arena_core.specs.Adopting.{IsReadBelow, IsNextRead, IsWithSlabOf, HasCounted, HasNoted};
 
@@ -101,14 +101,14 @@ fn read_slab<P: Pmem>(device: &P, supply: &mut BlockSupply, start: u32)
     supply.add_used(start, class_at(device, at), &used_blocks(device, at));
 }
 
-/// Counts the live blocks of each slab of an exact image, by the words of its roots, and notes which slabs are calm; all counts
-/// were 0 before, and no slab was calm.
+/// Counts the live blocks of each slab of an exact image, by the words of its roots, and notes which slabs are normal; all counts
+/// were 0 before, and no slab was normal.
 pub(crate) fn read_lives<P: Pmem>(device: &P, supply: &BlockSupply, lives: &mut SlabLives)
     requires exact { IsExactImage (words_of (P.state device.now)) }
     requires slabs { IsSlabsOf supply.now (words_of (P.state device.now)) }
     requires size { length lives.old.counts ≡ granules_in (words_of (P.state device.now)) }
     requires none { (start : ℕ) → slice_index lives.old.counts start ≡ 0 }
-    requires no_calm { (start : ℕ) → calm_at lives.old start ≡ None }
+    requires no_normal { (start : ℕ) → normal_at lives.old start ≡ None }
     ensures { AreLivesOf lives.new (words_of (P.state device.now)) }
 {
     for root in 0..layout_in(device).roots {
@@ -127,7 +127,7 @@ fn count_root<P: Pmem>(device: &P, supply: &BlockSupply, lives: &mut SlabLives, 
     requires root { root < (bounds_of (words_of (P.state device.now))).roots }
     requires counted { HasCounted (words_of (P.state device.now)) lives.old.counts root }
     ensures counted { HasCounted (words_of (P.state device.now)) lives.new.counts (root + 1) }
-    ensures calm { (start : ℕ) → calm_at lives.new start ≡ calm_at lives.old start }
+    ensures normal { (start : ℕ) → normal_at lives.new start ≡ normal_at lives.old start }
 {
     let at = root_word(device, root);
     if at == 0 {
@@ -138,7 +138,7 @@ fn count_root<P: Pmem>(device: &P, supply: &BlockSupply, lives: &mut SlabLives, 
     }
 }
 
-// Notes the slab that begins at a granule, where it is calm; those that begin below are noted.
+// Notes the slab that begins at a granule, where it is normal; those that begin below are noted.
 #[tactic(auto, using(crate::proofs::HeldBlocks::slab_here, crate::proofs::Plans::slab_of_set))]
 fn note_slab<P: Pmem>(device: &P, supply: &BlockSupply, lives: &mut SlabLives, start: u32)
     requires exact { IsExactImage (words_of (P.state device.now)) }
@@ -150,7 +150,7 @@ fn note_slab<P: Pmem>(device: &P, supply: &BlockSupply, lives: &mut SlabLives, s
 {
     if let Some(class) = supply.class_at(start) {
         if is_normal(device, granule_at(start)) {
-            lives.calm(start, class);
+            lives.put_normal(start, class);
         }
     }
 }

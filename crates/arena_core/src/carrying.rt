@@ -16,7 +16,7 @@ ghost use Rattle.thread_cache.specs.Stacks.{stacks_of};
 ghost use Rattle.block_supply.specs.Supply.{Supply, HasSlabMore, HasSlabLess, TookBlock, IsPutOn};
 ghost use Rattle.class_steps.specs.Classes.{LeavesClosed, IsOfClass};
 ghost use Rattle.log_steps.specs.Log.{IsBookOf};
-ghost use Rattle.extent_steps.specs.Slabs.{open_events, IsOpened};
+ghost use Rattle.extent_steps.specs.Slabs.{open_events, IsSlabCreated};
 ghost use Rattle.attach_steps.specs.Steps.{attach_events, detach_events, detach_old_events, IsAttachable, IsDetachable, IsOldDetachable, IsAttached};
 ghost use Rattle.arena_core.specs.Answer.{malloc_reply, free_reply};
 ghost use Rattle.arena_core.specs.Arena.{IsIndexOf, IsSlabsOf, AreSlabsLess, AreSlabsBut, AreLivesOf, IsCurrent, IsArena};
@@ -32,7 +32,7 @@ use attach_steps::{OldBlock, SmallBlock, attach, detach, detach_old, put_root};
 use block_supply::{BlockSupply, SlabAt, SlabBlock};
 use book_log::LogEntry;
 use class_steps::take_class;
-use extent_steps::{drop_extent, drop_slab, open_slab};
+use extent_steps::{create_slab, drop_extent, drop_slab};
 use log_steps::log_entry;
 use pmem_lines::Pmem;
 use pool_layout::{SLAB_GRANULES, blocks_at, granule_at};
@@ -142,7 +142,7 @@ impl Volatile {
     fn give_small<P: Pmem>(&mut self, device: &mut P, root: u32, block: SmallBlock)
         requires held { IsHeldFor (P.state device.old) self.old root block }
         requires room { HasRoom (P.state device.old) 11 }
-        ensures done { (class : ℕ) → (tables_of (words_of (P.state device.old))).class block.start ≡ class → IsDone (P.state device.old) (P.state device.new) self.new root (Some (slab_block block.start class block.number)) (classes_of (tables_of (words_of (P.state device.old)))) (attach_events (words_of (P.state device.old)) self.old.line root block) }
+        ensures done { (class : ℕ) → ((tables_of (words_of (P.state device.old))).header block.start).class ≡ class → IsDone (P.state device.old) (P.state device.new) self.new root (Some (slab_block block.start class block.number)) (classes_of (tables_of (words_of (P.state device.old)))) (attach_events (words_of (P.state device.old)) self.old.line root block) }
         ensures rest { self.new ≡ record self.old { lives = self.new.lives; line = (self.old.line + 1) % 8 } }
     {
         attach(device, self.line, root, block);
@@ -158,10 +158,10 @@ impl Volatile {
         ensures came { HasClassNow (P.state device.old) (P.state device.new) self.old self.new start class (open_events (words_of (P.state device.old)) start class) }
         ensures supplied { HasSlabMore self.old.supply self.new.supply start class (λ i. i < class_capacity class) }
     {
-        open_slab(device, &mut self.log, start, class);
+        create_slab(device, &mut self.log, start, class);
         self.free.take(start, SLAB_GRANULES);
         self.supply.add(start, class);
-        self.lives.calm(start, class);
+        self.lives.put_normal(start, class);
     }
 
     // Gives a slab another class, for which it is fit: the blocks that it held live on in it as old ones.
@@ -173,7 +173,7 @@ impl Volatile {
         ensures supplied { (less : Supply) × HasSlabLess self.old.supply less start × HasSlabMore less self.new.supply start class (λ i. (i < class_capacity class) × IsUnusedIn (tables_of (words_of (P.state device.old))) start class i) }
     {
         take_class(device, start, class);
-        self.lives.stir(start);
+        self.lives.drop_normal(start);
         self.supply.remove(start);
         let used = used_blocks(device, granule_at(start));
         self.supply.add_used(start, class, &used);
@@ -210,7 +210,7 @@ impl Volatile {
         requires seat { seat < 64 }
         requires detachable { IsDetachable (words_of (P.state device.old)) root block }
         ensures taken { IsTaken (P.state device.old) (P.state device.new) self.old self.new root block.start (detach_events (words_of (P.state device.old)) self.old.line root block) }
-        ensures stacks { IsPutOn (stacks_of self.old.supply.stacks) seat ((tables_of (words_of (P.state device.old))).class block.start) block.at (stacks_of self.new.supply.stacks) }
+        ensures stacks { IsPutOn (stacks_of self.old.supply.stacks) seat (((tables_of (words_of (P.state device.old))).header block.start).class) block.at (stacks_of self.new.supply.stacks) }
     {
         detach(device, self.line, root, block);
         self.line = (self.line + 1) % 8;
@@ -236,7 +236,7 @@ impl Volatile {
     {
         detach_old(device, self.line, root, block);
         self.line = (self.line + 1) % 8;
-        open_covered(device, &mut self.supply, block);
+        free_covered(device, &mut self.supply, block);
         lower(&mut self.lives, block.start);
     }
 
@@ -254,10 +254,11 @@ impl Volatile {
             drop_slab(device, &mut self.log, start);
             self.free.give(start, SLAB_GRANULES);
             self.supply.remove(start);
-            self.lives.stir(start);
+            self.lives.drop_normal(start);
         } else if is_done(device, granule_at(start)) {
             end_transition(device, start);
-            self.lives.calm(start, class_at(device, granule_at(start)));
+            self.lives
+                .put_normal(start, class_at(device, granule_at(start)));
         }
     }
 }
@@ -273,10 +274,10 @@ fn lower(lives: &mut SlabLives, start: u32)
 
 // An old block went: the blocks of its slab's class that overlap it and no other block that the slab holds are open again.
 #[tactic(auto, using(crate::proofs::HeldBlocks::slab_here))]
-fn open_covered<P: Pmem>(device: &P, supply: &mut BlockSupply, block: OldBlock)
+fn free_covered<P: Pmem>(device: &P, supply: &mut BlockSupply, block: OldBlock)
     requires image { IsExactButImage (words_of (P.state device.now)) block.start }
     requires slab { (tables_of (words_of (P.state device.now))).slab block.start ≡ true }
-    requires place { block.place < (tables_of (words_of (P.state device.now))).index_count block.start }
+    requires place { block.place < ((tables_of (words_of (P.state device.now))).header block.start).index_count }
     requires slabs { AreSlabsBut supply.old (words_of (P.state device.now)) block }
     ensures slabs { IsSlabsOf supply.new (words_of (P.state device.now)) }
     ensures stacks { supply.new.stacks ≡ supply.old.stacks }

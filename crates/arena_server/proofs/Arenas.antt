@@ -1,8 +1,7 @@
 -- Arenas one by one, at the end of a server.
 use Rattle.std.proofs.Common.{Option, ◌≡◌, ℕ, zero, suc, ◌<◌, List, [], ◌∷◌, ◌++◌, map, length, drop, get_or, remove, refl, ap, sym, ◌∙◌, subst, arith, append_assoc}
 use mathlib.Core.List.{map-append}
-use Rattle.std.proofs.lemmas.List.{append-nil}
-use Rattle.atomic_table.specs.Seated.{TableId}
+use Rattle.arena_server.proofs.Common.{append-nil, TableId}
 use Rattle.arena_server.specs.declared.request.Request.{Request}
 use Rattle.arena_server.specs.declared.owner.Till.{Till}
 use Rattle.arena_server.specs.Senders.{Line, SenderState, nowhere, tail_lines, behead_sender, numbers, AllSendTo}

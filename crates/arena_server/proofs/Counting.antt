@@ -1,7 +1,6 @@
 -- Two lists that agree on each sender are of one length.
 use Rattle.std.proofs.Common.{◌≡◌, ◌≢◌, ℕ, zero, suc, ◌+◌, ◌<◌, ◌≤◌, ◌==◌, ◌||◌, ◌⊎◌, inl, inr, Bool, true, false, if◌then◌else◌, List, [], ◌∷◌, length, map, refl, ap, sym, ◌∙◌, subst, eq-eqb, ne_eqb, eqb-true, arith}
-use Rattle.std.proofs.lemmas.Bool.{false≢true}
-use Rattle.shared_pool.specs.Closed.{is_in, HasAll}
+use Rattle.arena_server.proofs.Common.{false≢true, is_in, HasAll}
 use Rattle.arena_server.specs.declared.request.Request.{Request}
 use Rattle.arena_server.specs.declared.part.Ended.{Ended}
 use Rattle.arena_server.specs.Requests.{of, AllOfSenders}

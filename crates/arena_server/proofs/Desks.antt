@@ -1,16 +1,11 @@
 -- The arenas at the end, each with its owner.
 use Rattle.std.proofs.Common.{Option, ◌≡◌, ◌≢◌, ℕ, suc, ◌+◌, ◌<◌, ◌≤◌, ◌==◌, ◌||◌, Bool, true, false, if◌then◌else◌, List, [], ◌∷◌, map, length, refl, ap, sym, ◌∙◌, subst, arith, eqb-true, eq-eqb}
-use Rattle.std.proofs.lemmas.Bool.{false≢true}
+use Rattle.arena_server.proofs.Common.{false≢true, Entry, Opening, PassState, part_at, seen_at, mine_at, is_in, HasAll, AllAgree, IsClosed, AllClosed, ArenaState}
 use mathlib.Core.Logic.{dite}
 use mathlib.Core.List.{IsPrefix}
 use native.Mathlib.Decide.{ℕ_discrete}
-use Rattle.heap_model.specs.declared.call.Entry.{Entry}
-use Rattle.arena_lock.specs.declared.opening.Opening.{Opening}
 use Rattle.arena_lock.specs.Journal.{calls_by}
 use Rattle.heap_model.specs.Journal.{AllBelow}
-use Rattle.shared_pool.specs.Passes.{PassState, part_at, seen_at, mine_at}
-use Rattle.shared_pool.specs.Closed.{is_in, HasAll, AllAgree, IsClosed, AllClosed}
-use Rattle.arena_core.specs.Arena.{ArenaState}
 use Rattle.arena_server.specs.declared.request.Request.{Request}
 use Rattle.arena_server.specs.declared.owner.Till.{Till}
 use Rattle.arena_server.specs.Senders.{SenderState}

@@ -1,8 +1,6 @@
 -- All senders end at a queue, and it is emptied.
 use Rattle.std.proofs.Common.{◌≡◌, ℕ, List, [], ◌∷◌, ◌++◌, map, length, refl, ap, sym, ◌∙◌, subst, append_assoc, arith}
-use Rattle.std.proofs.lemmas.List.{append-nil}
-use Rattle.crossbeam_queue.specs.Passes.{view}
-use Rattle.shared_pool.specs.Closed.{HasAll}
+use Rattle.arena_server.proofs.Common.{append-nil, view, HasAll}
 use Rattle.arena_server.specs.declared.request.Request.{Request}
 use Rattle.arena_server.specs.declared.owner.Till.{Till}
 use Rattle.arena_server.specs.declared.part.Ended.{Ended}

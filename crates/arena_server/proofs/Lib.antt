@@ -1,3 +1,4 @@
+pub mod Common
 pub mod Arenas
 pub mod Counting
 pub mod Crossing

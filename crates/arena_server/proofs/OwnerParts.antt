@@ -1,8 +1,6 @@
 -- Owners, their passes and the rest of them.
 use Rattle.std.proofs.Common.{◌≡◌, List, [], ◌∷◌, ◌++◌, map, length, get_or, refl, ap, sym, ◌∙◌, suc, subst, append_assoc}
-use Rattle.arena_lock.specs.Known.{Lock}
-use Rattle.shared_pool.specs.Passes.{PassState}
-use Rattle.shared_pool.specs.Closed.{AllFitLocks}
+use Rattle.arena_server.proofs.Common.{Lock, PassState, AllFitLocks}
 use Rattle.arena_server.specs.declared.owner.Till.{Till}
 use Rattle.arena_server.specs.Senders.{nowhere}
 use Rattle.arena_server.specs.Owners.{OwnerState, owner_of, IsOwner}

@@ -1,12 +1,8 @@
 -- What an owner's pass has made of its list, after a request was served or skipped.
 use Rattle.std.proofs.Common.{◌≡◌, ◌≢◌, ℕ, zero, suc, ◌<◌, Bool, true, false, true≢false, List, [], ◌∷◌, ◌++◌, length, refl, ap, sym, ◌∙◌, subst, arith, get_or, set, append_assoc, Option, Some, None}
-use Rattle.std.proofs.lemmas.List.{append-nil, length-map}
+use Rattle.arena_server.proofs.Common.{append-nil, length-map, Entry, Lock, Known, view, PassState, PoolState, IsPassOf, nobody, first_calls, mine_at, Called}
 use mathlib.Core.List.{map-append}
-use Rattle.heap_model.specs.declared.call.Entry.{Entry}
-use Rattle.arena_lock.specs.Known.{Lock, Known}
-use Rattle.crossbeam_queue.specs.Passes.{view}
 use Rattle.shared_pool.specs.declared.job.Receipt.{Receipt}
-use Rattle.shared_pool.specs.Passes.{PassState, PoolState, IsPassOf, nobody, first_calls, mine_at, Called}
 use Rattle.arena_server.specs.declared.request.Request.{Request}
 use Rattle.arena_server.specs.declared.owner.Till.{Till}
 use Rattle.arena_server.specs.Owners.{asked, made, held_list, taken_of, till_list, HasMade, IsTill, IsOwner}

@@ -1,12 +1,7 @@
 -- A new server: rows of tokens become senders, and passes with tokens become owners.
 use Rattle.std.proofs.Common.{◌≡◌, ℕ, zero, suc, ◌+◌, ◌<◌, false, List, [], ◌∷◌, ◌++◌, map, length, refl, ap, sym, ◌∙◌, subst, arith, append_assoc, None, add-zero, take}
-use Rattle.std.proofs.lemmas.List.{append-nil}
+use Rattle.arena_server.proofs.Common.{append-nil, TableId, view, Lock, PassState, fresh_pass, fresh_passes, mine_at, AllRoom}
 use mathlib.Core.List.{map-append}
-use Rattle.atomic_table.specs.Seated.{TableId}
-use Rattle.crossbeam_queue.specs.Passes.{view}
-use Rattle.arena_lock.specs.Known.{Lock}
-use Rattle.shared_pool.specs.Passes.{PassState, fresh_pass, fresh_passes, mine_at}
-use Rattle.shared_pool.specs.Rows.{AllRoom}
 use Rattle.arena_server.specs.declared.part.Ended.{Ended}
 use Rattle.arena_server.specs.declared.request.Request.{Request}
 use Rattle.arena_server.specs.declared.part.Part.{Part}

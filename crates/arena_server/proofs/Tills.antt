@@ -1,8 +1,6 @@
 -- The one that serves an arena, taken out of those that are left.
 use Rattle.std.proofs.Common.{◌≡◌, ◌≢◌, ℕ, suc, ◌==◌, ◌||◌, Bool, true, false, if◌then◌else◌, List, [], ◌∷◌, get_or, remove, refl, ap, sym, ◌∙◌, subst, eqb-true, ne_eqb}
-use Rattle.std.proofs.lemmas.Bool.{false≢true}
-use Rattle.atomic_table.specs.Seated.{TableId}
-use Rattle.shared_pool.specs.Closed.{is_in}
+use Rattle.arena_server.proofs.Common.{false≢true, TableId, is_in}
 use Rattle.arena_server.specs.declared.owner.Till.{Till}
 use Rattle.arena_server.specs.Owners.{till_list}
 use Rattle.arena_server.specs.Emptied.{arenas_of, place_of, list_at, held_at, TakesThere, AllTakeThere}

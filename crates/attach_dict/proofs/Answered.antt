@@ -1,22 +1,12 @@
 -- What the arena's answer to each step of a dictionary's calls leaves: the reply, the blocks that stay, and those of an image
 -- of a crash.
 use Rattle.std.proofs.Common.{◌≡◌, ◌≢◌, ℕ, ◌+◌, ◌-◌, ◌*◌, ◌/◌, ◌<◌, ◌≤◌, List, length, Result, Ok, Err, IsOk, refl, subst, arith}
-use Rattle.pmem_lines.specs.Pmem.{words_of}
+use Rattle.attach_dict.proofs.Common.{words_of, version_in, layout_rules, bounds_of, IsExactImage, IsEitherHeap, BlockRefusal, ArenaState, IsAnswered, IsMoveAnswered, IsWriteAnswered, HasWritten, IsEitherWords, KeepsOthers, left_others, IsGiven, given, no_space, IsLost, lost, passed, wrote, same_word, left_word, exact_steady, written_ok}
 use Rattle.pool_layout.specs.Layout.{layout_of, IsLayout}
-use Rattle.pool_layout.specs.Header.{version_in}
-use Rattle.pool_layout.proofs.Layouts.{layout_rules}
 use Rattle.heap_model.specs.declared.call.Call.TheVariants as calls
 use Rattle.heap_model.specs.declared.call.Reply.{Reply}
 use Rattle.heap_model.specs.declared.call.Reply.TheVariants as replies
-use Rattle.heap_check.specs.Image.{bounds_of, IsExactImage}
-use Rattle.heap_check.specs.State.{IsEitherHeap}
-use Rattle.arena_core.specs.declared.answer.BlockRefusal.{BlockRefusal}
 use Rattle.arena_core.specs.Answer.{write_reply}
-use Rattle.arena_core.specs.Arena.{ArenaState}
-use Rattle.arena_core.specs.Answered.{IsAnswered, IsMoveAnswered, IsWriteAnswered}
-use Rattle.arena_core.specs.Payload.{HasWritten, IsEitherWords}
-use Rattle.arena_core.proofs.Callers.{KeepsOthers, left_others, IsGiven, given, no_space, IsLost, lost, passed, wrote, same_word, left_word, exact_steady}
-use Rattle.arena_core.proofs.Replies.{written_ok}
 use Rattle.attach_dict.specs.Dict.{Pair, stage, most_values, bytes_for, HasSome, HasNone, IsDict, IsSteadyDict}
 use Rattle.attach_dict.specs.Stages.{HasRoomAt}
 use Rattle.attach_dict.specs.Steps.{IsTaken, HasRoomFor, IsShown, IsFreed}

@@ -1,7 +1,6 @@
 -- Counts of the numbers with a property: of none, of the same, and of one more or one less.
 use Rattle.std.proofs.Common.{◌≡◌, ◌≢◌, ℕ, zero, suc, ◌+◌, ◌<◌, ◌≤◌, refl, sym, subst, arith, add-one, inl, inr, ⊎_elim}
-use Rattle.std.proofs.lemmas.Bool.{cases_eq}
-use Rattle.image_defects.specs.Count.{IsCount}
+use Rattle.attach_dict.proofs.Common.{cases_eq, IsCount}
 
 -- the two ways of a count
 abbrev Here : (P : ℕ → Type 0) (n c : ℕ) → Type 0

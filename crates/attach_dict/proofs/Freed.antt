@@ -1,16 +1,7 @@
 -- A root's block was freed: that of a pair which counted, or that of a stale root.
 use Rattle.std.proofs.Common.{◌≡◌, ◌≢◌, ℕ, ◌<◌, List, length, inl, inr, refl, sym, ap, ◌∙◌, subst, arith, ⊎_elim}
-use Rattle.pmem_lines.specs.Pmem.{words_of}
-use Rattle.image_tables.specs.Tables.{tables_of}
-use Rattle.heap_model.specs.Machine.{Bounds}
-use Rattle.heap_check.specs.Heap.{heap}
-use Rattle.heap_check.specs.Image.{bounds_of, IsExactImage}
-use Rattle.heap_check.specs.State.{HaveSameHeap, IsEitherHeap}
+use Rattle.attach_dict.proofs.Common.{words_of, tables_of, Bounds, heap, bounds_of, IsExactImage, HaveSameHeap, IsEitherHeap, Ranked, IsRanked, HasPlace, HasLess, ArenaState, rooted}
 use Rattle.image_defects.specs.Least.{HasNone as HasNoNumber, IsLeast}
-use Rattle.pair_order.specs.declared.order.Ranked.{Ranked}
-use Rattle.pair_order.specs.Order.{IsRanked, HasPlace, HasLess}
-use Rattle.arena_core.specs.Arena.{ArenaState}
-use Rattle.arena_core.proofs.Callers.{rooted}
 use Rattle.attach_dict.specs.declared.index.DictIndex.{DictIndex}
 use Rattle.attach_dict.specs.declared.progress.Progress.{Progress}
 use Rattle.attach_dict.specs.declared.progress.Progress.TheVariants as stages

@@ -1,16 +1,7 @@
 -- An image and the orders of its pairs: which block counts, and that the pairs of the order are its map.
 use Rattle.std.proofs.Common.{◌≡◌, ℕ, ◌+◌, ◌*◌, ◌/◌, ◌<◌, ◌≤◌, List, length, Option, Some, refl, sym, ap, ◌∙◌, subst, arith, ⊎_elim, ext_get_or}
-use Rattle.std.proofs.lemmas.Bool.{cases_lt}
-use Rattle.pmem_lines.specs.Words.{word_at, words_at}
-use Rattle.pmem_lines.proofs.Words.{length-words_at, get_or-words_at}
-use Rattle.image_tables.specs.Tables.{tables_of}
-use Rattle.heap_model.specs.Machine.{Range}
-use Rattle.heap_check.specs.Heap.{heap}
-use Rattle.heap_check.specs.Image.{bounds_of, IsExactImage}
+use Rattle.attach_dict.proofs.Common.{cases_lt, word_at, words_at, length-words_at, get_or-words_at, tables_of, Range, heap, bounds_of, IsExactImage, Ranked, Order, IsRanked, HasNoneOf, IsLastOf, state_in, has_state, rooted, root_place}
 use Rattle.heap_check.proofs.ExactStates.{law_of_exact_state}
-use Rattle.pair_order.specs.declared.order.Ranked.{Ranked}
-use Rattle.pair_order.specs.Order.{Order, IsRanked, HasNoneOf, IsLastOf}
-use Rattle.arena_core.proofs.Callers.{state_in, has_state, rooted, root_place}
 use Rattle.attach_dict.specs.Dict.{head_words, HasPair, IsPair, Counts, IsValueOf, IsDict}
 use Rattle.attach_dict.specs.Roots.{Roots}
 use Rattle.attach_dict.specs.View.{value_in, pairs_in, IsPairOf, AreOrders}

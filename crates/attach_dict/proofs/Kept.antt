@@ -1,10 +1,6 @@
 -- What a dictionary keeps of its pairs while one block comes, goes or is written.
 use Rattle.std.proofs.Common.{◌≡◌, ◌≢◌, ℕ, ◌<◌, List, Option, Some, None, inl, inr, sym, ◌∙◌, arith, ⊎_elim}
-use Rattle.pmem_lines.specs.Words.{word_at}
-use Rattle.image_tables.specs.Tables.{tables_of}
-use Rattle.heap_model.specs.Machine.{Range}
-use Rattle.heap_check.specs.Heap.{heap}
-use Rattle.heap_check.specs.State.{IsWordOf, HaveSameHeap, KeepsBlocks}
+use Rattle.attach_dict.proofs.Common.{word_at, tables_of, Range, heap, IsWordOf, HaveSameHeap, KeepsBlocks}
 use Rattle.attach_dict.specs.Dict.{Pair, stage, HasSome, HasNone, IsPair, Counts, IsFit, IsValueOf, value_of, IsDict, IsStaleRoot, IsGreatest, IsNextNumber, AreNumbersUpTo, LawOfKeptDicts}
 use Rattle.attach_dict.proofs.Pairs.{pair_kept}
 
@@ -18,13 +14,6 @@ pub keeps_back : {old new : List ℕ} {but : ℕ} → KeepsRoots old new but →
 keeps_back keeps = record {
   blocks = λ root low apart. sym (keeps.blocks root low apart);
   words = λ root k range low apart named word. sym (keeps.words root k range low apart (sym (keeps.blocks root low apart) ∙ named) word);
-}
-
--- one behind the other
-pub keeps_then : {old mid new : List ℕ} {but : ℕ} → KeepsRoots old mid but → KeepsRoots mid new but → KeepsRoots old new but
-keeps_then one two = record {
-  blocks = λ root low apart. two.blocks root low apart ∙ one.blocks root low apart;
-  words = λ root k range low apart named word. two.words root k range low apart (one.blocks root low apart ∙ named) word ∙ one.words root k range low apart named word;
 }
 
 -- where the blocks that stay have their words

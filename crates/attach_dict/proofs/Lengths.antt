@@ -1,18 +1,11 @@
 -- How many keys there are: as many as pairs of roots, less those that are stale.
 use Rattle.std.proofs.Common.{◌≡◌, ◌≢◌, ◌⊎◌, ◌↔◌, ◌==◌, IsTrue, ℕ, ◌+◌, ◌<◌, ◌≤◌, List, [], ◌∷◌, length, inl, inr, refl, sym, ap, ◌∙◌, subst, arith, ⊎_elim}
-use Rattle.std.proofs.lemmas.Bool.{cases_eq}
-use Rattle.std.specs.List.{AllPairs, Contains}
-use Rattle.heap_check.specs.Image.{bounds_of, IsExactImage}
-use Rattle.image_defects.specs.Count.{IsCount}
-use Rattle.image_defects.proofs.Counts.{count_once}
-use Rattle.pair_order.specs.declared.order.Ranked.{Ranked}
+use Rattle.attach_dict.proofs.Common.{cases_eq, AllPairs, Contains, bounds_of, IsExactImage, IsCount, count_once, Ranked, words_of, ArenaState}
 use Rattle.pair_order.specs.Order.{Order, IsBefore, IsRanked, HasNoneOf, IsLastOf}
 use Rattle.pair_order.proofs.Before.{before_first, before_second, before_root, before_from, before_irreflexive, before_one_way}
 use Rattle.attach_dict.specs.Dict.{Pair, stage, IsPair, Counts, IsFit, IsStaleRoot}
 use Rattle.attach_dict.specs.Roots.{Roots, IsIn, AreRoots}
 use Rattle.attach_dict.specs.Stages.{Phase, Idle, Staged, Filled, IsStale}
-use Rattle.pmem_lines.specs.Pmem.{words_of}
-use Rattle.arena_core.specs.Arena.{ArenaState}
 use Rattle.attach_dict.specs.declared.index.DictIndex.{DictIndex}
 use Rattle.attach_dict.specs.declared.progress.Progress.{Progress}
 use Rattle.attach_dict.specs.Index.{AreStaleBesides}

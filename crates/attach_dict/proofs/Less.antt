@@ -1,10 +1,6 @@
 -- The dictionary of an image in which the block of a root has gone.
 use Rattle.std.proofs.Common.{◌≡◌, ◌≢◌, ℕ, ◌<◌, List, Option, Some, None, sym, ap, ◌∙◌, subst, ⊎_elim}
-use Rattle.std.proofs.lemmas.Bool.{cases_eq}
-use Rattle.image_tables.specs.Tables.{tables_of}
-use Rattle.heap_check.specs.Heap.{heap}
-use Rattle.heap_check.specs.Image.{bounds_of}
-use Rattle.pair_order.specs.Order.{Order, HasLess}
+use Rattle.attach_dict.proofs.Common.{cases_eq, tables_of, heap, bounds_of, Order, HasLess}
 use Rattle.attach_dict.specs.Dict.{Pair, stage, HasSome, HasNone, HasPair, IsPair, Counts, IsValueOf, value_of, IsDict, IsStaleRoot, AreNumbersUpTo, Puts}
 use Rattle.attach_dict.specs.Roots.{Roots, IsIn, HasMoreRoots}
 use Rattle.attach_dict.specs.View.{turned, IsPairOf, IsVacant, AreOrders}

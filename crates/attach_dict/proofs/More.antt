@@ -1,9 +1,6 @@
 -- The dictionary of an image in which a root has a pair anew, with a number above those of all others.
 use Rattle.std.proofs.Common.{◌≡◌, ◌≢◌, ◌⊎◌, ℕ, ◌+◌, ◌^◌, ◌<◌, ◌≤◌, List, Option, Some, None, inl, inr, sym, ap, ◌∙◌, subst, arith, ⊎_elim}
-use Rattle.std.proofs.lemmas.Bool.{cases_eq}
-use Rattle.heap_check.specs.Image.{bounds_of}
-use Rattle.pair_order.specs.declared.order.Ranked.{Ranked}
-use Rattle.pair_order.specs.Order.{Order, IsRanked, HasMore}
+use Rattle.attach_dict.proofs.Common.{cases_eq, bounds_of, Ranked, Order, IsRanked, HasMore}
 use Rattle.attach_dict.specs.Dict.{Pair, HasSome, HasNone, HasPair, IsPair, Counts, IsFit, IsValueOf, value_of, IsDict, IsStaleRoot, AreNumbersUpTo, Puts}
 use Rattle.attach_dict.specs.Roots.{Roots, IsIn, HasFewerRoots}
 use Rattle.attach_dict.specs.View.{turned, IsPairOf, AreOrders}

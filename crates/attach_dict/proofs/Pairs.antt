@@ -1,11 +1,6 @@
 -- The pairs of an image: a root has one at most, and what keeps it, under whichever root.
 use Rattle.std.proofs.Common.{◌≡◌, ℕ, ◌+◌, ◌/◌, ◌<◌, ◌≤◌, List, length, Some, sym, ap, ◌∙◌, arith, ext_get_or}
-use Rattle.pmem_lines.specs.Words.{word_at}
-use Rattle.image_tables.specs.Tables.{tables_of}
-use Rattle.heap_model.specs.Machine.{Range}
-use Rattle.heap_check.specs.Heap.{heap}
-use Rattle.heap_check.specs.State.{IsWordOf}
-use Rattle.arena_core.proofs.Callers.{one_range}
+use Rattle.attach_dict.proofs.Common.{word_at, tables_of, Range, heap, IsWordOf, one_range}
 use Rattle.attach_dict.specs.Dict.{head_words, HasSome, HasPair, IsPair}
 
 -- a root with a pair has a block

@@ -1,20 +1,8 @@
 -- The block at the stage comes to a free root: its pair is in the map, and the pair that its key had is stale.
 use Rattle.std.proofs.Common.{◌≡◌, ◌≢◌, ℕ, ◌+◌, ◌-◌, ◌^◌, ◌<◌, List, [], length, Option, Some, IsSome, inl, inr, refl, sym, ap, ◌∙◌, subst, arith, ⊎_elim}
-use Rattle.std.proofs.lemmas.Bool.{cases_eq}
-use Rattle.pmem_lines.specs.Words.{word_at}
-use Rattle.pmem_lines.specs.Pmem.{words_of}
-use Rattle.image_tables.specs.Tables.{tables_of}
-use Rattle.heap_model.specs.Machine.{Bounds, Range}
+use Rattle.attach_dict.proofs.Common.{cases_eq, word_at, words_of, tables_of, Bounds, Range, heap, bounds_of, IsWordOf, HaveSameHeap, IsLeastOf, Ranked, IsRanked, IsLastOf, ArenaState, IsPassed, passed}
 use Rattle.heap_model.specs.declared.call.Reply.TheVariants as replies
-use Rattle.heap_check.specs.Heap.{heap}
-use Rattle.heap_check.specs.Image.{bounds_of}
-use Rattle.heap_check.specs.State.{IsWordOf, HaveSameHeap}
-use Rattle.image_defects.specs.Least.{IsLeastOf}
 use Rattle.move_steps.specs.Moves.{IsEitherMoved}
-use Rattle.pair_order.specs.declared.order.Ranked.{Ranked}
-use Rattle.pair_order.specs.Order.{IsRanked, IsLastOf}
-use Rattle.arena_core.specs.Arena.{ArenaState}
-use Rattle.arena_core.proofs.Callers.{IsPassed, passed}
 use Rattle.attach_dict.specs.declared.index.DictIndex.{DictIndex}
 use Rattle.attach_dict.specs.declared.progress.Progress.{Progress}
 use Rattle.attach_dict.specs.declared.progress.Progress.TheVariants as stages

@@ -1,8 +1,6 @@
 -- The pairs that an order says: they go by rising key, and each is the last one of its key.
 use Rattle.std.proofs.Common.{◌≡◌, ◌≢◌, ◌⊎◌, ℕ, zero, suc, ◌<◌, ◌≤◌, eqb, List, [], ◌∷◌, Some, None, inl, inr, refl, sym, ap, ◌∙◌, subst, arith, ⊎_elim}
-use Rattle.std.proofs.lemmas.Bool.{cases_eq, cond-true, cond-false, eq-eqb, ne_eqb}
-use Rattle.std.specs.List.{AllPairs, Contains}
-use Rattle.pair_order.specs.declared.order.Ranked.{Ranked}
+use Rattle.attach_dict.proofs.Common.{cases_eq, cond-true, cond-false, eq-eqb, ne_eqb, AllPairs, Contains, Ranked}
 use Rattle.pair_order.specs.Order.{Order, IsBefore, IsRanked, IsOrder, HasNoneOf, IsLastOf, HasNoneFrom as IsAllBelow, IsNextFrom as IsNext}
 use Rattle.pair_order.proofs.Before.{before_first, before_second, before_root, before_irreflexive, before_one_way, behind_second, behind_root}
 use Rattle.attach_dict.specs.Dict.{Pair, value_of, AreAbove, AreRising}

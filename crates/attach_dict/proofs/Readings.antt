@@ -2,17 +2,11 @@
 use Rattle.std.proofs.Common.{◌≡◌, ℕ, ◌+◌, ◌/◌, ◌<◌, ◌≤◌, List, length, get_or, take, drop, Result, Ok, Err, IsOk, refl, sym, ap, ◌∙◌, subst, arith, ⊎_elim}
 use Rattle.std.specs.Borrow.{Bor}
 use Rattle.pmem_lines.specs.Words.{word_at, words_at}
-use Rattle.pmem_lines.proofs.Words.{length-words_at, get_or-words_at}
-use Rattle.heap_model.specs.Machine.{Range}
-use Rattle.heap_check.specs.Image.{bounds_of, IsExactImage}
-use Rattle.pair_order.specs.declared.order.Ranked.{Ranked}
-use Rattle.arena_core.specs.declared.answer.BlockRefusal.{BlockRefusal}
+use Rattle.attach_dict.proofs.Common.{length-words_at, get_or-words_at, Range, IsExactImage, Ranked, BlockRefusal, AreWordsOf, IsViewOf, one_range, rooted}
 use Rattle.arena_core.specs.declared.answer.BlockRefusal.TheVariants.{NoRoot, Empty, OutOfRange}
-use Rattle.arena_core.specs.Payload.{AreWordsOf, IsViewOf}
-use Rattle.arena_core.proofs.Callers.{one_range, rooted}
 use Rattle.attach_dict.specs.declared.reading.Reading.{Reading}
 use Rattle.attach_dict.specs.declared.reading.Reading.TheVariants as readings
-use Rattle.attach_dict.specs.Dict.{head_words, most_values, HasSome, HasNone, HasPair}
+use Rattle.attach_dict.specs.Dict.{head_words, most_values, HasSome, HasPair}
 use Rattle.attach_dict.specs.Reading.{HoldsPair, IsReadAs, AreWordsOfPair, AreWordsOfNone, IsReadOf}
 use Rattle.attach_dict.specs.View.{value_in}
 use Rattle.attach_dict.proofs.Pairs.{IsSamePair, pair_once}
@@ -107,12 +101,6 @@ read_as words root view (readings.Pair r) are is = (
     pair = subst (λ (n : ℕ). HasPair words n r.first r.second (words_at view head_words (get_or view 2 0))) (sym is.0) (pair_seen words root view are r is.1);
   },
 )
-
--- a root whose block is not lent has none
-pub read_none : (words : List ℕ) (root : ℕ) (refusal : BlockRefusal) → root < (bounds_of words).roots → IsViewOf words root (Err refusal) → HasNone words root
-read_none words root NoRoot low past = absurd (omega (arith, low, past))
-read_none words root Empty low none = none.1
-read_none words root OutOfRange low never = absurd never
 
 -- a block that a root has is lent
 pub lent_ok : (words : List ℕ) (root : ℕ) (view : Result (Bor (List ℕ)) BlockRefusal) → IsExactImage words → HasSome words root → IsViewOf words root view → IsOk view

@@ -1,13 +1,6 @@
 -- Room for a new pair: a free root, and a number above those of all pairs.
 use Rattle.std.proofs.Common.{◌≡◌, ◌≢◌, ◌⊎◌, ℕ, ◌+◌, ◌-◌, ◌^◌, ◌<◌, ◌≤◌, List, Option, Some, None, inl, inr, refl, sym, ◌∙◌, subst, arith, ⊎_elim}
-use Rattle.image_tables.specs.Tables.{tables_of}
-use Rattle.heap_model.specs.Machine.{Range}
-use Rattle.heap_check.specs.Heap.{heap}
-use Rattle.heap_check.specs.Image.{bounds_of, IsExactImage}
-use Rattle.image_defects.specs.Least.{IsLeastOf}
-use Rattle.image_defects.proofs.Counts.{none_below, some_below}
-use Rattle.pair_order.specs.declared.order.Ranked.{Ranked}
-use Rattle.pair_order.specs.Order.{Order, IsRanked, IsEmpty}
+use Rattle.attach_dict.proofs.Common.{tables_of, Range, heap, bounds_of, IsExactImage, IsLeastOf, none_below, some_below, Ranked, Order, IsRanked, IsEmpty}
 use Rattle.attach_dict.specs.Dict.{stage, HasSome, HasNone, IsPair, IsGreatest, IsNextNumber, AreNumbersUpTo, AreNumbersSpent, IsFreeRoot, IsFull}
 use Rattle.attach_dict.specs.Index.{IsGreatestNumber}
 use Rattle.attach_dict.specs.Roots.{Roots, IsIn, AreRoots}

@@ -1,12 +1,7 @@
 -- Sets of roots as bits: one without roots, a root that comes and one that goes, and the lowest.
 use Rattle.std.proofs.Common.{◌≡◌, ◌≢◌, ◌↔◌, IsTrue, ℕ, ◌+◌, ◌*◌, ◌/◌, ◌^◌, ◌<◌, ◌≤◌, Bool, true, false, true≢false, eqb, List, length, replicate, Option, Some, None, MatchOption, refl, sym, ◌∙◌, subst, arith, inl, inr, ⊎_elim}
-use Rattle.std.proofs.lemmas.Bool.{cases_eq, cases_lt, cond-true, cond-false, eq-eqb, ne_eqb}
-use Rattle.std.proofs.lemmas.List.{length-replicate}
-use Rattle.bit_words.specs.Numbers.{has, IsPut, HasNoneIn, IsLeastIn}
+use Rattle.attach_dict.proofs.Common.{cases_eq, cases_lt, cond-true, cond-false, eq-eqb, ne_eqb, length-replicate, has, IsPut, HasNoneIn, IsLeastIn, IsCount, none_below, IsLeastOf}
 use Rattle.bit_words.proofs.Bits.{has-zeros}
-use Rattle.image_defects.specs.Count.{IsCount}
-use Rattle.image_defects.proofs.Counts.{none_below}
-use Rattle.image_defects.specs.Least.{IsLeastOf}
 use Rattle.attach_dict.specs.Roots.{Roots, IsIn, AreRoots, AreNoRoots, IsOut, HasMoreRoots, HasFewerRoots}
 use Rattle.attach_dict.proofs.Counts.{count_none, count_more, count_less}
 
@@ -110,10 +105,6 @@ module _ (below count after root : ℕ) (bits new : List ℕ) (on : Bool) (was :
         each = λ other is. ⊎_elim (λ (here_is : other ≡ root). absurd (not_here (subst (λ (r : ℕ). IsIn behind r) here_is is))) (λ (apart : other ≢ root). from other apart is) (cases_eq other root);
         count = fewer;
       }
-
--- a root of a set has a word
-pub root_word : (set : Roots) (root : ℕ) → AreRoots set → IsIn set root → root / 64 < length set.bits
-root_word set root are held = omega (arith, are.inside root held, are.wide)
 
 -- the lowest bit is the lowest root
 pub lowest_in : (set : Roots) (found : Option ℕ) → AreRoots set → MatchOption found (HasNoneIn set.bits (64 * 0) (64 * length set.bits)) (IsLeastIn set.bits (64 * 0) (64 * length set.bits)) → IsLeastOf (IsIn set) found

@@ -1,19 +1,10 @@
 -- The indexes of an arena while its roots are gone through, one by one.
 use Rattle.std.proofs.Common.{◌≡◌, ◌≢◌, ◌⊎◌, ℕ, ◌+◌, ◌^◌, ◌<◌, ◌≤◌, not, eqb, true≢false, IsTrue, IsSome, List, length, Option, Some, None, MatchOption, inl, inr, refl, sym, ap, ◌∙◌, subst, arith, ⊎_elim}
-use Rattle.std.proofs.lemmas.Bool.{cases_lt, eq-eqb, ne_eqb}
-use Rattle.pool_layout.specs.Header.{version_in}
-use Rattle.pool_layout.proofs.Layouts.{layout_rules}
-use Rattle.heap_check.specs.Image.{bounds_of, IsExactImage}
-use Rattle.pmem_lines.specs.Pmem.{words_of}
-use Rattle.arena_core.specs.Arena.{ArenaState}
-use Rattle.arena_core.specs.Call.{IsReady}
+use Rattle.attach_dict.proofs.Common.{cases_lt, eq-eqb, ne_eqb, version_in, layout_rules, bounds_of, IsExactImage, words_of, ArenaState, IsReady, rooted, Ranked, Order, IsRanked, HasNoPlace, HasNoneWith, IsHighestWith, HasNoneOf, IsLastOf}
 use Rattle.attach_dict.specs.declared.progress.Progress.TheVariants as stages
 use Rattle.attach_dict.specs.Whole.{IsWhole}
-use Rattle.arena_core.proofs.Callers.{rooted}
-use Rattle.pair_order.specs.declared.order.Ranked.{Ranked}
-use Rattle.pair_order.specs.Order.{Order, IsRanked, HasNoPlace, HasNoneWith, IsHighestWith, HasNoneOf, IsLastOf}
 use Rattle.attach_dict.specs.declared.index.DictIndex.{DictIndex}
-use Rattle.attach_dict.specs.Dict.{stage, HasSome, HasNone, HasPair, IsPair, Counts, IsFit, IsMisfit, IsNotDict, IsDict}
+use Rattle.attach_dict.specs.Dict.{stage, HasSome, HasNone, HasPair, IsPair, Counts, IsFit, IsMisfit, IsDict}
 use Rattle.attach_dict.specs.Index.{IsBlank, HasMorePair}
 use Rattle.attach_dict.specs.Reading.{HoldsPairOf, HoldsNoPair, IsScanned, IsReadThrough, IsIndexed}
 use Rattle.attach_dict.specs.Roots.{Roots, IsIn, IsOut, AreNoRoots, HasMoreRoots}
@@ -181,16 +172,6 @@ module _ (words : List ℕ) (root : ℕ) (index : DictIndex) (scanned : IsScanne
         stale = subst (λ (s : Roots). AreNoRoots s (bounds_of words).roots) (sym more.stale) scanned.stale;
         wide = ap (λ b. length b.items) more.block ∙ scanned.wide;
       }
-
--- the first misfit names the arena's fault
-pub least_misfit : (words : List ℕ) (root : ℕ) (index : DictIndex) → IsScanned words root index → IsMisfit words root → IsNotDict words root
-least_misfit words root index scanned misfit = record {
-  here = misfit;
-  least = λ other is. ⊎_elim
-      (λ (less : other < root). absurd (is.unfit (scanned.fit other is.low less is.some)))
-      (λ (from : root ≤ other). from)
-      (cases_lt other root);
-}
 
 -- all roots were gone through
 pub read_all : (words : List ℕ) (index : DictIndex) → IsExactImage words → IsScanned words (bounds_of words).roots index → IsReadThrough words index

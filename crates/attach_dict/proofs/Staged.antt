@@ -1,16 +1,8 @@
 -- A pair is made ready at the stage: its block is given, is written, and is freed again.
 use Rattle.std.proofs.Common.{◌≡◌, ◌≢◌, ℕ, suc, ◌+◌, ◌-◌, ◌/◌, ◌^◌, ◌<◌, ◌≤◌, List, ◌∷◌, length, get_or, Ok, Err, inl, inr, refl, sym, ap, ◌∙◌, subst, arith, ⊎_elim}
-use Rattle.pmem_lines.specs.Words.{word_at}
-use Rattle.pmem_lines.specs.Pmem.{PmemState, words_of}
-use Rattle.image_tables.specs.Tables.{tables_of}
+use Rattle.attach_dict.proofs.Common.{word_at, PmemState, words_of, tables_of, heap, IsEitherHeap, ArenaState, IsAnswered, IsWriteAnswered, HasWritten, IsEitherWords, KeepsOthers, root_place}
 use Rattle.heap_model.specs.declared.call.Call.TheVariants as calls
 use Rattle.heap_model.specs.declared.call.Reply.TheVariants as replies
-use Rattle.heap_check.specs.Heap.{heap}
-use Rattle.heap_check.specs.State.{IsEitherHeap}
-use Rattle.arena_core.specs.Arena.{ArenaState}
-use Rattle.arena_core.specs.Answered.{IsAnswered, IsWriteAnswered}
-use Rattle.arena_core.specs.Payload.{HasWritten, IsEitherWords}
-use Rattle.arena_core.proofs.Callers.{KeepsOthers, root_place}
 use Rattle.attach_dict.specs.declared.index.DictIndex.{DictIndex}
 use Rattle.attach_dict.specs.declared.progress.Progress.{Progress}
 use Rattle.attach_dict.specs.declared.progress.Progress.TheVariants as stages
@@ -240,12 +232,6 @@ module _ (old new : ArenaState) (index after : DictIndex) (key : ℕ) (progress 
         (has_filled old new index after key value (greatest + 1) whole_at next_is wide did_write))
 
 -- the block is freed
-
--- a block that a call made ready
-pub stage_some : (words : List ℕ) (key : ℕ) (progress : Progress) → IsAtStage words (phase_in words key progress) → phase_in words key progress ≢ Idle → HasSome words stage
-stage_some words key stages.Idle stands not = absurd (not refl)
-stage_some words key (stages.Staged count) stands not = stands.0.block
-stage_some words key stages.Filled stands not = record { range = stands.0.pair.range; named = stands.0.pair.named }
 
 -- nothing is stale beside it
 none_beside : (words : List ℕ) (key : ℕ) (progress : Progress) → IsAtStage words (phase_in words key progress) → phase_in words key progress ≢ Idle → AreNoneStale words (phase_in words key progress)

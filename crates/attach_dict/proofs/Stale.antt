@@ -1,9 +1,6 @@
 -- The stale roots of an image: each names a block, and how many they are.
 use Rattle.std.proofs.Common.{ℕ, ◌<◌, List, refl, sym, subst, arith, ⊎_elim}
-use Rattle.heap_check.specs.Image.{bounds_of, IsExactImage}
-use Rattle.image_defects.specs.Count.{IsCount}
-use Rattle.image_defects.proofs.Counts.{none_below}
-use Rattle.arena_core.proofs.Callers.{rooted}
+use Rattle.attach_dict.proofs.Common.{bounds_of, IsExactImage, IsCount, none_below, rooted}
 use Rattle.attach_dict.specs.Dict.{HasSome}
 use Rattle.attach_dict.specs.Roots.{Roots, IsIn, AreRoots}
 use Rattle.attach_dict.specs.Stages.{Phase, Idle, Staged, Filled, IsStale, IsStaleCount, LawOfStaleCounts}

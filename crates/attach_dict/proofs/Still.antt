@@ -1,13 +1,7 @@
 -- A call after which the pairs of all roots but the stage are as they were: the map stays, also in an image of a crash.
 use Rattle.std.proofs.Common.{◌≡◌, ℕ, List, length, refl, sym, ap, ◌∙◌, subst, arith}
 use Rattle.pmem_lines.specs.declared.event.Event.{Event}
-use Rattle.pmem_lines.specs.Pmem.{words_of}
-use Rattle.heap_model.specs.Machine.{Bounds}
-use Rattle.heap_check.specs.Image.{bounds_of, IsExactImage}
-use Rattle.pair_order.specs.Order.{Order}
-use Rattle.arena_core.specs.Arena.{ArenaState}
-use Rattle.arena_core.specs.Answered.{IsOneCall}
-use Rattle.arena_core.specs.Call.{IsReady}
+use Rattle.attach_dict.proofs.Common.{words_of, Bounds, bounds_of, IsExactImage, Order, ArenaState, IsOneCall, IsReady}
 use Rattle.attach_dict.specs.declared.index.DictIndex.{DictIndex}
 use Rattle.attach_dict.specs.declared.progress.Progress.{Progress}
 use Rattle.attach_dict.specs.Calls.{KeepsMap, Leaves}

@@ -5,21 +5,23 @@ use Rattle.heap_model.specs.Machine.{slab_block}
 use Rattle.heap_check.proofs.Forms.{IsFormed-put_bitmap}
 use Rattle.heap_check.proofs.Geometry.{number_few}
 use Rattle.heap_check.proofs.Small.{IsSmallPlace, IsOneBlock-small}
-use Rattle.heap_check.proofs.SmallPlaces.{clear_unused, calm_but, IsSmallPlace-unused, IsSmallPlace-named}
+use Rattle.heap_check.proofs.SmallPlaces.{clear_unused, none_morphing_but, IsSmallPlace-unused, IsSmallPlace-named}
 use Rattle.attach_steps.specs.declared.block.SmallBlock.{SmallBlock}
 use Rattle.attach_steps.specs.Steps.{mark_events, unmark_events, attach_events, detach_events, IsBlockIn, IsAttachable, IsDetachable, IsAttached, IsDetached}
 use Rattle.attach_steps.proofs.Sequences.{opened_word, PutsOver, with_none, with_both, heap_none, heap_some, Leads, comes, goes, marks, unmarks, ends, exact_but, exact_end, gives_end, sequence_step}
-use Rattle.attach_steps.proofs.Stages.{Site, tables_with, IsSite, IsStageOf, stage_begin, stage_header, made_slab, made_low, few_entries}
+use Rattle.attach_steps.proofs.Stages.{BlockSite, tables_with, IsBlockSite, IsStageOf, stage_begin, stage_header, made_slab, made_low, few_entries}
+use Rattle.image_tables.specs.Tables.{bit_rows, live_rows, number_rows}
+use Rattle.image_tables.specs.Updates.{put_bit, with_rows, with_root}
 
 -- its place: the word with its bit, and the entry of its root
-abbrev pub class_site : Tables → ℕ → SmallBlock → Site
+abbrev pub class_site : Tables → ℕ → SmallBlock → BlockSite
 class_site t root block = record {
   start = block.start;
   k = bit_word block;
-  bits = λ on. put_in t.bit block.start block.number on;
-  lives = λ on. t.live;
+  bits = λ on. put_in (bit_rows t) block.start block.number on;
+  lives = λ on. live_rows t;
   own = entry_for root block;
-  block = record { at = block.at; size = class_size (t.class block.start) };
+  block = record { at = block.at; size = class_size (t.header block.start).class };
 }
 
 module _ (words : List ℕ) (root : ℕ) (block : SmallBlock) (block_in : IsBlockIn words root block) where
@@ -27,15 +29,15 @@ module _ (words : List ℕ) (root : ℕ) (block : SmallBlock) (block_in : IsBloc
   t = tables_of words
 
   pub number_low : block.number < 4096
-  number_low = number_few (t.class block.start) block.number (block_in.image.but.sound.slabs block.start block_in.slab).state.is_class block_in.below
+  number_low = number_few (t.header block.start).class block.number (block_in.image.but.sound.slabs block.start block_in.slab).state.is_class block_in.below
 
   pub first_some : 0 < (bounds_of words).first
   first_some = omega (arith, (sizes_of words block_in.image.formed).first)
 
-  pub class_block : Some (record { at = block.at; size = class_size (t.class block.start) }) ≡ Some (slab_block block.start (t.class block.start) block.number)
-  class_block = ap (λ a. Some (record { at = a; size = class_size (t.class block.start) })) block_in.at
+  pub class_block : Some (record { at = block.at; size = class_size (t.header block.start).class }) ≡ Some (slab_block block.start (t.header block.start).class block.number)
+  class_block = ap (λ a. Some (record { at = a; size = class_size (t.header block.start).class })) block_in.at
 
-  pub IsSite-class : IsSmallPlace (bounds_of words) (tables_of words) root block.start block.number → IsSite words root (class_site (tables_of words) root block)
+  pub IsSite-class : IsSmallPlace (bounds_of words) (tables_of words) root block.start block.number → IsBlockSite words root (class_site (tables_of words) root block)
   IsSite-class place =
       let sizes = sizes_of words block_in.image.formed in
       record {
@@ -48,7 +50,7 @@ module _ (words : List ℕ) (root : ℕ) (block : SmallBlock) (block_in : IsBloc
         plain = tt;
       }
 
-  module _ (line : ℕ) (line_below : line < 8) (is : IsSite words root (class_site (tables_of words) root block)) where
+  module _ (line : ℕ) (line_below : line < 8) (is : IsBlockSite words root (class_site (tables_of words) root block)) where
     -- the bit is put over any words of a stage
     pub puts_over : (made : List ℕ) (on : Bool) → PutsBitOver made block.start block.number on → PutsOver is line_below made (bit_put made block on) on
     puts_over made new_on over = record {
@@ -57,17 +59,19 @@ module _ (words : List ℕ) (root : ℕ) (block : SmallBlock) (block_in : IsBloc
           let puts = over.each image size same in
           stage_header is line_below stage new_on value
           (IsFormed-put_bitmap image block.start block.number value stage.formed (made_low is line_below stage) number_low (few_entries is line_below stage))
-          (let tables = puts.tables stage.slabs (made_slab is line_below stage) in grind (arith, put_in-twice));
+          (puts.tables stage.slabs (made_slab is line_below stage)
+          ∙ ap (λ (x : Tables). put_bit x block.start block.number new_on) stage.tables
+          ∙ (λ i. record (with_root (with_rows (tables_of words) (put_in-twice (bit_rows (tables_of words)) block.start block.number on new_on i) (live_rows (tables_of words)) (number_rows (tables_of words))) root word) { open_entry = Some (class_site (tables_of words) root block).own }));
     }
 
-module _ {words : List ℕ} {line root : ℕ} {block : SmallBlock} (block_in : IsBlockIn words root block) (line_below : line < 8) (is : IsSite words root (class_site (tables_of words) root block)) where
-  abbrev site : Site
+module _ {words : List ℕ} {line root : ℕ} {block : SmallBlock} (block_in : IsBlockIn words root block) (line_below : line < 8) (is : IsBlockSite words root (class_site (tables_of words) root block)) where
+  abbrev site : BlockSite
   site = class_site (tables_of words) root block
 
   -- at the begin
-  class_begins : (on : Bool) (word : ℕ) → (tables_of words).bit block.start block.number ≡ on → (tables_of words).root root ≡ word → IsStageOf words line root site on word None words
+  class_begins : (on : Bool) (word : ℕ) → ((tables_of words).header block.start).bit block.number ≡ on → (tables_of words).root root ≡ word → IsStageOf words line root site on word None words
   class_begins on word bit named =
-      stage_begin is line_below on word (ap (put_in (tables_of words).bit block.start block.number) (sym bit) ∙ put_in-own (tables_of words).bit block.start block.number) refl named
+      stage_begin is line_below on word (ap (put_in (bit_rows (tables_of words)) block.start block.number) (sym bit) ∙ put_in-own (bit_rows (tables_of words)) block.start block.number) refl named
 
   -- the slab has no transition to end
   lively : (on : Bool) (word : ℕ) → ¬ (IsDoneSlab (tables_with words root site on word None) block.start)
@@ -75,7 +79,7 @@ module _ {words : List ℕ} {line root : ℕ} {block : SmallBlock} (block_in : I
 
 -- a block comes to its root
 module _ {words : List ℕ} {line root : ℕ} {block : SmallBlock} (may : IsAttachable words root block) (line_below : line < 8) where
-  pub coming : IsSite words root (class_site (tables_of words) root block)
+  pub coming : IsBlockSite words root (class_site (tables_of words) root block)
   coming =
       let in_slab = may.block_in in
       IsSite-class words root block in_slab (IsSmallPlace-unused root block.start block.number in_slab.image.but (first_some words root block in_slab) in_slab.rooted in_slab.slab in_slab.below may.unused may.none)
@@ -83,7 +87,7 @@ module _ {words : List ℕ} {line root : ℕ} {block : SmallBlock} (may : IsAtta
   coming_begins : IsStageOf words line root (class_site (tables_of words) root block) false 0 None words
   coming_begins =
       let but = may.block_in.image.but in
-      class_begins may.block_in line_below coming false 0 (clear_unused but.sound but.closed block.start block.number may.block_in.slab may.block_in.below (calm_but but block.start may.block_in.slab) may.unused) may.none
+      class_begins may.block_in line_below coming false 0 (clear_unused but.sound but.closed block.start block.number may.block_in.slab may.block_in.below (none_morphing_but but block.start may.block_in.slab) may.unused) may.none
 
   module _ {made left new : List ℕ} (opens : Opens words line (entry_for root block) made) (over : PutsBitOver made block.start block.number true) (left_is : left ≡ reading made (mark_events made root block))
       (closes : Closes left line new) where
@@ -112,7 +116,7 @@ module _ {words : List ℕ} {line root : ℕ} {block : SmallBlock} (may : IsAtta
 
 -- it goes from its root
 module _ {words : List ℕ} {line root : ℕ} {block : SmallBlock} (may : IsDetachable words root block) (line_below : line < 8) where
-  pub going : IsSite words root (class_site (tables_of words) root block)
+  pub going : IsBlockSite words root (class_site (tables_of words) root block)
   going =
       let in_slab = may.block_in in
       IsSite-class words root block in_slab (IsSmallPlace-named root block.start block.number in_slab.image.but (first_some words root block in_slab) in_slab.rooted in_slab.slab in_slab.below may.set (may.named ∙ in_slab.at))

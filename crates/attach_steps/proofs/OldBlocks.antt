@@ -1,5 +1,5 @@
 -- An old block goes from its root: what the whole sequence leaves, and a crash within it.
-use Rattle.std.proofs.Common.{◌≡◌, ◌*◌, ℕ, ◌<◌, true, false, List, length, refl, sym, ap, subst, ◌∙◌, arith, inr, None}
+use Rattle.std.proofs.Common.{◌≡◌, ◌*◌, ℕ, ◌<◌, true, false, List, length, refl, sym, ap, subst, ◌∙◌, arith, inr, Some, None}
 use Rattle.attach_steps.proofs.Common.{reading, PmemState, IsQuietStep, word_events, IsOldOrNewPair, root_word, wal_word, WalEntry, Tables, index_word, tables_of, put_in, put_in-twice, put_in-own, PutsIndexOver, entry_word, Opens, OpensOrNot, Closes, ClosesOrNot, bounds_of, IsEitherHeap, index_count_few, sizes_of, class_size, IsWalWord-entry}
 use Rattle.pmem_lines.proofs.Words.{word_at-put_same}
 use Rattle.image_tables.specs.Forms.{IsIndexWord}
@@ -7,18 +7,20 @@ use Rattle.heap_check.proofs.IndexForms.{IsFormed-put_index}
 use Rattle.heap_check.proofs.OldBlock.{IsOldPlace, IsOneBlock-old}
 use Rattle.attach_steps.specs.declared.block.OldBlock.{OldBlock}
 use Rattle.attach_steps.specs.Steps.{old_entry_for, dead_put, bury_events, detach_old_events, IsOldDetachable, IsOldDetached}
-use Rattle.attach_steps.proofs.Stages.{Site, IsSite, IsStageOf, stage_begin, stage_header, made_slab, made_low, header_inside}
+use Rattle.attach_steps.proofs.Stages.{BlockSite, IsBlockSite, IsStageOf, stage_begin, stage_header, made_slab, made_low, header_inside}
 use Rattle.attach_steps.proofs.Sequences.{PutsOver, with_none, heap_none, Leads, goes, unmarks, ends, exact_but, exact_end, gives_end, sequence_step}
+use Rattle.image_tables.specs.Tables.{bit_rows, live_rows, number_rows}
+use Rattle.image_tables.specs.Updates.{put_index, with_rows, with_root}
 
 -- its place: the word of its index entry, and the entry of its root
-abbrev pub old_site : Tables → ℕ → OldBlock → Site
+abbrev pub old_site : Tables → ℕ → OldBlock → BlockSite
 old_site t root block = record {
   start = block.start;
   k = index_word block.start block.place;
-  bits = λ on. t.bit;
-  lives = λ on. put_in t.live block.start block.place on;
+  bits = λ on. bit_rows t;
+  lives = λ on. put_in (live_rows t) block.start block.place on;
   own = old_entry_for root block.at block.place;
-  block = record { at = block.at; size = class_size (t.old block.start) };
+  block = record { at = block.at; size = class_size (t.header block.start).old };
 }
 
 module _ {words : List ℕ} {line root : ℕ} {block : OldBlock} (may : IsOldDetachable words root block) (line_below : line < 8) where
@@ -28,13 +30,13 @@ module _ {words : List ℕ} {line root : ℕ} {block : OldBlock} (may : IsOldDet
   abbrev own : WalEntry
   own = old_entry_for root block.at block.place
 
-  abbrev site : Site
+  abbrev site : BlockSite
   site = old_site (tables_of words) root block
 
   pub place_low : block.place < 64
   place_low = omega (arith, may.below, index_count_few (may.image.but.sound.slabs block.start may.slab))
 
-  pub IsSite-old : IsSite words root (old_site (tables_of words) root block)
+  pub IsSite-old : IsBlockSite words root (old_site (tables_of words) root block)
   IsSite-old =
       let sizes = sizes_of words may.image.formed in
       let place : IsOldPlace (bounds_of words) t root block.start block.place = grind arith in
@@ -49,7 +51,7 @@ module _ {words : List ℕ} {line root : ℕ} {block : OldBlock} (may : IsOldDet
       }
 
   -- the index entry is put over any words of a stage
-  puts_over : (made : List ℕ) → length made ≡ length words → PutsIndexOver made block.start block.place (record { live = false; number = t.number block.start block.place }) →
+  puts_over : (made : List ℕ) → length made ≡ length words → PutsIndexOver made block.start block.place (record { live = false; number = (t.header block.start).number block.place }) →
       PutsOver IsSite-old line_below made (dead_put t block.start block.place) false
   puts_over made long over = record {
     each = λ on word image size same stage.
@@ -59,14 +61,16 @@ module _ {words : List ℕ} {line root : ℕ} {block : OldBlock} (may : IsOldDet
         let form : IsIndexWord value = subst IsIndexWord (word_at-put_same image (index_word block.start block.place) (index_word block.start block.place) value refl inside) puts.says.form in
         stage_header IsSite-old line_below stage false value
         (IsFormed-put_index image block.start block.place value stage.formed (made_low IsSite-old line_below stage) place_low inside form)
-        (let tables = puts.tables stage.slabs (made_slab IsSite-old line_below stage) in grind (arith, put_in-twice, put_in-own));
+        (puts.tables stage.slabs (made_slab IsSite-old line_below stage)
+        ∙ ap (λ (x : Tables). put_index x block.start block.place false ((t.header block.start).number block.place)) stage.tables
+        ∙ (λ i. record (with_root (with_rows t (bit_rows t) (put_in-twice (live_rows t) block.start block.place on false i) (put_in-own (number_rows t) block.start block.place i)) root word) { open_entry = Some site.own }));
   }
 
   begins : IsStageOf words line root site true block.at None words
-  begins = stage_begin IsSite-old line_below true block.at refl (ap (put_in t.live block.start block.place) (sym may.live) ∙ put_in-own t.live block.start block.place) may.named
+  begins = stage_begin IsSite-old line_below true block.at refl (ap (put_in (live_rows t) block.start block.place) (sym may.live) ∙ put_in-own (live_rows t) block.start block.place) may.named
 
   module _ {made left new : List ℕ} (opens : Opens words line (old_entry_for root block.at block.place) made) (long : length made ≡ length words)
-      (over : PutsIndexOver made block.start block.place (record { live = false; number = (tables_of words).number block.start block.place }))
+      (over : PutsIndexOver made block.start block.place (record { live = false; number = ((tables_of words).header block.start).number block.place }))
       (left_is : left ≡ reading made (bury_events (tables_of words) root block.start block.place)) (closes : Closes left line new) where
     leads : Leads IsSite-old line_below made left (8 * root_word root) 0 (8 * index_word block.start block.place) (dead_put t block.start block.place) true false block.at 0
     leads = unmarks IsSite-old line_below made left (dead_put t block.start block.place) (puts_over made long over) left_is

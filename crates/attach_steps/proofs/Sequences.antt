@@ -6,7 +6,7 @@ use Rattle.pmem_lines.specs.declared.event.Event.{Event}
 use Rattle.pmem_lines.specs.Events.{IsQuiet}
 use Rattle.pmem_lines.proofs.Steps.{step_of, step_then}
 use Rattle.durable_steps.proofs.Steps.{IsQuiet-pair, pair_crash}
-use Rattle.attach_steps.proofs.Stages.{Site, IsSite, start_low, in_heap, tables_with, IsStageOf, stage_root, root_before, stage_open, stage_close}
+use Rattle.attach_steps.proofs.Stages.{BlockSite, IsBlockSite, start_low, in_heap, tables_with, IsStageOf, stage_root, root_before, stage_open, stage_close}
 use Rattle.std.proofs.lemmas.Bool.{cases_eq}
 use Rattle.durable_steps.specs.Steps.{IsOldOrNewWord}
 use Rattle.heap_check.specs.Heap.{heap}
@@ -27,10 +27,10 @@ pair_step {s} {t} at value after word is done quiet =
     step_of (subst (λ (es : List Event). Appends s t es) is done) (IsQuiet-pair at value after word) quiet (pair_crash (words_of s) at value after word)
 
 -- the entry is open, and the header's word is as it was
-pub opened_word : {words : List ℕ} {line root : ℕ} {site : Site} → IsSite words root site → line < 8 → (made : List ℕ) → Opens words line site.own made → word_at made site.k ≡ word_at words site.k
+pub opened_word : {words : List ℕ} {line root : ℕ} {site : BlockSite} → IsBlockSite words root site → line < 8 → (made : List ℕ) → Opens words line site.own made → word_at made site.k ≡ word_at words site.k
 opened_word {words} {line} {root} {site} is line_below made opens = grind (arith, word_at-put_other, start_low)
 
-module _ {words : List ℕ} {line root : ℕ} {site : Site} (is : IsSite words root site) (line_below : line < 8) where
+module _ {words : List ℕ} {line root : ℕ} {site : BlockSite} (is : IsBlockSite words root site) (line_below : line < 8) where
   abbrev t : Tables
   t = tables_of words
 

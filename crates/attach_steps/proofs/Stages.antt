@@ -4,7 +4,7 @@ use Rattle.attach_steps.proofs.Common.{put_word, word_at-put_other, length-put_w
 use Rattle.pool_layout.specs.Layout.{layout_of}
 use Rattle.pool_layout.specs.Header.{version_in}
 use Rattle.image_tables.specs.Forms.{IsWalWord}
-use Rattle.image_tables.specs.Tables.{AreSlabsInHeap, is_slab, is_slab_of, state_field, wal_lines}
+use Rattle.image_tables.specs.Tables.{AreSlabsInHeap, is_slab, is_slab_of, state_field, wal_lines, bit_rows, live_rows}
 use Rattle.image_tables.specs.Updates.{with_open_entry}
 use Rattle.image_tables.proofs.Updates.{put_at-twice, put_at-own}
 use Rattle.image_tables.proofs.Extents.{extent_at-elsewhere}
@@ -18,11 +18,11 @@ use Rattle.heap_check.proofs.Forms.{AreSlabsInHeap-sound, bounds_of-put_word, Is
 use Rattle.heap_check.proofs.Geometry.{granules_at-slab}
 use Rattle.heap_check.proofs.Sizes.{root_inside}
 use Rattle.heap_check.proofs.OneBlock.{stage_of}
-use Rattle.attach_steps.specs.Steps.{AreInside, KeepsOthers}
+use Rattle.attach_steps.specs.Steps.{AreInside, KeepsAllButBlock}
 
 -- What a sequence on a root and a block changes besides the root's word: a word of the header of the block's slab, by which
 -- the slab holds the block or not, and the entry under which it does.
-pub record Site : Type 0 where
+pub record BlockSite : Type 0 where
   pub start : ℕ
   pub k : ℕ
   pub bits : Bool → ℕ → ℕ → Bool
@@ -31,11 +31,11 @@ pub record Site : Type 0 where
   pub block : Range
 
 -- the tables while the block is held or not, by the root's word and the open entry
-abbrev pub tables_with : List ℕ → ℕ → Site → Bool → ℕ → Option WalEntry → Tables
+abbrev pub tables_with : List ℕ → ℕ → BlockSite → Bool → ℕ → Option WalEntry → Tables
 tables_with words root site on word entry = stage_of (tables_of words) site.bits site.lives root on word entry
 
 -- the block may come or go
-pub record IsSite (words : List ℕ) (root : ℕ) (site : Site) : Type 0 where
+pub record IsBlockSite (words : List ℕ) (root : ℕ) (site : BlockSite) : Type 0 where
   pub formed : IsFormed words
   pub one : IsOneBlock (bounds_of words) (tables_of words) site.bits site.lives site.own root site.start site.block
   pub rooted : root < (bounds_of words).roots
@@ -45,20 +45,20 @@ pub record IsSite (words : List ℕ) (root : ℕ) (site : Site) : Type 0 where
   pub plain : HasNoMove (Some site.own)
 
 -- the image is as the words are, but that the block is held or not, and that the root's word and the open entry are these
-pub record IsStageOf (words : List ℕ) (line root : ℕ) (site : Site) (on : Bool) (word : ℕ) (entry : Option WalEntry) (image : List ℕ) : Type 0 where
+pub record IsStageOf (words : List ℕ) (line root : ℕ) (site : BlockSite) (on : Bool) (word : ℕ) (entry : Option WalEntry) (image : List ℕ) : Type 0 where
   pub formed : IsFormed image
   pub bounds : bounds_of image ≡ bounds_of words
   pub slabs : AreSlabsInHeap image
   pub alone : HasNoOther image line
   pub plain : HasNoMove entry
   pub tables : tables_of image ≡ tables_with words root site on word entry
-  pub rest : KeepsOthers words line root site.k image
+  pub rest : KeepsAllButBlock words line root site.k image
 
 -- what one store of a sequence is to
-abbrev pub IsOneOf : ℕ → ℕ → Site → ℕ → Type 0
+abbrev pub IsOneOf : ℕ → ℕ → BlockSite → ℕ → Type 0
 IsOneOf line root site k = (k ≡ wal_word line) ⊎ ((k ≡ site.k) ⊎ (k ≡ root_word root))
 
-module _ {words : List ℕ} {line root : ℕ} {site : Site} (is : IsSite words root site) (line_below : line < 8) where
+module _ {words : List ℕ} {line root : ℕ} {site : BlockSite} (is : IsBlockSite words root site) (line_below : line < 8) where
   abbrev t : Tables
   t = tables_of words
 
@@ -103,7 +103,7 @@ module _ {words : List ℕ} {line root : ℕ} {site : Site} (is : IsSite words r
   plain_roots = roots_plain words (HasNoMove-closed is.one.but.closed)
 
   -- the words as they are
-  pub stage_begin : (on : Bool) (word : ℕ) → site.bits on ≡ t.bit → site.lives on ≡ t.live → t.root root ≡ word → IsStageOf words line root site on word None words
+  pub stage_begin : (on : Bool) (word : ℕ) → site.bits on ≡ (bit_rows t) → site.lives on ≡ (live_rows t) → t.root root ≡ word → IsStageOf words line root site on word None words
   stage_begin on word bits lives named = grind (arith, AreSlabsInHeap-sound, sound, closed_words, put_at-own, plain_roots)
 
   -- one store of the sequence
@@ -149,7 +149,7 @@ module _ {words : List ℕ} {line root : ℕ} {site : Site} (is : IsSite words r
     pub few_entries : (other : ℕ) → is_slab made other ≡ true → state_field made other 24 ≤ 64
     few_entries other there =
         let here : t.slab other ≡ true = sym (ap (λ (x : Tables). x.slab other) stage.tables) ∙ slab_table made other ∙ there in
-        let same : state_field made other 24 ≡ t.index_count other = sym (slab_fields made other).index_count ∙ ap (λ (x : Tables). x.index_count other) stage.tables in
+        let same : state_field made other 24 ≡ (t.header other).index_count = sym (slab_fields made other).index_count ∙ ap (λ (x : Tables). (x.header other).index_count) stage.tables in
         omega (arith, same, index_count_few (sound.slabs other here))
 
     -- the word of the header is stored, by which the block is held or not

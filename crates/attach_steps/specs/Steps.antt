@@ -66,7 +66,7 @@ old_entry_for root at place = Place root at true place
 
 -- its index entry, dead
 abbrev pub dead_put : Tables → ℕ → ℕ → ℕ
-dead_put t start place = word_of_index (record { live = false; number = t.number start place })
+dead_put t start place = word_of_index (record { live = false; number = (t.header start).number place })
 
 -- the root's word becomes 0, then the index entry is dead, and both are made durable
 abbrev pub bury_events : Tables → ℕ → ℕ → ℕ → List Event
@@ -91,8 +91,8 @@ pub record IsBlockIn (words : List ℕ) (root : ℕ) (block : SmallBlock) : Type
   pub rooted : root < (bounds_of words).roots
   pub slab : (tables_of words).slab block.start ≡ true
   pub lively : ¬ (IsDoneSlab (tables_of words) block.start)
-  pub below : block.number < class_capacity ((tables_of words).class block.start)
-  pub at : block.at ≡ (slab_block block.start ((tables_of words).class block.start) block.number).at
+  pub below : block.number < class_capacity ((tables_of words).header block.start).class
+  pub at : block.at ≡ (slab_block block.start ((tables_of words).header block.start).class block.number).at
 
 -- the header of a slab and the word of a root lie inside, the root's before the slab
 pub record AreInside (words : List ℕ) (root start : ℕ) : Type 0 where
@@ -105,13 +105,13 @@ pub record AreInside (words : List ℕ) (root start : ℕ) : Type 0 where
 -- the block shares no byte with one that its slab holds, and the root has none
 pub record IsAttachable (words : List ℕ) (root : ℕ) (block : SmallBlock) : Type 0 where
   pub block_in : IsBlockIn words root block
-  pub unused : IsUnusedIn (tables_of words) block.start ((tables_of words).class block.start) block.number
+  pub unused : IsUnusedIn (tables_of words) block.start ((tables_of words).header block.start).class block.number
   pub none : (tables_of words).root root ≡ 0
 
 -- the root has the block
 pub record IsDetachable (words : List ℕ) (root : ℕ) (block : SmallBlock) : Type 0 where
   pub block_in : IsBlockIn words root block
-  pub set : (tables_of words).bit block.start block.number ≡ true
+  pub set : ((tables_of words).header block.start).bit block.number ≡ true
   pub named : (tables_of words).root root ≡ block.at
 
 -- the image is exact, but for the block's slab, which took another class; the block is a live old one of it, and the root has
@@ -120,10 +120,10 @@ pub record IsOldDetachable (words : List ℕ) (root : ℕ) (block : OldBlock) : 
   pub image : IsExactButImage words block.start
   pub rooted : root < (bounds_of words).roots
   pub slab : (tables_of words).slab block.start ≡ true
-  pub kind : (tables_of words).kind block.start ≡ morphed_kind
-  pub below : block.place < (tables_of words).index_count block.start
-  pub live : (tables_of words).live block.start block.place ≡ true
-  pub at : block.at ≡ (slab_block block.start ((tables_of words).old block.start) ((tables_of words).number block.start block.place)).at
+  pub kind : ((tables_of words).header block.start).kind ≡ morphed_kind
+  pub below : block.place < ((tables_of words).header block.start).index_count
+  pub live : ((tables_of words).header block.start).live block.place ≡ true
+  pub at : block.at ≡ (slab_block block.start ((tables_of words).header block.start).old (((tables_of words).header block.start).number block.place)).at
   pub named : (tables_of words).root root ≡ block.at
 
 -- what is left
@@ -133,7 +133,7 @@ abbrev pub PutsRootOrNot : List ℕ → ℕ → ℕ → List ℕ → Type 0
 PutsRootOrNot words root at image = (image ≡ words) ⊎ (image ≡ put_word words (root_word root) at)
 
 -- the words are the same, but for that at a place in the slab's header, the root's and the line's
-pub record KeepsOthers (words : List ℕ) (line root place : ℕ) (image : List ℕ) : Type 0 where
+pub record KeepsAllButBlock (words : List ℕ) (line root place : ℕ) (image : List ℕ) : Type 0 where
   pub same_length : length image ≡ length words
   pub others : (k : ℕ) → k ≢ wal_word line → k ≢ place → k ≢ root_word root → word_at image k ≡ word_at words k
 
@@ -147,8 +147,8 @@ pub record IsAttached (words : List ℕ) (line root : ℕ) (block : SmallBlock) 
   pub exact : IsExactImage new
   pub bounds : bounds_of new ≡ bounds_of words
   pub tables : tables_of new ≡ with_small (tables_of words) block.start block.number true root block.at None
-  pub gives : GivesOne words root (Some (slab_block block.start ((tables_of words).class block.start) block.number)) new
-  pub rest : KeepsOthers words line root (bit_word block) new
+  pub gives : GivesOne words root (Some (slab_block block.start ((tables_of words).header block.start).class block.number)) new
+  pub rest : KeepsAllButBlock words line root (bit_word block) new
 
 -- the root has no block, and the image is exact, but that the slab may have no other root's block
 pub record IsDetached (words : List ℕ) (line root : ℕ) (block : SmallBlock) (new : List ℕ) : Type 0 where
@@ -157,7 +157,7 @@ pub record IsDetached (words : List ℕ) (line root : ℕ) (block : SmallBlock) 
   pub bounds : bounds_of new ≡ bounds_of words
   pub tables : tables_of new ≡ with_small (tables_of words) block.start block.number false root 0 None
   pub gives : GivesOne words root None new
-  pub rest : KeepsOthers words line root (bit_word block) new
+  pub rest : KeepsAllButBlock words line root (bit_word block) new
 
 -- the root has no block and the old one is dead; the image is exact, but that the slab may have no other root's block, or no
 -- other live old one
@@ -167,4 +167,4 @@ pub record IsOldDetached (words : List ℕ) (line root : ℕ) (block : OldBlock)
   pub bounds : bounds_of new ≡ bounds_of words
   pub tables : tables_of new ≡ with_old (tables_of words) block.start block.place false root 0 None
   pub gives : GivesOne words root None new
-  pub rest : KeepsOthers words line root (index_word block.start block.place) new
+  pub rest : KeepsAllButBlock words line root (index_word block.start block.place) new

@@ -8,10 +8,10 @@ use Rattle.pool_layout.specs.Places.{fields_word, root_word, wal_word, heap_word
 use Rattle.pool_layout.specs.Header.{version_field, version_in}
 use Rattle.image_tables.specs.Extents.{extent_at}
 use Rattle.image_tables.specs.declared.entry.WalEntry.{WalEntry}
-use Rattle.image_tables.specs.Tables.{entry_of_word, entry_among, root_in, wal_lines, large_of, is_slab_of, is_slab, AreSlabsInHeap, state_word, bitmap_word, index_word, bit_at, tables_of}
-use Rattle.image_tables.proofs.Places.{log_word-low}
+use Rattle.image_tables.specs.Tables.{entry_of_word, entry_among, root_in, wal_lines, large_of, is_slab_of, is_slab, AreSlabsInHeap, tables_of}
+use Rattle.image_tables.proofs.Places.{log_start-low}
 use Rattle.image_tables.proofs.Extents.{extent_at-elsewhere}
-use Rattle.image_tables.proofs.Stores.{IsOffLog-wal, tables_but, wal_word-low, log_word-high, state_word-high, bitmap_word-high, index_word-high, bit_at-same, slab_bit-same}
+use Rattle.image_tables.proofs.Stores.{IsOffLog-wal, tables_over_heap, wal_word-low, log_start-high}
 use Rattle.image_tables.specs.Updates.{with_open_entry}
 use Rattle.attach_wal.specs.Wal.{HasNoOther}
 
@@ -52,13 +52,8 @@ tables_put_wal words line value below inside slabs alone =
     let extent : (start : ℕ) → extent_at new start ≡ extent_at words start = λ start. extent_at-elsewhere words at value start (IsOffLog-wal words line below) in
     let slab : (start : ℕ) → is_slab new start ≡ is_slab words start = λ start. ap is_slab_of (extent start) in
     let heap : (k : ℕ) → heap_word version ≤ k → word_at new k ≡ word_at words k =
-    λ k high. word_at-put_other words at k value (λ e. omega (arith, e, high, wal_word-low line below, log_word-low version, log_word-high version)) in
-    tables_but words new (root_in words) (entry_or_none value) (tables_of words).large (bit_at words)
-    (record {
-      slab = slab;
-      state = λ start is. heap (state_word start) (state_word-high words start slabs is);
-      index = λ start place is less. heap (index_word start place) (index_word-high words start place slabs is);
-    })
+    λ k high. word_at-put_other words at k value (λ e. omega (arith, e, high, wal_word-low line below, log_start-low version, log_start-high version)) in
+    tables_over_heap words new (root_in words) (entry_or_none value) (tables_of words).large slabs slab heap
     (λ r.
     ap (λ v. cond (ltb r (layout_of v).roots) (word_at new (root_word r)) 0) same_version
     ∙ ap (λ w. cond (ltb r (layout_of version).roots) w 0) (word_at-put_other words at (root_word r) value (λ e. omega (arith, e, wal_word-low line below))))
@@ -66,4 +61,3 @@ tables_put_wal words line value below inside slabs alone =
     (λ other less apart. word_at-put_other words at (wal_word other) value (λ e. apart (omega (arith, e))) ∙ alone.closed other less apart)
     ∙ ap entry_or_none (word_at-put_same words at at value refl inside))
     (λ start. ap large_of (extent start))
-    (λ start i. bit_at-same words new start i (slab start) (λ is less. slab_bit-same words new start i (heap (bitmap_word start i) (bitmap_word-high words start i slabs is))))

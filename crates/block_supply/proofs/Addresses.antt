@@ -1,12 +1,8 @@
 -- Where blocks of slabs begin: no two of them at one address.
 use Rattle.std.proofs.Common.{◌≡◌, ◌≢◌, ◌⊎◌, ℕ, ◌+◌, ◌*◌, ◌<◌, ◌≤◌, Some, refl, sym, ◌∙◌, subst, arith, ⊎_elim}
-use Rattle.std.proofs.lemmas.Bool.{cases_eq, cases_lt}
+use Rattle.block_supply.proofs.Common.{cases_eq, cases_lt, class_size, class_capacity, class_size-least, slab_block, LiesIn, SlabSet, class_in, IsBlock}
 use native.Mathlib.Nat.{mul-le-mul_right}
-use Rattle.size_classes.specs.Classes.{class_size, class_capacity}
-use Rattle.size_classes.proofs.Spacing.{class_size-least}
-use Rattle.heap_model.specs.Machine.{slab_block, LiesIn}
 use Rattle.heap_model.proofs.Slabbing.{LiesIn-block}
-use Rattle.slab_index.specs.SlabSet.{SlabSet, class_in, IsBlock}
 use Rattle.block_supply.specs.Kept.{IsBlockAt, AreSlabsApart}
 
 -- a block lies in its slab

@@ -1,20 +1,13 @@
 -- Where no block of a class was open and a slab of it came, a seat is given a block of that slab; of one that has all of its
 -- blocks it is the first.
 use Rattle.std.proofs.Common.{◌≡◌, ◌≢◌, ℕ, zero, suc, ◌*◌, ◌<◌, ◌≤◌, [], Some, refl, sym, ap, ◌∙◌, subst, arith, ⊎_elim}
-use Rattle.std.proofs.lemmas.Bool.{cases_eq}
-use Rattle.size_classes.specs.Classes.{class_size, class_capacity}
-use Rattle.size_classes.proofs.Spacing.{class_size-least}
-use Rattle.heap_model.specs.Placement.{IsAvailable}
-use Rattle.heap_model.proofs.Maps.{with_key-other}
-use Rattle.slab_index.specs.declared.block.SlabBlock.{SlabBlock}
-use Rattle.slab_index.specs.SlabSet.{class_in}
-use Rattle.thread_cache.specs.Stacks.{stacks_of}
-use Rattle.block_supply.specs.Supply.{Supply, IsOpen, supply_view, HasSlabMore, TookBlock, HasNoOpen}
+use Rattle.block_supply.proofs.Common.{cases_eq, class_size, class_capacity, class_size-least, IsAvailable, with_key-other, SlabBlock, class_in, stacks_of}
+use Rattle.block_supply.specs.Supply.{Supply, MayBeGiven, supply_view, HasSlabMore, TookBlock, HasNoOpen}
 use Rattle.block_supply.proofs.Addresses.{row_once}
 use Rattle.block_supply.proofs.Takes.{no_top, none_open}
 
 -- an open block of the class is one of that slab
-pub in_new : {old mid : Supply} {start class : ℕ} {Opens : ℕ → Type 0} → ((s i : ℕ) → class_in old.slabs s ≡ Some class → ¬ (IsOpen old s i)) → HasSlabMore old mid start class Opens → (s i : ℕ) → class_in mid.slabs s ≡ Some class → IsOpen mid s i → s ≡ start
+pub in_new : {old mid : Supply} {start class : ℕ} {Opens : ℕ → Type 0} → ((s i : ℕ) → class_in old.slabs s ≡ Some class → ¬ (MayBeGiven old s i)) → HasSlabMore old mid start class Opens → (s i : ℕ) → class_in mid.slabs s ≡ Some class → MayBeGiven mid s i → s ≡ start
 in_new {old} {mid} {start} {class} {Opens} none more s i slab is = ⊎_elim
     (λ (same : s ≡ start). same)
     (λ (differ : s ≢ start). absurd (none s i (sym (more.classes s ∙ with_key-other (class_in old.slabs) start s (Some class) differ) ∙ slab) ((more.others s i differ).0 is)))

@@ -1,11 +1,7 @@
 -- The block at an address, by the slab that has the granule of the address.
 use Rattle.std.proofs.Common.{◌≡◌, ◌≢◌, ℕ, ◌+◌, ◌-◌, ◌*◌, ◌/◌, ◌<◌, ◌≤◌, sym, ap, ◌∙◌, subst, arith, ⊎_elim}
 use Rattle.std.proofs.Math.Nat.{mul-div_cancel}
-use Rattle.std.proofs.lemmas.Bool.{cases_eq}
-use Rattle.size_classes.specs.Classes.{class_size, class_capacity}
-use Rattle.size_classes.proofs.Spacing.{class_size-least}
-use Rattle.heap_model.specs.Machine.{slab_block}
-use Rattle.slab_index.specs.SlabSet.{SlabSet, class_in}
+use Rattle.block_supply.proofs.Common.{cases_eq, class_size, class_capacity, class_size-least, slab_block, SlabSet, class_in}
 use Rattle.block_supply.specs.Supply.{IsInSlabOf, IsInNoSlabOf}
 use Rattle.block_supply.specs.Kept.{IsBlockAt, IsSomeBlock, AreSlabsApart}
 use Rattle.block_supply.proofs.Addresses.{block_lies}

@@ -1,3 +1,4 @@
+pub mod Common
 pub mod Addresses
 pub mod Found
 pub mod Lists

@@ -1,7 +1,6 @@
 -- Lists of addresses and of numbers: what they have.
 use Rattle.std.proofs.Common.{◌≡◌, ◌≢◌, ◌⊎◌, ℕ, ◌-◌, ◌<◌, zero, suc, List, [], ◌∷◌, length, slice_index_or, refl, arith, inl, inr, ⊎_elim}
-use Rattle.std.proofs.lemmas.Bool.{cases_eq}
-use Rattle.heap_model.specs.Placement.{Has}
+use Rattle.block_supply.proofs.Common.{cases_eq, Has}
 
 -- a list has a number or not
 pub cases_Has : (xs : List ℕ) (n : ℕ) → Has xs n ⊎ (¬ (Has xs n))

@@ -1,10 +1,6 @@
 -- Which blocks are open, by what a supply keeps.
 use Rattle.std.proofs.Common.{◌≡◌, ℕ, ◌<◌, true, Some, ap, ◌∙◌, subst, inl, ⊎_elim}
-use Rattle.size_classes.specs.Classes.{class_capacity}
-use Rattle.heap_model.specs.Machine.{slab_block}
-use Rattle.heap_model.specs.Placement.{Has, IsInNoStack, IsAvailable}
-use Rattle.slab_index.specs.SlabSet.{class_in, is_available}
-use Rattle.thread_cache.specs.Stacks.{stacks_of}
+use Rattle.block_supply.proofs.Common.{class_capacity, slab_block, Has, IsInNoStack, IsAvailable, class_in, is_available, stacks_of}
 use Rattle.block_supply.specs.Supply.{Supply, IsStacked, supply_view}
 use Rattle.block_supply.specs.Kept.{IsKept}
 use Rattle.block_supply.proofs.Addresses.{one_class, slab_once}

@@ -1,13 +1,7 @@
 -- A stack gives its top: the block is open no more.
 use Rattle.std.proofs.Common.{◌≡◌, ◌≢◌, ◌⊎◌, ◌↔◌, ℕ, ◌<◌, ◌≤◌, true, Some, List, ◌∷◌, refl, sym, ap, ◌∙◌, subst, inl, inr, ⊎_elim}
-use Rattle.size_classes.specs.Classes.{class_capacity}
-use Rattle.heap_model.specs.Machine.{slab_block}
-use Rattle.heap_model.specs.Placement.{Stacks, Has, IsInNoStack, AllDiffer, AreDistinct}
-use Rattle.slab_index.specs.declared.block.SlabBlock.{SlabBlock}
-use Rattle.slab_index.specs.SlabSet.{SlabSet, class_in, is_available}
-use Rattle.thread_cache.specs.Stacks.{stacks_of, GaveTop}
-use Rattle.heap_model.proofs.Distinct.{IsOther, stack_here, stack_there, here_or_there}
-use Rattle.block_supply.specs.Supply.{Supply, IsStacked, IsOpen, IsWithout}
+use Rattle.block_supply.proofs.Common.{class_capacity, slab_block, Stacks, Has, IsInNoStack, AllDiffer, AreDistinct, SlabBlock, SlabSet, class_in, is_available, stacks_of, GaveTop, IsOther, stack_here, stack_there, here_or_there}
+use Rattle.block_supply.specs.Supply.{Supply, IsStacked, MayBeGiven, IsWithout}
 use Rattle.block_supply.specs.Kept.{IsBlockAt, IsSomeBlock, AreSlabsApart, IsKept, HasTaken}
 use Rattle.block_supply.proofs.Addresses.{one_class, address_differs}
 
@@ -78,7 +72,7 @@ module _ (old new : Supply) (kept : IsKept old.slabs old.stacks) (slabs : new.sl
   taken_popped b same also = record {
     slab = ap (class_in old.slabs) same ∙ block.slab;
     within = subst (λ n. n < class_capacity class) (sym also) block.within;
-    was_open = subst (λ s. IsOpen old s b.number) (sym same) (subst (IsOpen old start) (sym also) (inr reserved));
+    was_open = subst (λ s. MayBeGiven old s b.number) (sym same) (subst (MayBeGiven old start) (sym also) (inr reserved));
     without = subst (λ s. IsWithout old new s b.number) (sym same) (subst (IsWithout old new start) (sym also) without);
   }
     where
@@ -88,7 +82,7 @@ module _ (old new : Supply) (kept : IsKept old.slabs old.stacks) (slabs : new.sl
       reserved : IsStacked old start number
       reserved = record { class = class; slab = block.slab; within = block.within; seat = seat; has = has }
 
-      none : ¬ (IsOpen new start number)
+      none : ¬ (MayBeGiven new start number)
       none is = ⊎_elim
           (λ available. (kept.loose start number class block.slab (ap (λ (z : SlabSet). is_available z start number) (sym slabs) ∙ available)).none seat class has)
           (λ (s : IsStacked new start number).
@@ -96,7 +90,7 @@ module _ (old new : Supply) (kept : IsKept old.slabs old.stacks) (slabs : new.sl
           (top_gone was (stacks_of new.stacks) kept.distinct seat class at gave).none s.seat s.class (subst (Has (stacks_of new.stacks s.seat s.class)) (ap (λ c. (slab_block start c number).at) same ∙ sym block.is) s.has))
           is
 
-      same_else : (s i : ℕ) → (s ≢ start) ⊎ (i ≢ number) → IsOpen new s i ↔ IsOpen old s i
+      same_else : (s i : ℕ) → (s ≢ start) ⊎ (i ≢ number) → MayBeGiven new s i ↔ MayBeGiven old s i
       same_else s i either = (
         λ is. ⊎_elim
             (λ available. inl (ap (λ (z : SlabSet). is_available z s i) (sym slabs) ∙ available))

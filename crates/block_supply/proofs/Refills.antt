@@ -1,17 +1,9 @@
 -- A refill: the lowest available block is given out, and the next ones of its slab go on a stack.
 use Rattle.std.proofs.Common.{◌≡◌, ◌≢◌, ◌⊎◌, ◌↔◌, ℕ, ◌+◌, ◌<◌, ◌≤◌, true, false, true≢false, Some, List, [], ◌∷◌, refl, sym, ap, ◌∙◌, subst, arith, inl, inr, ⊎_elim}
-use Rattle.std.proofs.lemmas.Bool.{cases_eq}
-use Rattle.size_classes.specs.Classes.{class_capacity}
-use Rattle.size_classes.proofs.Spacing.{class_size-least}
-use Rattle.heap_model.specs.Machine.{slab_block}
-use Rattle.heap_model.specs.Placement.{Stacks, with_stack, Has, IsInNoStack, addresses, IsAvailable, IsRefill, AreDistinct, AreRising, AreLoose}
-use Rattle.heap_model.proofs.Lowest.{AreLowest-same}
-use Rattle.slab_index.specs.declared.block.SlabBlock.{SlabBlock}
+use Rattle.block_supply.proofs.Common.{cases_eq, class_capacity, class_size-least, slab_block, Stacks, with_stack, Has, IsInNoStack, addresses, IsAvailable, IsRefill, AreDistinct, AreRising, AreLoose, AreLowest-same, SlabBlock, StackTable, stacks_of, IsOther, stack_here, stack_there, here_or_there}
 use Rattle.slab_index.specs.declared.block.SlabBlocks.{SlabBlocks}
 use Rattle.slab_index.specs.SlabSet.{SlabSet, class_in, is_available, AreLowestBlocks, TookLowest}
-use Rattle.thread_cache.specs.Stacks.{StackTable, stacks_of}
-use Rattle.heap_model.proofs.Distinct.{IsOther, stack_here, stack_there, here_or_there}
-use Rattle.block_supply.specs.Supply.{Supply, IsStacked, IsOpen, IsWithout, supply_view}
+use Rattle.block_supply.specs.Supply.{Supply, IsStacked, MayBeGiven, IsWithout, supply_view}
 use Rattle.block_supply.specs.Kept.{IsKept, HasTaken}
 use Rattle.block_supply.proofs.Addresses.{one_class, slab_once, block_once}
 use Rattle.block_supply.proofs.Lists.{cases_Has}
@@ -141,7 +133,7 @@ module _ (old : Supply) (kept : IsKept old.slabs old.stacks) (seat class : ℕ) 
     taken_refilled b same also = record {
       slab = ap (class_in old.slabs) same ∙ low.slab;
       within = subst (λ n. n < class_capacity class) (sym also) (passed low.first (inl refl)).1;
-      was_open = subst (λ s. IsOpen old s b.number) (sym same) (subst (IsOpen old start) (sym also) (inl (passed low.first (inl refl)).0));
+      was_open = subst (λ s. MayBeGiven old s b.number) (sym same) (subst (MayBeGiven old start) (sym also) (inl (passed low.first (inl refl)).0));
       without = subst (λ s. IsWithout old new s b.number) (sym same) (subst (IsWithout old new start) (sym also) without);
     }
       where
@@ -149,7 +141,7 @@ module _ (old : Supply) (kept : IsKept old.slabs old.stacks) (seat class : ℕ) 
         first_not : ¬ (Has low.rest low.first)
         first_not has = let above = (lowest_passes Passes (low.first + 1) 7 low.rest low.first low.lowest.2 has).1 in omega (arith, above)
 
-        none : ¬ (IsOpen new start low.first)
+        none : ¬ (MayBeGiven new start low.first)
         none is = ⊎_elim
             (λ available. true≢false (sym available ∙ gone_from low.first (inl refl)))
             (λ (r : IsStacked new start low.first).
@@ -159,7 +151,7 @@ module _ (old : Supply) (kept : IsKept old.slabs old.stacks) (seat class : ℕ) 
             (λ _ m came at_is. first_not (subst (Has low.rest) (sym (only_one start low.first m low.slab (passed low.first (inl refl)).1 (inr came) (ap (λ k. (slab_block start k low.first).at) (sym class_is) ∙ at_is)).1) came)))
             is
 
-        others : (s i : ℕ) → (s ≢ start) ⊎ (i ≢ low.first) → IsOpen new s i ↔ IsOpen old s i
+        others : (s i : ℕ) → (s ≢ start) ⊎ (i ≢ low.first) → MayBeGiven new s i ↔ MayBeGiven old s i
         others s i either = (
           λ is. ⊎_elim
               (λ available. inl (available_was s i available).0)

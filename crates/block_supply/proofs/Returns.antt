@@ -1,18 +1,12 @@
 -- A block comes back: it goes on a stack, or is available.
 use Rattle.std.proofs.Common.{◌≡◌, ◌≢◌, ◌⊎◌, ◌↔◌, ◌==◌, ◌&&◌, ℕ, ◌<◌, ◌≤◌, true, false, true≢false, Some, List, ◌∷◌, refl, sym, ap, ◌∙◌, subst, inl, inr, ⊎_elim, if◌then◌else◌}
-use Rattle.std.proofs.lemmas.Bool.{cases_eq, cases_Bool, cond-true, cond-false, eq-eqb, ne_eqb, and_from, and_left, and_right}
-use Rattle.size_classes.specs.Classes.{class_capacity}
-use Rattle.heap_model.specs.Machine.{slab_block}
-use Rattle.heap_model.specs.Placement.{Stacks, with_stack, Has, IsInNoStack, AreDistinct}
-use Rattle.slab_index.specs.SlabSet.{SlabSet, class_in, is_available}
-use Rattle.thread_cache.specs.Stacks.{StackTable, stacks_of}
-use Rattle.heap_model.proofs.Distinct.{IsOther, stack_here, stack_there, here_or_there}
-use Rattle.block_supply.specs.Supply.{Supply, IsStacked, IsOpen, IsWith}
+use Rattle.block_supply.proofs.Common.{cases_eq, cases_Bool, cond-true, cond-false, eq-eqb, ne_eqb, and_from, and_left, and_right, class_capacity, slab_block, Stacks, with_stack, Has, IsInNoStack, AreDistinct, SlabSet, class_in, is_available, StackTable, stacks_of, IsOther, stack_here, stack_there, here_or_there}
+use Rattle.block_supply.specs.Supply.{Supply, IsStacked, MayBeGiven, IsWith}
 use Rattle.block_supply.specs.Kept.{IsKept}
 use Rattle.block_supply.proofs.Addresses.{one_class, slab_once, block_once, address_differs}
 use Rattle.block_supply.proofs.Opens.{loose_if}
 
-module _ (old : Supply) (kept : IsKept old.slabs old.stacks) (class start number : ℕ) (slab : class_in old.slabs start ≡ Some class) (within : number < class_capacity class) (used : ¬ (IsOpen old start number)) where
+module _ (old : Supply) (kept : IsKept old.slabs old.stacks) (class start number : ℕ) (slab : class_in old.slabs start ≡ Some class) (within : number < class_capacity class) (used : ¬ (MayBeGiven old start number)) where
   abbrev at : ℕ
   at = (slab_block start class number).at
 

@@ -1,15 +1,8 @@
 -- A slab comes or goes.
 use Rattle.std.proofs.Common.{◌≡◌, ◌≢◌, ◌⊎◌, ◌↔◌, ◌==◌, ◌&&◌, not, nat_lt, List, ℕ, ◌+◌, ◌*◌, ◌<◌, ◌≤◌, Bool, true, false, true≢false, Some, None, refl, sym, ap, ◌∙◌, subst, arith, inl, inr, ⊎_elim, if◌then◌else◌}
-use Rattle.std.proofs.lemmas.Bool.{cases_eq, cases_Bool, and_left, and_right, cond-true, cond-false, eq-eqb, ne_eqb, lt-ltb, le-leb, ltb-true, leb-true, and_from, false_from_ne_true}
+use Rattle.block_supply.proofs.Common.{cases_eq, cases_Bool, and_left, and_right, cond-true, cond-false, eq-eqb, ne_eqb, lt-ltb, le-leb, ltb-true, leb-true, and_from, false_from_ne_true, class_capacity, class_size-least, with_key, slab_block, Stacks, without_slab, Has, IsInNoStack, AreDistinct, with_key-here, with_key-other, SlabSet, class_in, is_available, StackTable, stacks_of}
 use Rattle.bit_words.specs.Numbers.{has as has_number}
-use Rattle.size_classes.specs.Classes.{class_capacity}
-use Rattle.size_classes.proofs.Spacing.{class_size-least}
-use Rattle.heap_model.specs.Machine.{with_key, slab_block}
-use Rattle.heap_model.specs.Placement.{Stacks, without_slab, Has, IsInNoStack, AreDistinct}
 use Rattle.heap_model.specs.Slabs.{is_within}
-use Rattle.heap_model.proofs.Maps.{with_key-here, with_key-other}
-use Rattle.slab_index.specs.SlabSet.{SlabSet, class_in, is_available}
-use Rattle.thread_cache.specs.Stacks.{StackTable, stacks_of}
 use Rattle.block_supply.specs.Supply.{Supply, IsStacked, IsClearOf, HasSlabMore, HasSlabLess}
 use Rattle.block_supply.specs.Kept.{IsKept}
 use Rattle.block_supply.proofs.Addresses.{one_class, block_lies}

@@ -1,11 +1,7 @@
 -- A block is taken for a seat, by the way that it comes.
 use Rattle.std.proofs.Common.{◌≡◌, ℕ, true≢false, List, [], ◌∷◌, Option, Some, None, MatchOption, sym, ap, ◌∙◌, subst, inl, inr, ⊎_elim}
-use Rattle.heap_model.specs.Placement.{Stacks, Has, HasTop, HasAvailable}
-use Rattle.slab_index.specs.declared.block.SlabBlock.{SlabBlock}
-use Rattle.heap_model.specs.Machine.{slab_block}
-use Rattle.slab_index.specs.SlabSet.{class_in, HasNoBlock}
-use Rattle.thread_cache.specs.Stacks.{stacks_of}
-use Rattle.block_supply.specs.Supply.{Supply, IsStacked, IsOpen, supply_view, TookBlock, HasNoOpen, HadNoOpen}
+use Rattle.block_supply.proofs.Common.{Stacks, Has, HasTop, HasAvailable, SlabBlock, slab_block, class_in, HasNoBlock, stacks_of}
+use Rattle.block_supply.specs.Supply.{Supply, IsStacked, MayBeGiven, supply_view, TookBlock, HasNoOpen, HadNoOpen}
 use Rattle.block_supply.specs.Kept.{TookTop, HadNoTop, TookLowest, HadNoAvailable, TookFirst, HadNoStack}
 use Rattle.block_supply.proofs.Addresses.{one_class}
 use Rattle.block_supply.proofs.Opens.{available_is}
@@ -19,7 +15,7 @@ pub none_available : (supply : Supply) (class : ℕ) → HasNoBlock supply.slabs
 none_available supply class used has = true≢false (sym (available_is has.start class has.number has.slab has.available) ∙ used.none has.start has.number has.slab)
 
 -- where none is open, no block of a slab of the class is
-pub none_open : (supply : Supply) (class : ℕ) → HasNoOpen supply class → (start number : ℕ) → class_in supply.slabs start ≡ Some class → ¬ (IsOpen supply start number)
+pub none_open : (supply : Supply) (class : ℕ) → HasNoOpen supply class → (start number : ℕ) → class_in supply.slabs start ≡ Some class → ¬ (MayBeGiven supply start number)
 none_open supply class none start number slab is = ⊎_elim
     (λ available. true≢false (sym available ∙ none.used.none start number slab))
     (λ (r : IsStacked supply start number). subst (λ (xs : List ℕ). Has xs (slab_block start r.class number).at) (ap (stacks_of supply.stacks r.seat) (one_class supply.slabs start r.class class r.slab slab) ∙ none.empty r.seat) r.has)

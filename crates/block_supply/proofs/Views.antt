@@ -1,9 +1,7 @@
 -- A seat is served the same by views that say the same of slabs and unused blocks.
 use Rattle.std.proofs.Common.{◌≡◌, ◌↔◌, ℕ, ◌<◌, ◌∷◌, Some, sym, ◌∙◌, ⊎_elim, inl, inr}
-use Rattle.size_classes.specs.Classes.{class_capacity}
+use Rattle.block_supply.proofs.Common.{class_capacity, Stacks, IsAvailable, HasAvailable, IsRefill, AreLowest-same}
 use Rattle.heap_model.specs.Choice.{BlockView}
-use Rattle.heap_model.specs.Placement.{Stacks, IsAvailable, HasAvailable, IsRefill}
-use Rattle.heap_model.proofs.Lowest.{AreLowest-same}
 use Rattle.block_supply.specs.Supply.{IsServed}
 
 -- two views say the same of slabs, and of which of their blocks are unused

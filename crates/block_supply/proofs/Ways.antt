@@ -1,18 +1,11 @@
 -- What a malloc takes of the stacks is one of the ways of the placement.
 use Rattle.std.proofs.Common.{◌≡◌, ◌≢◌, ◌==◌, ℕ, ◌<◌, ◌⊎◌, ◌↔◌, [], Option, Some, if◌then◌else◌, sym, ap, ◌∙◌, subst, arith, inl, inr, ⊎_elim}
-use Rattle.heap_model.specs.Machine.{Bounds, Machine, with_key, slab_block, IsUnused}
+use Rattle.block_supply.proofs.Common.{Bounds, Machine, with_key, slab_block, IsUnused, with_class, IsRefill, IsMorphRefill, IsNewRefill, IsWay, cases_eq, class_capacity, with_key-here, with_key-other, SlabBlock, class_in, stacks_of}
 use Rattle.heap_model.specs.Choice.{block_view}
 use Rattle.heap_model.specs.Slabs.{view_of}
-use Rattle.heap_model.specs.Placement.{with_class, IsRefill, IsMorphRefill, IsNewRefill, IsWay}
 use Rattle.block_supply.proofs.Takes.{no_top}
 use Rattle.block_supply.proofs.Views.{AgreeOnBlocks, IsRefill-by, IsServed-by}
-use Rattle.std.proofs.lemmas.Bool.{cases_eq}
-use Rattle.size_classes.specs.Classes.{class_capacity}
-use Rattle.heap_model.proofs.Maps.{with_key-here, with_key-other}
-use Rattle.slab_index.specs.declared.block.SlabBlock.{SlabBlock}
-use Rattle.slab_index.specs.SlabSet.{class_in}
-use Rattle.thread_cache.specs.Stacks.{stacks_of}
-use Rattle.block_supply.specs.Supply.{Supply, IsOpen, supply_view, TookBlock, HasNoOpen}
+use Rattle.block_supply.specs.Supply.{Supply, MayBeGiven, supply_view, TookBlock, HasNoOpen}
 
 module _ (b : Bounds) (m : Machine) (was next : Supply) (seat class : ℕ) (agree : AgreeOnBlocks (supply_view was) (block_view (view_of b m))) where
   -- a block that is there
@@ -29,7 +22,7 @@ module _ (b : Bounds) (m : Machine) (was next : Supply) (seat class : ℕ) (agre
 
   -- The slab at a start comes into the supply with the class, and what is open in it is what is unused.
   module _ (start number : ℕ) (mid : Supply) (classes : (s : ℕ) → class_in mid.slabs s ≡ with_key (class_in was.slabs) start (Some class) s)
-      (here : (n : ℕ) → n < class_capacity class → IsOpen mid start n ↔ IsUnused m (slab_block start class n)) (others : (s n : ℕ) → s ≢ start → IsOpen mid s n ↔ IsOpen was s n)
+      (here : (n : ℕ) → n < class_capacity class → MayBeGiven mid start n ↔ IsUnused m (slab_block start class n)) (others : (s n : ℕ) → s ≢ start → MayBeGiven mid s n ↔ MayBeGiven was s n)
       (bare : (other : ℕ) → stacks_of mid.stacks other class ≡ []) where
     -- with it the views agree still
     agree_more : AgreeOnBlocks (supply_view mid) (block_view (view_of b (with_class m start class)))
@@ -39,8 +32,8 @@ module _ (b : Bounds) (m : Machine) (was next : Supply) (seat class : ℕ) (agre
           (λ (same : s ≡ start).
           let class_is : c ≡ class = (let one = sym (classes start ∙ with_key-here (class_in was.slabs) start (Some class)) ∙ ap (class_in mid.slabs) (sym same) ∙ slab in cc) in
           let iff = here n (subst (λ k. n < class_capacity k) class_is within) in (
-            λ is. subst (λ k. IsUnused (with_class m start class) (slab_block k c n)) (sym same) (subst (λ k. IsUnused (with_class m start class) (slab_block start k n)) (sym class_is) (record { each = (iff.0 (subst (λ k. IsOpen mid k n) same is)).each })),
-            λ unused. subst (λ k. IsOpen mid k n) (sym same) (iff.1 (record { each = (subst (λ k. IsUnused (with_class m start class) (slab_block start k n)) class_is (subst (λ k. IsUnused (with_class m start class) (slab_block k c n)) same unused)).each })),
+            λ is. subst (λ k. IsUnused (with_class m start class) (slab_block k c n)) (sym same) (subst (λ k. IsUnused (with_class m start class) (slab_block start k n)) (sym class_is) (record { each = (iff.0 (subst (λ k. MayBeGiven mid k n) same is)).each })),
+            λ unused. subst (λ k. MayBeGiven mid k n) (sym same) (iff.1 (record { each = (subst (λ k. IsUnused (with_class m start class) (slab_block start k n)) class_is (subst (λ k. IsUnused (with_class m start class) (slab_block k c n)) same unused)).each })),
           ))
           (λ (differ : s ≢ start).
           let same = agree.unused s c n (sym (classes s ∙ with_key-other (class_in was.slabs) start s (Some class) differ) ∙ slab) within in (

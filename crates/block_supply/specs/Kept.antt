@@ -6,7 +6,7 @@ use Rattle.heap_model.specs.Placement.{Has, IsInNoStack, IsRefill, AreDistinct}
 use Rattle.slab_index.specs.declared.block.SlabBlock.{SlabBlock}
 use Rattle.slab_index.specs.SlabSet.{SlabSet, class_in, is_available, HasNoBlock}
 use Rattle.thread_cache.specs.Stacks.{StackTable, stacks_of, GaveTop, GaveFirst}
-use Rattle.block_supply.specs.Supply.{Supply, IsOpen, IsWithout, supply_view}
+use Rattle.block_supply.specs.Supply.{Supply, MayBeGiven, IsWithout, supply_view}
 
 -- the address is that of a block of the slab of the class at a start
 pub record IsBlockAt (set : SlabSet) (class at start number : ℕ) : Type 0 where
@@ -38,7 +38,7 @@ pub record IsKept (set : SlabSet) (table : StackTable) : Type 0 where
 pub record HasTaken (old : Supply) (class : ℕ) (block : SlabBlock) (new : Supply) : Type 0 where
   pub slab : class_in old.slabs block.start ≡ Some class
   pub within : block.number < class_capacity class
-  pub was_open : IsOpen old block.start block.number
+  pub was_open : MayBeGiven old block.start block.number
   pub without : IsWithout old new block.start block.number
 
 -- it was the top of the seat's stack

@@ -23,8 +23,8 @@ pub record IsStacked (supply : Supply) (start number : ℕ) : Type 0 where
   pub has : Has (stacks_of supply.stacks seat class) (slab_block start class number).at
 
 -- it may be given out
-abbrev pub IsOpen : Supply → ℕ → ℕ → Type 0
-IsOpen supply start number = (is_available supply.slabs start number ≡ true) ⊎ IsStacked supply start number
+abbrev pub MayBeGiven : Supply → ℕ → ℕ → Type 0
+MayBeGiven supply start number = (is_available supply.slabs start number ≡ true) ⊎ IsStacked supply start number
 
 -- slabs
 
@@ -47,16 +47,16 @@ pub record IsClearOf (supply : Supply) (start : ℕ) : Type 0 where
 pub record HasSlabMore (old new : Supply) (start class : ℕ) (Opens : ℕ → Type 0) : Type 0 where
   pub granules : new.slabs.granules ≡ old.slabs.granules
   pub classes : (s : ℕ) → class_in new.slabs s ≡ with_key (class_in old.slabs) start (Some class) s
-  pub here : (i : ℕ) → IsOpen new start i ↔ Opens i
+  pub here : (i : ℕ) → MayBeGiven new start i ↔ Opens i
   pub loose : (i : ℕ) → i < class_capacity class → IsInNoStack (stacks_of new.stacks) (slab_block start class i).at
-  pub others : (s i : ℕ) → s ≢ start → IsOpen new s i ↔ IsOpen old s i
+  pub others : (s i : ℕ) → s ≢ start → MayBeGiven new s i ↔ MayBeGiven old s i
   pub stacks : new.stacks ≡ old.stacks
 
 -- a slab went, with its blocks: they are in no stack any more, and the others are as before
 pub record HasSlabLess (old new : Supply) (start : ℕ) : Type 0 where
   pub granules : new.slabs.granules ≡ old.slabs.granules
   pub classes : (s : ℕ) → class_in new.slabs s ≡ with_key (class_in old.slabs) start None s
-  pub others : (s i : ℕ) → s ≢ start → IsOpen new s i ↔ IsOpen old s i
+  pub others : (s i : ℕ) → s ≢ start → MayBeGiven new s i ↔ MayBeGiven old s i
   pub stacks : stacks_of new.stacks ≡ without_slab (stacks_of old.stacks) start
 
 -- blocks
@@ -65,19 +65,19 @@ pub record HasSlabLess (old new : Supply) (start : ℕ) : Type 0 where
 pub record IsWithout (old new : Supply) (start number : ℕ) : Type 0 where
   pub granules : new.slabs.granules ≡ old.slabs.granules
   pub classes : (s : ℕ) → class_in new.slabs s ≡ class_in old.slabs s
-  pub gone : ¬ (IsOpen new start number)
-  pub others : (s i : ℕ) → (s ≢ start) ⊎ (i ≢ number) → IsOpen new s i ↔ IsOpen old s i
+  pub gone : ¬ (MayBeGiven new start number)
+  pub others : (s i : ℕ) → (s ≢ start) ⊎ (i ≢ number) → MayBeGiven new s i ↔ MayBeGiven old s i
 
 -- a block is open, and all other blocks are as before
 pub record IsWith (old new : Supply) (start number : ℕ) : Type 0 where
   pub granules : new.slabs.granules ≡ old.slabs.granules
   pub classes : (s : ℕ) → class_in new.slabs s ≡ class_in old.slabs s
-  pub here : IsOpen new start number
-  pub others : (s i : ℕ) → (s ≢ start) ⊎ (i ≢ number) → IsOpen new s i ↔ IsOpen old s i
+  pub here : MayBeGiven new start number
+  pub others : (s i : ℕ) → (s ≢ start) ⊎ (i ≢ number) → MayBeGiven new s i ↔ MayBeGiven old s i
 
 -- the slabs of a supply, and its open blocks
 abbrev pub supply_view : Supply → BlockView
-supply_view supply = record { slab = class_in supply.slabs; unused = λ s c number. IsOpen supply s number }
+supply_view supply = record { slab = class_in supply.slabs; unused = λ s c number. MayBeGiven supply s number }
 
 -- the address that a seat is given of a class, and the stacks after it, as the placement says where no slab takes the class
 -- or is made for it: the top of the seat's own stack, or of a refill, or of the stack of the lowest-numbered seat
@@ -91,7 +91,7 @@ IsServed v stacks seat class at after =
 pub record TookBlock (old : Supply) (seat class : ℕ) (block : SlabBlock) (new : Supply) : Type 0 where
   pub slab : class_in old.slabs block.start ≡ Some class
   pub within : block.number < class_capacity class
-  pub was_open : IsOpen old block.start block.number
+  pub was_open : MayBeGiven old block.start block.number
   pub without : IsWithout old new block.start block.number
   pub served : IsServed (supply_view old) (stacks_of old.stacks) seat class (slab_block block.start class block.number).at (stacks_of new.stacks)
 

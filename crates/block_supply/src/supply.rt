@@ -5,7 +5,7 @@ ghost use Rattle.heap_model.specs.Placement.{no_stacks, Has, addresses};
 ghost use Rattle.bit_words.specs.Numbers.{has as has_number};
 ghost use Rattle.slab_index.specs.SlabSet.{class_in, IsSlab, IsBlock};
 ghost use Rattle.thread_cache.specs.Stacks.{stacks_of};
-ghost use Rattle.block_supply.specs.Supply.{IsOpen, IsInSlabOf, IsInNoSlabOf, IsClearOf, HasSlabMore, HasSlabLess, IsWith, TookBlock, HadNoOpen, CameBack};
+ghost use Rattle.block_supply.specs.Supply.{MayBeGiven, IsInSlabOf, IsInNoSlabOf, IsClearOf, HasSlabMore, HasSlabLess, IsWith, TookBlock, HadNoOpen, CameBack};
 ghost use Rattle.block_supply.specs.Kept.{HadNoTop, TookTop, HadNoAvailable, TookLowest, HadNoStack, TookFirst};
 
 use crate::place::{address_of, block_at, note_slab, slab_with};
@@ -83,7 +83,7 @@ impl BlockSupply {
     /// Whether a block of a slab is open: available, or in a stack.
     pub fn is_open(&self, start: u32, number: u32) -> bool
         requires { IsBlock self.now.slabs start number }
-        ensures { (result ≡ true) ↔ IsOpen self.now start number }
+        ensures { (result ≡ true) ↔ MayBeGiven self.now start number }
     {
         match self.slabs.class_at(start) {
             Some(class) => {
@@ -117,7 +117,7 @@ impl BlockSupply {
     pub fn put_back(&mut self, seat: u32, block: SlabBlock)
         requires seat { seat < 64 }
         requires block { IsBlock self.old.slabs block.start block.number }
-        requires used { ¬ (IsOpen self.old block.start block.number) }
+        requires used { ¬ (MayBeGiven self.old block.start block.number) }
         ensures { (class : ℕ) → class_in self.old.slabs block.start ≡ Some class → CameBack self.old seat class block self.new }
     {
         if let Some(class) = self.slabs.class_at(block.start) {
@@ -131,7 +131,7 @@ impl BlockSupply {
     /// Makes a block of a slab available that is not open. All else stays.
     pub fn make_available(&mut self, start: u32, number: u32)
         requires block { IsBlock self.old.slabs start number }
-        requires used { ¬ (IsOpen self.old start number) }
+        requires used { ¬ (MayBeGiven self.old start number) }
         ensures block { IsWith self.old self.new start number }
         ensures stacks { self.new.stacks ≡ self.old.stacks }
     {

@@ -1,19 +1,9 @@
 -- An entry put at the next place of the log.
 use Rattle.std.proofs.Common.{◌≡◌, ◌≢◌, ◌<◌, ◌≤◌, ⊎_elim, ℕ, eqb, cond, Option, List, [], ◌∷◌, ◌++◌, length, get_or, refl, sym, ap, ◌∙◌, subst, arith, length-append}
-use Rattle.std.specs.List.{All, AllPairs}
-use Rattle.std.proofs.lemmas.Bool.{cases_eq, cases_lt, eq-eqb, ne_eqb, cond-true, cond-false}
-use Rattle.std.proofs.lemmas.List.Elements.{All-push}
+use Rattle.book_log.proofs.Common.{All, AllPairs, cases_eq, cases_lt, eq-eqb, ne_eqb, cond-true, cond-false, All-push, word_at, put_word, word_at-put_same, layout_of, directory_word, entry_slot, version_field, version_in, Extent, extent_at, extent_at-appended, extent_after-named, extent_after-other}
 use Rattle.std.proofs.Math.ListN.{get_or-append}
 use Rattle.std.proofs.Math.Seq.{get_or-append_seam}
-use Rattle.pmem_lines.specs.Words.{word_at, put_word}
-use Rattle.pmem_lines.proofs.Words.{word_at-put_same}
-use Rattle.pool_layout.specs.Layout.{layout_of}
-use Rattle.pool_layout.specs.Places.{directory_word, entry_word}
-use Rattle.pool_layout.specs.Header.{version_field, version_in}
-use Rattle.image_tables.specs.declared.extent.Extent.{Extent}
-use Rattle.image_tables.specs.Extents.{extent_at}
 use Rattle.image_tables.proofs.Logs.{IsFront, entry_store}
-use Rattle.image_tables.proofs.Extents.{extent_at-appended, extent_after-named, extent_after-other}
 use Rattle.book_log.specs.declared.entry.LogEntry.{LogEntry}
 use Rattle.book_log.specs.declared.entry.LogEntry.TheVariants.{Large, Slab, Tomb}
 use Rattle.book_log.specs.Entry.{log_word, IsEntryWord, SaysOf, start_of, extent_of}
@@ -38,7 +28,7 @@ front_holds P before chunk all k d below =
 pub record IsAppend (granules : ℕ) (words before : List ℕ) (chunk place : ℕ) : Type 0 where
   pub log : IsLog granules words (before ++ chunk ∷ [])
   pub next : IsNext (version_in words) words chunk place
-  pub inside : entry_word (version_in words) chunk place < length words
+  pub inside : entry_slot (version_in words) chunk place < length words
 
 -- the next place is the front of the log
 pub front_of : {granules : ℕ} {words before : List ℕ} {chunk place : ℕ} → IsAppend granules words before chunk place → IsFront words before chunk place
@@ -58,7 +48,7 @@ log_word-some (Tomb start) is = omega arith
 
 -- the live extents with the entry done
 pub extent_at-entry : (words before : List ℕ) (chunk place v : ℕ) (entry : LogEntry) (start : ℕ) → IsFront words before chunk place → v ≢ 0 → SaysOf v entry →
-    extent_at (put_word words (entry_word (version_in words) chunk place) v) start ≡ with_entry (extent_at words) entry start
+    extent_at (put_word words (entry_slot (version_in words) chunk place) v) start ≡ with_entry (extent_at words) entry start
 extent_at-entry words before chunk place v entry start front some says =
     extent_at-appended words before chunk place v start front some
     ∙ ⊎_elim
@@ -114,10 +104,10 @@ chunk_put version granules words new chunk place v entry is next valid here othe
 
 -- an append leaves the log well formed
 pub log_appended : (granules : ℕ) (words before : List ℕ) (chunk place v : ℕ) (entry : LogEntry) → IsAppend granules words before chunk place →
-    IsEntryWord (layout_of (version_in words)).first_granule granules v entry → IsLog granules (put_word words (entry_word (version_in words) chunk place) v) (before ++ chunk ∷ [])
+    IsEntryWord (layout_of (version_in words)).first_granule granules v entry → IsLog granules (put_word words (entry_slot (version_in words) chunk place) v) (before ++ chunk ∷ [])
 log_appended granules words before chunk place v entry append valid =
     let version = version_in words in
-    let k = entry_word version chunk place in
+    let k = entry_slot version chunk place in
     let new = put_word words k v in
     let stored = entry_store words chunk place v append.next.below in
     let is = append.log.entries in

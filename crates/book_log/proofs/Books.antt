@@ -1,13 +1,7 @@
 -- What a log reads stays where its words do.
 use Rattle.std.proofs.Common.{◌≡◌, ℕ, Option, Some, None, List, length, get_or, sym, ap, ◌∙◌, subst, arith}
-use Rattle.std.specs.List.{All}
-use Rattle.pmem_lines.specs.Words.{word_at, put_word}
-use Rattle.pmem_lines.proofs.Words.{length-put_word}
-use Rattle.pool_layout.specs.Places.{directory_word}
-use Rattle.pool_layout.specs.Header.{version_field, version_in}
-use Rattle.image_tables.specs.Log.{active_chunks}
+use Rattle.book_log.proofs.Common.{All, word_at, put_word, length-put_word, directory_word, version_field, version_in, active_chunks, extent_at-same}
 use Rattle.image_tables.proofs.Logs.{SameChunk, SameLog, IsOffLog, SameLog-elsewhere}
-use Rattle.image_tables.proofs.Extents.{extent_at-same}
 use Rattle.book_log.specs.declared.place.EntryPlace.{EntryPlace}
 use Rattle.book_log.specs.Log.{IsDirectory, IsChunk, IsLog, IsNext}
 use Rattle.book_log.specs.Book.{Book, Reads, HasLog, IsFull, IsNextOf, chunks_of, last_chunk}

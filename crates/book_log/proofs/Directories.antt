@@ -1,8 +1,6 @@
 -- A directory's word names the chunks that it was made of.
 use Rattle.std.proofs.Common.{◌≡◌, ◌<◌, ◌≤◌, ◌+◌, ◌-◌, ◌/◌, ◌%◌, ◌&&◌, ℕ, zero, suc, true, cond, leb, List, [], ◌∷◌, length, refl, ap, ◌∙◌, arith}
-use Rattle.std.specs.List.{All}
-use Rattle.std.proofs.lemmas.Bool.{lt-ltb, le-leb, cond-true}
-use Rattle.std.proofs.lemmas.List.Elements.{All-head, All-tail}
+use Rattle.book_log.proofs.Common.{All, lt-ltb, le-leb, cond-true, All-head, All-tail}
 use Rattle.image_tables.specs.Log.{most_chunks, is_chunk_byte, chunks_named, active_chunks}
 use Rattle.book_log.specs.Log.{directory_of, IsDirectory}
 

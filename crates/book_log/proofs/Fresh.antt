@@ -1,9 +1,6 @@
 -- The log of an arena that is made anew.
 use Rattle.std.proofs.Common.{◌≡◌, ◌<◌, ℕ, List, [], ◌∷◌, arith}
-use Rattle.std.proofs.lemmas.List.Elements.{All-nil, All-cons}
-use Rattle.pmem_lines.specs.Words.{word_at}
-use Rattle.pool_layout.specs.Places.{directory_word}
-use Rattle.pool_layout.specs.Header.{version_in}
+use Rattle.book_log.proofs.Common.{All-nil, All-cons, word_at, directory_word, version_in}
 use Rattle.book_log.specs.Log.{IsChunk, logged}
 use Rattle.book_log.specs.Book.{HasLog}
 use Rattle.book_log.proofs.Books.{HasLog-of}

@@ -1,18 +1,10 @@
 -- The entries of the live extents: each is valid, the log of them alone has the same live extents, and there are at
 -- most half as many as granules.
 use Rattle.std.proofs.Common.{◌≡◌, ◌≢◌, ◌/◌, ◌%◌, ◌^◌, ◌<◌, ⊎_elim, ℕ, zero, suc, cond, eqb, List, [], ◌∷◌, sym, ap, ◌∙◌, subst, arith, Option, Some, None, flat_map}
-use Rattle.std.specs.List.{All}
-use Rattle.std.proofs.lemmas.Bool.{cases_eq, eq-eqb, ne_eqb, cond-true, cond-false}
-use Rattle.std.proofs.lemmas.List.Elements.{All-nil, All-cons, All-head, All-tail, All-append}
-use Rattle.pmem_lines.specs.Words.{word_at}
-use Rattle.pool_layout.specs.Layout.{layout_of}
-use Rattle.pool_layout.specs.Places.{directory_word}
-use Rattle.pool_layout.specs.Header.{version_in}
-use Rattle.image_tables.specs.declared.extent.Extent.{Extent}
+use Rattle.book_log.proofs.Common.{All, cases_eq, eq-eqb, ne_eqb, cond-true, cond-false, All-nil, All-cons, All-head, All-tail, All-append, word_at, layout_of, directory_word, version_in, Extent, extent_after-named, extent_after-other}
 use Rattle.image_tables.specs.declared.extent.Extent.TheVariants as extent
 use Rattle.image_tables.specs.Log.{entry_or_none, entries_below, chunk_log, log_of}
 use Rattle.image_tables.specs.Extents.{start_of_entry, extent_after, extent_behind, extent_at}
-use Rattle.image_tables.proofs.Extents.{extent_after-named, extent_after-other}
 use Rattle.book_log.specs.declared.entry.LogEntry.{LogEntry}
 use Rattle.book_log.specs.declared.entry.LogEntry.TheVariants.{Large, Slab, Tomb}
 use Rattle.book_log.specs.Entry.{log_word, FitsWord, IsInHeap, SaysOf, start_of, extent_of, IsEntryWord}

@@ -1,16 +1,11 @@
 -- Where the chunks of a well-formed log lie among the words.
 use Rattle.std.proofs.Common.{◌≡◌, ◌<◌, ◌≤◌, ◌+◌, ◌-◌, ◌*◌, ◌/◌, ℕ, List, length, get_or, ap, arith, subst, sym, ◌∙◌}
 use Rattle.std.proofs.Math.Nat.{mul-le-mul_left}
-use Rattle.std.proofs.lemmas.List.{take_all}
-use Rattle.std.specs.List.{All}
+use Rattle.book_log.proofs.Common.{take_all, All, PmemState, words_of, IsPlace, layout_of, directory_word, chunk_word, entry_slot, heap_word, version_in}
 use Rattle.pmem_lines.specs.Words.{word_at, words_at}
-use Rattle.pmem_lines.specs.Pmem.{PmemState, words_of, IsPlace}
-use Rattle.pool_layout.specs.Layout.{layout_of}
-use Rattle.pool_layout.specs.Places.{directory_word, chunk_word, entry_word, heap_word}
-use Rattle.pool_layout.specs.Header.{version_in}
 use Rattle.pool_layout.proofs.Layouts.{layout_rules}
 use Rattle.image_tables.proofs.Chunks.{few_chunks}
-use Rattle.image_tables.proofs.Places.{entry_place-within, log_word-low}
+use Rattle.image_tables.proofs.Places.{entry_place-within, log_start-low}
 use Rattle.book_log.specs.Book.{HasLog, IsWithin, AreWithin, chunks_of, last_chunk}
 
 -- a word of so many has an address
@@ -31,8 +26,8 @@ pub lent_whole : (words lent : List ℕ) (n : ℕ) → lent ≡ words_at words 0
 lent_whole words lent n is all = is ∙ words_at-whole words n all
 
 -- an entry lies in its chunk
-pub entry_word-within : (version chunk entry : ℕ) → entry < (layout_of version).chunk_entries → entry_word version chunk entry < chunk_word version (chunk + 1)
-entry_word-within version chunk entry below = omega (arith, entry_place-within version entry below)
+pub entry_slot-within : (version chunk entry : ℕ) → entry < (layout_of version).chunk_entries → entry_slot version chunk entry < chunk_word version (chunk + 1)
+entry_slot-within version chunk entry below = omega (arith, entry_place-within version entry below)
 
 -- what holds of each active chunk holds of the last one
 pub of_last : (P : ℕ → Type 0) (words : List ℕ) → 1 ≤ length (chunks_of words) → All P (chunks_of words) → P (last_chunk words)
@@ -46,7 +41,7 @@ last_chunk-few words some = of_last (λ chunk. chunk < 16) words some (few_chunk
 pub header_within : (granules : ℕ) (words : List ℕ) → HasLog granules words → AreWithin words → 2048 < length words
 header_within granules words log inside =
     let version = version_in words in
-    omega (arith, of_last (IsWithin words) words log.directory.some inside, log_word-low version)
+    omega (arith, of_last (IsWithin words) words log.directory.some inside, log_start-low version)
 
 -- where the heap begins inside, each active chunk lies inside
 pub within_heap : (words : List ℕ) → heap_word (version_in words) ≤ length words → AreWithin words

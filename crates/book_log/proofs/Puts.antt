@@ -1,23 +1,15 @@
 -- An entry that is put at the next place of a log.
 use Rattle.std.proofs.Common.{◌≡◌, ◌≢◌, ◌<◌, ◌≤◌, ◌+◌, ◌-◌, ◌*◌, ◌/◌, ◌++◌, ⊎_elim, inl, inr, ℕ, Option, Some, None, List, [], ◌∷◌, length, take, refl, sym, ap, ◌∙◌, subst, arith}
-use Rattle.std.proofs.lemmas.Bool.{cases_eq}
-use Rattle.std.proofs.lemmas.List.{take_more, take_all}
-use Rattle.pmem_lines.specs.Words.{word_at, put_word}
-use Rattle.pmem_lines.proofs.Words.{word_at-put_same, word_at-put_other, length-put_word}
+use Rattle.book_log.proofs.Common.{cases_eq, take_more, take_all, word_at, put_word, word_at-put_same, word_at-put_other, length-put_word, layout_of, fields_word, directory_word, entry_slot, version_field, version_in, active_chunks, extent_at}
 use Rattle.durable_steps.specs.Steps.{IsOldOrNewWord}
-use Rattle.pool_layout.specs.Layout.{layout_of}
-use Rattle.pool_layout.specs.Places.{fields_word, directory_word, entry_word}
-use Rattle.pool_layout.specs.Header.{version_field, version_in}
-use Rattle.image_tables.specs.Log.{active_chunks}
-use Rattle.image_tables.specs.Extents.{extent_at}
-use Rattle.image_tables.proofs.Places.{log_word-low, entry_word-low, entry_word-high, entry_word-same}
+use Rattle.image_tables.proofs.Places.{log_start-low, entry_slot-low, entry_slot-high, entry_slot-same}
 use Rattle.book_log.specs.declared.entry.LogEntry.{LogEntry}
 use Rattle.book_log.specs.declared.entry.LogEntry.TheVariants.{Large, Slab, Tomb}
 use Rattle.book_log.specs.declared.place.EntryPlace.{EntryPlace}
 use Rattle.book_log.specs.Entry.{log_word, FitsWord, IsInHeap, IsEntryWord, SaysOf, start_of}
 use Rattle.book_log.specs.Log.{IsLog, IsChunk, IsNext, logged, with_entry}
 use Rattle.book_log.specs.Book.{HasLog, AreWithin, IsWithin, IsFull, IsNextOf, CanTake, IsPlaceAfter, IsEntryOrNot, IsInLog, chunks_of, last_chunk}
-use Rattle.book_log.proofs.Places.{of_last, last_chunk-few, entry_word-within, within_same, last_chunk-same}
+use Rattle.book_log.proofs.Places.{of_last, last_chunk-few, entry_slot-within, within_same, last_chunk-same}
 use Rattle.book_log.proofs.Appending.{IsAppend, front_of, log_word-some, extent_at-entry, log_appended}
 
 -- an entry in the heap of a small arena fits the word
@@ -60,29 +52,29 @@ append_of {granules} {words} {place} {entry} can = record {
   inside =
       let last = of_last (IsWithin words) words can.log.directory.some can.inside in
       let same : IsWithin words place.chunk = subst (IsWithin words) (sym can.next.0) last in
-      omega (arith, entry_word-within (version_in words) place.chunk place.entry can.next.1.below, same);
+      omega (arith, entry_slot-within (version_in words) place.chunk place.entry can.next.1.below, same);
 }
 
 -- the place lies in the log
 pub place_in_log : {granules : ℕ} {words : List ℕ} {place : EntryPlace} {entry : LogEntry} → CanTake granules words place entry →
-    IsInLog (version_in words) (entry_word (version_in words) place.chunk place.entry)
+    IsInLog (version_in words) (entry_slot (version_in words) place.chunk place.entry)
 place_in_log {granules} {words} {place} {entry} can =
     let few : place.chunk < 16 = subst (λ c. c < 16) (sym can.next.0) (last_chunk-few words can.log.directory.some) in
     record {
-      low = entry_word-low (version_in words) place.chunk place.entry;
-      high = entry_word-high (version_in words) place.chunk place.entry few can.next.1.below;
+      low = entry_slot-low (version_in words) place.chunk place.entry;
+      high = entry_slot-high (version_in words) place.chunk place.entry few can.next.1.below;
     }
 
 -- the words with the entry at its place
 abbrev pub put_entry_word : List ℕ → EntryPlace → LogEntry → List ℕ
-put_entry_word words place entry = put_word words (entry_word (version_in words) place.chunk place.entry) (log_word entry)
+put_entry_word words place entry = put_word words (entry_slot (version_in words) place.chunk place.entry) (log_word entry)
 
 -- header line
 other_word : (words : List ℕ) (place : EntryPlace) (entry : LogEntry) (i : ℕ) → i ≤ 2048 → word_at (put_entry_word words place entry) i ≡ word_at words i
 other_word words place entry i low =
     let version = version_in words in
-    let k = entry_word version place.chunk place.entry in
-    let apart : i ≢ k = λ e. omega (arith, e, entry_word-low version place.chunk place.entry, log_word-low version) in
+    let k = entry_slot version place.chunk place.entry in
+    let apart : i ≢ k = λ e. omega (arith, e, entry_slot-low version place.chunk place.entry, log_start-low version) in
     word_at-put_other words k i (log_word entry) apart
 
 pub version_put : (words : List ℕ) (place : EntryPlace) (entry : LogEntry) → version_in (put_entry_word words place entry) ≡ version_in words
@@ -100,7 +92,7 @@ log_put {granules} {words} {place} {entry} can =
 pub within_put : {granules : ℕ} {words : List ℕ} {place : EntryPlace} {entry : LogEntry} → CanTake granules words place entry → AreWithin (put_entry_word words place entry)
 within_put {granules} {words} {place} {entry} can =
     within_same words (put_entry_word words place entry) (version_put words place entry) (chunks_put words place entry)
-    (length-put_word words (entry_word (version_in words) place.chunk place.entry) (log_word entry)) can.inside
+    (length-put_word words (entry_slot (version_in words) place.chunk place.entry) (log_word entry)) can.inside
 
 pub extents_put : {granules : ℕ} {words : List ℕ} {place : EntryPlace} {entry : LogEntry} → CanTake granules words place entry → SaysOf (log_word entry) entry →
     (start : ℕ) → extent_at (put_entry_word words place entry) start ≡ with_entry (extent_at words) entry start
@@ -111,7 +103,7 @@ extents_put {granules} {words} {place} {entry} can says start =
 put_here : {granules : ℕ} {words : List ℕ} {place : EntryPlace} {entry : LogEntry} → CanTake granules words place entry →
     logged (version_in words) (put_entry_word words place entry) place.chunk place.entry ≡ log_word entry
 put_here {granules} {words} {place} {entry} can =
-    let k = entry_word (version_in words) place.chunk place.entry in
+    let k = entry_slot (version_in words) place.chunk place.entry in
     word_at-put_same words k k (log_word entry) refl (append_of can).inside
 
 put_there : {granules : ℕ} {words : List ℕ} {place : EntryPlace} {entry : LogEntry} (other : ℕ) → CanTake granules words place entry →
@@ -119,8 +111,8 @@ put_there : {granules : ℕ} {words : List ℕ} {place : EntryPlace} {entry : Lo
     logged (version_in words) (put_entry_word words place entry) place.chunk other ≡ logged (version_in words) words place.chunk other
 put_there {granules} {words} {place} {entry} other can below apart =
     let version = version_in words in
-    let k = entry_word version place.chunk place.entry in
-    word_at-put_other words k (entry_word version place.chunk other) (log_word entry) (λ same. apart (entry_word-same version place.chunk place.chunk other place.entry below can.next.1.below same).1)
+    let k = entry_slot version place.chunk place.entry in
+    word_at-put_other words k (entry_slot version place.chunk other) (log_word entry) (λ same. apart (entry_slot-same version place.chunk place.chunk other place.entry below can.next.1.below same).1)
 
 -- up to the place and with it the chunk has no 0
 put_some : {granules : ℕ} {words : List ℕ} {place : EntryPlace} {entry : LogEntry} (other : ℕ) → CanTake granules words place entry →
@@ -156,10 +148,10 @@ eight_of k = omega arith
 
 -- what a crash leaves of it
 pub crash_put : {granules : ℕ} {words : List ℕ} {place : EntryPlace} {entry : LogEntry} → CanTake granules words place entry → SaysOf (log_word entry) entry →
-    (image : List ℕ) → IsOldOrNewWord words (8 * entry_word (version_in words) place.chunk place.entry) (log_word entry) image →
-    IsEntryOrNot granules words (entry_word (version_in words) place.chunk place.entry) entry image
+    (image : List ℕ) → IsOldOrNewWord words (8 * entry_slot (version_in words) place.chunk place.entry) (log_word entry) image →
+    IsEntryOrNot granules words (entry_slot (version_in words) place.chunk place.entry) entry image
 crash_put {granules} {words} {place} {entry} can says image crash =
-    let k = entry_word (version_in words) place.chunk place.entry in
+    let k = entry_slot (version_in words) place.chunk place.entry in
     ⊎_elim
     (λ (old : image ≡ words). subst (IsEntryOrNot granules words k entry) (sym old) (record {
       is = inl refl;
@@ -178,7 +170,7 @@ crash_put {granules} {words} {place} {entry} can says image crash =
 
 -- what is stored, and where
 pub record IsPut (words : List ℕ) (place : EntryPlace) (entry : LogEntry) (at value : ℕ) : Type 0 where
-  pub at_is : at ≡ 8 * entry_word (version_in words) place.chunk place.entry
+  pub at_is : at ≡ 8 * entry_slot (version_in words) place.chunk place.entry
   pub value_is : value ≡ log_word entry
   pub says : SaysOf value entry
 
@@ -187,5 +179,5 @@ says_put {words} {place} {entry} {at} {value} put = subst (λ v. SaysOf v entry)
 
 pub words_put : {words : List ℕ} {place : EntryPlace} {entry : LogEntry} {at value : ℕ} → IsPut words place entry at value → put_word words (at / 8) value ≡ put_entry_word words place entry
 words_put {words} {place} {entry} {at} {value} put =
-    let k = entry_word (version_in words) place.chunk place.entry in
+    let k = entry_slot (version_in words) place.chunk place.entry in
     ap (λ a. put_word words (a / 8) value) put.at_is ∙ ap (λ i. put_word words i value) (eight_of k) ∙ ap (put_word words k) put.value_is

@@ -1,13 +1,10 @@
 -- What a pass over the log makes of a table of live extents.
 use Rattle.std.proofs.Common.{◌≡◌, ◌<◌, ◌≤◌, ◌+◌, ◌++◌, ℕ, List, [], ◌∷◌, length, get_or, take, None, Option, ap, ◌∙◌, add-one, append-nil, flat_map}
-use Rattle.std.proofs.lemmas.List.{take_more, take_all}
+use Rattle.book_log.proofs.Common.{take_more, take_all, Extent, version_in, extent_behind-append}
 use Rattle.std.proofs.lemmas.List.Concat.{flat_map-append}
-use Rattle.image_tables.specs.declared.extent.Extent.{Extent}
-use Rattle.pool_layout.specs.Header.{version_in}
 use Rattle.image_tables.specs.Log.{entry_or_none, entries_below, chunk_log, log_of}
 use Rattle.image_tables.specs.Extents.{extent_behind, extent_at}
 use Rattle.book_log.specs.Book.{chunks_of}
-use Rattle.image_tables.proofs.Extents.{extent_behind-append}
 
 -- one word more of a row
 pub behind_row : (row : ℕ → ℕ) (n start : ℕ) (before : Option Extent) →

@@ -5,7 +5,7 @@ use Rattle.pmem_lines.specs.Words.{word_at, put_word}
 use Rattle.pmem_lines.specs.declared.event.Event.{Event}
 use Rattle.durable_steps.specs.Steps.{word_events}
 use Rattle.pool_layout.specs.Layout.{layout_of}
-use Rattle.pool_layout.specs.Places.{directory_word, log_word as log_begin, chunk_word, entry_word, heap_word}
+use Rattle.pool_layout.specs.Places.{directory_word, log_start, chunk_word, entry_slot, heap_word}
 use Rattle.pool_layout.specs.Header.{version_in}
 use Rattle.image_tables.specs.declared.extent.Extent.{Extent}
 use Rattle.image_tables.specs.Log.{active_chunks}
@@ -85,7 +85,7 @@ pub record Reads (book : Book) (words : List ℕ) : Type 0 where
 -- the word of a place, if there is one
 abbrev pub place_word : ℕ → Option EntryPlace → ℕ
 place_word version None = 0
-place_word version (Some place) = entry_word version place.chunk place.entry
+place_word version (Some place) = entry_slot version place.chunk place.entry
 
 -- the word that the next entry goes to, where there is room
 abbrev pub next_word : Book → List ℕ → ℕ
@@ -93,7 +93,7 @@ next_word book words = place_word (version_in words) book.next
 
 -- a word of the log's chunks
 pub record IsInLog (version word : ℕ) : Type 0 where
-  pub low : log_begin version < word
+  pub low : log_start version < word
   pub high : word < heap_word version
 
 -- an entry is put there and made durable

@@ -3,7 +3,7 @@ use Rattle.std.specs.Prelude.{◌≡◌, ◌≢◌, ◌==◌, ℕ, ◌+◌, ◌*
 use Rattle.std.specs.List.{All, AllPairs}
 use Rattle.pmem_lines.specs.Words.{word_at}
 use Rattle.pool_layout.specs.Layout.{layout_of}
-use Rattle.pool_layout.specs.Places.{directory_word, entry_word}
+use Rattle.pool_layout.specs.Places.{directory_word, entry_slot}
 use Rattle.pool_layout.specs.Header.{version_in}
 use Rattle.image_tables.specs.declared.extent.Extent.{Extent}
 use Rattle.book_log.specs.declared.entry.LogEntry.{LogEntry}
@@ -24,7 +24,7 @@ pub record IsDirectory (directory : ℕ) (chunks : List ℕ) : Type 0 where
 
 -- the word of an entry of a chunk
 abbrev pub logged : ℕ → List ℕ → ℕ → ℕ → ℕ
-logged version words chunk place = word_at words (entry_word version chunk place)
+logged version words chunk place = word_at words (entry_slot version chunk place)
 
 -- each word of the chunk is 0 or an entry in the heap, and no entry follows a 0
 pub record IsChunk (version granules : ℕ) (words : List ℕ) (chunk : ℕ) : Type 0 where

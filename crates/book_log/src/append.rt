@@ -7,7 +7,7 @@ ghost use Rattle.pmem_lines.specs.Steps.{IsQuietStep};
 ghost use Rattle.pmem_lines.specs.Pmem.{words_of, HasRoom};
 ghost use Rattle.durable_steps.specs.Steps.{word_events};
 ghost use Rattle.pool_layout.specs.Layout.{layout_of};
-ghost use Rattle.pool_layout.specs.Places.{entry_word};
+ghost use Rattle.pool_layout.specs.Places.{entry_slot};
 ghost use Rattle.pool_layout.specs.Header.{version_in};
 ghost use Rattle.image_tables.specs.Extents.{extent_at};
 ghost use Rattle.book_log.specs.Entry.{log_word};
@@ -50,9 +50,9 @@ pub(crate) fn append_at<P: Pmem>(
     requires live { (start : ℕ) → extent_in live.old start ≡ extent_at (words_of (P.state device.old)) start }
     requires quiet { IsQuiet (P.state device.old).events }
     requires room { HasRoom (P.state device.old) 3 }
-    ensures step { IsQuietStep (P.state device.old) (P.state device.new) (word_events (8 * entry_word (version_in (words_of (P.state device.old))) place.chunk place.entry) (log_word entry)) (IsEntryOrNot (length live.old) (words_of (P.state device.old)) (entry_word (version_in (words_of (P.state device.old))) place.chunk place.entry) entry) }
-    ensures words { words_of (P.state device.new) ≡ put_word (words_of (P.state device.old)) (entry_word (version_in (words_of (P.state device.old))) place.chunk place.entry) (log_word entry) }
-    ensures place { IsInLog (version_in (words_of (P.state device.old))) (entry_word (version_in (words_of (P.state device.old))) place.chunk place.entry) }
+    ensures step { IsQuietStep (P.state device.old) (P.state device.new) (word_events (8 * entry_slot (version_in (words_of (P.state device.old))) place.chunk place.entry) (log_word entry)) (IsEntryOrNot (length live.old) (words_of (P.state device.old)) (entry_slot (version_in (words_of (P.state device.old))) place.chunk place.entry) entry) }
+    ensures words { words_of (P.state device.new) ≡ put_word (words_of (P.state device.old)) (entry_slot (version_in (words_of (P.state device.old))) place.chunk place.entry) (log_word entry) }
+    ensures place { IsInLog (version_in (words_of (P.state device.old))) (entry_slot (version_in (words_of (P.state device.old))) place.chunk place.entry) }
     ensures version { version_in (words_of (P.state device.new)) ≡ version_in (words_of (P.state device.old)) }
     ensures chunks { chunks_of (words_of (P.state device.new)) ≡ chunks_of (words_of (P.state device.old)) }
     ensures extents { (start : ℕ) → extent_at (words_of (P.state device.new)) start ≡ with_entry (extent_at (words_of (P.state device.old))) entry start }

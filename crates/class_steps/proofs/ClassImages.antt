@@ -1,7 +1,7 @@
 -- A slab of an exact image takes another class: the images.
 use Rattle.std.proofs.Common.{◌≡◌, ℕ, ◌<◌, true, List, length, sym, ap, ◌∙◌, subst, arith, ⊎_elim}
 use Rattle.std.proofs.lemmas.Bool.{lt-ltb, or_left}
-use Rattle.image_tables.specs.Tables.{Tables, is_slab, AreSlabsInHeap, tables_of}
+use Rattle.image_tables.specs.Tables.{Tables, is_slab, AreSlabsInHeap, tables_of, SlabHeader}
 use Rattle.heap_model.specs.Machine.{Bounds}
 use Rattle.size_classes.specs.Classes.{class_capacity}
 use Rattle.heap_check.specs.Heap.{entry_at, heap, HoldsBit, HoldsOld}
@@ -12,11 +12,12 @@ use Rattle.heap_check.proofs.SmallPlaces.{Holds-claim}
 use Rattle.slab_morph.specs.Fitness.{IsFitHeader}
 use Rattle.slab_morph.proofs.Numbers.{numbers_among}
 use Rattle.slab_morph.proofs.TableFits.{IsFit-slab}
-use Rattle.slab_morph.specs.SlabHeaders.{SlabHeader, header_at, header_of, put_header}
+use Rattle.slab_morph.specs.SlabHeaders.{header_at}
 use Rattle.slab_morph.specs.Stages.{morphed, set_numbers, IsMorphStage, IsMorphable, AllHoldSame, KeepsHeld, IsValidHeader}
 use Rattle.transition_steps.proofs.HeaderImages.{lies_here, slabs_here, is_valid_here, header_here, formed_after, bounds_after, blocks_after}
 use Rattle.class_steps.specs.Classes.{IsReadyFor, LeavesClosed, IsOfClass}
 use Rattle.class_steps.proofs.ClassTables.{steady_taking, heap_taking, exact_taking}
+use Rattle.image_tables.specs.Updates.{put_header}
 
 module _ (words : List ℕ) (start class : ℕ) (may : IsReadyFor words start class) where
   abbrev t : Tables
@@ -31,18 +32,18 @@ module _ (words : List ℕ) (start class : ℕ) (may : IsReadyFor words start cl
   is_here : is_slab words start ≡ true
   is_here = (lies_here words start may.image.formed exact.sound may.slab).here
 
-  pub header_is : header_of (tables_of words) start ≡ header_at words start
+  pub header_is : ((tables_of words).header start) ≡ header_at words start
   header_is = header_here words start may.image.formed exact.sound may.slab
 
   -- it holds a block, since some root's lies in it
-  some_set : 0 < length (set_numbers (header_of t start))
+  some_set : 0 < length (set_numbers (t.header start))
   some_set =
       let rooted = exact.all_live start may.slab in
       let unnamed : entry_at t.open_entry rooted.0 ≡ 0 = ap (λ e. entry_at e rooted.0) exact.closed in
       let holds = Holds-claim exact.sound rooted.0 start _ unnamed (IsClaim-word t rooted.0 unnamed rooted.1) rooted.2 in
       ⊎_elim
-      (λ (bit : HoldsBit t start (record { at = t.root rooted.0; size = plain_size t (t.root rooted.0) })). omega (arith, (numbers_among (t.bit start) (class_capacity (t.class start)) bit.number bit.set bit.below).below))
-      (λ (old : HoldsOld t start (record { at = t.root rooted.0; size = plain_size t (t.root rooted.0) })).
+      (λ (bit : HoldsBit (t.header start) start (record { at = t.root rooted.0; size = plain_size t (t.root rooted.0) })). omega (arith, (numbers_among (t.header start).bit (class_capacity (t.header start).class) bit.number bit.set bit.below).below))
+      (λ (old : HoldsOld (t.header start) start (record { at = t.root rooted.0; size = plain_size t (t.root rooted.0) })).
       let none = ((exact.sound.slabs start may.slab).state.none may.normal).1 in
       absurd (omega (arith, old.below, none)))
       holds.block

@@ -13,7 +13,7 @@ use Rattle.slab_morph.specs.Fitness.{held_view, held_count}
 use Rattle.class_steps.specs.Classes.{IsReadyFor, IsFitIn}
 use Rattle.class_steps.proofs.HeldCounts.{held_live}
 
-module _ (words : List ℕ) (image : IsExactImage words) (start class : ℕ) (slab : (tables_of words).slab start ≡ true) (normal : (tables_of words).kind start ≡ normal_kind) where
+module _ (words : List ℕ) (image : IsExactImage words) (start class : ℕ) (slab : (tables_of words).slab start ≡ true) (normal : ((tables_of words).header start).kind ≡ normal_kind) where
   abbrev t : Tables
   t = tables_of words
 
@@ -22,11 +22,11 @@ module _ (words : List ℕ) (image : IsExactImage words) (start class : ℕ) (sl
 
   pub fit_held : IsFitIn words start class → IsFit (held_view t) class start
   fit_held fit = record {
-    class = t.class start;
-    slab = cond-true (t.slab start) (Some (t.class start)) None slab;
-    calm = λ moving. ⊎_elim
-        (λ (bit : HoldsBit t start moving.range). moving.other (ap (λ (x : Range). x.size) bit.is))
-        (λ (old : HoldsOld t start moving.range). let none = ((image.exact.sound.slabs start slab).state.none normal).1 in omega (arith, old.below, none))
+    class = (t.header start).class;
+    slab = cond-true (t.slab start) (Some (t.header start).class) None slab;
+    no_transition = λ moving. ⊎_elim
+        (λ (bit : HoldsBit (t.header start) start moving.range). moving.other (ap (λ (x : Range). x.size) bit.is))
+        (λ (old : HoldsOld (t.header start) start moving.range). let none = ((image.exact.sound.slabs start slab).state.none normal).1 in omega (arith, old.below, none))
         moving.holds.block;
     differs = fit.differs;
     few = omega (arith, few, fit.few);

@@ -87,9 +87,9 @@ named_count named block s count once begins (suc n) =
         (λ (no : named n i ≡ false). absurd (true≢false (sym passes ∙ ap (λ b. b || was i) no ∙ alone)))
         (cases_Bool (named n i))
 
-module _ {b : Bounds} {t : Tables} (exact : IsExact b t) (past : (root : ℕ) → b.roots ≤ root → t.root root ≡ 0) (start : ℕ) (slab : t.slab start ≡ true) (normal : t.kind start ≡ normal_kind) where
+module _ {b : Bounds} {t : Tables} (exact : IsExact b t) (past : (root : ℕ) → b.roots ≤ root → t.root root ≡ 0) (start : ℕ) (slab : t.slab start ≡ true) (normal : (t.header start).kind ≡ normal_kind) where
   abbrev class : ℕ
-  class = t.class start
+  class = (t.header start).class
 
   abbrev block : ℕ → Range
   block number = slab_block start class number
@@ -116,11 +116,11 @@ module _ {b : Bounds} {t : Tables} (exact : IsExact b t) (past : (root : ℕ) �
       ∙ begins_in-here start (record { at = t.root root; size = size_at t root (t.root root) }) (omega (arith, inside.low, here)) (omega (arith, inside.high, wide, here))
 
   -- a block whose bit is set is some root's
-  owned : (number : ℕ) → number < class_capacity class → t.bit start number ≡ true → any_below (λ root. named root number) b.roots ≡ true
+  owned : (number : ℕ) → number < class_capacity class → (t.header start).bit number ≡ true → any_below (λ root. named root number) b.roots ≡ true
   owned number below set =
-      let read : t.kind start ≢ morphing_kind = λ morphing. omega (arith, normal, morphing) in
+      let read : (t.header start).kind ≢ morphing_kind = λ morphing. omega (arith, normal, morphing) in
       let holds : Holds t start (block number) = record { slab = slab; block = inl (record { number = number; below = below; read = read; set = set; is = refl }) } in
-      let owner = exact.sound.claimed start (block number) holds in
+      let owner = exact.sound.owned.claimed start (block number) holds in
       let its = IsNamed-claim t owner.0 (block number) (ap (λ e. entry_at e owner.0) exact.closed) owner.1 in
       let rooted : owner.0 < b.roots = ⊎_elim (λ less. less) (λ beyond. absurd (its.some (sym its.word ∙ past owner.0 beyond))) (cases_lt owner.0 b.roots) in
       any_below-true (λ root. named root number) b.roots owner.0 rooted (eq-eqb (t.root owner.0) (block number).at its.word)
@@ -129,14 +129,14 @@ module _ {b : Bounds} {t : Tables} (exact : IsExact b t) (past : (root : ℕ) �
   by_bits : held_count t start ≤ length (held_numbers t start)
   by_bits =
       let none = ((exact.sound.slabs start slab).state.none normal).1 in
-      let old : length (numbers_below (t.live start) (t.index_count start)) ≡ 0 = ap (λ n. length (numbers_below (t.live start) n)) none in
+      let old : length (numbers_below (t.header start).live (t.header start).index_count) ≡ 0 = ap (λ n. length (numbers_below (t.header start).live n)) none in
       ⊎_elim
-      (λ is. let count = cond-true (t.kind start == morphing_kind) 0 (length (held_numbers t start)) is in omega (arith, count, old))
-      (λ no. let count = cond-false (t.kind start == morphing_kind) 0 (length (held_numbers t start)) no in omega (arith, count, old))
-      (cases_Bool (t.kind start == morphing_kind))
+      (λ is. let count = cond-true ((t.header start).kind == morphing_kind) 0 (length (held_numbers t start)) is in omega (arith, count, old))
+      (λ no. let count = cond-false ((t.header start).kind == morphing_kind) 0 (length (held_numbers t start)) no in omega (arith, count, old))
+      (cases_Bool ((t.header start).kind == morphing_kind))
 
   pub held_live : held_count t start ≤ live_below (heap t) start b.roots
   held_live =
-      let bits : length (held_numbers t start) ≤ length (numbers_below (λ number. any_below (λ root. named root number) b.roots) (class_capacity class)) = count_within (t.bit start) (λ number. any_below (λ root. named root number) b.roots) (class_capacity class) owned in
+      let bits : length (held_numbers t start) ≤ length (numbers_below (λ number. any_below (λ root. named root number) b.roots) (class_capacity class)) = count_within (t.header start).bit (λ number. any_below (λ root. named root number) b.roots) (class_capacity class) owned in
       let roots : length (numbers_below (λ number. any_below (λ root. named root number) b.roots) (class_capacity class)) ≤ live_below (heap t) start b.roots = named_count named (heap t) start (class_capacity class) once begins b.roots in
       omega (arith, by_bits, bits, roots)

@@ -1,4 +1,3 @@
-pub mod DressedTables
 pub mod ClassTables
 pub mod ClassImages
 pub mod HeldCounts

@@ -15,7 +15,7 @@ use slab_morph::fit;
 pub fn is_ready<P: Pmem>(p: &P, start: u32, class: u8) -> bool
     requires image { IsExactImage (words_of (P.state p.now)) }
     requires slab { (tables_of (words_of (P.state p.now))).slab start ≡ true }
-    requires normal { (tables_of (words_of (P.state p.now))).kind start ≡ normal_kind }
+    requires normal { ((tables_of (words_of (P.state p.now))).header start).kind ≡ normal_kind }
     requires class { class < 36 }
     ensures ready { result ≡ true → IsReadyFor (words_of (P.state p.now)) start class }
     ensures unfit { result ≡ false → ¬ (IsFitIn (words_of (P.state p.now)) start class) }

@@ -5,7 +5,6 @@ ghost use Rattle.pmem_lines.specs.Steps.{IsQuietStep};
 ghost use Rattle.pmem_lines.specs.Pmem.{words_of, HasRoom};
 ghost use Rattle.image_tables.specs.Tables.{tables_of};
 ghost use Rattle.slab_header.specs.Morph.{morph_events};
-ghost use Rattle.slab_morph.specs.SlabHeaders.{header_of};
 ghost use Rattle.slab_morph.specs.Stages.{morph_count};
 ghost use Rattle.class_steps.specs.Classes.{IsReadyFor, LeavesClosed, IsOfClass};
 
@@ -20,9 +19,9 @@ pub fn take_class<P: Pmem>(p: &mut P, start: u32, class: u8)
     requires ready { IsReadyFor (words_of (P.state p.old)) start class }
     requires class { class < 36 }
     requires quiet { IsQuiet (P.state p.old).events }
-    requires room { HasRoom (P.state p.old) (morph_count (header_of (tables_of (words_of (P.state p.old))) start)) }
+    requires room { HasRoom (P.state p.old) (morph_count ((tables_of (words_of (P.state p.old))).header start)) }
     ensures step { IsQuietStep (P.state p.old) (P.state p.new) (morph_events (tables_of (words_of (P.state p.old))) start class) (LeavesClosed (words_of (P.state p.old))) }
-    ensures count { length (P.state p.new).events ≡ length (P.state p.old).events + morph_count (header_of (tables_of (words_of (P.state p.old))) start) }
+    ensures count { length (P.state p.new).events ≡ length (P.state p.old).events + morph_count ((tables_of (words_of (P.state p.old))).header start) }
     ensures taken { IsOfClass (words_of (P.state p.old)) start class (words_of (P.state p.new)) }
 {
     morph(p, granule_at(start), class);

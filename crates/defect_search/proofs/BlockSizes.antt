@@ -1,11 +1,7 @@
 -- Sizes of blocks by their addresses.
 use Rattle.std.proofs.Common.{◌≡◌, ◌≢◌, ◌↔◌, ◌&&◌, ◌==◌, ℕ, ◌-◌, ◌*◌, ◌/◌, ◌≤◌, Bool, true, false, cond, ltb, List, refl, sym, ap, subst, ◌∙◌, arith, IsTrue}
-use Rattle.std.proofs.lemmas.Bool.{false≢true, cond-true, cond-false, eq-eqb, eqb-true, ne_eqb, lt-ltb, and_parts, and_from, false_from_ne_true}
-use Rattle.size_classes.specs.Classes.{class_size}
-use Rattle.image_tables.specs.Tables.{Tables, is_slab, state_field, tables_of}
-use Rattle.image_tables.proofs.Tables.{slab_table, slab_fields}
+use Rattle.defect_search.proofs.Common.{false≢true, cond-true, cond-false, eq-eqb, eqb-true, ne_eqb, lt-ltb, and_parts, and_from, false_from_ne_true, class_size, Tables, is_slab, state_field, tables_of, slab_table, slab_fields, slab_block}
 use Rattle.heap_model.proofs.Below.{any_below-true, any_below-some}
-use Rattle.heap_model.specs.Machine.{slab_block}
 use Rattle.heap_check.specs.Heap.{slab_of, is_old_of, is_old, is_large, entry_at, entry_old, size_by, size_at}
 use Rattle.image_reading.specs.Held.{HasOldAt, AreSlabsAt}
 
@@ -36,13 +32,13 @@ slab_read words {k} {at} same here is = ap (tables_of words).slab (sym same) ∙
 field_none : (words : List ℕ) (start bits : ℕ) → is_slab words start ≡ false → state_field words start bits ≡ 0
 field_none words start bits none = cond-false (is_slab words start) _ 0 none
 
-pub class_none : (words : List ℕ) (start : ℕ) → is_slab words start ≡ false → (tables_of words).class start ≡ 0
+pub class_none : (words : List ℕ) (start : ℕ) → is_slab words start ≡ false → ((tables_of words).header start).class ≡ 0
 class_none words start none = (slab_fields words start).class ∙ field_none words start 8 none
 
-pub old_table-none : (words : List ℕ) (start : ℕ) → is_slab words start ≡ false → (tables_of words).old start ≡ 0
+pub old_table-none : (words : List ℕ) (start : ℕ) → is_slab words start ≡ false → ((tables_of words).header start).old ≡ 0
 old_table-none words start none = (slab_fields words start).old ∙ field_none words start 16 none
 
-pub index_count_none : (words : List ℕ) (start : ℕ) → is_slab words start ≡ false → (tables_of words).index_count start ≡ 0
+pub index_count_none : (words : List ℕ) (start : ℕ) → is_slab words start ≡ false → ((tables_of words).header start).index_count ≡ 0
 index_count_none words start none = (slab_fields words start).index_count ∙ field_none words start 24 none
 
 -- no slab begins that far
@@ -55,7 +51,7 @@ slab_of-far words k slabs far =
     let last : slab_of (tables_of words).slab k ≡ k - 3 = slab_of-last (tables_of words).slab k (none k (omega arith)) (none (k - 1) (omega arith)) (none (k - 2) (omega arith)) in
     subst (λ s. is_slab words s ≡ false) (sym last) (slab_none words (k - 3) slabs (omega arith))
 
-pub size_by-class : (t : Tables) (at class : ℕ) (of_old : Bool) → cond of_old (t.old (slab_of t.slab (at / 16384))) (t.class (slab_of t.slab (at / 16384))) ≡ class → size_by t at of_old ≡ class_size class
+pub size_by-class : (t : Tables) (at class : ℕ) (of_old : Bool) → cond of_old ((t.header (slab_of t.slab (at / 16384))).old) ((t.header (slab_of t.slab (at / 16384))).class) ≡ class → size_by t at of_old ≡ class_size class
 size_by-class t at class of_old is = ap class_size is
 
 pub size_by-far : (words : List ℕ) (at : ℕ) (of_old : Bool) → AreSlabsAt words → 65536 ≤ at / 16384 → size_by (tables_of words) at of_old ≡ class_size 0
@@ -63,7 +59,7 @@ size_by-far words at of_old slabs far =
     let t = tables_of words in
     let start = slab_of t.slab (at / 16384) in
     let none = slab_of-far words (at / 16384) slabs far in
-    let by : (b : Bool) → cond b (t.old start) (t.class start) ≡ 0 = λ b. elim b as (λ b. cond b (t.old start) (t.class start) ≡ 0) [
+    let by : (b : Bool) → cond b (t.header start).old (t.header start).class ≡ 0 = λ b. elim b as (λ b. cond b (t.header start).old (t.header start).class ≡ 0) [
       | true ↦ old_table-none words start none
       | false ↦ class_none words start none
     ] in
@@ -71,23 +67,23 @@ size_by-far words at of_old slabs far =
 
 -- old blocks
 
-pub old_there : (t : Tables) (start at : ℕ) → HasOldAt t start at ↔ (is_old t start at ≡ true)
+pub old_there : (t : Tables) (start at : ℕ) → HasOldAt t start at ↔ (is_old (t.header start) start at ≡ true)
 unfolding is_old_of
 old_there t start at =
-    let test : ℕ → Bool = λ place. t.live start place && ((slab_block start (t.old start) (t.number start place)).at == at) in (
-      λ has. any_below-true test (t.index_count start) has.place has.below (and_from _ _ has.live (eq-eqb _ _ (sym has.is))),
+    let test : ℕ → Bool = λ place. (t.header start).live place && ((slab_block start (t.header start).old ((t.header start).number place)).at == at) in (
+      λ has. any_below-true test (t.header start).index_count has.place has.below (and_from _ _ has.live (eq-eqb _ _ (sym has.is))),
       λ is.
-          let found = any_below-some test (t.index_count start) is in
-          let parts = and_parts (t.live start found.0) ((slab_block start (t.old start) (t.number start found.0)).at == at) found.2 in
-          record { place = found.0; below = found.1; live = parts.0; is = sym (eqb-true (slab_block start (t.old start) (t.number start found.0)).at at parts.1) },
+          let found = any_below-some test (t.header start).index_count is in
+          let parts = and_parts ((t.header start).live found.0) ((slab_block start (t.header start).old ((t.header start).number found.0)).at == at) found.2 in
+          record { place = found.0; below = found.1; live = parts.0; is = sym (eqb-true (slab_block start (t.header start).old ((t.header start).number found.0)).at at parts.1) },
     )
 
-pub old_by : (t : Tables) (start at : ℕ) (has : Bool) → (IsTrue has ↔ HasOldAt t start at) → has ≡ is_old t start at
+pub old_by : (t : Tables) (start at : ℕ) (has : Bool) → (IsTrue has ↔ HasOldAt t start at) → has ≡ is_old (t.header start) start at
 old_by t start at true says = sym ((old_there t start at).0 (says.0 refl))
-old_by t start at false says = sym (false_from_ne_true (is_old t start at) (λ is. false≢true (says.1 ((old_there t start at).1 is))))
+old_by t start at false says = sym (false_from_ne_true (is_old (t.header start) start at) (λ is. false≢true (says.1 ((old_there t start at).1 is))))
 
-pub no_old : (t : Tables) (start at : ℕ) → t.index_count start ≡ 0 → false ≡ is_old t start at
-no_old t start at none = sym (false_from_ne_true (is_old t start at) (λ is. let has = (old_there t start at).1 is in omega (arith, has.below, none)))
+pub no_old : (t : Tables) (start at : ℕ) → (t.header start).index_count ≡ 0 → false ≡ is_old (t.header start) start at
+no_old t start at none = sym (false_from_ne_true (is_old (t.header start) start at) (λ is. let has = (old_there t start at).1 is in omega (arith, has.below, none)))
 
 -- the size of a root's block
 
@@ -98,6 +94,6 @@ pub size_at-entry : (t : Tables) (root at : ℕ) → is_large t.large at ≡ fal
 size_at-entry t root at none named some =
     cond-false (is_large t.large at) _ _ none ∙ cond-true ((entry_at t.open_entry root == at) && ltb 0 at) _ _ (and_from _ _ (eq-eqb (entry_at t.open_entry root) at named) (lt-ltb 0 at (omega (arith, some))))
 
-pub size_at-other : (t : Tables) (root at : ℕ) → is_large t.large at ≡ false → entry_at t.open_entry root ≢ at → size_at t root at ≡ size_by t at (is_old t (slab_of t.slab (at / 16384)) at)
+pub size_at-other : (t : Tables) (root at : ℕ) → is_large t.large at ≡ false → entry_at t.open_entry root ≢ at → size_at t root at ≡ size_by t at (is_old (t.header (slab_of t.slab (at / 16384))) (slab_of t.slab (at / 16384)) at)
 size_at-other t root at none other =
-    cond-false (is_large t.large at) _ _ none ∙ ap (λ b. cond (b && ltb 0 at) (size_by t at (entry_old t.open_entry)) (size_by t at (is_old t (slab_of t.slab (at / 16384)) at))) (ne_eqb (entry_at t.open_entry root) at other)
+    cond-false (is_large t.large at) _ _ none ∙ ap (λ b. cond (b && ltb 0 at) (size_by t at (entry_old t.open_entry)) (size_by t at (is_old (t.header (slab_of t.slab (at / 16384))) (slab_of t.slab (at / 16384)) at))) (ne_eqb (entry_at t.open_entry root) at other)

@@ -1,15 +1,8 @@
 -- The blocks of the roots, by address.
 use Rattle.std.proofs.Common.{◌≡◌, ◌≢◌, ◌⊎◌, ℕ, zero, suc, ◌<◌, ◌≤◌, List, length, sym, ap, subst, ◌∙◌, arith, inl, inr, ⊎_elim}
-use Rattle.std.proofs.lemmas.Bool.{cases_eq}
-use Rattle.std.specs.List.{Contains}
-use Rattle.std.proofs.lemmas.List.{get_or_default}
-use Rattle.std.proofs.lemmas.List.Sorted.{Contains-permutation, IsPermutation-sym}
-use Rattle.image_tables.specs.Tables.{Tables}
-use Rattle.heap_model.specs.Machine.{Range}
-use Rattle.heap_check.specs.Heap.{IsClaim}
+use Rattle.defect_search.proofs.Common.{cases_eq, Contains, get_or_default, Contains-permutation, IsPermutation-sym, Tables, Range, IsClaim, IsRooted}
 use Rattle.defect_search.specs.declared.claim.Claim.{Claim}
 use Rattle.defect_search.specs.Claims.{no_claim, claim_in, range_of, AreClaims, IsByAddress, HasBlock, AreBlocks}
-use Rattle.image_defects.specs.Blocks.{IsRooted}
 use Rattle.defect_search.proofs.Pairs.{at_address}
 
 pub AreBlocks-sorted : (t : Tables) (claims sorted : List Claim) → IsByAddress claims sorted → AreClaims t claims → AreBlocks t sorted

@@ -1,12 +1,7 @@
 -- The words of a chunk, one after another.
 use Rattle.std.proofs.Common.{◌≡◌, ◌≢◌, ℕ, ◌+◌, ◌<◌, ◌≤◌, Bool, true, false, true≢false, List, arith, inl, inr, ⊎_elim, sym, ap, subst, ◌∙◌, refl}
-use Rattle.std.proofs.lemmas.Bool.{cases_eq, cases_lt, false≢true}
-use Rattle.pool_layout.specs.Layout.{layout_of}
-use Rattle.pool_layout.specs.Header.{version_in, granules_in}
+use Rattle.defect_search.proofs.Common.{cases_eq, cases_lt, false≢true, layout_of, version_in, granules_in, IsChunk, logged, HasNone, IsLeast, HasEntry, IsBadLogWord}
 use Rattle.book_log.specs.Entry.{IsEntryWord, IsNoEntryWord}
-use Rattle.book_log.specs.Log.{IsChunk, logged}
-use Rattle.image_defects.specs.Least.{HasNone, IsLeast}
-use Rattle.image_defects.specs.Log.{HasEntry, IsBadLogWord}
 
 -- what is known behind the first n words of a chunk
 pub record IsChunkRead (words : List ℕ) (chunk n : ℕ) (filled : Bool) : Type 0 where

@@ -1,17 +1,6 @@
 -- Lists of claims, root by root.
 use Rattle.std.proofs.Common.{Option, None, Some, ◌≡◌, ◌≢◌, ℕ, ◌+◌, ◌<◌, ◌≤◌, eqb, List, [], ◌∷◌, ◌++◌, length, refl, sym, ap, subst, ◌∙◌, arith, ⊎_elim}
-use Rattle.std.proofs.lemmas.Bool.{cases_eq, cond-true, cond-false, eq-eqb, ne_eqb}
-use Rattle.std.proofs.lemmas.List.{get_or_append_left}
-use Rattle.std.proofs.Math.ListN.{length-append}
-use Rattle.std.proofs.Math.Seq.{get_or-append_seam}
-use Rattle.pool_layout.specs.Layout.{layout_of}
-use Rattle.pool_layout.specs.Header.{version_in}
-use Rattle.image_tables.specs.declared.entry.WalEntry.{WalEntry}
-use Rattle.image_tables.specs.declared.entry.WalEntry.TheVariants.{Place, Move}
-use Rattle.image_tables.specs.Tables.{Tables, tables_of}
-use Rattle.heap_model.specs.Machine.{Range}
-use Rattle.heap_check.specs.Heap.{entry_at, claim_at, IsClaim}
-use Rattle.image_defects.specs.Wal.{IsGoodWal}
+use Rattle.defect_search.proofs.Common.{cases_eq, cond-true, cond-false, eq-eqb, ne_eqb, get_or_append_left, length-append, get_or-append_seam, layout_of, version_in, WalEntry, Place, Move, Tables, tables_of, Range, entry_at, claim_at, IsClaim, IsGoodWal}
 use Rattle.defect_search.specs.declared.claim.Claim.{Claim}
 use Rattle.defect_search.specs.Claims.{no_claim, claim_in, range_of, AreClaims}
 use Rattle.defect_search.specs.Claimed.{HasNoClaim, IsClaimOf}

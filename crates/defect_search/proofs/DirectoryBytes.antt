@@ -1,11 +1,8 @@
 -- The bytes of a directory, one after another, and the chunks that they name.
 use Rattle.std.proofs.Common.{◌≡◌, ◌≢◌, ◌↔◌, ℕ, zero, suc, ◌+◌, ◌-◌, ◌*◌, ◌/◌, ◌%◌, ◌<◌, ◌≤◌, Bool, true, false, cond, ltb, leb, List, [], ◌∷◌, length, get_or, refl, sym, ap, subst, ◌∙◌, arith, ⊎_elim}
-use Rattle.std.specs.List.{All, AllPairs}
-use Rattle.std.proofs.lemmas.Bool.{ltb-true, leb-true, and_parts, cond-true, cond-false, cases_eq}
-use Rattle.std.proofs.lemmas.List.{get_or_default}
+use Rattle.defect_search.proofs.Common.{All, AllPairs, ltb-true, leb-true, and_parts, cond-true, cond-false, cases_eq, get_or_default, directory_of}
 use Rattle.std.proofs.lemmas.List.Elements.{All-nil, All-cons}
 use Rattle.image_tables.specs.Log.{most_chunks, is_chunk_byte, chunks_named, active_chunks}
-use Rattle.book_log.specs.Log.{directory_of}
 use Rattle.book_log.proofs.Directories.{eight}
 
 -- a word is the directory of the chunks that its first n bytes name

@@ -1,12 +1,9 @@
 -- Of each kind of loose things there is one at most exactly where no count is above 1.
 use Rattle.std.proofs.Common.{◌≡◌, ◌⊎◌, ◌↔◌, ℕ, ◌<◌, ◌≤◌, Bool, true, false, List, refl, sym, ◌∙◌, arith, inl, inr, ⊎_elim, IsTrue}
 use Rattle.std.proofs.lemmas.Bool.{false≢true, true≢false, cases_lt}
-use Rattle.pool_layout.specs.Header.{granules_in}
-use Rattle.image_tables.specs.Tables.{tables_of}
-use Rattle.image_tables.proofs.Tables.{slab_table}
-use Rattle.heap_check.specs.Sound.{IsLooseLarge, IsEmptySlab, IsMorphing, IsDoneSlab}
+use Rattle.defect_search.proofs.Common.{granules_in, tables_of, slab_table, IsLooseLarge, IsEmptySlab, IsMorphing, IsDoneSlab, AreFewLoose}
 use Rattle.image_defects.specs.declared.found.Loose.{Loose}
-use Rattle.image_defects.specs.Loose.{AreLoose, IsTooMany, AreFewLoose}
+use Rattle.image_defects.specs.Loose.{AreLoose, IsTooMany}
 use Rattle.image_defects.proofs.Counts.{at_most, not_many}
 use Rattle.defect_search.specs.Arena.{IsArena}
 

@@ -1,7 +1,6 @@
 -- The least number of two properties.
 use Rattle.std.proofs.Common.{◌≡◌, ◌⊎◌, ℕ, Bool, true, false, ltb, cond, Option, Some, None, refl, sym, subst, arith, ⊎_elim}
-use Rattle.std.proofs.lemmas.Bool.{ltb-true, ltb-false}
-use Rattle.image_defects.specs.Least.{IsLeastOf, lesser}
+use Rattle.defect_search.proofs.Common.{ltb-true, ltb-false, IsLeastOf, lesser}
 
 lesser_of : (P Q R : ℕ → Type 0) (a b : Option ℕ) → ((n : ℕ) → P n → R n) → ((n : ℕ) → Q n → R n) → ((n : ℕ) → R n → P n ⊎ Q n) → IsLeastOf P a → IsLeastOf Q b → IsLeastOf R (lesser a b)
 lesser_of P Q R None None of_p of_q either p q = record { none = λ n r. ⊎_elim (λ h. p.none n h) (λ h. q.none n h) (either n r) }

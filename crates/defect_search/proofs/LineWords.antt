@@ -1,19 +1,11 @@
 -- The words of the write-ahead lines, one after another.
 use Rattle.std.proofs.Common.{Option, None, Some, ◌≡◌, ◌≢◌, ℕ, zero, suc, ◌+◌, ◌<◌, ◌≤◌, eqb, List, refl, sym, ap, subst, ◌∙◌, arith, inl, inr, ⊎_elim}
 use Rattle.std.specs.Option.{MatchOption}
-use Rattle.std.proofs.lemmas.Bool.{cases_eq, cases_lt, cond-true, eq-eqb}
-use Rattle.pmem_lines.specs.Words.{word_at}
-use Rattle.pool_layout.specs.Places.{wal_word}
-use Rattle.image_tables.specs.declared.entry.WalEntry.{WalEntry}
+use Rattle.defect_search.proofs.Common.{cases_eq, cases_lt, cond-true, eq-eqb, word_at, wal_word, WalEntry, IsWalWord, IsOpen, bounds_of, IsLeast, IsGoodWal, IsOpenWord, IsBadLine}
 use Rattle.image_tables.specs.Tables.{entry_among, entry_of_word, wal_lines, tables_of}
 use Rattle.attach_wal.specs.Entry.{IsEntryWord, IsNoEntryWord}
-use Rattle.image_tables.specs.Forms.{IsWalWord}
-use Rattle.heap_check.specs.Sound.{IsOpen}
-use Rattle.heap_check.specs.Image.{bounds_of}
-use Rattle.image_defects.specs.Least.{IsLeast}
-use Rattle.image_defects.specs.Wal.{IsGoodWal, IsOpenWord, IsBadLine}
 use Rattle.image_defects.proofs.WalDefects.{entry_among-only, entry_table, open_there}
-use Rattle.defect_search.specs.Opening.{AreClosedFrom, IsNextLine}
+use Rattle.defect_search.specs.OpenWords.{AreClosedFrom, IsNextLine}
 
 pub eight_lines : wal_lines ≡ 8
 unfolding wal_lines

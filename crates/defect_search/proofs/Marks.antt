@@ -1,12 +1,7 @@
 -- Which granules the roots name, and which extents they leave loose.
 use Rattle.std.proofs.Common.{◌≡◌, ◌≢◌, ◌⊎◌, ◌↔◌, ℕ, ◌+◌, ◌*◌, ◌/◌, ◌<◌, ◌≤◌, Bool, true, false, List, length, refl, sym, ap, subst, ◌∙◌, arith, inl, inr, ⊎_elim, IsTrue, not, eqb}
 use Rattle.std.proofs.lemmas.Bool.{cases_eq, cases_lt, false≢true, true≢false, false_from_ne_true, eqb-true, eq-eqb}
-use Rattle.image_tables.specs.Tables.{Tables, is_slab, state_field, tables_of}
-use Rattle.image_tables.proofs.Tables.{slab_table, slab_fields, root_table-past}
-use Rattle.pool_layout.specs.Layout.{layout_of}
-use Rattle.pool_layout.specs.Header.{version_in}
-use Rattle.pool_layout.proofs.Layouts.{layout_rules}
-use Rattle.heap_check.specs.Sound.{IsLooseLarge, IsEmptySlab, IsMorphing, IsDoneSlab}
+use Rattle.defect_search.proofs.Common.{Tables, is_slab, state_field, tables_of, slab_table, slab_fields, root_table-past, layout_of, version_in, layout_rules, IsLooseLarge, IsEmptySlab, IsMorphing, IsDoneSlab}
 use Rattle.defect_search.specs.Arena.{IsArena}
 use Rattle.defect_search.specs.Roots.{mark_in, IsNamedStart, IsNamedGranule, AreMarks}
 
@@ -89,13 +84,13 @@ empty_slab_by words marks start unmet is below are clear = (
       empty.none named.root named.some (record { slab = empty.slab; low = omega (arith, named.here); high = omega (arith, named.here) }))),
 )
 
-pub morphing_by : (words : List ℕ) (start : ℕ) (is : Bool) → (IsTrue is ↔ ((is_slab words start ≡ true) × ((tables_of words).kind start ≡ 2))) → (IsTrue is ↔ IsMorphing (tables_of words) start)
+pub morphing_by : (words : List ℕ) (start : ℕ) (is : Bool) → (IsTrue is ↔ ((is_slab words start ≡ true) × (((tables_of words).header start).kind ≡ 2))) → (IsTrue is ↔ IsMorphing (tables_of words) start)
 morphing_by words start is says = (
   λ e. record { slab = slab_table words start ∙ (says.0 e).0; kind = (says.0 e).1 },
   λ m. says.1 (sym (slab_table words start) ∙ m.slab, m.kind),
 )
 
-pub done_by : (words : List ℕ) (start : ℕ) (dead : Bool) → is_slab words start ≡ true → (tables_of words).kind start ≡ 3 → (IsTrue dead ↔ ((place : ℕ) → place < state_field words start 24 → (tables_of words).live start place ≡ false)) → (IsTrue dead ↔ IsDoneSlab (tables_of words) start)
+pub done_by : (words : List ℕ) (start : ℕ) (dead : Bool) → is_slab words start ≡ true → ((tables_of words).header start).kind ≡ 3 → (IsTrue dead ↔ ((place : ℕ) → place < state_field words start 24 → ((tables_of words).header start).live place ≡ false)) → (IsTrue dead ↔ IsDoneSlab (tables_of words) start)
 done_by words start dead is kind clear = (
   λ e. record { slab = slab_table words start ∙ is; kind = kind; none = λ place below. clear.0 e place (subst (λ n. place < n) (slab_fields words start).index_count below) },
   λ done. clear.1 (λ place below. done.none place (subst (λ n. place < n) (sym (slab_fields words start).index_count) below)),
@@ -106,7 +101,7 @@ roots_inside words arena =
     let rules = layout_rules (version_in words) in
     omega (arith, arena.size, arena.least, rules.roots, rules.heap, rules.some_granule)
 
-pub kind_by : (words : List ℕ) (start kind field : ℕ) → is_slab words start ≡ true → field ≡ state_field words start 0 → (IsTrue (eqb field kind) ↔ ((is_slab words start ≡ true) × ((tables_of words).kind start ≡ kind)))
+pub kind_by : (words : List ℕ) (start kind field : ℕ) → is_slab words start ≡ true → field ≡ state_field words start 0 → (IsTrue (eqb field kind) ↔ ((is_slab words start ≡ true) × (((tables_of words).header start).kind ≡ kind)))
 kind_by words start kind field slab is = (
   λ e. (slab, (slab_fields words start).kind ∙ sym is ∙ eqb-true field kind e),
   λ both. eq-eqb field kind (is ∙ sym (slab_fields words start).kind ∙ both.1),

@@ -1,14 +1,8 @@
 -- An image in which no entry is open and nothing is loose is exact.
 use Rattle.std.proofs.Common.{◌≡◌, ◌≢◌, ◌⊎◌, ◌&&◌, ℕ, zero, suc, ◌+◌, ◌*◌, ◌<◌, ◌≤◌, Bool, true, false, true≢false, ltb, leb, eqb, List, refl, sym, ap, ◌∙◌, arith, inl, inr, ⊎_elim, None}
-use Rattle.std.proofs.lemmas.Bool.{cases_eq, eqb-true, eq-eqb, ltb-true, lt-ltb, leb-true, le-leb, and_parts, and_from}
-use Rattle.pool_layout.specs.Layout.{layout_of}
-use Rattle.pool_layout.specs.Header.{version_in}
-use Rattle.image_tables.specs.Tables.{Tables, tables_of}
-use Rattle.heap_check.specs.Sound.{IsInSlab, IsLooseLarge, IsEmptySlab, IsMorphing, IsDoneSlab}
-use Rattle.heap_check.specs.Image.{IsSoundImage, IsExactImage}
+use Rattle.defect_search.proofs.Common.{cases_eq, eqb-true, eq-eqb, ltb-true, lt-ltb, leb-true, le-leb, and_parts, and_from, layout_of, version_in, Tables, tables_of, IsInSlab, IsLooseLarge, IsEmptySlab, IsMorphing, IsDoneSlab, IsSoundImage, IsExactImage, HasNone}
 use Rattle.heap_check.proofs.Geometry.{granules_at-slab, granules_at-live}
 use Rattle.heap_check.proofs.Sizes.{sizes_of}
-use Rattle.image_defects.specs.Least.{HasNone}
 use Rattle.defect_search.proofs.Marks.{root_below}
 
 -- a number below a bound passes a test, or none does
@@ -30,12 +24,12 @@ module _ (words : List ℕ) (image : IsSoundImage words) where
   large_start : (start : ℕ) → 0 < t.large start → 0 < start
   large_start start some =
       let size = granules_at-live image.sound start some in
-      omega (arith, (image.sound.starts start (omega (arith, size, some))).0, (sizes_of words image.formed).first)
+      omega (arith, (image.sound.extents.starts start (omega (arith, size, some))).0, (sizes_of words image.formed).first)
 
   slab_start : (start : ℕ) → t.slab start ≡ true → 0 < start
   slab_start start slab =
       let four = granules_at-slab t start slab in
-      omega (arith, (image.sound.starts start (omega (arith, four))).0, (sizes_of words image.formed).first)
+      omega (arith, (image.sound.extents.starts start (omega (arith, four))).0, (sizes_of words image.formed).first)
 
   named : HasNone (IsLooseLarge t) → (start : ℕ) → 0 < t.large start → (root : ℕ) × (t.root root ≡ 16384 * start)
   named no_large start some =
@@ -65,14 +59,14 @@ module _ (words : List ℕ) (image : IsSoundImage words) where
       (search_below (λ root. leb (16384 * start) (t.root root) && ltb (t.root root) (16384 * start + 65536)) (layout_of (version_in words)).roots)
 
   pub exact_by_none : t.open_entry ≡ None → HasNone (IsLooseLarge t) → HasNone (IsEmptySlab t) → HasNone (IsMorphing t) → HasNone (IsDoneSlab t) → IsExactImage words
-  exact_by_none closed no_large no_empty calm no_done = record {
+  exact_by_none closed no_large no_empty none_morphing no_done = record {
     formed = image.formed;
     exact = record {
       sound = image.sound;
       closed = closed;
       all_named = named no_large;
       all_live = lived no_empty;
-      calm = calm.none;
+      none_morphing = none_morphing.none;
       none_done = no_done.none;
     };
   }

@@ -1,23 +1,11 @@
 -- Which blocks and roots an open entry may name.
 use Rattle.std.proofs.Common.{Option, Some, ◌≡◌, ◌≢◌, ◌⊎◌, ◌↔◌, ℕ, ◌+◌, ◌-◌, ◌/◌, ◌<◌, ◌≤◌, Bool, true, false, List, length, refl, sym, ap, subst, ◌∙◌, arith, inl, inr, ⊎_elim, IsTrue}
-use Rattle.size_classes.specs.Classes.{class_capacity}
+use Rattle.defect_search.proofs.Common.{class_capacity, WalEntry, Place, Move, Tables, tables_of, slab_table, Bounds, LiesIn, slab_block, IsValidSlab, IsNewEntry, IsOldEntry, IsOpenPlace, IsOpenMove, IsOpenEntry, bounds_of, IsEntryWord, IsOpenAlone, IsOpenWord, Slab, slab_in, AreSlabs, IsBack}
 use Rattle.size_classes.proofs.Spacing.{class_size-least}
-use Rattle.image_tables.specs.declared.entry.WalEntry.{WalEntry}
-use Rattle.image_tables.specs.declared.entry.WalEntry.TheVariants.{Place, Move}
-use Rattle.image_tables.specs.Tables.{Tables, tables_of}
 use Rattle.image_tables.specs.Updates.{with_open_entry}
-use Rattle.image_tables.proofs.Tables.{slab_table}
-use Rattle.heap_model.specs.Machine.{Bounds, LiesIn, slab_block}
 use Rattle.heap_model.proofs.Slabbing.{LiesIn-block}
-use Rattle.heap_check.specs.Sound.{IsValidSlab, IsNewEntry, IsOldEntry, IsOpenPlace, IsOpenMove, IsOpenEntry}
-use Rattle.heap_check.specs.Image.{bounds_of}
-use Rattle.attach_wal.specs.Entry.{IsEntryWord}
-use Rattle.image_defects.specs.Wal.{IsOpenAlone, IsOpenWord}
-use Rattle.image_reading.specs.declared.slab.Slab.{Slab}
-use Rattle.image_reading.specs.Slabs.{slab_in, AreSlabs}
 use Rattle.image_reading.specs.Held.{IsNumberAt, HasNoNumber, AreSlabsAt}
-use Rattle.image_reading.proofs.Holding.{IsBack}
-use Rattle.defect_search.specs.Opening.{IsNewBlock, IsOldBlock, IsCalm, IsMovable}
+use Rattle.defect_search.specs.OpenWords.{IsNewBlock, IsOldBlock, HasNoneMorphing, IsMovable}
 
 -- a block of the slab that begins so many granules before another stands at the address, by its class or by its index table
 abbrev pub HasNewBlock : Tables → ℕ → ℕ → ℕ → Type 0
@@ -28,7 +16,7 @@ HasOldBlock t last back at place = IsBack (λ start. IsOldBlock t start at place
 
 -- blocks of a slab's class
 
-pub new_of_number : (t : Tables) (start class at number : ℕ) → t.slab start ≡ true → t.class start ≡ class → IsNumberAt start class at number → IsNewBlock t start at
+pub new_of_number : (t : Tables) (start class at number : ℕ) → t.slab start ≡ true → (t.header start).class ≡ class → IsNumberAt start class at number → IsNewBlock t start at
 new_of_number t start class at number slab is number_at = record {
   slab = slab;
   number = number;
@@ -36,7 +24,7 @@ new_of_number t start class at number slab is number_at = record {
   is = number_at.is ∙ ap (λ c. (slab_block start c number).at) (sym is);
 }
 
-pub not_new : (t : Tables) (start class at : ℕ) → t.class start ≡ class → HasNoNumber start class at → ¬ (IsNewBlock t start at)
+pub not_new : (t : Tables) (start class at : ℕ) → (t.header start).class ≡ class → HasNoNumber start class at → ¬ (IsNewBlock t start at)
 not_new t start class at is none block = none.none block.number (record {
   below = subst (λ c. block.number < class_capacity c) is block.below;
   is = block.is ∙ ap (λ c. (slab_block start c block.number).at) is;
@@ -52,8 +40,8 @@ near_block start class number at is_class below is =
 pub new_none : (words : List ℕ) (at n : ℕ) → AreSlabsAt words → 4 ≤ n → ((d : ℕ) → d < n → ¬ (HasNewBlock (tables_of words) (at / 16384) d at)) → ¬ (IsNewEntry (tables_of words) at)
 new_none words at n slabs all none new =
     let t = tables_of words in
-    let is : IsValidSlab t new.start = (slabs.good new.start (sym (slab_table words new.start) ∙ new.slab)).slab in
-    let near = near_block new.start (t.class new.start) new.number at is.state.is_class new.below new.is in
+    let is : IsValidSlab (t.header new.start) = (slabs.good new.start (sym (slab_table words new.start) ∙ new.slab)).slab in
+    let near = near_block new.start (t.header new.start).class new.number at is.state.is_class new.below new.is in
     none (at / 16384 - new.start) (omega (arith, near.0, near.1)) (record { start = new.start; is = omega (arith, near.0); has = record { slab = new.slab; number = new.number; below = new.below; is = new.is } })
 
 pub new_some : (t : Tables) (last back at : ℕ) → HasNewBlock t last back at → IsNewEntry t at
@@ -62,8 +50,8 @@ new_some t last back at has = record { start = has.start; number = has.has.numbe
 pub old_none : (words : List ℕ) (at place n : ℕ) → AreSlabsAt words → 4 ≤ n → ((d : ℕ) → d < n → ¬ (HasOldBlock (tables_of words) (at / 16384) d at place)) → ¬ (IsOldEntry (tables_of words) at place)
 old_none words at place n slabs all none old =
     let t = tables_of words in
-    let is : IsValidSlab t old.start = (slabs.good old.start (sym (slab_table words old.start) ∙ old.slab)).slab in
-    let near = near_block old.start (t.old old.start) (t.number old.start place) at is.state.is_old_class (is.small place old.below) old.is in
+    let is : IsValidSlab (t.header old.start) = (slabs.good old.start (sym (slab_table words old.start) ∙ old.slab)).slab in
+    let near = near_block old.start (t.header old.start).old ((t.header old.start).number place) at is.state.is_old_class (is.small place old.below) old.is in
     none (at / 16384 - old.start) (omega (arith, near.0, near.1)) (record { start = old.start; is = omega (arith, near.0); has = record { slab = old.slab; kind = old.kind; below = old.below; is = old.is } })
 
 pub old_some : (t : Tables) (last back at place : ℕ) → HasOldBlock t last back at place → IsOldEntry t at place
@@ -71,11 +59,11 @@ old_some t last back at place has = record { start = has.start; slab = has.has.s
 
 -- slabs that take another class
 
-pub calm_all : (words : List ℕ) (slabs : List Slab) (n : ℕ) → length slabs ≤ n → AreSlabs words slabs → ((i : ℕ) → i < n → (tables_of words).kind (slab_in slabs i).start ≢ 2) → IsCalm (tables_of words)
-calm_all words slabs n all are calm = record {
-  calm = λ start slab.
+pub all_but_morphing : (words : List ℕ) (slabs : List Slab) (n : ℕ) → length slabs ≤ n → AreSlabs words slabs → ((i : ℕ) → i < n → ((tables_of words).header (slab_in slabs i).start).kind ≢ 2) → HasNoneMorphing (tables_of words)
+all_but_morphing words slabs n all are none_morphing = record {
+  none_morphing = λ start slab.
       let found = are.all start (sym (slab_table words start) ∙ slab) in
-      subst (λ s. (tables_of words).kind s ≢ 2) found.2 (calm found.0 (omega (arith, found.1)));
+      subst (λ s. ((tables_of words).header s).kind ≢ 2) found.2 (none_morphing found.0 (omega (arith, found.1)));
 }
 
 -- entries
@@ -115,12 +103,12 @@ move_of_words b t from to has low high differ says = (
   λ may. says.1 (record { some = may.some; same = may.same }),
 )
 
-pub open_word : (words : List ℕ) (word : ℕ) (entry : WalEntry) (may : Bool) → IsEntryWord word entry → IsCalm (tables_of words) → (IsTrue may ↔ IsOpenEntry (bounds_of words) (with_open_entry (tables_of words) (Some entry)) entry) → (IsTrue may ↔ IsOpenWord words word)
-open_word words word entry may is calm says =
+pub open_word : (words : List ℕ) (word : ℕ) (entry : WalEntry) (may : Bool) → IsEntryWord word entry → HasNoneMorphing (tables_of words) → (IsTrue may ↔ IsOpenEntry (bounds_of words) (with_open_entry (tables_of words) (Some entry)) entry) → (IsTrue may ↔ IsOpenWord words word)
+open_word words word entry may is none_morphing says =
     let Open : WalEntry → Type 0 = λ e. IsOpenAlone words e in (
-      λ e. record { form = is.form; may = subst Open (sym is.says) (record { entry = says.0 e; calm = calm.calm }) },
+      λ e. record { form = is.form; may = subst Open (sym is.says) (record { entry = says.0 e; none_morphing = none_morphing.none_morphing }) },
       λ may. says.1 (let alone : IsOpenAlone words entry = subst Open is.says may.may in alone.entry),
     )
 
-pub not_calm : (words : List ℕ) (word : ℕ) → ¬ (IsCalm (tables_of words)) → ¬ (IsOpenWord words word)
-not_calm words word none may = none (record { calm = may.may.calm })
+pub some_morphing : (words : List ℕ) (word : ℕ) → ¬ (HasNoneMorphing (tables_of words)) → ¬ (IsOpenWord words word)
+some_morphing words word none may = none (record { none_morphing = may.may.none_morphing })

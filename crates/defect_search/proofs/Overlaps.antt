@@ -1,10 +1,6 @@
 -- Live extents in order of their starts: where no neighbours share a granule, none do.
 use Rattle.std.proofs.Common.{◌≡◌, ◌≢◌, ◌⊎◌, ℕ, zero, suc, ◌+◌, ◌-◌, ◌<◌, ◌≤◌, List, arith, inl, inr, ⊎_elim, sym, ap, subst, ◌∙◌}
-use Rattle.std.proofs.lemmas.Bool.{cases_eq, cases_lt}
-use Rattle.pool_layout.specs.Header.{granules_in}
-use Rattle.image_tables.specs.Tables.{Tables, tables_of}
-use Rattle.heap_check.specs.Sound.{granules_at, Covers}
-use Rattle.image_defects.specs.Log.{AreDisjoint, IsOverlap}
+use Rattle.defect_search.proofs.Common.{cases_eq, cases_lt, granules_in, Tables, tables_of, granules_at, Covers, AreDisjoint, IsOverlap}
 use Rattle.image_reading.specs.Extents.{HasExtents}
 
 -- what is known behind the extents that start below a granule: the last one and where it ends, or that there is none

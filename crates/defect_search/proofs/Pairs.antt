@@ -1,17 +1,10 @@
 -- Claims by rising address of which each ends before the next begins do not overlap; the first two that overlap in a
 -- list are those of the image.
 use Rattle.std.proofs.Common.{◌≡◌, ◌≢◌, ℕ, zero, suc, ◌+◌, ◌<◌, ◌≤◌, List, length, Option, Some, None, MatchOption, sym, ap, subst, ◌∙◌, arith, add-one, ⊎_elim}
-use Rattle.std.specs.List.{Contains}
-use Rattle.std.proofs.lemmas.Bool.{cases_eq, cases_lt}
-use Rattle.std.proofs.lemmas.List.{get_or_default}
-use Rattle.std.proofs.lemmas.List.Sorted.{Contains-permutation}
-use Rattle.image_tables.specs.Tables.{Tables}
+use Rattle.defect_search.proofs.Common.{Contains, cases_eq, cases_lt, get_or_default, Contains-permutation, Tables, HasNone, DoOverlap, HasShared, IsSharing, IsFirstShared}
 use Rattle.defect_search.specs.declared.claim.Claim.{Claim}
 use Rattle.image_defects.specs.declared.found.Pair.{Pair}
-use Rattle.image_defects.specs.Least.{HasNone}
 use Rattle.defect_search.specs.Claims.{no_claim, claim_in, range_of, AreClaims, IsByAddress}
-use Rattle.image_defects.specs.Blocks.{DoOverlap}
-use Rattle.image_defects.specs.Blocks.{HasShared, IsSharing, IsFirstShared}
 use Rattle.defect_search.specs.Pairs.{DoClash, AreSpread, AreAllApart, IsFirstPair}
 
 -- where each ends before the next begins, each ends before all later ones

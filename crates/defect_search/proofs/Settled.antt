@@ -1,9 +1,7 @@
 -- Whether the word of a root names a block.
 use Rattle.std.proofs.Common.{◌≡◌, ◌≢◌, ◌↔◌, ℕ, ◌+◌, ◌<◌, ◌≤◌, Bool, true, false, not, sym, subst, ◌∙◌, refl, IsTrue, arith, ⊎_elim}
 use Rattle.std.proofs.lemmas.Bool.{false≢true, true≢false, cases_eq, cases_lt}
-use Rattle.image_tables.specs.Tables.{Tables}
-use Rattle.heap_check.specs.Sound.{IsStanding}
-use Rattle.image_defects.specs.Least.{IsLeast}
+use Rattle.defect_search.proofs.Common.{Tables, IsStanding, IsLeast}
 use Rattle.defect_search.specs.Roots.{IsSettled}
 use Rattle.image_defects.specs.Roots.{IsStrayRoot}
 

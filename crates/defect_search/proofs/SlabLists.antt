@@ -1,12 +1,6 @@
 -- Lists of slabs, granule by granule.
 use Rattle.std.proofs.Common.{◌≡◌, ◌≢◌, ℕ, ◌+◌, ◌<◌, true, false, true≢false, List, [], ◌∷◌, ◌++◌, length, sym, ap, subst, ◌∙◌, arith, ⊎_elim}
-use Rattle.std.proofs.lemmas.Bool.{cases_eq}
-use Rattle.std.proofs.lemmas.List.{get_or_append_left}
-use Rattle.std.proofs.Math.ListN.{length-append}
-use Rattle.std.proofs.Math.Seq.{get_or-append_seam}
-use Rattle.image_tables.specs.Tables.{is_slab}
-use Rattle.image_reading.specs.declared.slab.Slab.{Slab}
-use Rattle.image_reading.specs.Slabs.{no_slab, slab_in, IsRead, AreSlabs}
+use Rattle.defect_search.proofs.Common.{cases_eq, get_or_append_left, length-append, get_or-append_seam, is_slab, Slab, no_slab, slab_in, IsRead, AreSlabs}
 
 -- the list has the slabs that start below a granule, by rising start
 pub record AreSlabsBelow (words : List ℕ) (n : ℕ) (slabs : List Slab) : Type 0 where

@@ -2,32 +2,26 @@
 use Rattle.std.specs.Option.{MatchOption}
 use Rattle.std.proofs.Common.{Option, None, Some, ◌≡◌, ◌≢◌, ◌↔◌, ℕ, ◌+◌, ◌/◌, ◌%◌, ◌^◌, ◌<◌, ◌≤◌, Bool, true, false, not, List, refl, sym, ap, subst, ◌∙◌, arith, inr, ⊎_elim, IsTrue}
 use Rattle.std.proofs.lemmas.Bool.{cases_eq, cases_lt, false≢true, true≢false, cond-true}
-use Rattle.size_classes.specs.Classes.{class_capacity}
-use Rattle.pmem_lines.specs.Words.{word_at}
-use Rattle.image_tables.specs.Forms.{IsState, IsStateWord, IsIndexWord}
-use Rattle.image_tables.specs.Tables.{is_slab, state_word, state_field, index_word, tables_of}
-use Rattle.image_tables.proofs.Tables.{slab_fields, number_table}
+use Rattle.defect_search.proofs.Common.{class_capacity, word_at, IsState, IsStateWord, IsIndexWord, is_slab, state_word, state_field, index_word, tables_of, slab_fields, number_table, IsWordOfState, SaysOfState, IsValidSlab}
 use Rattle.slab_header.specs.declared.state.SlabState.{SlabState}
 use Rattle.slab_header.specs.declared.index.IndexEntry.{IndexEntry}
-use Rattle.slab_header.specs.State.{IsWordOfState, SaysOfState}
 use Rattle.slab_header.specs.Index.{SaysOfIndex}
-use Rattle.heap_check.specs.Sound.{IsValidSlab}
 use Rattle.image_defects.specs.declared.found.SlabWord.{SlabWord}
 use Rattle.image_defects.specs.Headers.{IsGoodSlab, AreGoodSlabs, IsBadPlace, IsBadIndex, IsBadWord, IsFirstBadWord}
 use Rattle.defect_search.specs.Headers.{AreSlabsInside, HasNumber, IsGoodPlace, AreGoodPlaces, IsStateOf, IsGoodIfSlab, IsBadSlabWord}
 
 -- places
 
-pub good_place : (words : List ℕ) (start place number : ℕ) (has : Bool) → IsIndexWord (word_at words (index_word start place)) → number ≡ (tables_of words).number start place → number < class_capacity ((tables_of words).old start) →
+pub good_place : (words : List ℕ) (start place number : ℕ) (has : Bool) → IsIndexWord (word_at words (index_word start place)) → number ≡ ((tables_of words).header start).number place → number < class_capacity ((tables_of words).header start).old →
     (IsTrue has ↔ HasNumber (tables_of words) start place number) → not has ≡ true → IsGoodPlace words start place
 good_place words start place number true form is small says e = absurd (false≢true e)
 good_place words start place number false form is small says e = record {
   form = form;
-  small = subst (λ n. n < class_capacity ((tables_of words).old start)) is small;
+  small = subst (λ n. n < class_capacity ((tables_of words).header start).old) is small;
   new = λ earlier before same. false≢true (says.1 (record { place = earlier; below = before; is = same ∙ sym is }));
 }
 
-pub twice_place : (words : List ℕ) (start place number : ℕ) (has : Bool) → place < (tables_of words).index_count start → number ≡ (tables_of words).number start place → (IsTrue has ↔ HasNumber (tables_of words) start place number) → not has ≡ false → IsBadPlace words start place
+pub twice_place : (words : List ℕ) (start place number : ℕ) (has : Bool) → place < ((tables_of words).header start).index_count → number ≡ ((tables_of words).header start).number place → (IsTrue has ↔ HasNumber (tables_of words) start place number) → not has ≡ false → IsBadPlace words start place
 twice_place words start place number true below is says e =
     let other = says.0 refl in
     record { below = below; bad = inr (inr (other.place, other.below, other.is ∙ is)) }
@@ -67,11 +61,11 @@ good_slab words start slab form places =
     let t = tables_of words in
     let w = word_at words (state_word start) in
     let field : (bits : ℕ) → w / 2 ^ bits % 2 ^ 8 ≡ state_field words start bits = λ bits. sym (cond-true (is_slab words start) (w / 2 ^ bits % 2 ^ 8) 0 slab) in
-    let kind : w % 2 ^ 8 ≡ t.kind start = omega (arith, field 0, (slab_fields words start).kind) in
-    let class : w / 2 ^ 8 % 2 ^ 8 ≡ t.class start = field 8 ∙ sym (slab_fields words start).class in
-    let old : w / 2 ^ 16 % 2 ^ 8 ≡ t.old start = field 16 ∙ sym (slab_fields words start).old in
-    let entries : w / 2 ^ 24 % 2 ^ 8 ≡ t.index_count start = field 24 ∙ sym (slab_fields words start).index_count in
-    let is : IsValidSlab t start = record {
+    let kind : w % 2 ^ 8 ≡ (t.header start).kind = omega (arith, field 0, (slab_fields words start).kind) in
+    let class : w / 2 ^ 8 % 2 ^ 8 ≡ (t.header start).class = field 8 ∙ sym (slab_fields words start).class in
+    let old : w / 2 ^ 16 % 2 ^ 8 ≡ (t.header start).old = field 16 ∙ sym (slab_fields words start).old in
+    let entries : w / 2 ^ 24 % 2 ^ 8 ≡ (t.header start).index_count = field 24 ∙ sym (slab_fields words start).index_count in
+    let is : IsValidSlab (t.header start) = record {
       state = subst (λ (T : Type 0). T) (λ i. IsState (kind i) (class i) (old i) (entries i)) form.state;
       small = λ place below. (places.each place below).small;
       once = λ place other below also same. ⊎_elim
@@ -104,5 +98,5 @@ word_or words start (Some value) slab form bad = inr (form, bad)
 pub form_read : (words : List ℕ) (start place word : ℕ) (entry : IndexEntry) → word ≡ word_at words (index_word start place) → SaysOfIndex word entry → IsIndexWord (word_at words (index_word start place))
 form_read words start place word entry is says = subst IsIndexWord is says.form
 
-pub number_read : (words : List ℕ) (start place word : ℕ) (entry : IndexEntry) → is_slab words start ≡ true → place < 64 → word ≡ word_at words (index_word start place) → SaysOfIndex word entry → entry.number ≡ (tables_of words).number start place
+pub number_read : (words : List ℕ) (start place word : ℕ) (entry : IndexEntry) → is_slab words start ≡ true → place < 64 → word ≡ word_at words (index_word start place) → SaysOfIndex word entry → entry.number ≡ ((tables_of words).header start).number place
 number_read words start place word entry slab few is says = sym says.number ∙ ap (λ w. w / 2 ^ 16 % 2 ^ 16) is ∙ sym (number_table words start place slab few)

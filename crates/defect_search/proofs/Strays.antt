@@ -2,26 +2,13 @@
 use Rattle.std.proofs.Common.{◌≡◌, ◌≢◌, ◌⊎◌, ◌↔◌, ℕ, ◌+◌, ◌*◌, ◌/◌, ◌%◌, ◌<◌, ◌≤◌, Bool, true, false, not, List, length, Option, Some, None, MatchOption, refl, sym, ap, subst, ◌∙◌, arith, inl, inr, ⊎_elim}
 use Rattle.std.proofs.lemmas.Bool.{cases_eq, cases_lt, false≢true, true≢false}
 use Rattle.std.proofs.lemmas.Nat.{mul-le}
-use Rattle.size_classes.specs.Classes.{class_size, class_capacity}
-use Rattle.pmem_lines.specs.Words.{word_at}
-use Rattle.pool_layout.specs.Places.{granule_word, line_place}
-use Rattle.image_tables.specs.Tables.{Tables, is_slab, bit_of_word, tables_of}
-use Rattle.image_tables.proofs.Tables.{slab_table, bit_table}
+use Rattle.defect_search.proofs.Common.{class_size, class_capacity, word_at, granule_word, line_place, Tables, is_slab, bit_of_word, tables_of, slab_table, bit_table, Range, slab_block, HoldsBit, HoldsOld, Slab, HasNone, IsLeast, IsLeastOf, lesser, IsRooted, AreRooted, kind_of, entries_of, slab_in, AreSlabs, IsRead, IsStray, IsStrayAddress}
 use Rattle.slab_header.proofs.Tables.{bit_of_word-zero}
 use Rattle.heap_check.proofs.Geometry.{number_few}
-use Rattle.heap_model.specs.Machine.{Range, slab_block}
-use Rattle.heap_check.specs.Heap.{HoldsBit, HoldsOld}
-use Rattle.image_reading.specs.declared.slab.Slab.{Slab}
-use Rattle.image_defects.specs.Least.{HasNone, IsLeast, IsLeastOf, lesser}
-use Rattle.image_defects.specs.Blocks.{IsRooted}
 use Rattle.defect_search.specs.Claims.{AreBlocks}
 use Rattle.defect_search.specs.declared.claim.Claim.{Claim}
-use Rattle.image_defects.specs.Blocks.{AreRooted}
 use Rattle.defect_search.proofs.Blocks.{rooted_or}
 use Rattle.slab_header.specs.declared.state.SlabState.TheVariants.{Normal, Morphing, Morphed}
-use Rattle.slab_header.specs.State.{kind_of, entries_of}
-use Rattle.image_reading.specs.Slabs.{slab_in, AreSlabs, IsRead}
-use Rattle.image_defects.specs.Blocks.{IsStray, IsStrayAddress}
 use Rattle.defect_search.specs.Stray.{word_of, number_in, IsStrayBlock, IsStrayInWord, IsStrayBit, IsStrayPlace, IsStrayOld}
 use Rattle.defect_search.proofs.LeastOf.{least_either, least_same}
 
@@ -43,7 +30,7 @@ number_of-word : (number : ℕ) → number ≡ number_in (word_of number) (numbe
 number_of-word number = omega arith
 
 -- the bit of a block by the word that has it
-bit_by_word : (words : List ℕ) (start number word value : ℕ) → is_slab words start ≡ true → number < 4096 → word_of number ≡ word → value ≡ word_at words (granule_word start + line_place (1 + word % 8) (word / 8)) → (tables_of words).bit start number ≡ bit_of_word value (number / 8 % 64)
+bit_by_word : (words : List ℕ) (start number word value : ℕ) → is_slab words start ≡ true → number < 4096 → word_of number ≡ word → value ≡ word_at words (granule_word start + line_place (1 + word % 8) (word / 8)) → ((tables_of words).header start).bit number ≡ bit_of_word value (number / 8 % 64)
 bit_by_word words start number word value slab few is read =
     let line : number % 8 ≡ word % 8 = omega (arith, is) in
     let place : number / 8 / 64 ≡ word / 8 = omega (arith, is) in
@@ -51,7 +38,7 @@ bit_by_word words start number word value slab few is read =
     ap (λ l. word_at words (granule_word start + line_place (1 + l) (number / 8 / 64))) line ∙ ap (λ p. word_at words (granule_word start + line_place (1 + word % 8) p)) place ∙ sym read in
     bit_table words start number slab few ∙ ap (λ w. bit_of_word w (number / 8 % 64)) here
 
-bit_in_word : (words : List ℕ) (start word value bit : ℕ) → is_slab words start ≡ true → word < 64 → bit < 64 → value ≡ word_at words (granule_word start + line_place (1 + word % 8) (word / 8)) → (tables_of words).bit start (number_in word bit) ≡ bit_of_word value bit
+bit_in_word : (words : List ℕ) (start word value bit : ℕ) → is_slab words start ≡ true → word < 64 → bit < 64 → value ≡ word_at words (granule_word start + line_place (1 + word % 8) (word / 8)) → ((tables_of words).header start).bit (number_in word bit) ≡ bit_of_word value bit
 bit_in_word words start word value bit slab below few read =
     let number = number_in word bit in
     let same : number / 8 % 64 ≡ bit = omega arith in
@@ -61,7 +48,7 @@ pub clear_bit : (words : List ℕ) (start word value bit : ℕ) → is_slab word
 clear_bit words start word value bit slab below few read clear block =
     true≢false (sym block.stray.set ∙ bit_in_word words start word value bit slab below few read ∙ clear)
 
-pub set_bit : (words : List ℕ) (start class word value bit : ℕ) (stray : Bool) → is_slab words start ≡ true → (tables_of words).class start ≡ class → word < 64 → bit < 64 → value ≡ word_at words (granule_word start + line_place (1 + word % 8) (word / 8)) → bit_of_word value bit ≡ true →
+pub set_bit : (words : List ℕ) (start class word value bit : ℕ) (stray : Bool) → is_slab words start ≡ true → ((tables_of words).header start).class ≡ class → word < 64 → bit < 64 → value ≡ word_at words (granule_word start + line_place (1 + word % 8) (word / 8)) → bit_of_word value bit ≡ true →
     number_in word bit < class_capacity class → ((stray ≡ true) ↔ ¬ (IsRooted (tables_of words) (slab_block start class (number_in word bit)))) → ((stray ≡ true) ↔ IsStrayBlock (tables_of words) start (number_in word bit))
 set_bit words start class word value bit stray slab is below few read set small found =
     let t = tables_of words in
@@ -72,7 +59,7 @@ set_bit words start class word value bit stray slab is below few read set small 
     )
 
 -- a word without a bit has no stray block
-pub clear_word : (words : List ℕ) (start class word value : ℕ) → is_slab words start ≡ true → (tables_of words).class start ≡ class → class < 36 → value ≡ word_at words (granule_word start + line_place (1 + word % 8) (word / 8)) → value ≡ 0 → HasNone (IsStrayInWord (tables_of words) start word)
+pub clear_word : (words : List ℕ) (start class word value : ℕ) → is_slab words start ≡ true → ((tables_of words).header start).class ≡ class → class < 36 → value ≡ word_at words (granule_word start + line_place (1 + word % 8) (word / 8)) → value ≡ 0 → HasNone (IsStrayInWord (tables_of words) start word)
 clear_word words start class word value slab is is_class read zero = record {
   none = λ at s.
       let small = subst (λ c. s.number < class_capacity c) is s.block.below in
@@ -80,7 +67,7 @@ clear_word words start class word value slab is is_class read zero = record {
 }
 
 -- the first stray bit of a word has the lowest block
-pub first_in_word : (t : Tables) (start class word bit at : ℕ) → t.class start ≡ class → word < 64 → bit < 64 → IsStrayBlock t start (number_in word bit) → ((k : ℕ) → k < bit → ¬ (IsStrayBlock t start (number_in word k))) → at ≡ (slab_block start class (number_in word bit)).at → IsLeast (IsStrayInWord t start word) at
+pub first_in_word : (t : Tables) (start class word bit at : ℕ) → (t.header start).class ≡ class → word < 64 → bit < 64 → IsStrayBlock t start (number_in word bit) → ((k : ℕ) → k < bit → ¬ (IsStrayBlock t start (number_in word k))) → at ≡ (slab_block start class (number_in word bit)).at → IsLeast (IsStrayInWord t start word) at
 first_in_word t start class word bit at is below few block before place = record {
   here = record { number = number_in word bit; block = block; word_is = omega arith; is = place ∙ ap (λ c. (slab_block start c (number_in word bit)).at) (sym is) };
   least = λ other s.
@@ -108,7 +95,7 @@ pub record IsStrayInWords (t : Tables) (start n at : ℕ) : Type 0 where
   pub number : ℕ
   pub block : IsStrayBlock t start number
   pub word_below : word_of number < n
-  pub is : at ≡ (slab_block start (t.class start) number).at
+  pub is : at ≡ (slab_block start (t.header start).class number).at
 
 pub none_in_words : (t : Tables) (start : ℕ) → HasNone (IsStrayInWords t start 0)
 none_in_words t start = record { none = λ at s. absurd (omega (arith, s.word_below)) }
@@ -123,7 +110,7 @@ words_more t start n a b before here is = least_either (IsStrayInWords t start n
     (cases_eq (word_of s.number) n))
     before here is
 
-pub all_words : (t : Tables) (start class n : ℕ) (a : Option ℕ) → t.class start ≡ class → class < 36 → 64 ≤ n → IsLeastOf (IsStrayInWords t start n) a → IsLeastOf (IsStrayBit t start) a
+pub all_words : (t : Tables) (start class n : ℕ) (a : Option ℕ) → (t.header start).class ≡ class → class < 36 → 64 ≤ n → IsLeastOf (IsStrayInWords t start n) a → IsLeastOf (IsStrayBit t start) a
 all_words t start class n a is is_class all least = least_same (IsStrayInWords t start n) (IsStrayBit t start) a
     (λ at s. record { number = s.number; below = s.block.below; stray = s.block.stray; is = s.is })
     (λ at s.
@@ -132,10 +119,10 @@ all_words t start class n a is is_class all least = least_same (IsStrayInWords t
     least
 
 -- one index entry
-pub one_place : (t : Tables) (start place old number at : ℕ) → t.old start ≡ old → number ≡ t.number start place → t.live start place ≡ true → ¬ (IsRooted t (slab_block start old number)) → at ≡ (slab_block start old number).at → IsLeast (IsStrayPlace t start place) at
+pub one_place : (t : Tables) (start place old number at : ℕ) → (t.header start).old ≡ old → number ≡ (t.header start).number place → (t.header start).live place ≡ true → ¬ (IsRooted t (slab_block start old number)) → at ≡ (slab_block start old number).at → IsLeast (IsStrayPlace t start place) at
 one_place t start place old number at is of live none here =
-    let block : slab_block start old number ≡ slab_block start (t.old start) (t.number start place) = ap (λ o. slab_block start o number) (sym is) ∙ ap (λ n. slab_block start (t.old start) n) of in
-    let there : at ≡ (slab_block start (t.old start) (t.number start place)).at = here ∙ ap (λ (r : Range). r.at) block in
+    let block : slab_block start old number ≡ slab_block start (t.header start).old ((t.header start).number place) = ap (λ o. slab_block start o number) (sym is) ∙ ap (λ n. slab_block start (t.header start).old n) of in
+    let there : at ≡ (slab_block start (t.header start).old ((t.header start).number place)).at = here ∙ ap (λ (r : Range). r.at) block in
     record {
       here = record { live = live; is = there; none = subst (λ r. ¬ (IsRooted t r)) block none };
       least = λ other s. omega (arith, there, s.is);
@@ -156,28 +143,28 @@ old_more t start n a b before here is = least_either (IsStrayOld t start n) (IsS
 
 -- a slab
 
-pub stray_of_bit : (t : Tables) (start at : ℕ) → t.slab start ≡ true → t.kind start ≢ 2 → IsStrayBit t start at → IsStray t start at
+pub stray_of_bit : (t : Tables) (start at : ℕ) → t.slab start ≡ true → (t.header start).kind ≢ 2 → IsStrayBit t start at → IsStray t start at
 stray_of_bit t start at slab read s =
-    let same : record { at = at; size = class_size (t.class start) } ≡ slab_block start (t.class start) s.number = ap (λ a. record { at = a; size = class_size (t.class start) }) s.is in
+    let same : record { at = at; size = class_size (t.header start).class } ≡ slab_block start (t.header start).class s.number = ap (λ a. record { at = a; size = class_size (t.header start).class }) s.is in
     record {
-      size = class_size (t.class start);
+      size = class_size (t.header start).class;
       holds = record { slab = slab; block = inl (record { number = s.number; below = s.below; read = read; set = s.stray.set; is = same }) };
       none = subst (λ r. ¬ (IsRooted t r)) (sym same) s.stray.none;
     }
 
-pub stray_of_old : (t : Tables) (start at : ℕ) → t.slab start ≡ true → IsStrayOld t start (t.index_count start) at → IsStray t start at
+pub stray_of_old : (t : Tables) (start at : ℕ) → t.slab start ≡ true → IsStrayOld t start (t.header start).index_count at → IsStray t start at
 stray_of_old t start at slab s =
-    let block = slab_block start (t.old start) (t.number start s.place) in
-    let same : record { at = at; size = class_size (t.old start) } ≡ block = ap (λ a. record { at = a; size = class_size (t.old start) }) s.stray.is in
+    let block = slab_block start (t.header start).old ((t.header start).number s.place) in
+    let same : record { at = at; size = class_size (t.header start).old } ≡ block = ap (λ a. record { at = a; size = class_size (t.header start).old }) s.stray.is in
     record {
-      size = class_size (t.old start);
+      size = class_size (t.header start).old;
       holds = record { slab = slab; block = inr (record { place = s.place; below = s.below; live = s.stray.live; is = same }) };
       none = subst (λ r. ¬ (IsRooted t r)) (sym same) s.stray.none;
     }
 
-pub stray_parts : (t : Tables) (start at : ℕ) → IsStray t start at → ((t.kind start ≢ 2) × IsStrayBit t start at) ⊎ IsStrayOld t start (t.index_count start) at
+pub stray_parts : (t : Tables) (start at : ℕ) → IsStray t start at → (((t.header start).kind ≢ 2) × IsStrayBit t start at) ⊎ IsStrayOld t start (t.header start).index_count at
 stray_parts t start at s = ⊎_elim
-    (λ (held : HoldsBit t start (record { at = at; size = s.size })). inl (
+    (λ (held : HoldsBit (t.header start) start (record { at = at; size = s.size })). inl (
       held.read,
       record {
         number = held.number;
@@ -186,7 +173,7 @@ stray_parts t start at s = ⊎_elim
         is = ap (λ (r : Range). r.at) held.is;
       },
     ))
-    (λ (held : HoldsOld t start (record { at = at; size = s.size })). inr (record {
+    (λ (held : HoldsOld (t.header start) start (record { at = at; size = s.size })). inr (record {
       place = held.place;
       below = held.below;
       stray = record { live = held.live; is = ap (λ (r : Range). r.at) held.is; none = subst (λ r. ¬ (IsRooted t r)) held.is s.none };

@@ -19,23 +19,23 @@ pub record AreSlabsInside (words : List ℕ) : Type 0 where
 pub record HasNumber (t : Tables) (start n number : ℕ) : Type 0 where
   pub place : ℕ
   pub below : place < n
-  pub is : t.number start place ≡ number
+  pub is : (t.header start).number place ≡ number
 
 -- the word of a place has the form of an index entry, its number is a block's, and no earlier entry has it
 pub record IsGoodPlace (words : List ℕ) (start place : ℕ) : Type 0 where
   pub form : IsIndexWord (word_at words (index_word start place))
-  pub small : (tables_of words).number start place < class_capacity ((tables_of words).old start)
-  pub new : (earlier : ℕ) → earlier < place → (tables_of words).number start earlier ≢ (tables_of words).number start place
+  pub small : ((tables_of words).header start).number place < class_capacity ((tables_of words).header start).old
+  pub new : (earlier : ℕ) → earlier < place → ((tables_of words).header start).number earlier ≢ ((tables_of words).header start).number place
 
 -- every place that is read is
 pub record AreGoodPlaces (words : List ℕ) (start : ℕ) : Type 0 where
-  pub each : (place : ℕ) → place < (tables_of words).index_count start → IsGoodPlace words start place
+  pub each : (place : ℕ) → place < ((tables_of words).header start).index_count → IsGoodPlace words start place
 
 -- the state word of a slab has the form of one and says this state
 pub record IsStateOf (words : List ℕ) (start : ℕ) (state : SlabState) : Type 0 where
   pub form : IsStateWord (word_at words (state_word start))
-  pub old : (tables_of words).old start ≡ old_of state
-  pub entries : (tables_of words).index_count start ≡ entries_of state
+  pub old : ((tables_of words).header start).old ≡ old_of state
+  pub entries : ((tables_of words).header start).index_count ≡ entries_of state
   pub valid : IsValidState state
 
 -- the slab that starts at a granule, if one does, has a good header

@@ -1,7 +1,7 @@
 pub mod Arena
 pub mod Claims
 pub mod Headers
-pub mod Opening
+pub mod OpenWords
 pub mod Pairs
 pub mod Claimed
 pub mod Roots

@@ -7,15 +7,15 @@ use Rattle.image_defects.specs.Blocks.{IsRooted}
 
 -- the bit of a block is set, and no root has the block
 pub record IsStrayNumber (t : Tables) (start number : ℕ) : Type 0 where
-  pub set : t.bit start number ≡ true
-  pub none : ¬ (IsRooted t (slab_block start (t.class start) number))
+  pub set : (t.header start).bit number ≡ true
+  pub none : ¬ (IsRooted t (slab_block start (t.header start).class number))
 
 -- the slab has such a bit, and its block is at the address
 pub record IsStrayBit (t : Tables) (start at : ℕ) : Type 0 where
   pub number : ℕ
-  pub below : number < class_capacity (t.class start)
+  pub below : number < class_capacity (t.header start).class
   pub stray : IsStrayNumber t start number
-  pub is : at ≡ (slab_block start (t.class start) number).at
+  pub is : at ≡ (slab_block start (t.header start).class number).at
 
 -- the word of a slab's bitmap that has the bit of a block, and the block of a bit of a word
 abbrev pub word_of : ℕ → ℕ
@@ -26,7 +26,7 @@ number_in word bit = 512 * (word / 8) + 8 * bit + word % 8
 
 -- a block of the slab's class has its bit set, and no root has the block
 pub record IsStrayBlock (t : Tables) (start number : ℕ) : Type 0 where
-  pub below : number < class_capacity (t.class start)
+  pub below : number < class_capacity (t.header start).class
   pub stray : IsStrayNumber t start number
 
 -- one with its bit in this word of the bitmap is at the address
@@ -34,13 +34,13 @@ pub record IsStrayInWord (t : Tables) (start word at : ℕ) : Type 0 where
   pub number : ℕ
   pub block : IsStrayBlock t start number
   pub word_is : word_of number ≡ word
-  pub is : at ≡ (slab_block start (t.class start) number).at
+  pub is : at ≡ (slab_block start (t.header start).class number).at
 
 -- a place of the index table has a live old block at the address, and no root has it
 pub record IsStrayPlace (t : Tables) (start place at : ℕ) : Type 0 where
-  pub live : t.live start place ≡ true
-  pub is : at ≡ (slab_block start (t.old start) (t.number start place)).at
-  pub none : ¬ (IsRooted t (slab_block start (t.old start) (t.number start place)))
+  pub live : (t.header start).live place ≡ true
+  pub is : at ≡ (slab_block start (t.header start).old ((t.header start).number place)).at
+  pub none : ¬ (IsRooted t (slab_block start (t.header start).old ((t.header start).number place)))
 
 -- one of the first n places does
 pub record IsStrayOld (t : Tables) (start n at : ℕ) : Type 0 where

@@ -33,10 +33,10 @@ fn has_number(words: &[u64], start: u32, n: u32, number: u32) -> bool
 // A place of a slab's index table is of the format.
 fn is_good_place(words: &[u64], start: u32, old: u8, place: u32) -> bool
     requires at { IsSlabAt words.now start }
-    requires old { (tables_of words.now).old start ≡ old }
+    requires old { ((tables_of words.now).header start).old ≡ old }
     requires is_class { old < 36 }
     requires few { place < 64 }
-    requires below { place < (tables_of words.now).index_count start }
+    requires below { place < ((tables_of words.now).header start).index_count }
     ensures good { IsTrue result → IsGoodPlace words.now start place }
     ensures bad { result ≡ false → IsBadPlace words.now start place }
 {
@@ -53,9 +53,9 @@ fn is_good_place(words: &[u64], start: u32, old: u8, place: u32) -> bool
 // The first word of a slab's index table that is not of the format.
 fn bad_index(words: &[u64], start: u32, old: u8, entries: u8) -> Option<u64>
     requires at { IsSlabAt words.now start }
-    requires old { (tables_of words.now).old start ≡ old }
+    requires old { ((tables_of words.now).header start).old ≡ old }
     requires is_class { old < 36 }
-    requires entries { (tables_of words.now).index_count start ≡ entries }
+    requires entries { ((tables_of words.now).header start).index_count ≡ entries }
     requires few { entries ≤ 64 }
     ensures { MatchOption result (AreGoodPlaces words.now start) (IsBadIndex words.now start) }
 {

@@ -18,7 +18,7 @@ mod least;
 mod lines;
 mod log;
 mod loose;
-mod opening;
+mod open_words;
 mod overlap;
 mod root;
 mod shared;

@@ -8,9 +8,9 @@ ghost use Rattle.image_defects.specs.Least.{IsLeast};
 ghost use Rattle.image_defects.specs.Wal.{IsGoodWal, IsBadLine};
 ghost use Rattle.image_reading.specs.Slabs.{AreSlabs};
 ghost use Rattle.image_reading.specs.Held.{AreSlabsAt};
-ghost use Rattle.defect_search.specs.Opening.{AreClosedFrom, IsNextLine};
+ghost use Rattle.defect_search.specs.OpenWords.{AreClosedFrom, IsNextLine};
 
-use crate::opening::is_open_word;
+use crate::open_words::is_open_word;
 use attach_wal::entry_of;
 use book_log::BookLog;
 use image_reading::{Slab, wal_word};

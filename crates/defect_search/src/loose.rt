@@ -4,10 +4,10 @@ ghost use Rattle.image_tables.specs.Tables.{is_slab, state_field, tables_of};
 ghost use Rattle.pool_layout.specs.Layout.{layout_of};
 ghost use Rattle.pool_layout.specs.Header.{version_in, granules_in};
 ghost use Rattle.book_log.specs.Book.{Reads};
-ghost use Rattle.heap_check.specs.Sound.{IsLooseLarge, IsEmptySlab, IsMorphing, IsDoneSlab};
+ghost use Rattle.heap_check.specs.Sound.{IsLooseLarge, IsEmptySlab, IsMorphing, IsDoneSlab, AreFewLoose};
 ghost use Rattle.defect_search.specs.Roots.{mark_in, IsNamedStart, IsNamedGranule, AreMarks};
 ghost use Rattle.image_reading.specs.Slabs.{IsSlabAt};
-ghost use Rattle.image_defects.specs.Loose.{AreLoose, IsTooMany, AreFewLoose};
+ghost use Rattle.image_defects.specs.Loose.{AreLoose, IsTooMany};
 ghost use Rattle.defect_search.specs.Arena.{IsArena};
 
 use book_log::BookLog;
@@ -155,7 +155,7 @@ pub fn is_empty_slab(words: &[u64], log: &BookLog, met: &[bool], start: u32) -> 
 fn is_kind(words: &[u64], log: &BookLog, start: u32, kind: u32) -> bool
     requires arena { IsArena words.now }
     requires reads { Reads log.now words.now }
-    ensures slab { IsTrue result ↔ ((is_slab words.now start ≡ true) × ((tables_of words.now).kind start ≡ kind)) }
+    ensures slab { IsTrue result ↔ ((is_slab words.now start ≡ true) × (((tables_of words.now).header start).kind ≡ kind)) }
     ensures at { IsTrue result → IsSlabAt words.now start }
 {
     if !is_slab(log, start) {
@@ -177,7 +177,7 @@ pub fn is_morphing(words: &[u64], log: &BookLog, start: u32) -> bool
 fn is_all_dead(words: &[u64], start: u32) -> bool
     requires slab { IsSlabAt words.now start }
     requires few { state_field words.now start 24 ≤ 64 }
-    ensures { IsTrue result ↔ ((place : ℕ) → place < state_field words.now start 24 → (tables_of words.now).live start place ≡ false) }
+    ensures { IsTrue result ↔ ((place : ℕ) → place < state_field words.now start 24 → ((tables_of words.now).header start).live place ≡ false) }
 {
     for place in 0..state_field(words, start, 24) {
         if live_at(words, start, place) {

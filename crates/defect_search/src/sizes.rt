@@ -8,7 +8,7 @@ ghost use Rattle.image_reading.specs.Extents.{HasExtents};
 ghost use Rattle.image_reading.specs.Slabs.{IsRead};
 ghost use Rattle.image_reading.specs.Held.{AreSlabsAt};
 
-use crate::opening::class_of;
+use crate::open_words::class_of;
 use crate::root::open_at;
 use book_log::BookLog;
 use image_reading::{Slab, has_old, is_large, is_slab, large_at, read_slab};
@@ -47,7 +47,7 @@ pub fn slab_of(log: &BookLog, granule: u32) -> u32
 fn class_by(words: &[u64], log: &BookLog, start: u32, of_old: bool) -> u8
     requires reads { Reads log.now words.now }
     requires slabs { AreSlabsAt words.now }
-    ensures class { (if of_old then (tables_of words.now).old start else (tables_of words.now).class start) ≡ result }
+    ensures class { (if of_old then ((tables_of words.now).header start).old else ((tables_of words.now).header start).class) ≡ result }
     ensures is_class { result < 36 }
 {
     if !is_slab(log, start) {
@@ -79,7 +79,7 @@ fn size_by(words: &[u64], log: &BookLog, at: u64, of_old: bool) -> u64
 // A live entry of a slab's index table has its block at this byte.
 fn has_old_in(words: &[u64], slab: Slab, at: u64) -> bool
     requires { IsRead words.now slab }
-    ensures { result ≡ is_old (tables_of words.now) slab.start at }
+    ensures { result ≡ is_old ((tables_of words.now).header slab.start) slab.start at }
 {
     match slab.state {
         SlabState::Normal { .. } => false,
@@ -92,7 +92,7 @@ fn has_old_in(words: &[u64], slab: Slab, at: u64) -> bool
 fn is_old_in(words: &[u64], log: &BookLog, start: u32, at: u64) -> bool
     requires reads { Reads log.now words.now }
     requires slabs { AreSlabsAt words.now }
-    ensures { result ≡ is_old (tables_of words.now) start at }
+    ensures { result ≡ is_old ((tables_of words.now).header start) start at }
 {
     if !is_slab(log, start) {
         return false;
@@ -104,7 +104,7 @@ fn is_old_in(words: &[u64], log: &BookLog, start: u32, at: u64) -> bool
 fn is_old_at(words: &[u64], log: &BookLog, at: u64) -> bool
     requires reads { Reads log.now words.now }
     requires slabs { AreSlabsAt words.now }
-    ensures { result ≡ is_old (tables_of words.now) (slab_of (tables_of words.now).slab (at / 16384)) at }
+    ensures { result ≡ is_old ((tables_of words.now).header (slab_of (tables_of words.now).slab (at / 16384))) (slab_of (tables_of words.now).slab (at / 16384)) at }
 {
     let granule = at / 16384;
     if granule >= 65536 {

@@ -91,7 +91,7 @@ module _ (roots : ℕ) (many : 2001 ≤ roots) where
   fit_with m s d slab differs holds within few each = record {
     class = d;
     slab = slab;
-    calm = λ moving.
+    no_transition = λ moving.
         let class : moving.class ≡ d = (let is = moving.slab in cc) in
         moving.other ((each.each moving.root moving.range moving.named).size moving.lies ∙ sym (ap class_size class));
     differs = differs;

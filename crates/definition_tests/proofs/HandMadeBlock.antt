@@ -19,13 +19,15 @@ tables start count words entry = record {
   open_entry = entry;
   large = λ g. only 4 count g;
   slab = λ g. g == start;
-  kind = λ g. only start 1 g;
-  class = λ g. only start 6 g;
-  old = λ g. 0;
-  index_count = λ g. 0;
-  bit = λ g i. (g == start) && (i == 0);
-  live = λ g place. false;
-  number = λ g place. 0;
+  header = λ g. record {
+    kind = only start 1 g;
+    class = only start 6 g;
+    old = 0;
+    index_count = 0;
+    bit = λ i. (g == start) && (i == 0);
+    live = λ place. false;
+    number = λ place. 0;
+  };
 }
 
 only_here : (key value : ℕ) → only key value key ≡ value
@@ -43,9 +45,9 @@ module _ (start count : ℕ) (words : ℕ → ℕ) (entry : Option WalEntry) whe
   unfolding tables
   extents before behind = record { slab = λ g. refl; large = λ g. refl; before = before; behind = behind }
 
-  pub slab_valid : IsValidSlab (tables start count words entry) start
+  pub slab_valid : IsValidSlab ((tables start count words entry).header start)
   unfolding tables
-  slab_valid = normal_slab image start (only_here start 1) (omega (arith, only_here start 6)) refl refl
+  slab_valid = normal_slab (image.header start) (only_here start 1) (omega (arith, only_here start 6)) refl refl
 
   -- what the slab holds
 
@@ -65,8 +67,8 @@ module _ (start count : ℕ) (words : ℕ → ℕ) (entry : Option WalEntry) whe
   pub held_is : (range : Range) → Holds (tables start count words entry) start range → range ≡ slab_block start 6 0
   unfolding tables
   held_is range holds = ⊎_elim
-      (λ (bit : HoldsBit image start range).
+      (λ (bit : HoldsBit (image.header start) start range).
       let set : (bit.number == 0) ≡ true = ap (λ here. here && (bit.number == 0)) (sym (eq-eqb start start refl)) ∙ bit.set in
       bit.is ∙ ap (λ c. slab_block start c bit.number) (only_here start 6) ∙ ap (slab_block start 6) (eqb-true bit.number 0 set))
-      (λ (old : HoldsOld image start range). absurd (omega (arith, old.below)))
+      (λ (old : HoldsOld (image.header start) start range). absurd (omega (arith, old.below)))
       holds.block

@@ -47,7 +47,7 @@ leaving_open = record {
     word = inl refl;
     block = inr (refl, record { start = 12; slab = refl; kind = refl; below = omega arith; is = refl });
   };
-  calm = λ start slab morphing. omega (arith, morphing, ap leaving.kind (slab_is (extents 3 0 199680 (Some old_entry)) start slab));
+  none_morphing = λ start slab morphing. omega (arith, morphing, ap (λ s. (leaving.header s).kind) (slab_is (extents 3 0 199680 (Some old_entry)) start slab));
 }
 
 -- the block of the entry counts as the root's

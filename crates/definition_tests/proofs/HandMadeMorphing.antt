@@ -31,7 +31,7 @@ not_done : (start : ℕ) → ¬ (IsNearlyDone morphing start)
 unfolding morphing tables
 not_done start done =
     let here = slab_is (extents 2 198656 0 None) start done.slab in
-    let leaving = done.none 0 (omega (arith, ap morphing.index_count here)) (ap (λ s. morphing.live s 0) here) in
+    let leaving = done.none 0 (omega (arith, ap (λ s. (morphing.header s).index_count) here)) (ap (λ s. (morphing.header s).live 0) here) in
     cc (closed, leaving.entry)
 
 -- and its heap has the two blocks

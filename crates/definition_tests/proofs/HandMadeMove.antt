@@ -64,7 +64,7 @@ image_open : IsOpen bounds image entry
 unfolding image tables words_of
 image_open = record {
   entry = record { low = omega arith; high = omega arith; differ = omega arith; some = inl (omega arith); same = λ one other. refl };
-  calm = λ start slab morphing. omega (arith, morphing, ap image.kind (slab_is image_extents start slab));
+  none_morphing = λ start slab morphing. omega (arith, morphing, ap (λ s. (image.header s).kind) (slab_is image_extents start slab));
 }
 
 is_open : image.open_entry ≡ Some entry

@@ -3,7 +3,7 @@
 use Rattle.std.proofs.Common.{◌≡◌, ◌≢◌, ◌⊎◌, ◌==◌, ℕ, ◌+◌, ◌<◌, ◌≤◌, true, false, cond, Some, None, refl, sym, ap, ◌∙◌, arith, subst, inl, inr, ⊎_elim}
 use Rattle.std.proofs.lemmas.Bool.{cases_eq, cases_Bool, cases_lt, ne_eqb, eqb-true}
 use Rattle.image_tables.specs.declared.entry.WalEntry.{WalEntry}
-use Rattle.image_tables.specs.Tables.{Tables}
+use Rattle.image_tables.specs.Tables.{SlabHeader, Tables}
 use Rattle.heap_model.specs.Machine.{Bounds, Range, AreApart}
 use Rattle.heap_check.specs.Heap.{entry_at, IsClaim, Holds}
 use Rattle.heap_check.specs.Sound.{granules_at, Covers, IsInSlab, IsValidSlab, IsOpen, IsStanding, IsDoneSlab, IsSound, IsSteady, IsExact}
@@ -22,8 +22,8 @@ pub no_claim : (t : Tables) (root : ℕ) (range : Range) → t.root root ≡ 0 �
 no_claim t root range none unnamed claim = let is = IsNamed-claim t root range unnamed claim in is.some (sym is.word ∙ none)
 
 -- a slab that took no class after its first is valid
-pub normal_slab : (t : Tables) (start : ℕ) → t.kind start ≡ 1 → t.class start < 36 → t.old start ≡ 0 → t.index_count start ≡ 0 → IsValidSlab t start
-normal_slab t start normal is_class no_old no_entries = record {
+pub normal_slab : (h : SlabHeader) → h.kind ≡ 1 → h.class < 36 → h.old ≡ 0 → h.index_count ≡ 0 → IsValidSlab h
+normal_slab h normal is_class no_old no_entries = record {
   state = record {
     kinds = inl normal;
     is_class = is_class;
@@ -45,7 +45,7 @@ pub record HasExtents (t : Tables) (start count : ℕ) : Type 0 where
 
 -- where a root's block stands and what slabs hold
 pub record HasBlocks (t : Tables) (start : ℕ) : Type 0 where
-  pub slab : IsValidSlab t start
+  pub slab : IsValidSlab (t.header start)
   pub open_entry : (e : WalEntry) → t.open_entry ≡ Some e → IsOpen bounds t e
   pub rooted : (root : ℕ) → t.root root ≢ 0 → IsStanding t root (t.root root)
   pub apart : (root other : ℕ) (range another : Range) → root ≢ other → IsClaim t root range → IsClaim t other another → AreApart range another
@@ -98,30 +98,32 @@ module _ {t : Tables} {start count : ℕ} (has : HasExtents t start count) where
 
   pub sound_by : HasBlocks t start → IsSound bounds t
   sound_by blocks = record {
-    disjoint = disjoint;
-    starts = starts;
-    one_kind = one_kind;
-    slabs = λ g slab. subst (IsValidSlab t) (sym (slab_is g slab)) blocks.slab;
-    open_entry = blocks.open_entry;
-    rooted = blocks.rooted;
-    apart = blocks.apart;
-    claimed = λ g range holds. blocks.claimed range (subst (λ s. Holds t s range) (slab_is g holds.slab) holds);
-    loose_large = record { same = λ one other first second. (large_is one first.live).0 ∙ sym (large_is other second.live).0 };
-    empty_slab = record { same = λ one other first second. one_slab one other first.slab second.slab };
-    morphing = record { same = λ one other first second. one_slab one other first.slab second.slab };
-    done = record { same = λ one other first second. one_slab one other first.slab second.slab };
+    extents = record { disjoint = disjoint; starts = starts; one_kind = one_kind };
+    slabs = λ g slab. subst (λ s. IsValidSlab (t.header s)) (sym (slab_is g slab)) blocks.slab;
+    owned = record {
+      open_entry = blocks.open_entry;
+      rooted = blocks.rooted;
+      apart = blocks.apart;
+      claimed = λ g range holds. blocks.claimed range (subst (λ s. Holds t s range) (slab_is g holds.slab) holds);
+    };
+    loose = record {
+      large = record { same = λ one other first second. (large_is one first.live).0 ∙ sym (large_is other second.live).0 };
+      empty = record { same = λ one other first second. one_slab one other first.slab second.slab };
+      morphing = record { same = λ one other first second. one_slab one other first.slab second.slab };
+      done = record { same = λ one other first second. one_slab one other first.slab second.slab };
+    };
   }
 
   pub steady_by : HasBlocks t start → IsSteady bounds t
   steady_by blocks = record { sound = sound_by blocks; one_done = record { same = λ one other first second. one_slab one other first.slab second.slab } }
 
   -- where no entry is open, root 0 has the large extent, another root a block in the slab, and the slab is not in transition
-  pub exact_by : HasBlocks t start → t.open_entry ≡ None → t.root 0 ≡ 65536 → (root : ℕ) → t.root root ≢ 0 → IsInSlab t start (t.root root) → t.kind start ≢ 2 → ¬ (IsDoneSlab t start) → IsExact bounds t
-  exact_by blocks closed named root some inside calm not_done = record {
+  pub exact_by : HasBlocks t start → t.open_entry ≡ None → t.root 0 ≡ 65536 → (root : ℕ) → t.root root ≢ 0 → IsInSlab t start (t.root root) → (t.header start).kind ≢ 2 → ¬ (IsDoneSlab t start) → IsExact bounds t
+  exact_by blocks closed named root some inside none_morphing not_done = record {
     sound = sound_by blocks;
     closed = closed;
     all_named = λ g live. (0, omega (arith, (large_is g live).0, named));
     all_live = λ g slab. (root, some, subst (λ s. IsInSlab t s (t.root root)) (sym (slab_is g slab)) inside);
-    calm = λ g is. calm (ap t.kind (sym (slab_is g is.slab)) ∙ is.kind);
+    none_morphing = λ g is. none_morphing (ap (λ s. (t.header s).kind) (sym (slab_is g is.slab)) ∙ is.kind);
     none_done = λ g is. not_done (subst (IsDoneSlab t) (slab_is g is.slab) is);
   }

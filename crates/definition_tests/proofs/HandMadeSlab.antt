@@ -29,13 +29,15 @@ tables kind old_word new_word entry = record {
   open_entry = entry;
   large = λ g. only 4 8 g;
   slab = λ g. g == 12;
-  kind = λ g. only 12 kind g;
-  class = λ g. only 12 19 g;
-  old = λ g. only 12 3 g;
-  index_count = λ g. only 12 1 g;
-  bit = λ g i. (g == 12) && (i == 1);
-  live = λ g place. (g == 12) && (place == 0);
-  number = λ g place. 0;
+  header = λ g. record {
+    kind = only 12 kind g;
+    class = only 12 19 g;
+    old = only 12 3 g;
+    index_count = only 12 1 g;
+    bit = λ i. (g == 12) && (i == 1);
+    live = λ place. (g == 12) && (place == 0);
+    number = λ place. 0;
+  };
 }
 
 abbrev pub old_block : Range
@@ -52,7 +54,7 @@ module _ (kind old_word new_word : ℕ) (entry : Option WalEntry) where
   unfolding tables
   extents = record { slab = λ g. refl; large = λ g. refl; before = omega arith; behind = omega arith }
 
-  pub slab_valid : (kind ≡ 2) ⊎ (kind ≡ 3) → IsValidSlab (tables kind old_word new_word entry) 12
+  pub slab_valid : (kind ≡ 2) ⊎ (kind ≡ 3) → IsValidSlab ((tables kind old_word new_word entry).header 12)
   unfolding tables class_size sizes
   slab_valid transit = record {
     state = record {
@@ -80,8 +82,8 @@ module _ (kind old_word new_word : ℕ) (entry : Option WalEntry) where
   pub held_is : (range : Range) → Holds (tables kind old_word new_word entry) 12 range → (range ≡ old_block) ⊎ ((kind ≢ 2) × (range ≡ new_block))
   unfolding tables
   held_is range holds = ⊎_elim
-      (λ (bit : HoldsBit image 12 range). inr (bit.read, bit.is ∙ ap (slab_block 12 19) (eqb-true bit.number 1 bit.set)))
-      (λ (old : HoldsOld image 12 range). inl old.is)
+      (λ (bit : HoldsBit (image.header 12) 12 range). inr (bit.read, bit.is ∙ ap (slab_block 12 19) (eqb-true bit.number 1 bit.set)))
+      (λ (old : HoldsOld (image.header 12) 12 range). inl old.is)
       holds.block
 
 -- The blocks of roots are these at most, and then they are apart, one behind the other.

@@ -94,8 +94,8 @@ unused_behind d n c j behind = record {
 
 module _ (roots d n : ℕ) (some : 0 < class_size d) (within : n < class_capacity d) (few : n + 1 < roots) where
   -- the slab is not in transition
-  calm : ¬ (IsInTransition (filled d n) 12)
-  calm moving =
+  no_transition : ¬ (IsInTransition (filled d n) 12)
+  no_transition moving =
       let same = (one_slab d n 12 moving.class moving.slab).1 in
       ⊎_elim
       (λ large. let at = ap (λ (r : Range). r.at) large.1 in omega (arith, moving.lies.low, at))
@@ -120,7 +120,7 @@ module _ (roots d n : ℕ) (some : 0 < class_size d) (within : n < class_capacit
           fit = record {
             class = d;
             slab = ap (λ (row : ℕ → Option ℕ). row 12) (slab_filled d n);
-            calm = calm;
+            no_transition = no_transition;
             differs = differ;
             few = omega (arith, live, most);
             sparse = omega (arith, live, fifth);

@@ -49,17 +49,17 @@ module _ (roots : ℕ) (many : 2001 ≤ roots) where
   unfolding class_size sizes
   in_transition = record { class = 19; slab = refl; root = 1; range = slab_block 12 3 0; named = refl; lies = record { low = lit≤ tt; high = lit≤ tt }; other = λ same. omega (arith, same) }
 
-  abbrev calmed : Machine
-  calmed = without_block b morphed 1 (slab_block 12 3 0)
+  abbrev ended : Machine
+  ended = without_block b morphed 1 (slab_block 12 3 0)
 
-  transition_ends : Leads (IsEntry b) morphed (by_seat 0 (Free 1) (Freed 198656 64) ∷ by_seat 0 (Malloc 3 1000) (Placed 198656 1024) ∷ []) (with_block calmed 3 (InSlab 12 19 0))
+  transition_ends : Leads (IsEntry b) morphed (by_seat 0 (Free 1) (Freed 198656 64) ∷ by_seat 0 (Malloc 3 1000) (Placed 198656 1024) ∷ []) (with_block ended 3 (InSlab 12 19 0))
   unfolding class_size sizes
   transition_ends = (
-    calmed,
+    ended,
     inr (λ past. omega (arith, past, many), inl (record { range = slab_block 12 3 0; named = refl }, (refl, refl))),
     (
-      with_block calmed 3 (InSlab 12 19 0),
-      IsStep-granted b calmed 3 1000 (omega (arith, many)) refl (λ none. omega (arith, none)) (lit≤ tt) (InSlab 12 19 0) (record {
+      with_block ended 3 (InSlab 12 19 0),
+      IsStep-granted b ended 3 1000 (omega (arith, many)) refl (λ none. omega (arith, none)) (lit≤ tt) (InSlab 12 19 0) (record {
         least = class_above 1000 18 (lit< tt) (lit< tt) (lit≤ tt);
         slab = slabs_stay b morphed 1 2 (slab_block 12 3 0) 12 (omega (arith, many)) (λ same. omega (arith, same)) (record { range = slab_block 12 19 1; named = refl; low = lit≤ tt; high = lit< tt });
         block = record { within = lit< tt; unused = record { each = apart } };
@@ -68,7 +68,7 @@ module _ (roots : ℕ) (many : 2001 ≤ roots) where
     ),
   )
     where
-      apart : (root : ℕ) (range : Range) → calmed.block root ≡ Some range → AreApart (slab_block 12 19 0) range
+      apart : (root : ℕ) (range : Range) → ended.block root ≡ Some range → AreApart (slab_block 12 19 0) range
       apart root range named = ⊎_elim
           (λ gone. absurd (let none = gone.1 in cc))
           (λ left. ⊎_elim

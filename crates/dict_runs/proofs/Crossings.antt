@@ -1,12 +1,7 @@
 -- What a watch saw of calls of the arena, one after another: the call under way at its event is among them, or all were counted.
 use Rattle.std.proofs.Common.{◌≡◌, ◌⊎◌, ℕ, ◌+◌, ◌-◌, ◌<◌, ◌≤◌, true, false, List, [], ◌∷◌, length, Option, Some, None, is_some, refl, sym, ap, ◌∙◌, subst, inl, inr, ⊎_elim, arith, ltb, leb}
-use Rattle.std.proofs.lemmas.Bool.{cases_lt, lt-ltb, le-ltb, le-leb, lt-leb, and_from, and_left, and_right}
-use Rattle.std.specs.Prelude.{MatchOption}
-use Rattle.std.specs.Bool.{MatchBool}
-use Rattle.trace_runs.specs.Runs.{Stage, total_events}
+use Rattle.dict_runs.proofs.Common.{cases_lt, lt-ltb, le-ltb, le-leb, lt-leb, and_from, and_left, and_right, MatchOption, MatchBool, Stage, total_events, Pair, IsEitherDict}
 use Rattle.trace_crashes.specs.Crash.{crash_image}
-use Rattle.attach_dict.specs.Dict.{Pair}
-use Rattle.attach_dict.specs.Calls.{IsEitherDict}
 use Rattle.dict_runs.specs.declared.watching.Watch.{Watch}
 use Rattle.dict_runs.specs.Crashes.{IsImageWithin, is_within}
 use Rattle.dict_runs.specs.Looks.{HasSeenAll}

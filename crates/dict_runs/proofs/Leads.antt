@@ -1,19 +1,11 @@
 -- What one call of an arena leads to, from where the arena stood.
 use Rattle.std.proofs.Common.{◌≡◌, ℕ, List, ap, sym, ◌∙◌, subst, refl, Ok}
-use Rattle.pmem_lines.specs.Pmem.{PmemState, words_of}
-use Rattle.heap_model.specs.declared.call.Call.{Call}
+use Rattle.dict_runs.proofs.Common.{PmemState, words_of, Call, Reply, Bounds, Machine, bounds_of, HasState, ArenaState, IsWriteOf, last_stage}
 use Rattle.heap_model.specs.declared.call.Call.TheVariants as calls
-use Rattle.heap_model.specs.declared.call.Reply.{Reply}
 use Rattle.heap_model.specs.declared.call.Reply.TheVariants as replies
-use Rattle.heap_model.specs.Machine.{Bounds, Machine}
 use Rattle.heap_model.specs.Placement.{Stacks, IsPlacedStep}
 use Rattle.thread_cache.specs.Stacks.{stacks_of}
-use Rattle.heap_check.specs.Image.{bounds_of}
-use Rattle.heap_check.specs.State.{HasState}
-use Rattle.arena_core.specs.Arena.{ArenaState}
 use Rattle.arena_core.specs.Answered.{IsAnswered, IsMoveAnswered, IsWriteAnswered}
-use Rattle.arena_core.specs.Payload.{IsWriteOf}
-use Rattle.trace_crashes.specs.Seek.{last_stage}
 use Rattle.dict_runs.specs.Acts.{Act, Ask, Fill, Leads}
 use Rattle.dict_runs.specs.Turns.{standing}
 

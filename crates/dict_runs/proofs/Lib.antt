@@ -1,3 +1,4 @@
+mod Common
 mod Leads
 mod Crossings
 mod Turns
@@ -7,3 +8,4 @@ mod Searches
 mod Listing
 mod Reports
 mod Sizes
+mod Settled

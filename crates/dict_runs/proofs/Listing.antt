@@ -1,13 +1,7 @@
 -- A map, gone through by rising key.
 use Rattle.std.proofs.Common.{◌≡◌, ◌⊎◌, ℕ, ◌+◌, ◌<◌, ◌≤◌, ◌^◌, List, [], ◌∷◌, ◌++◌, length, length-append, flat_map, Some, None, refl, sym, ap, ◌∙◌, subst, append_assoc, inl, inr, ⊎_elim, arith}
-use Rattle.std.specs.Prelude.{min}
-use Rattle.std.proofs.lemmas.Grind.{flat_map-append}
-use Rattle.std.proofs.lemmas.List.{append-nil}
-use Rattle.std.proofs.lemmas.Bool.{cases_lt}
-use Rattle.attach_dict.specs.Dict.{Pair, value_of, AreAbove, AreRising}
+use Rattle.dict_runs.proofs.Common.{min, flat_map-append, append-nil, cases_lt, Pair, value_of, AreAbove, AreRising, value_here, value_else, absent, pair_line}
 use Rattle.attach_dict.specs.View.{HasNoneFrom, IsNextFrom}
-use Rattle.attach_dict.proofs.Maps.{value_here, value_else, absent}
-use Rattle.dict_text.specs.Report.{pair_line}
 
 -- every key is this one or above it
 abbrev AreFrom : ℕ → List Pair → Type 0

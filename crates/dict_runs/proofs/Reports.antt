@@ -1,9 +1,7 @@
 -- The report of a script, once its map is written.
 use Rattle.std.proofs.Common.{◌≡◌, ◌++◌, ℕ, List, flat_map, Result, Ok, Err, ap, sym, ◌∙◌, append_assoc}
 use Rattle.std.specs.Result.{OnOk}
-use Rattle.attach_dict.specs.Stages.{DictState}
-use Rattle.dict_text.specs.Script.{DictCall}
-use Rattle.dict_text.specs.Report.{reply_line, map_text}
+use Rattle.dict_runs.proofs.Common.{DictState, DictCall, reply_line, map_text}
 use Rattle.dict_runs.specs.Acts.{Standing}
 use Rattle.dict_runs.specs.Printing.{IsReportOf}
 use Rattle.dict_runs.specs.Scripts.{replies_of}

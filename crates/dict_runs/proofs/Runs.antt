@@ -1,20 +1,7 @@
 -- Runs of calls, one call further.
 use Rattle.std.proofs.Common.{◌≡◌, ℕ, suc, ◌+◌, ◌-◌, ◌<◌, ◌^◌, List, [], ◌∷◌, ◌++◌, length, take, get_or, map, flat_map, refl, sym, ap, ◌∙◌, subst, append_assoc, ⊎_elim, arith}
-use Rattle.std.proofs.lemmas.Grind.{flat_map-append}
-use Rattle.std.proofs.lemmas.List.{append-nil, map-append, get_or-map, length-map}
+use Rattle.dict_runs.proofs.Common.{flat_map-append, append-nil, map-append, get_or-map, length-map, words_of, Bounds, no_heap, HasState, bounds_for, Pair, stage, HasSome, IsPair, IsValueOf, IsDict, AreNumbersUpTo, DictState, Idle, AreNoneStale, value_none, ScriptCall, DictCall, call_of, DictReply, reply_line, Stage}
 use Rattle.std.proofs.Math.Seq.{take-suc}
-use Rattle.pmem_lines.specs.Pmem.{words_of}
-use Rattle.heap_model.specs.Machine.{Bounds, no_heap}
-use Rattle.heap_check.specs.State.{HasState}
-use Rattle.trace_runs.specs.Arenas.{bounds_for}
-use Rattle.attach_dict.specs.Dict.{Pair, stage, HasSome, IsPair, IsValueOf, IsDict, AreNumbersUpTo}
-use Rattle.attach_dict.specs.Stages.{DictState, Idle, AreNoneStale}
-use Rattle.attach_dict.proofs.Maps.{value_none}
-use Rattle.dict_text.specs.declared.script.ScriptCall.{ScriptCall}
-use Rattle.dict_text.specs.Script.{DictCall}
-use Rattle.dict_text.specs.Calls.{call_of}
-use Rattle.dict_text.specs.Report.{DictReply, reply_line}
-use Rattle.trace_runs.specs.Runs.{Stage}
 use Rattle.dict_runs.specs.Acts.{Standing}
 use Rattle.dict_runs.specs.Making.{IsReady}
 use Rattle.dict_runs.specs.Scripts.{Turn, IsTurn, IsRun, IsRunOf, replies_of, header_of, beginning}

@@ -1,22 +1,8 @@
 -- The search for the call under way, call by call.
 use Rattle.std.proofs.Common.{◌≡◌, ◌≢◌, ◌⊎◌, ℕ, zero, suc, ◌+◌, ◌-◌, ◌<◌, ◌≤◌, Bool, true, false, List, [], ◌∷◌, ◌++◌, length, take, get_or, Option, Some, None, refl, sym, ap, ◌∙◌, subst, append_assoc, inl, inr, ⊎_elim, arith, ◌==◌, ◌||◌, Vec, Global}
-use Rattle.std.proofs.lemmas.List.{append-nil, get_or-map, length-map}
-use Rattle.std.specs.Prelude.{MatchOption}
-use Rattle.std.proofs.lemmas.Bool.{cases_lt, ne_eqb}
-use Rattle.std.specs.Bool.{MatchBool}
-use Rattle.trace_text.specs.declared.call.CrashSide.{CrashSide}
-use Rattle.trace_text.specs.declared.call.CrashSide.TheVariants.{Same}
-use Rattle.trace_runs.specs.Arenas.{bounds_for, formatted}
-use Rattle.trace_runs.specs.Runs.{total_events}
-use Rattle.attach_dict.specs.Dict.{Pair, IsSteadyDict}
-use Rattle.attach_dict.specs.Stages.{DictState}
-use Rattle.attach_dict.proofs.Counting.{law_of_dicts}
+use Rattle.dict_runs.proofs.Common.{append-nil, get_or-map, length-map, MatchOption, cases_lt, ne_eqb, MatchBool, CrashSide, Same, bounds_for, formatted, total_events, Pair, IsSteadyDict, DictState, law_of_dicts, ScriptCall, DictCall, Get, call_of, calls_of, DictReply}
 use Rattle.dict_text.specs.declared.script.Script.{Script}
-use Rattle.dict_text.specs.declared.script.ScriptCall.{ScriptCall}
 use Rattle.dict_text.specs.declared.script.ScriptCall.TheVariants as said
-use Rattle.dict_text.specs.Script.{DictCall, Get}
-use Rattle.dict_text.specs.Calls.{call_of, calls_of}
-use Rattle.dict_text.specs.Report.{DictReply}
 use Rattle.dict_runs.specs.declared.crashing.DictCrashed.{DictCrashed}
 use Rattle.dict_runs.specs.declared.watching.Watch.{Watch}
 use Rattle.dict_runs.specs.Crashes.{DictLeft, IsImageWithin, is_within, IsLeft, IsLeftWithin, IsLeftIdle, IsMapSide, IsDictCrash, all_events, calls_up_to}

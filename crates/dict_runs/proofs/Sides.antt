@@ -1,15 +1,7 @@
 -- On which side of the call under way a map stands, told by what its key has.
 use Rattle.std.proofs.Common.{◌≡◌, ◌≢◌, ◌⊎◌, ℕ, ◌+◌, ◌<◌, Bool, true, false, List, [], length, Some, None, refl, sym, ap, ◌∙◌, subst, ⊎_elim, arith}
-use Rattle.std.proofs.lemmas.Bool.{cases_eq}
-use Rattle.std.specs.Bool.{MatchBool}
-use Rattle.trace_text.specs.declared.call.CrashSide.{CrashSide}
+use Rattle.dict_runs.proofs.Common.{cases_eq, MatchBool, CrashSide, Bounds, Stage, total_events, Pair, value_of, AreRising, Puts, same_map, DictCall, Put, Get, Del, DictReply}
 use Rattle.trace_text.specs.declared.call.CrashSide.TheVariants.{Same, Before, After}
-use Rattle.heap_model.specs.Machine.{Bounds}
-use Rattle.trace_runs.specs.Runs.{Stage, total_events}
-use Rattle.attach_dict.specs.Dict.{Pair, value_of, AreRising, Puts}
-use Rattle.attach_dict.proofs.Maps.{same_map}
-use Rattle.dict_text.specs.Script.{DictCall, Put, Get, Del}
-use Rattle.dict_text.specs.Report.{DictReply}
 use Rattle.dict_text.specs.Report.{DictReply as texts}
 use Rattle.dict_runs.specs.Acts.{Standing}
 use Rattle.dict_runs.specs.Crashes.{IsMapSide}

@@ -2,20 +2,10 @@
 use Rattle.std.proofs.Common.{◌≡◌, ◌≢◌, ℕ, ◌+◌, List, [], ◌∷◌, length, Some, None, refl, sym, ◌∙◌, subst, inl, inr, ⊎_elim, arith}
 use Rattle.pmem_lines.specs.declared.event.Event.{Event}
 use Rattle.pmem_lines.specs.Events.{CrashOnly}
-use Rattle.pmem_lines.specs.Pmem.{words_of}
+use Rattle.dict_runs.proofs.Common.{words_of, Bounds, Machine, bounds_of, HasState, Stage, last_stage, Pair, stage, bytes_for, value_of, AreNumbersUpTo, Counts, IsFull, IsValueOf, IsDict, Puts, IsSteadyDict, DictState, Phase, Idle, IsStale, AreNoneStale, AtMostOneStale, IsKept, block_words, HasRemoved, DictCall, Put, Get, Del, DictReply, reply_of}
 use Rattle.heap_model.specs.declared.call.Call.TheVariants as calls
 use Rattle.heap_model.specs.declared.call.Reply.TheVariants as replies
-use Rattle.heap_model.specs.Machine.{Bounds, Machine}
-use Rattle.heap_check.specs.Image.{bounds_of}
-use Rattle.heap_check.specs.State.{HasState}
 use Rattle.image_defects.specs.Least.{IsLeast}
-use Rattle.trace_runs.specs.Runs.{Stage}
-use Rattle.trace_crashes.specs.Seek.{last_stage}
-use Rattle.attach_dict.specs.Dict.{Pair, stage, bytes_for, value_of, AreNumbersUpTo, Counts, IsFull, IsValueOf, IsDict, Puts, IsSteadyDict}
-use Rattle.attach_dict.specs.Stages.{DictState, Phase, Idle, IsStale, AreNoneStale, AtMostOneStale, IsKept}
-use Rattle.attach_dict.specs.Calls.{block_words, HasRemoved}
-use Rattle.dict_text.specs.Script.{DictCall, Put, Get, Del}
-use Rattle.dict_text.specs.Report.{DictReply, reply_of}
 use Rattle.dict_text.specs.Report.{DictReply as texts}
 use Rattle.dict_text.specs.declared.report.PlainReply.{PlainReply}
 use Rattle.dict_text.specs.declared.report.PlainReply.TheVariants as plain

@@ -6,3 +6,4 @@ pub mod Making
 pub mod Turns
 pub mod Watching
 pub mod Printing
+pub mod Laws

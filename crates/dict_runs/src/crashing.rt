@@ -9,8 +9,8 @@ ghost use Rattle.dict_runs.specs.Scripts.{header_of};
 ghost use Rattle.dict_runs.specs.Turns.{IsNewDict};
 ghost use Rattle.dict_runs.specs.Watching.{IsCrashed, HasSteadyDict, ChangesNothing, IsSideOf, IsSideIn, IsSought};
 
+use crate::dicts::new_dict;
 use crate::making::make_call;
-use crate::opening::new_dict;
 use crate::watching::Watch;
 use attach_dict::Dict;
 use dict_text::{Script, ScriptCall};

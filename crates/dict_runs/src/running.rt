@@ -9,9 +9,9 @@ ghost use Rattle.dict_runs.specs.Making.{came_to};
 ghost use Rattle.dict_runs.specs.Printing.{HasReported, IsReportOf};
 ghost use Rattle.dict_runs.specs.Turns.{IsNewDict};
 
+use crate::dicts::new_dict;
 use crate::looking::Unseen;
 use crate::making::{Came, make_call};
-use crate::opening::new_dict;
 use crate::printing::write_map;
 use attach_dict::Dict;
 use dict_text::{PlainReply, Script, write_reply, write_value};

@@ -13,15 +13,15 @@ use std::alloc::Global;
 use std::process::Abort;
 use std::test::Fail;
 
-// An arena of 16 granules in which no root names a block.
-fn new_arena(alloc: Global) -> Result<Arena<SimPmem>, OutOfMemory> {
+/// An arena of 16 granules in which no root names a block.
+pub(crate) fn new_arena(alloc: Global) -> Result<Arena<SimPmem>, OutOfMemory> {
     let room = ArenaRoom::new(alloc, 16)?;
     let device = SimPmem::zeroed(alloc, 4096, 2048)?;
     Ok(Arena::format(room, device, 0, 1))
 }
 
-// The dictionary of an arena that has one.
-fn opened(alloc: Global, arena: Arena<SimPmem>) -> Result<Dict<SimPmem>, Fail>
+/// The dictionary of an arena that has one.
+pub(crate) fn opened(alloc: Global, arena: Arena<SimPmem>) -> Result<Dict<SimPmem>, Fail>
     ensures { IfOk result (λ dict. dict.phase ≡ Idle) }
 {
     match Dict::open(alloc, arena) {
@@ -30,8 +30,8 @@ fn opened(alloc: Global, arena: Arena<SimPmem>) -> Result<Dict<SimPmem>, Fail>
     }
 }
 
-// True only where there is no pair and no root is stale. Nothing is staged.
-fn is_new(dict: &Dict<SimPmem>) -> bool
+/// True only where there is no pair and no root is stale. Nothing is staged.
+pub(crate) fn is_new(dict: &Dict<SimPmem>) -> bool
     requires { dict.now.phase ≡ Idle }
     ensures { IsTrue result → IsNew dict.now }
 {
@@ -39,8 +39,12 @@ fn is_new(dict: &Dict<SimPmem>) -> bool
     dict.stale() == 0 && dict.is_empty()
 }
 
-// A pair is made ready.
-fn make_ready(dict: &mut Dict<SimPmem>, key: u64, value: &[u64]) -> Result<(), StageRefusal>
+/// A pair is made ready.
+pub(crate) fn make_ready(
+    dict: &mut Dict<SimPmem>,
+    key: u64,
+    value: &[u64],
+) -> Result<(), StageRefusal>
     requires rest { IsAtRest dict.old }
     requires few { length value.now ≤ most_values }
     ensures ready { OnOk result (HasFilledPhase dict.new.phase) }
@@ -52,8 +56,8 @@ fn make_ready(dict: &mut Dict<SimPmem>, key: u64, value: &[u64]) -> Result<(), S
     Ok(())
 }
 
-// A key gets a value, and what it had is freed.
-fn put(dict: &mut Dict<SimPmem>, key: u64, value: &[u64]) -> Result<(), StageRefusal>
+/// A key gets a value, and what it had is freed.
+pub(crate) fn put(dict: &mut Dict<SimPmem>, key: u64, value: &[u64]) -> Result<(), StageRefusal>
     requires rest { IsAtRest dict.old }
     requires few { length value.now ≤ most_values }
     ensures rest { OnOk result (IsAtRest dict.new) }
@@ -134,4 +138,33 @@ fn pairs_are_put_read_and_removed(rt: HostRuntime) -> Result<(), Fail> {
     looks(&rt, &dict)?;
     let again = opened(rt.alloc(), dict.into_arena())?;
     looks(&rt, &again)
+}
+
+// The number of the pair that a root has, on the words of its block.
+fn number_at(dict: &Dict<SimPmem>, root: u32) -> Result<u64, Fail> {
+    let words = dict.arena().view(root)?;
+    Ok(*words.get(1).ok_or("no pair")?)
+}
+
+// Two keys, of which the second goes, and a third: its number is that of the second, as the greatest number fell with that.
+fn put_around_a_removal<R: Abort>(rt: &R, dict: &mut Dict<SimPmem>) -> Result<(), Fail>
+    requires { dict.old.phase ≡ Idle }
+{
+    if !is_new(dict) {
+        return Err(Fail::from("a pair or a stale root"));
+    }
+    put(dict, 1, &[])?;
+    put(dict, 2, &[])?;
+    assert_eq!(rt; number_at(dict, 1)?, 1);
+    assert_eq!(rt; number_at(dict, 2)?, 2);
+    drop_key(dict, 2)?;
+    put(dict, 3, &[])?;
+    assert_eq!(rt; number_at(dict, 2)?, 2);
+    Ok(())
+}
+
+#[test]
+fn numbers_fall_with_their_pairs(rt: HostRuntime) -> Result<(), Fail> {
+    let mut dict = opened(rt.alloc(), new_arena(rt.alloc())?)?;
+    put_around_a_removal(&rt, &mut dict)
 }

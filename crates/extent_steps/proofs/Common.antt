@@ -20,7 +20,7 @@ pub use Rattle.heap_check.proofs.Sizes.{sizes_of}
 pub use Rattle.log_steps.specs.Log.{KeepsRest, IsLogged, IsLoggedOrNot}
 pub use Rattle.log_steps.proofs.Disjoint.{disjoint_of}
 pub use Rattle.log_steps.proofs.Entries.{off_log}
-pub use Rattle.extent_steps.specs.Slabs.{KeepsOthers}
+pub use Rattle.extent_steps.specs.Slabs.{KeepsAllButSlab}
 pub use Rattle.heap_check.proofs.SlabHeaps.{heap-slab}
 pub use Rattle.heap_check.proofs.SlabLogs.{IsSlabMore-logged}
 pub use Rattle.heap_check.proofs.Slabs.{IsSlabPlace}

@@ -97,7 +97,7 @@ module _ {words : List ℕ} {start : ℕ} (may : IsLooseExtent words start) wher
   loose_lies = grind arith
 
   no_slab : is_slab words start ≡ false
-  no_slab = sym (slab_table words start) ∙ false_from_ne_true ((tables_of words).slab start) (λ slab. omega (arith, may.image.steady.sound.one_kind start slab, may.loose.live))
+  no_slab = sym (slab_table words start) ∙ false_from_ne_true ((tables_of words).slab start) (λ slab. omega (arith, may.image.steady.sound.extents.one_kind start slab, may.loose.live))
 
   abbrev spare : ℕ
   spare = (layout_of (version_in words)).roots

@@ -1,6 +1,6 @@
 -- Images while an extent comes or goes: what is the same of them.
 use Rattle.std.proofs.Common.{◌≡◌, ◌⊎◌, ℕ, ◌+◌, ◌<◌, ◌≤◌, true, List, sym, ap, subst, ◌∙◌, arith, inr, Some, None}
-use Rattle.extent_steps.proofs.Common.{extent_at, Tables, is_slab, state_field, tables_of, slab_table, slab_fields, tables_off_log-same, Range, heap, IsSound, IsSteady, bounds_of, IsFormed, IsWordOf, IsEitherHeap, AreSlabsInHeap-sound, bounds_of-off_log, IsFormed-off_log, KeepsRest, off_log, sizes_of, KeepsOthers, granule_word}
+use Rattle.extent_steps.proofs.Common.{extent_at, Tables, is_slab, state_field, tables_of, slab_table, slab_fields, tables_off_log-same, Range, heap, IsSound, IsSteady, bounds_of, IsFormed, IsWordOf, IsEitherHeap, AreSlabsInHeap-sound, bounds_of-off_log, IsFormed-off_log, KeepsRest, off_log, sizes_of, KeepsAllButSlab, granule_word}
 use Rattle.image_tables.specs.Tables.{is_slab_of}
 use Rattle.heap_check.specs.Image.{IsSteadyImage}
 use Rattle.heap_check.specs.State.{KeepsBlocks}
@@ -11,7 +11,7 @@ use Rattle.heap_check.proofs.BlockWords.{block_word-heap}
 pub record IsNear (words : List ℕ) (start : ℕ) (image : List ℕ) : Type 0 where
   pub formed : IsFormed image
   pub bounds : bounds_of image ≡ bounds_of words
-  pub rest : KeepsOthers words start image
+  pub rest : KeepsAllButSlab words start image
 
 -- it says the same
 pub record IsSame (words : List ℕ) (start : ℕ) (image : List ℕ) : Type 0 where
@@ -24,7 +24,7 @@ few_entries words sound other is = omega (arith, index_count_few (sound.slabs ot
 
 -- the words of blocks are kept, which lie in no header at the start
 pub keeps_blocks : (words : List ℕ) (start : ℕ) (image : List ℕ) → IsFormed words → IsSound (bounds_of words) (tables_of words) → (tables_of words).open_entry ≡ None →
-    ((root : ℕ) (range : Range) (k : ℕ) → heap (tables_of words) root ≡ Some range → IsWordOf range k → (k < granule_word start) ⊎ (granule_word start + 256 ≤ k)) → KeepsOthers words start image → KeepsBlocks words image
+    ((root : ℕ) (range : Range) (k : ℕ) → heap (tables_of words) root ≡ Some range → IsWordOf range k → (k < granule_word start) ⊎ (granule_word start + 256 ≤ k)) → KeepsAllButSlab words start image → KeepsBlocks words image
 keeps_blocks words start image formed sound closed off rest = record {
   each = λ root other range k was is word.
       let sizes = sizes_of words formed in

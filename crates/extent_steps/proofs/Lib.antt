@@ -1,4 +1,4 @@
 pub mod Common
 pub mod Images
-pub mod Opening
+pub mod NewSlabs
 pub mod Dropping

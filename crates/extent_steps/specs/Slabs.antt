@@ -3,7 +3,7 @@ use Rattle.std.specs.Prelude.{◌≡◌, ◌≢◌, ◌⊎◌, ℕ, ◌+◌, ◌
 use Rattle.pmem_lines.specs.Words.{word_at}
 use Rattle.pmem_lines.specs.declared.event.Event.{Event}
 use Rattle.pmem_lines.specs.Events.{reading}
-use Rattle.pool_layout.specs.Places.{directory_word, granule_word, log_word, heap_word}
+use Rattle.pool_layout.specs.Places.{directory_word, granule_word, log_start, heap_word}
 use Rattle.pool_layout.specs.Header.{version_in}
 use Rattle.image_tables.specs.Tables.{tables_of}
 use Rattle.slab_header.specs.Steps.{make_events}
@@ -25,7 +25,7 @@ drop_events words start = log_events words (Tomb start)
 -- when
 
 -- the image is exact, and the four granules from the start on are vacant
-pub record IsOpenable (words : List ℕ) (start : ℕ) : Type 0 where
+pub record MayBeCreated (words : List ℕ) (start : ℕ) : Type 0 where
   pub image : IsExactImage words
   pub vacant : (k : ℕ) → start ≤ k → k < start + 4 → IsVacant (bounds_of words) (tables_of words) k
 
@@ -38,17 +38,17 @@ pub record IsDroppable (words : List ℕ) (start : ℕ) : Type 0 where
 -- what is left
 
 -- the words are the same, but for those of the log, its directory and the header at the start
-pub record KeepsOthers (words : List ℕ) (start : ℕ) (image : List ℕ) : Type 0 where
+pub record KeepsAllButSlab (words : List ℕ) (start : ℕ) (image : List ℕ) : Type 0 where
   pub same_length : length image ≡ length words
-  pub others : (k : ℕ) → k ≢ directory_word → (k < log_word (version_in words)) ⊎ (heap_word (version_in words) ≤ k) → (k < granule_word start) ⊎ (granule_word start + 256 ≤ k) → word_at image k ≡ word_at words k
+  pub others : (k : ℕ) → k ≢ directory_word → (k < log_start (version_in words)) ⊎ (heap_word (version_in words) ≤ k) → (k < granule_word start) ⊎ (granule_word start + 256 ≤ k) → word_at image k ≡ word_at words k
 
 -- the slab is there, empty, and the heap is the same
-pub record IsOpened (words : List ℕ) (start class : ℕ) (new : List ℕ) : Type 0 where
+pub record IsSlabCreated (words : List ℕ) (start class : ℕ) (new : List ℕ) : Type 0 where
   pub image : IsExactButImage new start
   pub bounds : bounds_of new ≡ bounds_of words
   pub slab : IsWithSlab (tables_of words) (tables_of new) start class
   pub heap : HaveSameHeap words new
-  pub rest : KeepsOthers words start new
+  pub rest : KeepsAllButSlab words start new
 
 -- The slab is gone, the image is steady and the heap the same; nothing comes to be loose, and where nothing but the slab
 -- was, nothing is.
@@ -59,4 +59,4 @@ pub record IsDropped (words : List ℕ) (start : ℕ) (new : List ℕ) : Type 0 
   pub heap : HaveSameHeap words new
   pub loose : LoosensNothing (tables_of words) (tables_of new)
   pub exact : IsExactBut (bounds_of words) (tables_of words) start → IsExactImage new
-  pub rest : KeepsOthers words start new
+  pub rest : KeepsAllButSlab words start new

@@ -7,7 +7,7 @@ ghost use Rattle.pool_layout.specs.Layout.{layout_of};
 ghost use Rattle.pool_layout.specs.Header.{version_in};
 ghost use Rattle.book_log.specs.declared.entry.LogEntry.TheVariants.{Tomb};
 ghost use Rattle.log_steps.specs.Events.{log_events};
-ghost use Rattle.log_gc.specs.Room.{most_events};
+ghost use Rattle.log_room.specs.Room.{most_events};
 ghost use Rattle.log_steps.specs.Log.{IsBookOf};
 ghost use Rattle.heap_check.specs.State.{IsEitherHeap};
 ghost use Rattle.extent_steps.specs.Large.{IsLooseExtent, IsExtentGone};

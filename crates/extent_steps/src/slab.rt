@@ -6,10 +6,10 @@ ghost use Rattle.pmem_lines.specs.Pmem.{words_of, HasRoom};
 ghost use Rattle.pool_layout.specs.Layout.{layout_of};
 ghost use Rattle.pool_layout.specs.Header.{version_in};
 ghost use Rattle.slab_header.specs.Steps.{make_events, KeepsOutside, IsMade};
-ghost use Rattle.log_gc.specs.Room.{most_events};
+ghost use Rattle.log_room.specs.Room.{most_events};
 ghost use Rattle.log_steps.specs.Log.{IsBookOf};
 ghost use Rattle.heap_check.specs.State.{IsEitherHeap};
-ghost use Rattle.extent_steps.specs.Slabs.{open_events, drop_events, IsOpenable, IsDroppable, IsOpened, IsDropped};
+ghost use Rattle.extent_steps.specs.Slabs.{open_events, drop_events, MayBeCreated, IsDroppable, IsSlabCreated, IsDropped};
 
 use book_log::{BookLog, LogEntry};
 use log_steps::log_entry;
@@ -21,15 +21,15 @@ use slab_header::make_slab;
 /// log, behind the events that make room for it there: at most the `slab_events` of the version. No block of it is given
 /// out. The heap stays as it is, also after a crash within it, and every block keeps its words.
 #[tactic(auto, using(std::proofs::lemmas::Grind::common_steps, pool_layout::proofs::Layouts::layout_rules))]
-pub fn open_slab<P: Pmem>(p: &mut P, log: &mut BookLog, start: u32, class: u8)
-    requires openable { IsOpenable (words_of (P.state p.old)) start }
+pub fn create_slab<P: Pmem>(p: &mut P, log: &mut BookLog, start: u32, class: u8)
+    requires openable { MayBeCreated (words_of (P.state p.old)) start }
     requires class { class < 36 }
     requires book { IsBookOf log.old (words_of (P.state p.old)) }
     requires quiet { IsQuiet (P.state p.old).events }
     requires room { HasRoom (P.state p.old) (layout_of (version_in (words_of (P.state p.old)))).slab_events }
     ensures step { IsQuietStep (P.state p.old) (P.state p.new) (open_events (words_of (P.state p.old)) start class) (IsEitherHeap (words_of (P.state p.old)) (words_of (P.state p.new))) }
     ensures few { length (P.state p.new).events ≤ length (P.state p.old).events + (layout_of (version_in (words_of (P.state p.old)))).slab_events }
-    ensures opened { IsOpened (words_of (P.state p.old)) start class (words_of (P.state p.new)) }
+    ensures opened { IsSlabCreated (words_of (P.state p.old)) start class (words_of (P.state p.new)) }
     ensures book { IsBookOf log.new (words_of (P.state p.new)) }
 {
     make_header(p, start, class);

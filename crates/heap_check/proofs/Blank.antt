@@ -1,8 +1,6 @@
 -- An image without anything in it, and exact images.
 use Rattle.std.proofs.Common.{◌≡◌, ◌≢◌, ℕ, true, sym, ◌∙◌, refl, arith, ⊎_elim}
-use Rattle.std.proofs.lemmas.Bool.{cases_Bool, cases_eq}
-use Rattle.image_tables.specs.Tables.{Tables}
-use Rattle.heap_model.specs.Machine.{Bounds, Range}
+use Rattle.heap_check.proofs.Common.{cases_Bool, cases_eq, Tables, Bounds, Range}
 use Rattle.heap_check.specs.Heap.{IsClaim, claim_at}
 use Rattle.heap_check.specs.Sound.{granules_at, IsNearlyDone, IsSound, IsExact, IsExactBut, IsSteady}
 use Rattle.heap_check.specs.Laws.{AreBlank, LawOfEmptyHeap, LawOfSteady}
@@ -20,18 +18,24 @@ module _ (b : Bounds) (t : Tables) (blank : AreBlank t) where
 
   pub blank_sound : IsSound b t
   blank_sound = record {
-    disjoint = λ start other k first second. absurd (omega (arith, first.low, first.high, no_granules start));
-    starts = λ start some. absurd (omega (arith, some, no_granules start));
-    one_kind = λ start slab. absurd (no_slab start slab);
+    extents = record {
+      disjoint = λ start other k first second. absurd (omega (arith, first.low, first.high, no_granules start));
+      starts = λ start some. absurd (omega (arith, some, no_granules start));
+      one_kind = λ start slab. absurd (no_slab start slab);
+    };
     slabs = λ start slab. absurd (no_slab start slab);
-    open_entry = λ e is. absurd (let none = blank.closed in cc);
-    rooted = λ root some. absurd (some (blank.roots root));
-    apart = λ root other range another differ first second. absurd (no_claim root range first);
-    claimed = λ start range holds. absurd (no_slab start holds.slab);
-    loose_large = record { same = λ one other first second. absurd (omega (arith, first.live, blank.no_large one)) };
-    empty_slab = record { same = λ one other first second. absurd (no_slab one first.slab) };
-    morphing = record { same = λ one other first second. absurd (no_slab one first.slab) };
-    done = record { same = λ one other first second. absurd (no_slab one first.slab) };
+    owned = record {
+      open_entry = λ e is. absurd (let none = blank.closed in cc);
+      rooted = λ root some. absurd (some (blank.roots root));
+      apart = λ root other range another differ first second. absurd (no_claim root range first);
+      claimed = λ start range holds. absurd (no_slab start holds.slab);
+    };
+    loose = record {
+      large = record { same = λ one other first second. absurd (omega (arith, first.live, blank.no_large one)) };
+      empty = record { same = λ one other first second. absurd (no_slab one first.slab) };
+      morphing = record { same = λ one other first second. absurd (no_slab one first.slab) };
+      done = record { same = λ one other first second. absurd (no_slab one first.slab) };
+    };
   }
 
   pub blank_exact : IsExact b t
@@ -40,7 +44,7 @@ module _ (b : Bounds) (t : Tables) (blank : AreBlank t) where
     closed = blank.closed;
     all_named = λ start live. absurd (omega (arith, live, blank.no_large start));
     all_live = λ start slab. absurd (no_slab start slab);
-    calm = λ start morphing. no_slab start morphing.slab;
+    none_morphing = λ start morphing. no_slab start morphing.slab;
     none_done = λ start done. no_slab start done.slab;
   }
 
@@ -56,16 +60,16 @@ IsSteady-but {b} {t} {start} but = record {
   where
     nearly_none : (other : ℕ) → other ≢ start → ¬ (IsNearlyDone t other)
     nearly_none other differ nearly = ⊎_elim
-        (λ (normal : t.kind other ≡ 1). nearly.kind normal)
+        (λ (normal : (t.header other).kind ≡ 1). nearly.kind normal)
         (λ rest. ⊎_elim
-        (λ (morphing : t.kind other ≡ 2). but.calm other (record { slab = nearly.slab; kind = morphing }))
-        (λ (morphed : t.kind other ≡ 3). but.none_done other differ (record {
+        (λ (morphing : (t.header other).kind ≡ 2). but.none_morphing other (record { slab = nearly.slab; kind = morphing }))
+        (λ (morphed : (t.header other).kind ≡ 3). but.none_done other differ (record {
           slab = nearly.slab;
           kind = morphed;
           none = λ place below. ⊎_elim
-              (λ (live : t.live other place ≡ true). absurd (let found = nearly.none place below live in let open' = found.entry in let none = but.closed in cc))
+              (λ (live : (t.header other).live place ≡ true). absurd (let found = nearly.none place below live in let open' = found.entry in let none = but.closed in cc))
               (λ dead. dead)
-              (cases_Bool (t.live other place));
+              (cases_Bool ((t.header other).live place));
         }))
         rest)
         (but.sound.slabs other nearly.slab).state.kinds

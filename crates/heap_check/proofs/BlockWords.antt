@@ -1,8 +1,6 @@
 -- The words of a root's block lie in the heap, in no slab's header, and in no vacant granule.
 use Rattle.std.proofs.Common.{◌≡◌, ◌≢◌, ◌⊎◌, ℕ, ◌+◌, ◌*◌, ◌<◌, ◌≤◌, true, ap, subst, arith, inl, inr, ⊎_elim, Some, None}
-use Rattle.std.proofs.lemmas.Bool.{cases_eq, cases_lt}
-use Rattle.image_tables.specs.Tables.{Tables}
-use Rattle.heap_model.specs.Machine.{Bounds, Range}
+use Rattle.heap_check.proofs.Common.{cases_eq, cases_lt, Tables, Bounds, Range}
 use Rattle.heap_check.specs.Heap.{entry_at, heap, IsClaim, Holds, HoldsBit, HoldsOld}
 use Rattle.heap_check.specs.Sound.{IsVacant, IsInSlab, IsSound}
 use Rattle.heap_check.specs.State.{IsWordOf}
@@ -14,8 +12,8 @@ use Rattle.heap_check.proofs.SmallPlaces.{Holds-claim}
 -- a block that a slab holds lies behind the header
 behind_header : (t : Tables) (start : ℕ) (range : Range) → Holds t start range → 16384 * start + 2048 ≤ range.at
 behind_header t start range holds = ⊎_elim
-    (λ (bit : HoldsBit t start range). omega (arith, ap (λ (x : Range). x.at) bit.is))
-    (λ (old : HoldsOld t start range). omega (arith, ap (λ (x : Range). x.at) old.is))
+    (λ (bit : HoldsBit (t.header start) start range). omega (arith, ap (λ (x : Range). x.at) bit.is))
+    (λ (old : HoldsOld (t.header start) start range). omega (arith, ap (λ (x : Range). x.at) old.is))
     holds.block
 
 -- a word that is not among some lies before or behind them
@@ -41,7 +39,7 @@ module _ {b : Bounds} {t : Tables} (sound : IsSound b t) (closed : t.open_entry 
   pub block_word-heap : 2048 * b.first ≤ k
   block_word-heap =
       let within = there.1 in
-      let low = (sound.starts there.0 (omega (arith, within.low, within.high, within.some))).0 in
+      let low = (sound.extents.starts there.0 (omega (arith, within.low, within.high, within.some))).0 in
       omega (arith, low, within.low, word.low)
 
   pub block_word-header : (start : ℕ) → t.slab start ≡ true → (k < 2048 * start) ⊎ (2048 * start + 256 ≤ k)
@@ -53,7 +51,7 @@ module _ {b : Bounds} {t : Tables} (sound : IsSound b t) (closed : t.open_entry 
       let slab_here : IsInSlab t start range.at = record { slab = slab; low = here.low; high = omega (arith, here.high, here.some, granules_at-slab t start slab) } in
       omega (arith, behind_header t start range (Holds-claim sound root start range unnamed claim slab_here), word.low, among.1))
       (λ (differ : there.0 ≢ start).
-      differ (sound.disjoint there.0 start start
+      differ (sound.extents.disjoint there.0 start start
       (record { low = omega (arith, within.low, word.low, among.1); high = omega (arith, within.high, word.high, among.0) })
       (Covers-slab t start start slab (omega arith) (omega arith))))
       (cases_eq there.0 start))

@@ -1,10 +1,6 @@
 -- The claim of a root that the open entry does not name: its word alone says where its block is.
 use Rattle.std.proofs.Common.{◌≡◌, ◌≢◌, ◌&&◌, ◌==◌, ℕ, ◌*◌, ◌/◌, Bool, true, false, cond, refl, sym, ap, ◌∙◌, arith, ⊎_elim, ltb, Option, Some, None}
-use Rattle.std.proofs.lemmas.Bool.{cases_Bool, eqb-true, cond-true, cond-false, ne_eqb, false_from_ne_true, and_parts, ltb-true}
-use Rattle.image_tables.specs.declared.entry.WalEntry.{WalEntry}
-use Rattle.image_tables.specs.declared.entry.WalEntry.TheVariants.{Place}
-use Rattle.image_tables.specs.Tables.{Tables}
-use Rattle.heap_model.specs.Machine.{Range}
+use Rattle.heap_check.proofs.Common.{cases_Bool, eqb-true, cond-true, cond-false, ne_eqb, false_from_ne_true, and_parts, ltb-true, WalEntry, Place, Tables, Range}
 use Rattle.heap_check.specs.Heap.{slab_of, is_large, is_old, size_by, size_at, entry_at, entry_old, claim_at, IsClaim}
 
 -- an open place entry names this root or none
@@ -19,7 +15,7 @@ NamesOnly-some root at old place = record { others = λ other apart. cond-false 
 
 -- the size of a block at an address, where no entry says it
 abbrev pub plain_size : Tables → ℕ → ℕ
-plain_size t at = cond (is_large t.large at) (16384 * t.large (at / 16384)) (size_by t at (is_old t (slab_of t.slab (at / 16384)) at))
+plain_size t at = cond (is_large t.large at) (16384 * t.large (at / 16384)) (size_by t at (is_old (t.header (slab_of t.slab (at / 16384))) (slab_of t.slab (at / 16384)) at))
 
 -- a root's word names this block
 pub record IsNamed (t : Tables) (root : ℕ) (range : Range) : Type 0 where
@@ -34,7 +30,7 @@ is_unnamed named at none = false_from_ne_true _ (λ both.
 
 pub size_at-unnamed : (t : Tables) (root at : ℕ) → entry_at t.open_entry root ≡ 0 → size_at t root at ≡ plain_size t at
 size_at-unnamed t root at none =
-    ap (λ b. cond (is_large t.large at) (16384 * t.large (at / 16384)) (cond b (size_by t at (entry_old t.open_entry)) (size_by t at (is_old t (slab_of t.slab (at / 16384)) at))))
+    ap (λ b. cond (is_large t.large at) (16384 * t.large (at / 16384)) (cond b (size_by t at (entry_old t.open_entry)) (size_by t at (is_old (t.header (slab_of t.slab (at / 16384))) (slab_of t.slab (at / 16384)) at))))
     (is_unnamed (entry_at t.open_entry root) at none)
 
 pub claim_at-unnamed : (t : Tables) (root : ℕ) → entry_at t.open_entry root ≡ 0 → claim_at t root ≡ t.root root

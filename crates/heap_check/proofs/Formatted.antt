@@ -2,19 +2,13 @@
 use Rattle.std.proofs.Common.{◌≡◌, ℕ, zero, suc, ◌*◌, List, [], ◌∷◌, Bool, true, false, Some, None, sym, subst, ap, ◌∙◌, refl, arith, nat_lt, cond}
 use Rattle.std.specs.List.{flat_map}
 use Rattle.std.proofs.lemmas.List.{append-nil}
-use Rattle.std.proofs.lemmas.Bool.{false≢true, cond-false}
-use Rattle.pmem_lines.specs.Words.{word_at}
+use Rattle.heap_check.proofs.Common.{false≢true, cond-false, word_at, layout_of, entry_slot, root_word, wal_word, version_in, granules_in, fields_of, IsHeader, root_table-none, no_heap}
 use Rattle.pool_layout.specs.declared.header.PoolHeader.{PoolHeader}
-use Rattle.pool_layout.specs.Layout.{layout_of}
-use Rattle.pool_layout.specs.Places.{entry_word, root_word, wal_word}
-use Rattle.pool_layout.specs.Header.{version_in, granules_in, fields_of, IsHeader}
 use Rattle.pool_layout.proofs.Headers.{fields_of-header_word, header_fits}
 use Rattle.image_tables.specs.Log.{log_of, active_chunks, most_chunks, chunk_log, entries_below}
 use Rattle.image_tables.specs.Extents.{extent_at, extent_behind}
 use Rattle.image_tables.specs.Tables.{tables_of, entry_among, wal_lines, large_of, is_slab_of}
 use Rattle.book_log.proofs.Fresh.{HasLog-fresh}
-use Rattle.image_tables.proofs.Tables.{root_table-none}
-use Rattle.heap_model.specs.Machine.{no_heap}
 use Rattle.heap_check.specs.Laws.{AreBlank}
 use Rattle.heap_check.specs.Image.{bounds_of, header_in, IsFormed}
 use Rattle.heap_check.specs.State.{HasState}
@@ -42,8 +36,8 @@ module _ (words : List ℕ) (fields : PoolHeader) (formatted : IsFormatted words
       ap (λ (directory : ℕ). flat_map (chunk_log (version_in words) words) (active_chunks directory)) formatted.directory
       ∙ ap (λ (chunks : List ℕ). flat_map (chunk_log (version_in words) words) chunks) first_chunk
       ∙ append-nil (chunk_log (version_in words) words 0)
-      ∙ entries_below-none (λ entry. word_at words (entry_word (version_in words) 0 entry)) (layout_of (version_in words)).chunk_entries
-      (λ entry. formatted.rest (entry_word (version_in words) 0 entry) (omega arith))
+      ∙ entries_below-none (λ entry. word_at words (entry_slot (version_in words) 0 entry)) (layout_of (version_in words)).chunk_entries
+      (λ entry. formatted.rest (entry_slot (version_in words) 0 entry) (omega arith))
 
   no_extent : (start : ℕ) → extent_at words start ≡ None
   unfolding extent_at
@@ -72,7 +66,7 @@ module _ (words : List ℕ) (fields : PoolHeader) (formatted : IsFormatted words
     size = formatted.size ∙ sym (ap (λ (header : PoolHeader). 2048 * header.granules) header_in-formatted);
     log = HasLog-fresh (granules_in words) words (record {
       directory = formatted.directory;
-      empty = λ entry. formatted.rest (entry_word (version_in words) 0 entry) (omega arith);
+      empty = λ entry. formatted.rest (entry_slot (version_in words) 0 entry) (omega arith);
     });
     wal = record {
       entry = λ line below some. absurd (some (formatted.rest (wal_word line) (omega arith)));
@@ -84,7 +78,7 @@ module _ (words : List ℕ) (fields : PoolHeader) (formatted : IsFormatted words
   pub HasState-formatted : HasState words no_heap
   HasState-formatted = record {
     blocks = (law_of_empty_heap (bounds_of words) (tables_of words) AreBlank-formatted).1;
-    slabs = λ start. cond-false ((tables_of words).slab start) (Some ((tables_of words).class start)) None (AreBlank-formatted.no_slab start);
+    slabs = λ start. cond-false ((tables_of words).slab start) (Some ((tables_of words).header start).class) None (AreBlank-formatted.no_slab start);
     values = λ root index word is. absurd (cc);
   }
 

@@ -1,22 +1,11 @@
 -- When the words of an arena keep their form.
 use Rattle.std.proofs.Common.{◌≡◌, ◌≢◌, ◌≤◌, ◌⊎◌, ◌+◌, inl, inr, true≢false, false, refl, ⊎_elim, ◌*◌, ◌/◌, ◌%◌, ◌^◌, ◌<◌, ℕ, true, List, length, sym, ap, ◌∙◌, subst, arith}
-use Rattle.std.proofs.lemmas.Bool.{cond-true, cases_eq, cases_lt}
-use Rattle.pmem_lines.specs.Words.{word_at, put_word}
-use Rattle.pmem_lines.proofs.Words.{word_at-put_same, word_at-put_other, length-put_word}
-use Rattle.pool_layout.specs.Layout.{layout_of}
-use Rattle.pool_layout.specs.Places.{text_word, fields_word, root_word, wal_word, heap_word, granule_word, blocks_place}
-use Rattle.pool_layout.specs.Header.{version_field, granules_field, version_in, granules_in, fields_of, IsHeader}
+use Rattle.heap_check.proofs.Common.{cond-true, cases_eq, cases_lt, word_at, put_word, word_at-put_same, word_at-put_other, length-put_word, layout_of, text_word, fields_word, root_word, wal_word, heap_word, granule_word, blocks_place, version_field, granules_field, version_in, granules_in, fields_of, IsHeader, log_start-low, IsSameOffLog, text-off_log, fields-off_log, wal_word-off_log, heap_word-off_log, state_word-high, index_word-high, IsOffLog-root, fields-put_root, wal_word-put_root, heap_word-put_root, extent_at-put_root, wal_word-low, log_start-high, IsOffLog-wal, state_field-same, HasLog, HasLog-same, Bounds, IsWalWord, IsIndexWord}
 use Rattle.image_tables.specs.Tables.{is_slab_of, is_slab, AreSlabsInHeap, where_slab, state_word, bitmap_word, index_word, state_field, wal_lines, tables_of}
 use Rattle.image_tables.proofs.Extents.{extent_at-elsewhere}
 use Rattle.image_tables.proofs.Headers.{IsSameOffHeader, IsSameOffHeader-put, SameLog-off_header, is_slab-off_header}
 use Rattle.image_tables.proofs.Logs.{SameLog-elsewhere}
-use Rattle.image_tables.proofs.Places.{log_word-low}
-use Rattle.image_tables.proofs.Stores.{IsSameOffLog, text-off_log, fields-off_log, wal_word-off_log, heap_word-off_log, state_word-high, index_word-high, IsOffLog-root, fields-put_root, wal_word-put_root, heap_word-put_root, extent_at-put_root, wal_word-low, log_word-high, IsOffLog-wal, state_field-same}
-use Rattle.book_log.specs.Book.{HasLog}
-use Rattle.book_log.proofs.Books.{HasLog-same}
-use Rattle.heap_model.specs.Machine.{Bounds}
 use Rattle.heap_check.specs.Sound.{granules_at, IsSound}
-use Rattle.image_tables.specs.Forms.{IsWalWord, IsIndexWord}
 use Rattle.heap_check.specs.Image.{bounds_of, header_in, HasWal, HasSlabHeader, IsFormed}
 
 -- the slabs of a sound image begin in the heap
@@ -25,7 +14,7 @@ unfolding tables_of
 AreSlabsInHeap-sound words sound = record {
   low = λ start is.
       let four : granules_at (tables_of words) start ≡ 4 = cond-true (is_slab words start) 4 ((tables_of words).large start) is in
-      (sound.starts start (omega (arith, four))).0;
+      (sound.extents.starts start (omega (arith, four))).0;
 }
 
 -- the numbers of an arena of which the header line has this second word
@@ -129,7 +118,7 @@ IsFormed-put_wal words line value formed below slabs alone valid inside =
     let off = IsOffLog-wal words line below in
     let version = version_in words in
     let heap : (k : ℕ) → heap_word version ≤ k → word_at new k ≡ word_at words k =
-    λ k high. word_at-put_other words at k value (λ e. omega (arith, e, high, wal_word-low line below, log_word-low version, log_word-high version)) in
+    λ k high. word_at-put_other words at k value (λ e. omega (arith, e, high, wal_word-low line below, log_start-low version, log_start-high version)) in
     let here : word_at new at ≡ value = word_at-put_same words at at value refl inside in
     let none : (other : ℕ) → other < wal_lines → other ≢ line → word_at new (wal_word other) ≡ 0 =
     λ other under apart. word_at-put_other words at (wal_word other) value (λ e. apart (omega (arith, e))) ∙ alone other under apart in
@@ -162,7 +151,7 @@ IsFormed-put_bitmap words start i value formed in_heap below few =
     let version = version_in words in
     let high : heap_word version ≤ at = omega (arith, in_heap) in
     let low : (k : ℕ) → k < 2048 → word_at new k ≡ word_at words k =
-    λ k small. word_at-put_other words at k value (λ e. omega (arith, e, high, small, log_word-low version, log_word-high version)) in
+    λ k small. word_at-put_other words at k value (λ e. omega (arith, e, high, small, log_start-low version, log_start-high version)) in
     IsFormed-same words new (record {
       same_length = length-put_word words at value;
       text = low text_word (omega arith);
@@ -204,7 +193,7 @@ pub IsFormed-off_header : (words new : List ℕ) (start : ℕ) → IsFormed word
     IsFormed new
 IsFormed-off_header words new start formed same size none few =
     let version = version_in words in
-    let low : (k : ℕ) → k < 2048 → word_at new k ≡ word_at words k = λ k small. same.others k (inl (omega (arith, small, same.in_heap, log_word-low version, log_word-high version))) in
+    let low : (k : ℕ) → k < 2048 → word_at new k ≡ word_at words k = λ k small. same.others k (inl (omega (arith, small, same.in_heap, log_start-low version, log_start-high version))) in
     let apart : (other : ℕ) → is_slab words other ≡ true → other ≢ start = λ other is e. true≢false (sym is ∙ ap (is_slab words) e ∙ none) in
     let there : (other k : ℕ) → is_slab words other ≡ true → granule_word other ≤ k → k < granule_word other + blocks_place → word_at new k ≡ word_at words k = λ other k is from to. same.others k (⊎_elim
     (λ (before : other < start). inl (omega (arith, before, to)))

@@ -1,21 +1,11 @@
 -- Where live extents lie, and which one has an address.
 use Rattle.std.proofs.Common.{◌≡◌, ◌≢◌, ◌&&◌, ◌==◌, ℕ, ◌+◌, ◌-◌, ◌*◌, ◌/◌, ◌%◌, ◌<◌, ◌≤◌, Bool, true, false, true≢false, cond, refl, sym, ap, subst, ◌∙◌, arith, ⊎_elim, ltb, List, Option, Some, None}
 use Rattle.std.proofs.lemmas.Nat.{mul-le}
-use Rattle.std.proofs.lemmas.Bool.{cases_eq, eq-eqb, eqb-true, ltb-true, lt-ltb, cond-true, cond-false, and_parts, and_from, false_from_ne_true}
-use Rattle.size_classes.specs.Classes.{class_size, class_capacity}
+use Rattle.heap_check.proofs.Common.{cases_eq, eq-eqb, eqb-true, ltb-true, lt-ltb, cond-true, cond-false, and_parts, and_from, false_from_ne_true, class_size, class_capacity, class_size-least, SlabHeader, Tables, tables_of, is_slab_of, Bounds, slab_block, LiesIn-block, put_at, put_at-other, extent_at, Extent, slab_table, large_table}
 use Rattle.book_log.specs.Live.{granules_of}
-use Rattle.size_classes.proofs.Spacing.{class_size-least}
-use Rattle.image_tables.specs.Tables.{Tables, tables_of, is_slab_of}
-use Rattle.heap_model.specs.Machine.{Bounds, slab_block}
-use Rattle.heap_model.proofs.Slabbing.{LiesIn-block}
 use Rattle.heap_check.specs.Heap.{slab_of, is_large, is_old}
 use Rattle.heap_check.specs.Sound.{granules_at, Covers, IsInSlab, IsValidSlab, IsSound}
-use Rattle.image_tables.specs.Updates.{put_at}
-use Rattle.image_tables.proofs.Updates.{put_at-other}
 use Rattle.heap_check.proofs.Claims.{plain_size}
-use Rattle.image_tables.specs.Extents.{extent_at}
-use Rattle.image_tables.specs.declared.extent.Extent.{Extent}
-use Rattle.image_tables.proofs.Tables.{slab_table, large_table}
 
 -- extents
 
@@ -29,8 +19,8 @@ pub Covers-slab : (t : Tables) (start k : ℕ) → t.slab start ≡ true → sta
 Covers-slab t start k slab low high = record { low = low; high = omega (arith, high, granules_at-slab t start slab) }
 
 -- a valid slab has 64 index entries at most
-pub index_count_few : {t : Tables} {start : ℕ} → IsValidSlab t start → t.index_count start ≤ 64
-index_count_few {t} {start} is = ⊎_elim (λ (normal : t.kind start ≡ 1). omega (arith, (is.state.none normal).1)) (λ (other : t.kind start ≢ 1). (is.state.number other).1) (cases_eq (t.kind start) 1)
+pub index_count_few : {h : SlabHeader} → IsValidSlab h → h.index_count ≤ 64
+index_count_few {h} is = ⊎_elim (λ (normal : h.kind ≡ 1). omega (arith, (is.state.none normal).1)) (λ (other : h.kind ≢ 1). (is.state.number other).1) (cases_eq h.kind 1)
 
 -- numbers of blocks are below 4096
 pub number_few : (class i : ℕ) → class < 36 → i < class_capacity class → i < 4096
@@ -66,7 +56,7 @@ plain_size-start t start count is some =
 
 module _ {b : Bounds} {t : Tables} (sound : IsSound b t) where
   pub granules_at-live : (start : ℕ) → 0 < t.large start → granules_at t start ≡ t.large start
-  granules_at-live start some = granules_at-large t start (false_from_ne_true (t.slab start) (λ slab. omega (arith, sound.one_kind start slab)))
+  granules_at-live start some = granules_at-large t start (false_from_ne_true (t.slab start) (λ slab. omega (arith, sound.extents.one_kind start slab)))
 
   -- a granule lies in one slab
   pub slab_of-here : (start k : ℕ) → t.slab start ≡ true → start ≤ k → k < start + 4 → slab_of t.slab k ≡ start
@@ -75,7 +65,7 @@ module _ {b : Bounds} {t : Tables} (sound : IsSound b t) where
       let here : Covers t start k = Covers-slab t start k slab low high in
       let step : (is : Bool) (m rest : ℕ) → t.slab m ≡ is → m ≤ k → k < m + 4 → (is ≡ false → rest ≡ start) → cond is m rest ≡ start =
       λ is m rest. elim is as (λ is. t.slab m ≡ is → m ≤ k → k < m + 4 → (is ≡ false → rest ≡ start) → cond is m rest ≡ start) [
-        | true ↦ λ is from to next. sound.disjoint m start k (Covers-slab t m k is from to) here
+        | true ↦ λ is from to next. sound.extents.disjoint m start k (Covers-slab t m k is from to) here
         | false ↦ λ is from to next. next refl
       ] in
       step (t.slab k) k _ refl (omega arith) (omega arith) (λ none.
@@ -90,19 +80,19 @@ module _ {b : Bounds} {t : Tables} (sound : IsSound b t) where
       let parts = is_large-parts t.large at large in
       let whole = granules_at-live (at / 16384) parts.1 in
       let here : Covers t start (at / 16384) = Covers-slab t start (at / 16384) inside.slab (omega (arith, inside.low)) (omega (arith, inside.high)) in
-      let same : at / 16384 ≡ start = sound.disjoint (at / 16384) start (at / 16384) (record { low = omega arith; high = omega (arith, whole, parts.1) }) here in
-      omega (arith, parts.1, ap t.large same, sound.one_kind start inside.slab))
+      let same : at / 16384 ≡ start = sound.extents.disjoint (at / 16384) start (at / 16384) (record { low = omega arith; high = omega (arith, whole, parts.1) }) here in
+      omega (arith, parts.1, ap t.large same, sound.extents.one_kind start inside.slab))
 
   -- a block in a slab has a size
   pub plain_size-some : (start at : ℕ) → IsInSlab t start at → 0 < plain_size t at
   plain_size-some start at inside =
       let here : slab_of t.slab (at / 16384) ≡ start = slab_of-here start (at / 16384) inside.slab (omega (arith, inside.low)) (omega (arith, inside.high)) in
       let state = (sound.slabs start inside.slab).state in
-      let by : (of_old : Bool) → 0 < class_size (cond of_old (t.old start) (t.class start)) = λ of_old. elim of_old as (λ of_old. 0 < class_size (cond of_old (t.old start) (t.class start))) [
-        | true ↦ omega (arith, class_size-least (t.old start) state.is_old_class)
-        | false ↦ omega (arith, class_size-least (t.class start) state.is_class)
+      let by : (of_old : Bool) → 0 < class_size (cond of_old (t.header start).old (t.header start).class) = λ of_old. elim of_old as (λ of_old. 0 < class_size (cond of_old (t.header start).old (t.header start).class)) [
+        | true ↦ omega (arith, class_size-least (t.header start).old state.is_old_class)
+        | false ↦ omega (arith, class_size-least (t.header start).class state.is_class)
       ] in
-      rw (is_large-slab start at inside, here) (by (is_old t start at))
+      rw (is_large-slab start at inside, here) (by (is_old (t.header start) start at))
 
 -- a large extent is put at a granule where no slab starts
 
@@ -116,7 +106,7 @@ is_large-put large start count at other = by (at % 16384 == 0) refl
 
 -- an address lies in one slab
 pub one_slab : {b : Bounds} {t : Tables} → IsSound b t → (one other at : ℕ) → IsInSlab t one at → IsInSlab t other at → one ≡ other
-one_slab {b} {t} sound one other at first second = sound.disjoint one other (at / 16384)
+one_slab {b} {t} sound one other at first second = sound.extents.disjoint one other (at / 16384)
     (Covers-slab t one (at / 16384) first.slab (omega (arith, first.low)) (omega (arith, first.high)))
     (Covers-slab t other (at / 16384) second.slab (omega (arith, second.low)) (omega (arith, second.high)))
 

@@ -1,8 +1,6 @@
 -- The block that the heap of an image has for a root that the open entry does not name.
 use Rattle.std.proofs.Common.{◌≡◌, ◌≢◌, ◌==◌, ℕ, ◌*◌, ◌/◌, true, false, true≢false, sym, ap, subst, ◌∙◌, ⊎_elim, Some, None}
-use Rattle.std.proofs.lemmas.Bool.{cases_eq, cond-true, cond-false, eq-eqb, ne_eqb}
-use Rattle.image_tables.specs.Tables.{Tables}
-use Rattle.heap_model.specs.Machine.{Bounds, Range}
+use Rattle.heap_check.proofs.Common.{cases_eq, cond-true, cond-false, eq-eqb, ne_eqb, Tables, Bounds, Range}
 use Rattle.heap_check.specs.Heap.{is_large, size_at, entry_at, heap, IsClaim}
 use Rattle.heap_check.specs.Sound.{IsHeld, IsSound}
 use Rattle.heap_check.proofs.Claims.{plain_size, size_at-unnamed, IsNamed-claim, IsClaim-word}
@@ -58,7 +56,7 @@ is_large-rooted {b} {t} sound closed no_slab root some = ⊎_elim
     (λ (held : IsHeld t (t.root root)). true≢false (sym held.holds.slab ∙ no_slab held.start))
     (λ by_entry. some (sym by_entry ∙ ap (λ e. entry_at e root) closed))
     rest))
-    (sound.rooted root some)
+    (sound.owned.rooted root some)
 
 -- so each root has the block of a large extent or none
 pub heap-no_slab : {b : Bounds} {t : Tables} → IsSound b t → t.open_entry ≡ None → ((start : ℕ) → t.slab start ≡ false) → (root : ℕ) → t.root root ≢ 0 →

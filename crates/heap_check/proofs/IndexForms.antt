@@ -1,18 +1,6 @@
 -- A store to the index table of a slab keeps the form of the words.
 use Rattle.std.proofs.Common.{◌≡◌, ◌≢◌, ℕ, ◌*◌, ◌<◌, ◌≤◌, List, length, refl, sym, ap, subst, ◌∙◌, arith, ⊎_elim}
-use Rattle.std.proofs.lemmas.Bool.{cases_eq}
-use Rattle.pmem_lines.specs.Words.{word_at, put_word}
-use Rattle.pmem_lines.proofs.Words.{word_at-put_same, word_at-put_other, length-put_word}
-use Rattle.pool_layout.specs.Layout.{layout_of}
-use Rattle.pool_layout.specs.Places.{text_word, fields_word, wal_word}
-use Rattle.pool_layout.specs.Header.{granules_field, version_in, granules_in}
-use Rattle.image_tables.specs.Forms.{IsIndexWord}
-use Rattle.image_tables.specs.Tables.{is_slab, state_word, index_word, state_field}
-use Rattle.image_tables.proofs.Headers.{IsSameOffHeader-put, SameLog-off_header, is_slab-off_header}
-use Rattle.image_tables.proofs.Places.{log_word-low}
-use Rattle.image_tables.proofs.Stores.{log_word-high, wal_word-low, state_field-same}
-use Rattle.book_log.specs.Book.{HasLog}
-use Rattle.book_log.proofs.Books.{HasLog-same}
+use Rattle.heap_check.proofs.Common.{cases_eq, word_at, put_word, word_at-put_same, word_at-put_other, length-put_word, layout_of, text_word, fields_word, wal_word, granules_field, version_in, granules_in, IsIndexWord, is_slab, state_word, index_word, state_field, IsSameOffHeader-put, SameLog-off_header, is_slab-off_header, log_start-low, log_start-high, wal_word-low, state_field-same, HasLog, HasLog-same}
 use Rattle.heap_check.specs.Image.{IsFormed}
 use Rattle.heap_check.proofs.Forms.{IsHeader-same, HasWal-same}
 
@@ -25,7 +13,7 @@ IsFormed-put_index words start place value formed in_heap below inside valid =
     let off = IsSameOffHeader-put words start at value in_heap (omega arith) (omega (arith, below)) in
     let version = version_in words in
     let low : (k : ℕ) → k < 2048 → word_at new k ≡ word_at words k =
-    λ k small. word_at-put_other words at k value (λ e. omega (arith, e, in_heap, small, log_word-low version, log_word-high version)) in
+    λ k small. word_at-put_other words at k value (λ e. omega (arith, e, in_heap, small, log_start-low version, log_start-high version)) in
     let size = length-put_word words at value in
     let fields = low fields_word (omega arith) in
     let slab : (other : ℕ) → is_slab new other ≡ is_slab words other = λ other. is_slab-off_header words new start other off in

@@ -1,12 +1,8 @@
 -- A large extent and its root come and go: what the tables say then of extents, blocks and claims.
 use Rattle.std.proofs.Common.{◌≡◌, ◌≢◌, ◌⊎◌, ℕ, ◌+◌, ◌*◌, ◌/◌, ◌<◌, ◌≤◌, true, false, true≢false, cond, sym, ap, subst, ◌∙◌, arith, inl, inr, ⊎_elim, None}
-use Rattle.std.proofs.lemmas.Bool.{cases_Bool, cases_lt, cond-false}
-use Rattle.image_tables.specs.Tables.{Tables}
-use Rattle.heap_model.specs.Machine.{Bounds, Range, AreApart}
-use Rattle.heap_check.specs.Heap.{is_large, is_old, size_by, slab_of, entry_at, IsClaim, Holds, HoldsBit, HoldsOld}
+use Rattle.heap_check.proofs.Common.{cases_Bool, cases_lt, cond-false, Tables, Bounds, Range, AreApart, put_at, with_root, put_at-same, put_at-other}
+use Rattle.heap_check.specs.Heap.{is_large, is_old, size_by, slab_of, entry_at, IsClaim, Holds}
 use Rattle.heap_check.specs.Sound.{granules_at, Covers, IsInSlab, IsLooseLarge, IsSound}
-use Rattle.image_tables.specs.Updates.{put_at, with_root}
-use Rattle.image_tables.proofs.Updates.{put_at-same, put_at-other}
 use Rattle.heap_check.proofs.Claims.{plain_size, IsNamed-claim}
 use Rattle.heap_check.proofs.Geometry.{granules_at-large, Covers-slab, is_large-parts, is_large-put, plain_size-large}
 use Rattle.heap_check.proofs.Within.{IsWithin, IsWithin-claim, IsWithin-start}
@@ -31,7 +27,7 @@ pub record IsLargePlace (b : Bounds) (t : Tables) (root start count : ℕ) : Typ
   pub free : (other k : ℕ) → other ≢ start → Covers t other k → (k < start) ⊎ (start + count ≤ k)
   pub was : ((t.large start ≡ 0) × (t.root root ≡ 0)) ⊎ ((t.large start ≡ count) × ((t.root root ≡ 0) ⊎ (t.root root ≡ 16384 * start)))
   pub lone : (other : ℕ) → other ≢ root → t.root other ≢ 16384 * start
-  pub calm : (other : ℕ) → other ≢ start → ¬ (IsLooseLarge t other)
+  pub none_loose : (other : ℕ) → other ≢ start → ¬ (IsLooseLarge t other)
 
 -- there is neither extent nor word, or the extent alone, or both
 pub record IsLargeStage (start count here word : ℕ) : Type 0 where
@@ -55,22 +51,10 @@ module _ (t : Tables) (start here root word : ℕ) where
   -- what slabs hold is the same
 
   pub Holds-back : (other : ℕ) (range : Range) → Holds (with_large t start here root word) other range → Holds t other range
-  Holds-back other range holds = record {
-    slab = holds.slab;
-    block = ⊎_elim
-        (λ (bit : HoldsBit (with_large t start here root word) other range). inl (record { number = bit.number; below = bit.below; read = bit.read; set = bit.set; is = bit.is }))
-        (λ (old : HoldsOld (with_large t start here root word) other range). inr (record { place = old.place; below = old.below; live = old.live; is = old.is }))
-        holds.block;
-  }
+  Holds-back other range holds = holds
 
   pub Holds-forth : (other : ℕ) (range : Range) → Holds t other range → Holds (with_large t start here root word) other range
-  Holds-forth other range holds = record {
-    slab = holds.slab;
-    block = ⊎_elim
-        (λ (bit : HoldsBit t other range). inl (record { number = bit.number; below = bit.below; read = bit.read; set = bit.set; is = bit.is }))
-        (λ (old : HoldsOld t other range). inr (record { place = old.place; below = old.below; live = old.live; is = old.is }))
-        holds.block;
-  }
+  Holds-forth other range holds = holds
 
   -- a block elsewhere has the size that it had
   pub plain_size-elsewhere : (at : ℕ) → at ≢ 16384 * start → plain_size (with_large t start here root word) at ≡ plain_size t at
@@ -82,7 +66,7 @@ module _ (t : Tables) (start here root word : ℕ) where
       let apart : at / 16384 ≢ start = λ is. other (parts.0 ∙ ap (λ k. 16384 * k) is) in
       plain_size-large (with_large t start here root word) at (same ∙ large) ∙ ap (λ n. 16384 * n) (put_at-other t.large start (at / 16384) here apart) ∙ sym (plain_size-large t at large))
       (λ (small : is_large t.large at ≡ false).
-      cond-false (is_large (put_at t.large start here) at) _ (size_by t at (is_old t (slab_of t.slab (at / 16384)) at)) (same ∙ small)
+      cond-false (is_large (put_at t.large start here) at) _ (size_by t at (is_old (t.header (slab_of t.slab (at / 16384))) (slab_of t.slab (at / 16384)) at)) (same ∙ small)
       ∙ sym (cond-false (is_large t.large at) _ _ small))
       (cases_Bool (is_large t.large at))
 

@@ -1,11 +1,8 @@
 -- A large extent and its root come and go: the heap afterwards, and which granules are vacant.
 use Rattle.std.proofs.Common.{◌≡◌, ◌≢◌, ◌⊎◌, ◌↔◌, ℕ, ◌+◌, ◌*◌, ◌<◌, ◌≤◌, ap, ◌∙◌, arith, inl, inr, ⊎_elim, Some, None}
-use Rattle.std.proofs.lemmas.Bool.{cases_eq}
-use Rattle.image_tables.specs.Tables.{Tables}
-use Rattle.heap_model.specs.Machine.{Bounds}
+use Rattle.heap_check.proofs.Common.{cases_eq, Tables, Bounds, put_at-same, put_at-other}
 use Rattle.heap_check.specs.Heap.{heap}
 use Rattle.heap_check.specs.Sound.{granules_at, Covers, IsVacant}
-use Rattle.image_tables.proofs.Updates.{put_at-same, put_at-other}
 use Rattle.heap_check.proofs.Claims.{plain_size}
 use Rattle.heap_check.proofs.Geometry.{granules_at-large, plain_size-start}
 use Rattle.heap_check.proofs.Heaps.{heap-none, heap-some, heap-same}

@@ -1,21 +1,11 @@
 -- A large extent and its root come and go: the words of the image at each stage.
 use Rattle.std.proofs.Common.{◌⊎◌, ◌≡◌, ◌≢◌, ℕ, ◌*◌, ◌<◌, ◌≤◌, List, length, sym, ap, subst, ◌∙◌, arith, ⊎_elim, Some, None}
-use Rattle.image_tables.specs.Tables.{AreSlabsInHeap, Tables, tables_of}
-use Rattle.image_tables.specs.Updates.{HasNoMove}
-use Rattle.image_tables.proofs.Updates.{put_at-twice, put_at-own}
-use Rattle.image_tables.proofs.Stores.{version_in-put_root, heap_word-put_root, extent_at-put_root, tables_put_root, roots_plain}
+use Rattle.heap_check.proofs.Common.{AreSlabsInHeap, Tables, tables_of, HasNoMove, put_at-twice, put_at-own, version_in-put_root, heap_word-put_root, extent_at-put_root, tables_put_root, roots_plain, cases_eq, word_at, put_word, length-put_word, layout_of, root_word, heap_word, version_in, Bounds, Range}
 use Rattle.heap_check.specs.Sound.{IsSteady, IsExact}
 use Rattle.heap_check.proofs.Forms.{bounds_of-put_root, IsFormed-put_root}
 use Rattle.heap_check.proofs.Large.{large_block, IsLargeStage, entry_at-none, with_large, IsLargePlace}
 use Rattle.heap_check.proofs.LargeSound.{IsLargeEnd, IsSteady-large, IsExact-large}
 use Rattle.heap_check.proofs.LargeHeaps.{heap-large_other, heap-large_none, heap-large_some}
-use Rattle.std.proofs.lemmas.Bool.{cases_eq}
-use Rattle.pmem_lines.specs.Words.{word_at, put_word}
-use Rattle.pmem_lines.proofs.Words.{length-put_word}
-use Rattle.pool_layout.specs.Layout.{layout_of}
-use Rattle.pool_layout.specs.Places.{root_word, heap_word}
-use Rattle.pool_layout.specs.Header.{version_in}
-use Rattle.heap_model.specs.Machine.{Bounds, Range}
 use Rattle.heap_check.specs.Image.{bounds_of, IsFormed, IsExactImage, IsSteadyImage}
 use Rattle.heap_check.specs.State.{IsWordOf, HaveSameHeap, KeepsBlocks, IsEitherHeap}
 use Rattle.heap_check.proofs.Blank.{law_of_steady}

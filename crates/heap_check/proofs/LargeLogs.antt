@@ -1,14 +1,9 @@
 -- A live large extent of a well-formed log has two granules at least.
 use Rattle.std.proofs.Common.{◌≡◌, ◌<◌, ◌≤◌, ◌^◌, ℕ, List, Option, None, Some, ap, refl, arith, MatchOption}
-use Rattle.pool_layout.specs.Header.{granules_in}
-use Rattle.image_tables.specs.declared.extent.Extent.{Extent}
+use Rattle.heap_check.proofs.Common.{granules_in, Extent, extent_at, large_of, tables_of, large_table, HasLog, chunks_of}
 use Rattle.image_tables.specs.declared.extent.Extent.TheVariants.{Large, Slab}
-use Rattle.image_tables.specs.Extents.{extent_at}
-use Rattle.image_tables.specs.Tables.{large_of, tables_of}
-use Rattle.image_tables.proofs.Tables.{large_table}
 use Rattle.book_log.specs.declared.entry.LogEntry.{LogEntry}
 use Rattle.book_log.specs.declared.entry.LogEntry.TheVariants as entry
-use Rattle.book_log.specs.Book.{HasLog, chunks_of}
 use Rattle.book_log.proofs.LiveExtents.{live_extents}
 use Rattle.book_log.specs.Table.{IsNextLive, IsNoneLive}
 use Rattle.book_log.specs.Entry.{extent_of}

@@ -1,8 +1,6 @@
 -- Where a large extent and its root can come or go: on vacant granules, at the block of a root, and at a loose extent.
 use Rattle.std.proofs.Common.{◌≡◌, ◌≢◌, ◌⊎◌, ℕ, ◌+◌, ◌-◌, ◌*◌, ◌/◌, ◌<◌, ◌≤◌, false, refl, ap, subst, ◌∙◌, arith, inl, inr, ⊎_elim, None}
-use Rattle.std.proofs.lemmas.Bool.{cases_lt, false_from_ne_true}
-use Rattle.image_tables.specs.Tables.{Tables}
-use Rattle.heap_model.specs.Machine.{Bounds}
+use Rattle.heap_check.proofs.Common.{cases_lt, false_from_ne_true, Tables, Bounds}
 use Rattle.heap_check.specs.Heap.{entry_at, IsClaim}
 use Rattle.heap_check.specs.Sound.{granules_at, Covers, IsVacant, IsLooseLarge, IsSound, IsExact}
 use Rattle.heap_check.proofs.Claims.{plain_size, IsClaim-word}
@@ -49,15 +47,15 @@ IsLargePlace-vacant {b} {t} {root} {start} {count} exact first some none vacant 
           let claim = IsClaim-word t other unnamed (λ nothing. omega (arith, here.low)) in
           let within = IsWithin-claim exact.sound other (record { at = t.root other; size = plain_size t (t.root other) }) unnamed claim in
           here.none within.0 (subst (λ k. Covers t within.0 k) (ap (λ at. at / 16384) is ∙ granule_of-start start) (Covers-within t within.0 _ within.1));
-      calm = λ other differ. IsLooseLarge-none exact other;
+      none_loose = λ other differ. IsLooseLarge-none exact other;
     }
 
 -- a live extent, of which the root's word is the start or which no root has
 IsLargePlace-live : {b : Bounds} {t : Tables} {root start count : ℕ} → IsSound b t → t.open_entry ≡ None → 0 < b.first → 0 < count → t.large start ≡ count → (t.root root ≡ 0) ⊎ (t.root root ≡ 16384 * start) →
     ((other : ℕ) → other ≢ root → t.root other ≢ 16384 * start) → ((other : ℕ) → other ≢ start → ¬ (IsLooseLarge t other)) → IsLargePlace b t root start count
-IsLargePlace-live {b} {t} {root} {start} {count} sound closed first some live word lone calm =
+IsLargePlace-live {b} {t} {root} {start} {count} sound closed first some live word lone none_loose =
     let whole : granules_at t start ≡ count = granules_at-live sound start (omega (arith, live, some)) ∙ live in
-    let bounds = sound.starts start (omega (arith, whole, some)) in
+    let bounds = sound.extents.starts start (omega (arith, whole, some)) in
     record {
       sound = sound;
       closed = closed;
@@ -65,21 +63,21 @@ IsLargePlace-live {b} {t} {root} {start} {count} sound closed first some live wo
       low = bounds.0;
       some = some;
       high = omega (arith, bounds.1, whole);
-      no_slab = false_from_ne_true (t.slab start) (λ slab. omega (arith, sound.one_kind start slab, live, some));
+      no_slab = false_from_ne_true (t.slab start) (λ slab. omega (arith, sound.extents.one_kind start slab, live, some));
       free = λ other k differ covers. ⊎_elim
-          (λ within. absurd (differ (sound.disjoint other start k covers (record { low = within.0; high = omega (arith, within.1, whole) }))))
+          (λ within. absurd (differ (sound.extents.disjoint other start k covers (record { low = within.0; high = omega (arith, within.1, whole) }))))
           (λ outside. outside)
           (cases_run start count k);
       was = inr (live, word);
       lone = lone;
-      calm = calm;
+      none_loose = none_loose;
     }
 
 -- the extent of a root's block
 pub IsLargePlace-named : {b : Bounds} {t : Tables} {root start count : ℕ} → IsExact b t → 0 < b.first → 0 < count → t.root root ≡ 16384 * start → t.large start ≡ count → IsLargePlace b t root start count
 IsLargePlace-named {b} {t} {root} {start} {count} exact first some has live =
     let whole : granules_at t start ≡ count = granules_at-live exact.sound start (omega (arith, live, some)) ∙ live in
-    let bounds = exact.sound.starts start (omega (arith, whole, some)) in
+    let bounds = exact.sound.extents.starts start (omega (arith, whole, some)) in
     let wide : 0 < plain_size t (16384 * start) = omega (arith, plain_size-start t start count live some, some) in
     let claim : (other : ℕ) → t.root other ≡ 16384 * start → IsClaim t other (record { at = 16384 * start; size = plain_size t (16384 * start) }) = λ other is.
     subst (λ at. IsClaim t other (record { at = at; size = plain_size t at })) is
@@ -93,4 +91,4 @@ pub IsLargePlace-loose : {b : Bounds} {t : Tables} {root start : ℕ} → IsSoun
 IsLargePlace-loose {b} {t} {root} {start} sound closed first none loose =
     IsLargePlace-live sound closed first loose.live refl (inl none)
     (λ other differ. loose.unnamed other)
-    (λ other differ another. differ (sound.loose_large.same other start another loose))
+    (λ other differ another. differ (sound.loose.large.same other start another loose))

@@ -1,16 +1,13 @@
 -- A large extent and its root come and go: the image stays sound and steady at each stage, and is exact at the ends.
 use Rattle.std.proofs.Common.{◌≡◌, ◌≢◌, ◌⊎◌, ℕ, ◌+◌, ◌*◌, ◌<◌, ◌≤◌, true, sym, ap, subst, ◌∙◌, arith, inl, inr, ⊎_elim}
-use Rattle.std.proofs.lemmas.Bool.{cases_eq}
-use Rattle.image_tables.specs.Tables.{Tables}
-use Rattle.heap_model.specs.Machine.{Bounds, Range}
+use Rattle.heap_check.proofs.Common.{cases_eq, Tables, Bounds, Range, put_at-same, put_at-other}
 use Rattle.heap_check.specs.Heap.{is_large, IsClaim}
-use Rattle.heap_check.specs.Sound.{granules_at, Covers, IsInSlab, IsValidSlab, IsHeld, IsStanding, IsLooseLarge, IsEmptySlab, IsNearlyDone, IsSound, IsExact, IsSteady}
-use Rattle.image_tables.proofs.Updates.{put_at-same, put_at-other}
+use Rattle.heap_check.specs.Sound.{granules_at, Covers, IsInSlab, IsHeld, IsStanding, IsLooseLarge, IsEmptySlab, IsNearlyDone, IsSound, IsExact, IsSteady}
 use Rattle.heap_check.proofs.Claims.{NamesOnly-none, plain_size, IsNamed-claim}
 use Rattle.heap_check.proofs.Geometry.{granules_at-live, is_large-start, is_large-put, plain_size-start}
 use Rattle.heap_check.proofs.Within.{IsInSlab-held}
 use Rattle.heap_check.proofs.Touch.{IsTouch, Range-same, IsSound-touched}
-use Rattle.heap_check.proofs.Loose.{AtMostOne-one, AtMostOne-fewer}
+use Rattle.heap_check.proofs.Loose.{AtMostOne-one, AtMostOne-fewer, nearly_spent, spent_nearly}
 use Rattle.heap_check.proofs.Large.{with_large, large_block, IsLargePlace, IsLargeStage, granules_at-other, granules_at-own, Covers-back, Holds-back, Holds-forth, plain_size-elsewhere, entry_at-none, slab-other, IsInSlab-none, AreApart-others}
 
 -- there is neither extent nor word, or both
@@ -40,7 +37,7 @@ module _ {b : Bounds} {t : Tables} {root start count : ℕ} (place : IsLargePlac
   named_other : (other : ℕ) → other ≢ start → 0 < t.large other → t.root root ≢ 16384 * other
   named_other other differ live same =
       let whole = granules_at-live place.sound other live in
-      let low = (place.sound.starts other (omega (arith, whole, live))).0 in
+      let low = (place.sound.extents.starts other (omega (arith, whole, live))).0 in
       ⊎_elim
       (λ none. omega (arith, none.1, same, low, place.first))
       (λ own. ⊎_elim (λ none. omega (arith, none, same, low, place.first)) (λ has. differ (omega (arith, has, same))) own.1)
@@ -77,7 +74,7 @@ module _ {b : Bounds} {t : Tables} {root start count : ℕ} (place : IsLargePlac
         (λ (same : one ≡ start). ⊎_elim (λ (too : other ≡ start). same ∙ sym too) (λ (differ : other ≢ start). absurd (clash one other same differ first second)) (cases_eq other start))
         (λ (differ : one ≢ start). ⊎_elim
         (λ (same : other ≡ start). absurd (clash other one same differ second first))
-        (λ (too : other ≢ start). place.sound.disjoint one other k (Covers-back t start here root word one k differ first) (Covers-back t start here root word other k too second))
+        (λ (too : other ≢ start). place.sound.extents.disjoint one other k (Covers-back t start here root word one k differ first) (Covers-back t start here root word other k too second))
         (cases_eq other start))
         (cases_eq one start)
 
@@ -88,14 +85,9 @@ module _ {b : Bounds} {t : Tables} {root start count : ℕ} (place : IsLargePlac
         (omega (arith, place.low, same), omega (arith, place.high, same, own, most)))
         (λ (differ : other ≢ start).
         let size = granules_at-other t start here root word other differ in
-        let was = place.sound.starts other (omega (arith, some, size)) in
+        let was = place.sound.extents.starts other (omega (arith, some, size)) in
         (was.0, omega (arith, was.1, size)))
         (cases_eq other start)
-
-    slabs : (other : ℕ) → t.slab other ≡ true → IsValidSlab new other
-    slabs other slab =
-        let was = place.sound.slabs other slab in
-        record { state = was.state; small = was.small; once = was.once }
 
     own_live : word ≢ 0 → (here ≡ count) × (word ≡ 16384 * start)
     own_live some = ⊎_elim (λ none. absurd (some none.1)) (λ live. (live.0, ⊎_elim (λ none. absurd (some none)) (λ has. has) live.1)) stage.is
@@ -129,7 +121,7 @@ module _ {b : Bounds} {t : Tables} {root start count : ℕ} (place : IsLargePlac
         (λ (same : other ≡ start). same)
         (λ (differ : other ≢ start).
         let live : 0 < t.large other = omega (arith, loose.live, put_at-other t.large start other here differ) in
-        absurd (place.calm other differ (record {
+        absurd (place.none_loose other differ (record {
           live = live;
           unnamed = λ r. ⊎_elim
               (λ (same : r ≡ root). subst (λ r. t.root r ≢ 16384 * other) (sym same) (named_other other differ live))
@@ -164,15 +156,19 @@ module _ {b : Bounds} {t : Tables} {root start count : ℕ} (place : IsLargePlac
       stands = stands;
       back = λ other range holds. inl (Holds-back t start here root word other range holds);
       held = λ other holds. absurd (IsInSlab-none place other (IsInSlab-held place.sound other (large_block start count) (Holds-back t start here root word other (large_block start count) holds)));
-      disjoint = disjoint;
-      starts = starts;
-      one_kind = λ other slab. put_at-other t.large start other here (slab-other place other slab) ∙ place.sound.one_kind other slab;
-      slabs = slabs;
+      extents = record {
+        disjoint = disjoint;
+        starts = starts;
+        one_kind = λ other slab. put_at-other t.large start other here (slab-other place other slab) ∙ place.sound.extents.one_kind other slab;
+      };
+      slabs = place.sound.slabs;
       open_entry = λ e is. absurd (let none = place.closed in cc);
-      loose_large = AtMostOne-one start loose_is;
-      empty_slab = AtMostOne-fewer empty_before place.sound.empty_slab;
-      morphing = AtMostOne-fewer (λ k morphing. record { slab = morphing.slab; kind = morphing.kind }) place.sound.morphing;
-      done = AtMostOne-fewer (λ k done. record { slab = done.slab; kind = done.kind; none = done.none }) place.sound.done;
+      loose = record {
+        large = AtMostOne-one start loose_is;
+        empty = AtMostOne-fewer empty_before place.sound.loose.empty;
+        morphing = place.sound.loose.morphing;
+        done = place.sound.loose.done;
+      };
     }
 
     pub IsSound-large : IsSound b (with_large t start here root word)
@@ -181,11 +177,7 @@ module _ {b : Bounds} {t : Tables} {root start count : ℕ} (place : IsLargePlac
     pub IsSteady-large : IsSteady b t → IsSteady b (with_large t start here root word)
     IsSteady-large steady = record {
       sound = IsSound-large;
-      one_done = AtMostOne-fewer (λ k (nearly : IsNearlyDone new k). record {
-        slab = nearly.slab;
-        kind = nearly.kind;
-        none = λ at below live. absurd (let found = nearly.none at below live in let is = found.entry in let none = place.closed in cc);
-      }) steady.one_done;
+      one_done = AtMostOne-fewer (λ k (nearly : IsNearlyDone new k). spent_nearly t k nearly.slab (nearly_spent place.closed nearly)) steady.one_done;
     }
 
   pub IsExact-large : (here word : ℕ) → IsLargeEnd start count here word → IsExact b t → IsExact b (with_large t start here root word)
@@ -209,6 +201,6 @@ module _ {b : Bounds} {t : Tables} {root start count : ℕ} (place : IsLargePlac
             let inside = lives.2 in
             let is = other_word here word stage lives.0 (λ same. own_no_slab other (λ none. lives.1 (ap t.root same ∙ none)) (subst (λ r. IsInSlab t other (t.root r)) same inside)) in
             (lives.0, λ none. lives.1 (sym is ∙ none), record { slab = inside.slab; low = omega (arith, inside.low, is); high = omega (arith, inside.high, is) });
-        calm = λ other morphing. exact.calm other (record { slab = morphing.slab; kind = morphing.kind });
-        none_done = λ other done. exact.none_done other (record { slab = done.slab; kind = done.kind; none = done.none });
+        none_morphing = exact.none_morphing;
+        none_done = exact.none_done;
       }

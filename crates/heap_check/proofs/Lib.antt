@@ -1,3 +1,4 @@
+pub mod Common
 pub mod Blank
 pub mod Sizes
 pub mod Forms
@@ -30,7 +31,7 @@ pub mod SlabLogs
 pub mod LargeLogs
 pub mod ExactStates
 pub mod LiveCounts
-pub mod CalmSlabs
+pub mod NormalSlabs
 pub mod HeapSteps
 pub mod UnusedBlocks
 pub mod States

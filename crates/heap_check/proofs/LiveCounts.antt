@@ -1,21 +1,17 @@
 -- How many live blocks the slabs of an image have: once a root has another block, and once slabs come and go.
 use Rattle.std.proofs.Common.{◌≡◌, ◌≢◌, ◌==◌, ℕ, ◌+◌, ◌-◌, ◌*◌, ◌<◌, ◌≤◌, Bool, true, false, true≢false, List, length, slice_index, Some, None, refl, sym, ap, ◌∙◌, arith, ⊎_elim, if◌then◌else◌, ne_eqb, eq-eqb}
-use Rattle.heap_model.specs.Machine.{Range, Bounds}
+use Rattle.heap_check.proofs.Common.{Range, Bounds, granules_in, Tables, tables_of, false_from_ne_true, cases_lt, cases_eq, root_table-past}
 use Rattle.heap_model.proofs.Counts.{one_if, live_below-most, live_given}
-use Rattle.pool_layout.specs.Header.{granules_in}
 use Rattle.heap_check.specs.Image.{bounds_of}
 use Rattle.heap_check.specs.Sound.{IsSound, IsInSlab}
 use Rattle.heap_check.specs.Views.{live_in, AreCountsOf}
 use Rattle.heap_model.specs.Slabs.{live_below, begins_in}
-use Rattle.image_tables.specs.Tables.{Tables, tables_of}
 use Rattle.heap_check.specs.Heap.{Holds, heap, entry_at}
 use Rattle.heap_model.proofs.Freeing.{BeginsIn, begins_in-here, begins_at, begins_in-true, live_below-none, live_below-some}
 use Rattle.heap_check.proofs.Heaps.{IsClaim-heap, heap-claim}
-use Rattle.std.proofs.lemmas.Bool.{false_from_ne_true, cases_lt, cases_eq}
 use Rattle.heap_check.proofs.Claims.{IsNamed-claim}
 use Rattle.heap_check.proofs.Within.{IsInSlab-held}
 use Rattle.heap_check.proofs.SmallPlaces.{Holds-claim}
-use Rattle.image_tables.proofs.Tables.{root_table-past}
 use Rattle.heap_check.proofs.Geometry.{is_large-start, one_slab, is_large-slab}
 
 -- numbers of slabs: where no slab begins they are 0
@@ -52,7 +48,7 @@ pub live_some : (words : List ℕ) → IsSound (bounds_of words) (tables_of word
     0 < live_below (heap (tables_of words)) start (bounds_of words).roots
 live_some words sound closed start range holds =
     let t = tables_of words in
-    let owner = sound.claimed start range holds in
+    let owner = sound.owned.claimed start range holds in
     let unnamed : entry_at t.open_entry owner.0 ≡ 0 = ap (λ e. entry_at e owner.0) closed in
     let its = IsNamed-claim t owner.0 range unnamed owner.1 in
     let inside = IsInSlab-held sound start range holds in

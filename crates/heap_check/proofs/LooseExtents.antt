@@ -1,11 +1,7 @@
 -- A large extent that no root holds goes: the image stays sound and steady with the same heap, and nothing comes to be
 -- loose.
 use Rattle.std.proofs.Common.{◌≡◌, ◌≢◌, ℕ, ◌<◌, refl, sym, ap, subst, ◌∙◌, arith, inl, ⊎_elim, None}
-use Rattle.std.proofs.lemmas.Bool.{cases_eq}
-use Rattle.image_tables.specs.Tables.{Tables}
-use Rattle.image_tables.specs.Updates.{put_at}
-use Rattle.image_tables.proofs.Updates.{put_at-same, put_at-other, put_at-own}
-use Rattle.heap_model.specs.Machine.{Bounds}
+use Rattle.heap_check.proofs.Common.{cases_eq, Tables, put_at, put_at-same, put_at-other, put_at-own, Bounds}
 use Rattle.heap_check.specs.Heap.{heap}
 use Rattle.heap_check.specs.Sound.{IsLooseLarge, LoosensNothing, IsSteady}
 use Rattle.heap_check.proofs.Claims.{plain_size}
@@ -42,7 +38,7 @@ module _ {b : Bounds} {t : Tables} {start : ℕ} (steady : IsSteady b t) (closed
         (λ (here : other ≡ start). absurd (omega (arith, other_loose.live, ap (put_at t.large start 0) here, put_at-same t.large start 0)))
         (λ (differ : other ≢ start). record { live = omega (arith, other_loose.live, put_at-other t.large start other 0 differ); unnamed = other_loose.unnamed })
         (cases_eq other start);
-    empty = λ other empty. record { slab = empty.slab; none = λ root some inside. empty.none root some (record { slab = inside.slab; low = inside.low; high = inside.high }) };
-    morphing = λ other morphing. record { slab = morphing.slab; kind = morphing.kind };
-    done = λ other done. record { slab = done.slab; kind = done.kind; none = done.none };
+    empty = λ other empty. empty;
+    morphing = λ other morphing. morphing;
+    done = λ other done. done;
   }

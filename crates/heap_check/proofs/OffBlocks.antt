@@ -1,19 +1,12 @@
 -- Words that differ within the block of a root alone: the image says the same of everything.
 use Rattle.std.proofs.Common.{◌≡◌, ◌<◌, ◌≤◌, ◌+◌, ◌*◌, ℕ, true, List, length, Some, ap, ◌∙◌, arith, ⊎_elim}
-use Rattle.pool_layout.specs.Places.{wal_word, granule_word, blocks_place, text_word, root_word, entry_word, heap_word}
-use Rattle.pool_layout.specs.Header.{version_field, version_in, granules_in}
-use Rattle.image_tables.specs.Tables.{root_in, open_entry_in, wal_lines, bitmap_word, bit_at, live_at, number_at, tables_of, Tables, large_of, is_slab_of, is_slab, state_word, index_word}
-use Rattle.image_tables.proofs.Places.{log_word-low, entry_word-high}
+use Rattle.heap_check.proofs.Common.{wal_word, granule_word, blocks_place, text_word, root_word, entry_slot, heap_word, version_field, version_in, granules_in, log_start-low, entry_slot-high, slab_fields, slab_table, wal_word-low, log_start-high, roots-same, entry_among-same, slab_header-same, tables_by, root_word-low, HasLog-same, word_at, Range}
+use Rattle.image_tables.specs.Tables.{root_in, open_entry_in, wal_lines, bitmap_word, slab_header, tables_of, Tables, large_of, is_slab_of, is_slab, state_word, index_word}
 use Rattle.image_tables.proofs.Extents.{extent_at-same}
-use Rattle.image_tables.proofs.Tables.{slab_fields, slab_table}
-use Rattle.image_tables.proofs.Stores.{wal_word-low, log_word-high, live_at-same, number_at-same, bit_at-same, slab_bit-same, roots-same, entry_among-same, tables_by, root_word-low}
-use Rattle.book_log.proofs.Books.{HasLog-same}
 use Rattle.heap_check.proofs.BlockWords.{block_word-heap, block_word-header}
 use Rattle.heap_check.proofs.Forms.{IsFormed-same, HasWal-same, bounds_of-same}
 use Rattle.heap_check.proofs.Geometry.{index_count_few}
-use Rattle.pmem_lines.specs.Words.{word_at}
 use Rattle.image_tables.proofs.Logs.{SameLog, same_log}
-use Rattle.heap_model.specs.Machine.{Range}
 use Rattle.heap_check.specs.Heap.{heap, slabs}
 use Rattle.heap_check.specs.Image.{bounds_of, IsFormed, IsExactImage}
 use Rattle.heap_check.specs.State.{IsWordOf, HaveSameHeap}
@@ -25,7 +18,7 @@ pub record IsSameOffBlock (words new : List ℕ) (range : Range) : Type 0 where
 
 -- the heap lies behind the write-ahead words and the roots
 heap_word-low : (version : ℕ) → 2048 < heap_word version
-heap_word-low version = omega (arith, log_word-low version, log_word-high version)
+heap_word-low version = omega (arith, log_start-low version, log_start-high version)
 
 module _ {words new : List ℕ} {range : Range} (image : IsExactImage words) (root : ℕ) (named : heap (tables_of words) root ≡ Some range) (same : IsSameOffBlock words new range) where
   -- a word before the heap
@@ -43,7 +36,7 @@ module _ {words new : List ℕ} {range : Range} (image : IsExactImage words) (ro
       (block_word-header image.exact.sound image.exact.closed root range named k within start (slab_table words start ∙ is)))
 
   pub log : SameLog words new
-  log = same_log words new (λ k before. lowest k (omega (arith, before))) (λ c e few below. low (entry_word (version_in words) c e) (entry_word-high (version_in words) c e few below))
+  log = same_log words new (λ k before. lowest k (omega (arith, before))) (λ c e few below. low (entry_slot (version_in words) c e) (entry_slot-high (version_in words) c e few below))
 
   slab : (start : ℕ) → is_slab new start ≡ is_slab words start
   slab start = ap is_slab_of (extent_at-same words new start log)
@@ -60,13 +53,13 @@ module _ {words new : List ℕ} {range : Range} (image : IsExactImage words) (ro
   -- the tables are the same
   pub tables_kept : tables_of new ≡ tables_of words
   unfolding tables_of
-  tables_kept = tables_by words new (root_in words) (open_entry_in words) (tables_of words).large (bit_at words) (live_at words) (number_at words) slab state
-      (roots-same words new (ap version_field log.fields) (λ r below. low (root_word r) (omega (arith, root_word-low (version_in words) r below, log_word-high (version_in words)))))
+  tables_kept = tables_by words new (root_in words) (open_entry_in words) (tables_of words).large (slab_header words) slab
+      (roots-same words new (ap version_field log.fields) (λ r below. low (root_word r) (omega (arith, root_word-low (version_in words) r below, log_start-high (version_in words)))))
       (entry_among-same (λ line. word_at words (wal_word line)) (λ line. word_at new (wal_word line)) wal_lines wal)
       (λ start. ap large_of (extent_at-same words new start log))
-      (λ start i. bit_at-same words new start i (slab start) (λ is below. slab_bit-same words new start i (header start (bitmap_word start i) is (omega arith) (omega (arith, below)))))
-      (λ start place. live_at-same words new start place (slab start) (index start place))
-      (λ start place. number_at-same words new start place (slab start) (index start place))
+      (λ start. slab_header-same words new start (slab start) (state start)
+      (λ i is below. header start (bitmap_word start i) is (omega arith) (omega (arith, below)))
+      (index start))
 
   pub bounds_kept : bounds_of new ≡ bounds_of words
   bounds_kept = bounds_of-same words new log.fields

@@ -1,27 +1,19 @@
 -- One root's block comes or goes, under an entry of the root: a slab holds it by a bit or by a live index entry, or does not,
 -- and the root has it or nothing. The image stays sound and steady at each stage, and is exact at the ends.
 use Rattle.std.proofs.Common.{◌≡◌, ◌≢◌, ◌⊎◌, ◌==◌, ◌↔◌, ℕ, ◌*◌, ◌<◌, Bool, true, false, true≢false, refl, sym, ap, subst, ◌∙◌, arith, inl, inr, ⊎_elim, Option, Some, None}
-use Rattle.std.proofs.lemmas.Bool.{cases_eq, cases_Bool, cond-true, cond-false, eq-eqb, ne_eqb}
-use Rattle.size_classes.proofs.Spacing.{class_size-least}
-use Rattle.image_tables.specs.declared.entry.WalEntry.{WalEntry}
-use Rattle.image_tables.specs.declared.entry.WalEntry.TheVariants.{Place}
-use Rattle.image_tables.specs.Tables.{Tables}
-use Rattle.image_tables.specs.Updates.{with_root}
-use Rattle.image_tables.proofs.Updates.{put_at-same, put_at-other}
-use Rattle.heap_model.specs.Machine.{Bounds, Range, AreApart, slab_block}
-use Rattle.heap_model.proofs.Slabbing.{LiesIn-block}
+use Rattle.heap_check.proofs.Common.{cases_eq, cases_Bool, cond-true, cond-false, eq-eqb, ne_eqb, class_size-least, WalEntry, Place, Tables, number_rows, with_root, with_rows, put_at-same, put_at-other, Bounds, Range, AreApart, slab_block, LiesIn-block}
 use Rattle.heap_check.specs.Heap.{size_at, entry_at, claim_at, heap, IsClaim, Holds}
-use Rattle.heap_check.specs.Sound.{Covers, IsVacant, IsInSlab, IsValidSlab, IsOpen, IsStanding, IsLooseLarge, IsEmptySlab, IsDoneSlab, IsLeaving, IsNearlyDone, IsSound, IsExact, IsSteady, IsExactBut, HasOther}
+use Rattle.heap_check.specs.Sound.{IsVacant, IsInSlab, IsValidSlab, IsOpen, IsStanding, IsLooseLarge, IsEmptySlab, IsDoneSlab, IsLeaving, IsNearlyDone, IsSound, IsExact, IsSteady, IsExactBut, HasOther}
 use Rattle.heap_check.proofs.Claims.{NamesOnly, NamesOnly-none, plain_size, IsNamed-claim, IsClaim-word, IsClaim-named}
 use Rattle.heap_check.proofs.Geometry.{granules_at-live, Covers-slab, plain_size-some, one_slab}
 use Rattle.heap_check.proofs.Heaps.{heap-none, heap-some, heap-same}
 use Rattle.heap_check.proofs.Touch.{IsTouch, IsStanding-else, Range-same, IsSound-touched}
-use Rattle.heap_check.proofs.Loose.{AtMostOne-one, AtMostOne-fewer, others_lived}
+use Rattle.heap_check.proofs.Loose.{AtMostOne-one, AtMostOne-fewer, others_lived, nearly_done}
 
 -- the tables with the bits and live index entries that are there while the block is held or not, the word of a root, and the
 -- open entry
 abbrev pub stage_of : Tables → (Bool → ℕ → ℕ → Bool) → (Bool → ℕ → ℕ → Bool) → ℕ → Bool → ℕ → Option WalEntry → Tables
-stage_of t bits lives root on word entry = record (with_root (record t { bit = bits on; live = lives on }) root word) { open_entry = entry }
+stage_of t bits lives root on word entry = record (with_root (with_rows t (bits on) (lives on) (number_rows t)) root word) { open_entry = entry }
 
 -- with the entry open, the block is held or not and the root has it or not; with none, both or neither
 pub record IsStage (own : WalEntry) (at : ℕ) (on : Bool) (word : ℕ) (entry : Option WalEntry) : Type 0 where
@@ -62,7 +54,7 @@ pub record IsOneBlock (b : Bounds) (t : Tables) (bits lives : Bool → ℕ → �
   pub sizes : (on : Bool) (word : ℕ) (entry : Option WalEntry) (at : ℕ) → at ≢ block.at → plain_size (stage_of t bits lives root on word entry) at ≡ plain_size t at
   pub size_held : (word : ℕ) (entry : Option WalEntry) → plain_size (stage_of t bits lives root true word entry) block.at ≡ block.size
   -- live index entries of the other slabs
-  pub others : (on : Bool) (s : ℕ) → s ≢ start → lives on s ≡ t.live s
+  pub others : (on : Bool) (s : ℕ) → s ≢ start → lives on s ≡ (t.header s).live
 
 module _ {b : Bounds} {t : Tables} {bits lives : Bool → ℕ → ℕ → Bool} {own : WalEntry} {root start : ℕ} {block : Range} (is : IsOneBlock b t bits lives own root start block) where
   sound : IsSound b t
@@ -92,14 +84,14 @@ module _ {b : Bounds} {t : Tables} {bits lives : Bool → ℕ → ℕ → Bool} 
   -- its word is no start of a large extent
   not_start : (other : ℕ) → 0 < t.large other → t.root root ≢ 16384 * other
   not_start other live at = ⊎_elim
-      (λ none. omega (arith, none, at, (sound.starts other (omega (arith, granules_at-live sound other live, live))).0, is.first))
+      (λ none. omega (arith, none, at, (sound.extents.starts other (omega (arith, granules_at-live sound other live, live))).0, is.first))
       (λ has.
       let here : block.at ≡ 16384 * other = sym has.0 ∙ at in
       let whole = granules_at-live sound other live in
-      let same = sound.disjoint other start other
+      let same = sound.extents.disjoint other start other
       (record { low = omega arith; high = omega (arith, whole, live) })
       (Covers-slab t start other is.lies.slab (omega (arith, is.lies.low, here)) (omega (arith, is.lies.high, here))) in
-      omega (arith, live, ap t.large same, sound.one_kind start is.lies.slab))
+      omega (arith, live, ap t.large same, sound.extents.one_kind start is.lies.slab))
       is.was
 
   -- it lies in no other slab
@@ -199,7 +191,7 @@ module _ {b : Bounds} {t : Tables} {bits lives : Bool → ℕ → ℕ → Bool} 
         (λ shut. absurd (let none = shut.0 in cc))
         stage.is
 
-    slabs : (other : ℕ) → t.slab other ≡ true → IsValidSlab new other
+    slabs : (other : ℕ) → t.slab other ≡ true → IsValidSlab (new.header other)
     slabs other slab =
         let was = sound.slabs other slab in
         record { state = was.state; small = was.small; once = was.once }
@@ -230,17 +222,17 @@ module _ {b : Bounds} {t : Tables} {bits lives : Bool → ℕ → ℕ → Bool} 
         (cases_eq other start)
 
     -- an old block that is leaving is this one
-    leaving_here : (other place : ℕ) → t.slab other ≡ true → place < t.index_count other → IsLeaving new other place → other ≡ start
+    leaving_here : (other place : ℕ) → t.slab other ≡ true → place < (t.header other).index_count → IsLeaving new other place → other ≡ start
     leaving_here other place slab below leaving = ⊎_elim
         (λ opened.
-        let old = slab_block other (t.old other) (t.number other place) in
+        let old = slab_block other (t.header other).old ((t.header other).number place) in
         let entry_is : Some own ≡ Some (Place leaving.root old.at true place) = sym opened.0 ∙ leaving.entry in
         let says : entry_at (Some own) leaving.root ≡ old.at = ap (λ e. entry_at e leaving.root) entry_is ∙ cond-true (leaving.root == leaving.root) old.at 0 (eq-eqb leaving.root leaving.root refl) in
         let names_it : leaving.root ≡ root = ⊎_elim (λ same. same) (λ differ. absurd (omega (arith, says, is.names.others leaving.root differ))) (cases_eq leaving.root root) in
         let at : old.at ≡ block.at = sym says ∙ ap (entry_at (Some own)) names_it ∙ is.named in
         let valid = sound.slabs other slab in
-        let inside = LiesIn-block other (t.old other) old (record { number = t.number other place; within = valid.small place below; is = refl }) in
-        let wide = class_size-least (t.old other) valid.state.is_old_class in
+        let inside = LiesIn-block other (t.header other).old old (record { number = (t.header other).number place; within = valid.small place below; is = refl }) in
+        let wide = class_size-least (t.header other).old valid.state.is_old_class in
         one_slab sound other start block.at (record { slab = slab; low = omega (arith, inside.low, at); high = omega (arith, inside.high, wide, at) }) is.lies)
         (λ shut. absurd (let none = shut.0 in let has = leaving.entry in cc))
         stage.is
@@ -250,27 +242,23 @@ module _ {b : Bounds} {t : Tables} {bits lives : Bool → ℕ → ℕ → Bool} 
     nearly_is other nearly = ⊎_elim
         (λ (same : other ≡ start). same)
         (λ (differ : other ≢ start). absurd (⊎_elim
-        (λ (normal : t.kind other ≡ 1). nearly.kind normal)
+        (λ (normal : (t.header other).kind ≡ 1). nearly.kind normal)
         (λ rest. ⊎_elim
-        (λ (morphing : t.kind other ≡ 2). is.but.calm other (record { slab = nearly.slab; kind = morphing }))
-        (λ (morphed : t.kind other ≡ 3). is.but.none_done other differ (record {
+        (λ (morphing : (t.header other).kind ≡ 2). is.but.none_morphing other (record { slab = nearly.slab; kind = morphing }))
+        (λ (morphed : (t.header other).kind ≡ 3). is.but.none_done other differ (record {
           slab = nearly.slab;
           kind = morphed;
           none = λ place below. ⊎_elim
-              (λ (live : t.live other place ≡ true). absurd (differ (leaving_here other place nearly.slab below (nearly.none place below (ap (λ (row : ℕ → Bool). row place) (is.others on other differ) ∙ live)))))
+              (λ (live : (t.header other).live place ≡ true). absurd (differ (leaving_here other place nearly.slab below (nearly.none place below (ap (λ (row : ℕ → Bool). row place) (is.others on other differ) ∙ live)))))
               (λ dead. dead)
-              (cases_Bool (t.live other place));
+              (cases_Bool ((t.header other).live place));
         }))
         rest)
         (sound.slabs other nearly.slab).state.kinds))
         (cases_eq other start)
 
     done_is : (other : ℕ) → IsDoneSlab new other → other ≡ start
-    done_is other done = nearly_is other (record {
-      slab = done.slab;
-      kind = λ normal. omega (arith, normal, done.kind);
-      none = λ place below live. absurd (true≢false (sym live ∙ done.none place below));
-    })
+    done_is other done = nearly_is other (nearly_done new other done)
 
     touch : IsTouch b t new root block
     touch = record {
@@ -286,19 +274,16 @@ module _ {b : Bounds} {t : Tables} {bits lives : Bool → ℕ → ℕ → Bool} 
       stands = stands;
       back = is.back on word entry;
       held = held;
-      disjoint = λ one other k first second. sound.disjoint one other k (covers one k first) (covers other k second);
-      starts = λ other some. sound.starts other some;
-      one_kind = λ other slab. sound.one_kind other slab;
+      extents = sound.extents;
       slabs = slabs;
       open_entry = open_entry;
-      loose_large = AtMostOne-fewer loose_before sound.loose_large;
-      empty_slab = AtMostOne-one start empty_is;
-      morphing = AtMostOne-fewer (λ k morphing. record { slab = morphing.slab; kind = morphing.kind }) sound.morphing;
-      done = AtMostOne-one start done_is;
+      loose = record {
+        large = AtMostOne-fewer loose_before sound.loose.large;
+        empty = AtMostOne-one start empty_is;
+        morphing = sound.loose.morphing;
+        done = AtMostOne-one start done_is;
+      };
     }
-      where
-        covers : (s k : ℕ) → Covers new s k → Covers t s k
-        covers s k there = record { low = there.low; high = there.high }
 
     pub IsSound-one : IsSound b (stage_of t bits lives root on word entry)
     IsSound-one = IsSound-touched touch
@@ -349,7 +334,7 @@ module _ {b : Bounds} {t : Tables} {bits lives : Bool → ℕ → ℕ → Bool} 
           let inside = lives.2 in
           let at = other_word on word None stage lives.0 (λ same. differ (own_here other (λ none. lives.1 (ap t.root same ∙ none)) (subst (λ r. IsInSlab t other (t.root r)) same inside))) in
           (lives.0, λ none. lives.1 (sym at ∙ none), record { slab = inside.slab; low = omega (arith, inside.low, at); high = omega (arith, inside.high, at) });
-      calm = λ other morphing. is.but.calm other (record { slab = morphing.slab; kind = morphing.kind });
+      none_morphing = is.but.none_morphing;
       none_done = λ other differ done. differ (done_is on word None stage other done);
     }
 
@@ -370,13 +355,10 @@ module _ {b : Bounds} {t : Tables} {bits lives : Bool → ℕ → ℕ → Bool} 
           rest)
           (λ (differ : other ≢ start). IsExactBut-one.others_live other differ slab)
           (cases_eq other start);
-      calm = IsExactBut-one.calm;
+      none_morphing = IsExactBut-one.none_morphing;
       none_done = λ other done. lively (subst (IsDoneSlab left) (done_is on word None stage other done) done);
     }
 
 -- the same granules are vacant
 pub IsVacant-one : (b : Bounds) (t : Tables) (bits lives : Bool → ℕ → ℕ → Bool) (root : ℕ) (on : Bool) (word : ℕ) (entry : Option WalEntry) (k : ℕ) → IsVacant b (stage_of t bits lives root on word entry) k ↔ IsVacant b t k
-IsVacant-one b t bits lives root on word entry k = (
-  λ vacant. record { low = vacant.low; high = vacant.high; none = λ other covers. vacant.none other (record { low = covers.low; high = covers.high }) },
-  λ vacant. record { low = vacant.low; high = vacant.high; none = λ other covers. vacant.none other (record { low = covers.low; high = covers.high }) },
-)
+IsVacant-one b t bits lives root on word entry k = (λ vacant. vacant, λ vacant. vacant)

@@ -1,10 +1,7 @@
 -- The numbers of an arena of well-formed words, and where its words lie.
 use Rattle.std.proofs.Common.{◌≡◌, ◌+◌, ◌*◌, ◌^◌, ◌<◌, ◌≤◌, ℕ, List, length, ap, arith}
-use Rattle.pool_layout.specs.Layout.{layout_of}
+use Rattle.heap_check.proofs.Common.{layout_of, root_word, heap_word, version_in, granules_in, Bounds}
 use Rattle.pool_layout.proofs.Layouts.{layout_rules, version_by_roots}
-use Rattle.pool_layout.specs.Places.{root_word, heap_word}
-use Rattle.pool_layout.specs.Header.{version_in, granules_in}
-use Rattle.heap_model.specs.Machine.{Bounds}
 use Rattle.heap_check.specs.Image.{bounds_of, IsFormed}
 
 -- how many roots and granules there are, where the heap begins, and how many words

@@ -1,8 +1,6 @@
 -- An empty slab comes and goes: the heap and the slabs afterwards, and which granules are vacant.
 use Rattle.std.proofs.Common.{◌≡◌, ◌≢◌, ◌⊎◌, ◌↔◌, ℕ, ◌+◌, ◌<◌, ◌≤◌, cond, ap, ◌∙◌, arith, inl, inr, ⊎_elim, Some, None}
-use Rattle.std.proofs.lemmas.Bool.{cases_eq, cond-true, cond-false}
-use Rattle.image_tables.specs.Tables.{Tables}
-use Rattle.heap_model.specs.Machine.{Bounds}
+use Rattle.heap_check.proofs.Common.{cases_eq, cond-true, cond-false, SlabHeader, Tables, Bounds}
 use Rattle.heap_check.specs.Heap.{heap, slabs}
 use Rattle.heap_check.specs.Slabs.{IsFresh}
 use Rattle.heap_check.specs.Sound.{granules_at, IsVacant}
@@ -14,16 +12,16 @@ module _ {b : Bounds} {t new : Tables} {start : ℕ} (place : IsSlabPlace b t ne
   pub heap-slab : (root : ℕ) → heap new root ≡ heap t root
   heap-slab root = heap-same t new root (unnamed place root) (new_unnamed place root) (word place root) (λ some. plain_size-away place (t.root root) (place.away root some))
 
-  pub slabs-slab : (class : ℕ) → IsFresh new start class → slabs new start ≡ Some class
-  slabs-slab class fresh = cond-true (new.slab start) (Some (new.class start)) None place.more.slab ∙ ap (λ c. Some c) fresh.class_is
+  pub slabs-slab : (class : ℕ) → IsFresh (new.header start) class → slabs new start ≡ Some class
+  slabs-slab class fresh = cond-true (new.slab start) (Some (new.header start).class) None place.more.slab ∙ ap (λ c. Some c) fresh.class_is
 
   pub slabs-none : slabs t start ≡ None
-  slabs-none = cond-false (t.slab start) (Some (t.class start)) None place.more.none
+  slabs-none = cond-false (t.slab start) (Some (t.header start).class) None place.more.none
 
   pub slabs-other : (other : ℕ) → other ≢ start → slabs new other ≡ slabs t other
   slabs-other other differ =
       let same = place.more.others other differ in
-      ap (λ b. cond b (Some (new.class other)) None) same.slab ∙ ap (λ c. cond (t.slab other) (Some c) None) same.class
+      ap (λ b. cond b (Some (new.header other).class) None) same.slab ∙ ap (λ (h : SlabHeader). cond (t.slab other) (Some h.class) None) same.header
 
   -- the granules that are vacant with the slab
 

@@ -1,13 +1,7 @@
 -- A slab comes and goes by an entry of the log: what the words say before and after.
 use Rattle.std.proofs.Common.{◌≡◌, ◌≢◌, ℕ, ◌<◌, ◌≤◌, true, false, List, sym, ap, ◌∙◌, ⊎_elim, Some}
-use Rattle.std.proofs.lemmas.Bool.{cases_eq}
-use Rattle.pmem_lines.specs.Words.{word_at}
-use Rattle.pool_layout.specs.Places.{wal_word, heap_word}
-use Rattle.pool_layout.specs.Header.{version_in}
-use Rattle.image_tables.specs.declared.extent.Extent.TheVariants.{Slab}
-use Rattle.image_tables.specs.Extents.{extent_at}
-use Rattle.image_tables.specs.Tables.{held_of, root_in, open_entry_in, AreSlabsInHeap, large_of, is_slab_of, is_slab, state_word, bitmap_word, index_word, wal_lines, tables_of}
-use Rattle.image_tables.proofs.Stores.{IsSameOffLog, version_in-off_log, root_word-off_log, wal_word-off_log, heap_word-off_log, state_word-high, bitmap_word-high, index_word-high, roots-same, entry_among-same, state_field-same, bit_at-same, slab_bit-same, live_at-same, number_at-same}
+use Rattle.heap_check.proofs.Common.{cases_eq, word_at, wal_word, heap_word, version_in, Slab, extent_at, IsSameOffLog, version_in-off_log, root_word-off_log, wal_word-off_log, heap_word-off_log, roots-same, entry_among-same, slab_header-heap}
+use Rattle.image_tables.specs.Tables.{held_of, root_in, open_entry_in, AreSlabsInHeap, large_of, is_slab_of, is_slab, wal_lines, tables_of}
 use Rattle.heap_check.specs.Slabs.{IsSameSlab, IsSlabMore}
 
 -- words that differ in the log alone, where the second have one slab more
@@ -28,21 +22,7 @@ module _ (words new : List ℕ) (start : ℕ) (adds : AddsSlab words new start) 
 
   same_slab : (other : ℕ) → other ≢ start → IsSameSlab (tables_of words) (tables_of new) other
   unfolding tables_of
-  same_slab other differ =
-      let slab = slab_other other differ in
-      let state : is_slab words other ≡ true → word_at new (state_word other) ≡ word_at words (state_word other) = λ is. heap (state_word other) (state_word-high words other adds.slabs is) in
-      let index : (place : ℕ) → is_slab words other ≡ true → place < 64 → word_at new (index_word other place) ≡ word_at words (index_word other place) =
-      λ place is below. heap (index_word other place) (index_word-high words other place adds.slabs is) in
-      record {
-        slab = slab;
-        kind = state_field-same words new other 0 slab state;
-        class = state_field-same words new other 8 slab state;
-        old = state_field-same words new other 16 slab state;
-        index_count = state_field-same words new other 24 slab state;
-        bit = λ k i. bit_at-same words new other i slab (λ is below. slab_bit-same words new other i (heap (bitmap_word other i) (bitmap_word-high words other i adds.slabs is))) k;
-        live = λ k place. live_at-same words new other place slab (index place) k;
-        number = λ k place. number_at-same words new other place slab (index place) k;
-      }
+  same_slab other differ = record { slab = slab_other other differ; header = slab_header-heap words new other adds.slabs (slab_other other differ) heap }
 
   pub IsSlabMore-logged : IsSlabMore (tables_of words) (tables_of new) start
   unfolding tables_of

@@ -1,8 +1,6 @@
 -- Where a slab can come or go: on vacant granules, and where no root's block lies in it.
 use Rattle.std.proofs.Common.{◌≡◌, ◌⊎◌, ℕ, ◌+◌, ◌/◌, ◌<◌, ◌≤◌, refl, sym, ap, subst, ◌∙◌, arith, ⊎_elim, None}
-use Rattle.std.proofs.lemmas.Bool.{cases_lt}
-use Rattle.image_tables.specs.Tables.{Tables}
-use Rattle.heap_model.specs.Machine.{Bounds}
+use Rattle.heap_check.proofs.Common.{cases_lt, Tables, Bounds}
 use Rattle.heap_check.specs.Heap.{entry_at}
 use Rattle.heap_check.specs.Slabs.{IsSlabMore, IsWithSlab}
 use Rattle.heap_check.specs.Sound.{granules_at, Covers, IsVacant, IsInSlab, IsEmptySlab, IsSound}
@@ -22,7 +20,7 @@ IsSlabPlace-vacant {b} {t} {new} {start} {class} sound closed first it vacant =
     ⊎_elim (λ within. absurd ((vacant k within.0 within.1).none other covers)) (λ out. out) (cases_run start 4 k) in
     record {
       more = it.more;
-      holds_none = holds_none-fresh it.fresh;
+      holds_none = holds_none-fresh new it.fresh;
       closed = closed;
       first = first;
       low = here.low;
@@ -42,24 +40,24 @@ IsSlabPlace-vacant {b} {t} {new} {start} {class} sound closed first it vacant =
 pub IsSlabPlace-empty : {b : Bounds} {t new : Tables} {start : ℕ} → IsSound b new → new.open_entry ≡ None → 0 < b.first → IsSlabMore t new start → IsEmptySlab new start → IsSlabPlace b t new start
 IsSlabPlace-empty {b} {t} {new} {start} sound closed first it empty =
     let four = granules_at-slab new start it.slab in
-    let bounds = sound.starts start (omega (arith, four)) in
+    let bounds = sound.extents.starts start (omega (arith, four)) in
     record {
       more = it;
       holds_none = λ range holds.
-          let claim = sound.claimed start range holds in
+          let claim = sound.owned.claimed start range holds in
           let named = IsNamed-claim new claim.0 range (ap (λ e. entry_at e claim.0) closed) claim.1 in
           empty.none claim.0 (λ none. named.some (sym named.word ∙ none)) (subst (IsInSlab new start) (sym named.word) (IsInSlab-held sound start range holds));
       closed = sym it.entry ∙ closed;
       first = first;
       low = bounds.0;
       high = omega (arith, bounds.1, four);
-      no_large = sym (ap (λ (row : ℕ → ℕ). row start) it.large) ∙ sound.one_kind start it.slab;
+      no_large = sym (ap (λ (row : ℕ → ℕ). row start) it.large) ∙ sound.extents.one_kind start it.slab;
       free = λ other k differ covers.
           let same = (it.others other differ).slab in
           let large = ap (λ (row : ℕ → ℕ). row other) it.large in
           let size : granules_at new other ≡ granules_at t other = rw (same, large) refl in
           ⊎_elim
-          (λ within. absurd (differ (sound.disjoint other start k (record { low = covers.low; high = omega (arith, covers.high, size) }) (Covers-slab new start k it.slab within.0 within.1))))
+          (λ within. absurd (differ (sound.extents.disjoint other start k (record { low = covers.low; high = omega (arith, covers.high, size) }) (Covers-slab new start k it.slab within.0 within.1))))
           (λ outside. outside)
           (cases_run start 4 k);
       away = λ root some.

@@ -1,9 +1,6 @@
 -- An empty slab comes and goes: what the tables say then of extents, blocks and claims.
 use Rattle.std.proofs.Common.{◌≡◌, ◌≢◌, ◌⊎◌, ℕ, ◌+◌, ◌-◌, ◌/◌, ◌<◌, ◌≤◌, true, false, true≢false, refl, cond, sym, ap, subst, ◌∙◌, arith, inl, inr, ⊎_elim, Bool, None}
-use Rattle.std.proofs.lemmas.Bool.{cases_eq}
-use Rattle.size_classes.specs.Classes.{class_capacity}
-use Rattle.image_tables.specs.Tables.{Tables}
-use Rattle.heap_model.specs.Machine.{Bounds, Range}
+use Rattle.heap_check.proofs.Common.{cases_eq, class_capacity, Tables, Bounds, Range}
 use Rattle.heap_check.specs.Heap.{slab_of, is_large, entry_at, IsClaim, Holds, HoldsBit, HoldsOld}
 use Rattle.heap_check.specs.Slabs.{IsSlabMore, IsFresh}
 use Rattle.heap_check.specs.Sound.{granules_at, Covers, IsInSlab, IsHeld, IsStanding, IsEmptySlab}
@@ -24,10 +21,10 @@ pub record IsSlabPlace (b : Bounds) (t new : Tables) (start : ℕ) : Type 0 wher
   pub away : (root : ℕ) → t.root root ≢ 0 → (t.root root / 16384 < start) ⊎ (start + 4 ≤ t.root root / 16384)
 
 -- a fresh slab holds no block
-pub holds_none-fresh : {t : Tables} {start class : ℕ} → IsFresh t start class → (range : Range) → ¬ (Holds t start range)
-holds_none-fresh {t} {start} {class} fresh range holds = ⊎_elim
-    (λ (bit : HoldsBit t start range). true≢false (sym bit.set ∙ fresh.clear bit.number (subst (λ c. bit.number < class_capacity c) fresh.class_is bit.below)))
-    (λ (old : HoldsOld t start range). omega (arith, old.below, fresh.index_count))
+pub holds_none-fresh : (t : Tables) {start class : ℕ} → IsFresh (t.header start) class → (range : Range) → ¬ (Holds t start range)
+holds_none-fresh t {start} {class} fresh range holds = ⊎_elim
+    (λ (bit : HoldsBit (t.header start) start range). true≢false (sym bit.set ∙ fresh.clear bit.number (subst (λ c. bit.number < class_capacity c) fresh.class_is bit.below)))
+    (λ (old : HoldsOld (t.header start) start range). omega (arith, old.below, fresh.index_count))
     holds.block
 
 module _ {b : Bounds} {t new : Tables} {start : ℕ} (place : IsSlabPlace b t new start) where
@@ -107,7 +104,7 @@ module _ {b : Bounds} {t new : Tables} {start : ℕ} (place : IsSlabPlace b t ne
       let s = slab_of t.slab (at / 16384) in
       let there = slab_of-away (at / 16384) away in
       let same = it.others s there.1 in
-      rw (it.large, there.0, same.old, same.class, same.live, same.number, same.index_count) refl
+      rw (it.large, there.0, same.header) refl
 
   pub claims-forth : (root : ℕ) (range : Range) → IsClaim t root range → IsClaim new root range
   claims-forth root range claim =

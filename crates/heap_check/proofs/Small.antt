@@ -1,18 +1,9 @@
 -- A small block and its root come and go, under an entry of the root: what the tables say then of blocks and claims.
 use Rattle.std.proofs.Common.{◌≡◌, ◌≢◌, ◌⊎◌, ◌==◌, ◌&&◌, ℕ, ◌/◌, ◌<◌, ◌≤◌, Bool, true, false, true≢false, refl, sym, ap, subst, ◌∙◌, arith, inl, inr, ⊎_elim, ltb, Option, Some}
-use Rattle.std.proofs.lemmas.Bool.{cases_eq, cond-true, eq-eqb, lt-ltb, and_from}
-use Rattle.size_classes.specs.Classes.{class_size, class_capacity}
-use Rattle.size_classes.proofs.Spacing.{class_size-least}
-use Rattle.image_tables.specs.declared.entry.WalEntry.{WalEntry}
-use Rattle.image_tables.specs.declared.entry.WalEntry.TheVariants.{Place}
-use Rattle.image_tables.specs.Tables.{Tables}
-use Rattle.heap_model.specs.Machine.{Bounds, Range, AreApart, LiesIn, slab_block}
-use Rattle.heap_model.proofs.Slabbing.{LiesIn-block, one_number}
+use Rattle.heap_check.proofs.Common.{cases_eq, cond-true, eq-eqb, lt-ltb, and_from, class_size, class_capacity, class_size-least, WalEntry, Place, SlabHeader, Tables, bit_rows, live_rows, Bounds, Range, AreApart, LiesIn, slab_block, LiesIn-block, one_number, put_at, put_in, put_bit, with_small, put_at-same, put_in-same, put_in-other}
 use Rattle.heap_model.proofs.Below.{any_below-true}
 use Rattle.heap_check.specs.Heap.{slab_of, is_old_of, is_old, size_at, entry_at, IsClaim, Holds, HoldsBit, HoldsOld}
 use Rattle.heap_check.specs.Sound.{IsInSlab, IsOpen, IsSound, IsExactBut}
-use Rattle.image_tables.specs.Updates.{put_at, put_in, with_small}
-use Rattle.image_tables.proofs.Updates.{put_at-same, put_in-same, put_in-other}
 use Rattle.heap_check.proofs.Claims.{NamesOnly-some, plain_size}
 use Rattle.heap_check.proofs.Geometry.{Covers-slab, is_large-slab, slab_of-here}
 use Rattle.heap_check.proofs.OneBlock.{IsOneBlock}
@@ -30,7 +21,7 @@ small_entry root at = Place root at false 0
 
 -- block `number` of the slab's class
 abbrev pub block_in : Tables → ℕ → ℕ → Range
-block_in t start number = slab_block start (t.class start) number
+block_in t start number = slab_block start (t.header start).class number
 
 -- A block of a slab's class, in an image that is exact but for the slab: a root has it, or it is free and the root has none;
 -- it overlaps no other root's.
@@ -39,9 +30,9 @@ pub record IsSmallPlace (b : Bounds) (t : Tables) (root start number : ℕ) : Ty
   pub first : 0 < b.first
   pub rooted : root < b.roots
   pub slab : t.slab start ≡ true
-  pub below : number < class_capacity (t.class start)
-  pub no_old : is_old t start (block_in t start number).at ≡ false
-  pub was : ((t.bit start number ≡ false) × (t.root root ≡ 0)) ⊎ ((t.bit start number ≡ true) × (t.root root ≡ (block_in t start number).at))
+  pub below : number < class_capacity (t.header start).class
+  pub no_old : is_old (t.header start) start (block_in t start number).at ≡ false
+  pub was : (((t.header start).bit number ≡ false) × (t.root root ≡ 0)) ⊎ (((t.header start).bit number ≡ true) × (t.root root ≡ (block_in t start number).at))
   pub apart : (other : ℕ) (range : Range) → other ≢ root → IsClaim t other range → AreApart range (block_in t start number)
 
 -- what the entry says of its root
@@ -49,44 +40,44 @@ pub entry_at-own : (root at : ℕ) → entry_at (Some (small_entry root at)) roo
 entry_at-own root at = cond-true (root == root) at 0 (eq-eqb root root refl)
 
 -- a live old block that a slab holds is seen at its address
-pub is_old-held : (t : Tables) (start at : ℕ) (range : Range) → HoldsOld t start range → range.at ≡ at → is_old t start at ≡ true
+pub is_old-held : (h : SlabHeader) (start at : ℕ) (range : Range) → HoldsOld h start range → range.at ≡ at → is_old h start at ≡ true
 unfolding is_old_of
-is_old-held t start at range old here =
-    any_below-true _ (t.index_count start) old.place old.below
-    (and_from (t.live start old.place) _ old.live (eq-eqb _ at (sym (ap (λ (x : Range). x.at) old.is) ∙ here)))
+is_old-held h start at range old here =
+    any_below-true _ h.index_count old.place old.below
+    (and_from (h.live old.place) _ old.live (eq-eqb _ at (sym (ap (λ (x : Range). x.at) old.is) ∙ here)))
 
 -- What no place is asked for: the blocks that slabs hold are the same but for this one, whatever the roots and the entry come
 -- to be.
 
 module _ (t : Tables) (start number : ℕ) (on : Bool) (word root : ℕ → ℕ) (entry : Option WalEntry) where
   abbrev new : Tables
-  new = record t { bit = put_in t.bit start number on; word = word; root = root; open_entry = entry }
+  new = record (put_bit t start number on) { word = word; root = root; open_entry = entry }
 
   same_block : (s i : ℕ) → s ≡ start → i ≡ number → block_in t s i ≡ block_in t start number
-  same_block s i same too = ap (λ s. slab_block s (t.class s) i) same ∙ ap (λ i. block_in t start i) too
+  same_block s i same too = ap (λ s. slab_block s (t.header s).class i) same ∙ ap (λ i. block_in t start i) too
 
-  pub Holds-unbit : (s : ℕ) (range : Range) → Holds (record t { bit = put_in t.bit start number on; word = word; root = root; open_entry = entry }) s range → Holds t s range ⊎ (range ≡ block_in t start number)
+  pub Holds-unbit : (s : ℕ) (range : Range) → Holds (record (put_bit t start number on) { word = word; root = root; open_entry = entry }) s range → Holds t s range ⊎ (range ≡ block_in t start number)
   Holds-unbit s range holds = ⊎_elim
-      (λ (bit : HoldsBit new s range). ⊎_elim
+      (λ (bit : HoldsBit (new.header s) s range). ⊎_elim
       (λ here. inr (bit.is ∙ same_block s bit.number here.0 here.1))
       (λ elsewhere. inl (record {
         slab = holds.slab;
-        block = inl (record { number = bit.number; below = bit.below; read = bit.read; set = sym (put_in-other t.bit start number on s bit.number elsewhere) ∙ bit.set; is = bit.is });
+        block = inl (record { number = bit.number; below = bit.below; read = bit.read; set = sym (put_in-other (bit_rows t) start number on s bit.number elsewhere) ∙ bit.set; is = bit.is });
       }))
       (cases_bit start number s bit.number))
-      (λ (old : HoldsOld new s range). inl (record { slab = holds.slab; block = inr (record { place = old.place; below = old.below; live = old.live; is = old.is }) }))
+      (λ (old : HoldsOld (new.header s) s range). inl (record { slab = holds.slab; block = inr (record { place = old.place; below = old.below; live = old.live; is = old.is }) }))
       holds.block
 
-  pub Holds-bit : (s : ℕ) (range : Range) → Holds t s range → Holds (record t { bit = put_in t.bit start number on; word = word; root = root; open_entry = entry }) s range ⊎ (range ≡ block_in t start number)
+  pub Holds-bit : (s : ℕ) (range : Range) → Holds t s range → Holds (record (put_bit t start number on) { word = word; root = root; open_entry = entry }) s range ⊎ (range ≡ block_in t start number)
   Holds-bit s range holds = ⊎_elim
-      (λ (bit : HoldsBit t s range). ⊎_elim
+      (λ (bit : HoldsBit (t.header s) s range). ⊎_elim
       (λ here. inr (bit.is ∙ same_block s bit.number here.0 here.1))
       (λ elsewhere. inl (record {
         slab = holds.slab;
-        block = inl (record { number = bit.number; below = bit.below; read = bit.read; set = put_in-other t.bit start number on s bit.number elsewhere ∙ bit.set; is = bit.is });
+        block = inl (record { number = bit.number; below = bit.below; read = bit.read; set = put_in-other (bit_rows t) start number on s bit.number elsewhere ∙ bit.set; is = bit.is });
       }))
       (cases_bit start number s bit.number))
-      (λ (old : HoldsOld t s range). inl (record { slab = holds.slab; block = inr (record { place = old.place; below = old.below; live = old.live; is = old.is }) }))
+      (λ (old : HoldsOld (t.header s) s range). inl (record { slab = holds.slab; block = inr (record { place = old.place; below = old.below; live = old.live; is = old.is }) }))
       holds.block
 
 -- and where one root gets a word
@@ -104,13 +95,13 @@ module _ {b : Bounds} {t : Tables} {root start number : ℕ} (place : IsSmallPla
   sound : IsSound b t
   sound = place.but.sound
 
-  size_some : 16 ≤ class_size (t.class start)
-  size_some = class_size-least (t.class start) (sound.slabs start place.slab).state.is_class
+  size_some : 16 ≤ class_size (t.header start).class
+  size_some = class_size-least (t.header start).class (sound.slabs start place.slab).state.is_class
 
   -- the block lies in its slab
   pub IsInSlab-block : IsInSlab t start (block_in t start number).at
   IsInSlab-block =
-      let inside = LiesIn-block start (t.class start) block (record { number = number; within = place.below; is = refl }) in
+      let inside = LiesIn-block start (t.header start).class block (record { number = number; within = place.below; is = refl }) in
       record { slab = place.slab; low = inside.low; high = omega (arith, inside.high, size_some) }
 
   pub block_some : (block_in t start number).at ≢ 0
@@ -133,7 +124,7 @@ module _ {b : Bounds} {t : Tables} {root start number : ℕ} (place : IsSmallPla
 
   -- no other slab has its place
   pub same_slab : (other : ℕ) → IsInSlab t other (block_in t start number).at → other ≡ start
-  same_slab other inside = sound.disjoint other start (block.at / 16384)
+  same_slab other inside = sound.extents.disjoint other start (block.at / 16384)
       (Covers-slab t other (block.at / 16384) inside.slab (omega (arith, inside.low)) (omega (arith, inside.high)))
       (Covers-slab t start (block.at / 16384) place.slab (omega (arith, IsInSlab-block.low)) (omega (arith, IsInSlab-block.high)))
 
@@ -143,22 +134,22 @@ module _ {b : Bounds} {t : Tables} {root start number : ℕ} (place : IsSmallPla
       let state = sound.slabs other holds.slab in
       let inside : LiesIn other block → IsInSlab t other block.at = λ lies. record { slab = holds.slab; low = lies.low; high = omega (arith, lies.high, size_some) } in
       ⊎_elim
-      (λ (bit : HoldsBit (with_small t start number false root word entry) other block).
-      let same = same_slab other (inside (LiesIn-block other (t.class other) block (record { number = bit.number; within = bit.below; is = bit.is }))) in
+      (λ (bit : HoldsBit ((with_small t start number false root word entry).header other) other block).
+      let same = same_slab other (inside (LiesIn-block other (t.header other).class block (record { number = bit.number; within = bit.below; is = bit.is }))) in
       let here : (block_in t start number).at ≡ (block_in t start bit.number).at = ap (λ (x : Range). x.at) bit.is ∙ ap (λ s. (block_in t s bit.number).at) same in
-      let number_is = one_number start (t.class start) number bit.number (omega (arith, size_some)) here in
-      true≢false (sym bit.set ∙ ap (λ s. put_in t.bit start number false s bit.number) same ∙ ap (λ i. put_in t.bit start number false start i) (sym number_is) ∙ put_in-same t.bit start number false))
-      (λ (old : HoldsOld (with_small t start number false root word entry) other block).
-      let same = same_slab other (inside (LiesIn-block other (t.old other) block (record { number = t.number other old.place; within = state.small old.place old.below; is = old.is }))) in
-      let was : HoldsOld t other block = record { place = old.place; below = old.below; live = old.live; is = old.is } in
-      true≢false (sym (is_old-held t start block.at block (subst (λ s. HoldsOld t s block) same was) refl) ∙ place.no_old))
+      let number_is = one_number start (t.header start).class number bit.number (omega (arith, size_some)) here in
+      true≢false (sym bit.set ∙ ap (λ s. put_in (bit_rows t) start number false s bit.number) same ∙ ap (λ i. put_in (bit_rows t) start number false start i) (sym number_is) ∙ put_in-same (bit_rows t) start number false))
+      (λ (old : HoldsOld ((with_small t start number false root word entry).header other) other block).
+      let same = same_slab other (inside (LiesIn-block other (t.header other).old block (record { number = (t.header other).number old.place; within = state.small old.place old.below; is = old.is }))) in
+      let was : HoldsOld (t.header other) other block = record { place = old.place; below = old.below; live = old.live; is = old.is } in
+      true≢false (sym (is_old-held (t.header start) start block.at block (subst (λ s. HoldsOld (t.header s) s block) same was) refl) ∙ place.no_old))
       holds.block
 
   -- while no slab takes another class, it is held where its bit is set
   held : (word : ℕ) (entry : Option WalEntry) → Holds (with_small t start number true root word entry) start block
   held word entry = record {
     slab = place.slab;
-    block = inl (record { number = number; below = place.below; read = λ kind. place.but.calm start (record { slab = place.slab; kind = kind }); set = put_in-same t.bit start number true; is = refl });
+    block = inl (record { number = number; below = place.below; read = λ kind. place.but.none_morphing start (record { slab = place.slab; kind = kind }); set = put_in-same (bit_rows t) start number true; is = refl });
   }
 
   -- its entry may be open
@@ -169,11 +160,11 @@ module _ {b : Bounds} {t : Tables} {root start number : ℕ} (place : IsSmallPla
       word = ⊎_elim (λ none. inl (put_at-same t.root root word ∙ none)) (λ has. inr (put_at-same t.root root word ∙ has)) either;
       block = inl (refl, record { start = start; number = number; slab = place.slab; below = place.below; is = refl });
     };
-    calm = λ other slab kind. place.but.calm other (record { slab = slab; kind = kind });
+    none_morphing = λ other slab kind. place.but.none_morphing other (record { slab = slab; kind = kind });
   }
 
   -- so it comes and goes as one block
-  pub IsOneBlock-small : IsOneBlock b t (λ on. put_in t.bit start number on) (λ on. t.live) (small_entry root (block_in t start number).at) root start (block_in t start number)
+  pub IsOneBlock-small : IsOneBlock b t (λ on. put_in (bit_rows t) start number on) (λ on. live_rows t) (small_entry root (block_in t start number).at) root start (block_in t start number)
   IsOneBlock-small = record {
     but = place.but;
     first = place.first;

@@ -6,7 +6,7 @@ use Rattle.heap_model.specs.Slabs.{IsInTransition, live_below, view_of}
 use Rattle.heap_model.proofs.Below.{any_below-some, any_below-each}
 use Rattle.heap_model.proofs.Fits.{fit_free}
 use Rattle.heap_model.proofs.Placing.{rows_apart}
-use Rattle.heap_model.proofs.Slabbing.{LiesIn-block}
+use Rattle.heap_check.proofs.Common.{LiesIn-block, cases_eq, cases_lt, cases_Bool, cond-true, class_capacity, normal_kind, morphed_kind, Tables, tables_of, root_table-past, Bounds, Range, Machine, with_key, slab_block, IsUnused, IsFreeGranule, any_below}
 use Rattle.heap_model.proofs.Freeing.{slabs_stay, slabs_leave}
 use Rattle.heap_check.specs.Sound.{HasOther, granules_at, Covers, IsVacant, IsInSlab, IsSound}
 use Rattle.heap_check.proofs.Geometry.{granule_of-start, granules_at-slab, granules_at-large, granules_at-live, Covers-slab, is_large-slab, is_large-start, one_slab}
@@ -16,13 +16,6 @@ use Rattle.heap_check.proofs.Within.{Covers-within, IsWithin-claim}
 use Rattle.heap_check.proofs.LiveBlocks.{one_class}
 use Rattle.heap_check.proofs.SmallPlaces.{apart_unused, Holds-claim}
 use Rattle.heap_check.proofs.LargeLogs.{large_many}
-use Rattle.std.proofs.lemmas.Bool.{cases_eq, cases_lt, cases_Bool, cond-true}
-use Rattle.size_classes.specs.Classes.{class_capacity}
-use Rattle.image_tables.specs.Forms.{normal_kind, morphed_kind}
-use Rattle.image_tables.specs.Tables.{Tables, tables_of}
-use Rattle.image_tables.proofs.Tables.{root_table-past}
-use Rattle.heap_model.specs.Machine.{Bounds, Range, Machine, with_key, slab_block, IsUnused, IsFreeGranule}
-use Rattle.heap_model.specs.Below.{any_below}
 use Rattle.heap_model.specs.Step.{slabs_without, forgotten}
 use Rattle.heap_model.specs.Runs.{IsBestFit}
 use Rattle.heap_model.proofs.Maps.{with_key-other, with_key-is}
@@ -34,7 +27,7 @@ use Rattle.heap_check.proofs.Claims.{plain_size, IsNamed-claim}
 use Rattle.heap_check.specs.Views.{IsVacantRow, tables_view}
 
 -- a slab of the tables' map is one, of its class
-pub slab_parts : (t : Tables) (start class : ℕ) → slabs t start ≡ Some class → (t.slab start ≡ true) × (t.class start ≡ class)
+pub slab_parts : (t : Tables) (start class : ℕ) → slabs t start ≡ Some class → (t.slab start ≡ true) × ((t.header start).class ≡ class)
 slab_parts t start class is = grind arith
 
 -- what is not forgotten is another root's
@@ -51,12 +44,12 @@ module _ {words : List ℕ} {m : Machine} (state : HasState words m) where
   nameless root none = sym (state.blocks root) ∙ heap-none (tables_of words) root none
 
   -- a slab of the state is one of the tables
-  pub slab_named : (start class : ℕ) → m.slab start ≡ Some class → ((tables_of words).slab start ≡ true) × ((tables_of words).class start ≡ class)
+  pub slab_named : (start class : ℕ) → m.slab start ≡ Some class → ((tables_of words).slab start ≡ true) × (((tables_of words).header start).class ≡ class)
   slab_named start class slab = slab_parts (tables_of words) start class (state.slabs start ∙ slab)
 
   -- and a slab of the tables is one of the state
-  pub naming_slab : (start : ℕ) → (tables_of words).slab start ≡ true → m.slab start ≡ Some ((tables_of words).class start)
-  naming_slab start slab = sym (state.slabs start) ∙ cond-true ((tables_of words).slab start) (Some ((tables_of words).class start)) None slab
+  pub naming_slab : (start : ℕ) → (tables_of words).slab start ≡ true → m.slab start ≡ Some ((tables_of words).header start).class
+  naming_slab start slab = sym (state.slabs start) ∙ cond-true ((tables_of words).slab start) (Some ((tables_of words).header start).class) None slab
 
   -- the state after a call by which the root has this block or none and loses its words, and the slabs are these
   pub after_call : (root : ℕ) (block : Option Range) (slab : ℕ → Option ℕ) (new : List ℕ) → heap (tables_of new) root ≡ block →
@@ -181,34 +174,34 @@ module _ {words : List ℕ} (image : IsExactImage words) {m : Machine} (state : 
     },
     λ unused. record {
       each = λ range holds.
-          let owner = sound.claimed start range holds in
+          let owner = sound.owned.claimed start range holds in
           ⊎_elim (λ before. inr before) (λ behind. inl behind) (unused.each owner.0 range (naming state owner.0 range (heap-claim t owner.0 range (unnamed owner.0) owner.1)));
     },
   )
 
   -- a slab is in transition in the state where it is not normal
-  transition_agrees : (start : ℕ) → t.slab start ≡ true → (t.kind start ≢ normal_kind) ↔ IsInTransition m start
+  transition_agrees : (start : ℕ) → t.slab start ≡ true → ((t.header start).kind ≢ normal_kind) ↔ IsInTransition m start
   transition_agrees start slab = (
     λ moving.
-        let kind : t.kind start ≡ morphed_kind = ⊎_elim (λ normal. absurd (moving normal)) (λ rest. ⊎_elim (λ morphing. absurd (image.exact.calm start (record { slab = slab; kind = morphing }))) (λ morphed. morphed) rest) (sound.slabs start slab).state.kinds in
+        let kind : (t.header start).kind ≡ morphed_kind = ⊎_elim (λ normal. absurd (moving normal)) (λ rest. ⊎_elim (λ morphing. absurd (image.exact.none_morphing start (record { slab = slab; kind = morphing }))) (λ morphed. morphed) rest) (sound.slabs start slab).state.kinds in
         ⊎_elim
-        (λ (some : any_below (t.live start) (t.index_count start) ≡ true).
-        let found = any_below-some (t.live start) (t.index_count start) some in
-        let range = slab_block start (t.old start) (t.number start found.0) in
+        (λ (some : any_below (t.header start).live (t.header start).index_count ≡ true).
+        let found = any_below-some (t.header start).live (t.header start).index_count some in
+        let range = slab_block start (t.header start).old ((t.header start).number found.0) in
         let holds : Holds t start range = record { slab = slab; block = inr (record { place = found.0; below = found.1; live = found.2; is = refl }) } in
-        let owner = sound.claimed start range holds in
+        let owner = sound.owned.claimed start range holds in
         let state_word = (sound.slabs start slab).state in
         record {
-          class = t.class start;
+          class = (t.header start).class;
           slab = naming_slab state start slab;
           root = owner.0;
           range = range;
           named = naming state owner.0 range (heap-claim t owner.0 range (unnamed owner.0) owner.1);
-          lies = LiesIn-block start (t.old start) range (record { number = t.number start found.0; within = (sound.slabs start slab).small found.0 found.1; is = refl });
-          other = λ same. state_word.differ moving (one_class (t.old start) (t.class start) state_word.is_old_class state_word.is_class same);
+          lies = LiesIn-block start (t.header start).old range (record { number = (t.header start).number found.0; within = (sound.slabs start slab).small found.0 found.1; is = refl });
+          other = λ same. state_word.differ moving (one_class (t.header start).old (t.header start).class state_word.is_old_class state_word.is_class same);
         })
-        (λ (none : any_below (t.live start) (t.index_count start) ≡ false). absurd (image.exact.none_done start (record { slab = slab; kind = kind; none = any_below-each (t.live start) (t.index_count start) none })))
-        (cases_Bool (any_below (t.live start) (t.index_count start))),
+        (λ (none : any_below (t.header start).live (t.header start).index_count ≡ false). absurd (image.exact.none_done start (record { slab = slab; kind = kind; none = any_below-each (t.header start).live (t.header start).index_count none })))
+        (cases_Bool (any_below (t.header start).live (t.header start).index_count)),
     λ moving normal.
         let own = slab_named state start moving.class moving.slab in
         let wide = IsWithin-claim sound moving.root moving.range (unnamed moving.root) (claim moving.root moving.range moving.named) in

@@ -1,11 +1,8 @@
 -- One root comes to claim a block, or claims it no more: the image stays sound, also under an open entry of that root.
-use Rattle.std.proofs.Common.{◌≡◌, ◌≢◌, ◌⊎◌, ℕ, ◌+◌, ◌<◌, ◌≤◌, true, Some, sym, ap, subst, ◌∙◌, inl, inr, ⊎_elim}
-use Rattle.std.proofs.lemmas.Bool.{cases_eq}
-use Rattle.image_tables.specs.declared.entry.WalEntry.{WalEntry}
-use Rattle.image_tables.specs.Tables.{Tables}
-use Rattle.heap_model.specs.Machine.{Bounds, Range, AreApart}
+use Rattle.std.proofs.Common.{◌≡◌, ◌≢◌, ◌⊎◌, ℕ, true, Some, sym, ap, subst, ◌∙◌, inl, inr, ⊎_elim}
+use Rattle.heap_check.proofs.Common.{cases_eq, WalEntry, Tables, Bounds, Range, AreApart}
 use Rattle.heap_check.specs.Heap.{is_large, entry_at, IsClaim, Holds}
-use Rattle.heap_check.specs.Sound.{granules_at, Covers, IsValidSlab, IsOpen, IsHeld, IsStanding, AtMostOne, IsLooseLarge, IsEmptySlab, IsMorphing, IsDoneSlab, IsSound}
+use Rattle.heap_check.specs.Sound.{IsValidSlab, IsOpen, IsHeld, IsStanding, AreExtents, AreFewLoose, IsSound}
 use Rattle.heap_check.proofs.Claims.{NamesOnly, plain_size, IsNamed-claim, IsClaim-named}
 
 -- what changes between the tables is the block that a root has before or after; where it has none, the range is empty
@@ -27,15 +24,10 @@ pub record IsTouch (b : Bounds) (t new : Tables) (root : ℕ) (block : Range) : 
   pub back : (start : ℕ) (range : Range) → Holds new start range → Holds t start range ⊎ (range ≡ block)
   pub held : (start : ℕ) → Holds new start block → IsClaim new root block
   -- what says nothing of claims
-  pub disjoint : (start other k : ℕ) → Covers new start k → Covers new other k → start ≡ other
-  pub starts : (start : ℕ) → 0 < granules_at new start → (b.first ≤ start) × (start + granules_at new start ≤ b.granules)
-  pub one_kind : (start : ℕ) → new.slab start ≡ true → new.large start ≡ 0
-  pub slabs : (start : ℕ) → new.slab start ≡ true → IsValidSlab new start
+  pub extents : AreExtents b new.large new.slab
+  pub slabs : (start : ℕ) → new.slab start ≡ true → IsValidSlab (new.header start)
   pub open_entry : (e : WalEntry) → new.open_entry ≡ Some e → IsOpen b new e
-  pub loose_large : AtMostOne (IsLooseLarge new)
-  pub empty_slab : AtMostOne (IsEmptySlab new)
-  pub morphing : AtMostOne (IsMorphing new)
-  pub done : AtMostOne (IsDoneSlab new)
+  pub loose : AreFewLoose new
 
 -- A root that the entry does not name stands as before, where large extents stay and slabs hold all but a block elsewhere.
 pub IsStanding-else : (t new : Tables) (root at : ℕ) (block : Range) → at ≢ 0 → at ≢ block.at → entry_at t.open_entry root ≡ 0 → (is_large t.large at ≡ true → is_large new.large at ≡ true) →
@@ -91,40 +83,41 @@ module _ {b : Bounds} {t new : Tables} {root : ℕ} {block : Range} (touch : IsT
   own_claim : (start : ℕ) (range : Range) → range ≡ block → Holds new start range → (root : ℕ) × IsClaim new root range
   own_claim start range is holds = (root, subst (λ x. IsClaim new root x) (sym is) (touch.held start (subst (λ x. Holds new start x) is holds)))
 
+  rooted : (other : ℕ) → new.root other ≢ 0 → IsStanding new other (new.root other)
+  rooted other some = ⊎_elim
+      (λ (same : other ≡ root). subst (λ r. IsStanding new r (new.root r)) (sym same) (touch.stands (λ none. some (ap new.root same ∙ none))))
+      (λ (differ : other ≢ root).
+      let word = touch.words other differ in
+      let was : t.root other ≢ 0 = λ none. some (word ∙ none) in
+      subst (λ at. IsStanding new other at) (sym word) (touch.others other differ was (touch.sound.owned.rooted other was)))
+      (cases_eq other root)
+
+  apart : (one other : ℕ) (range another : Range) → one ≢ other → IsClaim new one range → IsClaim new other another → AreApart range another
+  apart one other range another differ first second = ⊎_elim
+      (λ (same : one ≡ root).
+      let not_it : other ≢ root = λ it. differ (same ∙ sym it) in
+      AreApart-swapped another range (own_apart other another range not_it second (subst (λ r. IsClaim new r range) same first)))
+      (λ (not_one : one ≢ root). ⊎_elim
+      (λ (same : other ≡ root). own_apart one range another not_one first (subst (λ r. IsClaim new r another) same second))
+      (λ (neither : other ≢ root). touch.sound.owned.apart one other range another differ (claims-back one range not_one first) (claims-back other another neither second))
+      (cases_eq other root))
+      (cases_eq one root)
+
+  claimed : (start : ℕ) (range : Range) → Holds new start range → (root : ℕ) × IsClaim new root range
+  claimed start range holds = ⊎_elim
+      (λ (before : Holds t start range).
+      let claim = touch.sound.owned.claimed start range before in
+      ⊎_elim
+      (λ (same : claim.0 ≡ root). own_claim start range (touch.own range (subst (λ r. IsClaim t r range) same claim.1)) holds)
+      (λ (differ : claim.0 ≢ root). (claim.0, claims-forth claim.0 range differ claim.1))
+      (cases_eq claim.0 root))
+      (λ is. own_claim start range is holds)
+      (touch.back start range holds)
+
   pub IsSound-touched : IsSound b new
   IsSound-touched = record {
-    disjoint = touch.disjoint;
-    starts = touch.starts;
-    one_kind = touch.one_kind;
+    extents = touch.extents;
     slabs = touch.slabs;
-    open_entry = touch.open_entry;
-    rooted = λ other some. ⊎_elim
-        (λ (same : other ≡ root). subst (λ r. IsStanding new r (new.root r)) (sym same) (touch.stands (λ none. some (ap new.root same ∙ none))))
-        (λ (differ : other ≢ root).
-        let word = touch.words other differ in
-        let was : t.root other ≢ 0 = λ none. some (word ∙ none) in
-        subst (λ at. IsStanding new other at) (sym word) (touch.others other differ was (touch.sound.rooted other was)))
-        (cases_eq other root);
-    apart = λ one other range another differ first second. ⊎_elim
-        (λ (same : one ≡ root).
-        let not_it : other ≢ root = λ it. differ (same ∙ sym it) in
-        AreApart-swapped another range (own_apart other another range not_it second (subst (λ r. IsClaim new r range) same first)))
-        (λ (not_one : one ≢ root). ⊎_elim
-        (λ (same : other ≡ root). own_apart one range another not_one first (subst (λ r. IsClaim new r another) same second))
-        (λ (neither : other ≢ root). touch.sound.apart one other range another differ (claims-back one range not_one first) (claims-back other another neither second))
-        (cases_eq other root))
-        (cases_eq one root);
-    claimed = λ start range holds. ⊎_elim
-        (λ (before : Holds t start range).
-        let claim = touch.sound.claimed start range before in
-        ⊎_elim
-        (λ (same : claim.0 ≡ root). own_claim start range (touch.own range (subst (λ r. IsClaim t r range) same claim.1)) holds)
-        (λ (differ : claim.0 ≢ root). (claim.0, claims-forth claim.0 range differ claim.1))
-        (cases_eq claim.0 root))
-        (λ is. own_claim start range is holds)
-        (touch.back start range holds);
-    loose_large = touch.loose_large;
-    empty_slab = touch.empty_slab;
-    morphing = touch.morphing;
-    done = touch.done;
+    owned = record { open_entry = touch.open_entry; rooted = rooted; apart = apart; claimed = claimed };
+    loose = touch.loose;
   }

@@ -1,8 +1,6 @@
 -- Which blocks of a slab's class are unused once one of its blocks comes or goes.
 use Rattle.std.proofs.Common.{◌≡◌, ◌≢◌, ◌⊎◌, ◌↔◌, ℕ, None, sym, ap, subst, ◌∙◌, ⊎_elim}
-use Rattle.std.proofs.lemmas.Bool.{cases_eq}
-use Rattle.image_tables.specs.Tables.{Tables}
-use Rattle.heap_model.specs.Machine.{Bounds, Range, AreApart, slab_block}
+use Rattle.heap_check.proofs.Common.{cases_eq, Tables, Bounds, Range, AreApart, slab_block}
 use Rattle.heap_check.specs.Heap.{entry_at, heap, IsClaim, Holds, IsUnusedIn}
 use Rattle.heap_check.specs.Sound.{IsSound}
 use Rattle.heap_check.proofs.Heaps.{heap-claim, IsClaim-heap}
@@ -29,7 +27,7 @@ unused_apart {t} {new} {start} {block} back forth class number apart =
 pub unused_freed : {b : Bounds} {t new : Tables} → IsSound b new → new.open_entry ≡ None → t.open_entry ≡ None → (root : ℕ) (block : Range) → heap new root ≡ None → ((other : ℕ) → other ≢ root → heap new other ≡ heap t other) →
     ((other : ℕ) (range : Range) → other ≢ root → IsClaim t other range → AreApart range block) → (start : ℕ) (range : Range) → Holds new start range → AreApart range block
 unused_freed {b} {t} {new} sound new_closed closed root block gone others apart start range holds =
-    let owner = sound.claimed start range holds in
+    let owner = sound.owned.claimed start range holds in
     let unnamed : entry_at new.open_entry owner.0 ≡ 0 = ap (λ e. entry_at e owner.0) new_closed in
     let named = heap-claim new owner.0 range unnamed owner.1 in
     ⊎_elim

@@ -5,7 +5,7 @@ use Rattle.size_classes.specs.Classes.{class_size, class_capacity}
 use Rattle.image_tables.specs.declared.entry.WalEntry.{WalEntry}
 use Rattle.image_tables.specs.declared.entry.WalEntry.TheVariants.{Place, Move}
 use Rattle.image_tables.specs.Forms.{morphing_kind}
-use Rattle.image_tables.specs.Tables.{Tables}
+use Rattle.image_tables.specs.Tables.{SlabHeader, Tables}
 use Rattle.heap_model.specs.Below.{any_below}
 use Rattle.heap_model.specs.Machine.{Range, AreApart, slab_block}
 
@@ -18,8 +18,8 @@ unfoldable pub is_old_of : ℕ → ℕ → (ℕ → Bool) → (ℕ → ℕ) → 
 is_old_of start c live number n at = any_below (λ place. live place && ((slab_block start c (number place)).at == at)) n
 
 -- a live index entry of the slab has its block there
-abbrev pub is_old : Tables → ℕ → ℕ → Bool
-is_old t start at = is_old_of start (t.old start) (t.live start) (t.number start) (t.index_count start) at
+abbrev pub is_old : SlabHeader → ℕ → ℕ → Bool
+is_old h start at = is_old_of start h.old h.live h.number h.index_count at
 
 -- a live large extent starts at the address
 unfoldable pub is_large : (ℕ → ℕ) → ℕ → Bool
@@ -39,7 +39,7 @@ entry_old (Some (Move from to)) = false
 
 -- the size of the old class, or of the class, of the slab that has an address
 abbrev pub size_by : Tables → ℕ → Bool → ℕ
-size_by t at of_old = class_size (if of_old then t.old (slab_of t.slab (at / 16384)) else t.class (slab_of t.slab (at / 16384)))
+size_by t at of_old = class_size (if of_old then (t.header (slab_of t.slab (at / 16384))).old else (t.header (slab_of t.slab (at / 16384))).class)
 
 -- The size of the block of a root at an address: that of the live large extent that starts there; else, where the open
 -- place entry names this root and address, the size of the old class or of the class, as the entry says; else that of the
@@ -48,7 +48,7 @@ abbrev pub size_at : Tables → ℕ → ℕ → ℕ
 size_at t root at =
     if is_large t.large at then 16384 * t.large (at / 16384)
     else (if (entry_at t.open_entry root == at) && nat_lt 0 at then size_by t at (entry_old t.open_entry)
-    else size_by t at (is_old t (slab_of t.slab (at / 16384)) at))
+    else size_by t at (is_old (t.header (slab_of t.slab (at / 16384))) (slab_of t.slab (at / 16384)) at))
 
 -- the heap of an image: each root that holds an address has the block there
 abbrev pub heap : Tables → ℕ → Option Range
@@ -56,7 +56,7 @@ heap t root = if t.root root == 0 then None else Some (record { at = t.root root
 
 -- the slabs of an image, each with its class
 abbrev pub slabs : Tables → ℕ → Option ℕ
-slabs t start = if t.slab start then Some (t.class start) else None
+slabs t start = if t.slab start then Some (t.header start).class else None
 
 -- claims: the block of an open place entry counts as its root's
 
@@ -73,24 +73,27 @@ pub record IsClaim (t : Tables) (root : ℕ) (range : Range) : Type 0 where
 -- what a slab holds
 
 -- the block of a bit that is set, which is not read while the slab takes another class
-pub record HoldsBit (t : Tables) (start : ℕ) (range : Range) : Type 0 where
+pub record HoldsBit (h : SlabHeader) (start : ℕ) (range : Range) : Type 0 where
   pub number : ℕ
-  pub below : number < class_capacity (t.class start)
-  pub read : t.kind start ≢ morphing_kind
-  pub set : t.bit start number ≡ true
-  pub is : range ≡ slab_block start (t.class start) number
+  pub below : number < class_capacity h.class
+  pub read : h.kind ≢ morphing_kind
+  pub set : h.bit number ≡ true
+  pub is : range ≡ slab_block start h.class number
 
 -- the block of a live index entry, of the old class
-pub record HoldsOld (t : Tables) (start : ℕ) (range : Range) : Type 0 where
+pub record HoldsOld (h : SlabHeader) (start : ℕ) (range : Range) : Type 0 where
   pub place : ℕ
-  pub below : place < t.index_count start
-  pub live : t.live start place ≡ true
-  pub is : range ≡ slab_block start (t.old start) (t.number start place)
+  pub below : place < h.index_count
+  pub live : h.live place ≡ true
+  pub is : range ≡ slab_block start h.old (h.number place)
 
 -- a slab holds a block
-pub record Holds (t : Tables) (start : ℕ) (range : Range) : Type 0 where
-  pub slab : t.slab start ≡ true
-  pub block : HoldsBit t start range ⊎ HoldsOld t start range
+pub record HoldsBy (slabs : ℕ → Bool) (header : ℕ → SlabHeader) (start : ℕ) (range : Range) : Type 0 where
+  pub slab : slabs start ≡ true
+  pub block : HoldsBit (header start) start range ⊎ HoldsOld (header start) start range
+
+abbrev pub Holds : Tables → ℕ → Range → Type 0
+Holds t = HoldsBy t.slab t.header
 
 -- Block `number` of a class in the slab at a start is unused: it shares no byte with a block that the slab holds.
 pub record IsUnusedIn (t : Tables) (start class number : ℕ) : Type 0 where

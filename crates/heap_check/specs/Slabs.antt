@@ -2,18 +2,12 @@
 use Rattle.std.specs.Prelude.{◌≡◌, ◌≢◌, ℕ, ◌<◌, true, false}
 use Rattle.size_classes.specs.Classes.{class_capacity}
 use Rattle.image_tables.specs.Forms.{normal_kind}
-use Rattle.image_tables.specs.Tables.{Tables}
+use Rattle.image_tables.specs.Tables.{SlabHeader, Tables}
 
 -- two tables say the same of a slab
 pub record IsSameSlab (t new : Tables) (start : ℕ) : Type 0 where
   pub slab : new.slab start ≡ t.slab start
-  pub kind : new.kind start ≡ t.kind start
-  pub class : new.class start ≡ t.class start
-  pub old : new.old start ≡ t.old start
-  pub index_count : new.index_count start ≡ t.index_count start
-  pub bit : new.bit start ≡ t.bit start
-  pub live : new.live start ≡ t.live start
-  pub number : new.number start ≡ t.number start
+  pub header : new.header start ≡ t.header start
 
 -- the second tables have one slab more, and say the same of all else
 pub record IsSlabMore (t new : Tables) (start : ℕ) : Type 0 where
@@ -25,15 +19,15 @@ pub record IsSlabMore (t new : Tables) (start : ℕ) : Type 0 where
   pub slab : new.slab start ≡ true
   pub others : (other : ℕ) → other ≢ start → IsSameSlab t new other
 
--- the slab at the start is as it is made: a normal one of this class that holds no block
-pub record IsFresh (t : Tables) (start class : ℕ) : Type 0 where
-  pub kind : t.kind start ≡ normal_kind
-  pub class_is : t.class start ≡ class
-  pub old : t.old start ≡ 0
-  pub index_count : t.index_count start ≡ 0
-  pub clear : (i : ℕ) → i < class_capacity class → t.bit start i ≡ false
+-- a slab's header is as it is made: a normal one of this class that holds no block
+pub record IsFresh (h : SlabHeader) (class : ℕ) : Type 0 where
+  pub kind : h.kind ≡ normal_kind
+  pub class_is : h.class ≡ class
+  pub old : h.old ≡ 0
+  pub index_count : h.index_count ≡ 0
+  pub clear : (i : ℕ) → i < class_capacity class → h.bit i ≡ false
 
 -- the second tables have one slab more, a fresh one
 pub record IsWithSlab (t new : Tables) (start class : ℕ) : Type 0 where
   pub more : IsSlabMore t new start
-  pub fresh : IsFresh new start class
+  pub fresh : IsFresh (new.header start) class

@@ -1,5 +1,5 @@
 -- What the tables of an image say of granules and slabs to whoever chooses among them: which rows are vacant, how many blocks
--- live in a slab, which slabs are calm, and the view that the choice of a malloc has.
+-- live in a slab, which slabs are normal, and the view that the choice of a malloc has.
 use Rattle.std.specs.Prelude.{◌≡◌, ◌≢◌, ◌==◌, ◌&&◌, ℕ, ◌+◌, ◌<◌, ◌≤◌, List, length, slice_index, Option, Some, None, if◌then◌else◌}
 use Rattle.pool_layout.specs.Header.{granules_in}
 use Rattle.image_tables.specs.Forms.{normal_kind}
@@ -27,8 +27,8 @@ pub record AreCountsOf (counts : List ℕ) (words : List ℕ) : Type 0 where
   pub each : (start : ℕ) → slice_index counts start ≡ live_in words start
 
 -- the class of the slab at a start that is normal: no live block in it has another size
-abbrev pub calm_of : Tables → ℕ → Option ℕ
-calm_of t start = if t.slab start && (t.kind start == normal_kind) then Some (t.class start) else None
+abbrev pub normal_of : Tables → ℕ → Option ℕ
+normal_of t start = if t.slab start && ((t.header start).kind == normal_kind) then Some (t.header start).class else None
 
 -- the view that the choice of a malloc has of the tables
 abbrev pub tables_view : Bounds → Tables → View
@@ -37,5 +37,5 @@ tables_view b t = record {
   slab = slabs t;
   unused = IsUnusedIn t;
   live = λ s. live_below (heap t) s b.roots;
-  in_transition = λ s. t.kind s ≢ normal_kind;
+  in_transition = λ s. (t.header s).kind ≢ normal_kind;
 }

@@ -39,7 +39,7 @@ module _ (v w : View) (agree : Agree v w) where
       record {
         class = fit.class;
         slab = sym (agree.slab s) ∙ fit.slab;
-        calm = λ moving. fit.calm ((agree.in_transition s fit.class fit.slab).1 moving);
+        no_transition = λ moving. fit.no_transition ((agree.in_transition s fit.class fit.slab).1 moving);
         differs = fit.differs;
         few = omega (arith, fit.few, live);
         sparse = omega (arith, fit.sparse, live);

@@ -53,7 +53,7 @@ pub record HasUnusedBlock (v : BlockView) (c : ℕ) : Type 0 where
 pub record IsFit (v : SlabView) (c s : ℕ) : Type 0 where
   pub class : ℕ
   pub slab : v.blocks.slab s ≡ Some class
-  pub calm : ¬ (v.in_transition s)
+  pub no_transition : ¬ (v.in_transition s)
   pub differs : c ≢ class
   pub few : v.live s ≤ 64
   pub sparse : 5 * v.live s ≤ class_capacity class

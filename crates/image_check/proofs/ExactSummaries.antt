@@ -30,17 +30,17 @@ module _ {words : List ℕ} {summary : Summary} (sound : IsSoundImage words) (is
   slab_start : (start : ℕ) → (tables_of words).slab start ≡ true → (0 < start) × (start < granules_in words)
   slab_start start slab =
       let four = granules_at-slab (tables_of words) start slab in
-      let lies = sound.sound.starts start (omega (arith, four)) in
+      let lies = sound.sound.extents.starts start (omega (arith, four)) in
       (omega (arith, lies.0, first_some (version_in words)), omega (arith, lies.1, four))
 
   large_start : (start : ℕ) → 0 < (tables_of words).large start → (0 < start) × (start < granules_in words)
   large_start start some = by ((tables_of words).slab start) refl
     where
       by : (slab : Bool) → (tables_of words).slab start ≡ slab → (0 < start) × (start < granules_in words)
-      by true slab = absurd (omega (arith, some, sound.sound.one_kind start slab))
+      by true slab = absurd (omega (arith, some, sound.sound.extents.one_kind start slab))
       by false none =
           let size = granules_at-large (tables_of words) start none in
-          let lies = sound.sound.starts start (omega (arith, size, some)) in
+          let lies = sound.sound.extents.starts start (omega (arith, size, some)) in
           (omega (arith, lies.0, first_some (version_in words)), omega (arith, lies.1, size, some))
 
   pub exact_of : summary.loose ≡ 0 → IsExactImage words
@@ -61,7 +61,7 @@ module _ {words : List ℕ} {summary : Summary} (sound : IsSoundImage words) (is
       let l = is.loose in
       let x : IsExact (bounds_of words) t = image.exact in
       let no_block : (at : ℕ) → at < 16384 * n → ¬ (IsLooseBlock t at) = λ at below block.
-      let claim = x.sound.claimed block.start block.range block.holds in
+      let claim = x.sound.owned.claimed block.start block.range block.holds in
       ⊎_elim
       (λ (none : t.root claim.0 ≡ 0). claim.1.some (sym claim.1.place ∙ cond-true (eqb (t.root claim.0) 0) (entry_at t.open_entry claim.0) (t.root claim.0) (eq-eqb (t.root claim.0) 0 none) ∙ ap (λ e. entry_at e claim.0) x.closed))
       (λ (some : t.root claim.0 ≢ 0). block.none claim.0 (heap_some t claim.0 block.range some claim.1))
@@ -69,6 +69,6 @@ module _ {words : List ℕ} {summary : Summary} (sound : IsSoundImage words) (is
       let held = count_once (IsLooseBlock t) (16384 * n) l.held 0 l.blocks (count_none (IsLooseBlock t) (16384 * n) no_block) in
       let large = count_once (IsLooseLarge t) n l.loose.large 0 l.are.large (count_none (IsLooseLarge t) n (λ k below loose. let root = x.all_named k loose.live in loose.unnamed root.0 root.1)) in
       let empty = count_once (IsEmptySlab t) n l.loose.empty 0 l.are.empty (count_none (IsEmptySlab t) n (λ k below slab. let root = x.all_live k slab.slab in slab.none root.0 root.1 root.2)) in
-      let morphing = count_once (IsMorphing t) n l.loose.morphing 0 l.are.morphing (count_none (IsMorphing t) n (λ k below m. x.calm k m)) in
+      let morphing = count_once (IsMorphing t) n l.loose.morphing 0 l.are.morphing (count_none (IsMorphing t) n (λ k below m. x.none_morphing k m)) in
       let done = count_once (IsDoneSlab t) n l.loose.done 0 l.are.done (count_none (IsDoneSlab t) n (λ k below d. x.none_done k d)) in
       omega (arith, l.is, some_count t.open_entry x.closed, held, large, empty, morphing, done)

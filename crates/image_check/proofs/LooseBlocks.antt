@@ -10,11 +10,11 @@ use Rattle.image_tables.proofs.Tables.{slab_table}
 use Rattle.heap_model.specs.Machine.{Range, LiesIn}
 use Rattle.heap_model.proofs.Slabbing.{LiesIn-block}
 use Rattle.heap_check.specs.Heap.{slab_of, is_large, is_old, entry_at, entry_old, size_by, size_at, claim_at, heap, IsClaim, Holds, HoldsBit, HoldsOld}
-use Rattle.heap_check.specs.Sound.{AtMostOne, IsValidSlab, IsHeld}
+use Rattle.heap_check.specs.Sound.{AtMostOne, IsValidSlab, IsHeld, AreFewLoose}
 use Rattle.heap_check.proofs.Geometry.{granules_at-slab, is_large-parts}
 use Rattle.image_defects.specs.Count.{IsCount}
 use Rattle.image_defects.specs.declared.found.Loose.{Loose}
-use Rattle.image_defects.specs.Loose.{AreLoose, AreFewLoose}
+use Rattle.image_defects.specs.Loose.{AreLoose}
 use Rattle.image_defects.proofs.Counts.{not_two}
 use Rattle.image_defects.specs.Blocks.{IsRooted}
 use Rattle.image_defects.specs.Summaries.{IsLooseBlock}
@@ -42,10 +42,10 @@ count_one P (suc n) k below here only = ⊎_elim
 lies_of : (words : List ℕ) (start : ℕ) (range : Range) → AreSlabsAt words → Holds (tables_of words) start range → LiesIn start range × (0 < range.size)
 lies_of words start range slabs holds =
     let t = tables_of words in
-    let is : IsValidSlab t start = (slabs.good start (sym (slab_table words start) ∙ holds.slab)).slab in
+    let is : IsValidSlab (t.header start) = (slabs.good start (sym (slab_table words start) ∙ holds.slab)).slab in
     ⊎_elim
-    (λ (b : HoldsBit t start range). (LiesIn-block start (t.class start) range (record { number = b.number; within = b.below; is = b.is }), omega (arith, ap (λ (r : Range). r.size) b.is, class_size-least (t.class start) is.state.is_class)))
-    (λ (o : HoldsOld t start range). (LiesIn-block start (t.old start) range (record { number = t.number start o.place; within = is.small o.place o.below; is = o.is }), omega (arith, ap (λ (r : Range). r.size) o.is, class_size-least (t.old start) is.state.is_old_class)))
+    (λ (b : HoldsBit (t.header start) start range). (LiesIn-block start (t.header start).class range (record { number = b.number; within = b.below; is = b.is }), omega (arith, ap (λ (r : Range). r.size) b.is, class_size-least (t.header start).class is.state.is_class)))
+    (λ (o : HoldsOld (t.header start) start range). (LiesIn-block start (t.header start).old range (record { number = (t.header start).number o.place; within = is.small o.place o.below; is = o.is }), omega (arith, ap (λ (r : Range). r.size) o.is, class_size-least (t.header start).old is.state.is_old_class)))
     holds.block
 
 below_end : (words : List ℕ) (start : ℕ) (range : Range) → AreSlabsAt words → HasExtents words → Holds (tables_of words) start range → range.at < 16384 * granules_in words
@@ -62,23 +62,23 @@ size_some words root at slabs = by (is_large t.large at) refl
     t : Tables
     t = tables_of words
 
-    class_few : (start : ℕ) → t.class start < 36
+    class_few : (start : ℕ) → (t.header start).class < 36
     class_few start = cases (is_slab words start) refl
       where
-        cases : (b : Bool) → is_slab words start ≡ b → t.class start < 36
+        cases : (b : Bool) → is_slab words start ≡ b → (t.header start).class < 36
         cases true is = (slabs.good start is).slab.state.is_class
         cases false none = omega (arith, class_none words start none)
 
-    old_few : (start : ℕ) → t.old start < 36
+    old_few : (start : ℕ) → (t.header start).old < 36
     old_few start = cases (is_slab words start) refl
       where
-        cases : (b : Bool) → is_slab words start ≡ b → t.old start < 36
+        cases : (b : Bool) → is_slab words start ≡ b → (t.header start).old < 36
         cases true is = (slabs.good start is).slab.state.is_old_class
         cases false none = omega (arith, old_table-none words start none)
 
     some_by : (of_old : Bool) → 0 < size_by t at of_old
-    some_by true = omega (arith, class_size-least (t.old (slab_of t.slab (at / 16384))) (old_few (slab_of t.slab (at / 16384))))
-    some_by false = omega (arith, class_size-least (t.class (slab_of t.slab (at / 16384))) (class_few (slab_of t.slab (at / 16384))))
+    some_by true = omega (arith, class_size-least ((t.header (slab_of t.slab (at / 16384))).old) (old_few (slab_of t.slab (at / 16384))))
+    some_by false = omega (arith, class_size-least ((t.header (slab_of t.slab (at / 16384))).class) (class_few (slab_of t.slab (at / 16384))))
 
     some_if : (b : Bool) (x y : Bool) → 0 < cond b (size_by t at x) (size_by t at y)
     some_if true x y = some_by x
@@ -86,7 +86,7 @@ size_some words root at slabs = by (is_large t.large at) refl
 
     by : (large : Bool) → is_large t.large at ≡ large → 0 < size_at t root at
     by true is = subst (λ n. 0 < n) (sym (cond-true (is_large t.large at) _ _ is)) (omega (arith, (is_large-parts t.large at is).1))
-    by false none = subst (λ n. 0 < n) (sym (cond-false (is_large t.large at) _ _ none)) (some_if _ (entry_old t.open_entry) (is_old t (slab_of t.slab (at / 16384)) at))
+    by false none = subst (λ n. 0 < n) (sym (cond-false (is_large t.large at) _ _ none)) (some_if _ (entry_old t.open_entry) (is_old (t.header (slab_of t.slab (at / 16384))) (slab_of t.slab (at / 16384)) at))
 
 -- the heap and claims
 
@@ -184,8 +184,8 @@ loose_by words (Some (Place root at old place)) good slabs is loose =
   where
     block_late : (words : List ℕ) (start : ℕ) (range : Range) → Holds (tables_of words) start range → 0 < range.at
     block_late words start range holds = ⊎_elim
-        (λ (b : HoldsBit (tables_of words) start range). omega (arith, ap (λ (r : Range). r.at) b.is))
-        (λ (o : HoldsOld (tables_of words) start range). omega (arith, ap (λ (r : Range). r.at) o.is))
+        (λ (b : HoldsBit ((tables_of words).header start) start range). omega (arith, ap (λ (r : Range). r.at) b.is))
+        (λ (o : HoldsOld ((tables_of words).header start) start range). omega (arith, ap (λ (r : Range). r.at) o.is))
         holds.block
 
 pub blocks_one : (words : List ℕ) (entry : Option WalEntry) → HasGoodBlocks words → AreSlabsAt words → HasExtents words → (tables_of words).open_entry ≡ entry → HasLooseEntry (tables_of words) entry → IsCount (IsLooseBlock (tables_of words)) (16384 * granules_in words) 1

@@ -10,7 +10,6 @@ use Rattle.image_defects.specs.Headers.{AreGoodSlabs}
 use Rattle.image_defects.specs.Wal.{IsGoodWal}
 use Rattle.image_defects.specs.Roots.{AreStanding}
 use Rattle.image_defects.specs.Blocks.{AreUnshared, AreRooted}
-use Rattle.image_defects.specs.Loose.{AreFewLoose}
 use Rattle.image_reading.specs.declared.slab.Slab.{Slab}
 use Rattle.image_reading.specs.Extents.{HasExtents}
 use Rattle.image_reading.specs.Slabs.{AreSlabs}
@@ -18,6 +17,7 @@ use Rattle.image_reading.specs.Held.{AreSlabsAt}
 use Rattle.defect_search.specs.Arena.{IsArena}
 use Rattle.image_check.specs.declared.fault.CheckFault.{CheckFault}
 use Rattle.image_check.specs.declared.fault.CheckFault.TheVariants as faults
+use Rattle.heap_check.specs.Sound.{AreFewLoose}
 
 -- where the fault is a defect
 abbrev pub IfDefect : CheckFault → (Fault → Type 0) → Type 0

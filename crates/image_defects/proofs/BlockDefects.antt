@@ -7,9 +7,10 @@ use Rattle.image_tables.specs.Tables.{tables_of}
 use Rattle.image_defects.specs.Least.{IsLeast}
 use Rattle.image_defects.specs.Roots.{IsStrayRoot, AreStanding, IsRootDefect}
 use Rattle.image_defects.specs.Blocks.{HasShared, IsSharing, AreUnshared, IsSharedDefect, AreRooted, IsBitDefect}
-use Rattle.image_defects.specs.Loose.{AreFewLoose, IsLooseDefect}
+use Rattle.image_defects.specs.Loose.{IsLooseDefect}
 use Rattle.image_defects.proofs.Counts.{not_many, count_once}
 use Rattle.image_defects.proofs.LeastNumbers.{least_once}
+use Rattle.heap_check.specs.Sound.{AreFewLoose}
 
 -- roots
 

@@ -2,10 +2,10 @@
 use Rattle.std.proofs.Common.{◌≡◌, ◌≢◌, ℕ, zero, suc, ◌+◌, ◌<◌, ◌≤◌, sym, subst, ◌∙◌, arith, add-one, inl, inr, ⊎_elim}
 use Rattle.std.proofs.lemmas.Bool.{cases_eq}
 use Rattle.image_tables.specs.Tables.{Tables}
-use Rattle.heap_check.specs.Sound.{AtMostOne, IsLooseLarge, IsEmptySlab, IsMorphing, IsDoneSlab}
+use Rattle.heap_check.specs.Sound.{AtMostOne, IsLooseLarge, IsEmptySlab, IsMorphing, IsDoneSlab, AreFewLoose}
 use Rattle.image_defects.specs.declared.found.Loose.{Loose}
 use Rattle.image_defects.specs.Count.{IsCount}
-use Rattle.image_defects.specs.Loose.{AreLoose, IsTooMany, AreFewLoose}
+use Rattle.image_defects.specs.Loose.{AreLoose, IsTooMany}
 
 pub count_here : (P : ℕ → Type 0) (n c : ℕ) → P n → IsCount P n c → IsCount P (n + 1) (c + 1)
 count_here P n c here h = subst (λ m. IsCount P m (c + 1)) (sym (add-one n)) (inl (here, (c, add-one c, h)))

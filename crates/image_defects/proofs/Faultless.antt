@@ -35,21 +35,22 @@ sound_of words f =
     record {
       formed = record { header = f.header; size = f.size; log = log; wal = f.wal.form; slabs = λ start slab. (f.slabs start slab).header };
       sound = record {
-        disjoint = f.disjoint;
-        starts = extents_lie words log;
-        one_kind = λ start slab. large_table words start ∙ one_kind_of (extent_at words start) (sym (slab_table words start) ∙ slab);
+        extents = record {
+          disjoint = f.disjoint;
+          starts = extents_lie words log;
+          one_kind = λ start slab. large_table words start ∙ one_kind_of (extent_at words start) (sym (slab_table words start) ∙ slab);
+        };
         slabs = λ start slab. (f.slabs start (sym (slab_table words start) ∙ slab)).slab;
-        open_entry = f.wal.may;
-        rooted = f.standing;
-        apart = λ root other range another differ claim second. ⊎_elim
-            (λ apart. apart)
-            (λ overlap. absurd (f.apart.none root (record { other = other; shared = record { differ = differ; range = range; another = another; claim = claim; second = second; overlap = overlap } })))
-            (apart_or range another);
-        claimed = λ start range holds. let r = f.rooted start range holds in (r.root, r.claim);
-        loose_large = f.few.large;
-        empty_slab = f.few.empty;
-        morphing = f.few.morphing;
-        done = f.few.done;
+        owned = record {
+          open_entry = f.wal.may;
+          rooted = f.standing;
+          apart = λ root other range another differ claim second. ⊎_elim
+              (λ apart. apart)
+              (λ overlap. absurd (f.apart.none root (record { other = other; shared = record { differ = differ; range = range; another = another; claim = claim; second = second; overlap = overlap } })))
+              (apart_or range another);
+          claimed = λ start range holds. let r = f.rooted start range holds in (r.root, r.claim);
+        };
+        loose = f.few;
       };
     }
 
@@ -59,18 +60,18 @@ faultless_of words s = record {
   size = s.formed.size;
   directory = s.formed.log.directory;
   entries = s.formed.log.entries;
-  disjoint = s.sound.disjoint;
+  disjoint = s.sound.extents.disjoint;
   slabs = λ start slab. record { header = s.formed.slabs start slab; slab = s.sound.slabs start (slab_table words start ∙ slab) };
-  wal = record { form = s.formed.wal; may = s.sound.open_entry };
-  standing = s.sound.rooted;
+  wal = record { form = s.formed.wal; may = s.sound.owned.open_entry };
+  standing = s.sound.owned.rooted;
   apart = record {
     none = λ root sharing.
         let h = sharing.shared in
         ⊎_elim
         (λ before. omega (arith, before, h.overlap.begins))
         (λ after. omega (arith, after, h.overlap.ends))
-        (s.sound.apart root sharing.other h.range h.another h.differ h.claim h.second);
+        (s.sound.owned.apart root sharing.other h.range h.another h.differ h.claim h.second);
   };
-  rooted = λ start range holds. let c = s.sound.claimed start range holds in record { root = c.0; claim = c.1 };
-  few = record { large = s.sound.loose_large; empty = s.sound.empty_slab; morphing = s.sound.morphing; done = s.sound.done };
+  rooted = λ start range holds. let c = s.sound.owned.claimed start range holds in record { root = c.0; claim = c.1 };
+  few = s.sound.loose;
 }

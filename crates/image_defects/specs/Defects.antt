@@ -10,7 +10,8 @@ use Rattle.image_defects.specs.Headers.{AreGoodSlabs, IsSlabDefect}
 use Rattle.image_defects.specs.Wal.{IsGoodWal, IsWalDefect}
 use Rattle.image_defects.specs.Roots.{AreStanding, IsRootDefect}
 use Rattle.image_defects.specs.Blocks.{AreUnshared, IsSharedDefect, AreRooted, IsBitDefect}
-use Rattle.image_defects.specs.Loose.{AreFewLoose, IsLooseDefect}
+use Rattle.image_defects.specs.Loose.{IsLooseDefect}
+use Rattle.heap_check.specs.Sound.{AreFewLoose}
 
 -- length
 

@@ -14,7 +14,7 @@ use Rattle.image_defects.specs.Least.{IsLeast}
 -- the header is well formed and valid
 pub record IsGoodSlab (words : List ℕ) (start : ℕ) : Type 0 where
   pub header : HasSlabHeader words start
-  pub slab : IsValidSlab (tables_of words) start
+  pub slab : IsValidSlab ((tables_of words).header start)
 
 -- the header of each slab is
 abbrev pub AreGoodSlabs : List ℕ → Type 0
@@ -23,10 +23,10 @@ AreGoodSlabs words = (start : ℕ) → is_slab words start ≡ true → IsGoodSl
 -- an index word that is read is not of the format: a bit without a meaning is set, the number is no block's, or an
 -- earlier entry has it
 pub record IsBadPlace (words : List ℕ) (start place : ℕ) : Type 0 where
-  pub below : place < (tables_of words).index_count start
+  pub below : place < ((tables_of words).header start).index_count
   pub bad : ¬ (IsIndexWord (word_at words (index_word start place)))
-      ⊎ ((class_capacity ((tables_of words).old start) ≤ (tables_of words).number start place)
-      ⊎ ((earlier : ℕ) × (earlier < place) × ((tables_of words).number start earlier ≡ (tables_of words).number start place)))
+      ⊎ ((class_capacity ((tables_of words).header start).old ≤ ((tables_of words).header start).number place)
+      ⊎ ((earlier : ℕ) × (earlier < place) × (((tables_of words).header start).number earlier ≡ ((tables_of words).header start).number place)))
 
 -- the word of the first bad place
 pub record IsBadIndex (words : List ℕ) (start value : ℕ) : Type 0 where

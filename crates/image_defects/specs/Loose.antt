@@ -4,7 +4,7 @@ use Rattle.pool_layout.specs.declared.defect.Defect.{Defect}
 use Rattle.pool_layout.specs.declared.defect.Defect.TheVariants.{TooManyLoose}
 use Rattle.pool_layout.specs.Header.{granules_in}
 use Rattle.image_tables.specs.Tables.{Tables, tables_of}
-use Rattle.heap_check.specs.Sound.{AtMostOne, IsLooseLarge, IsEmptySlab, IsMorphing, IsDoneSlab}
+use Rattle.heap_check.specs.Sound.{IsLooseLarge, IsEmptySlab, IsMorphing, IsDoneSlab}
 use Rattle.image_defects.specs.declared.found.Loose.{Loose}
 use Rattle.image_defects.specs.Count.{IsCount}
 
@@ -18,13 +18,6 @@ pub record AreLoose (t : Tables) (granules : ℕ) (loose : Loose) : Type 0 where
 -- one of them is above 1
 abbrev pub IsTooMany : Loose → Type 0
 IsTooMany loose = (1 < loose.large) ⊎ ((1 < loose.empty) ⊎ ((1 < loose.morphing) ⊎ (1 < loose.done)))
-
--- of each kind there is one at most
-pub record AreFewLoose (t : Tables) : Type 0 where
-  pub large : AtMostOne (IsLooseLarge t)
-  pub empty : AtMostOne (IsEmptySlab t)
-  pub morphing : AtMostOne (IsMorphing t)
-  pub done : AtMostOne (IsDoneSlab t)
 
 pub record IsLooseDefect (words : List ℕ) (defect : Defect) : Type 0 where
   pub loose : Loose

@@ -1,14 +1,11 @@
 -- Entries of the log that name a granule so much higher, and what starts behind them.
 use Rattle.std.proofs.Common.{◌≡◌, ◌≢◌, ⊎_elim, ℕ, zero, suc, ◌+◌, ◌*◌, ◌^◌, ◌<◌, ◌≤◌, cond, eqb, List, [], ◌∷◌, ◌++◌, map, refl, sym, ap, subst, ◌∙◌, arith, Option, flat_map}
-use Rattle.std.specs.List.{All}
-use Rattle.std.proofs.lemmas.Bool.{cases_eq, eq-eqb, ne_eqb, cond-true, cond-false}
+use Rattle.image_raise.proofs.Common.{All, cases_eq, eq-eqb, ne_eqb, cond-true, cond-false, start_of_entry, extent_of_entry, extent_after, extent_behind, layout_of}
 use Rattle.std.proofs.lemmas.List.Elements.{All-head, All-tail}
 use mathlib.Core.List.{map-append}
 use Rattle.image_tables.specs.declared.extent.Extent.{Extent}
 use Rattle.image_tables.specs.Log.{entry_or_none, entries_below}
-use Rattle.image_tables.specs.Extents.{start_of_entry, extent_of_entry, extent_after, extent_behind}
 use Rattle.image_tables.proofs.Extents.{extent_after-named, extent_after-other}
-use Rattle.pool_layout.specs.Layout.{layout_of}
 use Rattle.book_log.specs.declared.entry.LogEntry.{LogEntry}
 use Rattle.book_log.specs.declared.entry.LogEntry.TheVariants.{Large, Slab, Tomb}
 use Rattle.book_log.specs.Entry.{log_word, FitsWord, IsInHeap, SaysOf, start_of, extent_of}

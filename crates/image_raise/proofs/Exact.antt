@@ -1,8 +1,7 @@
 -- An exact image whose heap lies so many granules higher is exact.
 use Rattle.std.proofs.Common.{◌≡◌, ◌≢◌, ◌⊎◌, ⊎_elim, inl, inr, ◌&&◌, ◌||◌, ◌==◌, ℕ, zero, suc, ◌+◌, ◌-◌, ◌*◌, ◌/◌, ◌%◌, ◌<◌, ◌≤◌, Bool, true, false, true≢false, cond, eqb, ltb, refl, sym, ap, subst, ◌∙◌, arith, Option, Some, None, option_map}
-use Rattle.std.proofs.lemmas.Bool.{cases_lt, cases_eq, cases_Bool, cond-true, cond-false, ne_eqb, eq-eqb}
-use Rattle.size_classes.specs.Classes.{class_size, class_capacity}
-use Rattle.image_tables.specs.Tables.{Tables}
+use Rattle.image_raise.proofs.Common.{cases_lt, cases_eq, cases_Bool, cond-true, cond-false, ne_eqb, eq-eqb, SlabHeader, Tables}
+use Rattle.size_classes.specs.Classes.{class_size}
 use Rattle.heap_model.specs.Below.{any_below}
 use Rattle.heap_model.specs.Machine.{Bounds, Range, AreApart, slab_block}
 use Rattle.heap_check.specs.Heap.{slab_of, is_old_of, is_old, is_large, size_by, heap, entry_at, IsClaim, HoldsBit, HoldsOld, Holds}
@@ -111,16 +110,13 @@ module _ {d : ℕ} {b c : Bounds} {t u : Tables} (exact : IsExact b t) (wider : 
       by false p false q true r = rw (is.slab k, p, at_one, q, at_two, r) two
       by false p false q false r = rw (is.slab k, p, at_one, q, at_two, r) three
 
-  old_raised : (s at : ℕ) → is_old u (s + d) (at + 16384 * d) ≡ is_old t s at
+  old_raised : (s at : ℕ) → is_old (u.header (s + d)) (s + d) (at + 16384 * d) ≡ is_old (t.header s) s at
   unfolding is_old_of
   old_raised s at =
-      ap (λ n. any_below (λ place. u.live (s + d) place && ((slab_block (s + d) (u.old (s + d)) (u.number (s + d) place)).at == (at + 16384 * d))) n) (is.index_count s)
-      ∙ any_same _ _ (t.index_count s) (λ place below.
-      ap (λ l. l && ((slab_block (s + d) (u.old (s + d)) (u.number (s + d) place)).at == (at + 16384 * d))) (is.live s place)
-      ∙ ap (λ o. t.live s place && ((slab_block (s + d) o (u.number (s + d) place)).at == (at + 16384 * d))) (is.old s)
-      ∙ ap (λ n. t.live s place && ((slab_block (s + d) (t.old s) n).at == (at + 16384 * d))) (is.number s place)
-      ∙ ap (λ (r : Range). t.live s place && (r.at == (at + 16384 * d))) (block_raised d s (t.old s) (t.number s place))
-      ∙ ap (λ e. t.live s place && e) (eqb_raised (slab_block s (t.old s) (t.number s place)).at at (16384 * d)))
+      ap (λ h. is_old h (s + d) (at + 16384 * d)) (is.header s)
+      ∙ any_same _ _ (t.header s).index_count (λ place below.
+      ap (λ (r : Range). (t.header s).live place && (r.at == (at + 16384 * d))) (block_raised d s (t.header s).old ((t.header s).number place))
+      ∙ ap (λ e. (t.header s).live place && e) (eqb_raised (slab_block s (t.header s).old ((t.header s).number place)).at at (16384 * d)))
 
   size_raised : (at : ℕ) → 3 ≤ at / 16384 → plain_size u (at + 16384 * d) ≡ plain_size t at
   size_raised at high =
@@ -129,14 +125,13 @@ module _ {d : ℕ} {b c : Bounds} {t u : Tables} (exact : IsExact b t) (wider : 
       let slab : slab_of u.slab ((at + 16384 * d) / 16384) ≡ slab_of t.slab k + d = ap (slab_of u.slab) here ∙ slab_of_raised k high in
       let s = slab_of t.slab k in
       let large : 16384 * u.large ((at + 16384 * d) / 16384) ≡ 16384 * t.large k = ap (λ n. 16384 * u.large n) here ∙ ap (λ n. 16384 * n) (is.large k) in
-      let old : is_old u (slab_of u.slab ((at + 16384 * d) / 16384)) (at + 16384 * d) ≡ is_old t s at = ap (λ n. is_old u n (at + 16384 * d)) slab ∙ old_raised s at in
-      let small : size_by u (at + 16384 * d) (is_old u (slab_of u.slab ((at + 16384 * d) / 16384)) (at + 16384 * d)) ≡ size_by t at (is_old t s at) =
+      let old : is_old (u.header (slab_of u.slab ((at + 16384 * d) / 16384))) (slab_of u.slab ((at + 16384 * d) / 16384)) (at + 16384 * d) ≡ is_old (t.header s) s at = ap (λ n. is_old (u.header n) n (at + 16384 * d)) slab ∙ old_raised s at in
+      let small : size_by u (at + 16384 * d) (is_old (u.header (slab_of u.slab ((at + 16384 * d) / 16384))) (slab_of u.slab ((at + 16384 * d) / 16384)) (at + 16384 * d)) ≡ size_by t at (is_old (t.header s) s at) =
       ap (λ o. size_by u (at + 16384 * d) o) old
-      ∙ ap (λ n. class_size (cond (is_old t s at) (u.old n) (u.class n))) slab
-      ∙ ap (λ n. class_size (cond (is_old t s at) n (u.class (s + d)))) (is.old s)
-      ∙ ap (λ n. class_size (cond (is_old t s at) (t.old s) n)) (is.class s) in
-      ap (λ l. cond l (16384 * u.large ((at + 16384 * d) / 16384)) (size_by u (at + 16384 * d) (is_old u (slab_of u.slab ((at + 16384 * d) / 16384)) (at + 16384 * d)))) (large_at at)
-      ∙ ap (λ n. cond (is_large t.large at) n (size_by u (at + 16384 * d) (is_old u (slab_of u.slab ((at + 16384 * d) / 16384)) (at + 16384 * d)))) large
+      ∙ ap (λ n. class_size (cond (is_old (t.header s) s at) (u.header n).old (u.header n).class)) slab
+      ∙ ap (λ (h : SlabHeader). class_size (cond (is_old (t.header s) s at) h.old h.class)) (is.header s) in
+      ap (λ l. cond l (16384 * u.large ((at + 16384 * d) / 16384)) (size_by u (at + 16384 * d) (is_old (u.header (slab_of u.slab ((at + 16384 * d) / 16384))) (slab_of u.slab ((at + 16384 * d) / 16384)) (at + 16384 * d)))) (large_at at)
+      ∙ ap (λ n. cond (is_large t.large at) n (size_by u (at + 16384 * d) (is_old (u.header (slab_of u.slab ((at + 16384 * d) / 16384))) (slab_of u.slab ((at + 16384 * d) / 16384)) (at + 16384 * d)))) large
       ∙ ap (λ n. cond (is_large t.large at) (16384 * t.large k) n) small
 
   -- where a root's block lies
@@ -147,23 +142,23 @@ module _ {d : ℕ} {b c : Bounds} {t u : Tables} (exact : IsExact b t) (wider : 
       (λ (large : is_large t.large (t.root r) ≡ true).
       let parts = is_large-parts t.large (t.root r) large in
       let live : 0 < granules_at t (t.root r / 16384) = large_live (t.root r / 16384) parts.1 in
-      omega (arith, (exact.sound.starts (t.root r / 16384) live).0, wider.low))
+      omega (arith, (exact.sound.extents.starts (t.root r / 16384) live).0, wider.low))
       (λ rest. ⊎_elim
       (λ (held : IsHeld t (t.root r)).
-      let low = (exact.sound.starts held.start (omega (arith, granules_at-slab t held.start held.holds.slab))).0 in
-      let within : 16384 * held.start ≤ held.range.at = ⊎_elim (λ (bit : HoldsBit t held.start held.range). bit_low held.start held.range bit) (λ (old : HoldsOld t held.start held.range). old_low held.start held.range old) held.holds.block in
+      let low = (exact.sound.extents.starts held.start (omega (arith, granules_at-slab t held.start held.holds.slab))).0 in
+      let within : 16384 * held.start ≤ held.range.at = ⊎_elim (λ (bit : HoldsBit (t.header held.start) held.start held.range). bit_low held.start held.range bit) (λ (old : HoldsOld (t.header held.start) held.start held.range). old_low held.start held.range old) held.holds.block in
       omega (arith, low, within, held.here, wider.low))
       (λ by_entry. absurd (some (sym by_entry ∙ no_entry r)))
       rest)
-      (exact.sound.rooted r some)
+      (exact.sound.owned.rooted r some)
     where
       large_live : (s : ℕ) → 0 < t.large s → 0 < granules_at t s
       large_live s some = ⊎_elim (λ (slab : t.slab s ≡ true). omega (arith, granules_at-slab t s slab)) (λ (none : t.slab s ≡ false). omega (arith, cond-false (t.slab s) 4 (t.large s) none, some)) (cases_Bool (t.slab s))
 
-      bit_low : (s : ℕ) (range : Range) → HoldsBit t s range → 16384 * s ≤ range.at
+      bit_low : (s : ℕ) (range : Range) → HoldsBit (t.header s) s range → 16384 * s ≤ range.at
       bit_low s range bit = omega (arith, ap (λ (r : Range). r.at) bit.is)
 
-      old_low : (s : ℕ) (range : Range) → HoldsOld t s range → 16384 * s ≤ range.at
+      old_low : (s : ℕ) (range : Range) → HoldsOld (t.header s) s range → 16384 * s ≤ range.at
       old_low s range old = omega (arith, ap (λ (r : Range). r.at) old.is)
 
   named_was : (r : ℕ) (range : Range) → IsNamed u r range → (was : Range) × (IsNamed t r was × (range ≡ raised d was))
@@ -186,12 +181,8 @@ module _ {d : ℕ} {b c : Bounds} {t u : Tables} (exact : IsExact b t) (wider : 
 
   -- slabs
 
-  valid_now : (s : ℕ) → IsValidSlab t s → IsValidSlab u (s + d)
-  valid_now s valid = record {
-    state = rw (is.kind s, is.class s, is.old s, is.index_count s) valid.state;
-    small = λ place below. rw (is.number s place, is.old s) (valid.small place (omega (arith, below, is.index_count s)));
-    once = λ place other below less same. valid.once place other (omega (arith, below, is.index_count s)) (omega (arith, less, is.index_count s)) (sym (is.number s place) ∙ same ∙ is.number s other);
-  }
+  valid_now : (s : ℕ) → IsValidSlab (t.header s) → IsValidSlab (u.header (s + d))
+  valid_now s valid = subst IsValidSlab (sym (is.header s)) valid
 
   holds_was : (s : ℕ) (range : Range) → Holds u s range → (k : ℕ) × ((s ≡ k + d) × ((was : Range) × (Holds t k was × (range ≡ raised d was))))
   holds_was s range holds =
@@ -201,48 +192,51 @@ module _ {d : ℕ} {b c : Bounds} {t u : Tables} (exact : IsExact b t) (wider : 
         (
           at.1.0,
           ⊎_elim
-              (λ (bit : HoldsBit u s range). by_bit k at.1.1 (subst (λ n. HoldsBit u n range) at.1.0 bit))
-              (λ (old : HoldsOld u s range). by_old k at.1.1 (subst (λ n. HoldsOld u n range) at.1.0 old))
+              (λ (bit : HoldsBit (u.header s) s range). by_bit k at.1.1 (as_was (λ h n. HoldsBit h n range) at.1.0 bit))
+              (λ (old : HoldsOld (u.header s) s range). by_old k at.1.1 (as_was (λ h n. HoldsOld h n range) at.1.0 old))
               holds.block,
         ),
       )
     where
-      by_bit : (k : ℕ) → t.slab k ≡ true → HoldsBit u (k + d) range → (was : Range) × (Holds t k was × (range ≡ raised d was))
+      as_was : (P : SlabHeader → ℕ → Type 0) {s k : ℕ} → s ≡ k + d → P (u.header s) s → P (t.header k) (k + d)
+      as_was P {s} {k} same held = subst (λ h. P h (k + d)) (is.header k) (subst (λ n. P (u.header n) n) same held)
+
+      by_bit : (k : ℕ) → t.slab k ≡ true → HoldsBit (t.header k) (k + d) range → (was : Range) × (Holds t k was × (range ≡ raised d was))
       by_bit k slab bit = (
-        slab_block k (t.class k) bit.number,
+        slab_block k (t.header k).class bit.number,
         (
-          record { slab = slab; block = inl (record { number = bit.number; below = omega (arith, bit.below, ap class_capacity (is.class k)); read = λ e. bit.read (is.kind k ∙ e); set = sym (is.bit k bit.number) ∙ bit.set; is = refl }) },
-          bit.is ∙ ap (λ c. slab_block (k + d) c bit.number) (is.class k) ∙ block_raised d k (t.class k) bit.number,
+          record { slab = slab; block = inl (record { number = bit.number; below = bit.below; read = bit.read; set = bit.set; is = refl }) },
+          bit.is ∙ block_raised d k (t.header k).class bit.number,
         ),
       )
 
-      by_old : (k : ℕ) → t.slab k ≡ true → HoldsOld u (k + d) range → (was : Range) × (Holds t k was × (range ≡ raised d was))
+      by_old : (k : ℕ) → t.slab k ≡ true → HoldsOld (t.header k) (k + d) range → (was : Range) × (Holds t k was × (range ≡ raised d was))
       by_old k slab old = (
-        slab_block k (t.old k) (t.number k old.place),
+        slab_block k (t.header k).old ((t.header k).number old.place),
         (
-          record { slab = slab; block = inr (record { place = old.place; below = omega (arith, old.below, is.index_count k); live = sym (is.live k old.place) ∙ old.live; is = refl }) },
-          old.is ∙ ap (λ o. slab_block (k + d) o (u.number (k + d) old.place)) (is.old k) ∙ ap (λ n. slab_block (k + d) (t.old k) n) (is.number k old.place) ∙ block_raised d k (t.old k) (t.number k old.place),
+          record { slab = slab; block = inr (record { place = old.place; below = old.below; live = old.live; is = refl }) },
+          old.is ∙ block_raised d k (t.header k).old ((t.header k).number old.place),
         ),
       )
 
   holds_now : (s : ℕ) (range : Range) → Holds t s range → Holds u (s + d) (raised d range)
   holds_now s range holds = record {
     slab = is.slab s ∙ holds.slab;
-    block = ⊎_elim
-        (λ (bit : HoldsBit t s range). inl (record {
+    block = subst (λ h. HoldsBit h (s + d) (raised d range) ⊎ HoldsOld h (s + d) (raised d range)) (sym (is.header s)) (⊎_elim
+        (λ (bit : HoldsBit (t.header s) s range). inl (record {
           number = bit.number;
-          below = omega (arith, bit.below, ap class_capacity (is.class s));
-          read = λ e. bit.read (sym (is.kind s) ∙ e);
-          set = is.bit s bit.number ∙ bit.set;
-          is = ap (raised d) bit.is ∙ sym (block_raised d s (t.class s) bit.number) ∙ ap (λ c. slab_block (s + d) c bit.number) (sym (is.class s));
+          below = bit.below;
+          read = bit.read;
+          set = bit.set;
+          is = ap (raised d) bit.is ∙ sym (block_raised d s (t.header s).class bit.number);
         }))
-        (λ (old : HoldsOld t s range). inr (record {
+        (λ (old : HoldsOld (t.header s) s range). inr (record {
           place = old.place;
-          below = omega (arith, old.below, is.index_count s);
-          live = is.live s old.place ∙ old.live;
-          is = ap (raised d) old.is ∙ sym (block_raised d s (t.old s) (t.number s old.place)) ∙ ap (λ n. slab_block (s + d) (t.old s) n) (sym (is.number s old.place)) ∙ ap (λ o. slab_block (s + d) o (u.number (s + d) old.place)) (sym (is.old s));
+          below = old.below;
+          live = old.live;
+          is = ap (raised d) old.is ∙ sym (block_raised d s (t.header s).old ((t.header s).number old.place));
         }))
-        holds.block;
+        holds.block);
   }
 
   -- nothing is loose
@@ -254,13 +248,13 @@ module _ {d : ℕ} {b c : Bounds} {t u : Tables} (exact : IsExact b t) (wider : 
       let k = found.0 in
       let live : 0 < t.large k = omega (arith, some, ap u.large found.1, is.large k) in
       let named = exact.all_named k live in
-      let first = (exact.sound.starts k (omega (arith, large_at_start k live, live))).0 in
+      let first = (exact.sound.extents.starts k (omega (arith, large_at_start k live, live))).0 in
       let held : t.root named.0 ≢ 0 = λ none. omega (arith, none, named.1, first, wider.low) in
       (named.0, omega (arith, root_some named.0 held, named.1, found.1)))
       (behind d s)
     where
       large_at_start : (k : ℕ) → 0 < t.large k → granules_at t k ≡ t.large k
-      large_at_start k live = ⊎_elim (λ (slab : t.slab k ≡ true). absurd (omega (arith, live, exact.sound.one_kind k slab))) (λ (none : t.slab k ≡ false). cond-false (t.slab k) 4 (t.large k) none) (cases_Bool (t.slab k))
+      large_at_start k live = ⊎_elim (λ (slab : t.slab k ≡ true). absurd (omega (arith, live, exact.sound.extents.one_kind k slab))) (λ (none : t.slab k ≡ false). cond-false (t.slab k) 4 (t.large k) none) (cases_Bool (t.slab k))
 
   live_slab : (s : ℕ) → u.slab s ≡ true → (r : ℕ) × (u.root r ≢ 0) × IsInSlab u s (u.root r)
   live_slab s slab =
@@ -269,16 +263,20 @@ module _ {d : ℕ} {b c : Bounds} {t u : Tables} (exact : IsExact b t) (wider : 
       let root = root_some live.0 live.1 in
       (live.0, λ none. live.1 (omega (arith, none, root)), record { slab = slab; low = omega (arith, live.2.low, root, at.1.0); high = omega (arith, live.2.high, root, at.1.0) })
 
-  calm_now : (s : ℕ) → ¬ (IsMorphing u s)
-  calm_now s morphing =
+  none_morphing : (s : ℕ) → ¬ (IsMorphing u s)
+  none_morphing s morphing =
       let at = slab_start s morphing.slab in
-      exact.calm at.0 (record { slab = at.1.1; kind = sym (is.kind at.0) ∙ ap u.kind (sym at.1.0) ∙ morphing.kind })
+      exact.none_morphing at.0 (record { slab = at.1.1; kind = ap (λ (h : SlabHeader). h.kind) (sym (is.header at.0)) ∙ ap (λ s. (u.header s).kind) (sym at.1.0) ∙ morphing.kind })
 
   none_done_now : (s : ℕ) → ¬ (IsDoneSlab u s)
   none_done_now s done =
       let at = slab_start s done.slab in
       let here = subst (λ n. IsDoneSlab u n) at.1.0 done in
-      exact.none_done at.0 (record { slab = at.1.1; kind = sym (is.kind at.0) ∙ here.kind; none = λ place below. sym (is.live at.0 place) ∙ here.none place (omega (arith, below, is.index_count at.0)) })
+      exact.none_done at.0 (record {
+        slab = at.1.1;
+        kind = ap (λ (h : SlabHeader). h.kind) (sym (is.header at.0)) ∙ here.kind;
+        none = subst (λ (h : SlabHeader). (place : ℕ) → place < h.index_count → h.live place ≡ false) (is.header at.0) here.none;
+      })
 
   -- all of it
 
@@ -292,50 +290,56 @@ module _ {d : ℕ} {b c : Bounds} {t u : Tables} (exact : IsExact b t) (wider : 
       (λ (block : IsHeld t (t.root r)). inr (inl (record { start = block.start + d; range = raised d block.range; holds = holds_now block.start block.range block.holds; here = ap (λ n. n + 16384 * d) block.here })))
       (λ by_entry. absurd (held (sym by_entry ∙ no_entry r)))
       rest)
-      (exact.sound.rooted r held))
+      (exact.sound.owned.rooted r held))
 
   apart_now : (r other : ℕ) (range another : Range) → r ≢ other → IsClaim u r range → IsClaim u other another → AreApart range another
   apart_now r other range another differ claim second =
       let one = named_was r range (IsNamed-claim u r range (no_entry_u r) claim) in
       let two = named_was other another (IsNamed-claim u other another (no_entry_u other) second) in
-      let apart = exact.sound.apart r other one.0 two.0 differ (IsClaim-named t r one.0 (no_entry r) one.1.0) (IsClaim-named t other two.0 (no_entry other) two.1.0) in
+      let apart = exact.sound.owned.apart r other one.0 two.0 differ (IsClaim-named t r one.0 (no_entry r) one.1.0) (IsClaim-named t other two.0 (no_entry other) two.1.0) in
       rw (one.1.1, two.1.1) (⊎_elim (λ low. inl (omega (arith, low))) (λ high. inr (omega (arith, high))) apart)
 
   claimed_now : (s : ℕ) (range : Range) → Holds u s range → (r : ℕ) × IsClaim u r range
   claimed_now s range holds =
       let was = holds_was s range holds in
-      let claim = exact.sound.claimed was.0 was.1.1.0 was.1.1.1.0 in
+      let claim = exact.sound.owned.claimed was.0 was.1.1.0 was.1.1.1.0 in
       let named = named_now claim.0 was.1.1.0 (IsNamed-claim t claim.0 was.1.1.0 (no_entry claim.0) claim.1) in
       (claim.0, IsClaim-named u claim.0 range (no_entry_u claim.0) (subst (IsNamed u claim.0) (sym was.1.1.1.1) named))
 
   sound_now : IsSound c u
   sound_now = record {
-    disjoint = λ start other k one two.
-        let first = covered start k one in
-        let second = covered other k two in
-        let y = first.1.1.0 in
-        let same : second.1.1.0 ≡ y = omega (arith, first.1.1.1.0, second.1.1.1.0) in
-        let equal = exact.sound.disjoint first.0 second.0 y first.1.1.1.1 (subst (λ n. Covers t second.0 n) same second.1.1.1.1) in
-        omega (arith, first.1.0, second.1.0, equal);
-    starts = λ start some.
-        let at = start_of start some in
-        let count : granules_at u start ≡ granules_at t at.0 = ap (granules_at u) at.1 ∙ many at.0 in
-        let lies = exact.sound.starts at.0 (omega (arith, some, count)) in
-        (omega (arith, lies.0, at.1, wider.first), omega (arith, lies.1, at.1, wider.granules, count));
-    one_kind = λ start slab. let at = slab_start start slab in ap u.large at.1.0 ∙ is.large at.0 ∙ exact.sound.one_kind at.0 at.1.1;
-    slabs = λ start slab. let at = slab_start start slab in subst (λ n. IsValidSlab u n) (sym at.1.0) (valid_now at.0 (exact.sound.slabs at.0 at.1.1));
-    open_entry = λ e opens. absurd (let none = sym is.shut ∙ opens in cc);
-    rooted = standing_now;
-    apart = apart_now;
-    claimed = claimed_now;
-    loose_large = record { same = λ one other p q. let named = named_large one p.live in absurd (p.unnamed named.0 named.1) };
-    empty_slab = record { same = λ one other p q. let live = live_slab one p.slab in absurd (p.none live.0 live.1 live.2) };
-    morphing = record { same = λ one other p q. absurd (calm_now one p) };
-    done = record { same = λ one other p q. absurd (none_done_now one p) };
+    extents = record {
+      disjoint = λ start other k one two.
+          let first = covered start k one in
+          let second = covered other k two in
+          let y = first.1.1.0 in
+          let same : second.1.1.0 ≡ y = omega (arith, first.1.1.1.0, second.1.1.1.0) in
+          let equal = exact.sound.extents.disjoint first.0 second.0 y first.1.1.1.1 (subst (λ n. Covers t second.0 n) same second.1.1.1.1) in
+          omega (arith, first.1.0, second.1.0, equal);
+      starts = λ start some.
+          let at = start_of start some in
+          let count : granules_at u start ≡ granules_at t at.0 = ap (granules_at u) at.1 ∙ many at.0 in
+          let lies = exact.sound.extents.starts at.0 (omega (arith, some, count)) in
+          (omega (arith, lies.0, at.1, wider.first), omega (arith, lies.1, at.1, wider.granules, count));
+      one_kind = λ start slab. let at = slab_start start slab in ap u.large at.1.0 ∙ is.large at.0 ∙ exact.sound.extents.one_kind at.0 at.1.1;
+    };
+    slabs = λ start slab. let at = slab_start start slab in subst (λ n. IsValidSlab (u.header n)) (sym at.1.0) (valid_now at.0 (exact.sound.slabs at.0 at.1.1));
+    owned = record {
+      open_entry = λ e opens. absurd (let none = sym is.shut ∙ opens in cc);
+      rooted = standing_now;
+      apart = apart_now;
+      claimed = claimed_now;
+    };
+    loose = record {
+      large = record { same = λ one other p q. let named = named_large one p.live in absurd (p.unnamed named.0 named.1) };
+      empty = record { same = λ one other p q. let live = live_slab one p.slab in absurd (p.none live.0 live.1 live.2) };
+      morphing = record { same = λ one other p q. absurd (none_morphing one p) };
+      done = record { same = λ one other p q. absurd (none_done_now one p) };
+    };
   }
 
   exact_now : IsExact c u
-  exact_now = record { sound = sound_now; closed = is.shut; all_named = named_large; all_live = live_slab; calm = calm_now; none_done = none_done_now }
+  exact_now = record { sound = sound_now; closed = is.shut; all_named = named_large; all_live = live_slab; none_morphing = none_morphing; none_done = none_done_now }
 
   block_now : (root : ℕ) (block : Option Range) → heap t root ≡ block → heap u root ≡ option_map (raised d) block
   block_now root None none = ⊎_elim
@@ -349,8 +353,8 @@ module _ {d : ℕ} {b c : Bounds} {t u : Tables} (exact : IsExact b t) (wider : 
   heap_now : IsRaisedHeap d t u
   heap_now = record {
     blocks = λ root. block_now root (heap t root) refl;
-    no_slab = λ s low. cond-false (u.slab s) (Some (u.class s)) None (is.none_slab s low);
-    slab = λ s. ap (λ slab. cond slab (Some (u.class (s + d))) None) (is.slab s) ∙ ap (λ class. cond (t.slab s) (Some class) None) (is.class s);
+    no_slab = λ s low. cond-false (u.slab s) (Some (u.header s).class) None (is.none_slab s low);
+    slab = λ s. ap (λ slab. cond slab (Some (u.header (s + d)).class) None) (is.slab s) ∙ ap (λ (h : SlabHeader). cond (t.slab s) (Some h.class) None) (is.header s);
   }
 
 pub raised_exact : (d : ℕ) (b c : Bounds) (t u : Tables) → IsExact b t → IsWider d b c → IsRaised d t u → IsExact c u × IsRaisedHeap d t u

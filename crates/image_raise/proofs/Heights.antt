@@ -1,8 +1,6 @@
 -- Tables whose heap lies so many granules higher than that of others.
 use Rattle.std.specs.Prelude.{◌≡◌, ℕ, ◌+◌, ◌<◌, ◌≤◌, false, None, option_map}
-use Rattle.image_tables.specs.Tables.{Tables}
-use Rattle.heap_model.specs.Machine.{Bounds}
-use Rattle.heap_check.specs.Heap.{heap, slabs}
+use Rattle.image_raise.proofs.Common.{Tables, Bounds, heap, slabs}
 use Rattle.image_raise.specs.Rise.{raised_at, raised}
 
 -- The second tables say of each granule what the first say of the one so many granules lower, and each root holds what it
@@ -15,13 +13,7 @@ pub record IsRaised (d : ℕ) (t u : Tables) : Type 0 where
   pub none_slab : (s : ℕ) → s < d → u.slab s ≡ false
   pub large : (s : ℕ) → u.large (s + d) ≡ t.large s
   pub slab : (s : ℕ) → u.slab (s + d) ≡ t.slab s
-  pub kind : (s : ℕ) → u.kind (s + d) ≡ t.kind s
-  pub class : (s : ℕ) → u.class (s + d) ≡ t.class s
-  pub old : (s : ℕ) → u.old (s + d) ≡ t.old s
-  pub index_count : (s : ℕ) → u.index_count (s + d) ≡ t.index_count s
-  pub bit : (s i : ℕ) → u.bit (s + d) i ≡ t.bit s i
-  pub live : (s i : ℕ) → u.live (s + d) i ≡ t.live s i
-  pub number : (s i : ℕ) → u.number (s + d) i ≡ t.number s i
+  pub header : (s : ℕ) → u.header (s + d) ≡ t.header s
 
 -- the second have the blocks of the first, as much higher, and the slabs, with the same classes
 pub record IsRaisedHeap (d : ℕ) (t u : Tables) : Type 0 where

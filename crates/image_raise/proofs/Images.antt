@@ -1,8 +1,6 @@
 -- Raised words are an exact image, with the same heap so much higher.
 use Rattle.std.proofs.Common.{◌≡◌, ℕ, List}
-use Rattle.pool_layout.specs.Header.{version_in}
-use Rattle.image_tables.specs.Tables.{tables_of}
-use Rattle.heap_check.specs.Image.{bounds_of, IsExactImage}
+use Rattle.image_raise.proofs.Common.{version_in, tables_of, bounds_of, IsExactImage}
 use Rattle.image_raise.specs.Rise.{rise, IsRaisedImage}
 use Rattle.image_raise.proofs.Exact.{raised_exact}
 use Rattle.image_raise.proofs.Raised.{IsRaisedWords}

@@ -1,12 +1,7 @@
 -- The log of words that are raised: the entries of the old one, each so much higher.
 use Rattle.std.proofs.Common.{◌≡◌, ◌≢◌, ⊎_elim, ℕ, ◌+◌, ◌<◌, ◌≤◌, List, map, sym, ap, subst, ◌∙◌, arith, None, flat_map}
-use Rattle.std.specs.List.{All}
-use Rattle.std.proofs.lemmas.Bool.{cases_eq, cases_lt}
+use Rattle.image_raise.proofs.Common.{All, cases_eq, cases_lt, word_at, layout_of, directory_word, entry_slot, version_in, granules_in}
 use Rattle.std.proofs.lemmas.List.Elements.{All-weaker}
-use Rattle.pmem_lines.specs.Words.{word_at}
-use Rattle.pool_layout.specs.Layout.{layout_of}
-use Rattle.pool_layout.specs.Places.{directory_word, entry_word}
-use Rattle.pool_layout.specs.Header.{version_in, granules_in}
 use Rattle.image_tables.specs.Log.{active_chunks, chunk_log, log_of}
 use Rattle.image_tables.specs.Extents.{extent_behind, extent_at}
 use Rattle.image_tables.proofs.Chunks.{entries_below-zeros, few_chunks}
@@ -29,14 +24,14 @@ module _ {words new : List ℕ} (version : version_in words ≡ 1) (log : HasLog
   same_chunks = ap active_chunks is.directory
 
   -- an entry of a chunk that is in use
-  entry_now : (chunk entry : ℕ) → chunk < 16 → IsChunk 1 (granules_in words) words chunk → entry < (layout_of 1).chunk_entries → word_at new (entry_word 2 chunk entry) ≡ higher_word (word_at words (entry_word 1 chunk entry))
-  entry_now chunk entry small formed less = raised_is (granules_in words) (word_at words (entry_word 1 chunk entry)) (word_at new (entry_word 2 chunk entry)) (formed.entries entry less) (is.entry chunk entry small less)
+  entry_now : (chunk entry : ℕ) → chunk < 16 → IsChunk 1 (granules_in words) words chunk → entry < (layout_of 1).chunk_entries → word_at new (entry_slot 2 chunk entry) ≡ higher_word (word_at words (entry_slot 1 chunk entry))
+  entry_now chunk entry small formed less = raised_is (granules_in words) (word_at words (entry_slot 1 chunk entry)) (word_at new (entry_slot 2 chunk entry)) (formed.entries entry less) (is.entry chunk entry small less)
 
   chunk_now : (chunk : ℕ) → chunk < 16 → IsChunk 1 (granules_in words) words chunk → chunk_log 2 new chunk ≡ map higher_word (chunk_log 1 words chunk)
   unfolding chunk_log
   chunk_now chunk small formed =
-      entries_below-zeros (λ e. word_at new (entry_word 2 chunk e)) (layout_of 1).chunk_entries (layout_of 2).chunk_entries more_entries (λ e low high. is.no_entry chunk e small low high)
-      ∙ below_raised (λ e. word_at words (entry_word 1 chunk e)) (λ e. word_at new (entry_word 2 chunk e)) (layout_of 1).chunk_entries (λ e less. entry_now chunk e small formed less)
+      entries_below-zeros (λ e. word_at new (entry_slot 2 chunk e)) (layout_of 1).chunk_entries (layout_of 2).chunk_entries more_entries (λ e low high. is.no_entry chunk e small low high)
+      ∙ below_raised (λ e. word_at words (entry_slot 1 chunk e)) (λ e. word_at new (entry_slot 2 chunk e)) (layout_of 1).chunk_entries (λ e less. entry_now chunk e small formed less)
 
   old_log : log_of words ≡ flat_map (chunk_log 1 words) (chunks_of words)
   unfolding log_of
@@ -71,15 +66,15 @@ module _ {words new : List ℕ} (version : version_in words ≡ 1) (log : HasLog
     entries = λ place below some. ⊎_elim
         (λ (less : place < (layout_of 1).chunk_entries).
         let here = entry_now chunk place small formed less in
-        let was : word_at words (entry_word 1 chunk place) ≢ 0 = λ none. some (here ∙ entry_none _ none) in
-        let valid = valid_raised (layout_of 1).first_granule (granules_in words) (word_at words (entry_word 1 chunk place)) few (formed.entries place less was) in
-        subst (λ first. IsValid first (granules_in words + rise) (word_at new (entry_word 2 chunk place))) (sym rises) (subst (IsValid ((layout_of 1).first_granule + rise) (granules_in words + rise)) (sym here) valid))
+        let was : word_at words (entry_slot 1 chunk place) ≢ 0 = λ none. some (here ∙ entry_none _ none) in
+        let valid = valid_raised (layout_of 1).first_granule (granules_in words) (word_at words (entry_slot 1 chunk place)) few (formed.entries place less was) in
+        subst (λ first. IsValid first (granules_in words + rise) (word_at new (entry_slot 2 chunk place))) (sym rises) (subst (IsValid ((layout_of 1).first_granule + rise) (granules_in words + rise)) (sym here) valid))
         (λ (past : (layout_of 1).chunk_entries ≤ place). absurd (some (is.no_entry chunk place small past below)))
         (cases_lt place (layout_of 1).chunk_entries);
     packed = λ place later order below none. ⊎_elim
         (λ (less : later < (layout_of 1).chunk_entries).
         let before : place < (layout_of 1).chunk_entries = omega (arith, order, less) in
-        let was : word_at words (entry_word 1 chunk place) ≡ 0 = no_word (word_at words (entry_word 1 chunk place)) (sym (entry_now chunk place small formed before) ∙ none) in
+        let was : word_at words (entry_slot 1 chunk place) ≡ 0 = no_word (word_at words (entry_slot 1 chunk place)) (sym (entry_now chunk place small formed before) ∙ none) in
         entry_now chunk later small formed less ∙ entry_none _ (formed.packed place later order less was))
         (λ (past : (layout_of 1).chunk_entries ≤ later). is.no_entry chunk later small past below)
         (cases_lt later (layout_of 1).chunk_entries);

@@ -5,17 +5,10 @@ use Rattle.std.proofs.lemmas.List.{get_or-append_right, get_or-drop, take-append
 use Rattle.std.proofs.Math.Seq.{take-length}
 use Rattle.std.proofs.lemmas.Nat.{mul-le}
 use Rattle.pmem_lines.specs.Words.{word_at, AreZeros}
-use Rattle.pool_layout.specs.declared.header.PoolHeader.{PoolHeader}
-use Rattle.pool_layout.specs.declared.layout.Layout.{Layout}
+use Rattle.image_raise.proofs.Common.{PoolHeader, Layout, text_word, fields_word, directory_word, root_word, wal_word, log_start, entry_slot, heap_word, fields_of, version_in, granules_in, IsPoolHeader, IsHeader, first_row, second_row, second_version, wal_lines, entry_slot-low, entry_slot-high, entry_slot-same, log_start-low, header_in}
 use Rattle.pool_layout.specs.Layout.{layout_of, all_granules}
-use Rattle.pool_layout.specs.Places.{text_word, fields_word, directory_word, root_word, wal_word, log_word, entry_word, heap_word}
-use Rattle.pool_layout.specs.Header.{fields_of, version_in, granules_in, IsPoolHeader, IsHeader}
-use Rattle.pool_layout.proofs.Layouts.{first_row, second_row, second_version}
 use Rattle.pool_layout.proofs.Headers.{fields_of-header_word, header_fits}
-use Rattle.image_tables.specs.Tables.{wal_lines}
 use Rattle.image_tables.proofs.Stores.{few_lines}
-use Rattle.image_tables.proofs.Places.{entry_word-low, entry_word-high, entry_word-same, log_word-low}
-use Rattle.heap_check.specs.Image.{header_in}
 use Rattle.image_raise.specs.Rise.{rise, raised_at, raised_header}
 use Rattle.image_raise.specs.Front.{IsRaisedWord, IsFilledFront}
 use Rattle.image_raise.proofs.Rows.{heap_rises, more_roots, fits_now, roots_end, root_low, log_low}
@@ -31,8 +24,8 @@ pub record IsRaisedWords (words new : List ℕ) : Type 0 where
   pub wal : (line : ℕ) → line < wal_lines → word_at new (wal_word line) ≡ 0
   pub root : (root : ℕ) → root < (layout_of 1).roots → word_at new (root_word root) ≡ raised_at rise (word_at words (root_word root))
   pub no_root : (root : ℕ) → (layout_of 1).roots ≤ root → root < (layout_of 2).roots → word_at new (root_word root) ≡ 0
-  pub entry : (chunk entry : ℕ) → chunk < 16 → entry < (layout_of 1).chunk_entries → IsRaisedWord (granules_in words) (word_at words (entry_word 1 chunk entry)) (word_at new (entry_word 2 chunk entry))
-  pub no_entry : (chunk entry : ℕ) → chunk < 16 → (layout_of 1).chunk_entries ≤ entry → entry < (layout_of 2).chunk_entries → word_at new (entry_word 2 chunk entry) ≡ 0
+  pub entry : (chunk entry : ℕ) → chunk < 16 → entry < (layout_of 1).chunk_entries → IsRaisedWord (granules_in words) (word_at words (entry_slot 1 chunk entry)) (word_at new (entry_slot 2 chunk entry))
+  pub no_entry : (chunk entry : ℕ) → chunk < 16 → (layout_of 1).chunk_entries ≤ entry → entry < (layout_of 2).chunk_entries → word_at new (entry_slot 2 chunk entry) ≡ 0
   pub heap : (k : ℕ) → heap_word 1 ≤ k → word_at new (k + 2048 * rise) ≡ word_at words k
 
 -- a pool of version 1 has room in version 2
@@ -56,14 +49,14 @@ module _ {words : List ℕ} {header : PoolHeader} {blank front : List ℕ} (none
   long = are.log.size ∙ are.roots.size ∙ are.line.size ∙ size
 
   -- a word that is not of the log
-  before_log : (k : ℕ) → k < log_word 2 → word_at front k ≡ word_at are.rooted k
-  before_log k low = are.log.rest k (λ chunk entry small less same. omega (arith, low, same, entry_word-low 2 chunk entry))
+  before_log : (k : ℕ) → k < log_start 2 → word_at front k ≡ word_at are.rooted k
+  before_log k low = are.log.rest k (λ chunk entry small less same. omega (arith, low, same, entry_slot-low 2 chunk entry))
 
   line_word : (k : ℕ) → k < 3 → word_at front k ≡ word_at are.headed k
-  line_word k low = before_log k (omega (arith, low, log_word-low 2)) ∙ are.roots.rest k (inl (omega (arith, low)))
+  line_word k low = before_log k (omega (arith, low, log_start-low 2)) ∙ are.roots.rest k (inl (omega (arith, low)))
 
   -- a word that no step names
-  pub untouched : (k : ℕ) → 3 ≤ k → (k < 2048) ⊎ (root_word (layout_of 1).roots ≤ k) → ((chunk entry : ℕ) → chunk < 16 → entry < (layout_of 1).chunk_entries → k ≢ entry_word 2 chunk entry) → word_at front k ≡ 0
+  pub untouched : (k : ℕ) → 3 ≤ k → (k < 2048) ⊎ (root_word (layout_of 1).roots ≤ k) → ((chunk entry : ℕ) → chunk < 16 → entry < (layout_of 1).chunk_entries → k ≢ entry_slot 2 chunk entry) → word_at front k ≡ 0
   untouched k behind apart unnamed =
       are.log.rest k unnamed
       ∙ are.roots.rest k (⊎_elim (λ (low : k < 2048). inl (omega (arith, low))) (λ (high : root_word (layout_of 1).roots ≤ k). inr high) apart)
@@ -77,7 +70,7 @@ module _ {words : List ℕ} {header : PoolHeader} {blank front : List ℕ} (none
     unfolding word_at
     front_word k below = get_or-append front (drop (heap_word 1) words) 0 k (omega (arith, below, long))
 
-    low_word : (k : ℕ) → k < log_word 2 → word_at new k ≡ word_at front k
+    low_word : (k : ℕ) → k < log_start 2 → word_at new k ≡ word_at front k
     low_word k low = front_word k (omega (arith, low, log_low 2))
 
     heap_now : (k : ℕ) → heap_word 1 ≤ k → word_at new (k + 2048 * rise) ≡ word_at words k
@@ -93,8 +86,8 @@ module _ {words : List ℕ} {header : PoolHeader} {blank front : List ℕ} (none
     pub header_now : IsHeader new (raised_header header)
     header_now = record {
       whole = omega (arith, size_now);
-      text = low_word text_word (omega (arith, log_word-low 2)) ∙ line_word text_word (omega arith) ∙ are.line.text;
-      word = low_word fields_word (omega (arith, log_word-low 2)) ∙ line_word fields_word (omega arith) ∙ are.line.fields;
+      text = low_word text_word (omega (arith, log_start-low 2)) ∙ line_word text_word (omega arith) ∙ are.line.text;
+      word = low_word fields_word (omega (arith, log_start-low 2)) ∙ line_word fields_word (omega arith) ∙ are.line.fields;
       valid = raised_valid header valid version;
     }
 
@@ -107,25 +100,25 @@ module _ {words : List ℕ} {header : PoolHeader} {blank front : List ℕ} (none
       version = ap (λ (h : PoolHeader). h.version) header_is;
       granules = ap (λ (h : PoolHeader). h.granules) header_is ∙ ap (λ n. n + rise) granules;
       size = size_now;
-      directory = low_word directory_word (omega (arith, log_word-low 2)) ∙ line_word directory_word (omega arith) ∙ are.line.directory;
+      directory = low_word directory_word (omega (arith, log_start-low 2)) ∙ line_word directory_word (omega arith) ∙ are.line.directory;
       wal = λ line below.
           let low : wal_word line < 2048 = omega (arith, below, few_lines) in
-          low_word (wal_word line) (omega (arith, low, log_word-low 2))
-          ∙ untouched (wal_word line) (omega arith) (inl low) (λ chunk entry small less same. omega (arith, low, same, entry_word-low 2 chunk entry, log_word-low 2));
+          low_word (wal_word line) (omega (arith, low, log_start-low 2))
+          ∙ untouched (wal_word line) (omega arith) (inl low) (λ chunk entry small less same. omega (arith, low, same, entry_slot-low 2 chunk entry, log_start-low 2));
       root = λ root below.
           let low = root_low 2 root (omega (arith, below, more_roots)) in
           low_word (root_word root) low ∙ before_log (root_word root) low ∙ are.roots.each root below;
       no_root = λ root past below.
           let low = root_low 2 root below in
           low_word (root_word root) low
-          ∙ untouched (root_word root) (omega arith) (inr (omega (arith, past))) (λ chunk entry small less same. omega (arith, low, same, entry_word-low 2 chunk entry));
+          ∙ untouched (root_word root) (omega arith) (inr (omega (arith, past))) (λ chunk entry small less same. omega (arith, low, same, entry_slot-low 2 chunk entry));
       entry = λ chunk entry small less.
-          subst (λ n. IsRaisedWord n (word_at words (entry_word 1 chunk entry)) (word_at new (entry_word 2 chunk entry))) granules
-          (subst (IsRaisedWord header.granules (word_at words (entry_word 1 chunk entry))) (sym (front_word (entry_word 2 chunk entry) (entry_word-high 2 chunk entry small (fits_now entry less)))) (are.log.each chunk entry small less));
+          subst (λ n. IsRaisedWord n (word_at words (entry_slot 1 chunk entry)) (word_at new (entry_slot 2 chunk entry))) granules
+          (subst (IsRaisedWord header.granules (word_at words (entry_slot 1 chunk entry))) (sym (front_word (entry_slot 2 chunk entry) (entry_slot-high 2 chunk entry small (fits_now entry less)))) (are.log.each chunk entry small less));
       no_entry = λ chunk entry small past less.
-          front_word (entry_word 2 chunk entry) (entry_word-high 2 chunk entry small less)
-          ∙ untouched (entry_word 2 chunk entry) (omega (arith, entry_word-low 2 chunk entry, log_word-low 2)) (inr (omega (arith, entry_word-low 2 chunk entry, more_roots, roots_end 2)))
-          (λ other place low below same. omega (arith, past, below, (entry_word-same 2 chunk other entry place less (fits_now place below) same).1));
+          front_word (entry_slot 2 chunk entry) (entry_slot-high 2 chunk entry small less)
+          ∙ untouched (entry_slot 2 chunk entry) (omega (arith, entry_slot-low 2 chunk entry, log_start-low 2)) (inr (omega (arith, entry_slot-low 2 chunk entry, more_roots, roots_end 2)))
+          (λ other place low below same. omega (arith, past, below, (entry_slot-same 2 chunk other entry place less (fits_now place below) same).1));
       heap = heap_now;
     }
 

@@ -1,10 +1,6 @@
 -- The numbers of the two versions, side by side.
 use Rattle.std.proofs.Common.{◌≡◌, ◌<◌, ◌≤◌, ◌+◌, ◌*◌, ℕ, ap, arith}
-use Rattle.pool_layout.specs.declared.layout.Layout.{Layout}
-use Rattle.pool_layout.specs.Layout.{layout_of}
-use Rattle.pool_layout.specs.Places.{root_word, log_word, heap_word}
-use Rattle.pool_layout.proofs.Layouts.{first_row, second_row, layout_rules}
-use Rattle.image_tables.proofs.Places.{log_word-low}
+use Rattle.image_raise.proofs.Common.{Layout, layout_of, root_word, log_start, heap_word, first_row, second_row, layout_rules, log_start-low}
 use Rattle.image_raise.specs.Rise.{rise}
 
 -- the heap of version 2 begins so much higher
@@ -26,14 +22,14 @@ pub fits_now : (entry : ℕ) → entry < (layout_of 1).chunk_entries → entry <
 fits_now entry below = omega (arith, below, more_entries)
 
 -- roots lie before the log
-pub roots_end : (version : ℕ) → root_word (layout_of version).roots ≤ log_word version
+pub roots_end : (version : ℕ) → root_word (layout_of version).roots ≤ log_start version
 roots_end version = let rules = layout_rules version in omega (arith, rules.roots, rules.log)
 
-pub root_low : (version root : ℕ) → root < (layout_of version).roots → root_word root < log_word version
+pub root_low : (version root : ℕ) → root < (layout_of version).roots → root_word root < log_start version
 root_low version root below = omega (arith, roots_end version, below)
 
 -- they and the log lie before the heap
-pub log_low : (version : ℕ) → log_word version ≤ heap_word version
+pub log_low : (version : ℕ) → log_start version ≤ heap_word version
 log_low version = let rules = layout_rules version in omega (arith, rules.heap, rules.log, rules.chunk)
 
 pub root_high : (version root : ℕ) → root < (layout_of version).roots → root_word root < heap_word version
@@ -41,4 +37,4 @@ root_high version root below = omega (arith, root_low version root below, log_lo
 
 -- there is a header line before the heap
 pub front_some : (version : ℕ) → 2048 < heap_word version
-front_some version = omega (arith, log_word-low version, log_low version)
+front_some version = omega (arith, log_start-low version, log_low version)

@@ -1,13 +1,6 @@
 -- The words before the heap, one step further.
 use Rattle.std.proofs.Common.{◌≡◌, ◌≢◌, ◌⊎◌, inl, inr, ⊎_elim, ℕ, ◌+◌, ◌<◌, ◌≤◌, List, length, refl, sym, ap, subst, ◌∙◌, arith}
-use Rattle.std.proofs.lemmas.Bool.{cases_lt}
-use Rattle.pmem_lines.specs.Words.{word_at, put_word}
-use Rattle.pmem_lines.proofs.Words.{length-put_word, word_at-put_same, word_at-put_other}
-use Rattle.pool_layout.specs.Layout.{layout_of}
-use Rattle.pool_layout.specs.declared.header.PoolHeader.{PoolHeader}
-use Rattle.pool_layout.specs.Places.{text_word, fields_word, directory_word, root_word, entry_word}
-use Rattle.pool_layout.specs.Header.{header_text, header_word}
-use Rattle.image_tables.proofs.Places.{entry_word-same}
+use Rattle.image_raise.proofs.Common.{cases_lt, word_at, put_word, length-put_word, word_at-put_same, word_at-put_other, layout_of, PoolHeader, text_word, fields_word, directory_word, root_word, entry_slot, header_text, header_word, entry_slot-same}
 use Rattle.image_raise.specs.Rise.{rise, raised_at, raised_header}
 use Rattle.image_raise.specs.Front.{IsRaisedWord, HasRaisedHeader, HasRaisedRoots, HasRaisedEntries, HasRaisedChunks}
 use Rattle.image_raise.proofs.Rows.{fits_now}
@@ -57,18 +50,18 @@ roots_more words old front root word has inside is = record {
 pub no_entries : (words old : List ℕ) (granules chunk : ℕ) → HasRaisedEntries words granules chunk 0 old old
 no_entries words old granules chunk = record { size = refl; each = λ entry below. absurd (omega (arith, below)); rest = λ k apart. refl }
 
-pub entries_more : (words old front : List ℕ) (granules chunk entry word : ℕ) → HasRaisedEntries words granules chunk entry old front → entry < (layout_of 1).chunk_entries → entry_word 2 chunk entry < length front →
-    IsRaisedWord granules (word_at words (entry_word 1 chunk entry)) word → HasRaisedEntries words granules chunk (entry + 1) old (put_word front (entry_word 2 chunk entry) word)
+pub entries_more : (words old front : List ℕ) (granules chunk entry word : ℕ) → HasRaisedEntries words granules chunk entry old front → entry < (layout_of 1).chunk_entries → entry_slot 2 chunk entry < length front →
+    IsRaisedWord granules (word_at words (entry_slot 1 chunk entry)) word → HasRaisedEntries words granules chunk (entry + 1) old (put_word front (entry_slot 2 chunk entry) word)
 entries_more words old front granules chunk entry word has less inside is = record {
-  size = length-put_word front (entry_word 2 chunk entry) word ∙ has.size;
+  size = length-put_word front (entry_slot 2 chunk entry) word ∙ has.size;
   each = λ other below. ⊎_elim
       (λ (low : other < entry).
-      let apart : entry_word 2 chunk other ≢ entry_word 2 chunk entry = λ same. omega (arith, low, (entry_word-same 2 chunk chunk other entry (fits_now other (omega (arith, low, less))) (fits_now entry less) same).1) in
-      subst (IsRaisedWord granules (word_at words (entry_word 1 chunk other))) (sym (word_at-put_other front (entry_word 2 chunk entry) (entry_word 2 chunk other) word apart)) (has.each other low))
-      (λ (last : other ≡ entry). subst (λ e. IsRaisedWord granules (word_at words (entry_word 1 chunk e)) (word_at (put_word front (entry_word 2 chunk entry) word) (entry_word 2 chunk e))) (sym last)
-      (subst (IsRaisedWord granules (word_at words (entry_word 1 chunk entry))) (sym (word_at-put_same front (entry_word 2 chunk entry) (entry_word 2 chunk entry) word refl inside)) is))
+      let apart : entry_slot 2 chunk other ≢ entry_slot 2 chunk entry = λ same. omega (arith, low, (entry_slot-same 2 chunk chunk other entry (fits_now other (omega (arith, low, less))) (fits_now entry less) same).1) in
+      subst (IsRaisedWord granules (word_at words (entry_slot 1 chunk other))) (sym (word_at-put_other front (entry_slot 2 chunk entry) (entry_slot 2 chunk other) word apart)) (has.each other low))
+      (λ (last : other ≡ entry). subst (λ e. IsRaisedWord granules (word_at words (entry_slot 1 chunk e)) (word_at (put_word front (entry_slot 2 chunk entry) word) (entry_slot 2 chunk e))) (sym last)
+      (subst (IsRaisedWord granules (word_at words (entry_slot 1 chunk entry))) (sym (word_at-put_same front (entry_slot 2 chunk entry) (entry_slot 2 chunk entry) word refl inside)) is))
       (below_next other entry below);
-  rest = λ k apart. word_at-put_other front (entry_word 2 chunk entry) k word (apart entry (omega arith)) ∙ has.rest k (λ other below. apart other (omega (arith, below)));
+  rest = λ k apart. word_at-put_other front (entry_slot 2 chunk entry) k word (apart entry (omega arith)) ∙ has.rest k (λ other below. apart other (omega (arith, below)));
 }
 
 -- entries of the chunks
@@ -81,9 +74,9 @@ chunks_more words old front new granules chunk has step = record {
   size = step.size ∙ has.size;
   each = λ other entry below less. ⊎_elim
       (λ (low : other < chunk).
-      let apart : (e : ℕ) → e < (layout_of 1).chunk_entries → entry_word 2 other entry ≢ entry_word 2 chunk e = λ e small same. omega (arith, low, (entry_word-same 2 other chunk entry e (fits_now entry less) (fits_now e small) same).0) in
-      subst (IsRaisedWord granules (word_at words (entry_word 1 other entry))) (sym (step.rest (entry_word 2 other entry) apart)) (has.each other entry low less))
-      (λ (last : other ≡ chunk). subst (λ c. IsRaisedWord granules (word_at words (entry_word 1 c entry)) (word_at new (entry_word 2 c entry))) (sym last) (step.each entry less))
+      let apart : (e : ℕ) → e < (layout_of 1).chunk_entries → entry_slot 2 other entry ≢ entry_slot 2 chunk e = λ e small same. omega (arith, low, (entry_slot-same 2 other chunk entry e (fits_now entry less) (fits_now e small) same).0) in
+      subst (IsRaisedWord granules (word_at words (entry_slot 1 other entry))) (sym (step.rest (entry_slot 2 other entry) apart)) (has.each other entry low less))
+      (λ (last : other ≡ chunk). subst (λ c. IsRaisedWord granules (word_at words (entry_slot 1 c entry)) (word_at new (entry_slot 2 c entry))) (sym last) (step.each entry less))
       (below_next other chunk below);
   rest = λ k apart. step.rest k (λ entry less. apart chunk entry (omega arith) less) ∙ has.rest k (λ other entry below less. apart other entry (omega (arith, below)) less);
 }

@@ -1,23 +1,13 @@
 -- What raised words say, table by table, and that they have the form of an arena.
 use Rattle.std.proofs.Common.{◌≡◌, ◌≢◌, ⊎_elim, ◌&&◌, ℕ, zero, suc, ◌+◌, ◌-◌, ◌*◌, ◌/◌, ◌%◌, ◌^◌, ◌<◌, ◌≤◌, Bool, true, false, true≢false, cond, ltb, List, refl, sym, ap, subst, ◌∙◌, arith, None}
-use Rattle.std.proofs.lemmas.Bool.{cases_lt, cases_eq, and_parts}
-use Rattle.pmem_lines.specs.Words.{word_at}
-use Rattle.pool_layout.specs.declared.layout.Layout.{Layout}
-use Rattle.pool_layout.specs.Layout.{layout_of}
-use Rattle.pool_layout.proofs.Layouts.{first_row}
-use Rattle.pool_layout.specs.Places.{root_word, wal_word, granule_word, line_place}
-use Rattle.pool_layout.specs.Header.{version_in, granules_in}
+use Rattle.image_raise.proofs.Common.{cases_lt, cases_eq, and_parts, word_at, Layout, layout_of, first_row, root_word, wal_word, granule_word, line_place, version_in, granules_in, extent_at, bounds_of, HasSlabHeader, IsFormed, IsExactImage, entry_at, sizes_of}
 use Rattle.image_tables.specs.Forms.{HasStateBits, IsIndexWord}
 use Rattle.image_tables.specs.Tables.{Tables, tables_of, large_of, is_slab_of, is_slab, state_word, index_word, bit_at, live_at, number_at, bit_of_word, state_field, entry_among, wal_lines}
-use Rattle.image_tables.specs.Extents.{extent_at}
 use Rattle.image_tables.proofs.Tables.{root_table, root_table-past}
 use Rattle.image_tables.proofs.Stores.{HasNoMove-closed}
-use Rattle.heap_check.specs.Image.{bounds_of, HasSlabHeader, IsFormed, IsExactImage}
-use Rattle.heap_check.specs.Heap.{entry_at}
 use Rattle.heap_check.proofs.Claims.{plain_size, IsClaim-word}
 use Rattle.heap_check.proofs.Within.{IsWithin-claim}
 use Rattle.heap_check.proofs.Forms.{AreSlabsInHeap-sound}
-use Rattle.heap_check.proofs.Sizes.{sizes_of}
 use Rattle.image_raise.specs.Rise.{rise, raised_at}
 use Rattle.image_raise.specs.Front.{HasSmallRoots}
 use Rattle.image_raise.proofs.Heights.{IsRaised, IsWider}
@@ -119,13 +109,15 @@ module _ {words new : List ℕ} (image : IsExactImage words) (version : version_
     none_slab = none_slab;
     large = λ s. ap large_of (extent s);
     slab = slab_at;
-    kind = λ s. field_now s 0;
-    class = λ s. field_now s 8;
-    old = λ s. field_now s 16;
-    index_count = λ s. field_now s 24;
-    bit = bit_now;
-    live = live_now;
-    number = number_now;
+    header = λ s k. record {
+      kind = field_now s 0 k;
+      class = field_now s 8 k;
+      old = field_now s 16 k;
+      index_count = field_now s 24 k;
+      bit = λ i. bit_now s i k;
+      live = λ place. live_now s place k;
+      number = λ place. number_now s place k;
+    };
   }
 
   slab_header : (s : ℕ) → is_slab new s ≡ true → HasSlabHeader new s
@@ -169,7 +161,7 @@ module _ {words : List ℕ} (image : IsExactImage words) (version : version_in w
       (λ (some : held r ≢ 0).
       let unnamed = ap (λ e. entry_at e r) image.exact.closed in
       let within = IsWithin-claim image.exact.sound r (record { at = held r; size = plain_size (tables_of words) (held r) }) unnamed (IsClaim-word (tables_of words) r unnamed some) in
-      let lies = image.exact.sound.starts within.0 (omega (arith, within.1.low, within.1.high, within.1.some)) in
+      let lies = image.exact.sound.extents.starts within.0 (omega (arith, within.1.low, within.1.high, within.1.some)) in
       omega (arith, within.1.high, within.1.some, lies.1, (sizes_of words image.formed).most))
       (cases_eq (held r) 0)
 

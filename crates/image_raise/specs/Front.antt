@@ -4,7 +4,7 @@ use Rattle.std.specs.Prelude.{◌≡◌, ◌≢◌, ◌⊎◌, ℕ, ◌^◌, ◌
 use Rattle.pmem_lines.specs.Words.{word_at}
 use Rattle.pool_layout.specs.declared.header.PoolHeader.{PoolHeader}
 use Rattle.pool_layout.specs.Layout.{layout_of}
-use Rattle.pool_layout.specs.Places.{text_word, fields_word, directory_word, root_word, entry_word}
+use Rattle.pool_layout.specs.Places.{text_word, fields_word, directory_word, root_word, entry_slot}
 use Rattle.pool_layout.specs.Header.{header_text, header_word}
 use Rattle.book_log.specs.declared.entry.LogEntry.{LogEntry}
 use Rattle.book_log.specs.Entry.{log_word, IsEntryWord, IsNoEntryWord}
@@ -36,14 +36,14 @@ pub record HasRaisedRoots (words : List ℕ) (count : ℕ) (old new : List ℕ) 
 -- the first so many entries of a chunk are raised, each at its place of version 2
 pub record HasRaisedEntries (words : List ℕ) (granules chunk count : ℕ) (old new : List ℕ) : Type 0 where
   pub size : length new ≡ length old
-  pub each : (entry : ℕ) → entry < count → IsRaisedWord granules (word_at words (entry_word 1 chunk entry)) (word_at new (entry_word 2 chunk entry))
-  pub rest : (k : ℕ) → ((entry : ℕ) → entry < count → k ≢ entry_word 2 chunk entry) → word_at new k ≡ word_at old k
+  pub each : (entry : ℕ) → entry < count → IsRaisedWord granules (word_at words (entry_slot 1 chunk entry)) (word_at new (entry_slot 2 chunk entry))
+  pub rest : (k : ℕ) → ((entry : ℕ) → entry < count → k ≢ entry_slot 2 chunk entry) → word_at new k ≡ word_at old k
 
 -- those of the first so many chunks are
 pub record HasRaisedChunks (words : List ℕ) (granules count : ℕ) (old new : List ℕ) : Type 0 where
   pub size : length new ≡ length old
-  pub each : (chunk entry : ℕ) → chunk < count → entry < (layout_of 1).chunk_entries → IsRaisedWord granules (word_at words (entry_word 1 chunk entry)) (word_at new (entry_word 2 chunk entry))
-  pub rest : (k : ℕ) → ((chunk entry : ℕ) → chunk < count → entry < (layout_of 1).chunk_entries → k ≢ entry_word 2 chunk entry) → word_at new k ≡ word_at old k
+  pub each : (chunk entry : ℕ) → chunk < count → entry < (layout_of 1).chunk_entries → IsRaisedWord granules (word_at words (entry_slot 1 chunk entry)) (word_at new (entry_slot 2 chunk entry))
+  pub rest : (k : ℕ) → ((chunk entry : ℕ) → chunk < count → entry < (layout_of 1).chunk_entries → k ≢ entry_slot 2 chunk entry) → word_at new k ≡ word_at old k
 
 -- the header line is put, then the roots are raised, and then the log
 pub record IsFilledFront (words : List ℕ) (header : PoolHeader) (old new : List ℕ) : Type 0 where

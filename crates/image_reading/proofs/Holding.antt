@@ -79,40 +79,40 @@ none_between start class at is_class other = record { none = λ number is. other
 
 -- what a slab holds
 
-pub held_of_bit : (t : Tables) (start at : ℕ) → t.slab start ≡ true → t.kind start ≢ 2 → HasBitAt t start at → IsHeldBy t start at
+pub held_of_bit : (t : Tables) (start at : ℕ) → t.slab start ≡ true → (t.header start).kind ≢ 2 → HasBitAt t start at → IsHeldBy t start at
 held_of_bit t start at slab read h = record {
-  range = slab_block start (t.class start) h.number;
+  range = slab_block start (t.header start).class h.number;
   holds = record { slab = slab; block = inl (record { number = h.number; below = h.below; read = read; set = h.set; is = refl }) };
   here = sym h.is;
 }
 
 pub held_of_old : (t : Tables) (start at : ℕ) → t.slab start ≡ true → HasOldAt t start at → IsHeldBy t start at
 held_of_old t start at slab h = record {
-  range = slab_block start (t.old start) (t.number start h.place);
+  range = slab_block start (t.header start).old ((t.header start).number h.place);
   holds = record { slab = slab; block = inr (record { place = h.place; below = h.below; live = h.live; is = refl }) };
   here = sym h.is;
 }
 
-pub held_parts : (t : Tables) (start at : ℕ) → IsHeldBy t start at → ((t.kind start ≢ 2) × HasBitAt t start at) ⊎ HasOldAt t start at
+pub held_parts : (t : Tables) (start at : ℕ) → IsHeldBy t start at → (((t.header start).kind ≢ 2) × HasBitAt t start at) ⊎ HasOldAt t start at
 held_parts t start at h = ⊎_elim
-    (λ (b : HoldsBit t start h.range). inl (b.read, record { number = b.number; below = b.below; set = b.set; is = sym h.here ∙ ap (λ (r : Range). r.at) b.is }))
-    (λ (o : HoldsOld t start h.range). inr (record { place = o.place; below = o.below; live = o.live; is = sym h.here ∙ ap (λ (r : Range). r.at) o.is }))
+    (λ (b : HoldsBit (t.header start) start h.range). inl (b.read, record { number = b.number; below = b.below; set = b.set; is = sym h.here ∙ ap (λ (r : Range). r.at) b.is }))
+    (λ (o : HoldsOld (t.header start) start h.range). inr (record { place = o.place; below = o.below; live = o.live; is = sym h.here ∙ ap (λ (r : Range). r.at) o.is }))
     h.holds.block
 
 module _ (t : Tables) (start at : ℕ) (slab : t.slab start ≡ true) where
-  pub held_normal : (r : Bool) → t.kind start ≡ 1 → t.index_count start ≡ 0 → (IsTrue r ↔ HasBitAt t start at) → (IsTrue r ↔ IsHeldBy t start at)
+  pub held_normal : (r : Bool) → (t.header start).kind ≡ 1 → (t.header start).index_count ≡ 0 → (IsTrue r ↔ HasBitAt t start at) → (IsTrue r ↔ IsHeldBy t start at)
   held_normal r kind none says = (
     λ e. held_of_bit t start at slab (λ two. omega (arith, kind, two)) (says.0 e),
     λ h. ⊎_elim (λ b. says.1 b.1) (λ o. absurd (omega (arith, o.below, none))) (held_parts t start at h),
   )
 
-  pub held_morphing : (r : Bool) → t.kind start ≡ 2 → (IsTrue r ↔ HasOldAt t start at) → (IsTrue r ↔ IsHeldBy t start at)
+  pub held_morphing : (r : Bool) → (t.header start).kind ≡ 2 → (IsTrue r ↔ HasOldAt t start at) → (IsTrue r ↔ IsHeldBy t start at)
   held_morphing r kind says = (
     λ e. held_of_old t start at slab (says.0 e),
     λ h. ⊎_elim (λ b. absurd (b.0 kind)) (λ o. says.1 o) (held_parts t start at h),
   )
 
-  pub held_morphed-bit : (r : Bool) → t.kind start ≡ 3 → (IsTrue r ↔ HasBitAt t start at) → r ≡ true → (IsTrue true ↔ IsHeldBy t start at)
+  pub held_morphed-bit : (r : Bool) → (t.header start).kind ≡ 3 → (IsTrue r ↔ HasBitAt t start at) → r ≡ true → (IsTrue true ↔ IsHeldBy t start at)
   held_morphed-bit r kind says is = (λ _. held_of_bit t start at slab (λ two. omega (arith, kind, two)) (says.0 is), λ _. refl)
 
   pub held_morphed-old : (r s : Bool) → (IsTrue r ↔ HasBitAt t start at) → (IsTrue s ↔ HasOldAt t start at) → r ≡ false → (IsTrue s ↔ IsHeldBy t start at)
@@ -121,16 +121,16 @@ module _ (t : Tables) (start at : ℕ) (slab : t.slab start ≡ true) where
     λ h. ⊎_elim (λ b. absurd (true≢false (sym (bits.1 b.1) ∙ not))) (λ o. olds.1 o) (held_parts t start at h),
   )
 
-pub bit_by : (t : Tables) (start class at number : ℕ) (r : Bool) → t.class start ≡ class → class < 36 → IsNumberAt start class at number → r ≡ t.bit start number → (IsTrue r ↔ HasBitAt t start at)
+pub bit_by : (t : Tables) (start class at number : ℕ) (r : Bool) → (t.header start).class ≡ class → class < 36 → IsNumberAt start class at number → r ≡ (t.header start).bit number → (IsTrue r ↔ HasBitAt t start at)
 bit_by t start class at number r is is_class n read = (
   λ e. record { number = number; below = subst (λ c. number < class_capacity c) (sym is) n.below; set = sym read ∙ e; is = n.is ∙ ap (λ c. (slab_block start c number).at) (sym is) },
   λ h.
       let other : IsNumberAt start class at h.number = record { below = subst (λ c. h.number < class_capacity c) is h.below; is = h.is ∙ ap (λ c. (slab_block start c h.number).at) is } in
       let same : number ≡ h.number = sym (number_by start class at number is_class n) ∙ number_by start class at h.number is_class other in
-      read ∙ ap (t.bit start) same ∙ h.set,
+      read ∙ ap (t.header start).bit same ∙ h.set,
 )
 
-pub no_bit_by : (t : Tables) (start class at : ℕ) → t.class start ≡ class → HasNoNumber start class at → (IsTrue false ↔ HasBitAt t start at)
+pub no_bit_by : (t : Tables) (start class at : ℕ) → (t.header start).class ≡ class → HasNoNumber start class at → (IsTrue false ↔ HasBitAt t start at)
 no_bit_by t start class at is none = (
   λ e. absurd (false≢true e),
   λ h. absurd (none.none h.number (record { below = subst (λ c. h.number < class_capacity c) is h.below; is = h.is ∙ ap (λ c. (slab_block start c h.number).at) is })),
@@ -144,14 +144,14 @@ none_other start class at base size is_class is_base is_size other = none_betwee
 pub held_near : (words : List ℕ) (at : ℕ) → ((start : ℕ) → is_slab words start ≡ true → IsGoodSlab words start) → (start : ℕ) → IsHeldBy (tables_of words) start at → (start ≤ at / 16384) × (at / 16384 < start + 4)
 held_near words at good start h =
     let t = tables_of words in
-    let is : IsValidSlab t start = (good start (sym (slab_table words start) ∙ h.holds.slab)).slab in
+    let is : IsValidSlab (t.header start) = (good start (sym (slab_table words start) ∙ h.holds.slab)).slab in
     let lies : LiesIn start h.range = ⊎_elim
-    (λ (b : HoldsBit t start h.range). LiesIn-block start (t.class start) h.range (record { number = b.number; within = b.below; is = b.is }))
-    (λ (o : HoldsOld t start h.range). LiesIn-block start (t.old start) h.range (record { number = t.number start o.place; within = is.small o.place o.below; is = o.is }))
+    (λ (b : HoldsBit (t.header start) start h.range). LiesIn-block start (t.header start).class h.range (record { number = b.number; within = b.below; is = b.is }))
+    (λ (o : HoldsOld (t.header start) start h.range). LiesIn-block start (t.header start).old h.range (record { number = (t.header start).number o.place; within = is.small o.place o.below; is = o.is }))
     h.holds.block in
     let size : 0 < h.range.size = ⊎_elim
-    (λ (b : HoldsBit t start h.range). omega (arith, ap (λ (r : Range). r.size) b.is, class_size-least (t.class start) is.state.is_class))
-    (λ (o : HoldsOld t start h.range). omega (arith, ap (λ (r : Range). r.size) o.is, class_size-least (t.old start) is.state.is_old_class))
+    (λ (b : HoldsBit (t.header start) start h.range). omega (arith, ap (λ (r : Range). r.size) b.is, class_size-least (t.header start).class is.state.is_class))
+    (λ (o : HoldsOld (t.header start) start h.range). omega (arith, ap (λ (r : Range). r.size) o.is, class_size-least (t.header start).old is.state.is_old_class))
     h.holds.block in
     (omega (arith, lies.low, h.here), omega (arith, lies.high, size, h.here))
 

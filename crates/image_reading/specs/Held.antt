@@ -17,15 +17,15 @@ pub record IsHeldBy (t : Tables) (start at : ℕ) : Type 0 where
 -- the block of a set bit, and of a live index entry, is there
 pub record HasBitAt (t : Tables) (start at : ℕ) : Type 0 where
   pub number : ℕ
-  pub below : number < class_capacity (t.class start)
-  pub set : t.bit start number ≡ true
-  pub is : at ≡ (slab_block start (t.class start) number).at
+  pub below : number < class_capacity (t.header start).class
+  pub set : (t.header start).bit number ≡ true
+  pub is : at ≡ (slab_block start (t.header start).class number).at
 
 pub record HasOldAt (t : Tables) (start at : ℕ) : Type 0 where
   pub place : ℕ
-  pub below : place < t.index_count start
-  pub live : t.live start place ≡ true
-  pub is : at ≡ (slab_block start (t.old start) (t.number start place)).at
+  pub below : place < (t.header start).index_count
+  pub live : (t.header start).live place ≡ true
+  pub is : at ≡ (slab_block start (t.header start).old ((t.header start).number place)).at
 
 -- it is the number of the block of a class at an address
 pub record IsNumberAt (start class at number : ℕ) : Type 0 where

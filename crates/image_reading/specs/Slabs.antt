@@ -14,12 +14,12 @@ pub record IsSlabAt (words : List ℕ) (start : ℕ) : Type 0 where
 
 -- the tables say the same of a slab
 pub record IsSlabOf (t : Tables) (slab : Slab) : Type 0 where
-  pub kind : t.kind slab.start ≡ kind_of slab.state
-  pub class : t.class slab.start ≡ class_of slab.state
-  pub old : t.old slab.start ≡ old_of slab.state
-  pub entries : t.index_count slab.start ≡ entries_of slab.state
+  pub kind : (t.header slab.start).kind ≡ kind_of slab.state
+  pub class : (t.header slab.start).class ≡ class_of slab.state
+  pub old : (t.header slab.start).old ≡ old_of slab.state
+  pub entries : (t.header slab.start).index_count ≡ entries_of slab.state
   pub valid : IsValidState slab.state
-  pub numbers : (place : ℕ) → place < t.index_count slab.start → t.number slab.start place < class_capacity (t.old slab.start)
+  pub numbers : (place : ℕ) → place < (t.header slab.start).index_count → (t.header slab.start).number place < class_capacity (t.header slab.start).old
 
 -- a slab that was read
 pub record IsRead (words : List ℕ) (slab : Slab) : Type 0 where

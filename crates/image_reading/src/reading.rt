@@ -73,7 +73,7 @@ pub fn bit_of(word: u64, k: u32) -> bool
 pub fn bit_at(words: &[u64], start: u32, i: u32) -> bool
     requires slab { IsSlabAt words.now start }
     requires block { i < 4096 }
-    ensures { result ≡ (tables_of words.now).bit start i }
+    ensures { result ≡ ((tables_of words.now).header start).bit i }
 {
     let (line, bit) = bit_place(i);
     let word = word_at(words, slab_header_at(granule_at(start), line, bit / 64));
@@ -84,7 +84,7 @@ pub fn bit_at(words: &[u64], start: u32, i: u32) -> bool
 pub fn live_at(words: &[u64], start: u32, place: u32) -> bool
     requires slab { IsSlabAt words.now start }
     requires place { place < 64 }
-    ensures { result ≡ (tables_of words.now).live start place }
+    ensures { result ≡ ((tables_of words.now).header start).live place }
 {
     word_at(words, index_at(granule_at(start), place)) % 2 == 1
 }
@@ -93,7 +93,7 @@ pub fn live_at(words: &[u64], start: u32, place: u32) -> bool
 pub fn number_at(words: &[u64], start: u32, place: u32) -> u32
     requires slab { IsSlabAt words.now start }
     requires place { place < 64 }
-    ensures { result ≡ (tables_of words.now).number start place }
+    ensures { result ≡ ((tables_of words.now).header start).number place }
 {
     ((word_at(words, index_at(granule_at(start), place)) >> 16) % 65536) as u32
 }

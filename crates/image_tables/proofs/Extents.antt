@@ -3,7 +3,7 @@ use Rattle.std.proofs.Common.{◌≡◌, ◌≢◌, ◌++◌, ℕ, List, [], ◌
 use Rattle.std.specs.List.{All}
 use Rattle.std.proofs.lemmas.Bool.{eq-eqb, ne_eqb, cond-true, cond-false}
 use Rattle.pmem_lines.specs.Words.{word_at, put_word}
-use Rattle.pool_layout.specs.Places.{directory_word, entry_word}
+use Rattle.pool_layout.specs.Places.{directory_word, entry_slot}
 use Rattle.pool_layout.specs.Header.{version_in}
 use Rattle.image_tables.specs.declared.extent.Extent.{Extent}
 use Rattle.image_tables.specs.Log.{active_chunks, chunk_log, log_of}
@@ -39,7 +39,7 @@ extent_at-inactive words new chunk start inactive same = ap (λ log. extent_behi
 
 -- a store of an entry at the end of the log
 pub extent_at-appended : (words before : List ℕ) (chunk entry v start : ℕ) → IsFront words before chunk entry → v ≢ 0 →
-    extent_at (put_word words (entry_word (version_in words) chunk entry) v) start ≡ extent_after v start (extent_at words start)
+    extent_at (put_word words (entry_slot (version_in words) chunk entry) v) start ≡ extent_after v start (extent_at words start)
 unfolding extent_at
 extent_at-appended words before chunk entry v start front some =
     ap (λ log. extent_behind log start None) (log_of-appended words before chunk entry v front some)

@@ -2,7 +2,7 @@
 use Rattle.std.proofs.Common.{◌≡◌, ◌<◌, ◌+◌, ◌*◌, ◌/◌, ◌%◌, ℕ, sym, ap, ◌∙◌, arith}
 use Rattle.std.proofs.lemmas.Nat.{same_from_place, div_below, mod_below, div-add-mod', mul-add-lt}
 use Rattle.pool_layout.specs.Layout.{layout_of}
-use Rattle.pool_layout.specs.Places.{entry_lines, entry_place, log_word, entry_word, heap_word}
+use Rattle.pool_layout.specs.Places.{entry_lines, entry_place, log_start, entry_slot, heap_word}
 use Rattle.pool_layout.proofs.Layouts.{layout_rules}
 
 -- how many words a chunk has, and how many lines of them have entries
@@ -36,26 +36,26 @@ entry_place-same version e d p q same =
     sym (div-add-mod' e lines) ∙ ap (λ x. x * lines + e % lines) place.1 ∙ ap (λ x. d / lines * lines + x) place.0 ∙ div-add-mod' d lines
 
 -- an entry lies in the log
-pub entry_word-low : (version chunk entry : ℕ) → log_word version < entry_word version chunk entry
-entry_word-low version chunk entry = omega arith
+pub entry_slot-low : (version chunk entry : ℕ) → log_start version < entry_slot version chunk entry
+entry_slot-low version chunk entry = omega arith
 
 -- the log lies behind the roots
-pub log_word-low : (version : ℕ) → 2048 < log_word version
-log_word-low version =
+pub log_start-low : (version : ℕ) → 2048 < log_start version
+log_start-low version =
     let rules = layout_rules version in
     omega (arith, rules.roots, rules.some_root)
 
 -- an entry lies before the heap
-pub entry_word-high : (version chunk entry : ℕ) → chunk < 16 → entry < (layout_of version).chunk_entries → entry_word version chunk entry < heap_word version
-entry_word-high version chunk entry few below =
+pub entry_slot-high : (version chunk entry : ℕ) → chunk < 16 → entry < (layout_of version).chunk_entries → entry_slot version chunk entry < heap_word version
+entry_slot-high version chunk entry few below =
     let rules = layout_rules version in
     let words = (layout_of version).chunk_bytes / 8 in
     let within : chunk * words + entry_place version entry < words * 16 = mul-add-lt chunk words (entry_place version entry) 16 few (entry_place-within version entry below) in
     omega (arith, within, rules.heap, rules.chunk, rules.log)
 
 -- two entries of one place are one
-pub entry_word-same : (version c d e f : ℕ) → e < (layout_of version).chunk_entries → f < (layout_of version).chunk_entries → entry_word version c e ≡ entry_word version d f → (c ≡ d) × (e ≡ f)
-entry_word-same version c d e f p q same =
+pub entry_slot-same : (version c d e f : ℕ) → e < (layout_of version).chunk_entries → f < (layout_of version).chunk_entries → entry_slot version c e ≡ entry_slot version d f → (c ≡ d) × (e ≡ f)
+entry_slot-same version c d e f p q same =
     let words = (layout_of version).chunk_bytes / 8 in
     let place = same_from_place c (entry_place version e) d (entry_place version f) words (entry_place-within version e p) (entry_place-within version f q) (omega (arith, same)) in
     (place.0, entry_place-same version e f p q place.1)

@@ -4,16 +4,16 @@ use Rattle.std.proofs.lemmas.Bool.{cases_Bool, cases_eq, eqb-true, cond-true, co
 use Rattle.pmem_lines.specs.Words.{word_at, put_word}
 use Rattle.pmem_lines.proofs.Words.{word_at-put_same, word_at-put_other}
 use Rattle.pool_layout.specs.Layout.{layout_of}
-use Rattle.pool_layout.specs.Places.{text_word, fields_word, directory_word, root_word, wal_word, log_word, heap_word}
+use Rattle.pool_layout.specs.Places.{text_word, fields_word, directory_word, root_word, wal_word, log_start, heap_word}
 use Rattle.pool_layout.specs.Header.{version_field, granules_field, version_in, granules_in}
 use Rattle.pool_layout.proofs.Layouts.{layout_rules}
 use Rattle.image_tables.specs.Extents.{extent_at}
 use Rattle.image_tables.specs.declared.entry.WalEntry.{WalEntry}
 use Rattle.image_tables.specs.declared.entry.WalEntry.TheVariants.{Place, Move}
-use Rattle.image_tables.specs.Tables.{entry_of_word, entry_among, open_entry_in, held_of, root_in, wal_lines, large_of, is_slab_of, is_slab, AreSlabsInHeap, bit_of_word, state_word, bitmap_word, index_word, slab_bit, bit_at, live_at, number_at, state_field, tables_of}
+use Rattle.image_tables.specs.Tables.{entry_of_word, entry_among, open_entry_in, held_of, root_in, wal_lines, large_of, is_slab_of, is_slab, AreSlabsInHeap, bit_of_word, state_word, bitmap_word, index_word, slab_bit, bit_at, live_at, number_at, state_field, SlabHeader, slab_header, tables_of}
 use Rattle.image_tables.specs.Updates.{put_at, HasNoMove, with_root}
 use Rattle.image_tables.proofs.Updates.{put_at-same, put_at-other}
-use Rattle.image_tables.proofs.Places.{log_word-low}
+use Rattle.image_tables.proofs.Places.{log_start-low}
 use Rattle.image_tables.proofs.Logs.{IsOffLog}
 use Rattle.image_tables.proofs.Extents.{extent_at-elsewhere}
 
@@ -23,7 +23,7 @@ unfolding wal_lines
 few_lines = refl
 
 -- the roots lie before the log
-pub root_word-low : (version root : ℕ) → root < (layout_of version).roots → root_word root < log_word version
+pub root_word-low : (version root : ℕ) → root < (layout_of version).roots → root_word root < log_start version
 root_word-low version root below = let rules = layout_rules version in omega (arith, rules.roots, below)
 
 -- the write-ahead words lie before the roots
@@ -31,17 +31,17 @@ pub wal_word-low : (line : ℕ) → line < wal_lines → wal_word line < 2048
 wal_word-low line below = omega (arith, few_lines, below)
 
 -- the log lies before the heap
-pub log_word-high : (version : ℕ) → log_word version ≤ heap_word version
-log_word-high version = let rules = layout_rules version in omega (arith, rules.heap)
+pub log_start-high : (version : ℕ) → log_start version ≤ heap_word version
+log_start-high version = let rules = layout_rules version in omega (arith, rules.heap)
 
 -- Words that differ in the log and the directory alone.
 pub record IsSameOffLog (words new : List ℕ) : Type 0 where
   pub same_length : length new ≡ length words
-  pub others : (k : ℕ) → k ≢ directory_word → (k < log_word (version_in words)) ⊎ (heap_word (version_in words) ≤ k) → word_at new k ≡ word_at words k
+  pub others : (k : ℕ) → k ≢ directory_word → (k < log_start (version_in words)) ⊎ (heap_word (version_in words) ≤ k) → word_at new k ≡ word_at words k
 
 -- a word before the roots, but for the directory
 pub low-off_log : (words new : List ℕ) (k : ℕ) → IsSameOffLog words new → k ≢ directory_word → k < 2048 → word_at new k ≡ word_at words k
-low-off_log words new k same apart low = same.others k apart (inl (omega (arith, low, log_word-low (version_in words))))
+low-off_log words new k same apart low = same.others k apart (inl (omega (arith, low, log_start-low (version_in words))))
 
 pub text-off_log : (words new : List ℕ) → IsSameOffLog words new → word_at new text_word ≡ word_at words text_word
 text-off_log words new same = low-off_log words new text_word same (λ e. omega arith) (omega arith)
@@ -61,7 +61,7 @@ IsSameOffLog-back words new same = record {
   same_length = sym same.same_length;
   others = λ k apart outside.
       let version = version_in-off_log words new same in
-      sym (same.others k apart (⊎_elim (λ x. inl (omega (arith, x, ap log_word version))) (λ x. inr (omega (arith, x, ap heap_word version))) outside));
+      sym (same.others k apart (⊎_elim (λ x. inl (omega (arith, x, ap log_start version))) (λ x. inr (omega (arith, x, ap heap_word version))) outside));
 }
 
 pub root_word-off_log : (words new : List ℕ) (root : ℕ) → IsSameOffLog words new → root < (layout_of (version_in words)).roots → word_at new (root_word root) ≡ word_at words (root_word root)
@@ -73,7 +73,7 @@ wal_word-off_log words new line same below = low-off_log words new (wal_word lin
 pub heap_word-off_log : (words new : List ℕ) (k : ℕ) → IsSameOffLog words new → heap_word (version_in words) ≤ k → word_at new k ≡ word_at words k
 heap_word-off_log words new k same high =
     let version = version_in words in
-    same.others k (λ e. omega (arith, e, high, log_word-low version, log_word-high version)) (inr high)
+    same.others k (λ e. omega (arith, e, high, log_start-low version, log_start-high version)) (inr high)
 
 -- the words of a slab's header lie in the heap
 pub state_word-high : (words : List ℕ) (start : ℕ) → AreSlabsInHeap words → is_slab words start ≡ true → heap_word (version_in words) ≤ state_word start
@@ -98,12 +98,6 @@ and_same b c x y same value = ap (λ b. b && x) same ∙ ⊎_elim
     (λ no. ap (λ c. c && x) no ∙ sym (ap (λ c. c && y) no))
     (cases_Bool c)
 
--- the slabs, their state words and their index tables are the same
-pub record SameSlabs (words new : List ℕ) : Type 0 where
-  pub slab : (start : ℕ) → is_slab new start ≡ is_slab words start
-  pub state : (start : ℕ) → is_slab words start ≡ true → word_at new (state_word start) ≡ word_at words (state_word start)
-  pub index : (start place : ℕ) → is_slab words start ≡ true → place < 64 → word_at new (index_word start place) ≡ word_at words (index_word start place)
-
 -- what is read of the slab at a granule is the same where its words are
 pub state_field-same : (words new : List ℕ) (start bits : ℕ) → is_slab new start ≡ is_slab words start → (is_slab words start ≡ true → word_at new (state_word start) ≡ word_at words (state_word start)) →
     state_field new start bits ≡ state_field words start bits
@@ -127,6 +121,41 @@ bit_at-same words new start i slab same = and_same (is_slab new start) (is_slab 
 
 pub slab_bit-same : (words new : List ℕ) (start i : ℕ) → word_at new (bitmap_word start i) ≡ word_at words (bitmap_word start i) → slab_bit new start i ≡ slab_bit words start i
 slab_bit-same words new start i same = ap (λ w. bit_of_word w (i / 8 % 64)) same
+
+-- the header of a slab is the same but for its bits and its index table, where its state word is
+pub slab_header-by : (words new : List ℕ) (start : ℕ) (bits lives : ℕ → Bool) (numbers : ℕ → ℕ) → is_slab new start ≡ is_slab words start →
+    (is_slab words start ≡ true → word_at new (state_word start) ≡ word_at words (state_word start)) →
+    ((i : ℕ) → bit_at new start i ≡ bits i) → ((place : ℕ) → live_at new start place ≡ lives place) → ((place : ℕ) → number_at new start place ≡ numbers place) →
+    slab_header new start ≡ record (slab_header words start) { bit = bits; live = lives; number = numbers }
+slab_header-by words new start bits lives numbers slab state bit live number k = record {
+  kind = state_field-same words new start 0 slab state k;
+  class = state_field-same words new start 8 slab state k;
+  old = state_field-same words new start 16 slab state k;
+  index_count = state_field-same words new start 24 slab state k;
+  bit = λ i. bit i k;
+  live = λ place. live place k;
+  number = λ place. number place k;
+}
+
+-- it is the same where its words are
+pub slab_header-same : (words new : List ℕ) (start : ℕ) → is_slab new start ≡ is_slab words start →
+    (is_slab words start ≡ true → word_at new (state_word start) ≡ word_at words (state_word start)) →
+    ((i : ℕ) → is_slab words start ≡ true → i < 4096 → word_at new (bitmap_word start i) ≡ word_at words (bitmap_word start i)) →
+    ((place : ℕ) → is_slab words start ≡ true → place < 64 → word_at new (index_word start place) ≡ word_at words (index_word start place)) →
+    slab_header new start ≡ slab_header words start
+slab_header-same words new start slab state bitmap index =
+    slab_header-by words new start (bit_at words start) (live_at words start) (number_at words start) slab state
+    (λ i. bit_at-same words new start i slab (λ is below. slab_bit-same words new start i (bitmap i is below)))
+    (λ place. live_at-same words new start place slab (index place))
+    (λ place. number_at-same words new start place slab (index place))
+
+-- and so where the words of the heap are
+pub slab_header-heap : (words new : List ℕ) (start : ℕ) → AreSlabsInHeap words → is_slab new start ≡ is_slab words start →
+    ((k : ℕ) → heap_word (version_in words) ≤ k → word_at new k ≡ word_at words k) → slab_header new start ≡ slab_header words start
+slab_header-heap words new start slabs slab heap = slab_header-same words new start slab
+    (λ is. heap (state_word start) (state_word-high words start slabs is))
+    (λ i is below. heap (bitmap_word start i) (bitmap_word-high words start i slabs is))
+    (λ place is below. heap (index_word start place) (index_word-high words start place slabs is))
 
 -- the roots are the same where their words are
 pub roots-same : (words new : List ℕ) → version_in new ≡ version_in words → ((root : ℕ) → root < (layout_of (version_in words)).roots → word_at new (root_word root) ≡ word_at words (root_word root)) →
@@ -156,62 +185,46 @@ pub roots_plain : (words : List ℕ) → HasNoMove (tables_of words).open_entry 
 unfolding tables_of
 roots_plain words none = held_of-plain (open_entry_in words) (root_in words) none
 
--- the tables, where the slabs and their state words stay the same
-pub tables_by : (words new : List ℕ) (word : ℕ → ℕ) (entry : Option WalEntry) (large : ℕ → ℕ) (bit live : ℕ → ℕ → Bool) (number : ℕ → ℕ → ℕ) →
+-- the tables, where the slabs stay the same
+pub tables_by : (words new : List ℕ) (word : ℕ → ℕ) (entry : Option WalEntry) (large : ℕ → ℕ) (header : ℕ → SlabHeader) →
     ((start : ℕ) → is_slab new start ≡ is_slab words start) →
-    ((start : ℕ) → is_slab words start ≡ true → word_at new (state_word start) ≡ word_at words (state_word start)) →
     ((r : ℕ) → root_in new r ≡ word r) →
     open_entry_in new ≡ entry →
     ((start : ℕ) → large_of (extent_at new start) ≡ large start) →
-    ((start i : ℕ) → bit_at new start i ≡ bit start i) →
-    ((start place : ℕ) → live_at new start place ≡ live start place) →
-    ((start place : ℕ) → number_at new start place ≡ number start place) →
-    tables_of new ≡ record (tables_of words) { word = word; root = held_of entry word; open_entry = entry; large = large; bit = bit; live = live; number = number }
+    ((start : ℕ) → slab_header new start ≡ header start) →
+    tables_of new ≡ record (tables_of words) { word = word; root = held_of entry word; open_entry = entry; large = large; header = header }
 unfolding tables_of
-tables_by words new word entry large bit live number slab state roots entries larges bits lives numbers = λ k. record {
+tables_by words new word entry large header slab roots entries larges headers = λ k. record {
   word = λ r. roots r k;
   root = held_of (entries k) (λ r. roots r k);
   open_entry = entries k;
   large = λ start. larges start k;
   slab = λ start. slab start k;
-  kind = λ start. state_field-same words new start 0 (slab start) (state start) k;
-  class = λ start. state_field-same words new start 8 (slab start) (state start) k;
-  old = λ start. state_field-same words new start 16 (slab start) (state start) k;
-  index_count = λ start. state_field-same words new start 24 (slab start) (state start) k;
-  bit = λ start i. bits start i k;
-  live = λ start place. lives start place k;
-  number = λ start place. numbers start place k;
+  header = λ start. headers start k;
 }
 
--- the tables, where only the roots, the open entry, the large extents and the bits change
-pub tables_but : (words new : List ℕ) (word : ℕ → ℕ) (entry : Option WalEntry) (large : ℕ → ℕ) (bit : ℕ → ℕ → Bool) → SameSlabs words new →
+-- the tables, where only the roots, the open entry and the large extents change
+pub tables_over_heap : (words new : List ℕ) (word : ℕ → ℕ) (entry : Option WalEntry) (large : ℕ → ℕ) → AreSlabsInHeap words →
+    ((start : ℕ) → is_slab new start ≡ is_slab words start) →
+    ((k : ℕ) → heap_word (version_in words) ≤ k → word_at new k ≡ word_at words k) →
     ((r : ℕ) → root_in new r ≡ word r) →
     open_entry_in new ≡ entry →
     ((start : ℕ) → large_of (extent_at new start) ≡ large start) →
-    ((start i : ℕ) → bit_at new start i ≡ bit start i) →
-    tables_of new ≡ record (tables_of words) { word = word; root = held_of entry word; open_entry = entry; large = large; bit = bit }
+    tables_of new ≡ record (tables_of words) { word = word; root = held_of entry word; open_entry = entry; large = large }
 unfolding tables_of
-tables_but words new word entry large bit same roots entries larges bits =
-    tables_by words new word entry large bit (live_at words) (number_at words) same.slab same.state roots entries larges bits
-    (λ start place. live_at-same words new start place (same.slab start) (same.index start place))
-    (λ start place. number_at-same words new start place (same.slab start) (same.index start place))
+tables_over_heap words new word entry large slabs slab heap roots entries larges =
+    tables_by words new word entry large (slab_header words) slab roots entries larges (λ start. slab_header-heap words new start slabs (slab start) heap)
 
 -- stores to the log and the directory change the live extents alone
 pub tables_off_log : (words new : List ℕ) (large : ℕ → ℕ) → IsSameOffLog words new → AreSlabsInHeap words → ((start : ℕ) → is_slab new start ≡ is_slab words start) →
     ((start : ℕ) → large_of (extent_at new start) ≡ large start) → tables_of new ≡ record (tables_of words) { large = large }
 unfolding tables_of
 tables_off_log words new large same slabs slab larges =
-    let heap : (k : ℕ) → heap_word (version_in words) ≤ k → word_at new k ≡ word_at words k = λ k high. heap_word-off_log words new k same high in
-    tables_but words new (root_in words) (open_entry_in words) large (bit_at words)
-    (record {
-      slab = slab;
-      state = λ start is. heap (state_word start) (state_word-high words start slabs is);
-      index = λ start place is below. heap (index_word start place) (index_word-high words start place slabs is);
-    })
+    tables_over_heap words new (root_in words) (open_entry_in words) large slabs slab
+    (λ k high. heap_word-off_log words new k same high)
     (roots-same words new (version_in-off_log words new same) (λ root below. root_word-off_log words new root same below))
     (entry_among-same (λ line. word_at words (wal_word line)) (λ line. word_at new (wal_word line)) wal_lines (λ line below. wal_word-off_log words new line same below))
     larges
-    (λ start i. bit_at-same words new start i (slab start) (λ is below. slab_bit-same words new start i (heap (bitmap_word start i) (bitmap_word-high words start i slabs is))))
 
 -- where they leave the live extents too, they change nothing
 pub tables_off_log-same : (words new : List ℕ) → IsSameOffLog words new → AreSlabsInHeap words → ((start : ℕ) → extent_at new start ≡ extent_at words start) → tables_of new ≡ tables_of words
@@ -232,7 +245,7 @@ pub IsOffLog-wal : (words : List ℕ) (line : ℕ) → line < wal_lines → IsOf
 IsOffLog-wal words line below = record {
   fields = λ e. omega arith;
   directory = λ e. omega arith;
-  place = inl (omega (arith, wal_word-low line below, log_word-low (version_in words)));
+  place = inl (omega (arith, wal_word-low line below, log_start-low (version_in words)));
 }
 
 pub fields-put_root : (words : List ℕ) (root value : ℕ) → word_at (put_word words (root_word root) value) fields_word ≡ word_at words fields_word
@@ -250,7 +263,7 @@ wal_word-put_root words root value line below = word_at-put_other words (root_wo
 pub heap_word-put_root : (words : List ℕ) (root value k : ℕ) → root < (layout_of (version_in words)).roots → heap_word (version_in words) ≤ k → word_at (put_word words (root_word root) value) k ≡ word_at words k
 heap_word-put_root words root value k below high =
     let version = version_in words in
-    word_at-put_other words (root_word root) k value (λ e. omega (arith, e, high, root_word-low version root below, log_word-high version))
+    word_at-put_other words (root_word root) k value (λ e. omega (arith, e, high, root_word-low version root below, log_start-high version))
 
 pub extent_at-put_root : (words : List ℕ) (root value start : ℕ) → root < (layout_of (version_in words)).roots → extent_at (put_word words (root_word root) value) start ≡ extent_at words start
 extent_at-put_root words root value start below = extent_at-elsewhere words (root_word root) value start (IsOffLog-root words root below)
@@ -263,15 +276,10 @@ unfolding tables_of
 tables_store_root words root value below inside slabs =
     let new = put_word words (root_word root) value in
     let roots = (layout_of (version_in words)).roots in
-    let slab : (start : ℕ) → is_slab new start ≡ is_slab words start = λ start. ap is_slab_of (extent_at-put_root words root value start below) in
-    let heap : (k : ℕ) → heap_word (version_in words) ≤ k → word_at new k ≡ word_at words k = λ k high. heap_word-put_root words root value k below high in
     let table : ℕ → ℕ = root_in words in
-    tables_but words new (put_at table root value) (open_entry_in words) (tables_of words).large (bit_at words)
-    (record {
-      slab = slab;
-      state = λ start is. heap (state_word start) (state_word-high words start slabs is);
-      index = λ start place is less. heap (index_word start place) (index_word-high words start place slabs is);
-    })
+    tables_over_heap words new (put_at table root value) (open_entry_in words) (tables_of words).large slabs
+    (λ start. ap is_slab_of (extent_at-put_root words root value start below))
+    (λ k high. heap_word-put_root words root value k below high)
     (λ r.
     ap (λ version. cond (ltb r (layout_of version).roots) (word_at new (root_word r)) 0) (version_in-put_root words root value)
     ∙ ⊎_elim
@@ -287,7 +295,6 @@ tables_store_root words root value below inside slabs =
     (cases_eq r root))
     (entry_among-same (λ line. word_at words (wal_word line)) (λ line. word_at new (wal_word line)) wal_lines (λ line less. wal_word-put_root words root value line less))
     (λ start. ap large_of (extent_at-put_root words root value start below))
-    (λ start i. bit_at-same words new start i (slab start) (λ is less. slab_bit-same words new start i (heap (bitmap_word start i) (bitmap_word-high words start i slabs is))))
 
 -- while no move entry is open, it changes that root
 pub tables_put_root : (words : List ℕ) (root value : ℕ) → root < (layout_of (version_in words)).roots → root_word root < length words → AreSlabsInHeap words → HasNoMove (tables_of words).open_entry →

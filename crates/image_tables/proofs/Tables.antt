@@ -53,26 +53,26 @@ unfolding tables_of
 slab_table words start = refl
 
 -- the bit of a block of a slab, and a place of its index table
-pub bit_table : (words : List ℕ) (start i : ℕ) → is_slab words start ≡ true → i < 4096 → (tables_of words).bit start i ≡ slab_bit words start i
+pub bit_table : (words : List ℕ) (start i : ℕ) → is_slab words start ≡ true → i < 4096 → ((tables_of words).header start).bit i ≡ slab_bit words start i
 unfolding tables_of
 bit_table words start i is below = ap (λ b. b && (ltb i 4096 && slab_bit words start i)) is ∙ ap (λ b. b && slab_bit words start i) (lt-ltb i 4096 below)
 
-pub live_table : (words : List ℕ) (start place : ℕ) → is_slab words start ≡ true → place < 64 → (tables_of words).live start place ≡ bit_of_word (word_at words (index_word start place)) 0
+pub live_table : (words : List ℕ) (start place : ℕ) → is_slab words start ≡ true → place < 64 → ((tables_of words).header start).live place ≡ bit_of_word (word_at words (index_word start place)) 0
 unfolding tables_of
 live_table words start place is below =
     let live = bit_of_word (word_at words (index_word start place)) 0 in
     ap (λ b. b && (ltb place 64 && live)) is ∙ ap (λ b. b && live) (lt-ltb place 64 below)
 
-pub number_table : (words : List ℕ) (start place : ℕ) → is_slab words start ≡ true → place < 64 → (tables_of words).number start place ≡ word_at words (index_word start place) / 2 ^ 16 % 2 ^ 16
+pub number_table : (words : List ℕ) (start place : ℕ) → is_slab words start ≡ true → place < 64 → ((tables_of words).header start).number place ≡ word_at words (index_word start place) / 2 ^ 16 % 2 ^ 16
 unfolding tables_of
 number_table words start place is below = cond-true (is_slab words start && ltb place 64) _ 0 (and_from (is_slab words start) (ltb place 64) is (lt-ltb place 64 below))
 
 -- the fields of a slab's state word
 pub record HasStateFields (words : List ℕ) (start : ℕ) : Type 0 where
-  pub kind : (tables_of words).kind start ≡ state_field words start 0
-  pub class : (tables_of words).class start ≡ state_field words start 8
-  pub old : (tables_of words).old start ≡ state_field words start 16
-  pub index_count : (tables_of words).index_count start ≡ state_field words start 24
+  pub kind : ((tables_of words).header start).kind ≡ state_field words start 0
+  pub class : ((tables_of words).header start).class ≡ state_field words start 8
+  pub old : ((tables_of words).header start).old ≡ state_field words start 16
+  pub index_count : ((tables_of words).header start).index_count ≡ state_field words start 24
 
 pub slab_fields : (words : List ℕ) (start : ℕ) → HasStateFields words start
 unfolding tables_of

@@ -1,7 +1,8 @@
 -- What tables with one entry changed say.
-use Rattle.std.proofs.Common.{◌≡◌, ◌≢◌, ◌⊎◌, ⊎_elim, ℕ, eqb, refl, sym, ap, ◌∙◌}
+use Rattle.std.proofs.Common.{◌≡◌, ◌≢◌, ◌⊎◌, ⊎_elim, inl, inr, ℕ, eqb, refl, sym, ap, ◌∙◌}
 use Rattle.std.proofs.lemmas.Bool.{cases_eq, eq-eqb, ne_eqb, cond-true, cond-false}
-use Rattle.image_tables.specs.Updates.{put_at, put_in}
+use Rattle.image_tables.specs.Tables.{SlabHeader, Tables}
+use Rattle.image_tables.specs.Updates.{put_at, put_in, put_header}
 
 -- the entry
 pub put_at-same : {X : Type 0} (table : ℕ → X) (key : ℕ) (new : X) → put_at table key new key ≡ new
@@ -73,3 +74,22 @@ put_in-is {X} table new row key value here same others r k = ⊎_elim
         (λ (is : k ≡ key). ap (new row) is ∙ here ∙ sym (put_at-same (table row) key value) ∙ ap (put_at (table row) key value) (sym is))
         (λ (apart : k ≢ key). same k apart ∙ sym (put_at-other (table row) key k value apart))
         (cases_eq k key)
+
+-- a header
+
+pub put_header-same : (t : Tables) (start : ℕ) (h : SlabHeader) → (put_header t start h).header start ≡ h
+put_header-same t start h = put_at-same t.header start h
+
+pub put_header-other : (t : Tables) (start : ℕ) (h : SlabHeader) (other : ℕ) → other ≢ start → (put_header t start h).header other ≡ t.header other
+put_header-other t start h other apart = put_at-other t.header start other h apart
+
+-- what is changed to what it is stays
+pub put_header-own : (t : Tables) (start : ℕ) → put_header t start (t.header start) ≡ t
+put_header-own t start i = record t { header = put_at-own t.header start i }
+
+-- what holds of each header but the one that changed, and of that one, holds of each: `was` where the granule is another
+pub put_header-is : (t : Tables) (start : ℕ) (h : SlabHeader) (other : ℕ) → ((other ≡ start) × ((put_header t start h).header other ≡ h)) ⊎ ((other ≢ start) × ((put_header t start h).header other ≡ t.header other))
+put_header-is t start h other = ⊎_elim
+    (λ (here : other ≡ start). inl (here, ap (put_at t.header start h) here ∙ put_header-same t start h))
+    (λ (apart : other ≢ start). inr (apart, put_header-other t start h other apart))
+    (cases_eq other start)

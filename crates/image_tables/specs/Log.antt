@@ -2,7 +2,7 @@
 use Rattle.std.specs.Prelude.{◌==◌, ◌&&◌, nat_lt, nat_le, ℕ, zero, suc, ◌-◌, ◌/◌, ◌%◌, List, [], ◌∷◌, ◌++◌, flat_map, Bool, if◌then◌else◌}
 use Rattle.pmem_lines.specs.Words.{word_at}
 use Rattle.pool_layout.specs.Layout.{layout_of}
-use Rattle.pool_layout.specs.Places.{directory_word, entry_word}
+use Rattle.pool_layout.specs.Places.{directory_word, entry_slot}
 use Rattle.pool_layout.specs.Header.{version_in}
 
 -- how many chunks may be active
@@ -33,7 +33,7 @@ entries_below row (suc n) = entries_below row n ++ entry_or_none (row n)
 
 -- the entries of a chunk, by number
 unfoldable pub chunk_log : ℕ → List ℕ → ℕ → List ℕ
-chunk_log version words chunk = entries_below (λ entry. word_at words (entry_word version chunk entry)) (layout_of version).chunk_entries
+chunk_log version words chunk = entries_below (λ entry. word_at words (entry_slot version chunk entry)) (layout_of version).chunk_entries
 
 -- the entries of the log
 unfoldable pub log_of : List ℕ → List ℕ

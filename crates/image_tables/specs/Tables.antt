@@ -12,6 +12,19 @@ use Rattle.image_tables.specs.declared.extent.Extent.{Extent}
 use Rattle.image_tables.specs.declared.extent.Extent.TheVariants.{Large, Slab}
 use Rattle.image_tables.specs.Extents.{extent_at}
 
+-- what the header of a slab says
+pub record SlabHeader : Type 0 where
+  -- the kind of the state, the class, the class before, and how many index entries are read
+  pub kind : ℕ
+  pub class : ℕ
+  pub old : ℕ
+  pub index_count : ℕ
+  -- the bit of block i
+  pub bit : ℕ → Bool
+  -- the index table, by place: whether the old block lives, and its number
+  pub live : ℕ → Bool
+  pub number : ℕ → ℕ
+
 pub record Tables : Type 0 where
   -- the root words
   pub word : ℕ → ℕ
@@ -23,17 +36,18 @@ pub record Tables : Type 0 where
   pub large : ℕ → ℕ
   -- a live slab starts at the granule
   pub slab : ℕ → Bool
-  -- the kind of the state of the slab that starts at a granule
-  pub kind : ℕ → ℕ
-  -- its class, its old class and the number of its index entries
-  pub class : ℕ → ℕ
-  pub old : ℕ → ℕ
-  pub index_count : ℕ → ℕ
-  -- the bit of block i of the slab that starts at a granule
-  pub bit : ℕ → ℕ → Bool
-  -- the index table of that slab, by place: whether the old block lives, and its number
-  pub live : ℕ → ℕ → Bool
-  pub number : ℕ → ℕ → ℕ
+  -- the header of the slab that starts at a granule
+  pub header : ℕ → SlabHeader
+
+-- the bits of all slabs, and their index tables
+abbrev pub bit_rows : Tables → ℕ → ℕ → Bool
+bit_rows t start = (t.header start).bit
+
+abbrev pub live_rows : Tables → ℕ → ℕ → Bool
+live_rows t start = (t.header start).live
+
+abbrev pub number_rows : Tables → ℕ → ℕ → ℕ
+number_rows t start = (t.header start).number
 
 -- extents
 
@@ -128,6 +142,18 @@ number_at words start place = where_slab (is_slab words start && nat_lt place 64
 abbrev pub state_field : List ℕ → ℕ → ℕ → ℕ
 state_field words start bits = where_slab (is_slab words start) (word_at words (state_word start) / 2 ^ bits % 2 ^ 8)
 
+-- what the header of the slab at a granule says, and nothing of a granule at which none begins
+abbrev pub slab_header : List ℕ → ℕ → SlabHeader
+slab_header words start = record {
+  kind = state_field words start 0;
+  class = state_field words start 8;
+  old = state_field words start 16;
+  index_count = state_field words start 24;
+  bit = bit_at words start;
+  live = live_at words start;
+  number = number_at words start;
+}
+
 -- what the words of an arena say
 unfoldable pub tables_of : List ℕ → Tables
 tables_of words = record {
@@ -136,11 +162,5 @@ tables_of words = record {
   open_entry = open_entry_in words;
   large = λ start. large_of (extent_at words start);
   slab = is_slab words;
-  kind = λ start. state_field words start 0;
-  class = λ start. state_field words start 8;
-  old = λ start. state_field words start 16;
-  index_count = λ start. state_field words start 24;
-  bit = bit_at words;
-  live = live_at words;
-  number = number_at words;
+  header = slab_header words;
 }

@@ -29,6 +29,6 @@ disjoint_of words formed sound = record {
       let one = granules_table words start x first in
       let two = granules_table words later other second in
       let same : later < start + granules_of x → start ≡ later =
-      λ meets. sound.disjoint start later later (record { low = omega (arith, less); high = omega (arith, meets, one) }) (record { low = omega arith; high = omega (arith, some, two) }) in
+      λ meets. sound.extents.disjoint start later later (record { low = omega (arith, less); high = omega (arith, meets, one) }) (record { low = omega arith; high = omega (arith, some, two) }) in
       grind arith;
 }

@@ -16,8 +16,8 @@ use Rattle.book_log.specs.Entry.{log_word as word_of_entry}
 use Rattle.book_log.specs.Log.{logged, with_entry}
 use Rattle.book_log.specs.Book.{Book, HasLog, Reads, IsNextOf, IsInLog, IsEntryOrNot, chunks_of, place_word, append_events}
 use Rattle.book_log.specs.Live.{AreDisjoint}
-use Rattle.log_gc.specs.Room.{room_events, most_events, KeepsLog}
-use Rattle.log_gc.proofs.Booked.{room_by_chunks, room_then}
+use Rattle.log_room.specs.Room.{room_events, most_events, KeepsLog}
+use Rattle.log_room.proofs.Booked.{room_by_chunks, room_then}
 use Rattle.heap_check.specs.Image.{IsFormed}
 use Rattle.log_steps.specs.Events.{first_zero, next_entry_word, log_events}
 use Rattle.log_steps.specs.Log.{KeepsRest, IsLogged, IsLoggedOrNot, IsBookOf}

@@ -4,13 +4,13 @@ use Rattle.pmem_lines.specs.declared.event.Event.{Event}
 use Rattle.pmem_lines.specs.Events.{reading}
 use Rattle.durable_steps.specs.Steps.{word_events}
 use Rattle.pool_layout.specs.Layout.{layout_of}
-use Rattle.pool_layout.specs.Places.{entry_word}
+use Rattle.pool_layout.specs.Places.{entry_slot}
 use Rattle.pool_layout.specs.Header.{version_in, granules_in}
 use Rattle.book_log.specs.declared.entry.LogEntry.{LogEntry}
 use Rattle.book_log.specs.Entry.{log_word}
 use Rattle.book_log.specs.Log.{logged}
 use Rattle.book_log.specs.Book.{last_chunk}
-use Rattle.log_gc.specs.Room.{room_events}
+use Rattle.log_room.specs.Room.{room_events}
 
 -- the first of n words of a row that is 0, n where none is
 abbrev pub first_zero : (ℕ → ℕ) → ℕ → ℕ
@@ -20,7 +20,7 @@ first_zero row (suc n) = if nat_lt (first_zero row n) n then first_zero row n el
 -- the word that the next entry of the log goes to: the first of the last active chunk that is 0
 unfoldable pub next_entry_word : List ℕ → ℕ
 next_entry_word words =
-    entry_word (version_in words) (last_chunk words) (first_zero (logged (version_in words) words (last_chunk words)) (layout_of (version_in words)).chunk_entries)
+    entry_slot (version_in words) (last_chunk words) (first_zero (logged (version_in words) words (last_chunk words)) (layout_of (version_in words)).chunk_entries)
 
 -- an entry is put into the log and made durable, behind the events that make room for it
 unfoldable pub log_events : List ℕ → LogEntry → List Event

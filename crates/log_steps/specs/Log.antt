@@ -1,7 +1,7 @@
 -- An entry is put into the log, and room is made for it before: what is read then, and what a crash within it leaves.
 use Rattle.std.specs.Prelude.{◌≡◌, ◌≢◌, ◌⊎◌, ℕ, ◌<◌, ◌≤◌, List, length}
 use Rattle.pmem_lines.specs.Words.{word_at}
-use Rattle.pool_layout.specs.Places.{directory_word, log_word, heap_word}
+use Rattle.pool_layout.specs.Places.{directory_word, log_start, heap_word}
 use Rattle.pool_layout.specs.Header.{version_in, granules_in}
 use Rattle.image_tables.specs.Extents.{extent_at}
 use Rattle.book_log.specs.declared.entry.LogEntry.{LogEntry}
@@ -11,7 +11,7 @@ use Rattle.book_log.specs.Log.{with_entry}
 -- the image differs from the words in the log and the directory alone, and its log is well formed
 pub record KeepsRest (words image : List ℕ) : Type 0 where
   pub same_length : length image ≡ length words
-  pub others : (k : ℕ) → k ≢ directory_word → (k < log_word (version_in words)) ⊎ (heap_word (version_in words) ≤ k) → word_at image k ≡ word_at words k
+  pub others : (k : ℕ) → k ≢ directory_word → (k < log_start (version_in words)) ⊎ (heap_word (version_in words) ≤ k) → word_at image k ≡ word_at words k
   pub log : HasLog (granules_in words) image
 
 -- the live extents are as before

@@ -8,13 +8,13 @@ ghost use Rattle.pool_layout.specs.Header.{version_in, granules_in};
 ghost use Rattle.image_tables.specs.Extents.{extent_at};
 ghost use Rattle.book_log.specs.Entry.{IsInHeap};
 ghost use Rattle.book_log.specs.Live.{AreDisjoint};
-ghost use Rattle.log_gc.specs.Room.{most_events};
+ghost use Rattle.log_room.specs.Room.{most_events};
 ghost use Rattle.heap_check.specs.Image.{IsFormed};
 ghost use Rattle.log_steps.specs.Events.{log_events};
 ghost use Rattle.log_steps.specs.Log.{IsLogged, IsLoggedOrNot, IsBookOf};
 
 use book_log::{BookLog, LogEntry};
-use log_gc::make_room;
+use log_room::make_room;
 use pmem_lines::Pmem;
 
 /// Puts an entry into the log and makes it durable, behind the events that make room for it where the last active chunk

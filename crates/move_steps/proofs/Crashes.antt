@@ -109,16 +109,7 @@ module _ {words : List ℕ} {line from to at : ℕ} (may : IsMovable words from 
           };
           bounds = ends.bounds;
           tables = new_tables;
-          slabs = λ start. record {
-            slab = ap (λ (x : Tables). x.slab start) ends.tables;
-            kind = ap (λ (x : Tables). x.kind start) ends.tables;
-            class = ap (λ (x : Tables). x.class start) ends.tables;
-            old = ap (λ (x : Tables). x.old start) ends.tables;
-            index_count = ap (λ (x : Tables). x.index_count start) ends.tables;
-            bit = ap (λ (x : Tables). x.bit start) ends.tables;
-            live = ap (λ (x : Tables). x.live start) ends.tables;
-            number = ap (λ (x : Tables). x.number start) ends.tables;
-          };
+          slabs = λ start. record { slab = ap (λ (x : Tables). x.slab start) ends.tables; header = ap (λ (x : Tables). x.header start) ends.tables };
           moves = record {
             here = new_heap to ∙ ap (heap t) (swapped_to from to apart);
             gone = new_heap from ∙ ap (heap t) (swapped_from from to) ∙ heap-none t to may.none;

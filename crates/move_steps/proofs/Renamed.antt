@@ -15,10 +15,10 @@ module _ {b : Bounds} {t : Tables} (exact : IsExact b t) (from to : ℕ) (word n
   unnamed r = ap (λ e. entry_at e r) exact.closed
 
   pub IsSteady-renamed : IsSteady b (renamed t word name entry)
-  IsSteady-renamed = renaming.IsSteady-renamed (law_of_steady b t exact) unnamed exact.calm from to word name entry is
+  IsSteady-renamed = renaming.IsSteady-renamed (law_of_steady b t exact) unnamed exact.none_morphing from to word name entry is
 
   pub heap-renamed : (r : ℕ) → heap (renamed t word name entry) r ≡ heap t (name r)
-  heap-renamed = renaming.heap-renamed (law_of_steady b t exact) unnamed exact.calm from to word name entry is
+  heap-renamed = renaming.heap-renamed (law_of_steady b t exact) unnamed exact.none_morphing from to word name entry is
 
 -- where no entry is open it is exact
 pub IsExact-renamed : {b : Bounds} {t : Tables} (exact : IsExact b t) (from to : ℕ) (word name : ℕ → ℕ) (back : (r : ℕ) → name (name r) ≡ r) → IsExact b (renamed t word name None)
@@ -33,6 +33,6 @@ IsExact-renamed {b} {t} exact from to word name back =
           let here : t.root (name (name live.0)) ≡ t.root live.0 = ap t.root (back live.0) in
           let inside = live.2 in
           (name live.0, λ none. live.1 (sym here ∙ none), record { slab = inside.slab; low = omega (arith, inside.low, here); high = omega (arith, inside.high, here) });
-      calm = λ start morphing. exact.calm start (record { slab = morphing.slab; kind = morphing.kind });
-      none_done = λ start done. exact.none_done start (record { slab = done.slab; kind = done.kind; none = done.none });
+      none_morphing = exact.none_morphing;
+      none_done = exact.none_done;
     }

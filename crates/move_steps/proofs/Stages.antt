@@ -21,7 +21,7 @@ use Rattle.heap_check.specs.Sound.{IsSound}
 use Rattle.heap_check.specs.Image.{bounds_of, IsFormed}
 use Rattle.heap_check.proofs.Forms.{AreSlabsInHeap-sound, bounds_of-put_word, IsFormed-put_root, IsFormed-put_wal}
 use Rattle.heap_check.proofs.Sizes.{sizes_of, root_inside}
-use Rattle.move_steps.specs.Moves.{IsMovable, KeepsOthers}
+use Rattle.move_steps.specs.Moves.{IsMovable, KeepsAllButMove}
 use Rattle.settle_steps.proofs.Images.{IsRootPlace, root_place}
 use Rattle.settle_steps.proofs.Renamed.{renamed, IsRenaming}
 use Rattle.move_steps.proofs.HeldRoots.{swapped, swapped_to, swapped_back, held_opened, held_both, held_moved, held_released_moved}
@@ -34,7 +34,7 @@ pub record IsStageOf (words : List ℕ) (line from to : ℕ) (word name : ℕ �
   pub slabs : AreSlabsInHeap image
   pub alone : HasNoOther image line
   pub tables : tables_of image ≡ renamed (tables_of words) word name entry
-  pub rest : KeepsOthers words line from to image
+  pub rest : KeepsAllButMove words line from to image
 
 -- what one store is to
 abbrev pub IsOneOf : ℕ → ℕ → ℕ → ℕ → Type 0

@@ -23,7 +23,7 @@ pub record IsMovable (words : List ℕ) (from to at : ℕ) : Type 0 where
 -- what is left
 
 -- the words are the same, but for the line's and those of the two roots
-pub record KeepsOthers (words : List ℕ) (line from to : ℕ) (image : List ℕ) : Type 0 where
+pub record KeepsAllButMove (words : List ℕ) (line from to : ℕ) (image : List ℕ) : Type 0 where
   pub same_length : length image ≡ length words
   pub others : (k : ℕ) → k ≢ wal_word line → k ≢ root_word from → k ≢ root_word to → word_at image k ≡ word_at words k
 
@@ -42,7 +42,7 @@ pub record IsMoved (words : List ℕ) (line from to at : ℕ) (new : List ℕ) :
   pub slabs : (start : ℕ) → IsSameSlab (tables_of words) (tables_of new) start
   pub moves : MovesOne words from to new
   pub keeps : KeepsBlocks words new
-  pub rest : KeepsOthers words line from to new
+  pub rest : KeepsAllButMove words line from to new
 
 -- A crash within a move to a root, from the old words to the new ones, leaves a steady image of the same numbers with the heap
 -- of the one or of the other, in which each block that was there before has its words; and where a move entry is open in it,

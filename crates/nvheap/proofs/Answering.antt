@@ -1,8 +1,7 @@
 -- What a command has to say, from what its parts say.
 use Rattle.std.proofs.Common.{ℕ, List, refl, Result, Ok, Err}
 use Rattle.std.specs.Result.{IfOk}
-use Rattle.pool_layout.specs.Image.{AreWordsOf}
-use Rattle.trace_text.specs.declared.call.Refusal.TheVariants.{BadLine}
+use Rattle.nvheap.proofs.Common.{AreWordsOf, BadLine}
 use Rattle.nvheap.specs.declared.cause.Cause.{Cause}
 use Rattle.nvheap.specs.declared.cause.Cause.TheVariants.{Text}
 use Rattle.nvheap.specs.declared.answers.Answer.{Answer}

@@ -2,16 +2,10 @@
 use Rattle.std.proofs.Common.{◌≡◌, ℕ, suc, ◌+◌, List, [], ◌∷◌, ◌++◌, length, map, ◌≤◌, ◌%◌, Option, sym, ap, ◌∙◌, refl, subst, arith}
 use Rattle.std.proofs.lemmas.List.{append_assoc, append-nil, length-map}
 use mathlib.Core.List.{map-append}
-use Rattle.heap_check.specs.Image.{IsSoundImage}
+use Rattle.nvheap.proofs.Common.{IsSoundImage, PmemState, words_of, bytes_of_words, PoolSize, TraceCall, header_for, EachFrom-more}
 use Rattle.heap_check.proofs.Sizes.{sizes_of}
-use Rattle.pmem_lines.specs.Pmem.{PmemState, words_of}
-use Rattle.pool_layout.specs.Bytes.{bytes_of_words}
-use Rattle.trace_text.specs.declared.call.PoolSize.{PoolSize}
-use Rattle.trace_text.specs.declared.call.TraceCall.{TraceCall}
-use Rattle.trace_runs.specs.Arenas.{header_for}
 use Rattle.trace_runs.specs.Calls.{calls_of}
 use Rattle.trace_runs.specs.Journals.{IsRunThrough}
-use Rattle.trace_runs.proofs.Each.{EachFrom-more}
 use Rattle.nvheap.specs.Outside.{put_device, put_devices}
 use Rattle.nvheap.specs.Imaging.{AreRunThrough, images_of}
 

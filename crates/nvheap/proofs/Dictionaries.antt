@@ -1,8 +1,6 @@
 -- A dictionary whose arena is recovered.
 use Rattle.std.proofs.Common.{List}
-use Rattle.pmem_lines.specs.Pmem.{PmemState, words_of}
-use Rattle.recover.specs.Recovered.{IsRecovered}
-use Rattle.attach_dict.specs.Dict.{Pair, IsDict}
+use Rattle.nvheap.proofs.Common.{PmemState, words_of, IsRecovered, Pair, IsDict}
 use Rattle.attach_dict.proofs.Kept.{law_of_kept_dicts}
 
 -- it keeps its pairs

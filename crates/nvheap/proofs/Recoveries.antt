@@ -1,22 +1,11 @@
 -- The arenas of a pool, recovered one after another from one on.
 use Rattle.std.proofs.Common.{◌≡◌, ◌⊎◌, ℕ, suc, ◌+◌, ◌-◌, ◌<◌, ◌≤◌, List, ◌++◌, Option, sym, ap, subst, ◌∙◌, inl, inr, ⊎_elim, [], arith, refl}
 use Rattle.std.proofs.lemmas.Bool.{cases_lt}
-use Rattle.pmem_lines.specs.Pmem.{PmemState, fresh}
-use Rattle.pool_layout.specs.declared.header.PoolHeader.{PoolHeader}
+use Rattle.nvheap.proofs.Common.{PmemState, fresh, PoolHeader, part_of, header_of_arena, IsFirstHeader, IsPoolImage, IsImageOf, IfDefect, layout_of, layout_rules, fields_of-header_word, header_fits, IsSoundImage, HasVersionRoom, IsRecovered, recovered_device, HasUnsoundFrom, IsOwnDefect, IsPoolDefect, heap_lines, heaps_from, wider}
 use Rattle.pool_layout.specs.declared.defect.Defect.{Defect as Found}
 use Rattle.pool_layout.specs.declared.image.ImageFault.{ImageFault}
-use Rattle.pool_layout.specs.Image.{part_of, header_of_arena, IsFirstHeader, IsPoolImage, IsImageOf, IfDefect}
-use Rattle.pool_layout.specs.Layout.{layout_of}
 use Rattle.pool_layout.specs.Header.{version_field, fields_of, version_in}
-use Rattle.pool_layout.proofs.Layouts.{layout_rules}
-use Rattle.pool_layout.proofs.Headers.{fields_of-header_word, header_fits}
-use Rattle.heap_check.specs.Image.{IsSoundImage}
 use Rattle.image_defects.specs.Defects.{IsFirstDefect}
-use Rattle.recover.specs.Recovered.{HasVersionRoom, IsRecovered}
-use Rattle.recover.proofs.Recoveries.{recovered_device}
-use Rattle.image_runs.specs.Checks.{HasUnsoundFrom, IsOwnDefect, IsPoolDefect}
-use Rattle.image_runs.specs.Recoveries.{heap_lines, heaps_from}
-use Rattle.image_runs.proofs.Faults.{wider}
 use Rattle.nvheap.specs.Outside.{put_device}
 use Rattle.nvheap.specs.Recovering.{HasRecovered, AnswersRecover}
 

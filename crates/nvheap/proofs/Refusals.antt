@@ -1,25 +1,15 @@
 -- What is accepted is not refused: traces, images of pools, and scripts.
 use Rattle.std.proofs.Common.{◌≡◌, ℕ, ◌+◌, ◌*◌, ◌≤◌, List, sym, ap, ◌∙◌, subst, inl, inr, arith}
 use Rattle.pmem_lines.specs.Words.{word_at}
-use Rattle.pool_layout.specs.declared.header.PoolHeader.{PoolHeader}
+use Rattle.nvheap.proofs.Common.{PoolHeader, part_of, IsPoolImage, IsImageOf, header_fits, fields_of-header_word, faultless_of, no_defect, HasUnsoundFrom, IsPoolDefect, BadLine, NoArena, NoEvent, PoolSize, TraceCall, header_for, DictCall}
 use Rattle.pool_layout.specs.declared.defect.Defect.{Defect}
 use Rattle.pool_layout.specs.Header.{header_word, fields_of}
 use Rattle.pool_layout.specs.Places.{fields_word}
-use Rattle.pool_layout.specs.Image.{part_of, IsPoolImage, IsImageOf}
-use Rattle.pool_layout.proofs.Headers.{header_fits, fields_of-header_word}
 use Rattle.pool_layout.proofs.Images.{some_granules, word_at-part_of}
 use Rattle.pool_layout.proofs.OneImage.{law_of_no_defect}
-use Rattle.image_defects.proofs.Faultless.{faultless_of}
-use Rattle.image_defects.proofs.Order.{no_defect}
-use Rattle.image_runs.specs.Checks.{HasUnsoundFrom, IsPoolDefect}
-use Rattle.trace_text.specs.declared.call.Refusal.TheVariants.{BadLine, NoArena, NoEvent}
-use Rattle.trace_text.specs.declared.call.PoolSize.{PoolSize}
-use Rattle.trace_text.specs.declared.call.TraceCall.{TraceCall}
-use Rattle.trace_runs.specs.Arenas.{header_for}
 use Rattle.trace_runs.specs.Calls.{calls_of}
 use Rattle.trace_text.proofs.OneMeaning.{law_of_one_trace, law_of_no_refusal}
 use Rattle.trace_crashes.specs.Crash.{HasFewer}
-use Rattle.dict_text.specs.Script.{DictCall}
 use Rattle.dict_text.proofs.OneMeaning.{law_of_one_script, law_of_no_refused_script}
 use Rattle.dict_runs.specs.Crashes.{HasFewer as HasFewerEvents}
 use Rattle.nvheap.specs.declared.cause.Cause.{Cause}

@@ -1,12 +1,12 @@
 -- What `check` means.
-use Rattle.std.specs.Prelude.{◌≡◌, ℕ, ◌<◌, List, Some, true, false}
+use Rattle.std.specs.Prelude.{◌≡◌, ℕ, ◌<◌, List, true}
 use Rattle.pool_layout.specs.Image.{part_of, IsImageOf}
 use Rattle.heap_check.specs.Image.{IsSoundImage}
 use Rattle.image_runs.specs.Checks.{IsChecked, IsPoolDefect}
 use Rattle.nvheap.specs.declared.cause.Cause.{Cause}
 use Rattle.nvheap.specs.declared.cause.Cause.TheVariants.{Image}
 use Rattle.nvheap.specs.declared.input.Kind.TheVariants as kinds
-use Rattle.nvheap.specs.Meaning.{Places, Meaning, MakesNone}
+use Rattle.nvheap.specs.Meaning.{Places, Meaning, of_input}
 
 -- The output has the line of each arena of the image, and the places stay.
 abbrev pub AnswersCheck : List ℕ → List ℕ → Places → Places → Type 0
@@ -24,13 +24,4 @@ RefusesImage input (Image arena defect) = IsPoolDefect input arena defect
 RefusesImage input cause = ⊥
 
 abbrev pub checking : Meaning
-checking = record {
-  reads = Some kinds.Pool;
-  waits = false;
-  idle = true;
-  recovers = false;
-  answers = AnswersCheck;
-  images = MakesNone;
-  refuses = RefusesImage;
-  accepts = HasSoundArenas;
-}
+checking = record (of_input kinds.Pool AnswersCheck RefusesImage HasSoundArenas) { idle = true }

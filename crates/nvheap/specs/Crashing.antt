@@ -1,5 +1,5 @@
 -- What `crash A K SEED` means.
-use Rattle.std.specs.Prelude.{◌≡◌, ℕ, ◌<◌, ◌≤◌, List, Some, true, false}
+use Rattle.std.specs.Prelude.{◌≡◌, ℕ, ◌<◌, ◌≤◌, List, true}
 use Rattle.pmem_lines.specs.Pmem.{PmemState, risen}
 use Rattle.recover.specs.Recovered.{IsRecoveredDevice}
 use Rattle.trace_text.specs.declared.call.Refusal.TheVariants.{BadLine, NoArena, NoEvent}
@@ -14,7 +14,7 @@ use Rattle.nvheap.specs.declared.cause.Cause.{Cause}
 use Rattle.nvheap.specs.declared.cause.Cause.TheVariants.{Text}
 use Rattle.nvheap.specs.declared.input.Kind.TheVariants as kinds
 use Rattle.nvheap.specs.Outside.{put_device}
-use Rattle.nvheap.specs.Meaning.{Places, Meaning}
+use Rattle.nvheap.specs.Meaning.{Places, Meaning, of_input}
 use Rattle.nvheap.specs.Traces.{HasTrace}
 
 -- the place of an arena's number has a recovered device of these words; the other places stay
@@ -64,13 +64,4 @@ pub record HasEvents (arena event : ℕ) (input : List ℕ) : Type 0 where
   pub enough : (stages : List Stage) → IsRunOf (header_for trace.pool arena) (calls_of arena trace.calls) stages → event ≤ total_events stages
 
 abbrev pub crashing : ℕ → ℕ → ℕ → Meaning
-crashing arena event seed = record {
-  reads = Some kinds.Text;
-  waits = false;
-  idle = false;
-  recovers = true;
-  answers = AnswersCrash arena event seed;
-  images = MakesOne;
-  refuses = RefusesCrash arena event;
-  accepts = HasEvents arena event;
-}
+crashing arena event seed = record (of_input kinds.Text (AnswersCrash arena event seed) (RefusesCrash arena event) (HasEvents arena event)) { recovers = true; images = MakesOne }

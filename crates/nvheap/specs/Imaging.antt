@@ -1,5 +1,5 @@
 -- What `image` means.
-use Rattle.std.specs.Prelude.{◌≡◌, ℕ, List, length, flat_map, Some, false}
+use Rattle.std.specs.Prelude.{◌≡◌, ℕ, List, length, flat_map}
 use Rattle.pmem_lines.specs.Pmem.{PmemState, words_of}
 use Rattle.pool_layout.specs.Bytes.{bytes_of_words}
 use Rattle.trace_text.specs.declared.call.PoolSize.{PoolSize}
@@ -10,7 +10,7 @@ use Rattle.trace_runs.specs.Calls.{calls_of}
 use Rattle.trace_runs.specs.Journals.{IsRunThrough}
 use Rattle.nvheap.specs.declared.input.Kind.TheVariants as kinds
 use Rattle.nvheap.specs.Outside.{put_devices}
-use Rattle.nvheap.specs.Meaning.{Places, Meaning, MakesNone}
+use Rattle.nvheap.specs.Meaning.{Places, Meaning, of_input}
 use Rattle.nvheap.specs.Traces.{HasTrace, RefusesTrace}
 
 -- each of these devices, from this arena on, went through a legal journal that answers the arena's calls, in order
@@ -32,13 +32,4 @@ pub record AnswersImage (input output : List ℕ) (old new : Places) : Type 0 wh
   pub put : new ≡ put_devices old 0 devices
 
 abbrev pub imaging : Meaning
-imaging = record {
-  reads = Some kinds.Text;
-  waits = false;
-  idle = false;
-  recovers = false;
-  answers = AnswersImage;
-  images = MakesNone;
-  refuses = RefusesTrace;
-  accepts = HasTrace;
-}
+imaging = of_input kinds.Text AnswersImage RefusesTrace HasTrace

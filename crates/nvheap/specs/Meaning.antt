@@ -1,7 +1,7 @@
 -- What a command means to `run`: what it reads, what it may use, what it has to say of an input, and when it refuses one. Each
 -- command has its meaning in a file of its own, and the table (`Command.antt`) says whose it is: nothing here, and nothing of how
 -- a run ends (`Ends.antt`), names a command.
-use Rattle.std.specs.Prelude.{◌≡◌, ℕ, Bool, List, Option}
+use Rattle.std.specs.Prelude.{◌≡◌, ℕ, Bool, false, List, Option, Some}
 use Rattle.pmem_lines.specs.Pmem.{PmemState}
 use Rattle.nvheap.specs.declared.cause.Cause.{Cause}
 use Rattle.nvheap.specs.declared.input.Kind.{Kind}
@@ -31,3 +31,16 @@ pub record Meaning : Type 1 where
 -- no device is made of an image
 abbrev pub MakesNone : List ℕ → ℕ → ℕ → Type 0
 MakesNone input old new = new ≡ old
+
+-- what most commands have in common: one reads an input of this kind, waits for nobody, and makes no device of an image
+abbrev pub of_input : Kind → (List ℕ → List ℕ → Places → Places → Type 0) → (List ℕ → Cause → Type 0) → (List ℕ → Type 0) → Meaning
+of_input kind answers refuses accepts = record {
+  reads = Some kind;
+  waits = false;
+  idle = false;
+  recovers = false;
+  answers = answers;
+  images = MakesNone;
+  refuses = refuses;
+  accepts = accepts;
+}

@@ -1,5 +1,5 @@
 -- What `migrate` means.
-use Rattle.std.specs.Prelude.{◌≡◌, ◌⊎◌, ℕ, List, Some, true, false}
+use Rattle.std.specs.Prelude.{◌≡◌, ◌⊎◌, ℕ, List, true}
 use Rattle.pool_layout.specs.declared.defect.Defect.{Defect}
 use Rattle.pool_layout.specs.Image.{IsImageOf, IsImageDefect}
 use Rattle.image_runs.specs.Checks.{HasUnsoundFrom}
@@ -7,7 +7,7 @@ use Rattle.image_runs.specs.Migrations.{IsPoolMigrated}
 use Rattle.nvheap.specs.declared.cause.Cause.{Cause}
 use Rattle.nvheap.specs.declared.cause.Cause.TheVariants.{Image, Version}
 use Rattle.nvheap.specs.declared.input.Kind.TheVariants as kinds
-use Rattle.nvheap.specs.Meaning.{Places, Meaning, MakesNone}
+use Rattle.nvheap.specs.Meaning.{Places, Meaning, of_input}
 use Rattle.nvheap.specs.Checking.{HasSoundArenas}
 
 -- The input is the image of a pool of version 1, and the output has the bytes of a migration of each of its arenas, in order;
@@ -45,13 +45,4 @@ pub record HasSoundFirst (input : List ℕ) : Type 0 where
   pub first : arenas.image.header.version ≡ 1
 
 abbrev pub migrating : Meaning
-migrating = record {
-  reads = Some kinds.Pool;
-  waits = false;
-  idle = true;
-  recovers = false;
-  answers = AnswersMigrate;
-  images = MakesNone;
-  refuses = RefusesMigrate;
-  accepts = HasSoundFirst;
-}
+migrating = record (of_input kinds.Pool AnswersMigrate RefusesMigrate HasSoundFirst) { idle = true }

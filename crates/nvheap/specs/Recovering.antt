@@ -1,5 +1,5 @@
 -- What `recover` means.
-use Rattle.std.specs.Prelude.{◌≡◌, ℕ, zero, suc, ◌+◌, List, Some, true, false}
+use Rattle.std.specs.Prelude.{◌≡◌, ℕ, zero, suc, ◌+◌, List, true}
 use Rattle.pmem_lines.specs.Pmem.{PmemState, risen}
 use Rattle.pool_layout.specs.Image.{part_of, IsImageOf}
 use Rattle.heap_check.specs.Image.{IsSoundImage}
@@ -7,7 +7,7 @@ use Rattle.recover.specs.Recovered.{IsRecoveredDevice}
 use Rattle.image_runs.specs.Recoveries.{heaps_from}
 use Rattle.nvheap.specs.declared.input.Kind.TheVariants as kinds
 use Rattle.nvheap.specs.Outside.{put_device}
-use Rattle.nvheap.specs.Meaning.{Places, Meaning}
+use Rattle.nvheap.specs.Meaning.{Places, Meaning, of_input}
 use Rattle.nvheap.specs.Checking.{HasSoundArenas, RefusesImage}
 
 -- Of n arenas of a pool from one on each is sound, and its place on the shelf has a recovered device of its words; the other
@@ -31,13 +31,4 @@ abbrev pub MakesAll : List ℕ → ℕ → ℕ → Type 0
 MakesAll input old new = (words : List ℕ) × (image : IsImageOf input words) × (new ≡ risen old image.header.arenas)
 
 abbrev pub recovering : Meaning
-recovering = record {
-  reads = Some kinds.Pool;
-  waits = false;
-  idle = false;
-  recovers = true;
-  answers = AnswersRecover;
-  images = MakesAll;
-  refuses = RefusesImage;
-  accepts = HasSoundArenas;
-}
+recovering = record (of_input kinds.Pool AnswersRecover RefusesImage HasSoundArenas) { recovers = true; images = MakesAll }

@@ -1,5 +1,5 @@
 -- What `dict-crash K SEED` means.
-use Rattle.std.specs.Prelude.{◌≡◌, ℕ, ◌≤◌, List, Some, true, false}
+use Rattle.std.specs.Prelude.{◌≡◌, ℕ, ◌≤◌, List, true}
 use Rattle.trace_text.specs.declared.call.Refusal.TheVariants.{BadLine, NoEvent}
 use Rattle.trace_text.specs.declared.call.CrashSide.{CrashSide}
 use Rattle.attach_dict.specs.Dict.{Pair, IsSteadyDict}
@@ -13,7 +13,7 @@ use Rattle.dict_runs.specs.Watching.{IsSideIn}
 use Rattle.nvheap.specs.declared.cause.Cause.{Cause}
 use Rattle.nvheap.specs.declared.cause.Cause.TheVariants.{Text}
 use Rattle.nvheap.specs.declared.input.Kind.TheVariants as kinds
-use Rattle.nvheap.specs.Meaning.{Places, Meaning}
+use Rattle.nvheap.specs.Meaning.{Places, Meaning, of_input}
 use Rattle.nvheap.specs.Crashing.{PutsRecovered, MakesOne}
 use Rattle.nvheap.specs.Scripting.{HasScript}
 
@@ -44,16 +44,7 @@ pub record HasScriptEvents (event : ℕ) (input : List ℕ) : Type 0 where
   pub enough : (turns : List Turn) (to : Standing) (last : List Pair) → IsRunOf script.granules script.calls turns to last → event ≤ all_events turns
 
 abbrev pub script_crashing : ℕ → ℕ → Meaning
-script_crashing event seed = record {
-  reads = Some kinds.Text;
-  waits = false;
-  idle = false;
-  recovers = true;
-  answers = AnswersDictCrash event seed;
-  images = MakesOne;
-  refuses = RefusesDictCrash event;
-  accepts = HasScriptEvents event;
-}
+script_crashing event seed = record (of_input kinds.Text (AnswersDictCrash event seed) (RefusesDictCrash event) (HasScriptEvents event)) { recovers = true; images = MakesOne }
 
 -- for the functions below
 

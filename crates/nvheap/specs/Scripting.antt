@@ -1,5 +1,5 @@
 -- What `dict` means.
-use Rattle.std.specs.Prelude.{◌≡◌, ℕ, List, Some, false}
+use Rattle.std.specs.Prelude.{◌≡◌, ℕ, List}
 use Rattle.pmem_lines.specs.Pmem.{PmemState}
 use Rattle.trace_text.specs.declared.call.Refusal.TheVariants.{BadLine}
 use Rattle.attach_dict.specs.Dict.{Pair}
@@ -10,7 +10,7 @@ use Rattle.nvheap.specs.declared.cause.Cause.{Cause}
 use Rattle.nvheap.specs.declared.cause.Cause.TheVariants.{Text}
 use Rattle.nvheap.specs.declared.input.Kind.TheVariants as kinds
 use Rattle.nvheap.specs.Outside.{put_device}
-use Rattle.nvheap.specs.Meaning.{Places, Meaning, MakesNone}
+use Rattle.nvheap.specs.Meaning.{Places, Meaning, of_input}
 
 -- the bytes are a script of these calls, for an arena of so many granules
 pub record HasScript (input : List ℕ) : Type 0 where
@@ -35,13 +35,4 @@ pub record AnswersDict (input output : List ℕ) (old new : Places) : Type 0 whe
   pub put : new ≡ put_device old 0 device
 
 abbrev pub scripting : Meaning
-scripting = record {
-  reads = Some kinds.Text;
-  waits = false;
-  idle = false;
-  recovers = false;
-  answers = AnswersDict;
-  images = MakesNone;
-  refuses = RefusesScript;
-  accepts = HasScript;
-}
+scripting = of_input kinds.Text AnswersDict RefusesScript HasScript

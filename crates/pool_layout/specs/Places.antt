@@ -25,20 +25,20 @@ abbrev pub entry_lines : ℕ → ℕ
 entry_lines version = (layout_of version).chunk_entries / 8
 
 -- the first word of the log
-abbrev pub log_word : ℕ → ℕ
-log_word version = (layout_of version).log_at / 8
+abbrev pub log_start : ℕ → ℕ
+log_start version = (layout_of version).log_at / 8
 
 -- the first word of a chunk of the log
 abbrev pub chunk_word : ℕ → ℕ → ℕ
-chunk_word version chunk = log_word version + (layout_of version).chunk_bytes / 8 * chunk
+chunk_word version chunk = log_start version + (layout_of version).chunk_bytes / 8 * chunk
 
 -- the word of an entry in its chunk: entries that are neighbours lie in different lines
 abbrev pub entry_place : ℕ → ℕ → ℕ
 entry_place version entry = 8 + 8 * (entry % entry_lines version) + entry / entry_lines version
 
 -- the word of an entry of a chunk
-abbrev pub entry_word : ℕ → ℕ → ℕ → ℕ
-entry_word version chunk entry = chunk_word version chunk + entry_place version entry
+abbrev pub entry_slot : ℕ → ℕ → ℕ → ℕ
+entry_slot version chunk entry = chunk_word version chunk + entry_place version entry
 
 -- the first word of a granule
 abbrev pub granule_word : ℕ → ℕ

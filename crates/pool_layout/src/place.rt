@@ -2,7 +2,7 @@
 
 ghost use Rattle.std.specs.Prelude.{◌≡◌, ◌+◌, ◌*◌, ◌<◌, ◌^◌};
 ghost use Rattle.pool_layout.specs.Layout.{layout_of};
-ghost use Rattle.pool_layout.specs.Places.{text_word, fields_word, directory_word, root_word, wal_word, chunk_word, entry_word, granule_word, heap_word, line_place, index_place, blocks_place};
+ghost use Rattle.pool_layout.specs.Places.{text_word, fields_word, directory_word, root_word, wal_word, chunk_word, entry_slot, granule_word, heap_word, line_place, index_place, blocks_place};
 
 use crate::layout_of;
 
@@ -61,7 +61,7 @@ pub fn chunk_at(version: u32, chunk: u32) -> u32
 pub fn entry_at(version: u32, chunk: u32, entry: u32) -> u32
     requires chunk { chunk < 16 }
     requires entry { entry < (layout_of version).chunk_entries }
-    ensures { result ≡ 8 * entry_word version chunk entry }
+    ensures { result ≡ 8 * entry_slot version chunk entry }
 {
     let lines = layout_of(version).chunk_entries / 8;
     chunk_at(version, chunk) + 64 + 64 * (entry % lines) + 8 * (entry / lines)

@@ -1,13 +1,6 @@
 -- What the readers of an image have to know of a sound one.
 use Rattle.std.proofs.Common.{◌≡◌, ◌+◌, ◌<◌, ◌≤◌, ℕ, true, List, length, sym, ◌∙◌, arith}
-use Rattle.pool_layout.specs.Layout.{layout_of}
-use Rattle.pool_layout.specs.Header.{version_in, granules_in}
-use Rattle.image_tables.specs.Tables.{tables_of}
-use Rattle.image_tables.proofs.Tables.{slab_table}
-use Rattle.heap_check.specs.Image.{IsSoundImage, IsSteadyImage}
-use Rattle.heap_check.proofs.Geometry.{granules_at-slab, granules_at-live}
-use Rattle.heap_check.proofs.Sizes.{sizes_of}
-use Rattle.settle_steps.proofs.Images.{few_entries}
+use Rattle.recovery_steps.proofs.Common.{layout_of, version_in, granules_in, tables_of, slab_table, IsSoundImage, IsSteadyImage, granules_at-slab, granules_at-live, sizes_of, few_entries}
 use Rattle.image_reading.specs.Slabs.{IsSlabAt}
 use Rattle.defect_search.specs.Arena.{IsArena}
 use Rattle.recovery_steps.specs.declared.search.Loose.{Loose}
@@ -29,11 +22,11 @@ arena_of words image =
       size = sizes.size;
       large = λ start some.
           let whole = granules_at-live image.sound start some in
-          let lies = image.sound.starts start (omega (arith, whole, some)) in
+          let lies = image.sound.extents.starts start (omega (arith, whole, some)) in
           (lies.0, omega (arith, lies.1, whole));
       slab = λ start slab.
           let four = granules_at-slab (tables_of words) start (slab_table words start ∙ slab) in
-          let lies = image.sound.starts start (omega (arith, four)) in
+          let lies = image.sound.extents.starts start (omega (arith, four)) in
           (lies.0, omega (arith, lies.1, four));
       entries = few_entries words image.sound;
     }
@@ -64,7 +57,7 @@ loose_inside words image Done start loose = slab_inside words image start loose.
 pub slab_low : (words : List ℕ) → IsSoundImage words → (start : ℕ) → (tables_of words).slab start ≡ true → (layout_of (version_in words)).first_granule ≤ start
 slab_low words image start slab =
     let four = granules_at-slab (tables_of words) start slab in
-    (image.sound.starts start (omega (arith, four))).0
+    (image.sound.extents.starts start (omega (arith, four))).0
 
 -- and their headers lie among the words
 pub slab_at : (words : List ℕ) → IsSoundImage words → (start : ℕ) → (tables_of words).slab start ≡ true → IsSlabAt words start

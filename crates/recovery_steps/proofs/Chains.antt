@@ -1,22 +1,12 @@
 -- Parts of recovery, one after another.
 use Rattle.std.proofs.Common.{◌≡◌, ◌⊎◌, ◌+◌, ◌≤◌, ℕ, List, [], ◌++◌, length, refl, ap, subst, ◌∙◌, arith, inl, inr, ⊎_elim, length-append}
 use Rattle.pmem_lines.specs.declared.event.Event.{Event}
-use Rattle.pmem_lines.specs.Pmem.{PmemState, words_of, appended}
+use Rattle.recovery_steps.proofs.Common.{PmemState, words_of, appended, step_none, step_then, step_wider, step_end, Tables, tables_of, IsSteadyImage, HasNone, KeepsHeap, KeepsHeap-then, LeavesHeap, Book, IsBookOf, entry_is}
 use Rattle.pmem_lines.specs.Events.{IsQuiet}
 use Rattle.pmem_lines.specs.Steps.{IsQuietStep}
-use Rattle.pmem_lines.proofs.Steps.{step_none, step_then, step_wider, step_end}
-use Rattle.image_tables.specs.Tables.{Tables, tables_of}
-use Rattle.heap_check.specs.Image.{IsSteadyImage}
 use Rattle.heap_check.specs.State.{HaveSameHeap, IsEitherHeap}
-use Rattle.image_defects.specs.Least.{HasNone}
-use Rattle.settle_steps.specs.Settled.{KeepsHeap}
-use Rattle.settle_steps.proofs.Keeping.{KeepsHeap-then}
-use Rattle.transition_steps.specs.Transitions.{LeavesHeap}
 use Rattle.pmem_lines.proofs.States.{appended_none}
-use Rattle.book_log.specs.Book.{Book}
-use Rattle.log_steps.specs.Log.{IsBookOf}
-use Rattle.settle_steps.proofs.Images.{entry_is}
-use Rattle.recovery_steps.specs.Parts.{MayBegin, IsPart, KeepsClasses, Does, Then}
+use Rattle.recovery_steps.specs.Parts.{PartMayBegin, IsPart, KeepsClasses, Does, Then}
 use Rattle.recovery_steps.specs.Recovery.{TakesOne, IsSettling, SettlesOpen, FinishesMorphing, DropsLarge, DropsSlab, EndsDone, Recovers}
 
 -- nothing is stored
@@ -90,7 +80,7 @@ does_one {s} IsLoose taken start same is step few done =
     }
 
 -- nothing is stored where there is no such thing
-pub does_none : {s : PmemState} {found : List ℕ} {log : Book} {Is : List ℕ → Type 0} {Left : List ℕ → List ℕ → Type 0} (IsLoose : Tables → ℕ → Type 0) (taken : List ℕ → ℕ → List Event) (most : ℕ) → MayBegin Is log s most → IsSteadyImage (words_of s) →
+pub does_none : {s : PmemState} {found : List ℕ} {log : Book} {Is : List ℕ → Type 0} {Left : List ℕ → List ℕ → Type 0} (IsLoose : Tables → ℕ → Type 0) (taken : List ℕ → ℕ → List Event) (most : ℕ) → PartMayBegin Is log s most → IsSteadyImage (words_of s) →
     found ≡ words_of s → HasNone (IsLoose (tables_of found)) → (HasNone (IsLoose (tables_of (words_of s))) → Left (words_of s) (words_of s)) → Does log KeepsHeap Left s s (λ words events. TakesOne (IsLoose (tables_of words)) (taken words) events) most
 does_none {s} IsLoose taken most begins image same is left =
     let none = subst (λ (ws : List ℕ). HasNone (IsLoose (tables_of ws))) same is in
@@ -129,8 +119,8 @@ not_both words new image keeps settles finishes = ⊎_elim
     (λ closed. inl closed.1)
     (λ (settling : IsSettling words _).
     let opens = entry_is words settling.line settling.below settling.entry (record { image = image; here = settling.here }) in
-    let calm = (image.steady.sound.open_entry settling.entry opens).calm in
-    inr (none_taken (record { none = λ start morphing. let was = keeps.morphing start morphing in calm start was.slab was.kind }) finishes))
+    let none_morphing = (image.steady.sound.owned.open_entry settling.entry opens).none_morphing in
+    inr (none_taken (record { none = λ start morphing. let was = keeps.morphing start morphing in none_morphing start was.slab was.kind }) finishes))
     settles
 
 -- so few events do both

@@ -1,28 +1,15 @@
 -- What each part of recovery leaves.
-use Rattle.std.proofs.Common.{◌≡◌, ◌≢◌, ⊎_elim, ◌/◌, ℕ, Bool, true, false, true≢false, cond, List, Some, None, refl, sym, ap, subst, ◌∙◌, arith}
-use Rattle.std.proofs.lemmas.Bool.{cases_eq, cond-false}
-use Rattle.image_tables.specs.declared.entry.WalEntry.{WalEntry}
-use Rattle.image_tables.specs.declared.entry.WalEntry.TheVariants.{Place, Move}
-use Rattle.image_tables.specs.Tables.{Tables, tables_of}
-use Rattle.image_tables.proofs.Updates.{put_at-same, put_at-other}
-use Rattle.image_tables.specs.Updates.{put_at}
-use Rattle.slab_morph.specs.SlabHeaders.{SlabHeader, header_of, put_header}
+use Rattle.std.proofs.Common.{◌≡◌, ◌≢◌, ⊎_elim, ◌/◌, ℕ, Bool, true, false, true≢false, cond, Option, List, Some, None, refl, sym, ap, subst, ◌∙◌, arith}
+use Rattle.recovery_steps.proofs.Common.{cases_eq, cond-false, WalEntry, Place, Move, Tables, tables_of, SlabHeader, layout_of, version_in, granules_in, Bounds, IsLooseLarge, IsEmptySlab, IsMorphing, IsDoneSlab, LoosensNothing, bounds_of, IsSteadyImage, nearly_done, version_by_bounds, HasNone, settled_tables, IsEntrySettled, IsFinished, IsEnded}
+use Rattle.image_tables.proofs.Updates.{put_at-same, put_header-same, put_header-other}
+use Rattle.image_tables.specs.Updates.{put_header}
 use Rattle.slab_morph.specs.Stages.{finished, settled}
 use Rattle.heap_check.specs.Heap.{slabs}
-use Rattle.pool_layout.specs.Layout.{layout_of}
-use Rattle.pool_layout.specs.Header.{version_in, granules_in}
-use Rattle.heap_model.specs.Machine.{Bounds}
-use Rattle.heap_check.specs.Sound.{IsLooseLarge, IsEmptySlab, IsMorphing, IsDoneSlab, IsNearlyDone, LoosensNothing}
-use Rattle.heap_check.specs.Image.{bounds_of, IsSteadyImage}
-use Rattle.heap_check.proofs.Sizes.{version_by_bounds}
-use Rattle.image_defects.specs.Least.{HasNone}
 use Rattle.defect_search.specs.Roots.{IsNamedStart, IsNamedGranule, AreMarks}
 use Rattle.extent_steps.specs.Large.{IsLooseExtent, IsExtentGone}
 use Rattle.extent_steps.specs.Slabs.{IsDroppable, IsDropped}
-use Rattle.settle_steps.specs.Entries.{settled_tables, IsEntrySettled}
-use Rattle.transition_steps.specs.Transitions.{IsFinished, IsEnded}
 use Rattle.recovery_steps.specs.Names.{Names, AreNames}
-use Rattle.recovery_steps.specs.Parts.{IsShut, IsLeft, KeepsClasses, Calms, Rids}
+use Rattle.recovery_steps.specs.Parts.{IsShut, IsLeft, KeepsClasses, LeavesNoneMorphing, Rids}
 
 -- classes
 
@@ -36,18 +23,17 @@ classes_then first second = record {
 }
 
 -- the slabs and their classes are the same
-same_slabs : (t new : Tables) → new.slab ≡ t.slab → new.class ≡ t.class → (start class : ℕ) → slabs new start ≡ Some class → slabs t start ≡ Some class
-same_slabs t new slab_is class_is start class is =
-    sym (ap (λ (f : ℕ → Bool). cond (f start) (Some (new.class start)) None) slab_is ∙ ap (λ (f : ℕ → ℕ). cond (t.slab start) (Some (f start)) None) class_is) ∙ is
+same_slabs : (t new : Tables) → slabs new ≡ slabs t → (start class : ℕ) → slabs new start ≡ Some class → slabs t start ≡ Some class
+same_slabs t new same start class is = sym (ap (λ (f : ℕ → Option ℕ). f start) same) ∙ is
 
 -- so they are where a header changed that has the class that it had
-pub header_slabs : (t : Tables) (at : ℕ) (h : SlabHeader) → h.class ≡ t.class at → (start class : ℕ) → slabs (put_header t at h) start ≡ Some class → slabs t start ≡ Some class
+pub header_slabs : (t : Tables) (at : ℕ) (h : SlabHeader) → h.class ≡ (t.header at).class → (start class : ℕ) → slabs (put_header t at h) start ≡ Some class → slabs t start ≡ Some class
 header_slabs t at h same start class is = ⊎_elim
-    (λ (here : start ≡ at). put_class (ap (put_at t.class at h.class) here ∙ put_at-same t.class at h.class ∙ same ∙ ap t.class (sym here)))
-    (λ (differ : start ≢ at). put_class (put_at-other t.class at start h.class differ))
+    (λ (here : start ≡ at). put_class (ap (λ s. ((put_header t at h).header s).class) here ∙ ap (λ (g : SlabHeader). g.class) (put_header-same t at h) ∙ same ∙ ap (λ s. (t.header s).class) (sym here)))
+    (λ (differ : start ≢ at). put_class (ap (λ (g : SlabHeader). g.class) (put_header-other t at h start differ)))
     (cases_eq start at)
   where
-    put_class : put_at t.class at h.class start ≡ t.class start → slabs t start ≡ Some class
+    put_class : ((put_header t at h).header start).class ≡ (t.header start).class → slabs t start ≡ Some class
     put_class equal = sym (ap (λ c. cond (t.slab start) (Some c) None) equal) ∙ is
 
 -- nothing changes
@@ -61,8 +47,8 @@ loosens_self t = record { large = λ start loose. loose; empty = λ start loose.
 pub rids_self : {IsLoose : Tables → ℕ → Type 0} (words : List ℕ) → IsShut words → HasNone (IsLoose (tables_of words)) → Rids IsLoose words words
 rids_self words shut none = record { left = left_self words shut; loose = loosens_self (tables_of words); none = none }
 
-pub calms_self : (words : List ℕ) → IsShut words → HasNone (IsMorphing (tables_of words)) → Calms words words
-calms_self words shut none = record { left = left_self words shut; none = none }
+pub none_morphing_self : (words : List ℕ) → IsShut words → HasNone (IsMorphing (tables_of words)) → LeavesNoneMorphing words words
+none_morphing_self words shut none = record { left = left_self words shut; none = none }
 
 -- the open entry is settled
 
@@ -71,15 +57,10 @@ settled_roots words start (Place root at true place) = refl
 settled_roots words start (Place root at false place) = refl
 settled_roots words start (Move from to) = refl
 
-settled_slab : (words : List ℕ) (start : ℕ) (entry : WalEntry) → (settled_tables words start entry).slab ≡ (tables_of words).slab
-settled_slab words start (Place root at true place) = refl
-settled_slab words start (Place root at false place) = refl
-settled_slab words start (Move from to) = refl
-
-settled_class : (words : List ℕ) (start : ℕ) (entry : WalEntry) → (settled_tables words start entry).class ≡ (tables_of words).class
-settled_class words start (Place root at true place) = refl
-settled_class words start (Place root at false place) = refl
-settled_class words start (Move from to) = refl
+settled_slabs : (words : List ℕ) (start : ℕ) (entry : WalEntry) → slabs (settled_tables words start entry) ≡ slabs (tables_of words)
+settled_slabs words start (Place root at true place) = refl
+settled_slabs words start (Place root at false place) = refl
+settled_slabs words start (Move from to) = refl
 
 pub left_settled : (words : List ℕ) (line start : ℕ) (entry : WalEntry) (new : List ℕ) → IsEntrySettled words line start entry new → IsLeft words new
 left_settled words line start entry new done = record {
@@ -87,24 +68,24 @@ left_settled words line start entry new done = record {
   bounds = done.settled.keeps.bounds;
   roots = ap (λ (t : Tables). t.root) done.tables ∙ settled_roots words start entry;
   slabs = record {
-    classes = same_slabs (tables_of words) (tables_of new) (ap (λ (t : Tables). t.slab) done.tables ∙ settled_slab words start entry) (ap (λ (t : Tables). t.class) done.tables ∙ settled_class words start entry);
+    classes = same_slabs (tables_of words) (tables_of new) (ap slabs done.tables ∙ settled_slabs words start entry);
     morphing = done.settled.loose.morphing;
   };
 }
 
 -- a slab in Morphing comes to its class
-pub calms_finished : (words : List ℕ) (start : ℕ) (new : List ℕ) → IsFinished words start new → Calms words new
-calms_finished words start new done = record {
+pub none_morphing_finished : (words : List ℕ) (start : ℕ) (new : List ℕ) → IsFinished words start new → LeavesNoneMorphing words new
+none_morphing_finished words start new done = record {
   left = record {
     shut = record { image = done.keeps.steady; closed = done.closed };
     bounds = done.keeps.bounds;
     roots = ap (λ (t : Tables). t.root) done.tables;
     slabs = record {
-      classes = λ s class is. header_slabs (tables_of words) start (finished (header_of (tables_of words) start)) refl s class (subst (λ (t : Tables). slabs t s ≡ Some class) done.tables is);
-      morphing = λ s morphing. absurd (done.loose.calm s morphing);
+      classes = λ s class is. header_slabs (tables_of words) start (finished ((tables_of words).header start)) refl s class (subst (λ (t : Tables). slabs t s ≡ Some class) done.tables is);
+      morphing = λ s morphing. absurd (done.loose.none_morphing s morphing);
     };
   };
-  none = record { none = done.loose.calm };
+  none = record { none = done.loose.none_morphing };
 }
 
 -- a large extent goes
@@ -114,12 +95,12 @@ rids_large {words} {start} {new} may gone = record {
     shut = record { image = gone.image; closed = ap (λ (t : Tables). t.open_entry) gone.tables ∙ may.closed };
     bounds = gone.bounds;
     roots = ap (λ (t : Tables). t.root) gone.tables;
-    slabs = record { classes = same_slabs (tables_of words) (tables_of new) (ap (λ (t : Tables). t.slab) gone.tables) (ap (λ (t : Tables). t.class) gone.tables); morphing = gone.loose.morphing };
+    slabs = record { classes = same_slabs (tables_of words) (tables_of new) (ap slabs gone.tables); morphing = gone.loose.morphing };
   };
   loose = gone.loose;
   none = record {
     none = λ other loose.
-        let same : other ≡ start = may.image.steady.sound.loose_large.same other start (gone.loose.large other loose) may.loose in
+        let same : other ≡ start = may.image.steady.sound.loose.large.same other start (gone.loose.large other loose) may.loose in
         let none : (tables_of new).large other ≡ 0 = ap (tables_of new).large same ∙ ap (λ (t : Tables). t.large start) gone.tables ∙ put_at-same (tables_of words).large start 0 in
         omega (arith, loose.live, none);
   };
@@ -137,31 +118,24 @@ rids_empty {words} {start} {new} may dropped = record {
   loose = dropped.loose;
   none = record {
     none = λ other empty.
-        let same : other ≡ start = may.image.steady.sound.empty_slab.same other start (dropped.loose.empty other empty) may.empty in
+        let same : other ≡ start = may.image.steady.sound.loose.empty.same other start (dropped.loose.empty other empty) may.empty in
         true≢false (sym empty.slab ∙ ap (tables_of new).slab same ∙ dropped.slab.none);
   };
 }
   where
     dropped_slabs : (s class : ℕ) → slabs (tables_of new) s ≡ Some class → slabs (tables_of words) s ≡ Some class
     dropped_slabs s class is = ⊎_elim
-        (λ (here : s ≡ start). absurd (let none : slabs (tables_of new) s ≡ None = cond-false ((tables_of new).slab s) (Some ((tables_of new).class s)) None (ap (tables_of new).slab here ∙ dropped.slab.none) in cc))
+        (λ (here : s ≡ start). absurd (let none : slabs (tables_of new) s ≡ None = cond-false ((tables_of new).slab s) (Some ((tables_of new).header s).class) None (ap (tables_of new).slab here ∙ dropped.slab.none) in cc))
         (λ (differ : s ≢ start).
         let same = dropped.slab.others s differ in
-        ap (λ b. cond b (Some ((tables_of words).class s)) None) same.slab ∙ ap (λ c. cond ((tables_of new).slab s) (Some c) None) same.class ∙ is)
+        ap (λ b. cond b (Some ((tables_of words).header s).class) None) same.slab ∙ ap (λ (h : SlabHeader). cond ((tables_of new).slab s) (Some h.class) None) same.header ∙ is)
         (cases_eq s start)
 
 -- a done slab becomes normal
 
-pub nearly_of : (t : Tables) (start : ℕ) → IsDoneSlab t start → IsNearlyDone t start
-nearly_of t start done = record {
-  slab = done.slab;
-  kind = λ normal. omega (arith, normal, done.kind);
-  none = λ place below live. absurd (true≢false (sym live ∙ done.none place below));
-}
-
 pub classes_ended : {words : List ℕ} {start : ℕ} {new : List ℕ} → IsEnded words start new → KeepsClasses (tables_of words) (tables_of new)
 classes_ended {words} {start} {new} ended = record {
-  classes = λ s class is. header_slabs (tables_of words) start (settled (header_of (tables_of words) start)) refl s class (subst (λ (t : Tables). slabs t s ≡ Some class) ended.tables is);
+  classes = λ s class is. header_slabs (tables_of words) start (settled ((tables_of words).header start)) refl s class (subst (λ (t : Tables). slabs t s ≡ Some class) ended.tables is);
   morphing = ended.loose.morphing;
 }
 
@@ -176,8 +150,8 @@ rids_done {words} {start} {new} shut here ended = record {
   loose = ended.loose;
   none = record {
     none = λ other done.
-        (ended.nearly other (nearly_of (tables_of new) other done)).1
-        (shut.image.steady.sound.done.same other start (ended.loose.done other done) here);
+        (ended.nearly other (nearly_done (tables_of new) other done)).1
+        (shut.image.steady.sound.loose.done.same other start (ended.loose.done other done) here);
   };
 }
 
@@ -189,8 +163,8 @@ no_large_still loosens none = record { none = λ start loose. none.none start (l
 pub no_empty_still : {t u : Tables} → LoosensNothing t u → HasNone (IsEmptySlab t) → HasNone (IsEmptySlab u)
 no_empty_still loosens none = record { none = λ start empty. none.none start (loosens.empty start empty) }
 
-pub calm_still : {t u : Tables} → LoosensNothing t u → HasNone (IsMorphing t) → HasNone (IsMorphing u)
-calm_still loosens none = record { none = λ start morphing. none.none start (loosens.morphing start morphing) }
+pub none_morphing_still : {t u : Tables} → LoosensNothing t u → HasNone (IsMorphing t) → HasNone (IsMorphing u)
+none_morphing_still loosens none = record { none = λ start morphing. none.none start (loosens.morphing start morphing) }
 
 -- one part behind another
 pub left_then : {words between new : List ℕ} → IsLeft words between → IsLeft between new → IsLeft words new
@@ -236,5 +210,5 @@ pub names_left : (names : Names) (words new : List ℕ) → IsLeft words new →
 names_left names words new left are = names_same names words new left.bounds left.roots are
 
 -- all five parts
-pub left_all : {a b c d e f : List ℕ} → IsLeft a b → Calms b c → Rids IsLooseLarge c d → Rids IsEmptySlab d e → Rids IsDoneSlab e f → IsLeft a f
-left_all settled calm large empty done = left_then settled (left_then calm.left (left_then large.left (left_then empty.left done.left)))
+pub left_all : {a b c d e f : List ℕ} → IsLeft a b → LeavesNoneMorphing b c → Rids IsLooseLarge c d → Rids IsEmptySlab d e → Rids IsDoneSlab e f → IsLeft a f
+left_all settled none_morphing large empty done = left_then settled (left_then none_morphing.left (left_then large.left (left_then empty.left done.left)))

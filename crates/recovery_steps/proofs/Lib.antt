@@ -1,6 +1,7 @@
+pub mod Common
 pub mod Arenas
 pub mod Books
 pub mod Leaving
 pub mod NearlyDone
-pub mod Openings
+pub mod OpenEntries
 pub mod Chains

@@ -1,6 +1,6 @@
 pub mod Names
 pub mod Kinds
 pub mod Nearly
-pub mod Opening
+pub mod OpenEntry
 pub mod Parts
 pub mod Recovery

@@ -18,7 +18,7 @@ use Rattle.recovery_steps.specs.Names.{Names, AreNames}
 
 -- a part may begin: the image is of a kind, the log is that of its words, nothing is under way, and there is room for so
 -- many events
-pub record MayBegin (Is : List ℕ → Type 0) (log : Book) (s : PmemState) (most : ℕ) : Type 0 where
+pub record PartMayBegin (Is : List ℕ → Type 0) (log : Book) (s : PmemState) (most : ℕ) : Type 0 where
   pub image : Is (words_of s)
   pub book : IsBookOf log (words_of s)
   pub quiet : IsQuiet s.events
@@ -73,7 +73,7 @@ pub record IsSteadied (words new : List ℕ) : Type 0 where
   pub slabs : KeepsClasses (tables_of words) (tables_of new)
 
 -- no slab is in Morphing any more
-pub record Calms (words new : List ℕ) : Type 0 where
+pub record LeavesNoneMorphing (words new : List ℕ) : Type 0 where
   pub left : IsLeft words new
   pub none : HasNone (IsMorphing (tables_of new))
 

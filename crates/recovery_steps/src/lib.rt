@@ -14,7 +14,7 @@ mod extents;
 mod finishing;
 mod names;
 mod nearly;
-mod opening;
+mod open_entry;
 mod recovery;
 mod search;
 mod steadying;

@@ -23,8 +23,8 @@ const NORMAL: u32 = 1;
 fn old_block_at(words: &[u64], start: u32, place: u32) -> u32
     requires image { IsSoundImage words.now }
     requires slab { (tables_of words.now).slab start ≡ true }
-    requires place { place < (tables_of words.now).index_count start }
-    ensures { let t = tables_of words.now in result ≡ (slab_block start (t.old start) (t.number start place)).at }
+    requires place { place < ((tables_of words.now).header start).index_count }
+    ensures { let t = tables_of words.now in result ≡ (slab_block start (t.header start).old ((t.header start).number place)).at }
 {
     let old = state_field(words, start, 16) as u8;
     block_at(start, old, number_at(words, start, place))
@@ -35,7 +35,7 @@ fn is_leaving(words: &[u64], entry: Option<WalEntry>, start: u32, place: u32) ->
     requires image { IsSoundImage words.now }
     requires entry { (tables_of words.now).open_entry ≡ entry }
     requires slab { (tables_of words.now).slab start ≡ true }
-    requires place { place < (tables_of words.now).index_count start }
+    requires place { place < ((tables_of words.now).header start).index_count }
     ensures { IsTrue result ↔ IsLeaving (tables_of words.now) start place }
 {
     let (root, at, named) = match entry {
@@ -63,7 +63,7 @@ fn are_leaving(words: &[u64], entry: Option<WalEntry>, start: u32) -> bool
     requires image { IsSoundImage words.now }
     requires entry { (tables_of words.now).open_entry ≡ entry }
     requires slab { (tables_of words.now).slab start ≡ true }
-    ensures { let t = tables_of words.now in IsTrue result ↔ ((place : ℕ) → place < t.index_count start → t.live start place ≡ true → IsLeaving t start place) }
+    ensures { let t = tables_of words.now in IsTrue result ↔ ((place : ℕ) → place < (t.header start).index_count → (t.header start).live place ≡ true → IsLeaving t start place) }
 {
     for place in 0..state_field(words, start, 24) {
         if live_at(words, start, place) {

@@ -9,14 +9,14 @@ ghost use Rattle.log_steps.specs.Log.{IsBookOf};
 ghost use Rattle.settle_steps.specs.Settled.{KeepsHeap};
 ghost use Rattle.transition_steps.specs.Transitions.{LeavesHeap};
 ghost use Rattle.recovery_steps.specs.Names.{AreNames};
-ghost use Rattle.recovery_steps.specs.Parts.{MayBegin, IsPart, IsLeft};
+ghost use Rattle.recovery_steps.specs.Parts.{PartMayBegin, IsPart, IsLeft};
 ghost use Rattle.recovery_steps.specs.Recovery.{Recovers, RecoversSound};
 
 use crate::RootNames;
 use crate::ending::end_done;
 use crate::extents::{drop_empty, drop_loose};
 use crate::finishing::finish_morphing;
-use crate::opening::settle_open;
+use crate::open_entry::settle_open;
 use crate::steadying::make_steady;
 use book_log::BookLog;
 use pmem_lines::Pmem;
@@ -45,7 +45,7 @@ pub fn make_exact<P: Pmem>(p: &mut P, log: &mut BookLog, names: &RootNames)
 // The same from a steady image.
 fn make_steady_exact<P: Pmem>(p: &mut P, log: &mut BookLog, names: &RootNames)
     requires names { AreNames names.now (words_of (P.state p.old)) }
-    requires begins { MayBegin IsSteadyImage log.old (P.state p.old) ((layout_of (version_in (words_of (P.state p.old)))).recovery_events - 3) }
+    requires begins { PartMayBegin IsSteadyImage log.old (P.state p.old) ((layout_of (version_in (words_of (P.state p.old)))).recovery_events - 3) }
     ensures part { IsPart KeepsHeap (P.state p.old) (P.state p.new) Recovers ((layout_of (version_in (words_of (P.state p.old)))).recovery_events - 3) }
     ensures exact { IsExactImage (words_of (P.state p.new)) }
     ensures heap { KeepsHeap (words_of (P.state p.old)) (words_of (P.state p.new)) }

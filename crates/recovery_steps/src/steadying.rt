@@ -3,7 +3,7 @@ ghost use Rattle.pmem_lines.specs.Pmem.{words_of};
 ghost use Rattle.heap_check.specs.Image.{IsSoundImage};
 ghost use Rattle.transition_steps.specs.Transitions.{LeavesHeap};
 ghost use Rattle.recovery_steps.specs.Names.{AreNames};
-ghost use Rattle.recovery_steps.specs.Parts.{MayBegin, IsSteadied, Does};
+ghost use Rattle.recovery_steps.specs.Parts.{PartMayBegin, IsSteadied, Does};
 ghost use Rattle.recovery_steps.specs.Recovery.{EndsBesides};
 
 use crate::RootNames;
@@ -17,7 +17,7 @@ use transition_steps::end_transition;
 /// image there is none.
 pub(crate) fn make_steady<P: Pmem>(p: &mut P, log: &BookLog, names: &RootNames)
     requires names { AreNames names.now (words_of (P.state p.old)) }
-    requires begins { MayBegin IsSoundImage log.now (P.state p.old) 3 }
+    requires begins { PartMayBegin IsSoundImage log.now (P.state p.old) 3 }
     ensures { Does log.now LeavesHeap IsSteadied (P.state p.old) (P.state p.new) EndsBesides 3 }
 {
     if let Some(start) = done_besides(all_words(p), log, names) {

@@ -1,6 +1,7 @@
 // Runs over scripts of a dictionary, each with what was worked by hand.
 use crate::crashes::all_leave;
-use crate::runs::{all_end_and_write, all_tell};
+use crate::runs::all_end_and_write;
+use std::alloc::{AllocError, Global};
 use std::test::Fail;
 
 // A put of two words, the same key again, a read, and a removal of a key that is not there. Then a script of no call. Then keys
@@ -131,23 +132,100 @@ fn refused_scripts(rt: HostRuntime) -> Result<(), Fail> {
     all_end_and_write(&rt, rt.alloc(), REFUSED)
 }
 
-// A value has 509 words at most.
+// Each root but the stage gets a key. No put finds a root then, not even of a key that is there, until a key goes.
+const EVERY_ROOT: &str = "dict 16
+put {2048..4095}
+put {1..2047}
+put 4096
+put 7 1
+get 7
+del 7
+put 4096
+put 7
+$0 dict
+4095 times stored
+full
+full
+value
+removed
+stored
+full
+size 4095
+{1..6}
+{8..4096}
+";
+
+#[test]
+fn a_key_for_every_root(rt: HostRuntime) -> Result<(), Fail> {
+    all_end_and_write(&rt, rt.alloc(), EVERY_ROOT)
+}
+
+// A value has 509 words at most, for which a star stands here.
+const LONGEST: &str = "dict 16
+put 7*
+del 7
+$0 dict
+stored
+removed
+size 0
+----
+dict 16
+put 7* 1
+$2 dict
+bad line 2
+";
+
 #[test]
 fn the_longest_value(rt: HostRuntime) -> Result<(), Fail> {
-    let mut put = String::from_str(rt.alloc(), "dict 16\nput 7")?;
-    for _ in 0..509u32 {
-        put.push_str(" 1")?;
+    all_end_and_write(&rt, rt.alloc(), &with_longest(rt.alloc(), LONGEST)?)
+}
+
+// Each of three slabs holds 15 of the longest values. Then there is no space for a pair, not even of a key that is there or of no
+// word, until a key goes.
+const NO_SPACE: &str = "dict 16
+put {1..45}*
+put 46*
+put 3*
+put 46
+del 2
+put 46*
+put 1
+get 1
+$0 dict
+45 times stored
+no space
+no space
+no space
+removed
+stored
+no space
+value*
+size 45
+1*
+{3..46}*
+";
+
+#[test]
+fn no_space_for_a_pair(rt: HostRuntime) -> Result<(), Fail> {
+    all_end_and_write(&rt, rt.alloc(), &with_longest(rt.alloc(), NO_SPACE)?)
+}
+
+// A table in which each star stands for the words of a longest value.
+fn with_longest(alloc: Global, table: &str) -> Result<String, AllocError> {
+    let mut parts = table.split('*');
+    let mut text = String::from_str(alloc, parts.next().unwrap_or(""))?;
+    for part in parts {
+        push_longest(&mut text)?;
+        text.push_str(part)?;
     }
-    let longest = format!(in rt.alloc(); "{put}\ndel 7\n")?;
-    let stored = ("dict", 0, "stored\nremoved\nsize 0\n");
-    all_tell(&rt, rt.alloc(), longest.as_bytes(), &[stored])?;
-    let longer = format!(in rt.alloc(); "{put} 1\n")?;
-    all_tell(
-        &rt,
-        rt.alloc(),
-        longer.as_bytes(),
-        &[("dict", 2, "bad line 2\n")],
-    )
+    Ok(text)
+}
+
+fn push_longest(text: &mut String) -> Result<(), AllocError> {
+    for _ in 0..509u32 {
+        text.push_str(" 1")?;
+    }
+    Ok(())
 }
 
 // The first put has 108 events: its block comes to the stage by event 89, its five words are written by event 96, and the block

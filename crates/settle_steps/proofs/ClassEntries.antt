@@ -1,16 +1,7 @@
 -- An open place entry of a block of the slab's class: which block of the slab it is.
 use Rattle.std.proofs.Common.{◌≡◌, ℕ, ◌+◌, ◌-◌, ◌*◌, ◌/◌, ◌<◌, ◌≤◌, Bool, true, false, true≢false, List, refl, sym, ap, subst, ◌∙◌, arith, ⊎_elim}
 use Rattle.std.proofs.Math.Nat.{mul-div_cancel}
-use Rattle.size_classes.specs.Classes.{class_size, class_capacity}
-use Rattle.size_classes.proofs.Spacing.{class_size-least}
-use Rattle.image_tables.specs.declared.entry.WalEntry.{WalEntry}
-use Rattle.image_tables.specs.declared.entry.WalEntry.TheVariants.{Place}
-use Rattle.image_tables.specs.Tables.{Tables, is_slab, tables_of}
-use Rattle.image_tables.proofs.Tables.{slab_table}
-use Rattle.heap_model.specs.Machine.{Bounds, slab_block}
-use Rattle.heap_check.specs.Sound.{IsInSlab, IsNewEntry, IsOpenPlace, IsSound}
-use Rattle.heap_check.specs.Image.{bounds_of}
-use Rattle.heap_check.proofs.Geometry.{one_slab}
+use Rattle.settle_steps.proofs.Common.{class_size, class_capacity, class_size-least, WalEntry, Place, Tables, is_slab, tables_of, slab_table, Bounds, slab_block, IsInSlab, IsNewEntry, IsOpenPlace, IsSound, bounds_of, one_slab}
 use Rattle.settle_steps.specs.Settled.{IsOpenIn}
 use Rattle.settle_steps.specs.ClassBlocks.{IsOpenForBlock}
 use Rattle.settle_steps.specs.Entries.{number_at, class_block, LiesInSlab}
@@ -24,8 +15,8 @@ flag_is {entry} {root} {at} {place} is same = is ∙ ap (λ o. Place root at o p
 -- the block of the class that stands at the address, in the slab that has it
 record IsBlockThere (t : Tables) (start at : ℕ) : Type 0 where
   pub number : ℕ
-  pub below : number < class_capacity (t.class start)
-  pub is : at ≡ (slab_block start (t.class start) number).at
+  pub below : number < class_capacity (t.header start).class
+  pub is : at ≡ (slab_block start (t.header start).class number).at
 
 block_there : {b : Bounds} {t : Tables} → IsSound b t → (start at : ℕ) → IsNewEntry t at → IsInSlab t start at → IsBlockThere t start at
 block_there {b} {t} sound start at entry inside =
@@ -45,7 +36,7 @@ module _ {words : List ℕ} {line root at place : ℕ} {entry : WalEntry} (start
   sound = open_in.image.steady.sound
 
   placed : IsOpenPlace (bounds_of words) t root at false place
-  placed = (sound.open_entry (Place root at false place) (entry_is words line line_below (Place root at false place) open_in)).entry
+  placed = (sound.owned.open_entry (Place root at false place) (entry_is words line line_below (Place root at false place) open_in)).entry
 
   there : IsBlockThere t start at
   there = ⊎_elim (λ class. block_there sound start at class.1 inside) (λ old. absurd (true≢false (sym old.0))) placed.block
@@ -59,14 +50,14 @@ module _ {words : List ℕ} {line root at place : ℕ} {entry : WalEntry} (start
 
   number_is : number_at t start at ≡ there.number
   number_is =
-      let some = class_size-least (t.class start) (sound.slabs start inside.slab).state.is_class in
-      let off : at - (16384 * start + 2048) ≡ there.number * class_size (t.class start) = omega (arith, there.is) in
-      ap (λ n. n / class_size (t.class start)) off ∙ mul-div_cancel there.number (omega (arith, some))
+      let some = class_size-least (t.header start).class (sound.slabs start inside.slab).state.is_class in
+      let off : at - (16384 * start + 2048) ≡ there.number * class_size (t.header start).class = omega (arith, there.is) in
+      ap (λ n. n / class_size (t.header start).class) off ∙ mul-div_cancel there.number (omega (arith, some))
 
   pub block_open : IsOpenForBlock words line root (class_block (tables_of words) start at)
   block_open = record {
     open_in = subst (λ p. IsOpenIn words line (Place root at false p)) (open_in.here.fits.2 refl) open_in;
     slab = inside.slab;
     below = omega (arith, number_is, there.below);
-    at = there.is ∙ ap (λ n. (slab_block start (t.class start) n).at) (sym number_is);
+    at = there.is ∙ ap (λ n. (slab_block start (t.header start).class n).at) (sym number_is);
   }

@@ -1,30 +1,7 @@
 -- The bit of the open entry's block becomes what the root says, and then the entry is closed: the images.
 use Rattle.std.proofs.Common.{◌≡◌, ◌≢◌, ◌==◌, ℕ, ◌*◌, ◌<◌, Bool, List, refl, sym, ap, subst, ◌∙◌, arith, inl, inr, Some, None}
-use Rattle.pmem_lines.specs.Words.{word_at, put_word}
-use Rattle.pmem_lines.specs.Pmem.{PmemState}
-use Rattle.pmem_lines.specs.Steps.{IsQuietStep}
-use Rattle.durable_steps.specs.Steps.{word_events, IsOldOrNewWord}
-use Rattle.pool_layout.specs.Places.{root_word, wal_word}
-use Rattle.image_tables.specs.declared.entry.WalEntry.{WalEntry}
-use Rattle.image_tables.specs.Tables.{Tables, AreSlabsInHeap, tables_of}
-use Rattle.image_tables.specs.Updates.{put_in, put_bit, with_open_entry, HasNoMove}
-use Rattle.image_tables.proofs.Headers.{IsSameOffHeader-put, is_slab-off_header}
-use Rattle.image_tables.proofs.Stores.{few_lines, roots_plain}
-use Rattle.image_tables.proofs.Tables.{root_table}
-use Rattle.slab_header.specs.Steps.{PutsBitOver}
-use Rattle.attach_wal.specs.Wal.{Closes, ClosesOrNot}
-use Rattle.heap_model.specs.Machine.{Range}
-use Rattle.heap_check.specs.Heap.{heap}
-use Rattle.heap_check.specs.Sound.{LoosensNothing, IsSound, IsSteady}
-use Rattle.heap_check.specs.Image.{bounds_of}
-use Rattle.heap_check.specs.State.{IsWordOf}
-use Rattle.heap_check.proofs.BlockWords.{block_word-header}
-use Rattle.heap_check.proofs.Forms.{AreSlabsInHeap-sound, IsFormed-put_bitmap}
-use Rattle.heap_check.proofs.Geometry.{number_few}
-use Rattle.heap_check.proofs.Sizes.{sizes_of}
-use Rattle.heap_check.proofs.Small.{small_entry, block_in}
+use Rattle.settle_steps.proofs.Common.{word_at, put_word, PmemState, IsQuietStep, word_events, IsOldOrNewWord, root_word, wal_word, WalEntry, Tables, AreSlabsInHeap, tables_of, bit_rows, live_rows, put_in, put_bit, with_open_entry, HasNoMove, IsSameOffHeader-put, is_slab-off_header, few_lines, roots_plain, root_table, PutsBitOver, Closes, ClosesOrNot, Range, heap, LoosensNothing, IsSound, IsSteady, bounds_of, IsWordOf, block_word-header, AreSlabsInHeap-sound, IsFormed-put_bitmap, number_few, sizes_of, small_entry, block_in, entry_for, bit_word, bit_put}
 use Rattle.attach_steps.specs.declared.block.SmallBlock.{SmallBlock}
-use Rattle.attach_steps.specs.Steps.{entry_for, bit_word, bit_put}
 use Rattle.settle_steps.specs.Settled.{KeepsHeap}
 use Rattle.settle_steps.specs.ClassBlocks.{is_named, class_block_events, IsOpenForBlock, IsClassBlockSettled}
 use Rattle.settle_steps.proofs.OneRoot.{changed, IsSettling, IsSteady-settling, heap-settling, loosens_left, loosens_nothing}
@@ -71,10 +48,10 @@ module _ (words : List ℕ) (line root : ℕ) (block : SmallBlock) (line_below :
   -- where things lie
 
   pub number_low : block.number < 4096
-  number_low = number_few (t.class start) block.number (sound.slabs start may.slab).state.is_class may.below
+  number_low = number_few (t.header start).class block.number (sound.slabs start may.slab).state.is_class may.below
 
   rooted : root < (bounds_of words).roots
-  rooted = (sound.open_entry own entry_open).entry.rooted
+  rooted = (sound.owned.open_entry own entry_open).entry.rooted
 
   pub root_there : IsRootPlace words root
   root_there = root_place words root may.open_in.image.formed rooted
@@ -85,14 +62,14 @@ module _ (words : List ℕ) (line root : ℕ) (block : SmallBlock) (line_below :
 
   -- with the entry open, and closed
 
-  still : IsSettling (bounds_of words) t (put_in t.bit start block.number named) t.live t.open_entry root range
+  still : IsSettling (bounds_of words) t (put_in (bit_rows t) start block.number named) (live_rows t) t.open_entry root range
   still = IsSettling-bit root start block.number steady opens may.slab may.below named t.open_entry (record { is = inl opens })
 
-  shut : IsSettling (bounds_of words) t (put_in t.bit start block.number named) t.live None root range
+  shut : IsSettling (bounds_of words) t (put_in (bit_rows t) start block.number named) (live_rows t) None root range
   shut = IsSettling-bit root start block.number steady opens may.slab may.below named None (record { is = inr (refl, ap (λ a. t.root root == a) may.at) })
 
   abbrev settled : Tables
-  settled = changed t (put_in t.bit start block.number named) t.live None
+  settled = changed t (put_in (bit_rows t) start block.number named) (live_rows t) None
 
   off : (r : ℕ) (other : Range) (j : ℕ) → heap settled r ≡ Some other → IsWordOf other j → j ≢ bit_word block
   off r other j is word e = omega (arith, e, block_word-header (IsSteady-settling shut).sound refl r other is j word start may.slab, number_low)
@@ -118,7 +95,7 @@ module _ (words : List ℕ) (line root : ℕ) (block : SmallBlock) (line_below :
     made_tables = (over.each words refl refl).tables slabs lies.here
 
     made_keeps : KeepsHeap words made
-    made_keeps = keeps_as words line line_below own may.open_in (bit_word block) made settled (changed t (put_in t.bit start block.number named) t.live t.open_entry) shut_in made_near made_tables (IsSteady-settling still) (heap-settling still)
+    made_keeps = keeps_as words line line_below own may.open_in (bit_word block) made settled (changed t (put_in (bit_rows t) start block.number named) (live_rows t) t.open_entry) shut_in made_near made_tables (IsSteady-settling still) (heap-settling still)
 
     module _ (new : List ℕ) (closes : Closes made line new) where
       new_near : IsNear words line (bit_word block) new

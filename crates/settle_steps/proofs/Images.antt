@@ -1,33 +1,12 @@
 -- Images while an open entry is settled: all is as in the words but for one word and that of the entry's line.
 use Rattle.std.proofs.Common.{◌≡◌, ◌≢◌, ◌==◌, ℕ, zero, suc, ◌+◌, ◌*◌, ◌/◌, ◌^◌, ◌<◌, ◌≤◌, true, List, ◌++◌, length, refl, sym, ap, subst, ◌∙◌, arith, ⊎_elim, Some, None}
-use Rattle.std.proofs.lemmas.Bool.{cases_eq, cond-true, cond-false, eq-eqb, ne_eqb}
-use Rattle.pmem_lines.specs.Words.{word_at, put_word}
+use Rattle.settle_steps.proofs.Common.{cases_eq, cond-true, cond-false, eq-eqb, ne_eqb, word_at, put_word, Event, PmemState, IsQuietStep, step_then, word_events, IsOldOrNewWord, fields_word, root_word, wal_word, WalEntry, IsWalWord, few_lines, IsOffLog-wal, slab_table, slab_fields, HasNoOther, Closes, ClosesOrNot, Bounds, Range, heap, IsSound, IsSteady, bounds_of, IsFormed, IsWordOf, AreSlabsInHeap-sound, bounds_of-put_word, IsFormed-put_wal, granules_at-slab, index_count_few, sizes_of, root_inside, block_word-heap}
 use Rattle.pmem_lines.proofs.Words.{word_at-put_other, length-put_word}
-use Rattle.pmem_lines.specs.declared.event.Event.{Event}
-use Rattle.pmem_lines.specs.Pmem.{PmemState}
-use Rattle.pmem_lines.specs.Steps.{IsQuietStep}
-use Rattle.pmem_lines.proofs.Steps.{step_then}
-use Rattle.durable_steps.specs.Steps.{word_events, IsOldOrNewWord}
 use Rattle.pool_layout.specs.Layout.{layout_of}
-use Rattle.pool_layout.specs.Places.{fields_word, root_word, wal_word}
 use Rattle.pool_layout.specs.Header.{version_in}
-use Rattle.image_tables.specs.declared.entry.WalEntry.{WalEntry}
-use Rattle.image_tables.specs.Forms.{IsWalWord}
 use Rattle.image_tables.specs.Tables.{Tables, entry_of_word, entry_among, AreSlabsInHeap, is_slab_of, is_slab, state_field, wal_lines, tables_of}
 use Rattle.image_tables.proofs.Extents.{extent_at-elsewhere}
-use Rattle.image_tables.proofs.Stores.{few_lines, IsOffLog-wal}
-use Rattle.image_tables.proofs.Tables.{slab_table, slab_fields}
-use Rattle.attach_wal.specs.Wal.{HasNoOther, Closes, ClosesOrNot}
-use Rattle.heap_model.specs.Machine.{Bounds, Range}
-use Rattle.heap_check.specs.Heap.{heap}
-use Rattle.heap_check.specs.Sound.{IsSound, IsSteady}
-use Rattle.heap_check.specs.Image.{bounds_of, IsFormed}
-use Rattle.heap_check.specs.State.{IsWordOf}
-use Rattle.heap_check.proofs.Forms.{AreSlabsInHeap-sound, bounds_of-put_word, IsFormed-put_wal}
-use Rattle.heap_check.proofs.Geometry.{granules_at-slab, index_count_few}
-use Rattle.heap_check.proofs.Sizes.{sizes_of, root_inside}
-use Rattle.heap_check.proofs.BlockWords.{block_word-heap}
-use Rattle.settle_steps.specs.Settled.{IsOpenIn, KeepsHeap, KeepsOthers, LoosensLeft, IsSettled}
+use Rattle.settle_steps.specs.Settled.{IsOpenIn, KeepsHeap, KeepsAllButOne, LoosensLeft, IsSettled}
 
 -- the image is well formed, has the same numbers, no entry in another line, and the same words but for those two
 pub record IsNear (words : List ℕ) (line k : ℕ) (image : List ℕ) : Type 0 where
@@ -35,7 +14,7 @@ pub record IsNear (words : List ℕ) (line k : ℕ) (image : List ℕ) : Type 0 
   pub bounds : bounds_of image ≡ bounds_of words
   pub slabs : AreSlabsInHeap image
   pub alone : HasNoOther image line
-  pub rest : KeepsOthers words line k image
+  pub rest : KeepsAllButOne words line k image
 
 -- Tables in which the entry is settled and none is open: they are steady, with the same heap, in which no block has the word
 -- at k.
@@ -64,7 +43,7 @@ pub slab_lies : (words : List ℕ) → IsFormed words → IsSound (bounds_of wor
 slab_lies words formed sound start slab =
     let sizes = sizes_of words formed in
     let four = granules_at-slab (tables_of words) start slab in
-    let bounds = sound.starts start (omega (arith, four)) in
+    let bounds = sound.extents.starts start (omega (arith, four)) in
     record { low = bounds.0; high = omega (arith, sizes.most, bounds.1, four); header = omega (arith, sizes.size, bounds.1, four); here = sym (slab_table words start) ∙ slab }
 
 -- no slab of a sound image has more than 64 index entries

@@ -1,3 +1,4 @@
+pub mod Common
 pub mod OneRoot
 pub mod ClassTables
 pub mod OldTables

@@ -1,27 +1,7 @@
 -- An open move entry is settled: the images.
 use Rattle.std.proofs.Common.{◌≡◌, ◌≢◌, ◌&&◌, ℕ, ◌*◌, ◌<◌, Bool, true, false, cond, ltb, List, refl, sym, ap, subst, ◌∙◌, arith, inl, inr, ⊎_elim, Some, None}
-use Rattle.std.proofs.lemmas.Bool.{and_parts, ltb-true}
-use Rattle.pmem_lines.specs.Words.{word_at}
-use Rattle.pmem_lines.specs.Pmem.{PmemState}
-use Rattle.pmem_lines.specs.Steps.{IsQuietStep}
-use Rattle.durable_steps.specs.Steps.{word_events}
-use Rattle.pool_layout.specs.Places.{root_word, wal_word}
-use Rattle.image_tables.specs.declared.entry.WalEntry.{WalEntry}
-use Rattle.image_tables.specs.declared.entry.WalEntry.TheVariants.{Move}
+use Rattle.settle_steps.proofs.Common.{and_parts, ltb-true, word_at, PmemState, IsQuietStep, word_events, root_word, wal_word, WalEntry, Move, put_at, with_open_entry, put_at-same, put_at-other, few_lines, extent_at-put_root, tables_store_root, word_table, Closes, ClosesOrNot, Range, heap, IsOpenMove, IsSteady, LoosensNothing, bounds_of, IsWordOf, block_word-heap, AreSlabsInHeap-sound, IsFormed-put_root, sizes_of}
 use Rattle.image_tables.specs.Tables.{held_of, Tables, AreSlabsInHeap, is_slab_of, tables_of}
-use Rattle.image_tables.specs.Updates.{put_at, with_open_entry}
-use Rattle.image_tables.proofs.Updates.{put_at-same, put_at-other}
-use Rattle.image_tables.proofs.Stores.{few_lines, extent_at-put_root, tables_store_root}
-use Rattle.image_tables.proofs.Tables.{word_table}
-use Rattle.attach_wal.specs.Wal.{Closes, ClosesOrNot}
-use Rattle.heap_model.specs.Machine.{Range}
-use Rattle.heap_check.specs.Heap.{heap}
-use Rattle.heap_check.specs.Sound.{IsOpenMove, IsSteady, LoosensNothing}
-use Rattle.heap_check.specs.Image.{bounds_of}
-use Rattle.heap_check.specs.State.{IsWordOf}
-use Rattle.heap_check.proofs.BlockWords.{block_word-heap}
-use Rattle.heap_check.proofs.Forms.{AreSlabsInHeap-sound, IsFormed-put_root}
-use Rattle.heap_check.proofs.Sizes.{sizes_of}
 use Rattle.settle_steps.specs.Settled.{KeepsHeap}
 use Rattle.settle_steps.specs.Moves.{both_named, release_events, move_events, released, ReleasesOrNot, IsOpenForMove, IsMoveSettled}
 use Rattle.settle_steps.proofs.MoveTables.{reworded, IsMoveStage, IsSteady-reworded, heap-reworded, loosens_left, loosens_nothing, held_released, held_settled}
@@ -56,7 +36,7 @@ module _ (words : List ℕ) (line from to : ℕ) (line_below : line < 8) (may : 
   entry_open = entry_is words line line_below own may
 
   opened : IsOpenMove (bounds_of words) t from to
-  opened = (steady.sound.open_entry own entry_open).entry
+  opened = (steady.sound.owned.open_entry own entry_open).entry
 
   pub from_place : IsRootPlace words from
   from_place = root_place words from may.image.formed opened.low

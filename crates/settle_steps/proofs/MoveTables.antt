@@ -1,14 +1,6 @@
 -- An open move entry is settled: what the tables say at each stage.
 use Rattle.std.proofs.Common.{◌≡◌, ◌≢◌, ◌⊎◌, ◌==◌, ◌&&◌, ℕ, Bool, true, false, cond, refl, sym, ap, ◌∙◌, arith, ⊎_elim, ltb, Option, Some, None}
-use Rattle.std.proofs.lemmas.Bool.{cases_eq, cases_lt, eq-eqb, ne_eqb, lt-ltb}
-use Rattle.image_tables.specs.declared.entry.WalEntry.{WalEntry}
-use Rattle.image_tables.specs.declared.entry.WalEntry.TheVariants.{Move}
-use Rattle.image_tables.specs.Tables.{held_of, Tables}
-use Rattle.image_tables.specs.Updates.{put_at}
-use Rattle.image_tables.proofs.Updates.{put_at-same, put_at-other}
-use Rattle.heap_model.specs.Machine.{Bounds}
-use Rattle.heap_check.specs.Heap.{entry_at, heap}
-use Rattle.heap_check.specs.Sound.{IsOpenMove, IsMorphing, IsSteady, LoosensNothing}
+use Rattle.settle_steps.proofs.Common.{cases_eq, cases_lt, eq-eqb, ne_eqb, lt-ltb, WalEntry, Move, held_of, Tables, put_at, put_at-same, put_at-other, Bounds, entry_at, heap, IsOpenMove, IsMorphing, IsSteady, LoosensNothing}
 use Rattle.settle_steps.proofs.Renamed.{IsRenaming, IsSteady-renamed, heap-renamed, loosens_renamed, nearly_back}
 use Rattle.settle_steps.specs.Settled.{LoosensLeft}
 
@@ -30,24 +22,24 @@ module _ {b : Bounds} {t : Tables} (from to : ℕ) (steady : IsSteady b t) (open
   unnamed : (r : ℕ) → entry_at t.open_entry r ≡ 0
   unnamed r = ap (λ e. entry_at e r) opens
 
-  calm : (start : ℕ) → ¬ (IsMorphing t start)
-  calm start morphing = (steady.sound.open_entry (Move from to) opens).calm start morphing.slab morphing.kind
+  none_morphing : (start : ℕ) → ¬ (IsMorphing t start)
+  none_morphing start morphing = (steady.sound.owned.open_entry (Move from to) opens).none_morphing start morphing.slab morphing.kind
 
   pub IsSteady-reworded : IsSteady b (reworded t word entry)
-  IsSteady-reworded = IsSteady-renamed steady unnamed calm from to word same entry renaming
+  IsSteady-reworded = IsSteady-renamed steady unnamed none_morphing from to word same entry renaming
 
   pub heap-reworded : (r : ℕ) → heap (reworded t word entry) r ≡ heap t r
-  heap-reworded = heap-renamed steady unnamed calm from to word same entry renaming
+  heap-reworded = heap-renamed steady unnamed none_morphing from to word same entry renaming
 
   pub loosens_nothing : LoosensNothing t (reworded t word entry)
-  loosens_nothing = loosens_renamed steady unnamed calm from to word same entry renaming
+  loosens_nothing = loosens_renamed steady unnamed none_morphing from to word same entry renaming
 
   pub loosens_left : LoosensLeft t (reworded t word entry)
   loosens_left = record {
     large = loosens_nothing.large;
     empty = loosens_nothing.empty;
     morphing = loosens_nothing.morphing;
-    done = λ start done. nearly_back steady unnamed calm from to word same entry renaming start
+    done = λ start done. nearly_back steady unnamed none_morphing from to word same entry renaming start
         (record { slab = done.slab; kind = λ normal. omega (arith, normal, done.kind); none = λ place below live. absurd (let none = done.none place below in cc) });
   }
 

@@ -1,34 +1,7 @@
 -- The live bit of the open entry's old block becomes what the root says, and then the entry is closed: the images.
 use Rattle.std.proofs.Common.{◌≡◌, ◌≢◌, ◌⊎◌, ◌==◌, ℕ, ◌*◌, ◌/◌, ◌%◌, ◌^◌, ◌<◌, Bool, true, true≢false, List, length, refl, sym, ap, subst, ◌∙◌, arith, inl, inr, ⊎_elim, Option, Some, None}
-use Rattle.pmem_lines.specs.Words.{word_at, put_word}
+use Rattle.settle_steps.proofs.Common.{word_at, put_word, PmemState, IsQuietStep, word_events, IsOldOrNewWord, root_word, wal_word, WalEntry, Place, morphed_kind, IsIndexWord, Tables, AreSlabsInHeap, index_word, tables_of, bit_rows, live_rows, number_rows, put_in, put_live, with_rows, with_open_entry, HasNoMove, put_in-own, IsSameOffHeader-put, is_slab-off_header, few_lines, roots_plain, root_table, number_table, IndexEntry, word_of_index, PutsIndexOver, Closes, ClosesOrNot, Bounds, Range, heap, IsInSlab, IsOldEntry, IsOpenPlace, IsSound, IsSteady, bounds_of, IsWordOf, block_word-header, AreSlabsInHeap-sound, index_count_few, sizes_of, one_slab, old_in}
 use Rattle.pmem_lines.proofs.Words.{word_at-put_same}
-use Rattle.pmem_lines.specs.Pmem.{PmemState}
-use Rattle.pmem_lines.specs.Steps.{IsQuietStep}
-use Rattle.durable_steps.specs.Steps.{word_events, IsOldOrNewWord}
-use Rattle.pool_layout.specs.Places.{root_word, wal_word}
-use Rattle.image_tables.specs.declared.entry.WalEntry.{WalEntry}
-use Rattle.image_tables.specs.declared.entry.WalEntry.TheVariants.{Place}
-use Rattle.image_tables.specs.Forms.{morphed_kind, IsIndexWord}
-use Rattle.image_tables.specs.Tables.{Tables, AreSlabsInHeap, index_word, tables_of}
-use Rattle.image_tables.specs.Updates.{put_in, with_open_entry, HasNoMove}
-use Rattle.image_tables.proofs.Updates.{put_in-own}
-use Rattle.image_tables.proofs.Headers.{IsSameOffHeader-put, is_slab-off_header}
-use Rattle.image_tables.proofs.Stores.{few_lines, roots_plain}
-use Rattle.image_tables.proofs.Tables.{root_table, number_table}
-use Rattle.slab_header.specs.declared.index.IndexEntry.{IndexEntry}
-use Rattle.slab_header.specs.Index.{word_of_index}
-use Rattle.slab_header.specs.Steps.{PutsIndexOver}
-use Rattle.attach_wal.specs.Wal.{Closes, ClosesOrNot}
-use Rattle.heap_model.specs.Machine.{Bounds, Range}
-use Rattle.heap_check.specs.Heap.{heap}
-use Rattle.heap_check.specs.Sound.{IsInSlab, IsOldEntry, IsOpenPlace, IsSound, IsSteady}
-use Rattle.heap_check.specs.Image.{bounds_of}
-use Rattle.heap_check.specs.State.{IsWordOf}
-use Rattle.heap_check.proofs.BlockWords.{block_word-header}
-use Rattle.heap_check.proofs.Forms.{AreSlabsInHeap-sound}
-use Rattle.heap_check.proofs.Geometry.{index_count_few}
-use Rattle.heap_check.proofs.Sizes.{sizes_of}
-use Rattle.heap_check.proofs.Geometry.{one_slab}
 use Rattle.attach_steps.specs.declared.block.OldBlock.{OldBlock}
 use Rattle.settle_steps.specs.Settled.{KeepsHeap}
 use Rattle.settle_steps.specs.ClassBlocks.{is_named}
@@ -36,14 +9,13 @@ use Rattle.settle_steps.specs.OldBlocks.{entry_put, live_put, old_block_events, 
 use Rattle.settle_steps.proofs.OneRoot.{changed, IsSettling, IsSteady-settling, heap-settling, loosens_left}
 use Rattle.heap_check.proofs.IndexForms.{IsFormed-put_index}
 use Rattle.settle_steps.proofs.OldTables.{IsSettling-live}
-use Rattle.heap_check.proofs.OldBlock.{old_in}
 use Rattle.settle_steps.proofs.EntrySlabs.{in_slab_old}
 use Rattle.settle_steps.proofs.Images.{IsNear, IsShutIn, IsRootPlace, root_place, entry_is, LiesInWords, slab_lies, near_put, near_close, keeps_as, word_keeps, settled_as, settle_step}
 
 -- The old block that an open entry names, in the slab that has its address.
 record IsOldThere (t : Tables) (start at place : ℕ) : Type 0 where
-  pub kind : t.kind start ≡ morphed_kind
-  pub below : place < t.index_count start
+  pub kind : (t.header start).kind ≡ morphed_kind
+  pub below : place < (t.header start).index_count
   pub is : at ≡ (old_in t start place).at
 
 old_there : {b : Bounds} {t : Tables} → IsSound b t → (start at place : ℕ) → IsOldEntry t at place → IsInSlab t start at → IsOldThere t start at place
@@ -76,7 +48,7 @@ module _ (words : List ℕ) (line root : ℕ) (block : OldBlock) (line_below : l
   entry_open = entry_is words line line_below own may.open_in
 
   placed : IsOpenPlace (bounds_of words) t root block.at true block.place
-  placed = (sound.open_entry own entry_open).entry
+  placed = (sound.owned.open_entry own entry_open).entry
 
   there : IsOldThere t block.start block.at block.place
   there = ⊎_elim (λ class. absurd (true≢false class.0)) (λ old. old_there sound block.start block.at block.place old.1 may.inside) placed.block
@@ -106,27 +78,27 @@ module _ (words : List ℕ) (line root : ℕ) (block : OldBlock) (line_below : l
   reads_named_old = ap (λ w. w == block.at) (sym (root_table words root plain placed.rooted))
 
   -- and what is read of the entry is its number
-  pub reads_number : word_at words (index_word block.start block.place) / 2 ^ 16 % 2 ^ 16 ≡ (tables_of words).number block.start block.place
+  pub reads_number : word_at words (index_word block.start block.place) / 2 ^ 16 % 2 ^ 16 ≡ ((tables_of words).header block.start).number block.place
   reads_number = sym (number_table words start block.place lies.here place_low)
 
   -- with the entry open, and closed
 
   abbrev lives : ℕ → ℕ → Bool
-  lives = put_in t.live start block.place named
+  lives = put_in (live_rows t) start block.place named
 
-  settling : (entry : Option WalEntry) → (entry ≡ Some (Place root range.at true block.place)) ⊎ (entry ≡ None) → IsSettling (bounds_of words) t t.bit lives entry root range
+  settling : (entry : Option WalEntry) → (entry ≡ Some (Place root range.at true block.place)) ⊎ (entry ≡ None) → IsSettling (bounds_of words) t (bit_rows t) lives entry root range
   settling entry stage =
-      subst (λ on. IsSettling (bounds_of words) t t.bit (put_in t.live start block.place on) entry root range) (ap (λ a. t.root root == a) (sym there.is))
+      subst (λ on. IsSettling (bounds_of words) t (bit_rows t) (put_in (live_rows t) start block.place on) entry root range) (ap (λ a. t.root root == a) (sym there.is))
       (IsSettling-live root start block.place steady opens may.inside.slab there.kind there.below entry stage)
 
-  still : IsSettling (bounds_of words) t t.bit lives t.open_entry root range
+  still : IsSettling (bounds_of words) t (bit_rows t) lives t.open_entry root range
   still = settling t.open_entry (inl opens)
 
-  shut : IsSettling (bounds_of words) t t.bit lives None root range
+  shut : IsSettling (bounds_of words) t (bit_rows t) lives None root range
   shut = settling None (inr refl)
 
   abbrev settled : Tables
-  settled = changed t t.bit lives None
+  settled = changed t (bit_rows t) lives None
 
   off : (r : ℕ) (other : Range) (j : ℕ) → heap settled r ≡ Some other → IsWordOf other j → j ≢ index_word block.start block.place
   off r other j is word e = omega (arith, e, block_word-header (IsSteady-settling shut).sound refl r other is j word start may.inside.slab, place_low)
@@ -159,21 +131,21 @@ module _ (words : List ℕ) (line root : ℕ) (block : OldBlock) (line_below : l
         (λ e. omega (arith, e, lies.low, place_low, sizes.first))
         (λ other below e. omega (arith, e, lies.low, sizes.first, few_lines, below))
 
-    made_tables : tables_of made ≡ changed t t.bit lives t.open_entry
-    made_tables = (over.each words refl).tables slabs lies.here ∙ (λ i. record t { live = lives; number = put_in-own t.number start block.place i })
+    made_tables : tables_of made ≡ changed t (bit_rows t) lives t.open_entry
+    made_tables = (over.each words refl).tables slabs lies.here ∙ (λ i. with_rows t (bit_rows t) lives (put_in-own (number_rows t) start block.place i))
 
     made_keeps : KeepsHeap words made
-    made_keeps = keeps_as words line line_below own may.open_in k made settled (changed t t.bit lives t.open_entry) shut_in made_near made_tables (IsSteady-settling still) (heap-settling still)
+    made_keeps = keeps_as words line line_below own may.open_in k made settled (changed t (bit_rows t) lives t.open_entry) shut_in made_near made_tables (IsSteady-settling still) (heap-settling still)
 
     module _ (new : List ℕ) (closes : Closes made line new) where
       new_near : IsNear words line k new
       new_near = near_close words line line_below own may.open_in k made new made_near closes
 
-      new_tables : tables_of new ≡ record t { live = lives; open_entry = None }
+      new_tables : tables_of new ≡ record (put_live t start block.place named) { open_entry = None }
       new_tables =
           closes.tables made_near.slabs made_near.alone
           ∙ ap (λ (x : Tables). with_open_entry x None) made_tables
-          ∙ (λ i. record t { live = lives; root = sym (roots_plain words plain) i; open_entry = None })
+          ∙ (λ i. record (put_live t start block.place named) { root = sym (roots_plain words plain) i; open_entry = None })
 
       made_settled : IsOldBlockSettled words line root block new
       made_settled = record {

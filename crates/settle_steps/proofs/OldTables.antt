@@ -1,25 +1,12 @@
 -- The live bit of the open entry's block, an old one of its slab, becomes what the root says, and then the entry is
 -- closed: what the tables say at each stage.
 use Rattle.std.proofs.Common.{◌≡◌, ◌≢◌, ◌⊎◌, ◌==◌, ℕ, ◌/◌, ◌<◌, ◌≤◌, Bool, true, false, refl, sym, ap, subst, ◌∙◌, arith, inl, inr, ⊎_elim, Option, Some, None}
-use Rattle.std.proofs.lemmas.Bool.{eq-eqb, ne_eqb}
-use Rattle.size_classes.specs.Classes.{class_size}
-use Rattle.image_tables.specs.declared.entry.WalEntry.{WalEntry}
-use Rattle.image_tables.specs.declared.entry.WalEntry.TheVariants.{Place}
-use Rattle.image_tables.specs.Forms.{morphed_kind}
-use Rattle.image_tables.specs.Tables.{Tables}
-use Rattle.image_tables.specs.Updates.{put_in}
-use Rattle.image_tables.proofs.Updates.{put_in-same, put_in-other}
-use Rattle.heap_model.specs.Machine.{Bounds, Range}
-use Rattle.heap_check.specs.Heap.{slab_of, is_large, entry_at, IsClaim, Holds, HoldsOld}
-use Rattle.heap_check.specs.Sound.{IsInSlab, IsValidSlab, IsOpen, IsOpenPlace, IsStanding, IsLeaving, IsNearlyDone, IsSound, IsSteady}
-use Rattle.heap_check.proofs.Claims.{NamesOnly, NamesOnly-none, NamesOnly-some, plain_size, IsClaim-named}
-use Rattle.heap_check.proofs.Geometry.{plain_size-some}
-use Rattle.heap_check.proofs.Small.{cases_bit}
+use Rattle.settle_steps.proofs.Common.{eq-eqb, ne_eqb, class_size, WalEntry, Place, morphed_kind, Tables, bit_rows, live_rows, put_in, put_in-same, put_in-other, Bounds, Range, slab_of, is_large, entry_at, IsClaim, Holds, HoldsOld, IsInSlab, IsValidSlab, IsOpen, IsOpenPlace, IsStanding, IsLeaving, IsNearlyDone, IsSound, IsSteady, NamesOnly, NamesOnly-none, NamesOnly-some, plain_size, IsClaim-named, plain_size-some, cases_bit}
 use Rattle.heap_check.proofs.OldBlock.{old_in, relived, Holds-relived_back, Holds-relived, plain_size-elsewhere, old_some, IsInSlab-old, old_large, old_here, plain_size-live, unheld-dead}
 use Rattle.settle_steps.proofs.OneRoot.{changed, claim_by_entry, IsSettling}
 
-module _ {b : Bounds} {t : Tables} (root start place : ℕ) (steady : IsSteady b t) (opens : t.open_entry ≡ Some (Place root (old_in t start place).at true place)) (slab : t.slab start ≡ true) (morphed : t.kind start ≡ morphed_kind)
-    (below : place < t.index_count start) where
+module _ {b : Bounds} {t : Tables} (root start place : ℕ) (steady : IsSteady b t) (opens : t.open_entry ≡ Some (Place root (old_in t start place).at true place)) (slab : t.slab start ≡ true) (morphed : (t.header start).kind ≡ morphed_kind)
+    (below : place < (t.header start).index_count) where
   abbrev block : Range
   block = old_in t start place
 
@@ -31,21 +18,21 @@ module _ {b : Bounds} {t : Tables} (root start place : ℕ) (steady : IsSteady b
   on = t.root root == block.at
 
   abbrev lives : ℕ → ℕ → Bool
-  lives = put_in t.live start place on
+  lives = put_in (live_rows t) start place on
 
   sound : IsSound b t
   sound = steady.sound
 
-  valid : IsValidSlab t start
+  valid : IsValidSlab (t.header start)
   valid = sound.slabs start slab
 
   opened : IsOpen b t own_entry
-  opened = sound.open_entry own_entry opens
+  opened = sound.owned.open_entry own_entry opens
 
   placed : IsOpenPlace b t root block.at true place
   placed = opened.entry
 
-  size_some : 16 ≤ class_size (t.old start)
+  size_some : 16 ≤ class_size (t.header start).old
   size_some = old_some sound start place slab morphed below
 
   inside : IsInSlab t start block.at
@@ -72,15 +59,15 @@ module _ {b : Bounds} {t : Tables} (root start place : ℕ) (steady : IsSteady b
 
   module _ (entry : Option WalEntry) (stage : (entry ≡ Some (Place root (old_in t start place).at true place)) ⊎ (entry ≡ None)) where
     abbrev new : Tables
-    new = changed t t.bit lives entry
+    new = changed t (bit_rows t) lives entry
 
     -- where the live bit is clear no slab holds the block
     unheld : on ≡ false → (other : ℕ) → ¬ (Holds new other block)
     unheld clear other holds = unheld-dead sound start place slab morphed below t.word t.root entry other (subst (λ o. Holds (relived t start place o t.word t.root entry) other block) clear holds)
 
     -- where it is set, the slab holds it
-    held : on ≡ true → HoldsOld new start block
-    held set = record { place = place; below = below; live = put_in-same t.live start place on ∙ set; is = refl }
+    held : on ≡ true → HoldsOld (new.header start) start block
+    held set = record { place = place; below = below; live = put_in-same (live_rows t) start place on ∙ set; is = refl }
 
     plain_size-block : on ≡ true → plain_size new block.at ≡ block.size
     plain_size-block set = ap (λ o. plain_size (relived t start place o t.word t.root entry) block.at) set ∙ plain_size-live sound start place slab morphed below t.word t.root entry
@@ -108,7 +95,7 @@ module _ {b : Bounds} {t : Tables} (root start place : ℕ) (steady : IsSteady b
         let same : own_entry ≡ e = cc in
         subst (IsOpen b new) same (record {
           entry = record { rooted = placed.rooted; word = placed.word; block = inr (refl, record { start = start; slab = slab; kind = morphed; below = below; is = refl }) };
-          calm = opened.calm;
+          none_morphing = opened.none_morphing;
         }))
         (λ shut. absurd (cc))
         stage
@@ -129,16 +116,16 @@ module _ {b : Bounds} {t : Tables} (root start place : ℕ) (steady : IsSteady b
       none = λ p under live. ⊎_elim
           (λ at. ⊎_elim
           (λ none. subst (λ s. IsLeaving t s p) (sym at.0) (subst (λ p. IsLeaving t start p) (sym at.1) (record { root = root; entry = opens; none = none.0 })))
-          (λ has. leaves s p (done.none p under (ap (λ s. put_in t.live start place on s p) at.0 ∙ ap (λ p. put_in t.live start place on start p) at.1 ∙ put_in-same t.live start place on ∙ has.1)))
+          (λ has. leaves s p (done.none p under (ap (λ s. put_in (live_rows t) start place on s p) at.0 ∙ ap (λ p. put_in (live_rows t) start place on start p) at.1 ∙ put_in-same (live_rows t) start place on ∙ has.1)))
           named_or_none)
-          (λ elsewhere. leaves s p (done.none p under (put_in-other t.live start place on s p elsewhere ∙ live)))
+          (λ elsewhere. leaves s p (done.none p under (put_in-other (live_rows t) start place on s p elsewhere ∙ live)))
           (cases_bit start place s p);
     }
 
     new_names : NamesOnly entry root
     new_names = ⊎_elim (λ still. subst (λ e. NamesOnly e root) (sym still) (NamesOnly-some root block.at true place)) (λ shut. NamesOnly-none entry root shut) stage
 
-    pub IsSettling-live : IsSettling b t t.bit (put_in t.live start place (t.root root == (old_in t start place).at)) entry root (old_in t start place)
+    pub IsSettling-live : IsSettling b t (bit_rows t) (put_in (live_rows t) start place (t.root root == (old_in t start place).at)) entry root (old_in t start place)
     IsSettling-live = record {
       steady = steady;
       names = subst (λ e. NamesOnly e root) (sym opens) (NamesOnly-some root block.at true place);

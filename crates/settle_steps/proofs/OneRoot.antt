@@ -1,27 +1,19 @@
 -- A slab comes to hold the block of the open entry's root, or holds it no more, and the entry is open still or closed: the
 -- image stays steady, and its heap the same.
 use Rattle.std.proofs.Common.{◌≡◌, ◌≢◌, ◌⊎◌, ◌==◌, ◌&&◌, ℕ, ◌/◌, ◌<◌, Bool, true, false, true≢false, cond, refl, sym, ap, ◌∙◌, arith, ⊎_elim, ltb, Option, Some, None}
-use Rattle.std.proofs.lemmas.Bool.{cases_eq, cond-true, cond-false, eq-eqb, ne_eqb, and_from, lt-ltb}
-use Rattle.size_classes.specs.Classes.{class_size}
-use Rattle.image_tables.specs.declared.entry.WalEntry.{WalEntry}
-use Rattle.image_tables.specs.declared.entry.WalEntry.TheVariants.{Place}
-use Rattle.image_tables.specs.Tables.{Tables}
-use Rattle.heap_model.specs.Machine.{Bounds, Range}
-use Rattle.heap_check.specs.Heap.{slab_of, is_large, size_at, entry_at, entry_old, claim_at, heap, IsClaim, Holds}
-use Rattle.heap_check.specs.Sound.{Covers, IsValidSlab, IsOpen, IsStanding, IsLooseLarge, IsEmptySlab, IsMorphing, IsDoneSlab, IsNearlyDone, IsSound, IsSteady, LoosensNothing}
-use Rattle.heap_check.proofs.Claims.{NamesOnly, plain_size, IsClaim-word}
+use Rattle.settle_steps.proofs.Common.{cases_eq, cond-true, cond-false, eq-eqb, ne_eqb, and_from, lt-ltb, class_size, WalEntry, Place, Tables, number_rows, with_rows, Bounds, Range, slab_of, is_large, size_at, entry_at, entry_old, claim_at, heap, IsClaim, Holds, IsValidSlab, IsOpen, IsStanding, IsDoneSlab, IsNearlyDone, IsSound, IsSteady, LoosensNothing, NamesOnly, plain_size, IsClaim-word}
 use Rattle.heap_check.proofs.Heaps.{heap-none, heap-same}
 use Rattle.heap_check.proofs.Touch.{IsTouch, IsStanding-else, Range-same, IsSound-touched}
-use Rattle.heap_check.proofs.Loose.{AtMostOne-fewer}
+use Rattle.heap_check.proofs.Loose.{AtMostOne-fewer, nearly_done}
 use Rattle.settle_steps.specs.Settled.{LoosensLeft}
 
 -- tables with other bits, live bits and entry
 abbrev pub changed : Tables → (ℕ → ℕ → Bool) → (ℕ → ℕ → Bool) → Option WalEntry → Tables
-changed t bits lives entry = record t { bit = bits; live = lives; open_entry = entry }
+changed t bits lives entry = record (with_rows t bits lives (number_rows t)) { open_entry = entry }
 
 -- the block that an open place entry names
 pub claim_by_entry : (t : Tables) (root at start place : ℕ) (old : Bool) → t.open_entry ≡ Some (Place root at old place) → is_large t.large at ≡ false → slab_of t.slab (at / 16384) ≡ start → 0 < at → (t.root root ≡ 0) ⊎ (t.root root ≡ at) →
-    IsClaim t root (record { at = at; size = class_size (cond old (t.old start) (t.class start)) })
+    IsClaim t root (record { at = at; size = class_size (cond old (t.header start).old (t.header start).class) })
 claim_by_entry t root at start place old is no_large here some word =
     let named : entry_at t.open_entry root ≡ at = ap (λ e. entry_at e root) is ∙ cond-true (root == root) at 0 (eq-eqb root root refl) in
     let claims : claim_at t root ≡ at = ⊎_elim
@@ -30,7 +22,7 @@ claim_by_entry t root at start place old is no_large here some word =
     word in
     let test : ((entry_at t.open_entry root == at) && ltb 0 at) ≡ true = and_from _ _ (eq-eqb _ _ named) (lt-ltb 0 at some) in
     let of_old : entry_old t.open_entry ≡ old = ap entry_old is in
-    let size : size_at t root at ≡ class_size (cond old (t.old start) (t.class start)) = rw (no_large, test, of_old, here) refl in
+    let size : size_at t root at ≡ class_size (cond old (t.header start).old (t.header start).class) = rw (no_large, test, of_old, here) refl in
     record { some = λ none. omega (arith, none, some); place = claims; wide = ap (size_at t root) claims ∙ size }
 
 -- the heap has what a root claims where its word is not 0
@@ -72,7 +64,7 @@ module _ {b : Bounds} {t : Tables} {bits lives : ℕ → ℕ → Bool} {entry : 
   lone : (other : ℕ) → other ≢ root → t.root other ≢ 0 → t.root other ≢ block.at
   lone other differ some here =
       let claim = IsClaim-word t other (is.names.others other differ) some in
-      ⊎_elim (λ x. omega (arith, x, here, ap (plain_size t) here, is.some_size)) (λ x. omega (arith, x, here, is.wide)) (sound.apart other root _ block differ claim is.claim)
+      ⊎_elim (λ x. omega (arith, x, here, ap (plain_size t) here, is.some_size)) (λ x. omega (arith, x, here, is.wide)) (sound.owned.apart other root _ block differ claim is.claim)
 
   own_before : (range : Range) → IsClaim t root range → range ≡ block
   own_before range claim = Range-same range block.at block.size (sym claim.place ∙ is.claim.place) (sym claim.wide ∙ is.claim.wide)
@@ -90,27 +82,11 @@ module _ {b : Bounds} {t : Tables} {bits lives : ℕ → ℕ → Bool} {entry : 
   held : (start : ℕ) → Holds new start block → IsClaim new root block
   held start holds = ⊎_elim (λ mine. mine) (λ none. absurd (none.2 start holds)) is.own
 
-  slabs : (start : ℕ) → t.slab start ≡ true → IsValidSlab new start
+  slabs : (start : ℕ) → t.slab start ≡ true → IsValidSlab (new.header start)
   slabs start slab = let was = sound.slabs start slab in record { state = was.state; small = was.small; once = was.once }
 
-  large_back : (start : ℕ) → IsLooseLarge new start → IsLooseLarge t start
-  large_back start loose = record { live = loose.live; unnamed = loose.unnamed }
-
-  empty_back : (start : ℕ) → IsEmptySlab new start → IsEmptySlab t start
-  empty_back start empty = record { slab = empty.slab; none = λ r some inside. empty.none r some (record { slab = inside.slab; low = inside.low; high = inside.high }) }
-
-  morphing_back : (start : ℕ) → IsMorphing new start → IsMorphing t start
-  morphing_back start morphing = record { slab = morphing.slab; kind = morphing.kind }
-
   done_nearly : (start : ℕ) → IsDoneSlab new start → IsNearlyDone t start
-  done_nearly start done = is.nearly start (record {
-    slab = done.slab;
-    kind = λ normal. omega (arith, normal, done.kind);
-    none = λ place below live. absurd (true≢false (sym live ∙ done.none place below));
-  })
-
-  covers_back : (start k : ℕ) → Covers new start k → Covers t start k
-  covers_back start k covers = record { low = covers.low; high = covers.high }
+  done_nearly start done = is.nearly start (nearly_done new start done)
 
   touch : IsTouch b t new root block
   touch = record {
@@ -120,21 +96,21 @@ module _ {b : Bounds} {t : Tables} {bits lives : ℕ → ℕ → Bool} {entry : 
     words = λ other differ. refl;
     sizes = λ other differ some. is.sizes (t.root other) (lone other differ some);
     others = others_stand;
-    apart = λ other range differ claim. sound.apart other root range block differ claim is.claim;
+    apart = λ other range differ claim. sound.owned.apart other root range block differ claim is.claim;
     own = own_before;
     new_own = own_after;
     stands = is.stands;
     back = is.back;
     held = held;
-    disjoint = λ one other k first second. sound.disjoint one other k (covers_back one k first) (covers_back other k second);
-    starts = λ start some. sound.starts start some;
-    one_kind = λ start slab. sound.one_kind start slab;
+    extents = sound.extents;
     slabs = slabs;
     open_entry = is.open_entry;
-    loose_large = AtMostOne-fewer large_back sound.loose_large;
-    empty_slab = AtMostOne-fewer empty_back sound.empty_slab;
-    morphing = AtMostOne-fewer morphing_back sound.morphing;
-    done = AtMostOne-fewer done_nearly is.steady.one_done;
+    loose = record {
+      large = sound.loose.large;
+      empty = sound.loose.empty;
+      morphing = sound.loose.morphing;
+      done = AtMostOne-fewer done_nearly is.steady.one_done;
+    };
   }
 
   pub IsSteady-settling : IsSteady b (changed t bits lives entry)
@@ -153,13 +129,13 @@ module _ {b : Bounds} {t : Tables} {bits lives : ℕ → ℕ → Bool} {entry : 
       (cases_eq (t.root other) 0)
 
   pub loosens_left : LoosensLeft t (changed t bits lives entry)
-  loosens_left = record { large = large_back; empty = empty_back; morphing = morphing_back; done = done_nearly }
+  loosens_left = record { large = λ start loose. loose; empty = λ start empty. empty; morphing = λ start morphing. morphing; done = done_nearly }
 
   -- where no live bit changed
-  pub loosens_nothing : ((start place : ℕ) → lives start place ≡ t.live start place) → LoosensNothing t (changed t bits lives entry)
+  pub loosens_nothing : ((start place : ℕ) → lives start place ≡ (t.header start).live place) → LoosensNothing t (changed t bits lives entry)
   loosens_nothing same = record {
-    large = large_back;
-    empty = empty_back;
-    morphing = morphing_back;
+    large = λ start loose. loose;
+    empty = λ start empty. empty;
+    morphing = λ start morphing. morphing;
     done = λ start done. record { slab = done.slab; kind = done.kind; none = λ place below. sym (same start place) ∙ done.none place below };
   }

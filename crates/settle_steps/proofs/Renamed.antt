@@ -1,16 +1,8 @@
 -- Each root holds what another held, by a renaming of the roots that is its own inverse, and a move entry is open or none:
 -- the image stays steady, nothing comes to be loose, and its heap is the old one by the new names.
 use Rattle.std.proofs.Common.{◌≡◌, ◌≢◌, ◌⊎◌, ℕ, true, sym, ap, subst, ◌∙◌, arith, inl, inr, ⊎_elim, Option, Some, None}
-use Rattle.std.proofs.lemmas.Bool.{cases_eq}
-use Rattle.image_tables.specs.declared.entry.WalEntry.{WalEntry}
-use Rattle.image_tables.specs.declared.entry.WalEntry.TheVariants.{Move}
-use Rattle.image_tables.specs.Tables.{Tables}
-use Rattle.heap_model.specs.Machine.{Bounds, Range}
-use Rattle.heap_check.specs.Heap.{entry_at, heap, IsClaim, Holds, HoldsBit, HoldsOld}
-use Rattle.heap_check.specs.Sound.{Covers, IsValidSlab, IsOpen, IsOpenMove, IsHeld, IsStanding, IsMorphing, IsNearlyDone, IsSound, IsSteady, LoosensNothing}
-use Rattle.heap_check.proofs.Claims.{IsNamed-claim, IsClaim-named}
+use Rattle.settle_steps.proofs.Common.{cases_eq, WalEntry, Move, Tables, Bounds, Range, entry_at, heap, IsClaim, Holds, IsOpen, IsOpenMove, IsHeld, IsStanding, IsMorphing, IsNearlyDone, IsSound, IsSteady, LoosensNothing, IsNamed-claim, IsClaim-named, AtMostOne-fewer}
 use Rattle.heap_check.proofs.Heaps.{heap-none, heap-some}
-use Rattle.heap_check.proofs.Loose.{AtMostOne-fewer}
 
 -- other root words and another entry; each root holds what the one that it is renamed to held
 abbrev pub renamed : Tables → (ℕ → ℕ) → (ℕ → ℕ) → Option WalEntry → Tables
@@ -21,17 +13,7 @@ pub record IsRenaming (b : Bounds) (t : Tables) (from to : ℕ) (word name : ℕ
   pub back : (r : ℕ) → name (name r) ≡ r
   pub is : (entry ≡ None) ⊎ ((entry ≡ Some (Move from to)) × IsOpenMove b (renamed t word name entry) from to)
 
--- a slab holds the same where the roots and the entry are others
-holds_rewritten : (t : Tables) (word root : ℕ → ℕ) (entry : Option WalEntry) (start : ℕ) (range : Range) → Holds t start range → Holds (record t { word = word; root = root; open_entry = entry }) start range
-holds_rewritten t word root entry start range holds = record {
-  slab = holds.slab;
-  block = ⊎_elim
-      (λ (bit : HoldsBit t start range). inl (record { number = bit.number; below = bit.below; read = bit.read; set = bit.set; is = bit.is }))
-      (λ (old : HoldsOld t start range). inr (record { place = old.place; below = old.below; live = old.live; is = old.is }))
-      holds.block;
-}
-
-module _ {b : Bounds} {t : Tables} (steady : IsSteady b t) (unnamed : (r : ℕ) → entry_at t.open_entry r ≡ 0) (calm : (start : ℕ) → ¬ (IsMorphing t start)) (from to : ℕ) (word name : ℕ → ℕ) (entry : Option WalEntry) (renaming : IsRenaming b t from to word name entry) where
+module _ {b : Bounds} {t : Tables} (steady : IsSteady b t) (unnamed : (r : ℕ) → entry_at t.open_entry r ≡ 0) (none_morphing : (start : ℕ) → ¬ (IsMorphing t start)) (from to : ℕ) (word name : ℕ → ℕ) (entry : Option WalEntry) (renaming : IsRenaming b t from to word name entry) where
   abbrev new : Tables
   new = renamed t word name entry
 
@@ -64,21 +46,15 @@ module _ {b : Bounds} {t : Tables} (steady : IsSteady b t) (unnamed : (r : ℕ) 
   stands r some = ⊎_elim
       (λ large. inl large)
       (λ rest. ⊎_elim
-      (λ (held : IsHeld t (t.root (name r))). inr (inl (record { start = held.start; range = held.range; holds = holds_rewritten t word new.root entry held.start held.range held.holds; here = held.here })))
+      (λ (held : IsHeld t (t.root (name r))). inr (inl held))
       (λ by_entry. absurd (some (sym by_entry ∙ unnamed (name r))))
       rest)
-      (sound.rooted (name r) some)
+      (sound.owned.rooted (name r) some)
 
   owned : (start : ℕ) (range : Range) → Holds new start range → (root : ℕ) × IsClaim new root range
   owned start range holds =
-      let owner = sound.claimed start range (holds_rewritten new t.word t.root t.open_entry start range holds) in
+      let owner = sound.owned.claimed start range holds in
       (name owner.0, forth (name owner.0) range (subst (λ r. IsClaim t r range) (sym (renaming.back owner.0)) owner.1))
-
-  covers_back : (start k : ℕ) → Covers new start k → Covers t start k
-  covers_back start k covers = record { low = covers.low; high = covers.high }
-
-  slabs : (start : ℕ) → t.slab start ≡ true → IsValidSlab new start
-  slabs start slab = let was = sound.slabs start slab in record { state = was.state; small = was.small; once = was.once }
 
   open_entry : (e : WalEntry) → entry ≡ Some e → IsOpen b new e
   open_entry e is = ⊎_elim
@@ -86,7 +62,7 @@ module _ {b : Bounds} {t : Tables} (steady : IsSteady b t) (unnamed : (r : ℕ) 
       (λ still.
       let own = still.0 in
       let same : Move from to ≡ e = cc in
-      subst (IsOpen b new) same (record { entry = still.1; calm = λ start slab kind. calm start (record { slab = slab; kind = kind }) }))
+      subst (IsOpen b new) same (record { entry = still.1; none_morphing = λ start slab kind. none_morphing start (record { slab = slab; kind = kind }) }))
       renaming.is
 
   -- nothing comes to be loose
@@ -100,8 +76,8 @@ module _ {b : Bounds} {t : Tables} (steady : IsSteady b t) (unnamed : (r : ℕ) 
           let here = root_back r in
           empty.none (name r) (λ none. some (sym here ∙ none)) (record { slab = inside.slab; low = omega (arith, inside.low, here); high = omega (arith, inside.high, here) });
     };
-    morphing = λ start morphing. record { slab = morphing.slab; kind = morphing.kind };
-    done = λ start done. record { slab = done.slab; kind = done.kind; none = done.none };
+    morphing = λ start morphing. morphing;
+    done = λ start done. done;
   }
 
   pub nearly_back : (start : ℕ) → IsNearlyDone (renamed t word name entry) start → IsNearlyDone t start
@@ -116,18 +92,20 @@ module _ {b : Bounds} {t : Tables} (steady : IsSteady b t) (unnamed : (r : ℕ) 
 
   pub IsSound-renamed : IsSound b (renamed t word name entry)
   IsSound-renamed = record {
-    disjoint = λ one other k first second. sound.disjoint one other k (covers_back one k first) (covers_back other k second);
-    starts = λ start some. sound.starts start some;
-    one_kind = λ start slab. sound.one_kind start slab;
-    slabs = slabs;
-    open_entry = open_entry;
-    rooted = stands;
-    apart = λ one other range another differ first second. sound.apart (name one) (name other) range another (apart_names one other differ) (back one range first) (back other another second);
-    claimed = owned;
-    loose_large = AtMostOne-fewer loosens_renamed.large sound.loose_large;
-    empty_slab = AtMostOne-fewer loosens_renamed.empty sound.empty_slab;
-    morphing = AtMostOne-fewer loosens_renamed.morphing sound.morphing;
-    done = AtMostOne-fewer loosens_renamed.done sound.done;
+    extents = sound.extents;
+    slabs = sound.slabs;
+    owned = record {
+      open_entry = open_entry;
+      rooted = stands;
+      apart = λ one other range another differ first second. sound.owned.apart (name one) (name other) range another (apart_names one other differ) (back one range first) (back other another second);
+      claimed = owned;
+    };
+    loose = record {
+      large = AtMostOne-fewer loosens_renamed.large sound.loose.large;
+      empty = AtMostOne-fewer loosens_renamed.empty sound.loose.empty;
+      morphing = sound.loose.morphing;
+      done = sound.loose.done;
+    };
   }
 
   pub IsSteady-renamed : IsSteady b (renamed t word name entry)

@@ -25,8 +25,8 @@ class_block_events words line root block =
 pub record IsOpenForBlock (words : List ℕ) (line root : ℕ) (block : SmallBlock) : Type 0 where
   pub open_in : IsOpenIn words line (entry_for root block)
   pub slab : (tables_of words).slab block.start ≡ true
-  pub below : block.number < class_capacity ((tables_of words).class block.start)
-  pub at : block.at ≡ (slab_block block.start ((tables_of words).class block.start) block.number).at
+  pub below : block.number < class_capacity ((tables_of words).header block.start).class
+  pub at : block.at ≡ (slab_block block.start ((tables_of words).header block.start).class block.number).at
 
 -- the bit says what the root says, no entry is open, and the image says the same of all else; nothing comes to be loose
 pub record IsClassBlockSettled (words : List ℕ) (line root : ℕ) (block : SmallBlock) (new : List ℕ) : Type 0 where

@@ -6,7 +6,7 @@ use Rattle.image_tables.specs.declared.entry.WalEntry.{WalEntry}
 use Rattle.image_tables.specs.declared.entry.WalEntry.TheVariants.{Place, Move}
 use Rattle.pool_layout.specs.Places.{root_word}
 use Rattle.image_tables.specs.Tables.{Tables, index_word, tables_of}
-use Rattle.image_tables.specs.Updates.{put_at, put_in, put_bit}
+use Rattle.image_tables.specs.Updates.{put_at, put_bit, put_live}
 use Rattle.heap_check.specs.Sound.{IsInSlab}
 use Rattle.attach_steps.specs.declared.block.SmallBlock.{SmallBlock}
 use Rattle.attach_steps.specs.Steps.{bit_word}
@@ -18,7 +18,7 @@ use Rattle.settle_steps.specs.OldBlocks.{old_block_events}
 
 -- the number of the block at an address, among those of the slab's class
 abbrev pub number_at : Tables → ℕ → ℕ → ℕ
-number_at t start at = (at - (16384 * start + 2048)) / class_size (t.class start)
+number_at t start at = (at - (16384 * start + 2048)) / class_size (t.header start).class
 
 -- that block, and the old one in a place of the index table
 abbrev pub class_block : Tables → ℕ → ℕ → SmallBlock
@@ -37,7 +37,7 @@ settle_events words line start (Move from to) = move_events words line from to
 -- the tables once it is settled
 abbrev pub settled_tables : List ℕ → ℕ → WalEntry → Tables
 settled_tables words start (Place root at old place) =
-    if old then record (tables_of words) { live = put_in (tables_of words).live start place (is_named words root at); open_entry = None }
+    if old then record (put_live (tables_of words) start place (is_named words root at)) { open_entry = None }
     else record (put_bit (tables_of words) start (number_at (tables_of words) start at) (is_named words root at)) { open_entry = None }
 settled_tables words start (Move from to) =
     record (tables_of words) { word = if both_named words from to then put_at (tables_of words).word from 0 else (tables_of words).word; open_entry = None }

@@ -5,7 +5,7 @@ use Rattle.durable_steps.specs.Steps.{word_events}
 use Rattle.pool_layout.specs.Places.{wal_word}
 use Rattle.image_tables.specs.declared.entry.WalEntry.TheVariants.{Place}
 use Rattle.image_tables.specs.Tables.{index_word, tables_of}
-use Rattle.image_tables.specs.Updates.{put_in}
+use Rattle.image_tables.specs.Updates.{put_live}
 use Rattle.slab_header.specs.declared.index.IndexEntry.{IndexEntry}
 use Rattle.slab_header.specs.Index.{word_of_index}
 use Rattle.heap_check.specs.Sound.{IsInSlab}
@@ -15,7 +15,7 @@ use Rattle.settle_steps.specs.ClassBlocks.{is_named}
 
 -- the block's index entry, live or not
 abbrev pub entry_put : List ℕ → OldBlock → Bool → IndexEntry
-entry_put words block live = record { live = live; number = (tables_of words).number block.start block.place }
+entry_put words block live = record { live = live; number = ((tables_of words).header block.start).number block.place }
 
 -- its word
 abbrev pub live_put : List ℕ → OldBlock → Bool → ℕ
@@ -34,4 +34,4 @@ pub record IsOpenForOldBlock (words : List ℕ) (line root : ℕ) (block : OldBl
 -- The live bit says what the root says, no entry is open, and the image says the same of all else.
 pub record IsOldBlockSettled (words : List ℕ) (line root : ℕ) (block : OldBlock) (new : List ℕ) : Type 0 where
   pub settled : IsSettled words line (index_word block.start block.place) new
-  pub tables : tables_of new ≡ record (tables_of words) { live = put_in (tables_of words).live block.start block.place (is_named words root block.at); open_entry = None }
+  pub tables : tables_of new ≡ record (put_live (tables_of words) block.start block.place (is_named words root block.at)) { open_entry = None }

@@ -43,13 +43,13 @@ pub record LoosensLeft (t new : Tables) : Type 0 where
   pub done : (start : ℕ) → IsDoneSlab new start → IsNearlyDone t start
 
 -- the words are the same, but for the line's and for one other
-pub record KeepsOthers (words : List ℕ) (line k : ℕ) (image : List ℕ) : Type 0 where
+pub record KeepsAllButOne (words : List ℕ) (line k : ℕ) (image : List ℕ) : Type 0 where
   pub same_length : length image ≡ length words
   pub others : (j : ℕ) → j ≢ wal_word line → j ≢ k → word_at image j ≡ word_at words j
 
 -- The image is steady with the same heap, and no entry is open; of the words the line's and that at k may have changed.
 pub record IsSettled (words : List ℕ) (line k : ℕ) (new : List ℕ) : Type 0 where
   pub keeps : KeepsHeap words new
-  pub rest : KeepsOthers words line k new
+  pub rest : KeepsAllButOne words line k new
   pub closed : (tables_of new).open_entry ≡ None
   pub loose : LoosensLeft (tables_of words) (tables_of new)

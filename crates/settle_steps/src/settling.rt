@@ -55,7 +55,7 @@ fn number_of<P: Pmem>(p: &P, start: u32, at: u32) -> u32
     requires start { start < 2 ^ 16 }
     requires header { 2048 * start + 256 ≤ length (words_of (P.state p.now)) }
     requires slab { is_slab (words_of (P.state p.now)) start ≡ true }
-    requires class { (tables_of (words_of (P.state p.now))).class start < 36 }
+    requires class { ((tables_of (words_of (P.state p.now))).header start).class < 36 }
     requires behind { 16384 * start + 2048 ≤ at }
     ensures { result ≡ number_at (tables_of (words_of (P.state p.now))) start at }
 {

@@ -1,19 +1,13 @@
 -- The seats at one lock, and what its end tells.
-use Rattle.arena_core.specs.Arena.{ArenaState}
+use Rattle.shared_pool.proofs.Common.{ArenaState, TableId, Entry, Opening, calls_by, calls_of, owns, Since, AllBelow, Lock, Known, AllAt, all_numbers, Covers, AllFit}
 use Rattle.std.proofs.Common.{◌≡◌, ℕ, suc, ◌+◌, ◌<◌, ◌≤◌, ◌==◌, ◌||◌, Bool, true, false, List, [], ◌∷◌, ◌++◌, map, length, refl, ap, sym, ◌∙◌, subst, arith, append_assoc, get_or, remove}
 use Rattle.std.proofs.lemmas.List.{append-nil}
 use Rattle.std.proofs.lemmas.Bool.{false≢true}
 use mathlib.Core.List.{IsPrefix, map-append}
-use Rattle.atomic_table.specs.Seated.{TableId}
-use Rattle.heap_model.specs.declared.call.Entry.{Entry}
-use Rattle.arena_lock.specs.declared.opening.Opening.{Opening}
-use Rattle.arena_lock.specs.Journal.{calls_by, calls_of, owns, Since}
-use Rattle.heap_model.specs.Journal.{AllBelow}
 use Rattle.shared_pool.specs.Begun.{AllNew}
 use Rattle.shared_pool.specs.Closed.{AllFitLocks, is_in, HasAll, AllAgree, IsClosed, AllClosed}
 use Rattle.shared_pool.specs.Passes.{PassState, seen_at, mine_at, part_at, first_calls}
 use Rattle.shared_pool.specs.Rows.{head_list, heads, behead, AllLong, HeadBelongs, HeadsBelong}
-use Rattle.arena_lock.specs.Known.{Lock, Known, AllAt, all_numbers, Covers, AllFit}
 
 -- arenas that end one after another, each with the first seats of the passes, which lose these
 abbrev pub AllEnded : ℕ → List PassState → List Opening → List (List Entry × ArenaState) → Type 0

@@ -1,6 +1,7 @@
 mod PassParts
 mod PassTurns
 mod FreshPasses
+pub mod Common
 pub mod AllPasses
 mod Closings
 mod NewLocks

@@ -3,18 +3,10 @@ use Rattle.std.proofs.Common.{◌≡◌, ℕ, zero, suc, ◌+◌, ◌<◌, ◌�
 use mathlib.Core.List.{map-append}
 use mathlib.Core.Logic.{dite}
 use native.Mathlib.Decide.{ℕ_discrete}
-use Rattle.atomic_table.specs.Seated.{TableId}
-use Rattle.heap_model.specs.declared.call.Entry.{Entry}
-use Rattle.arena_lock.specs.declared.opening.Opening.{Opening}
-use Rattle.arena_lock.specs.Journal.{calls_by, owns, Since}
-use Rattle.heap_model.specs.Journal.{AllBelow}
+use Rattle.shared_pool.proofs.Common.{TableId, Entry, Opening, calls_by, owns, Since, AllBelow, opened, arena_of, IsBehind, Lock, Known, AllAt, AllFit, Covers, all_numbers, new_seats, ArenaState, behind_still}
 use Rattle.shared_pool.specs.Begun.{IsBegun, AllBegun}
-use Rattle.arena_journal.specs.Journals.{opened, arena_of, IsBehind}
 use Rattle.shared_pool.specs.Passes.{first_calls}
 use Rattle.shared_pool.specs.Rows.{lines}
-use Rattle.arena_lock.specs.Known.{Lock, Known, AllAt, AllFit, Covers, all_numbers, new_seats}
-use Rattle.arena_core.specs.Arena.{ArenaState}
-use Rattle.arena_journal.proofs.Journals.{behind_still}
 use Rattle.shared_pool.proofs.Closings.{below_since}
 
 front_begun : (seats : ℕ) (xs : List (Lock × List Known)) (x : Lock × List Known) → AllBegun seats (xs ++ x ∷ []) → AllBegun seats xs × IsBegun seats x

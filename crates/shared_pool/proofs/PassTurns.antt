@@ -1,13 +1,11 @@
 -- What one turn does to a pass.
 use Rattle.std.proofs.Common.{◌≡◌, ℕ, zero, suc, ◌-◌, ◌<◌, ◌≤◌, ◌||◌, Bool, true, false, if◌then◌else◌, List, [], ◌∷◌, ◌++◌, map, length, refl, ap, sym, ◌∙◌, subst, arith, get_or, set, eq-eqb, Result, Ok, Err, IfOk, IfErr}
 use mathlib.Core.List.{IsPrefix}
-use Rattle.heap_model.specs.declared.call.Entry.{Entry}
-use Rattle.arena_lock.specs.Journal.{calls_by, calls_of, owns}
+use Rattle.shared_pool.proofs.Common.{Entry, calls_by, calls_of, owns, Lock, Known, Turned, after_loss}
 use Rattle.arena_lock.specs.Legality.{IsLegal}
 use Rattle.shared_pool.specs.Value.{Receives}
 use Rattle.shared_pool.specs.Passes.{Declined, PassState, PoolState, IsPassOf, nobody, first_calls, part_at, with_part, seen_at, mine_at, Called, Refused, HasCalled, HasTried}
 use Rattle.shared_pool.specs.Rows.{SameAnswer, part_of, AllTell}
-use Rattle.arena_lock.specs.Known.{Lock, Known, Turned, after_loss}
 use Rattle.arena_lock.proofs.Entries.{calls_by-append}
 use Rattle.shared_pool.specs.declared.job.Receipt.{Receipt}
 use Rattle.shared_pool.specs.declared.pass.Spot.{Spot}

@@ -21,7 +21,7 @@ numbers_below test (suc n) = numbers_below test n ++ (if test n then n ∷ [] el
 
 -- the blocks that a normal slab holds, by their numbers
 abbrev pub held_numbers : Tables → ℕ → List ℕ
-held_numbers t start = numbers_below (t.bit start) (class_capacity (t.class start))
+held_numbers t start = numbers_below (t.header start).bit (class_capacity (t.header start).class)
 
 -- live old blocks are put into the index table, from a place on
 abbrev pub index_stores : ℕ → ℕ → List ℕ → List Event
@@ -49,7 +49,7 @@ finish_morph_events start class old entries = clear_events start ++ state_events
 abbrev pub morph_events : Tables → ℕ → ℕ → List Event
 morph_events t start class =
     let held = held_numbers t start in
-    index_events start held ++ state_events start (Morphing class (t.class start) (length held)) ++ finish_morph_events start class (t.class start) (length held)
+    index_events start held ++ state_events start (Morphing class (t.header start).class (length held)) ++ finish_morph_events start class (t.header start).class (length held)
 
 -- the last old block is gone
 abbrev pub finish_old_events : ℕ → ℕ → List Event

@@ -19,7 +19,7 @@ const SET_WORDS: usize = 64;
 pub fn class_at<P: Pmem>(p: &P, at: u32) -> u8
     requires aligned { at % 16384 ≡ 0 }
     requires inside { at + 2048 ≤ 8 * length (words_of (P.state p.now)) }
-    ensures { is_slab (words_of (P.state p.now)) (at / 16384) ≡ true → result ≡ (tables_of (words_of (P.state p.now))).class (at / 16384) }
+    ensures { is_slab (words_of (P.state p.now)) (at / 16384) ≡ true → result ≡ ((tables_of (words_of (P.state p.now))).header (at / 16384)).class }
 {
     ((p.load(slab_header_at(at, 0, 0)) >> 8) % 256) as u8
 }
@@ -30,7 +30,7 @@ pub fn bit_at<P: Pmem>(p: &P, at: u32, i: u32) -> bool
     requires inside { at + 2048 ≤ 8 * length (words_of (P.state p.now)) }
     requires block { i < 4096 }
     ensures bit { result ≡ slab_bit (words_of (P.state p.now)) (at / 16384) i }
-    ensures table { is_slab (words_of (P.state p.now)) (at / 16384) ≡ true → result ≡ (tables_of (words_of (P.state p.now))).bit (at / 16384) i }
+    ensures table { is_slab (words_of (P.state p.now)) (at / 16384) ≡ true → result ≡ ((tables_of (words_of (P.state p.now))).header (at / 16384)).bit i }
 {
     let (line, bit) = bit_place(i);
     let word = p.load(slab_header_at(at, line, bit / 64));

@@ -1,8 +1,6 @@
 -- The lowest available blocks of a slab are taken one after another.
 use Rattle.std.proofs.Common.{◌≡◌, ◌≢◌, ℕ, ◌+◌, ◌-◌, ◌<◌, ◌≤◌, ◌⊎◌, ⊎_elim, inl, inr, true, false, eqb, ◌&&◌, List, [], ◌∷◌, ◌++◌, length, Some, length-append, append_assoc, refl, sym, ap, ◌∙◌, subst, arith}
-use Rattle.std.proofs.lemmas.Bool.{cases_lt, cases_eq, eq-eqb, ne_eqb, cond-true, cond-false, and_from, and_left, and_right, both_ways}
-use Rattle.std.proofs.lemmas.List.{append-nil}
-use Rattle.size_classes.specs.Classes.{class_capacity}
+use Rattle.slab_index.proofs.Common.{cases_lt, cases_eq, eq-eqb, ne_eqb, cond-true, cond-false, and_from, and_left, and_right, both_ways, append-nil, class_capacity}
 use Rattle.heap_model.specs.Placement.{Has, IsNext, AreLowest}
 use Rattle.slab_index.specs.SlabSet.{SlabSet, class_in, is_available, IsBlock, AreTaken}
 use Rattle.slab_index.specs.Kept.{capacity_or_none, IsUsedUp, TookFirst, TookSome}

@@ -1,11 +1,8 @@
 -- An index in which no slab begins.
 use Rattle.std.proofs.Common.{◌≡◌, ℕ, ◌+◌, ◌*◌, ◌/◌, ◌%◌, ◌<◌, ◌≤◌, ⊎_elim, false, ltb, ◌&&◌, List, Option, None, get_or, replicate, sym, ap, ◌∙◌, arith}
-use Rattle.std.proofs.lemmas.Bool.{cases_lt, and_right, false≢true}
-use Rattle.std.proofs.lemmas.List.{get_or-replicate, get_or_past, length-replicate}
-use Rattle.bit_words.specs.Numbers.{has}
+use Rattle.slab_index.proofs.Common.{cases_lt, and_right, false≢true, get_or-replicate, get_or_past, length-replicate, has, has-zeros, get_or-zeros}
 use Rattle.slab_index.specs.SlabSet.{class_in, is_available}
 use Rattle.slab_index.specs.Kept.{set_of, capacity_or_none, capacity_at, is_class, IsIndex}
-use Rattle.bit_words.proofs.Bits.{has-zeros, get_or-zeros}
 
 -- no slab is in a list of none
 pub get_or-nones : (n i : ℕ) → get_or {A = Option ℕ} (replicate n None) i None ≡ None

@@ -1,10 +1,8 @@
 -- The lowest available block of a class, from the least numbers of the sets that an index keeps.
 use Rattle.std.proofs.Common.{◌≡◌, ℕ, ◌+◌, ◌*◌, ◌/◌, ◌<◌, ◌≤◌, ⊎_elim, true, false, ltb, ◌&&◌, List, Option, Some, None, get_or, refl, sym, ap, ◌∙◌, arith}
-use Rattle.std.proofs.lemmas.Bool.{cases_lt, eq-eqb, eqb-true, ltb-true, ltb-false, and_parts, false≢true}
-use Rattle.bit_words.specs.Numbers.{has}
+use Rattle.slab_index.proofs.Common.{cases_lt, eq-eqb, eqb-true, ltb-true, ltb-false, and_parts, false≢true, has, has-zero}
 use Rattle.slab_index.specs.SlabSet.{SlabSet, class_in, is_available, HasNoBlock, IsLowest}
 use Rattle.slab_index.specs.Kept.{set_of, capacity_or_none, capacity_at, is_class, IsSummary, IsIndex, IsLeastAt, IsFirstBlock, IsUsedUp}
-use Rattle.bit_words.proofs.Bits.{has-zero}
 use Rattle.slab_index.proofs.Steps.{start_here}
 use Rattle.slab_index.proofs.Views.{class_of_list, available_within, available_past, slab_inside}
 

@@ -1,10 +1,6 @@
 -- The lowest start of a slab of another class, from the sets that candidates keep.
 use Rattle.std.proofs.Common.{◌≡◌, ◌≢◌, ℕ, ◌+◌, ◌-◌, ◌*◌, ◌/◌, ◌%◌, ◌^◌, ◌<◌, ◌≤◌, min, ⊎_elim, false, eqb, ltb, bit_and, w64, List, get_or, sym, ap, ◌∙◌, subst, arith}
-use Rattle.std.specs.Int.{bit_at}
-use Rattle.std.proofs.lemmas.Bool.{cases_lt, cases_eq, eq-eqb, eqb-true, le-ltb, ltb-false, both_ways}
-use Rattle.std.proofs.lemmas.Nat.Bits.{bit_at-lt, bit_at_and, bit_at_not, bit_at-zero}
-use Rattle.bit_words.specs.Numbers.{has, ones}
-use Rattle.bit_words.proofs.Bits.{has_in_word, bit_of_ones, ones_fit}
+use Rattle.slab_index.proofs.Common.{bit_at, cases_lt, cases_eq, eq-eqb, eqb-true, le-ltb, ltb-false, both_ways, bit_at-lt, bit_at_and, bit_at_not, bit_at-zero, has, ones, has_in_word, bit_of_ones, ones_fit}
 use Rattle.slab_index.specs.Kept.{IsSummary}
 use Rattle.slab_index.proofs.Lowest.{none_of_word, none_at}
 use Rattle.slab_index.specs.Sparse.{IsOther, HasNoneInWord, IsFirstInWord, HasNoneInRow, IsFirstInRow}

@@ -1,16 +1,12 @@
 -- The first candidate, from the sets of words that candidates keep.
 use Rattle.std.proofs.Common.{◌≡◌, ◌≢◌, ℕ, ◌+◌, ◌*◌, ◌/◌, ◌%◌, ◌<◌, ◌≤◌, ⊎_elim, inl, inr, Bool, true, false, eqb, leb, ◌&&◌, List, Option, Some, None, length, get_or, refl, sym, ap, ◌∙◌, subst, arith}
 use Rattle.std.specs.Option.{MatchOption, IfSome}
-use Rattle.std.proofs.lemmas.Bool.{cases_lt, cases_eq, eq-eqb, eqb-true, ne_eqb, le-leb, leb-true, and_parts, and_from, both_ways, false≢true}
-use Rattle.std.proofs.lemmas.List.{get_or_past}
-use Rattle.std.proofs.lemmas.Option.{none-some}
-use Rattle.size_classes.specs.Classes.{class_capacity}
-use Rattle.bit_words.specs.Numbers.{has}
-use Rattle.slab_index.specs.declared.candidates.CalmSlab.{CalmSlab}
+use Rattle.slab_index.proofs.Common.{cases_lt, cases_eq, eq-eqb, eqb-true, ne_eqb, le-leb, leb-true, and_parts, and_from, both_ways, false≢true, get_or_past, none-some, class_capacity, has}
+use Rattle.slab_index.specs.declared.candidates.NormalSlab.{NormalSlab}
 use Rattle.slab_index.specs.declared.candidates.Candidate.{Candidate}
 use Rattle.slab_index.specs.Candidates.{IsCandidate, IsBefore, HasNoCandidate, IsFirstCandidate, HasNoneBehind, IsNextCandidate}
 use Rattle.slab_index.specs.Sparse.{has_live, has_class, AreKept, IsOther, HasNoneInRow, IsFirstInRow, IsFrom, HasNoneFrom, IsLeastFrom}
-use Rattle.slab_index.proofs.Marks.{calm_of_list}
+use Rattle.slab_index.proofs.Marks.{normal_of_list}
 
 -- what follows of either case
 pub either : {A : Type 0} {None_is None_then : Type 0} {Is Then : A → Type 0} (o : Option A) → (None_is → None_then) → ((x : A) → Is x → Then x) → MatchOption o None_is Is → MatchOption o None_then Then
@@ -23,19 +19,19 @@ both None none some is also = none is
 both (Some x) none some is also = some x is also
 
 -- a slab that a test of live blocks finds
-record IsLiveSlab (slab : Option CalmSlab) (n : ℕ) : Type 0 where
+record IsLiveSlab (slab : Option NormalSlab) (n : ℕ) : Type 0 where
   own : ℕ
   is : slab ≡ Some (record { class = own; live = n })
   few : n ≤ 64
   sparse : 5 * n ≤ class_capacity own
 
-live_slab : (slab : Option CalmSlab) (n : ℕ) → has_live slab n ≡ true → IsLiveSlab slab n
+live_slab : (slab : Option NormalSlab) (n : ℕ) → has_live slab n ≡ true → IsLiveSlab slab n
 live_slab None n test = absurd (false≢true test)
 live_slab (Some slab) n test =
     let parts = and_parts (eqb n slab.live) (leb slab.live 64 && leb (5 * slab.live) (class_capacity slab.class)) test in
     let same : n ≡ slab.live = eqb-true n slab.live parts.0 in
     let few = and_parts (leb slab.live 64) (leb (5 * slab.live) (class_capacity slab.class)) parts.1 in
-    let of_class : ℕ → CalmSlab = λ live. record { class = slab.class; live = live } in
+    let of_class : ℕ → NormalSlab = λ live. record { class = slab.class; live = live } in
     record {
       own = slab.class;
       is = ap (λ live. Some (of_class live)) (sym same);
@@ -49,30 +45,30 @@ pub record IsPlaced (starts classes : List ℕ) (class granules s n : ℕ) : Typ
   pub few : n ≤ 64
   pub is : IsOther starts classes class n s
 
-module _ {calm set : List (Option CalmSlab)} {starts some classes : List ℕ} (view : calm ≡ set) (kept : AreKept calm starts some classes) where
+module _ {normal set : List (Option NormalSlab)} {starts some classes : List ℕ} (view : normal ≡ set) (kept : AreKept normal starts some classes) where
   -- what a set that a test tells has of a start and a key
-  told_at : (test : Option CalmSlab → ℕ → Bool) (words : List ℕ) → ((k : ℕ) → has words k ≡ test (get_or calm (k % 4096) None) (k / 4096)) → (key s : ℕ) → s < 4096 → has words (4096 * key + s) ≡ test (get_or calm s None) key
+  told_at : (test : Option NormalSlab → ℕ → Bool) (words : List ℕ) → ((k : ℕ) → has words k ≡ test (get_or normal (k % 4096) None) (k / 4096)) → (key s : ℕ) → s < 4096 → has words (4096 * key + s) ≡ test (get_or normal s None) key
   told_at test words told key s small =
       let k = 4096 * key + s in
       let place : k % 4096 ≡ s = omega arith in
       let of_key : k / 4096 ≡ key = omega arith in
-      told k ∙ ap (λ t. test (get_or calm t None) (k / 4096)) place ∙ ap (test (get_or calm s None)) of_key
+      told k ∙ ap (λ t. test (get_or normal t None) (k / 4096)) place ∙ ap (test (get_or normal s None)) of_key
 
-  live_at : (n s : ℕ) → s < 4096 → has starts (4096 * n + s) ≡ has_live (get_or calm s None) n
+  live_at : (n s : ℕ) → s < 4096 → has starts (4096 * n + s) ≡ has_live (get_or normal s None) n
   live_at = told_at has_live starts kept.starts_are
 
-  class_at : (class s : ℕ) → s < 4096 → has classes (4096 * class + s) ≡ has_class (get_or calm s None) class
+  class_at : (class s : ℕ) → s < 4096 → has classes (4096 * class + s) ≡ has_class (get_or normal s None) class
   class_at = told_at has_class classes kept.classes_are
 
   -- a candidate is in the sets
-  pub other_of_candidate : (class s n : ℕ) → IsCandidate set class s n → IsPlaced starts classes class (length calm) s n
+  pub other_of_candidate : (class s n : ℕ) → IsCandidate set class s n → IsPlaced starts classes class (length normal) s n
   other_of_candidate class s n candidate =
-      let slab : CalmSlab = record { class = candidate.own; live = n } in
-      let listed : get_or calm s None ≡ Some slab = calm_of_list view s ∙ candidate.slab in
-      let inside : s < length calm = ⊎_elim
-      (λ (within : s < length calm). within)
-      (λ (past : length calm ≤ s). absurd (none-some slab (sym (get_or_past calm s None past) ∙ listed)))
-      (cases_lt s (length calm)) in
+      let slab : NormalSlab = record { class = candidate.own; live = n } in
+      let listed : get_or normal s None ≡ Some slab = normal_of_list view s ∙ candidate.slab in
+      let inside : s < length normal = ⊎_elim
+      (λ (within : s < length normal). within)
+      (λ (past : length normal ≤ s). absurd (none-some slab (sym (get_or_past normal s None past) ∙ listed)))
+      (cases_lt s (length normal)) in
       let small : s < 4096 = omega (arith, inside, kept.few) in
       record {
         inside = inside;
@@ -88,11 +84,11 @@ module _ {calm set : List (Option CalmSlab)} {starts some classes : List ℕ} (v
   -- and what is in them is a candidate
   pub candidate_of_other : (class s n : ℕ) → s < 4096 → IsOther starts classes class n s → IsCandidate set class s n
   candidate_of_other class s n small other =
-      let slab = live_slab (get_or calm s None) n (sym (live_at n s small) ∙ other.is) in
+      let slab = live_slab (get_or normal s None) n (sym (live_at n s small) ∙ other.is) in
       let apart : eqb class slab.own ≡ false = sym (ap (λ x. has_class x class) slab.is) ∙ sym (class_at class s small) ∙ other.other in
       record {
         own = slab.own;
-        slab = sym (calm_of_list view s) ∙ slab.is;
+        slab = sym (normal_of_list view s) ∙ slab.is;
         differs = λ e. both_ways (eqb class slab.own) apart (eq-eqb class slab.own e);
         few = slab.few;
         sparse = slab.sparse;
@@ -143,10 +139,10 @@ from_first n s = ⊎_elim
     (λ (more : n ≢ 0). inl (omega arith))
     (cases_eq n 0)
 
-pub no_candidate : {set : List (Option CalmSlab)} {class : ℕ} → HasNoneFrom set class 0 0 → HasNoCandidate set class
+pub no_candidate : {set : List (Option NormalSlab)} {class : ℕ} → HasNoneFrom set class 0 0 → HasNoCandidate set class
 no_candidate none = record { none = λ s n. none.none s n (from_first n s) }
 
-pub first_candidate : {set : List (Option CalmSlab)} {class : ℕ} (found : Candidate) → IsLeastFrom set class 0 0 found → IsFirstCandidate set class found
+pub first_candidate : {set : List (Option NormalSlab)} {class : ℕ} (found : Candidate) → IsLeastFrom set class 0 0 found → IsFirstCandidate set class found
 first_candidate found least = record { is = least.is; first = λ s n candidate. least.first s n candidate (from_first n s) }
 
 -- from the place behind one on
@@ -157,10 +153,10 @@ from_behind live start next n s most before = ⊎_elim
     (λ (level : (live ≡ n) × (start < s)). inr (level.0, omega (arith, level.1)))
     before
 
-pub none_behind : {set : List (Option CalmSlab)} {class : ℕ} (live start next : ℕ) → next ≤ start + 1 → HasNoneFrom set class live next → HasNoneBehind set class live start
+pub none_behind : {set : List (Option NormalSlab)} {class : ℕ} (live start next : ℕ) → next ≤ start + 1 → HasNoneFrom set class live next → HasNoneBehind set class live start
 none_behind live start next most none = record { none = λ s n before. none.none s n (from_behind live start next n s most before) }
 
-pub next_candidate : {set : List (Option CalmSlab)} {class : ℕ} (live start next : ℕ) (found : Candidate) → next ≤ start + 1 → (next ≤ found.start → start < found.start) → IsLeastFrom set class live next found →
+pub next_candidate : {set : List (Option NormalSlab)} {class : ℕ} (live start next : ℕ) (found : Candidate) → next ≤ start + 1 → (next ≤ found.start → start < found.start) → IsLeastFrom set class live next found →
     IsNextCandidate set class live start found
 next_candidate live start next found most over least = record {
   is = least.is;

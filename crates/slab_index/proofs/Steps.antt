@@ -1,11 +1,7 @@
 -- An index after a step is an index again.
 use Rattle.std.proofs.Common.{◌≡◌, ◌≢◌, ℕ, ◌+◌, ◌*◌, ◌/◌, ◌%◌, ◌^◌, ◌<◌, ◌≤◌, min, ⊎_elim, Bool, true, false, eqb, ltb, not, ◌&&◌, List, Option, Some, None, length, get_or, set, refl, sym, ap, ◌∙◌, subst, arith}
-use Rattle.std.proofs.lemmas.Bool.{cases_eq, eq-eqb, ne_eqb, lt-ltb, le-ltb, ltb-true, cond-true, cond-false, and_left}
-use Rattle.std.proofs.lemmas.List.{get_or_read, get_or-set_same, get_or-set_other, length-set}
-use Rattle.bit_words.specs.Numbers.{has, ones, IsPut, IsFilled}
+use Rattle.slab_index.proofs.Common.{cases_eq, eq-eqb, ne_eqb, lt-ltb, le-ltb, ltb-true, cond-true, cond-false, and_left, get_or_read, get_or-set_same, get_or-set_other, length-set, has, ones, IsPut, IsFilled, put_beside, told_after, fits_filled, has_filled, some_filled}
 use Rattle.slab_index.specs.Kept.{capacity_or_none, capacity_at, is_class, has_block, IsSummary, IsIndex, HasPlaceFor, IsSummedUp}
-use Rattle.bit_words.proofs.Bits.{put_beside, told_after}
-use Rattle.bit_words.proofs.Fills.{fits_filled, has_filled, some_filled}
 
 -- one slab of the list is another
 pub record IsReplaced (old : List (Option ℕ)) (start : ℕ) (slab : Option ℕ) (new : List (Option ℕ)) : Type 0 where

@@ -1,12 +1,6 @@
 -- The blocks of a slab that a set of numbers has are taken, word by word.
 use Rattle.std.proofs.Common.{◌≡◌, ◌≢◌, ℕ, zero, suc, ◌+◌, ◌-◌, ◌*◌, ◌/◌, ◌%◌, ◌^◌, ◌<◌, ◌≤◌, min, ⊎_elim, Bool, true, false, cond, eqb, ltb, ◌&&◌, bit_and, w64, List, Option, length, get_or, set, refl, sym, ap, ◌∙◌, arith}
-use Rattle.std.specs.Int.{bit_at}
-use Rattle.std.proofs.lemmas.Bool.{cases_lt, cases_eq, eq-eqb, ne_eqb, eqb-true, lt-ltb, le-ltb, cond-true, cond-false, and_parts, and_from, and_left, false_from_ne_true, false≢true}
-use Rattle.std.proofs.lemmas.List.{get_or-set_same, get_or-set_other, get_or_past, length-set}
-use Rattle.std.proofs.lemmas.Nat.{and_le_l}
-use Rattle.std.proofs.lemmas.Nat.Bits.{bit_at-lt, bit_at_and, bit_at_not}
-use Rattle.bit_words.specs.Numbers.{has}
-use Rattle.bit_words.proofs.Bits.{has_in_word, has-zero, has-set}
+use Rattle.slab_index.proofs.Common.{bit_at, cases_lt, cases_eq, eq-eqb, ne_eqb, eqb-true, lt-ltb, le-ltb, cond-true, cond-false, and_parts, and_from, and_left, false_from_ne_true, false≢true, get_or-set_same, get_or-set_other, get_or_past, length-set, and_le_l, bit_at-lt, bit_at_and, bit_at_not, has, has_in_word, has-zero, has-set}
 use Rattle.slab_index.specs.SlabSet.{SlabSet, is_available}
 use Rattle.slab_index.specs.Kept.{set_of, IsTakenFrom}
 use Rattle.slab_index.proofs.Views.{available_within, available_past}

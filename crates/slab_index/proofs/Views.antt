@@ -1,12 +1,8 @@
 -- What the lists of an index say of its slabs and blocks.
 use Rattle.std.proofs.Common.{◌≡◌, ◌≢◌, ℕ, ◌+◌, ◌*◌, ◌/◌, ◌%◌, ◌<◌, ◌≤◌, ◌⊎◌, ⊎_elim, Bool, true, false, cond, eqb, ltb, ◌&&◌, List, Option, Some, None, get_or, refl, sym, ap, ◌∙◌, arith}
-use Rattle.std.proofs.lemmas.Bool.{both_ways, false_from_ne_true, eqb-true, cases_lt, cases_eq, cases_Bool, eq-eqb, ne_eqb, lt-ltb, le-ltb, ltb-true, cond-true, cond-false, and_parts, and_from, and_left}
-use Rattle.std.proofs.lemmas.List.{get_or_past}
-use Rattle.bit_words.specs.Numbers.{has, IsPut, IsFilled}
-use Rattle.bit_words.proofs.Bits.{put_here, put_beside}
+use Rattle.slab_index.proofs.Common.{both_ways, false_from_ne_true, eqb-true, cases_lt, cases_eq, cases_Bool, eq-eqb, ne_eqb, lt-ltb, le-ltb, ltb-true, cond-true, cond-false, and_parts, and_from, and_left, get_or_past, has, IsPut, IsFilled, put_here, put_beside, has_filled}
 use Rattle.slab_index.specs.SlabSet.{SlabSet, class_in, is_available, IsBlock}
 use Rattle.slab_index.specs.Kept.{set_of, capacity_or_none, capacity_at, IsIndex}
-use Rattle.bit_words.proofs.Fills.{has_filled}
 use Rattle.slab_index.proofs.Steps.{IsReplaced, IsWordOf}
 
 -- a slab of the set is one of the list

@@ -1,20 +1,20 @@
--- The slabs that may take another class. A slab is calm where no live block in it has another size than that of its class.
--- A candidate for a class is a calm slab of another class with so few live blocks that it may take this one, if some block of
+-- The slabs that may take another class. A slab is normal where no live block in it has another size than that of its class.
+-- A candidate for a class is a normal slab of another class with so few live blocks that it may take this one, if some block of
 -- the class overlaps none of them.
 use Rattle.std.specs.Prelude.{◌≡◌, ◌≢◌, ◌⊎◌, ℕ, ◌*◌, ◌<◌, ◌≤◌, List, Option, Some, None, slice_index_or}
 use Rattle.size_classes.specs.Classes.{class_capacity}
-use Rattle.slab_index.specs.declared.candidates.CalmSlab.{CalmSlab}
+use Rattle.slab_index.specs.declared.candidates.NormalSlab.{NormalSlab}
 use Rattle.slab_index.specs.declared.candidates.Candidate.{Candidate}
 
--- the calm slab that begins at a granule
-unfoldable pub calm_in : List (Option CalmSlab) → ℕ → Option CalmSlab
-calm_in set start = slice_index_or set start None
+-- the normal slab that begins at a granule
+unfoldable pub normal_in : List (Option NormalSlab) → ℕ → Option NormalSlab
+normal_in set start = slice_index_or set start None
 
--- The slab at a start is calm, has another class than this one, and so many live blocks: at most 64, and at most a fifth of
+-- The slab at a start is normal, has another class than this one, and so many live blocks: at most 64, and at most a fifth of
 -- those that it holds.
-pub record IsCandidate (set : List (Option CalmSlab)) (class start live : ℕ) : Type 0 where
+pub record IsCandidate (set : List (Option NormalSlab)) (class start live : ℕ) : Type 0 where
   pub own : ℕ
-  pub slab : calm_in set start ≡ Some (record { class = own; live = live })
+  pub slab : normal_in set start ≡ Some (record { class = own; live = live })
   pub differs : class ≢ own
   pub few : live ≤ 64
   pub sparse : 5 * live ≤ class_capacity own
@@ -24,28 +24,28 @@ abbrev pub IsBefore : (live start other_live other : ℕ) → Type 0
 IsBefore live start other_live other = (live < other_live) ⊎ ((live ≡ other_live) × (start < other))
 
 -- there is no candidate for the class
-pub record HasNoCandidate (set : List (Option CalmSlab)) (class : ℕ) : Type 0 where
+pub record HasNoCandidate (set : List (Option NormalSlab)) (class : ℕ) : Type 0 where
   pub none : (start live : ℕ) → ¬ (IsCandidate set class start live)
 
 -- the first candidate for the class
-pub record IsFirstCandidate (set : List (Option CalmSlab)) (class : ℕ) (found : Candidate) : Type 0 where
+pub record IsFirstCandidate (set : List (Option NormalSlab)) (class : ℕ) (found : Candidate) : Type 0 where
   pub is : IsCandidate set class found.start found.live
   pub first : (start live : ℕ) → IsCandidate set class start live → ¬ (IsBefore live start found.live found.start)
 
 -- there is none in a part of their order, which is told by a number of live blocks and a start
-pub record HasNoneAmong (set : List (Option CalmSlab)) (class : ℕ) (IsIn : ℕ → ℕ → Type 0) : Type 0 where
+pub record HasNoneAmong (set : List (Option NormalSlab)) (class : ℕ) (IsIn : ℕ → ℕ → Type 0) : Type 0 where
   pub none : (s n : ℕ) → IsIn n s → ¬ (IsCandidate set class s n)
 
 -- the first one in a part of their order
-pub record IsFirstAmong (set : List (Option CalmSlab)) (class : ℕ) (IsIn : ℕ → ℕ → Type 0) (found : Candidate) : Type 0 where
+pub record IsFirstAmong (set : List (Option NormalSlab)) (class : ℕ) (IsIn : ℕ → ℕ → Type 0) (found : Candidate) : Type 0 where
   pub is : IsCandidate set class found.start found.live
   pub behind : IsIn found.live found.start
   pub first : (s n : ℕ) → IsCandidate set class s n → IsIn n s → ¬ (IsBefore n s found.live found.start)
 
 -- there is none behind a place in their order
-abbrev pub HasNoneBehind : List (Option CalmSlab) → (class live start : ℕ) → Type 0
+abbrev pub HasNoneBehind : List (Option NormalSlab) → (class live start : ℕ) → Type 0
 HasNoneBehind set class live start = HasNoneAmong set class (IsBefore live start)
 
 -- the first one behind a place in their order
-abbrev pub IsNextCandidate : List (Option CalmSlab) → (class live start : ℕ) → Candidate → Type 0
+abbrev pub IsNextCandidate : List (Option NormalSlab) → (class live start : ℕ) → Candidate → Type 0
 IsNextCandidate set class live start found = IsFirstAmong set class (IsBefore live start) found

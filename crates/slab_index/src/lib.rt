@@ -7,7 +7,7 @@
 // taken and given back. A slab that takes another class is removed and added again, and the blocks that overlap an old one
 // are taken. The index takes memory once, when it is made, and no call takes longer for what is in it.
 //
-// `LiveCounts` beside it has a number for each slab. `Candidates` means the calm slabs, in which no live block has another
+// `LiveCounts` beside it has a number for each slab. `Candidates` means the normal slabs, in which no live block has another
 // size than that of their class. It finds the first of those that may take another class, by their order `IsBefore` of
 // `specs/Candidates.antt`, and the next one behind it. Whether a block of that class overlaps no live one it does not know.
 //
@@ -23,6 +23,6 @@ mod sparse;
 mod words;
 
 pub use block::{SlabBlock, SlabBlocks};
-pub use candidates::{CalmSlab, Candidate, Candidates};
+pub use candidates::{Candidate, Candidates, NormalSlab};
 pub use index::SlabIndex;
 pub use lives::LiveCounts;

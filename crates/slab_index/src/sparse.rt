@@ -3,7 +3,7 @@ ghost use Rattle.std.specs.Prelude.{◌≡◌, ◌+◌, ◌*◌, ◌/◌, ◌<�
 ghost use Rattle.bit_words.specs.Numbers.{IsPut};
 ghost use Rattle.slab_index.specs.Sparse.{is_sparse, HasRows, IsMarked, IsMarkedAnew, HasNoneInWord, IsFirstInWord, HasNoneInRow, IsFirstInRow};
 
-use crate::CalmSlab;
+use crate::NormalSlab;
 use crate::words::{NUMBERS, Summed, put_summed};
 use bit_words::{has, ones, put};
 use size_classes::has_at_least;
@@ -12,7 +12,7 @@ use size_classes::has_at_least;
 pub(crate) const COUNTS: u32 = 65;
 
 /// Whether so few blocks live in a slab that it may take another class.
-pub(crate) fn is_sparse(slab: CalmSlab) -> bool
+pub(crate) fn is_sparse(slab: NormalSlab) -> bool
     requires { slab.class < 36 }
     ensures { result ≡ is_sparse slab }
 {
@@ -20,7 +20,7 @@ pub(crate) fn is_sparse(slab: CalmSlab) -> bool
 }
 
 /// Puts the start of a slab into the set of its class, or out of it.
-pub(crate) fn mark_class(classes: &mut [u64], start: u32, slab: CalmSlab, on: bool)
+pub(crate) fn mark_class(classes: &mut [u64], start: u32, slab: NormalSlab, on: bool)
     requires start { start < 4096 }
     requires class { slab.class < 36 }
     requires size { length classes.old ≡ 2304 }
@@ -31,7 +31,7 @@ pub(crate) fn mark_class(classes: &mut [u64], start: u32, slab: CalmSlab, on: bo
 
 /// Puts the start of a slab into the set of its number of live blocks, or out of it, where these are so few that the slab may
 /// take another class.
-pub(crate) fn mark_sparse(starts: &mut Summed, start: u32, slab: CalmSlab, on: bool)
+pub(crate) fn mark_sparse(starts: &mut Summed, start: u32, slab: NormalSlab, on: bool)
     requires start { start < 4096 }
     requires class { slab.class < 36 }
     requires rows { HasRows starts.old.words.items starts.old.some.items }
@@ -45,7 +45,7 @@ pub(crate) fn mark_sparse(starts: &mut Summed, start: u32, slab: CalmSlab, on: b
 }
 
 /// Puts the start of a slab out of the set of one number of live blocks and into that of another.
-pub(crate) fn mark_anew(starts: &mut Summed, start: u32, was: CalmSlab, slab: CalmSlab)
+pub(crate) fn mark_anew(starts: &mut Summed, start: u32, was: NormalSlab, slab: NormalSlab)
     requires start { start < 4096 }
     requires was_class { was.class < 36 }
     requires class { slab.class < 36 }

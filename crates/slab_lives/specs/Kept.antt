@@ -1,26 +1,26 @@
--- What counts and calm slabs keep of each other.
+-- What counts and normal slabs keep of each other.
 use Rattle.std.specs.Prelude.{◌≡◌, ◌≢◌, ℕ, List, length, map, Option, Some, None, slice_index}
-use Rattle.slab_index.specs.declared.candidates.CalmSlab.{CalmSlab}
-use Rattle.slab_index.specs.Candidates.{calm_in}
+use Rattle.slab_index.specs.declared.candidates.NormalSlab.{NormalSlab}
+use Rattle.slab_index.specs.Candidates.{normal_in}
 use Rattle.slab_lives.specs.Lives.{Lives}
 
--- the class of a calm slab
-abbrev pub class_of : Option CalmSlab → Option ℕ
-class_of None = None
-class_of (Some slab) = Some slab.class
+-- the class of a normal slab
+abbrev pub class_if : Option NormalSlab → Option ℕ
+class_if None = None
+class_if (Some slab) = Some slab.class
 
--- what counts and calm slabs mean
-abbrev pub lives_of : List ℕ → List (Option CalmSlab) → Lives
-lives_of counts calm = record { counts = counts; calm = map class_of calm }
+-- what counts and normal slabs mean
+abbrev pub lives_of : List ℕ → List (Option NormalSlab) → Lives
+lives_of counts normal = record { counts = counts; normal = map class_if normal }
 
--- each calm slab has as many live blocks as are counted
-pub record IsKept (counts : List ℕ) (calm : List (Option CalmSlab)) : Type 0 where
-  pub size : length calm ≡ length counts
-  pub agree : (start : ℕ) (slab : CalmSlab) → calm_in calm start ≡ Some slab → slab.live ≡ slice_index counts start
+-- each normal slab has as many live blocks as are counted
+pub record IsKept (counts : List ℕ) (normal : List (Option NormalSlab)) : Type 0 where
+  pub size : length normal ≡ length counts
+  pub agree : (start : ℕ) (slab : NormalSlab) → normal_in normal start ≡ Some slab → slab.live ≡ slice_index counts start
 
--- the calm slab at a start has so many live blocks, if one is there, and all else is as before
-pub record IsRecounted (old : List (Option CalmSlab)) (start live : ℕ) (new : List (Option CalmSlab)) : Type 0 where
+-- the normal slab at a start has so many live blocks, if one is there, and all else is as before
+pub record IsRecounted (old : List (Option NormalSlab)) (start live : ℕ) (new : List (Option NormalSlab)) : Type 0 where
   pub size : length new ≡ length old
-  pub here : (slab : CalmSlab) → calm_in new start ≡ Some slab → slab.live ≡ live
-  pub classes : (s : ℕ) → class_of (calm_in new s) ≡ class_of (calm_in old s)
-  pub others : (s : ℕ) → s ≢ start → calm_in new s ≡ calm_in old s
+  pub here : (slab : NormalSlab) → normal_in new start ≡ Some slab → slab.live ≡ live
+  pub classes : (s : ℕ) → class_if (normal_in new s) ≡ class_if (normal_in old s)
+  pub others : (s : ℕ) → s ≢ start → normal_in new s ≡ normal_in old s

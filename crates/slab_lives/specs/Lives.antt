@@ -1,24 +1,24 @@
--- How many blocks live in each slab, and which slabs may take another class. A slab is calm where no live block in it has another
+-- How many blocks live in each slab, and which slabs may take another class. A slab is normal where no live block in it has another
 -- size than that of its class.
 use Rattle.std.specs.Prelude.{◌≡◌, ◌≢◌, ℕ, ◌*◌, ◌≤◌, List, Option, Some, None, slice_index, slice_index_or}
 use Rattle.size_classes.specs.Classes.{class_capacity}
 use Rattle.slab_index.specs.declared.candidates.Candidate.{Candidate}
 use Rattle.slab_index.specs.Candidates.{IsBefore}
 
--- for each granule, of the slab that begins there: its number of live blocks, and its class where it is calm
+-- for each granule, of the slab that begins there: its number of live blocks, and its class where it is normal
 pub record Lives : Type 0 where
   pub counts : List ℕ
-  pub calm : List (Option ℕ)
+  pub normal : List (Option ℕ)
 
--- the class of the calm slab that begins at a granule
-unfoldable pub calm_at : Lives → ℕ → Option ℕ
-calm_at lives start = slice_index_or lives.calm start None
+-- the class of the normal slab that begins at a granule
+unfoldable pub normal_at : Lives → ℕ → Option ℕ
+normal_at lives start = slice_index_or lives.normal start None
 
--- The slab at a start may take a class, as far as its live blocks are few: it is calm and has another class; so many blocks live
+-- The slab at a start may take a class, as far as its live blocks are few: it is normal and has another class; so many blocks live
 -- in it, at most 64, and at most a fifth of those that it holds.
 pub record IsSparse (lives : Lives) (class start live : ℕ) : Type 0 where
   pub own : ℕ
-  pub slab : calm_at lives start ≡ Some own
+  pub slab : normal_at lives start ≡ Some own
   pub count : live ≡ slice_index lives.counts start
   pub differs : class ≢ own
   pub few : live ≤ 64

@@ -1,7 +1,7 @@
 // How many blocks live in each slab of an arena, and which slabs may take another class.
 //
 // `SlabLives` keeps the counts of `slab_index` and its candidates together, so that they agree. It means the `Lives` of
-// `specs/Lives.antt`: a count for each slab, and the class of each that is calm. The search for a slab that may take a class
+// `specs/Lives.antt`: a count for each slab, and the class of each that is normal. The search for a slab that may take a class
 // gives the one with the fewest live blocks first, and then those behind it one by one: whether a block of the class overlaps a
 // live one is for the layer above to say.
 #![tactic(auto)]

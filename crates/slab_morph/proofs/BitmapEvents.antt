@@ -1,19 +1,8 @@
 -- The bitmap of a slab is cleared: what is read then, and what a crash leaves.
 use Rattle.std.proofs.Common.{◌≡◌, ◌&&◌, ◌+◌, ◌-◌, ◌*◌, ◌/◌, ◌%◌, ◌<◌, ◌≤◌, ⊎_elim, ℕ, false, List, [], ◌∷◌, ◌++◌, length, refl, sym, ap, ◌∙◌, subst, arith, append_assoc}
-use Rattle.std.proofs.lemmas.Bool.{cases_lt, lt-ltb, le-ltb}
-use Rattle.std.proofs.lemmas.List.{take_all}
+use Rattle.slab_morph.proofs.Common.{cases_lt, lt-ltb, le-ltb, take_all, length-zeros, AreZeros-zeros, Event, Fence, reading, IsQuiet, IsStored, IsImage, CrashOnly, reading-append, by_blend, quiet_image, stores_at, flushes_of, granule_word, blocks_place, bitmap_word, bit_of_word, slab_bit, bitmap_words, clear_events}
 use Rattle.pmem_lines.specs.Words.{word_at, zeros}
-use Rattle.pmem_lines.proofs.Words.{length-zeros, AreZeros-zeros}
-use Rattle.pmem_lines.specs.declared.event.Event.{Event}
-use Rattle.pmem_lines.specs.declared.event.Event.TheVariants.{Fence}
-use Rattle.pmem_lines.specs.Events.{reading, IsQuiet, IsStored, IsImage, CrashOnly}
-use Rattle.pmem_lines.proofs.Images.{reading-append, by_blend, quiet_image}
-use Rattle.durable_steps.specs.Rows.{stores_at, flushes_of}
 use Rattle.durable_steps.proofs.Rows.{IsStored-flushes, IsStored-stores, reading-flushes, row_word, is_flushed-flushes, IsQuiet-flushes, IsQuiet-stores}
-use Rattle.pool_layout.specs.Places.{granule_word, blocks_place}
-use Rattle.image_tables.specs.Tables.{bitmap_word, bit_of_word, slab_bit}
-use Rattle.slab_header.specs.Steps.{bitmap_words}
-use Rattle.slab_header.specs.Morph.{clear_events}
 use Rattle.slab_header.proofs.Making.{bitmap_words-is}
 use Rattle.slab_header.proofs.Tables.{bit_of_word-zero}
 use Rattle.slab_morph.specs.SlabHeaders.{header_at}

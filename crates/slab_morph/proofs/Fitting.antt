@@ -1,17 +1,9 @@
 -- When a slab is fit.
 use Rattle.std.proofs.Common.{◌≡◌, ◌≢◌, ◌↔◌, IsTrue, ◌*◌, ◌<◌, ◌≤◌, ⊎_elim, inl, inr, ℕ, Bool, true, false, true≢false, eqb, length, refl, sym, ap, ◌∙◌, subst, arith}
 use Rattle.std.proofs.Math.Nat.{mul-le-mul_right, div-le_of_le-mul}
-use Rattle.std.proofs.lemmas.Bool.{cases_lt, cases_eq, eq-eqb, ne_eqb, cond-true, cond-false}
+use Rattle.slab_morph.proofs.Common.{cases_lt, cases_eq, eq-eqb, ne_eqb, cond-true, cond-false, class_size, class_capacity, class_size-rises, class_size-least, class_size-most, normal_kind, morphing_kind, IsState, SlabState, kind_of, class_of, old_of, entries_of, IsValidState, numbers_below, Range, AreApart, slab_block, HoldsBit, HoldsOld, SlabHeader}
 use Rattle.std.proofs.lemmas.Nat.{le-div}
-use Rattle.size_classes.specs.Classes.{class_size, class_capacity}
-use Rattle.size_classes.proofs.Spacing.{class_size-rises, class_size-least, class_size-most}
-use Rattle.image_tables.specs.Forms.{normal_kind, morphing_kind, IsState}
-use Rattle.slab_header.specs.declared.state.SlabState.{SlabState}
-use Rattle.slab_header.specs.State.{kind_of, class_of, old_of, entries_of, IsValidState}
-use Rattle.slab_header.specs.Morph.{numbers_below}
-use Rattle.heap_model.specs.Machine.{Range, AreApart, slab_block}
-use Rattle.heap_check.specs.Heap.{HoldsBit, HoldsOld}
-use Rattle.slab_morph.specs.SlabHeaders.{SlabHeader, alone, HasState}
+use Rattle.slab_morph.specs.SlabHeaders.{alone, HasStateWord}
 use Rattle.slab_morph.specs.Overlaps.{IsOverlapRange}
 use Rattle.slab_morph.specs.Fitness.{held_count, HoldsOther, IsFitHeader, IsClearOfBits}
 use Rattle.slab_morph.proofs.Numbers.{none_below}
@@ -59,22 +51,22 @@ module _ (h : SlabHeader) (start : ℕ) (none : (place : ℕ) → place < h.inde
   count_bits : h.kind ≢ morphing_kind → held_count (alone h) start ≡ length (numbers_below h.bit (class_capacity h.class))
   count_bits apart = omega (arith, cond-false (eqb h.kind morphing_kind) 0 (length (numbers_below h.bit (class_capacity h.class))) (ne_eqb h.kind morphing_kind apart), no_old)
 
-  not_old : {range : Range} → HoldsOld (alone h) start range → ⊥
+  not_old : {range : Range} → HoldsOld h start range → ⊥
   not_old holds = true≢false (sym holds.live ∙ none holds.place holds.below)
 
   -- so it is in no transition
-  calm : ¬ (HoldsOther (alone h) start)
-  calm moving = ⊎_elim
-      (λ (bit : HoldsBit (alone h) start moving.range). moving.other (ap (λ (r : Range). r.size) bit.is))
+  no_transition : ¬ (HoldsOther (alone h) start)
+  no_transition moving = ⊎_elim
+      (λ (bit : HoldsBit h start moving.range). moving.other (ap (λ (r : Range). r.size) bit.is))
       (λ old. not_old old)
       moving.holds.block
 
   fit_by : (class number : ℕ) → h.class ≢ class → held_count (alone h) start ≤ 64 → 5 * held_count (alone h) start ≤ class_capacity h.class →
-      number < class_capacity class → ((other : Range) → HoldsBit (alone h) start other → AreApart (slab_block start class number) other) → IsFitHeader h start class
+      number < class_capacity class → ((other : Range) → HoldsBit h start other → AreApart (slab_block start class number) other) → IsFitHeader h start class
   fit_by class number differs few sparse within clear = record {
     class = h.class;
     slab = refl;
-    calm = calm;
+    no_transition = no_transition;
     differs = λ same. differs (sym same);
     few = few;
     sparse = sparse;
@@ -122,14 +114,14 @@ fit_differs h start class fit same = fit.differs (cc (fit.slab, same))
 pub fit_none : (h : SlabHeader) (start class : ℕ) → IsState h.kind h.class h.old h.index_count → IsFitHeader h start class → (place : ℕ) → place < h.index_count → h.live place ≡ true → ⊥
 fit_none h start class valid fit place below live =
     let some : h.kind ≢ normal_kind = λ is. omega (arith, below, (valid.none is).1) in
-    fit.calm (record {
+    fit.no_transition (record {
       range = slab_block start h.old (h.number place);
       holds = record { slab = refl; block = inr (record { place = place; below = below; live = live; is = refl }) };
       other = sizes_differ h.old h.class valid.is_old_class valid.is_class (valid.differ some);
     })
 
 -- the fields of a state word that is a valid one
-pub valid_header : (h : SlabHeader) (state : SlabState) → HasState h state → IsValidState state → IsState h.kind h.class h.old h.index_count
+pub valid_header : (h : SlabHeader) (state : SlabState) → HasStateWord h state → IsValidState state → IsState h.kind h.class h.old h.index_count
 valid_header h state is valid =
     subst (λ (k : ℕ). IsState k h.class h.old h.index_count) (sym is.kind)
     (subst (λ (c : ℕ). IsState (kind_of state) c h.old h.index_count) (sym is.class)
@@ -144,7 +136,7 @@ pub record IsRead (h : SlabHeader) (own entries : ℕ) (told : Bool) : Type 0 wh
   pub told_is : IsTrue told ↔ (h.kind ≢ morphing_kind)
   pub valid : IsState h.kind h.class h.old h.index_count
 
-pub read_by : {h : SlabHeader} {state : SlabState} {own entries : ℕ} {told : Bool} → HasState h state → IsValidState state → own ≡ class_of state → entries ≡ entries_of state →
+pub read_by : {h : SlabHeader} {state : SlabState} {own entries : ℕ} {told : Bool} → HasStateWord h state → IsValidState state → own ≡ class_of state → entries ≡ entries_of state →
     IsTrue told ↔ (kind_of state ≢ morphing_kind) → IsRead h own entries told
 read_by {h} {state} {own} {entries} {told} is valid class count tells = record {
   class = class ∙ sym is.class;

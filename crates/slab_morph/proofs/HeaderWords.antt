@@ -1,13 +1,7 @@
 -- What the header of a slab says where some of its words are the same.
 use Rattle.std.proofs.Common.{◌≡◌, ◌&&◌, ◌+◌, ◌/◌, ◌%◌, ◌^◌, ◌<◌, ◌≤◌, ⊎_elim, inl, inr, ℕ, Bool, ltb, List, length, refl, sym, ap, ◌∙◌, arith}
-use Rattle.std.proofs.lemmas.Bool.{cases_lt, le-ltb}
-use Rattle.pmem_lines.specs.Words.{word_at, put_word}
-use Rattle.pmem_lines.proofs.Words.{word_at-put_same, word_at-put_other}
-use Rattle.pool_layout.specs.Places.{granule_word, blocks_place}
-use Rattle.image_tables.specs.Tables.{where_slab, bit_of_word, state_word, bitmap_word, index_word, slab_bit}
-use Rattle.slab_header.specs.declared.state.SlabState.{SlabState}
-use Rattle.slab_header.specs.State.{word_of_state, SaysOfState}
-use Rattle.slab_morph.specs.SlabHeaders.{SlabHeader, header_at}
+use Rattle.slab_morph.proofs.Common.{cases_lt, le-ltb, word_at, put_word, word_at-put_same, word_at-put_other, granule_word, blocks_place, where_slab, bit_of_word, state_word, bitmap_word, index_word, slab_bit, SlabHeader, SlabState, word_of_state, SaysOfState}
+use Rattle.slab_morph.specs.SlabHeaders.{header_at}
 use Rattle.slab_morph.specs.Stages.{with_state, IsSameState, IsSameButIndex, IsSameButBits, IsOffHeader, IsOffState, IsOffBitmap, IsOffIndex}
 
 -- what is read below a bound

@@ -1,13 +1,7 @@
 -- What a slab holds stays while it takes another class.
 use Rattle.std.proofs.Common.{◌≡◌, ◌↔◌, ◌≢◌, ◌||◌, ◌<◌, ⊎_elim, inl, inr, ℕ, Bool, true, false, true≢false, ltb, List, length, get_or, refl, sym, ap, ◌∙◌, subst, arith}
-use Rattle.std.proofs.lemmas.Bool.{lt-ltb, cond-true}
-use Rattle.size_classes.specs.Classes.{class_capacity}
-use Rattle.image_tables.specs.Tables.{Tables}
-use Rattle.image_tables.specs.Forms.{normal_kind, morphing_kind, morphed_kind}
-use Rattle.slab_header.specs.Morph.{numbers_below}
-use Rattle.heap_model.specs.Machine.{Range, slab_block}
-use Rattle.heap_check.specs.Heap.{Holds, HoldsBit, HoldsOld}
-use Rattle.slab_morph.specs.SlabHeaders.{SlabHeader, header_of, alone}
+use Rattle.slab_morph.proofs.Common.{lt-ltb, cond-true, class_capacity, Tables, SlabHeader, normal_kind, morphing_kind, morphed_kind, numbers_below, Range, slab_block, Holds, HoldsBit, HoldsOld}
+use Rattle.slab_morph.specs.SlabHeaders.{alone}
 use Rattle.slab_morph.specs.Stages.{set_numbers, morphing, finished, settled, IsSameButIndex, IsSameButBits, HoldSame}
 use Rattle.slab_morph.proofs.Numbers.{numbers_pass, numbers_among}
 
@@ -19,18 +13,18 @@ pub same_then : (start : ℕ) (h g k : SlabHeader) → HoldSame start h g → Ho
 same_then start h g k first second = record { each = λ range. (λ holds. (first.each range).0 ((second.each range).0 holds), λ holds. (second.each range).1 ((first.each range).1 holds)) }
 
 -- by either kind of block
-by_blocks : (start : ℕ) (h g : SlabHeader) → ((range : Range) → HoldsBit (alone g) start range → Holds (alone h) start range) → ((range : Range) → HoldsOld (alone g) start range → Holds (alone h) start range) →
+by_blocks : (start : ℕ) (h g : SlabHeader) → ((range : Range) → HoldsBit g start range → Holds (alone h) start range) → ((range : Range) → HoldsOld g start range → Holds (alone h) start range) →
     (range : Range) → Holds (alone g) start range → Holds (alone h) start range
 by_blocks start h g bits olds range holds = ⊎_elim (λ bit. bits range bit) (λ old. olds range old) holds.block
 
-held_bit : {start : ℕ} {h : SlabHeader} {range : Range} → HoldsBit (alone h) start range → Holds (alone h) start range
+held_bit : {start : ℕ} {h : SlabHeader} {range : Range} → HoldsBit h start range → Holds (alone h) start range
 held_bit {start} {h} {range} bit = record { slab = refl; block = inl bit }
 
-held_old : {start : ℕ} {h : SlabHeader} {range : Range} → HoldsOld (alone h) start range → Holds (alone h) start range
+held_old : {start : ℕ} {h : SlabHeader} {range : Range} → HoldsOld h start range → Holds (alone h) start range
 held_old {start} {h} {range} old = record { slab = refl; block = inr old }
 
 -- bits that are the same are held the same
-bit_kept : (start : ℕ) (h g : SlabHeader) (range : Range) → g.kind ≡ h.kind → g.class ≡ h.class → g.bit ≡ h.bit → HoldsBit (alone g) start range → HoldsBit (alone h) start range
+bit_kept : (start : ℕ) (h g : SlabHeader) (range : Range) → g.kind ≡ h.kind → g.class ≡ h.class → g.bit ≡ h.bit → HoldsBit g start range → HoldsBit h start range
 bit_kept start h g range kind class bits bit = record {
   number = bit.number;
   below = subst (λ (c : ℕ). bit.number < class_capacity c) class bit.below;
@@ -40,7 +34,7 @@ bit_kept start h g range kind class bits bit = record {
 }
 
 -- and so are index entries
-old_kept : (start : ℕ) (h g : SlabHeader) (range : Range) → g.old ≡ h.old → g.index_count ≡ h.index_count → g.live ≡ h.live → g.number ≡ h.number → HoldsOld (alone g) start range → HoldsOld (alone h) start range
+old_kept : (start : ℕ) (h g : SlabHeader) (range : Range) → g.old ≡ h.old → g.index_count ≡ h.index_count → g.live ≡ h.live → g.number ≡ h.number → HoldsOld g start range → HoldsOld h start range
 old_kept start h g range olds entries lives numbers old = record {
   place = old.place;
   below = subst (λ (n : ℕ). old.place < n) entries old.below;
@@ -153,14 +147,5 @@ module _ (start class : ℕ) (h : SlabHeader) (normal : h.kind ≡ normal_kind) 
   }
 
 -- What a slab of an arena holds is what its header says.
-pub Holds-slab : (t : Tables) (start : ℕ) → t.slab start ≡ true → (range : Range) → Holds t start range ↔ Holds (alone (header_of t start)) start range
-Holds-slab t start is range = (
-  λ holds. ⊎_elim
-      (λ (bit : HoldsBit t start range). record { slab = refl; block = inl (record { number = bit.number; below = bit.below; read = bit.read; set = bit.set; is = bit.is }) })
-      (λ (old : HoldsOld t start range). record { slab = refl; block = inr (record { place = old.place; below = old.below; live = old.live; is = old.is }) })
-      holds.block,
-  λ holds. ⊎_elim
-      (λ (bit : HoldsBit (alone (header_of t start)) start range). record { slab = is; block = inl (record { number = bit.number; below = bit.below; read = bit.read; set = bit.set; is = bit.is }) })
-      (λ (old : HoldsOld (alone (header_of t start)) start range). record { slab = is; block = inr (record { place = old.place; below = old.below; live = old.live; is = old.is }) })
-      holds.block,
-)
+pub Holds-slab : (t : Tables) (start : ℕ) → t.slab start ≡ true → (range : Range) → Holds t start range ↔ Holds (alone (t.header start)) start range
+Holds-slab t start is range = (λ holds. record { slab = refl; block = holds.block }, λ holds. record { slab = is; block = holds.block })

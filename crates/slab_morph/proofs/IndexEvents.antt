@@ -1,21 +1,9 @@
 -- Old blocks are put into the index table of a slab: what is read then, and what a crash leaves.
 use Rattle.std.proofs.Common.{◌≡◌, ◌⊎◌, ◌&&◌, ◌||◌, ◌+◌, ◌*◌, ◌/◌, ◌%◌, ◌^◌, ◌<◌, ◌≤◌, min, ⊎_elim, inl, inr, ℕ, zero, suc, Bool, true, ltb, List, [], ◌∷◌, ◌++◌, length, get_or, refl, sym, ap, ◌∙◌, subst, arith, append_assoc, length-append}
-use Rattle.std.proofs.lemmas.Bool.{cases_lt, lt-ltb, le-ltb, cond-true, cond-false}
-use Rattle.std.proofs.lemmas.List.{take_all}
-use Rattle.pmem_lines.specs.Words.{word_at, put_word}
-use Rattle.pmem_lines.proofs.Words.{word_at-put_same, word_at-put_other, length-put_word}
-use Rattle.pmem_lines.specs.declared.event.Event.{Event}
-use Rattle.pmem_lines.specs.declared.event.Event.TheVariants.{Store, Fence}
-use Rattle.pmem_lines.specs.Events.{reading, IsQuiet, IsStored, IsImage, CrashOnly, is_flushed}
-use Rattle.pmem_lines.proofs.Images.{reading-append, by_blend, quiet_image}
-use Rattle.durable_steps.specs.Rows.{flushes_of}
+use Rattle.slab_morph.proofs.Common.{cases_lt, lt-ltb, le-ltb, cond-true, cond-false, take_all, word_at, put_word, word_at-put_same, word_at-put_other, length-put_word, Event, Store, Fence, reading, IsQuiet, IsStored, IsImage, CrashOnly, is_flushed, reading-append, by_blend, quiet_image, flushes_of, granule_word, blocks_place, IsIndexWord, bit_of_word, index_word, slab_bit, index_stores, index_events}
 use Rattle.durable_steps.proofs.Rows.{IsStored-flushes, reading-flushes, is_flushed-behind, is_flushed-flushes, IsQuiet-flushes}
-use Rattle.pool_layout.specs.Places.{granule_word, blocks_place}
-use Rattle.image_tables.specs.Forms.{IsIndexWord}
-use Rattle.image_tables.specs.Tables.{bit_of_word, index_word, slab_bit}
 use Rattle.slab_header.specs.declared.index.IndexEntry.{IndexEntry}
 use Rattle.slab_header.specs.Index.{word_of_index, SaysOfIndex}
-use Rattle.slab_header.specs.Morph.{index_stores, index_events}
 use Rattle.slab_header.proofs.Entries.{says_of_word}
 use Rattle.slab_morph.specs.SlabHeaders.{header_at}
 use Rattle.slab_morph.specs.Stages.{with_index, IsSameButIndex, IsOffIndex}

@@ -1,3 +1,4 @@
+pub mod Common
 pub mod Overlapping
 pub mod Numbers
 pub mod Reading

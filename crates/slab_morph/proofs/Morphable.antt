@@ -1,14 +1,11 @@
 -- What is known of a slab that may take a class.
 use Rattle.std.proofs.Common.{◌≡◌, ◌∙◌, ◌<◌, ◌≤◌, inl, inr, ℕ, List, length, refl, sym, ap, subst, arith}
-use Rattle.image_tables.specs.Forms.{morphing_kind, IsState}
-use Rattle.slab_header.specs.declared.state.SlabState.{SlabState}
-use Rattle.slab_header.specs.declared.state.SlabState.TheVariants.{Morphing}
-use Rattle.slab_header.specs.State.{class_of, IsValidState}
-use Rattle.slab_morph.specs.SlabHeaders.{SlabHeader, header_at, HasState}
+use Rattle.slab_morph.proofs.Common.{morphing_kind, IsState, SlabState, Morphing, class_of, IsValidState, SlabHeader}
+use Rattle.slab_morph.specs.SlabHeaders.{header_at, HasStateWord}
 use Rattle.slab_morph.specs.Stages.{numbers_of, set_numbers, IsMorphable}
 use Rattle.slab_morph.proofs.Fitting.{fit_few, fit_differs, valid_header}
 
-module _ {words : List ℕ} {start class own : ℕ} {state : SlabState} (may : IsMorphable words start class) (is : HasState (header_at words start) state) (valid : IsValidState state) (own_class : own ≡ class_of state) where
+module _ {words : List ℕ} {start class own : ℕ} {state : SlabState} (may : IsMorphable words start class) (is : HasStateWord (header_at words start) state) (valid : IsValidState state) (own_class : own ≡ class_of state) where
   abbrev h : SlabHeader
   h = header_at words start
 

@@ -2,8 +2,7 @@
 use Rattle.std.proofs.Common.{◌≡◌, ◌+◌, ◌<◌, ◌≤◌, ◌++◌, ℕ, zero, suc, Bool, true, false, cond, List, [], ◌∷◌, length, get_or, ⊎_elim, refl, sym, ap, ◌∙◌, subst, add-one, arith, length-append}
 use Rattle.std.proofs.Math.ListN.{get_or-append}
 use Rattle.std.proofs.Math.Seq.{get_or-append_seam}
-use Rattle.std.proofs.lemmas.Bool.{cases_lt}
-use Rattle.slab_header.specs.Morph.{numbers_below}
+use Rattle.slab_morph.proofs.Common.{cases_lt, numbers_below}
 
 -- one number more, by what the test says of it
 pub numbers_more : (test : ℕ → Bool) (n : ℕ) (passes : Bool) → test n ≡ passes → numbers_below test (n + 1) ≡ numbers_below test n ++ cond passes (n ∷ []) []

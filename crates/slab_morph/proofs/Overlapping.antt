@@ -1,12 +1,9 @@
 -- The range of the blocks of one class that overlap a block of another.
 use Rattle.std.proofs.Common.{◌+◌, ◌*◌, ◌/◌, ◌%◌, ◌<◌, ◌≤◌, min, ⊎_elim, inl, inr, ℕ, refl, arith}
 use Rattle.std.proofs.Math.Nat.{mul-le-mul_right, div-mul-le_self}
-use Rattle.std.proofs.lemmas.Bool.{cases_lt}
+use Rattle.slab_morph.proofs.Common.{cases_lt, class_size, class_capacity, class_size-least, AreApart, slab_block}
 use Rattle.std.proofs.lemmas.Nat.{div-add-mod', mod_below}
 use Rattle.std.proofs.lemmas.Grind.{div_ceil_times}
-use Rattle.size_classes.specs.Classes.{class_size, class_capacity}
-use Rattle.size_classes.proofs.Spacing.{class_size-least}
-use Rattle.heap_model.specs.Machine.{AreApart, slab_block}
 use Rattle.slab_morph.specs.Overlaps.{IsOverlapRange}
 
 -- so many sizes, rounded up

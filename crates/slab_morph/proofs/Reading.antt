@@ -1,11 +1,7 @@
 -- What is read of a slab's header.
 use Rattle.std.proofs.Common.{◌≡◌, ◌&&◌, ◌<◌, ◌/◌, ◌%◌, ◌^◌, ℕ, Bool, ltb, List, sym, ap, ◌∙◌}
-use Rattle.std.proofs.lemmas.Bool.{lt-ltb, cond-true}
-use Rattle.pmem_lines.specs.Words.{word_at}
-use Rattle.image_tables.specs.Tables.{state_word, index_word, slab_bit, bit_of_word}
-use Rattle.slab_header.specs.declared.state.SlabState.{SlabState}
-use Rattle.slab_header.specs.State.{SaysOfState}
-use Rattle.slab_morph.specs.SlabHeaders.{header_at, HasState}
+use Rattle.slab_morph.proofs.Common.{lt-ltb, cond-true, word_at, state_word, index_word, slab_bit, bit_of_word, SlabState, SaysOfState}
+use Rattle.slab_morph.specs.SlabHeaders.{header_at, HasStateWord}
 
 -- a bit
 pub bit_read : (words : List ℕ) (start i : ℕ) → i < 4096 → (header_at words start).bit i ≡ slab_bit words start i
@@ -22,7 +18,7 @@ unfolding header_at
 number_read words start place below = cond-true (ltb place 64) _ 0 (lt-ltb place 64 below)
 
 -- the state
-pub state_read : (words : List ℕ) (start : ℕ) (word : ℕ) (state : SlabState) → word ≡ word_at words (state_word start) → SaysOfState word state → HasState (header_at words start) state
+pub state_read : (words : List ℕ) (start : ℕ) (word : ℕ) (state : SlabState) → word ≡ word_at words (state_word start) → SaysOfState word state → HasStateWord (header_at words start) state
 unfolding header_at
 state_read words start word state is says = record {
   kind = ap (λ w. w / 2 ^ 0 % 2 ^ 8) (sym is) ∙ says.kind;

@@ -1,12 +1,7 @@
 -- What the slab holds stays at each stage, and so the steps' crash clauses are put together.
 use Rattle.std.proofs.Common.{◌≡◌, ◌⊎◌, ◌<◌, ◌++◌, ⊎_elim, inl, inr, ℕ, false, List, length, refl, sym, ap, ◌∙◌, subst}
-use Rattle.pmem_lines.specs.Words.{word_at}
-use Rattle.pmem_lines.specs.declared.event.Event.{Event}
-use Rattle.pmem_lines.specs.Events.{reading, IsQuiet, CrashOnly}
-use Rattle.pmem_lines.proofs.Images.{then, weaker}
-use Rattle.image_tables.specs.Forms.{normal_kind, morphing_kind, morphed_kind, IsState, IsStateWord, IsIndexWord}
-use Rattle.image_tables.specs.Tables.{state_word, index_word}
-use Rattle.slab_morph.specs.SlabHeaders.{SlabHeader, header_at}
+use Rattle.slab_morph.proofs.Common.{word_at, Event, reading, IsQuiet, CrashOnly, then, weaker, normal_kind, morphing_kind, morphed_kind, IsState, IsStateWord, IsIndexWord, state_word, index_word, SlabHeader}
+use Rattle.slab_morph.specs.SlabHeaders.{header_at}
 use Rattle.slab_morph.specs.Stages.{set_numbers, with_no_bit, morphing, finished, settled, IsSameButBits, IsFinishStage, IsMorphStage, IsSettleStage, IsOffHeader, IsOffState, IsOffBitmap, IsOffIndex, HoldSame, IsValidHeader, KeepsHeld, Changes}
 use Rattle.slab_morph.proofs.HeaderTables.{leaves_by, off_then, off_none}
 use Rattle.slab_morph.proofs.HeaderWords.{header_off_index, header_off_bitmap, off_index, off_bitmap, off_state}

@@ -1,15 +1,7 @@
 -- Another state word is put into the header of a slab: what is read then, and what a crash leaves.
 use Rattle.std.proofs.Common.{◌≡◌, ◌⊎◌, ◌+◌, ◌/◌, ◌≤◌, ⊎_elim, inl, inr, ℕ, List, length, refl, sym, ◌∙◌, subst, arith}
-use Rattle.pmem_lines.specs.Words.{word_at, put_word}
-use Rattle.pmem_lines.proofs.Words.{word_at-put_same, word_at-put_other, length-put_word}
-use Rattle.pmem_lines.specs.Events.{CrashOnly}
-use Rattle.pmem_lines.proofs.Images.{weaker}
+use Rattle.slab_morph.proofs.Common.{word_at, put_word, word_at-put_same, word_at-put_other, length-put_word, CrashOnly, weaker, granule_word, blocks_place, IsStateWord, state_word, SlabState, word_of_state, SaysOfState}
 use Rattle.durable_steps.specs.Steps.{word_events, IsOldOrNewWord}
-use Rattle.pool_layout.specs.Places.{granule_word, blocks_place}
-use Rattle.image_tables.specs.Forms.{IsStateWord}
-use Rattle.image_tables.specs.Tables.{state_word}
-use Rattle.slab_header.specs.declared.state.SlabState.{SlabState}
-use Rattle.slab_header.specs.State.{word_of_state, SaysOfState}
 use Rattle.slab_morph.specs.Stages.{with_state, IsOffState, Changes}
 use Rattle.slab_morph.proofs.HeaderTables.{changes_by}
 use Rattle.slab_morph.proofs.HeaderWords.{header_state, off_state}

@@ -1,12 +1,6 @@
 -- Old blocks are stored one after another, by rising number.
 use Rattle.std.proofs.Common.{◌≡◌, ◌+◌, ◌*◌, ◌<◌, ◌≤◌, ◌++◌, ◌∙◌, ℕ, Bool, true, false, List, [], ◌∷◌, length, sym, ap, arith}
-use Rattle.std.proofs.lemmas.List.{append-nil}
-use Rattle.pmem_lines.specs.declared.event.Event.TheVariants.{Store}
-use Rattle.pmem_lines.specs.Pmem.{PmemState, words_of, appended, Appends}
-use Rattle.pmem_lines.proofs.States.{appended_append, words_of-appended}
-use Rattle.image_tables.specs.Tables.{index_word, slab_bit}
-use Rattle.slab_header.specs.Index.{word_of_index}
-use Rattle.slab_header.specs.Morph.{numbers_below, index_stores}
+use Rattle.slab_morph.proofs.Common.{append-nil, Store, PmemState, words_of, appended, Appends, appended_append, words_of-appended, index_word, slab_bit, word_of_index, numbers_below, index_stores}
 use Rattle.slab_morph.specs.SlabHeaders.{header_at}
 use Rattle.slab_morph.proofs.Numbers.{numbers_more, count_more, numbers_rise}
 use Rattle.slab_morph.proofs.IndexEvents.{entry_of, index_stores-more, bit_between}

@@ -1,24 +1,19 @@
 -- Fitness of a slab of an arena, by the tables.
 use Rattle.std.proofs.Common.{◌≡◌, ◌↔◌, ◌*◌, ◌≤◌, IsTrue, ℕ, Bool, true, Some, None, List, refl, sym, ap, subst, ◌∙◌}
-use Rattle.std.proofs.lemmas.Bool.{cond-true}
-use Rattle.image_tables.specs.Tables.{Tables, is_slab, tables_of}
-use Rattle.image_tables.proofs.Tables.{slab_table}
-use Rattle.size_classes.specs.Classes.{class_size, class_capacity}
-use Rattle.heap_model.specs.Machine.{Range}
+use Rattle.slab_morph.proofs.Common.{cond-true, Tables, is_slab, tables_of, SlabHeader, slab_table, class_size, class_capacity, Range, slabs, Holds}
 use Rattle.heap_model.specs.Choice.{IsFit}
-use Rattle.heap_check.specs.Heap.{slabs, Holds}
-use Rattle.slab_morph.specs.SlabHeaders.{SlabHeader, header_at, header_of, alone}
+use Rattle.slab_morph.specs.SlabHeaders.{header_at, alone}
 use Rattle.slab_morph.specs.Fitness.{held_count, held_view, IsFitHeader}
 use Rattle.slab_morph.proofs.HeaderTables.{header_of-slab}
 use Rattle.slab_morph.proofs.Holding.{Holds-slab}
 
 -- a slab that holds no more than a fit one does, of the same class and as many blocks, is fit
-fit_alike : (t u : Tables) (start class : ℕ) → slabs u start ≡ slabs t start → u.class start ≡ t.class start → held_count u start ≡ held_count t start → ((range : Range) → Holds u start range → Holds t start range) →
+fit_alike : (t u : Tables) (start class : ℕ) → slabs u start ≡ slabs t start → (u.header start).class ≡ (t.header start).class → held_count u start ≡ held_count t start → ((range : Range) → Holds u start range → Holds t start range) →
     IsFit (held_view t) class start → IsFit (held_view u) class start
 fit_alike t u start class slab same count back fit = record {
   class = fit.class;
   slab = slab ∙ fit.slab;
-  calm = λ moving. fit.calm (record { range = moving.range; holds = back moving.range moving.holds; other = λ size. moving.other (size ∙ ap class_size (sym same)) });
+  no_transition = λ moving. fit.no_transition (record { range = moving.range; holds = back moving.range moving.holds; other = λ size. moving.other (size ∙ ap class_size (sym same)) });
   differs = fit.differs;
   few = subst (λ n. n ≤ 64) (sym count) fit.few;
   sparse = subst (λ n. 5 * n ≤ class_capacity fit.class) (sym count) fit.sparse;
@@ -27,10 +22,10 @@ fit_alike t u start class slab same count back fit = record {
 }
 
 -- A slab of an arena is fit by what its header says.
-pub IsFit-slab : (t : Tables) (start class : ℕ) → t.slab start ≡ true → IsFit (held_view t) class start ↔ IsFitHeader (header_of t start) start class
+pub IsFit-slab : (t : Tables) (start class : ℕ) → t.slab start ≡ true → IsFit (held_view t) class start ↔ IsFitHeader (t.header start) start class
 IsFit-slab t start class is =
-    let slab : slabs t start ≡ Some (t.class start) = cond-true (t.slab start) (Some (t.class start)) None is in
-    let of_header = alone (header_of t start) in (
+    let slab : slabs t start ≡ Some (t.header start).class = cond-true (t.slab start) (Some (t.header start).class) None is in
+    let of_header = alone (t.header start) in (
       fit_alike t of_header start class (sym slab) refl refl (λ range. (Holds-slab t start is range).1),
       fit_alike of_header t start class slab refl refl (λ range. (Holds-slab t start is range).0),
     )

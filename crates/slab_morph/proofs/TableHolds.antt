@@ -1,30 +1,17 @@
 -- What the slabs of an arena hold, where the header of one changes and holds the same.
 use Rattle.std.proofs.Common.{◌≡◌, ◌≢◌, ◌↔◌, ⊎_elim, ℕ, true, List, refl, sym, ap, subst, ◌∙◌}
-use Rattle.std.proofs.lemmas.Bool.{cases_eq}
-use Rattle.image_tables.specs.Tables.{Tables, is_slab, AreSlabsInHeap, tables_of}
-use Rattle.image_tables.proofs.Tables.{slab_table}
-use Rattle.image_tables.proofs.Updates.{put_at-other}
-use Rattle.heap_model.specs.Machine.{Range}
-use Rattle.heap_check.specs.Heap.{Holds}
+use Rattle.slab_morph.proofs.Common.{cases_eq, Tables, is_slab, AreSlabsInHeap, tables_of, SlabHeader, slab_table, Range, Holds, put_header}
+use Rattle.image_tables.proofs.Updates.{put_header-other}
 use Rattle.heap_check.specs.Slabs.{IsSameSlab}
 use Rattle.heap_check.proofs.SameSlabs.{Holds-same, Holds-same_back}
-use Rattle.slab_morph.specs.SlabHeaders.{SlabHeader, header_at, put_header, alone}
+use Rattle.slab_morph.specs.SlabHeaders.{header_at, alone}
 use Rattle.slab_morph.specs.Stages.{IsOffHeader, HoldSame, AllHoldSame}
 use Rattle.slab_morph.proofs.HeaderTables.{header_of-slab, tables_off}
 use Rattle.slab_morph.proofs.Holding.{Holds-slab}
 
 -- the other slabs
 other_slab : (t : Tables) (start s : ℕ) (h : SlabHeader) → s ≢ start → IsSameSlab t (put_header t start h) s
-other_slab t start s h apart = record {
-  slab = refl;
-  kind = put_at-other t.kind start s h.kind apart;
-  class = put_at-other t.class start s h.class apart;
-  old = put_at-other t.old start s h.old apart;
-  index_count = put_at-other t.index_count start s h.index_count apart;
-  bit = put_at-other t.bit start s h.bit apart;
-  live = put_at-other t.live start s h.live apart;
-  number = put_at-other t.number start s h.number apart;
-}
+other_slab t start s h apart = record { slab = refl; header = put_header-other t start h s apart }
 
 module _ (words image : List ℕ) (start : ℕ) (off : IsOffHeader words start image) (held : HoldSame start (header_at words start) (header_at image start)) (slabs : AreSlabsInHeap words) (is : is_slab words start ≡ true) where
   tables : tables_of image ≡ put_header (tables_of words) start (header_at image start)

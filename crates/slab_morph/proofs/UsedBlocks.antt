@@ -1,13 +1,8 @@
 -- The set of the blocks of a slab that are not unused, and what is read of the slab's header.
 use Rattle.std.proofs.Common.{◌≡◌, ◌⊎◌, ◌↔◌, IsTrue, Bool, List, ◌+◌, ◌/◌, ◌<◌, ◌≤◌, ℕ, true, false, true≢false, sym, subst, ◌∙◌, arith, inl, inr, ⊎_elim}
-use Rattle.std.proofs.lemmas.Bool.{cases_lt, cases_Bool}
-use Rattle.size_classes.specs.Classes.{class_capacity}
-use Rattle.bit_words.specs.Numbers.{has}
-use Rattle.image_tables.specs.Tables.{tables_of}
-use Rattle.heap_model.specs.Machine.{AreApart, slab_block}
-use Rattle.heap_check.specs.Heap.{IsUnusedIn}
+use Rattle.slab_morph.proofs.Common.{cases_lt, cases_Bool, class_capacity, has, tables_of, SlabHeader, AreApart, slab_block, IsUnusedIn}
 use Rattle.slab_morph.specs.Overlaps.{IsCoveredRange}
-use Rattle.slab_morph.specs.SlabHeaders.{SlabHeader, header_at, IsSlabHere}
+use Rattle.slab_morph.specs.SlabHeaders.{header_at, IsSlabHere}
 use Rattle.slab_morph.proofs.UnusedBlocks.{IsRead, unused_read, used_marked, used_covered}
 
 -- a live old block at one of the first n places overlaps the block
@@ -62,7 +57,7 @@ used_next {h} {start} {old} {class} {n} {from} {end} {reads} {set} {new} range i
 
 -- at all places that are read
 pub used_all : {words : List ℕ} {slab class old entries : ℕ} {reads : Bool} (n : ℕ) (set : List ℕ) → IsSlabHere words slab → IsRead words (slab / 16384) class old entries reads → n ≡ entries →
-    AreUsed (header_at words (slab / 16384)) (slab / 16384) old class reads n set → (i : ℕ) → i < class_capacity ((tables_of words).class (slab / 16384)) → (has set i ≡ false) ↔ IsUnusedIn (tables_of words) (slab / 16384) ((tables_of words).class (slab / 16384)) i
+    AreUsed (header_at words (slab / 16384)) (slab / 16384) old class reads n set → (i : ℕ) → i < class_capacity ((tables_of words).header (slab / 16384)).class → (has set i ≡ false) ↔ IsUnusedIn (tables_of words) (slab / 16384) ((tables_of words).header (slab / 16384)).class i
 used_all {words} {slab} {class} {old} n set here read all used i below =
     let within : i < class_capacity class = subst (λ c. i < class_capacity c) (sym read.class_is) below in (
       λ none. unused_read here read i below (used.unmarked i within none) (λ place under. used.apart i within none place (omega (arith, all, under))),

@@ -1,11 +1,7 @@
 -- A valid header is so still while the slab takes another class.
 use Rattle.std.proofs.Common.{◌≡◌, ◌≢◌, ◌<◌, inl, inr, ℕ, List, length, get_or, refl, sym, ap, ◌∙◌, subst, arith}
-use Rattle.size_classes.specs.Classes.{class_capacity}
-use Rattle.pmem_lines.specs.Words.{word_at}
-use Rattle.image_tables.specs.Forms.{normal_kind, morphing_kind, IsState, IsStateWord, IsIndexWord}
-use Rattle.image_tables.specs.Tables.{state_word, index_word}
-use Rattle.heap_check.specs.Sound.{IsValidSlab}
-use Rattle.slab_morph.specs.SlabHeaders.{SlabHeader, header_at, alone}
+use Rattle.slab_morph.proofs.Common.{class_capacity, word_at, normal_kind, morphing_kind, IsState, IsStateWord, IsIndexWord, state_word, index_word, SlabHeader, IsValidSlab}
+use Rattle.slab_morph.specs.SlabHeaders.{header_at}
 use Rattle.slab_morph.specs.Stages.{IsSameState, set_numbers, morphing, finished, settled, IsOffState, IsOffBitmap, IsOffIndex, IsValidHeader}
 use Rattle.slab_morph.proofs.Numbers.{numbers_pass, numbers_once}
 use Rattle.slab_morph.proofs.HeaderWords.{header_off_index, header_off_bitmap}
@@ -13,7 +9,7 @@ use Rattle.slab_morph.proofs.Holding.{in_place}
 
 -- the fields of the state, and the numbers of the index table, as another header has them
 slab_by : (start : ℕ) (h g : SlabHeader) → IsSameState h g → ((place : ℕ) → place < h.index_count → g.number place ≡ h.number place) →
-    IsValidSlab (alone h) start → IsValidSlab (alone g) start
+    IsValidSlab h → IsValidSlab g
 slab_by start h g same numbers valid = record {
   state = subst (λ (k : ℕ). IsState k g.class g.old g.index_count) (sym same.kind) (subst (λ (c : ℕ). IsState h.kind c g.old g.index_count) (sym same.class) (subst (λ (o : ℕ). IsState h.kind h.class o g.index_count) (sym same.old) (subst (λ (n : ℕ). IsState h.kind h.class h.old n) (sym same.index_count) valid.state)));
   small = λ place below.
@@ -26,7 +22,7 @@ slab_by start h g same numbers valid = record {
 }
 
 -- a slab without index entries
-slab_none : (start : ℕ) (g : SlabHeader) → IsState g.kind g.class g.old g.index_count → g.index_count ≡ 0 → IsValidSlab (alone g) start
+slab_none : (start : ℕ) (g : SlabHeader) → IsState g.kind g.class g.old g.index_count → g.index_count ≡ 0 → IsValidSlab g
 slab_none start g state none = record {
   state = state;
   small = λ place below. absurd (omega (arith, below, none));
@@ -34,7 +30,7 @@ slab_none start g state none = record {
 }
 
 -- in Morphing
-slab_morphing : (start class : ℕ) (h : SlabHeader) → h.kind ≡ normal_kind → h.index_count ≡ 0 → IsState morphing_kind class h.class (length (set_numbers h)) → IsValidSlab (alone (morphing h class)) start
+slab_morphing : (start class : ℕ) (h : SlabHeader) → h.kind ≡ normal_kind → h.index_count ≡ 0 → IsState morphing_kind class h.class (length (set_numbers h)) → IsValidSlab (morphing h class)
 slab_morphing start class h normal none state =
     let number : (place : ℕ) → place < length (set_numbers h) → (morphing h class).number place ≡ get_or (set_numbers h) place 0 = in_place start class h normal none in
     record {
@@ -69,7 +65,7 @@ valid_index words image start off none valid =
 
 -- its state word says something else
 pub valid_state : (words image : List ℕ) (start : ℕ) → IsOffState words start image → IsStateWord (word_at image (state_word start)) →
-    ((place : ℕ) → place < (header_at image start).index_count → IsIndexWord (word_at words (index_word start place))) → IsValidSlab (alone (header_at image start)) start → IsValidHeader image start
+    ((place : ℕ) → place < (header_at image start).index_count → IsIndexWord (word_at words (index_word start place))) → IsValidSlab (header_at image start) → IsValidHeader image start
 valid_state words image start off state index slab = record {
   state = state;
   index = λ place below. subst IsIndexWord (sym (off.others (index_word start place) (inr (omega arith)))) (index place below);
@@ -81,7 +77,7 @@ pub valid_morphing : (indexed told : List ℕ) (start class : ℕ) (h : SlabHead
     ((place : ℕ) → place < length (set_numbers h) → IsIndexWord (word_at indexed (index_word start place))) → h.kind ≡ normal_kind → h.index_count ≡ 0 → IsState morphing_kind class h.class (length (set_numbers h)) → IsValidHeader told start
 valid_morphing indexed told start class h off state is index normal none fields =
     valid_state indexed told start off state (λ place below. index place (omega (arith, below, ap (λ (g : SlabHeader). g.index_count) is)))
-    (subst (λ (g : SlabHeader). IsValidSlab (alone g) start) (sym is) (slab_morphing start class h normal none fields))
+    (subst (λ (g : SlabHeader). IsValidSlab g) (sym is) (slab_morphing start class h normal none fields))
 
 -- Morphed
 pub valid_finished : (cleared new : List ℕ) (start : ℕ) → IsOffState cleared start new → IsStateWord (word_at new (state_word start)) → (header_at cleared start).kind ≡ morphing_kind →
@@ -90,21 +86,21 @@ valid_finished cleared new start off state kind is valid =
     let h = header_at cleared start in
     let was = valid.slab.state in
     let way : h.kind ≢ normal_kind = λ e. omega (arith, e, kind) in
-    let slab : IsValidSlab (alone (finished h)) start = record {
+    let slab : IsValidSlab (finished h) = record {
       state = record { kinds = inr (inr refl); is_class = was.is_class; is_old_class = was.is_old_class; none = λ e. absurd (omega (arith, e)); differ = λ _. was.differ way; number = λ _. was.number way };
       small = valid.slab.small;
       once = valid.slab.once;
     } in
     valid_state cleared new start off state (λ place below. valid.index place (omega (arith, below, ap (λ (g : SlabHeader). g.index_count) is)))
-    (subst (λ (g : SlabHeader). IsValidSlab (alone g) start) (sym is) slab)
+    (subst (λ (g : SlabHeader). IsValidSlab g) (sym is) slab)
 
 -- Normal
 pub valid_settled : (words new : List ℕ) (start : ℕ) → IsOffState words start new → IsStateWord (word_at new (state_word start)) → header_at new start ≡ settled (header_at words start) → IsValidHeader words start → IsValidHeader new start
 valid_settled words new start off state is valid =
     let h = header_at words start in
     let was = valid.slab.state in
-    let slab : IsValidSlab (alone (settled h)) start = slab_none start (settled h)
+    let slab : IsValidSlab (settled h) = slab_none start (settled h)
     (record { kinds = inl refl; is_class = was.is_class; is_old_class = omega arith; none = λ _. (refl, refl); differ = λ some. absurd (some refl); number = λ some. absurd (some refl) })
     refl in
     valid_state words new start off state (λ place below. absurd (omega (arith, below, ap (λ (g : SlabHeader). g.index_count) is)))
-    (subst (λ (g : SlabHeader). IsValidSlab (alone g) start) (sym is) slab)
+    (subst (λ (g : SlabHeader). IsValidSlab g) (sym is) slab)

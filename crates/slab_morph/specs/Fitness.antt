@@ -2,22 +2,22 @@
 use Rattle.std.specs.Prelude.{◌≡◌, ◌≢◌, ◌==◌, ℕ, ◌+◌, ◌<◌, length, true, if◌then◌else◌}
 use Rattle.size_classes.specs.Classes.{class_size, class_capacity}
 use Rattle.image_tables.specs.Forms.{morphing_kind}
-use Rattle.image_tables.specs.Tables.{Tables}
+use Rattle.image_tables.specs.Tables.{Tables, SlabHeader}
 use Rattle.slab_header.specs.Morph.{numbers_below, held_numbers}
 use Rattle.heap_model.specs.Machine.{Range, AreApart, slab_block}
 use Rattle.heap_model.specs.Choice.{SlabView, IsFit}
 use Rattle.heap_check.specs.Heap.{slabs, Holds}
-use Rattle.slab_morph.specs.SlabHeaders.{SlabHeader, alone}
+use Rattle.slab_morph.specs.SlabHeaders.{alone}
 
 -- how many blocks a slab holds: set bits, where they are read, and live index entries
 abbrev pub held_count : Tables → ℕ → ℕ
-held_count t start = (if t.kind start == morphing_kind then 0 else length (held_numbers t start)) + length (numbers_below (t.live start) (t.index_count start))
+held_count t start = (if (t.header start).kind == morphing_kind then 0 else length (held_numbers t start)) + length (numbers_below (t.header start).live (t.header start).index_count)
 
 -- a block that the slab holds has another size than that of the slab's class
 pub record HoldsOther (t : Tables) (start : ℕ) : Type 0 where
   pub range : Range
   pub holds : Holds t start range
-  pub other : range.size ≢ class_size (t.class start)
+  pub other : range.size ≢ class_size (t.header start).class
 
 -- a range overlaps no block that the slab holds
 pub record IsClearOf (t : Tables) (start : ℕ) (range : Range) : Type 0 where

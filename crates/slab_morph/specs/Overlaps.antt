@@ -2,7 +2,7 @@
 use Rattle.std.specs.Prelude.{◌≡◌, ◌⊎◌, ℕ, ◌<◌, ◌≤◌, true}
 use Rattle.size_classes.specs.Classes.{class_capacity}
 use Rattle.heap_model.specs.Machine.{AreApart, slab_block}
-use Rattle.slab_morph.specs.SlabHeaders.{SlabHeader}
+use Rattle.image_tables.specs.Tables.{SlabHeader}
 
 -- The blocks of a class from `first` on and before `end` are those that overlap block `number` of the class `old`: at
 -- least one, or both ends are the capacity.

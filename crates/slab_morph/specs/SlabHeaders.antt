@@ -1,26 +1,12 @@
--- What the header of a slab says, read at a granule whether the log has a slab there or not; and tables with the header of
--- one slab changed.
+-- What the header of a slab says, read at a granule whether the log has a slab there or not.
 use Rattle.std.specs.Prelude.{◌≡◌, ◌&&◌, nat_lt, ℕ, ◌+◌, ◌*◌, ◌/◌, ◌%◌, ◌^◌, ◌<◌, ◌≤◌, Bool, true, List, length, None}
 use Rattle.pmem_lines.specs.Words.{word_at}
 use Rattle.image_tables.specs.Forms.{IsStateWord}
-use Rattle.image_tables.specs.Tables.{Tables, is_slab, where_slab, bit_of_word, state_word, index_word, slab_bit, tables_of}
-use Rattle.image_tables.specs.Updates.{put_at}
+use Rattle.image_tables.specs.Tables.{Tables, is_slab, where_slab, bit_of_word, state_word, index_word, slab_bit, tables_of, SlabHeader}
 use Rattle.slab_header.specs.declared.state.SlabState.{SlabState}
 use Rattle.slab_header.specs.State.{kind_of, class_of, old_of, entries_of}
 use Rattle.heap_model.specs.Machine.{slab_block}
 use Rattle.heap_check.specs.Sound.{IsValidSlab}
-
-pub record SlabHeader : Type 0 where
-  -- the kind of the state, the class, the class before, and how many index entries are read
-  pub kind : ℕ
-  pub class : ℕ
-  pub old : ℕ
-  pub index_count : ℕ
-  -- the bit of block i
-  pub bit : ℕ → Bool
-  -- the index table, by place: whether the old block lives, and its number
-  pub live : ℕ → Bool
-  pub number : ℕ → ℕ
 
 -- a byte begins a granule, and the header of a slab there lies among the words
 abbrev pub IsHeaderIn : List ℕ → ℕ → Type 0
@@ -42,30 +28,6 @@ header_at words start = record {
   number = λ place. where_slab (nat_lt place 64) (word_at words (index_word start place) / 2 ^ 16 % 2 ^ 16);
 }
 
--- what tables say of the header of the slab at a granule
-abbrev pub header_of : Tables → ℕ → SlabHeader
-header_of t start = record {
-  kind = t.kind start;
-  class = t.class start;
-  old = t.old start;
-  index_count = t.index_count start;
-  bit = t.bit start;
-  live = t.live start;
-  number = t.number start;
-}
-
--- tables that say this of it, and of all else what they said
-abbrev pub put_header : Tables → ℕ → SlabHeader → Tables
-put_header t start h = record t {
-  kind = put_at t.kind start h.kind;
-  class = put_at t.class start h.class;
-  old = put_at t.old start h.old;
-  index_count = put_at t.index_count start h.index_count;
-  bit = put_at t.bit start h.bit;
-  live = put_at t.live start h.live;
-  number = put_at t.number start h.number;
-}
-
 -- the tables of slabs that all have this header, and of nothing else
 abbrev pub alone : SlabHeader → Tables
 alone h = record {
@@ -74,17 +36,11 @@ alone h = record {
   open_entry = None;
   large = λ start. 0;
   slab = λ start. true;
-  kind = λ start. h.kind;
-  class = λ start. h.class;
-  old = λ start. h.old;
-  index_count = λ start. h.index_count;
-  bit = λ start. h.bit;
-  live = λ start. h.live;
-  number = λ start. h.number;
+  header = λ start. h;
 }
 
 -- the state word of the header says this
-pub record HasState (h : SlabHeader) (state : SlabState) : Type 0 where
+pub record HasStateWord (h : SlabHeader) (state : SlabState) : Type 0 where
   pub kind : h.kind ≡ kind_of state
   pub class : h.class ≡ class_of state
   pub old : h.old ≡ old_of state
@@ -97,10 +53,10 @@ pub record IsSlabHere (words : List ℕ) (slab : ℕ) : Type 0 where
   pub inside : slab + 2048 ≤ 8 * length words
   pub there : is_slab words (slab / 16384) ≡ true
   pub word : IsStateWord (word_at words (state_word (slab / 16384)))
-  pub valid : IsValidSlab (tables_of words) (slab / 16384)
+  pub valid : IsValidSlab ((tables_of words).header (slab / 16384))
 
 -- the old block in this place of a slab's index table lives, and begins at the address
 pub record IsOldAt (t : Tables) (start at place : ℕ) : Type 0 where
-  pub below : place < t.index_count start
-  pub live : t.live start place ≡ true
-  pub here : (slab_block start (t.old start) (t.number start place)).at ≡ at
+  pub below : place < (t.header start).index_count
+  pub live : (t.header start).live place ≡ true
+  pub here : (slab_block start (t.header start).old ((t.header start).number place)).at ≡ at

@@ -5,7 +5,7 @@ use Rattle.pmem_lines.specs.Words.{word_at}
 use Rattle.size_classes.specs.Classes.{class_capacity}
 use Rattle.pool_layout.specs.Places.{granule_word, blocks_place, line_place}
 use Rattle.image_tables.specs.Forms.{normal_kind, morphing_kind, morphed_kind, IsStateWord, IsIndexWord}
-use Rattle.image_tables.specs.Tables.{Tables, is_slab, AreSlabsInHeap, state_word, index_word, tables_of}
+use Rattle.image_tables.specs.Tables.{Tables, is_slab, AreSlabsInHeap, state_word, index_word, tables_of, SlabHeader}
 use Rattle.slab_header.specs.declared.state.SlabState.{SlabState}
 use Rattle.slab_header.specs.declared.state.SlabState.TheVariants.{Normal, Morphing, Morphed}
 use Rattle.slab_header.specs.State.{kind_of, class_of, old_of, entries_of}
@@ -13,8 +13,9 @@ use Rattle.slab_header.specs.Morph.{numbers_below}
 use Rattle.heap_model.specs.Machine.{Range}
 use Rattle.heap_check.specs.Heap.{Holds}
 use Rattle.heap_check.specs.Sound.{IsValidSlab}
-use Rattle.slab_morph.specs.SlabHeaders.{SlabHeader, header_at, header_of, put_header, alone}
+use Rattle.slab_morph.specs.SlabHeaders.{header_at, alone}
 use Rattle.slab_morph.specs.Fitness.{IsFitHeader}
+use Rattle.image_tables.specs.Updates.{put_header}
 
 -- changes of a header
 
@@ -153,7 +154,7 @@ pub record AllHoldSame (t u : Tables) : Type 0 where
 pub record IsValidHeader (words : List ℕ) (start : ℕ) : Type 0 where
   pub state : IsStateWord (word_at words (state_word start))
   pub index : (place : ℕ) → place < (header_at words start).index_count → IsIndexWord (word_at words (index_word start place))
-  pub slab : IsValidSlab (alone (header_at words start)) start
+  pub slab : IsValidSlab (header_at words start)
 
 -- What a step leaves, and a crash within it: words outside the slab's header stay, and so does what the slab holds; a valid
 -- header is so still; and where the slab is one of an arena, what every slab holds stays.
@@ -168,4 +169,4 @@ pub record KeepsHeld (words : List ℕ) (start : ℕ) (Stage : SlabHeader → Ty
 pub record Changes (words new : List ℕ) (start : ℕ) (change : SlabHeader → SlabHeader) : Type 0 where
   pub off : IsOffHeader words start new
   pub header : header_at new start ≡ change (header_at words start)
-  pub tables : AreSlabsInHeap words → is_slab words start ≡ true → tables_of new ≡ put_header (tables_of words) start (change (header_of (tables_of words) start))
+  pub tables : AreSlabsInHeap words → is_slab words start ≡ true → tables_of new ≡ put_header (tables_of words) start (change ((tables_of words).header start))

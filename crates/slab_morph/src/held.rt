@@ -7,7 +7,7 @@ ghost use Rattle.image_tables.specs.Forms.{IsStateWord, morphing_kind};
 ghost use Rattle.image_tables.specs.Tables.{state_word};
 ghost use Rattle.slab_header.specs.State.{kind_of, class_of, old_of, entries_of, IsValidState};
 ghost use Rattle.slab_header.specs.Morph.{numbers_below};
-ghost use Rattle.slab_morph.specs.SlabHeaders.{IsHeaderIn, header_at, HasState};
+ghost use Rattle.slab_morph.specs.SlabHeaders.{IsHeaderIn, header_at, HasStateWord};
 
 use pmem_lines::Pmem;
 use pool_layout::{index_at, slab_header_at};
@@ -18,7 +18,7 @@ use slab_header::{SlabState, bit_at, state_of};
 pub fn state_at<P: Pmem>(p: &P, slab: u32) -> SlabState
     requires header { IsHeaderIn (words_of (P.state p.now)) slab }
     requires valid { IsStateWord (word_at (words_of (P.state p.now)) (state_word (slab / 16384))) }
-    ensures says { HasState (header_at (words_of (P.state p.now)) (slab / 16384)) result }
+    ensures says { HasStateWord (header_at (words_of (P.state p.now)) (slab / 16384)) result }
     ensures valid { IsValidState result }
 {
     match state_of(p.load(slab_header_at(slab, 0, 0))) {

@@ -24,7 +24,7 @@ const NORMAL: u64 = 1;
 /// byte `slab`. `None` exactly where no old block that begins there lives.
 pub fn old_place<P: Pmem>(p: &P, slab: u32, at: u32) -> Option<u32>
     requires here { IsSlabHere (words_of (P.state p.now)) slab }
-    ensures { let t = tables_of (words_of (P.state p.now)) in MatchOption result (is_old t (slab / 16384) at ≡ false) (IsOldAt t (slab / 16384) at) }
+    ensures { let t = tables_of (words_of (P.state p.now)) in MatchOption result (is_old (t.header (slab / 16384)) (slab / 16384) at ≡ false) (IsOldAt t (slab / 16384) at) }
 {
     // Nearly all slabs are normal.
     if is_normal(p, slab) {
@@ -56,7 +56,7 @@ fn is_old_at<P: Pmem>(p: &P, slab: u32, old: u8, place: u32, at: u32) -> bool
 /// The class that the slab that begins at byte `slab` had before; 0 where it is normal.
 pub fn old_class<P: Pmem>(p: &P, slab: u32) -> u8
     requires here { IsSlabHere (words_of (P.state p.now)) slab }
-    ensures { result ≡ (tables_of (words_of (P.state p.now))).old (slab / 16384) }
+    ensures { result ≡ ((tables_of (words_of (P.state p.now))).header (slab / 16384)).old }
 {
     fields_of(state_at(p, slab)).old
 }
@@ -64,7 +64,7 @@ pub fn old_class<P: Pmem>(p: &P, slab: u32) -> u8
 /// Whether the slab that begins at byte `slab` is normal: no block in it is an old one.
 pub fn is_normal<P: Pmem>(p: &P, slab: u32) -> bool
     requires here { IsSlabHere (words_of (P.state p.now)) slab }
-    ensures { IsTrue result ↔ ((tables_of (words_of (P.state p.now))).kind (slab / 16384) ≡ normal_kind) }
+    ensures { IsTrue result ↔ (((tables_of (words_of (P.state p.now))).header (slab / 16384)).kind ≡ normal_kind) }
 {
     p.load(slab_header_at(slab, 0, 0)) % 256 == NORMAL
 }
@@ -87,8 +87,8 @@ pub fn is_done<P: Pmem>(p: &P, slab: u32) -> bool
 /// number, and one past the last one's. The old block is the one in a place of the index table that is read.
 pub fn covered_by<P: Pmem>(p: &P, slab: u32, place: u32) -> (u32, u32)
     requires here { IsSlabHere (words_of (P.state p.now)) slab }
-    requires place { place < (tables_of (words_of (P.state p.now))).index_count (slab / 16384) }
-    ensures { let t = tables_of (words_of (P.state p.now)) in IsOverlapRange (t.old (slab / 16384)) (t.number (slab / 16384) place) (t.class (slab / 16384)) result.0 result.1 }
+    requires place { place < ((tables_of (words_of (P.state p.now))).header (slab / 16384)).index_count }
+    ensures { let t = tables_of (words_of (P.state p.now)) in IsOverlapRange (t.header (slab / 16384)).old ((t.header (slab / 16384)).number place) (t.header (slab / 16384)).class result.0 result.1 }
 {
     let state = fields_of(state_at(p, slab));
     overlaps(state.old, number_at(p, slab, place), state.class)

@@ -25,8 +25,8 @@ const SET_WORDS: usize = 64;
 /// the slab holds, of its class or old. `number` is below the capacity of the class.
 pub fn is_unused<P: Pmem>(p: &P, slab: u32, number: u32) -> bool
     requires here { IsSlabHere (words_of (P.state p.now)) slab }
-    requires number { number < class_capacity ((tables_of (words_of (P.state p.now))).class (slab / 16384)) }
-    ensures { let t = tables_of (words_of (P.state p.now)) in IsTrue result ↔ IsUnusedIn t (slab / 16384) (t.class (slab / 16384)) number }
+    requires number { number < class_capacity (((tables_of (words_of (P.state p.now))).header (slab / 16384)).class) }
+    ensures { let t = tables_of (words_of (P.state p.now)) in IsTrue result ↔ IsUnusedIn t (slab / 16384) (t.header (slab / 16384)).class number }
 {
     let state = fields_of(state_at(p, slab));
     !is_marked(p, slab, state, number) && !is_covered(p, slab, state, number)
@@ -85,7 +85,7 @@ fn covered<P: Pmem>(p: &P, slab: u32, state: Fields, place: u32) -> (u32, u32)
 pub fn used_blocks<P: Pmem>(p: &P, slab: u32) -> [u64; SET_WORDS]
     requires { IsSlabHere (words_of (P.state p.now)) slab }
     ensures size { length result ≡ 64 }
-    ensures unused { let t = tables_of (words_of (P.state p.now)) in (i : ℕ) → i < class_capacity (t.class (slab / 16384)) → (has result i ≡ false) ↔ IsUnusedIn t (slab / 16384) (t.class (slab / 16384)) i }
+    ensures unused { let t = tables_of (words_of (P.state p.now)) in (i : ℕ) → i < class_capacity (t.header (slab / 16384)).class → (has result i ≡ false) ↔ IsUnusedIn t (slab / 16384) (t.header (slab / 16384)).class i }
 {
     let state = fields_of(state_at(p, slab));
     let mut used = marked_blocks(p, slab, state);

@@ -1,14 +1,11 @@
 -- A log that is filled, of an arena with as many granules as its version has at most, on a memory of the words before its heap.
 use Rattle.std.proofs.Common.{◌≡◌, ◌+◌, ◌*◌, ◌≤◌, ℕ, Bool, true, false, cond, eqb, length, refl, sym, ap, subst, arith}
 use Rattle.pmem_lines.specs.Events.{IsQuiet}
-use Rattle.pmem_lines.specs.Pmem.{PmemState, words_of, began}
+use Rattle.step_tests.proofs.Common.{PmemState, words_of, began, heap_word, version_in, extent_at}
 use Rattle.pool_layout.specs.Layout.{first_layout, second_layout, layout_of}
-use Rattle.pool_layout.specs.Places.{heap_word}
-use Rattle.pool_layout.specs.Header.{version_in}
-use Rattle.image_tables.specs.Extents.{extent_at}
 use Rattle.book_log.specs.Book.{Book, Reads}
-use Rattle.log_gc.specs.Room.{room_events}
-use Rattle.log_gc.proofs.Booked.{room_most}
+use Rattle.log_room.specs.Room.{room_events}
+use Rattle.log_room.proofs.Booked.{room_most}
 use Rattle.step_tests.proofs.Evens.{AreEven, even_disjoint}
 
 -- the heap of either version begins so low, and the largest arena has so many granules

@@ -1,20 +1,12 @@
 -- The log of an arena that is made anew on zeros.
 use Rattle.std.proofs.Common.{◌≡◌, ◌*◌, ◌/◌, ◌%◌, ◌^◌, ◌<◌, ℕ, List, [], ◌∷◌, ◌++◌, flat_map, length, refl, sym, ap, subst, ◌∙◌, arith, None}
 use Rattle.std.proofs.lemmas.List.Elements.{All-nil, All-cons}
-use Rattle.pmem_lines.specs.Words.{put_word, AreZeros}
-use Rattle.pmem_lines.proofs.Words.{word_at-put_same, word_at-put_other, length-put_word}
-use Rattle.pool_layout.specs.declared.layout.Layout.{Layout}
-use Rattle.pool_layout.specs.Layout.{layout_of}
-use Rattle.pool_layout.proofs.Layouts.{first_row}
-use Rattle.pool_layout.specs.Places.{fields_word, directory_word, entry_word}
-use Rattle.pool_layout.specs.Header.{version_field, version_in}
+use Rattle.step_tests.proofs.Common.{put_word, AreZeros, word_at-put_same, word_at-put_other, length-put_word, Layout, layout_of, first_row, fields_word, directory_word, entry_slot, version_field, version_in, IsDirectory, logged, IsFresh}
 use Rattle.image_tables.specs.Log.{active_chunks, chunk_log, log_of}
 use Rattle.image_tables.specs.Extents.{extent_behind, extent_at}
 use Rattle.image_tables.proofs.Chunks.{entries_below-zeros}
-use Rattle.image_tables.proofs.Places.{log_word-low, entry_word-low}
-use Rattle.book_log.specs.Log.{IsDirectory, logged}
+use Rattle.image_tables.proofs.Places.{log_start-low, entry_slot-low}
 use Rattle.book_log.proofs.Directories.{active_chunks-directory}
-use Rattle.book_log.proofs.Fresh.{IsFresh}
 
 -- zeros with a header and the directory of chunk 0
 pub IsFresh-zeros : (zero : List ℕ) (fields : ℕ) → AreZeros zero → directory_word < length zero → IsFresh (put_word (put_word zero fields_word fields) directory_word 1)
@@ -25,8 +17,8 @@ IsFresh-zeros zero fields zeros inside =
     record {
       directory = word_at-put_same first directory_word directory_word 1 refl (omega (arith, length-put_word zero fields_word fields));
       empty = λ entry.
-          let k = entry_word version 0 entry in
-          let far : 2048 < k = omega (arith, entry_word-low version 0 entry, log_word-low version) in
+          let k = entry_slot version 0 entry in
+          let far : 2048 < k = omega (arith, entry_slot-low version 0 entry, log_start-low version) in
           word_at-put_other first directory_word k 1 (λ e. omega (arith, e, far))
           ∙ word_at-put_other zero fields_word k fields (λ e. omega (arith, e, far))
           ∙ zeros.each k;

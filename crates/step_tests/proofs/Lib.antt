@@ -1,3 +1,4 @@
+pub mod Common
 pub mod Evens
 pub mod Filling
 pub mod Fresh

@@ -1,28 +1,21 @@
 -- An arena of 16 granules in which a slab of class 6 was made at granule 4, and no root has a block.
 use Rattle.std.proofs.Common.{◌≡◌, ◌≢◌, ◌&&◌, ◌*◌, ◌/◌, ◌%◌, ◌^◌, ◌<◌, ◌≤◌, ⊎_elim, inl, ℕ, Bool, true, false, true≢false, eqb, ltb, Some, None, List, length, refl, sym, ap, subst, ◌∙◌, arith}
 use Rattle.std.proofs.lemmas.Bool.{false≢true, cases_eq, cond-true, cond-false, ne_eqb, cases_lt, le-ltb}
-use Rattle.pmem_lines.specs.Words.{word_at, put_word, AreZeros}
-use Rattle.pmem_lines.proofs.Words.{word_at-put_same, word_at-put_other, length-put_word}
+use Rattle.step_tests.proofs.Common.{word_at, put_word, AreZeros, word_at-put_same, word_at-put_other, length-put_word, Layout, text_word, fields_word, directory_word, entry_slot, root_word, wal_word, version_field, granules_field, version_in, granules_in, fields_of, header_text, header_word, IsHeader, extent_at, Normal, with_entry, IsFormatted}
 use Rattle.pool_layout.specs.declared.header.PoolHeader.{PoolHeader}
-use Rattle.pool_layout.specs.declared.layout.Layout.{Layout}
 use Rattle.pool_layout.specs.Layout.{first_layout, layout_of, all_granules}
 use Rattle.pool_layout.proofs.Layouts.{first_row, first_version}
-use Rattle.pool_layout.specs.Places.{text_word, fields_word, directory_word, entry_word, root_word, wal_word}
-use Rattle.pool_layout.specs.Header.{version_field, granules_field, version_in, granules_in, fields_of, header_text, header_word, IsHeader}
-use Rattle.image_tables.specs.Extents.{extent_at}
 use Rattle.image_tables.specs.declared.extent.Extent.TheVariants as extent
 use Rattle.image_tables.specs.Tables.{Tables, held_of, root_in, open_entry_in, wal_lines, large_of, is_slab_of, is_slab, state_word, bitmap_word, state_field, bit_at, bit_of_word, slab_bit, tables_of}
 use Rattle.image_tables.proofs.Chunks.{few_chunks}
 use Rattle.image_tables.proofs.Extents.{extent_at-same}
 use Rattle.image_tables.proofs.Logs.{SameLog}
-use Rattle.image_tables.proofs.Places.{entry_word-high}
-use Rattle.image_tables.proofs.Stores.{wal_word-low, state_field-same, live_at-same, number_at-same, bit_at-same, roots-same, entry_among-same}
-use Rattle.slab_header.specs.declared.state.SlabState.TheVariants.{Normal}
+use Rattle.image_tables.proofs.Places.{entry_slot-high}
+use Rattle.image_tables.proofs.Stores.{wal_word-low, slab_header-same, roots-same, entry_among-same}
 use Rattle.slab_header.specs.State.{word_of_state}
 use Rattle.slab_header.specs.Steps.{IsMade}
 use Rattle.slab_header.proofs.Tables.{bit_of_word-zero}
 use Rattle.book_log.specs.declared.entry.LogEntry.TheVariants.{Slab}
-use Rattle.book_log.specs.Log.{with_entry}
 use Rattle.book_log.specs.Book.{HasLog, IsInLog}
 use Rattle.book_log.specs.Entry.{log_word as word_of_entry}
 use Rattle.book_log.proofs.Appending.{with_entry-same}
@@ -30,7 +23,6 @@ use Rattle.step_tests.proofs.Fresh.{fresh_none}
 use Rattle.size_classes.specs.Classes.{class_size, class_capacity, sizes}
 use Rattle.heap_model.specs.Machine.{Bounds, slab_block}
 use Rattle.heap_check.specs.Laws.{AreBlank}
-use Rattle.heap_check.specs.Formatted.{IsFormatted}
 use Rattle.heap_check.specs.Sound.{IsExact, IsExactBut}
 use Rattle.heap_check.specs.Image.{bounds_of, header_in, HasSlabHeader, IsFormed, IsExactButImage}
 use Rattle.heap_check.proofs.Formatted.{AreBlank-formatted, header_in-formatted, IsFormed-formatted, law_of_formatted}
@@ -95,7 +87,7 @@ same_log {words} {made} formatted slab = record {
   chunks = λ i d below.
       let directory = word_at words directory_word in
       let heap : (layout_of (version_in words)).first_granule ≡ 4 = ap (λ (r : Layout). r.first_granule) (formatted_row formatted) in
-      record { each = λ entry less. slab.kept.others _ (inl (omega (arith, heap, entry_word-high (version_in words) _ entry (few_chunks directory i d below) less))) };
+      record { each = λ entry less. slab.kept.others _ (inl (omega (arith, heap, entry_slot-high (version_in words) _ entry (few_chunks directory i d below) less))) };
 }
 
 -- and so do the numbers
@@ -128,7 +120,7 @@ one_slab_by {words} {made} {new} {k} {granules} formatted slab place is extents 
       extents = λ start. extents start
           ∙ with_entry-same (extent_at made) (λ _. None) (Slab 4) start
           (extent_at-same words made start (same_log formatted slab)
-          ∙ fresh_none words start (record { directory = formatted.directory; empty = λ entry. formatted.rest (entry_word (version_in words) 0 entry) (omega arith) }));
+          ∙ fresh_none words start (record { directory = formatted.directory; empty = λ entry. formatted.rest (entry_slot (version_in words) 0 entry) (omega arith) }));
       log = subst (λ n. HasLog n new) same log;
       size = ap length is ∙ length-put_word made k (word_of_entry (Slab 4)) ∙ slab.kept.same_length ∙ formatted.size;
     }
@@ -259,13 +251,10 @@ module _ (words new : List ℕ) (one : IsOneSlab words new) where
           let same : is_slab new other ≡ is_slab words other = slab_other other differ ∙ sym gone in
           record {
             slab = same;
-            kind = state_field-same words new other 0 same (λ is. absurd (false≢true (sym gone ∙ is)));
-            class = state_field-same words new other 8 same (λ is. absurd (false≢true (sym gone ∙ is)));
-            old = state_field-same words new other 16 same (λ is. absurd (false≢true (sym gone ∙ is)));
-            index_count = state_field-same words new other 24 same (λ is. absurd (false≢true (sym gone ∙ is)));
-            bit = λ k i. bit_at-same words new other i same (λ is below. absurd (false≢true (sym gone ∙ is))) k;
-            live = λ k place. live_at-same words new other place same (λ is below. absurd (false≢true (sym gone ∙ is))) k;
-            number = λ k place. number_at-same words new other place same (λ is below. absurd (false≢true (sym gone ∙ is))) k;
+            header = slab_header-same words new other same
+                (λ is. absurd (false≢true (sym gone ∙ is)))
+                (λ i is below. absurd (false≢true (sym gone ∙ is)))
+                (λ place is below. absurd (false≢true (sym gone ∙ is)));
           };
     };
     fresh = record {
@@ -313,7 +302,7 @@ module _ (words new : List ℕ) (one : IsOneSlab words new) where
   unfolding tables_of
   attachable = record {
     block_in = block_in;
-    unused = record { each = λ range holds. absurd (holds_none-fresh with_slab.fresh range holds) };
+    unused = record { each = λ range holds. absurd (holds_none-fresh (tables_of new) with_slab.fresh range holds) };
     none = ap (λ (row : ℕ → ℕ). row 5) with_slab.more.root ∙ blank.roots 5;
   }
 
@@ -327,7 +316,7 @@ attachable_by {words} {made} {new} formatted slab place is extents log size same
 pub detachable : (words new : List ℕ) (line : ℕ) → IsAttachable words 5 block → IsAttached words line 5 block new → IsDetachable new 5 block
 detachable words new line before after =
     let was = before.block_in in
-    let class : (tables_of new).class 4 ≡ (tables_of words).class 4 = ap (λ (t : Tables). t.class 4) after.tables in
+    let class : ((tables_of new).header 4).class ≡ ((tables_of words).header 4).class = ap (λ (t : Tables). (t.header 4).class) after.tables in
     record {
       block_in = record {
         image = record { formed = after.exact.formed; but = IsExactBut-exact after.exact.exact 4 };
@@ -337,6 +326,6 @@ detachable words new line before after =
         below = subst (λ c. 9 < class_capacity c) (sym class) was.below;
         at = was.at ∙ ap (λ c. (slab_block 4 c 9).at) (sym class);
       };
-      set = ap (λ (t : Tables). t.bit 4 9) after.tables;
+      set = ap (λ (t : Tables). (t.header 4).bit 9) after.tables;
       named = ap (λ (t : Tables). t.root 5) after.tables;
     }

@@ -1,14 +1,13 @@
 -- A slab of which a state was read may take a class, is on its way to one, or has no old block left.
 use Rattle.std.proofs.Common.{◌≡◌, ◌%◌, ◌<◌, ◌≤◌, ◌∙◌, ℕ, true, false, eqb, List, sym, ap, subst, arith}
-use Rattle.size_classes.specs.Classes.{class_capacity}
-use Rattle.pmem_lines.specs.Words.{word_at}
+use Rattle.step_tests.proofs.Common.{class_capacity, word_at}
 use Rattle.image_tables.specs.Forms.{IsStateWord}
 use Rattle.image_tables.specs.Tables.{state_word, index_word, slab_bit, bit_of_word}
 use Rattle.slab_header.specs.declared.state.SlabState.{SlabState}
 use Rattle.slab_header.specs.declared.state.SlabState.TheVariants.{Normal, Morphing, Morphed}
 use Rattle.slab_header.specs.State.{kind_of, class_of, entries_of, IsWordOfState, SaysOfState}
 use Rattle.slab_header.proofs.Entries.{bit_of_word-lowest}
-use Rattle.slab_morph.specs.SlabHeaders.{header_at, HasState}
+use Rattle.slab_morph.specs.SlabHeaders.{header_at, HasStateWord}
 use Rattle.slab_morph.specs.Fitness.{IsFitHeader}
 use Rattle.slab_morph.specs.Stages.{morph_count, IsMorphable, IsOnItsWay, IsDone}
 use Rattle.slab_morph.proofs.Morphable.{few_set}
@@ -16,7 +15,7 @@ use Rattle.slab_morph.proofs.Numbers.{numbers_among}
 use Rattle.slab_morph.proofs.Reading.{bit_by, live_read, state_read}
 
 module _ (words : List ℕ) (start word : ℕ) (state : SlabState) (here : word ≡ word_at words (state_word start)) (says : SaysOfState word state) where
-  has : HasState (header_at words start) state
+  has : HasStateWord (header_at words start) state
   has = state_read words start word state here says
 
   valid : IsStateWord (word_at words (state_word start))

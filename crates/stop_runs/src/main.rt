@@ -4,25 +4,24 @@
 // error which one it was.
 //
 // The words are `brief` or `whole`, and a script's name or none, which is for all. `scripts` has the scripts, of which
-// `full_arena` draws one, `stopping` makes their calls and stops these, and `heaps` has what is compared. `stores` does so with a
-// script of a dictionary, and compares maps. That each image is recovered to one of the two heaps, or maps, is proved of every
-// call (`IsEitherHeap`, `IsEitherDict`); here the definitions meet what runs.
+// `full_arena` draws one, `stopping` makes their calls and stops these, and `heaps` has what is compared. `stores` does so with the
+// scripts of a dictionary that `store_scripts` has, and compares maps. That each image is recovered to one of the two heaps, or maps,
+// is proved of every call (`IsEitherHeap`, `IsEitherDict`); here the definitions meet what runs.
 #![tactic(auto, using(recover::proofs::Recoveries::room_of_any, arena_core::proofs::Readiness::first_room, arena_core::proofs::Readiness::first_most))]
 
 mod full_arena;
 mod heaps;
 mod scripts;
 mod stopping;
+mod store_scripts;
 mod stores;
 
 use anyhow::{Context, Result, bail};
 use scripts::{Amount, NAMES, script_of};
 use std::env;
 use stopping::{Counts, stop_calls};
+use store_scripts::{STORES, StoreScript};
 use stores::stop_store;
-
-/// The name of the script of a dictionary, which runs behind the others.
-const STORE: &str = "store";
 
 /// The words after the program's name.
 fn words_of_program(rt: &HostRuntime) -> Result<Vec<String>> {
@@ -35,8 +34,8 @@ fn words_of_program(rt: &HostRuntime) -> Result<Vec<String>> {
 
 /// Stops the calls of a script.
 fn stop_script(rt: &HostRuntime, name: &str, amount: Amount) -> Result<Counts> {
-    if name == STORE {
-        return stop_store(rt.alloc(), amount);
+    if let Some(store) = StoreScript::of_name(name) {
+        return stop_store(rt.alloc(), store, amount);
     }
     let Some(script) = script_of(rt.alloc(), name)? else {
         bail!("there is no script {name}");
@@ -73,7 +72,10 @@ fn main(rt: HostRuntime) -> Result<()> {
             for name in NAMES {
                 run_script(&rt, name, amount)?;
             }
-            run_script(&rt, STORE, amount)
+            for name in STORES {
+                run_script(&rt, name, amount)?;
+            }
+            Ok(())
         }
     }
 }

@@ -5,6 +5,7 @@ ghost use Rattle.dict_text.specs.Calls.{HasValues};
 
 use crate::scripts::Amount;
 use crate::stopping::{Counts, SEEDS, of_image, stopped_image};
+use crate::store_scripts::StoreScript;
 use anyhow::Result;
 use arena_core::Arena;
 use attach_dict::{Dict, OpenFault};
@@ -15,14 +16,7 @@ use std::alloc::Global;
 use thiserror::Error;
 use trace_crashes::CrashFault;
 
-// The events of the second put's move and of what it makes stale, and a number above that of all.
-const BRIEF_FROM: u64 = 209;
-
-const BRIEF_TO: u64 = 234;
-
-const MOST_EVENTS: u64 = 4096;
-
-/// What a comparison finds.
+/// What a comparison finds. Events are counted over all of the script.
 #[derive(Debug, Drop, Error)]
 pub(crate) enum StoreFault {
     #[error("stopped at event {event}, seed {seed}: neither the map before the call nor the one behind it")]
@@ -31,75 +25,117 @@ pub(crate) enum StoreFault {
     Recovery { event: u64, again: u32 },
     #[error("the script is none")]
     Script,
+    #[error("its calls have no event {event}")]
+    Event { event: u64 },
 }
 
-/// Stops the script at each event of its calls, or at those of a part of them, with each of the seeds: what is left is opened with the map before the call under
-/// way or the one behind it, and its report says which. With the first seed recovery too is stopped at each of its events.
-pub(crate) fn stop_store(alloc: Global, amount: Amount) -> Result<Counts> {
-    let Ok(script) = read_script(alloc, script_text().as_bytes()) else {
+// Where a script is stopped: behind so many events of its calls. `seed` picks the image that is left.
+#[derive(Clone, Copy)]
+struct StoreStop {
+    event: u64,
+    seed: u64,
+}
+
+impl StoreStop {
+    // It was stopped there, and what was left is neither map.
+    fn fault(self) -> StoreFault {
+        StoreFault::Call {
+            event: self.event,
+            seed: self.seed,
+        }
+    }
+}
+
+/// Stops a script at each event of its calls, or at those of a part of them, with each of the seeds: what is left is opened with the
+/// map before the call under way or the one behind it, and its report says which. With the first seed recovery too is stopped at each
+/// of its events.
+pub(crate) fn stop_store(alloc: Global, store: StoreScript, amount: Amount) -> Result<Counts> {
+    let Ok(script) = read_script(alloc, store.text(alloc)?.as_bytes()) else {
         return Err(StoreFault::Script.into());
     };
     let mut counts = Counts {
-        events: 0,
+        events: events_of(alloc, &script)?,
         stops: 0,
         recovered: 0,
     };
-    let (from, to) = match amount {
-        Amount::Brief => (BRIEF_FROM, BRIEF_TO),
-        Amount::Whole => (0, MOST_EVENTS),
-    };
-    for event in from..to {
-        if !stop_event(alloc, &script, event, &mut counts)? {
-            return Ok(counts);
-        }
-        counts.events = event;
+    let (first, last) = store.events_of(amount, counts.events);
+    for event in first..=last {
+        stop_event(alloc, store, &script, event, &mut counts)?;
     }
     Ok(counts)
 }
 
-// Stops the script at an event, with each of the seeds. False where its calls have fewer.
-fn stop_event(alloc: Global, script: &Script, event: u64, counts: &mut Counts) -> Result<bool>
+// How many events the calls of a script have: one is asked for that no script has.
+fn events_of(alloc: Global, script: &Script) -> Result<u64>
+    requires size { IsDictSize script.now.granules }
+    requires values { HasValues script.now }
+{
+    match crash_script(alloc, script, u64::MAX, 0) {
+        Ok(_) => Err(StoreFault::Script.into()),
+        Err(CrashFault::NoEvent { events }) => Ok(events),
+        Err(CrashFault::Memory(fault)) => Err(fault.into()),
+    }
+}
+
+// Stops the script at an event, with each of the seeds.
+fn stop_event(
+    alloc: Global,
+    store: StoreScript,
+    script: &Script,
+    event: u64,
+    counts: &mut Counts,
+) -> Result<()>
     requires size { IsDictSize script.now.granules }
     requires values { HasValues script.now }
 {
     for seed in 0..SEEDS {
+        let stop = StoreStop { event, seed };
         match crash_script(alloc, script, event, seed) {
-            Ok(crashed) => stop_at(alloc, script, &crashed, event, seed, counts)?,
-            Err(CrashFault::NoEvent { .. }) => return Ok(false),
+            Ok(crashed) => stop_at(alloc, store, script, &crashed, stop, counts)?,
+            Err(CrashFault::NoEvent { .. }) => return Err(StoreFault::Event { event }.into()),
             Err(CrashFault::Memory(fault)) => return Err(fault.into()),
         }
     }
-    Ok(true)
+    Ok(())
 }
 
 // Recovers what a stop left and reports its map, and with the first seed stops that recovery too.
 fn stop_at(
     alloc: Global,
+    store: StoreScript,
     script: &Script,
     crashed: &DictCrashed,
-    event: u64,
-    seed: u64,
+    stop: StoreStop,
     counts: &mut Counts,
 ) -> Result<()>
     requires values { HasValues script.now }
     requires call { crashed.now.call ≤ length script.now.calls.items }
 {
     let Some(arena) = of_image(alloc, &crashed.image)? else {
-        return Err(StoreFault::Call { event, seed }.into());
+        return Err(stop.fault().into());
     };
     counts.stops = counts.stops.saturating_add(1);
     counts.recovered = counts.recovered.saturating_add(1);
-    if seed > 0 {
-        return match report_of(alloc, script, crashed, arena)? {
-            Some(report) if may_be_left(alloc, crashed.call, &report)? => Ok(()),
-            _ => Err(StoreFault::Call { event, seed }.into()),
-        };
+    let report = if stop.seed > 0 {
+        report_of(alloc, script, crashed, arena)?
+    } else {
+        stop_recovery(
+            alloc,
+            script,
+            crashed,
+            arena.into_pmem(),
+            stop.event,
+            counts,
+        )?
+    };
+    match report {
+        Some(report) if may_be_left(alloc, store, crashed.call, &report)? => Ok(()),
+        _ => Err(stop.fault().into()),
     }
-    stop_recovery(alloc, script, crashed, arena.into_pmem(), event, counts)
 }
 
 // Reports what a device was recovered to, of a call that was stopped at an event with the first seed, and stops that recovery at
-// each of its own events: what is left is recovered to the same map.
+// each of its own events: what is left is recovered to the same map. `None` where that is no dictionary.
 fn stop_recovery(
     alloc: Global,
     script: &Script,
@@ -107,7 +143,7 @@ fn stop_recovery(
     device: SimPmem,
     event: u64,
     counts: &mut Counts,
-) -> Result<()>
+) -> Result<Option<Vec<u8>>>
     requires values { HasValues script.now }
     requires call { crashed.now.call ≤ length script.now.calls.items }
 {
@@ -119,10 +155,7 @@ fn stop_recovery(
         }
         counts.recovered = counts.recovered.saturating_add(1);
     }
-    match last {
-        Some(report) if may_be_left(alloc, crashed.call, &report)? => Ok(()),
-        _ => Err(StoreFault::Call { event, seed: 0 }.into()),
-    }
+    Ok(last)
 }
 
 // The report of what is recovered behind the first so many events of a recovery. `None` where that is no dictionary.
@@ -167,9 +200,9 @@ fn report_of(
 }
 
 // A report is one that a crash within this call may have: the side and its map go together.
-fn may_be_left(alloc: Global, call: u64, report: &[u8]) -> Result<bool> {
-    let behind = map_at(call);
-    let before = map_at(call.saturating_sub(1));
+fn may_be_left(alloc: Global, store: StoreScript, call: u64, report: &[u8]) -> Result<bool> {
+    let behind = store.map_behind(alloc, call)?;
+    let before = store.map_behind(alloc, call.saturating_sub(1))?;
     let same = format!(in alloc; "call {call} same\n{behind}")?;
     let first = format!(in alloc; "call {call} before\n{before}")?;
     let second = format!(in alloc; "call {call} after\n{behind}")?;
@@ -178,22 +211,4 @@ fn may_be_left(alloc: Global, call: u64, report: &[u8]) -> Result<bool> {
     } else {
         first.as_bytes() == report || second.as_bytes() == report
     })
-}
-
-// The script: puts of several sizes, one of what the key has, a removal, and calls that change nothing. Its text is behind a
-// call, so that no proof has it before its eyes.
-fn script_text() -> &'static str {
-    "dict 16\nput 7 1 2\nput 7 5\nput 3\nget 7\nput 7 5\ndel 9\ndel 3\nput 18446744073709551615 1 2 3\n"
-}
-
-// The map behind so many calls of the script.
-fn map_at(call: u64) -> &'static str {
-    match call {
-        0 => "size 0\n",
-        1 => "size 1\n7 1 2\n",
-        2 | 7 => "size 1\n7 5\n",
-        3..=6 => "size 2\n3\n7 5\n",
-        8 => "size 2\n7 5\n18446744073709551615 1 2 3\n",
-        _ => "",
-    }
 }

@@ -1,19 +1,10 @@
 -- What a call that has events does to the heap: it gives its root a block, or takes it from that root, or leaves the heap.
 use Rattle.std.proofs.Common.{◌≡◌, ℕ, ◌<◌, Bool, true, false, not, List, length, Option, Some, None, is_some, ap, ◌∙◌, refl, sym, arith, ⊎_elim, inr}
-use Rattle.std.proofs.lemmas.Bool.{cases_lt}
-use Rattle.image_tables.specs.Tables.{tables_of}
-use Rattle.heap_model.specs.declared.call.Call.{Call}
-use Rattle.heap_model.specs.declared.call.Call.TheVariants.{Malloc, Free, Write, Read, Move}
-use Rattle.heap_model.specs.declared.call.Reply.{Reply}
+use Rattle.trace_crashes.proofs.Common.{cases_lt, tables_of, Call, Malloc, Free, Write, Read, Move, Reply, Bounds, Range, Machine, with_key, root_of, IsWrite, IsMove, IsStep, heap, slabs, call_events, Same}
 use Rattle.heap_model.specs.declared.call.Reply.TheVariants.{Placed, Freed, Wrote, Moved}
-use Rattle.heap_model.specs.Machine.{Bounds, Range, Machine, with_key}
-use Rattle.heap_model.specs.Step.{root_of, IsWrite, IsMove, IsStep}
 use Rattle.heap_model.proofs.Maps.{with_key-here}
 use Rattle.heap_model.proofs.Outcomes.{gift, loss}
-use Rattle.heap_check.specs.Heap.{heap, slabs}
 use Rattle.heap_check.specs.State.{HasState, HaveSameHeap}
-use Rattle.arena_core.specs.Events.{call_events}
-use Rattle.trace_text.specs.declared.call.CrashSide.TheVariants.{Same}
 use Rattle.trace_crashes.specs.Sides.{side_of, side_by}
 
 -- states

@@ -1,26 +1,11 @@
 -- What a crash within the call that a device went through last leaves.
 use Rattle.std.proofs.Common.{◌≡◌, ◌≢◌, ◌↔◌, ℕ, zero, suc, ◌/◌, ◌<◌, ◌≤◌, Bool, IsTrue, List, [], ◌∷◌, ◌++◌, length, take, is_some, sym, ap, ◌∙◌, refl, arith, subst}
-use Rattle.std.proofs.lemmas.List.{take_all}
+use Rattle.trace_crashes.proofs.Common.{take_all, PmemState, words_of, PoolHeader, version_in, layout_of, root_word, tables_of, Entry, Bounds, root_of, heap, bounds_of, CrashSide, TraceCall, formatted, Stage, IsRunOf}
 use Rattle.pmem_lines.specs.Words.{word_at, words_at}
 use Rattle.pmem_lines.specs.Events.{IsImage}
-use Rattle.pmem_lines.specs.Pmem.{PmemState, words_of}
 use Rattle.pmem_lines.specs.declared.event.Event.{Event}
-use Rattle.pool_layout.specs.declared.header.PoolHeader.{PoolHeader}
-use Rattle.pool_layout.specs.Header.{version_in}
-use Rattle.pool_layout.specs.Layout.{layout_of}
-use Rattle.pool_layout.specs.Places.{root_word}
-use Rattle.image_tables.specs.Tables.{tables_of}
-use Rattle.heap_model.specs.declared.call.Entry.{Entry}
-use Rattle.heap_model.specs.Machine.{Bounds}
-use Rattle.heap_model.specs.Step.{root_of}
-use Rattle.heap_check.specs.Heap.{heap}
-use Rattle.heap_check.specs.Image.{bounds_of}
 use Rattle.arena_core.specs.ByCall.{IsSteadyLeft}
 use Rattle.arena_core.proofs.ByCall.{law_of_crashes}
-use Rattle.trace_text.specs.declared.call.CrashSide.{CrashSide}
-use Rattle.trace_text.specs.declared.call.TraceCall.{TraceCall}
-use Rattle.trace_runs.specs.Arenas.{formatted}
-use Rattle.trace_runs.specs.Runs.{Stage, IsRunOf}
 use Rattle.trace_crashes.specs.Crash.{calls_up_to, CrashLeft, IsCrashOf, IsLeftWithin, IsLeftIdle, IsSide, crash_image}
 use Rattle.trace_crashes.specs.Seek.{last_stage, IsBehindEntry, IsBehindSought, IsBehindAll}
 use Rattle.trace_crashes.specs.Sides.{side_by}

@@ -1,4 +1,5 @@
 mod Changes
+pub mod Common
 pub mod Crashes
 mod Roots
 mod UnderWay

@@ -1,10 +1,7 @@
 -- The roots of an arena, as the row of its version has them.
 use Rattle.std.proofs.Common.{ℕ, ◌<◌, ◌≤◌, ◌^◌, List, length, arith}
-use Rattle.pool_layout.specs.Header.{version_in, granules_in}
-use Rattle.pool_layout.specs.Layout.{layout_of, IsLayout}
-use Rattle.pool_layout.specs.Places.{root_word}
+use Rattle.trace_crashes.proofs.Common.{version_in, granules_in, layout_of, IsLayout, root_word, IsFormed}
 use Rattle.pool_layout.proofs.Layouts.{layout_rules}
-use Rattle.heap_check.specs.Image.{IsFormed}
 
 -- a root's number fits sixteen bits
 pub root-fits : (version root : ℕ) → root < (layout_of version).roots → root < 2 ^ 16

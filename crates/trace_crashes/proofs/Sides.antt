@@ -1,16 +1,7 @@
 -- The side of a call on which an image stands that a crash left, by whether the call's root has a block in it.
 use Rattle.std.proofs.Common.{◌≡◌, ◌≢◌, ◌↔◌, ◌⊎◌, ℕ, ◌<◌, Bool, true, false, not, IsTrue, List, Option, Some, None, is_some, sym, ap, ◌∙◌, refl, subst, ⊎_elim}
-use Rattle.std.proofs.lemmas.Bool.{cond-true, cond-false, eq-eqb, ne_eqb, cases_eq}
-use Rattle.pmem_lines.specs.Words.{word_at}
-use Rattle.pool_layout.specs.Layout.{layout_of}
-use Rattle.pool_layout.specs.Places.{root_word}
-use Rattle.pool_layout.specs.Header.{version_in}
-use Rattle.image_tables.specs.Tables.{tables_of}
+use Rattle.trace_crashes.proofs.Common.{cond-true, cond-false, eq-eqb, ne_eqb, cases_eq, word_at, layout_of, root_word, version_in, tables_of, Range, heap, size_at, HaveSameHeap, CrashSide}
 use Rattle.image_tables.proofs.Tables.{word_table}
-use Rattle.heap_model.specs.Machine.{Range}
-use Rattle.heap_check.specs.Heap.{heap, size_at}
-use Rattle.heap_check.specs.State.{HaveSameHeap}
-use Rattle.trace_text.specs.declared.call.CrashSide.{CrashSide}
 use Rattle.trace_text.specs.declared.call.CrashSide.TheVariants.{Same, Before, After}
 use Rattle.trace_crashes.specs.Crash.{IsSide}
 use Rattle.trace_crashes.specs.Sides.{side_of}

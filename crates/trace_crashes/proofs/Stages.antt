@@ -1,25 +1,12 @@
 -- The stage that a call adds to a run, once an arena has answered it.
 use Rattle.std.proofs.Common.{◌≡◌, ℕ, ◌<◌, Bool, true, false, if◌then◌else◌, List, [], ◌∷◌, ◌++◌, length, sym, ap, ◌∙◌, refl, arith, subst}
 use Rattle.pmem_lines.specs.Events.{CrashOnly}
-use Rattle.pmem_lines.specs.Pmem.{PmemState, words_of}
-use Rattle.pool_layout.specs.declared.header.PoolHeader.{PoolHeader}
-use Rattle.heap_model.specs.declared.call.Call.{Call}
-use Rattle.heap_model.specs.declared.call.Call.TheVariants.{Malloc, Free, Write, Read, Move}
-use Rattle.heap_model.specs.declared.call.Entry.{Entry}
-use Rattle.heap_model.specs.declared.call.Reply.{Reply}
-use Rattle.heap_model.specs.Machine.{Machine, no_heap}
-use Rattle.heap_model.specs.Placement.{bare}
+use Rattle.trace_crashes.proofs.Common.{PmemState, words_of, PoolHeader, Call, Malloc, Free, Write, Read, Move, Entry, Reply, Machine, no_heap, bare, IsExactImage, ArenaState, call_events, TraceCall, bounds_for, formatted, Stage}
 use Rattle.thread_cache.specs.Stacks.{stacks_of}
-use Rattle.heap_check.specs.Image.{IsExactImage}
-use Rattle.arena_core.specs.Arena.{ArenaState}
 use Rattle.arena_core.specs.ByCall.{IsLeftBy}
 use Rattle.arena_core.specs.Call.{IsStepOf}
-use Rattle.arena_core.specs.Events.{call_events}
 use Rattle.arena_journal.specs.Journals.{begins_call, HasBegun, HasDone, HasAnswered}
 use Rattle.arena_journal.proofs.Journals.{begun_done}
-use Rattle.trace_text.specs.declared.call.TraceCall.{TraceCall}
-use Rattle.trace_runs.specs.Arenas.{bounds_for, formatted}
-use Rattle.trace_runs.specs.Runs.{Stage}
 use Rattle.trace_runs.proofs.Runs.{IsRunTo, stage_of, IsRunTo-call}
 use Rattle.trace_crashes.specs.Seek.{last_stage, IsBehindEntry}
 

@@ -1,19 +1,10 @@
 -- The search for the call under way, call by call.
 use Rattle.std.proofs.Common.{◌≡◌, ◌≢◌, ℕ, ◌+◌, ◌-◌, ◌<◌, ◌≤◌, ◌&&◌, true, false, List, [], ◌∷◌, ◌++◌, length, length-append, take, drop, take-append-drop, get_or, sym, ap, ◌∙◌, refl, arith, subst, append_assoc, ⊎_elim, ltb, leb}
-use Rattle.std.proofs.lemmas.Bool.{cases_lt, lt-ltb, le-ltb, le-leb, lt-leb, and_from, and_left, and_right}
+use Rattle.trace_crashes.proofs.Common.{cases_lt, lt-ltb, le-ltb, le-leb, lt-leb, and_from, and_left, and_right, words_of, Machine, no_heap, bare, ArenaState, TraceCall, PoolHeader, bounds_for, formatted, IsNewArena, calls_of, Stage, IsRun, total_events}
 use Rattle.std.proofs.lemmas.List.{append-nil, take_all}
 use Rattle.std.proofs.Math.Seq.{take-append_seam}
 use Rattle.std.specs.Bool.{MatchBool}
-use Rattle.pmem_lines.specs.Pmem.{words_of}
-use Rattle.heap_model.specs.Machine.{Machine, no_heap}
-use Rattle.heap_model.specs.Placement.{bare}
-use Rattle.arena_core.specs.Arena.{ArenaState}
-use Rattle.trace_text.specs.declared.call.TraceCall.{TraceCall}
-use Rattle.pool_layout.specs.declared.header.PoolHeader.{PoolHeader}
-use Rattle.trace_runs.specs.Arenas.{bounds_for, formatted, IsNewArena}
-use Rattle.trace_runs.specs.Calls.{calls_of}
 use Rattle.trace_crashes.specs.Crash.{CrashLeft, IsLeft, IsLeftWithin, IsLeftIdle, is_under_way}
-use Rattle.trace_runs.specs.Runs.{Stage, IsRun, total_events}
 use Rattle.trace_crashes.specs.Seek.{IsBehindSought, IsBehindAll}
 use Rattle.trace_runs.proofs.Answers.{calls_of-append, calls_of-here, calls_of-other}
 use Rattle.trace_runs.proofs.Runs.{IsRunTo, IsRunTo-none, IsRun-to}

@@ -12,7 +12,7 @@ ghost use Rattle.trace_crashes.specs.Sides.{side_of, side_by};
 ghost use Rattle.trace_crashes.specs.Crash.{crash_image, left_of, IsLeftWithin, IsLeftIdle};
 ghost use Rattle.trace_crashes.specs.Seek.{last_stage, IsBehindEntry};
 
-use crate::opening::format_new;
+use crate::arenas::format_new;
 use heap_model::{Call, Entry, Reply};
 use pmem_lines::{OutOfMemory, Pmem, SimPmem};
 use pool_layout::root_at;

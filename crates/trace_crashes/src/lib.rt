@@ -10,9 +10,9 @@
 // The layer above has a parsed trace, recovers the image, and knows where bytes go.
 #![tactic(auto)]
 
+mod arenas;
 mod crashing;
 mod leaving;
-mod opening;
 mod seeking;
 
 pub use crashing::{CrashFault, crash};

@@ -8,7 +8,7 @@ ghost use Rattle.trace_runs.specs.Arenas.{header_for, IsNewArena};
 ghost use Rattle.trace_runs.specs.Calls.{calls_of, CanBeMade, IsArenaOf};
 ghost use Rattle.trace_crashes.specs.Seek.{IsSought, IsReportable};
 
-use crate::opening::format_new;
+use crate::arenas::format_new;
 use arena_core::Arena;
 use arena_journal::answer;
 use heap_model::{Call, Entry};

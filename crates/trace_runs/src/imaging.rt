@@ -10,7 +10,7 @@ ghost use Rattle.trace_runs.specs.Arenas.{header_for};
 ghost use Rattle.trace_runs.specs.Calls.{calls_of, CanBeMade, IsArenaOf, HasMadeAll};
 ghost use Rattle.trace_runs.specs.Journals.{IsRunThrough};
 
-use crate::opening::new_arena;
+use crate::arenas::new_arena;
 use arena_core::Arena;
 use arena_journal::answer;
 use pmem_lines::{OutOfMemory, Pmem};

@@ -10,12 +10,12 @@
 // The layer above has a parsed trace and knows where devices come from and where bytes go.
 #![tactic(auto)]
 
+mod arenas;
 mod blocks;
 mod imaging;
 mod laws;
-mod opening;
 
+pub use arenas::new_arena;
 pub use blocks::blocks_of;
 pub use imaging::run_calls;
 pub use laws::{law_of_one_journal, law_of_one_run};
-pub use opening::new_arena;

@@ -1,18 +1,12 @@
 -- What was asked so far.
 use Rattle.std.proofs.Common.{◌≡◌, ◌≢◌, ℕ, zero, suc, ◌+◌, ◌-◌, ◌^◌, ◌<◌, ◌==◌, ◌&&◌, Bool, true, false, if◌then◌else◌, List, [], ◌∷◌, ◌++◌, map, length, take, get_or, set, refl, ap, sym, ◌∙◌, subst, arith, eq-eqb, ne_eqb}
-use Rattle.std.proofs.lemmas.List.{append-nil, length-map}
-use Rattle.std.proofs.lemmas.List.Elements.{All-get_or}
+use Rattle.trace_workers.proofs.Common.{append-nil, length-map, All-get_or, Entry, PassState, PoolState, IsPassOf, nobody, part_at, Called, mine_at, first_calls, Lock, Known, Call, TraceCall}
 use mathlib.Core.List.{map-append}
 use mathlib.Core.Logic.{dite}
 use native.Mathlib.Decide.{ℕ_discrete}
-use Rattle.heap_model.specs.declared.call.Entry.{Entry}
 use Rattle.shared_pool.specs.declared.job.Receipt.{Receipt}
-use Rattle.shared_pool.specs.Passes.{PassState, PoolState, IsPassOf, nobody, part_at, Called, mine_at, first_calls}
 use Rattle.trace_workers.specs.Answers.{asked, calls_in}
 use Rattle.trace_workers.specs.Workers.{AllIn, HasMadeOwn, HasTurns, AllReady, AllOf, AllDone}
-use Rattle.arena_lock.specs.Known.{Lock, Known}
-use Rattle.heap_model.specs.declared.call.Call.{Call}
-use Rattle.trace_text.specs.declared.call.TraceCall.{TraceCall}
 
 put : Bool → Call → List Call → List Call
 put b x xs = if b then x ∷ xs else xs

@@ -1,20 +1,10 @@
 -- The journals at the end answer the trace.
 use Rattle.std.proofs.Common.{◌≡◌, ◌≢◌, ◌⊎◌, inl, inr, ℕ, zero, suc, ◌+◌, ◌<◌, ◌≤◌, ◌==◌, ◌||◌, ◌&&◌, Bool, true, false, if◌then◌else◌, List, [], ◌∷◌, ◌++◌, map, length, refl, ap, sym, ◌∙◌, subst, arith, eqb-true, ne_eqb, take}
-use Rattle.std.proofs.lemmas.Bool.{false≢true}
-use Rattle.std.proofs.lemmas.List.Elements.{All-head, All-tail}
-use Rattle.heap_model.specs.declared.call.Entry.{Entry}
-use Rattle.arena_lock.specs.declared.opening.Opening.{Opening}
-use Rattle.arena_lock.specs.Known.{Lock}
-use Rattle.arena_lock.specs.Journal.{calls_by}
-use Rattle.heap_model.specs.Journal.{AllBelow}
-use Rattle.shared_pool.specs.Closed.{is_in, HasAll, AllFitLocks, AllAgree, AllClosed}
-use Rattle.shared_pool.specs.Passes.{PassState, PoolState, mine_at, fresh_pass, fresh_passes}
+use Rattle.trace_workers.proofs.Common.{false≢true, All-head, All-tail, Entry, Opening, Lock, calls_by, AllBelow, is_in, HasAll, AllFitLocks, AllAgree, AllClosed, PassState, PoolState, mine_at, fresh_pass, fresh_passes, ArenaState, TraceCall}
 use Rattle.shared_pool.proofs.AllPasses.{fresh_fits}
 use Rattle.trace_workers.specs.Answers.{asked, calls_in, AllAnswer}
 use Rattle.trace_workers.specs.Workers.{HasTurns, AllBy, AllReady, AllOf, AllDone}
-use Rattle.arena_core.specs.Arena.{ArenaState}
 use Rattle.trace_workers.proofs.Counting.{few_entries}
-use Rattle.trace_text.specs.declared.call.TraceCall.{TraceCall}
 
 below_or : (t n : ℕ) → (t < n) ⊎ (n ≤ t)
 below_or t zero = inr (omega arith)

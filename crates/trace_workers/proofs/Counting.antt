@@ -1,12 +1,6 @@
 -- A journal of which every thread has just what it asks has no more entries than the trace has calls.
 use Rattle.std.proofs.Common.{◌≡◌, ◌≢◌, ℕ, zero, suc, ◌+◌, ◌≤◌, ◌<◌, ◌==◌, ◌&&◌, Bool, true, false, if◌then◌else◌, List, [], ◌∷◌, length, refl, ap, sym, ◌∙◌, arith, eq-eqb, ne_eqb, ⊎_elim}
-use Rattle.std.proofs.lemmas.List.{length-map}
-use Rattle.std.proofs.lemmas.Bool.{cases_lt, cases_eq}
-use Rattle.heap_model.specs.declared.call.Call.{Call}
-use Rattle.heap_model.specs.declared.call.Entry.{Entry}
-use Rattle.arena_lock.specs.Journal.{calls_by}
-use Rattle.heap_model.specs.Journal.{AllBelow}
-use Rattle.trace_text.specs.declared.call.TraceCall.{TraceCall}
+use Rattle.trace_workers.proofs.Common.{length-map, cases_lt, cases_eq, Call, Entry, calls_by, AllBelow, TraceCall}
 use Rattle.trace_workers.specs.Answers.{asked, calls_in}
 
 -- the sum over the numbers below n

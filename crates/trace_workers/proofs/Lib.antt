@@ -1,3 +1,4 @@
+mod Common
 mod Calls
 mod ClosedJournals
 mod Counting

@@ -3,10 +3,8 @@ use Rattle.std.proofs.Common.{◌≡◌, ℕ, zero, suc, ◌+◌, ◌≤◌, ◌
 use Rattle.pool_layout.specs.Header.{version_in}
 use Rattle.pool_layout.specs.Layout.{layout_of, IsLayout}
 use Rattle.pool_layout.proofs.Layouts.{layout_rules}
-use Rattle.image_tables.specs.Tables.{tables_of}
-use Rattle.heap_model.specs.declared.block.Block.{Block}
+use Rattle.trace_workers.proofs.Common.{tables_of, Block, heap}
 use Rattle.heap_model.specs.Machine.{Range}
-use Rattle.heap_check.specs.Heap.{heap}
 use Rattle.trace_runs.specs.Blocks.{listed, blocks_from, blocks_in}
 
 few_listed : (root : ℕ) (range : Option Range) → length (listed root range) ≤ 1

@@ -1,22 +1,8 @@
 -- Passes that are told the lengths of journals, and what these lengths are.
 use Rattle.std.proofs.Common.{◌≡◌, ◌≢◌, ◌⊎◌, inl, inr, ℕ, zero, suc, ◌+◌, ◌<◌, ◌≤◌, ◌==◌, ◌||◌, ◌&&◌, Bool, true, false, if◌then◌else◌, List, [], ◌∷◌, map, length, get_or, set, refl, ap, sym, ◌∙◌, subst, arith, eqb-true, eq-eqb, ne_eqb, ⊎_elim, Result, Ok, Err}
-use Rattle.std.specs.Result.{IfOk}
-use Rattle.std.specs.List.{All}
-use Rattle.std.proofs.lemmas.Bool.{false≢true, cases_lt, cases_eq}
-use Rattle.std.proofs.lemmas.List.{get_or-set_same, get_or-set_other}
-use Rattle.std.proofs.lemmas.List.Elements.{All-head, All-tail}
-use Rattle.heap_model.specs.declared.call.Entry.{Entry}
-use Rattle.arena_core.specs.Arena.{ArenaState}
-use Rattle.arena_lock.specs.declared.opening.Opening.{Opening}
-use Rattle.arena_lock.specs.Journal.{calls_by}
-use Rattle.heap_model.specs.Journal.{AllBelow}
-use Rattle.arena_lock.specs.Known.{Lock, Known, after_read}
-use Rattle.shared_pool.specs.Closed.{is_in, HasAll, AllAgree, AllClosed}
-use Rattle.shared_pool.specs.Passes.{PassState, PoolState, IsPassOf, nobody, part_at, with_part, seen_at, mine_at, first_calls, fresh_passes}
-use Rattle.trace_text.specs.declared.call.TraceCall.{TraceCall}
+use Rattle.trace_workers.proofs.Common.{IfOk, All, false≢true, cases_lt, cases_eq, get_or-set_same, get_or-set_other, All-head, All-tail, Entry, ArenaState, Opening, calls_by, AllBelow, Lock, Known, after_read, is_in, HasAll, AllAgree, AllClosed, PassState, PoolState, IsPassOf, nobody, part_at, with_part, seen_at, mine_at, first_calls, fresh_passes, TraceCall, EachFrom}
 use Rattle.trace_gen.specs.Draws.{IsOwn}
 use Rattle.trace_workers.specs.Answers.{asked, calls_in, AllAnswer}
-use Rattle.trace_runs.specs.Each.{EachFrom}
 use Rattle.trace_workers.specs.Lengths.{HasAsked, AllAsked, AreInOrder, SomeKnows, HasMadeFew, IsCounted}
 use Rattle.trace_workers.specs.Summaries.{lengths_of}
 use Rattle.trace_workers.specs.Workers.{HasMadeOwn, AllOf, AllDone}

@@ -1,22 +1,11 @@
 -- What is told of closed arenas is told of runs that answer the trace.
 use Rattle.std.proofs.Common.{◌≡◌, ℕ, suc, ◌+◌, ◌≤◌, ◌<◌, ◌^◌, List, [], ◌∷◌, ◌++◌, length, map, max, take, get_or, remove, sym, ap, ◌∙◌, refl, arith, subst, Result, Ok, Err}
-use Rattle.std.specs.List.{All}
-use Rattle.std.specs.Result.{IfOk}
-use Rattle.std.proofs.lemmas.List.{append_assoc, append-nil}
-use Rattle.std.proofs.lemmas.List.Elements.{All-push, All-get_or}
+use Rattle.trace_workers.proofs.Common.{All, IfOk, append_assoc, append-nil, All-push, All-get_or, tables_of, Block, Entry, heap, ArenaState, opened, TraceCall, EachFrom}
 use Rattle.std.proofs.Math.Nat.{max_comm}
 use mathlib.Core.List.{map-append}
 use Rattle.pmem_lines.specs.Pmem.{PmemState, words_of}
-use Rattle.image_tables.specs.Tables.{tables_of}
-use Rattle.heap_model.specs.declared.block.Block.{Block}
-use Rattle.heap_model.specs.declared.call.Entry.{Entry}
-use Rattle.heap_check.specs.Heap.{heap}
-use Rattle.arena_core.specs.Arena.{ArenaState}
-use Rattle.arena_journal.specs.Journals.{opened}
 use Rattle.trace_text.specs.declared.call.PoolSize.{PoolSize}
-use Rattle.trace_text.specs.declared.call.TraceCall.{TraceCall}
 use Rattle.trace_text.specs.Grammar.{IsTraceCall}
-use Rattle.trace_runs.specs.Each.{EachFrom}
 use Rattle.trace_runs.specs.Arenas.{header_for}
 use Rattle.trace_runs.specs.Blocks.{blocks_of, blocks_in}
 use Rattle.trace_runs.proofs.Journals.{HasRun-behind}

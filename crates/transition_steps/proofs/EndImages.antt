@@ -1,42 +1,9 @@
 -- The transition of a slab without a live old block comes to its end: the images.
 use Rattle.std.proofs.Common.{◌≡◌, ℕ, true, List, sym, ap, subst, ◌∙◌, arith, ⊎_elim}
-use Rattle.image_tables.specs.Forms.{normal_kind}
-use Rattle.image_tables.specs.Tables.{Tables, is_slab, AreSlabsInHeap, tables_of}
-use Rattle.image_tables.specs.Updates.{put_at}
-use Rattle.image_tables.proofs.Updates.{put_at-own}
-use Rattle.heap_check.specs.Heap.{heap}
-use Rattle.heap_check.specs.Sound.{IsSound, IsSteady, IsNearlyDone, LoosensNothing}
-use Rattle.heap_check.specs.Image.{bounds_of, IsFormed, IsSteadyImage}
-use Rattle.heap_model.specs.Machine.{Bounds}
-use Rattle.slab_morph.specs.SlabHeaders.{SlabHeader, header_at, header_of, put_header}
-use Rattle.slab_morph.specs.Stages.{settled, IsSettleStage, AllHoldSame, KeepsHeld, IsValidHeader, IsDone}
+use Rattle.transition_steps.proofs.Common.{Tables, is_slab, AreSlabsInHeap, tables_of, SlabHeader, put_header, put_header-own, heap, IsSound, IsSteady, IsNearlyDone, LoosensNothing, bounds_of, IsFormed, IsSteadyImage, Bounds, header_at, settled, IsSettleStage, AllHoldSame, KeepsHeld, IsValidHeader, IsDone}
 use Rattle.transition_steps.specs.Transitions.{IsEndable, LeavesEntry, IsEnded}
-use Rattle.transition_steps.proofs.Ending.{ended, IsSound-ending, IsSteady-ending, heap-ending, loosens-ending, nearly-ending}
+use Rattle.transition_steps.proofs.Ending.{IsSound-ending, IsSteady-ending, heap-ending, loosens-ending, nearly-ending}
 use Rattle.transition_steps.proofs.HeaderImages.{lies_here, slabs_here, is_valid_here, header_here, formed_after, bounds_after, blocks_after}
-
--- only kind, old class and number of index entries change
-put_settled : (t : Tables) (start : ℕ) → put_header t start (settled (header_of t start)) ≡ ended t start
-put_settled t start i = record t {
-  kind = put_at t.kind start normal_kind;
-  class = put_at-own t.class start i;
-  old = put_at t.old start 0;
-  index_count = put_at t.index_count start 0;
-  bit = put_at-own t.bit start i;
-  live = put_at-own t.live start i;
-  number = put_at-own t.number start i;
-}
-
--- nothing was put
-put_own : (t : Tables) (start : ℕ) → put_header t start (header_of t start) ≡ t
-put_own t start i = record t {
-  kind = put_at-own t.kind start i;
-  class = put_at-own t.class start i;
-  old = put_at-own t.old start i;
-  index_count = put_at-own t.index_count start i;
-  bit = put_at-own t.bit start i;
-  live = put_at-own t.live start i;
-  number = put_at-own t.number start i;
-}
 
 module _ {words : List ℕ} {start : ℕ} (may : IsEndable words start) where
   abbrev t : Tables
@@ -45,7 +12,7 @@ module _ {words : List ℕ} {start : ℕ} (may : IsEndable words start) where
   sound : IsSound (bounds_of words) t
   sound = may.image.sound
 
-  pub header_is : header_of (tables_of words) start ≡ header_at words start
+  pub header_is : ((tables_of words).header start) ≡ header_at words start
   header_is = header_here words start may.image.formed sound may.here.slab
 
   slabs : AreSlabsInHeap words
@@ -77,7 +44,7 @@ module _ {words : List ℕ} {start : ℕ} (may : IsEndable words start) where
     -- with the header as it was
     module _ (same : g ≡ header_at words start) where
       tables_same : tables_of image ≡ t
-      tables_same = kept.left.tables slabs is_here ∙ ap (put_header t start) (same ∙ sym header_is) ∙ put_own t start
+      tables_same = kept.left.tables slabs is_here ∙ ap (put_header t start) (same ∙ sym header_is) ∙ put_header-own t start
 
       same_keeps : LeavesEntry words image
       same_keeps = record {
@@ -92,13 +59,10 @@ module _ {words : List ℕ} {start : ℕ} (may : IsEndable words start) where
 
     -- with the slab normal
     module _ (done : g ≡ settled (header_at words start)) where
-      tables_put : tables_of image ≡ put_header t start (settled (header_of t start))
-      tables_put = kept.left.tables slabs is_here ∙ ap (put_header t start) (done ∙ ap settled (sym header_is))
+      tables_are : tables_of image ≡ put_header t start (settled (t.header start))
+      tables_are = kept.left.tables slabs is_here ∙ ap (put_header t start) (done ∙ ap settled (sym header_is))
 
-      tables_are : tables_of image ≡ ended t start
-      tables_are = tables_put ∙ put_settled t start
-
-      held : AllHoldSame t (ended t start)
+      held : AllHoldSame t (put_header t start (settled (t.header start)))
       held = subst (AllHoldSame t) tables_are (kept.all_held slabs is_here)
 
       sound_after : IsSound (bounds_of image) (tables_of image)
@@ -132,7 +96,7 @@ module _ {words : List ℕ} {start : ℕ} (may : IsEndable words start) where
         blocks = blocks_after words start may.image.formed sound may.here.slab image kept.left.off valid;
         off = kept.left.off;
         bounds = bounds;
-        tables = tables_put;
+        tables = tables_are;
         held = kept.all_held slabs is_here;
         loose = subst (λ (x : Tables). LoosensNothing t x) (sym tables_are) (loosens-ending start sound may.here may.elsewhere held);
         nearly = λ other near. nearly-ending start sound may.here may.elsewhere held other (subst (λ (x : Tables). IsNearlyDone x other) tables_are near);

@@ -1,31 +1,26 @@
 -- A slab in Morphing comes to its class: what the tables say at each stage.
-use Rattle.std.proofs.Common.{◌≡◌, ◌≢◌, ◌⊎◌, ℕ, Bool, true, true≢false, refl, sym, ap, subst, ◌∙◌, arith, inl, inr, ⊎_elim, Option, Some, None}
-use Rattle.std.proofs.lemmas.Bool.{cases_eq}
-use Rattle.image_tables.specs.declared.entry.WalEntry.{WalEntry}
-use Rattle.image_tables.specs.Tables.{Tables}
-use Rattle.image_tables.specs.Forms.{normal_kind, morphing_kind, morphed_kind, IsState}
-use Rattle.image_tables.specs.Updates.{put_at}
-use Rattle.image_tables.proofs.Updates.{put_at-same, put_at-other}
-use Rattle.heap_model.specs.Machine.{Bounds}
-use Rattle.heap_check.specs.Heap.{heap}
-use Rattle.heap_check.specs.Sound.{IsValidSlab, IsMorphing, IsDoneSlab, IsNearlyDone, IsSound, IsSteady}
-use Rattle.heap_check.proofs.Loose.{AtMostOne-fewer}
-use Rattle.slab_morph.specs.Stages.{AllHoldSame}
+use Rattle.std.proofs.Common.{◌≡◌, ◌≢◌, ◌⊎◌, ◌<◌, ℕ, Bool, refl, sym, ap, subst, ◌∙◌, arith, inl, inr, ⊎_elim, Option, Some, None}
+use Rattle.transition_steps.proofs.Common.{cases_eq, WalEntry, morphing_kind, morphed_kind, Tables, SlabHeader, put_header, put_header-same, Bounds, heap, IsValidSlab, IsMorphing, IsDoneSlab, IsNearlyDone, IsSound, IsSteady, AllHoldSame}
+use Rattle.heap_check.proofs.Loose.{AtMostOne-fewer, IsSpent, nearly_spent, spent_nearly, nearly_done}
+use Rattle.heap_check.proofs.SameSlabs.{IsMorphing-same, IsDoneSlab-same, IsNearlyDone-same}
 use Rattle.transition_steps.specs.Transitions.{LoosensDone}
-use Rattle.transition_steps.proofs.TransitionTables.{turned, IsTurn, large_back-turned, empty_back-turned, IsSound-turned, heap-turned}
+use Rattle.transition_steps.proofs.ChangedSlab.{other_same, IsTurn, IsSound-turned, heap-turned}
+use Rattle.transition_steps.proofs.ClosedSizes.{sizes_closed}
 
 -- no entry is open while a slab is in Morphing
 pub closed_morphing : {b : Bounds} {t : Tables} → IsSound b t → (start : ℕ) → IsMorphing t start → (entry : Option WalEntry) → t.open_entry ≡ entry → t.open_entry ≡ None
 closed_morphing {b} {t} sound start here None is = is
-closed_morphing {b} {t} sound start here (Some e) is = absurd ((sound.open_entry e is).calm start here.slab here.kind)
+closed_morphing {b} {t} sound start here (Some e) is = absurd ((sound.owned.open_entry e is).none_morphing start here.slab here.kind)
 
--- the slab says what it said, but for its bits, and that it may be in Morphed
-abbrev pub finishing : Tables → ℕ → ℕ → (ℕ → ℕ → Bool) → Tables
-finishing t start kind bits = turned t (put_at t.kind start kind) bits t.old t.index_count
+-- on its way to its class the header has the index entries that it had
+pub record IsOnWay (h g : SlabHeader) : Type 0 where
+  pub index_count : g.index_count ≡ h.index_count
+  pub live : g.live ≡ h.live
+  pub kind : (g.kind ≡ morphing_kind) ⊎ (g.kind ≡ morphed_kind)
 
-module _ {b : Bounds} {t : Tables} (start kind : ℕ) (bits : ℕ → ℕ → Bool) (steady : IsSteady b t) (here : IsMorphing t start) (stage : (kind ≡ morphing_kind) ⊎ (kind ≡ morphed_kind)) (held : AllHoldSame t (finishing t start kind bits)) where
+module _ {b : Bounds} {t : Tables} (start : ℕ) (g : SlabHeader) (steady : IsSteady b t) (here : IsMorphing t start) (stage : IsOnWay (t.header start) g) (valid : IsValidSlab g) (held : AllHoldSame t (put_header t start g)) where
   abbrev new : Tables
-  new = finishing t start kind bits
+  new = put_header t start g
 
   sound : IsSound b t
   sound = steady.sound
@@ -33,89 +28,55 @@ module _ {b : Bounds} {t : Tables} (start kind : ℕ) (bits : ℕ → ℕ → Bo
   pub closed-finishing : t.open_entry ≡ None
   closed-finishing = closed_morphing sound start here t.open_entry refl
 
-  some : kind ≢ normal_kind
-  some is = ⊎_elim (λ x. omega (arith, x, is)) (λ x. omega (arith, x, is)) stage
-
-  kind_here : put_at t.kind start kind start ≡ kind
-  kind_here = put_at-same t.kind start kind
-
-  -- a slab is in transition where it was
-  was_some : (s : ℕ) → put_at t.kind start kind s ≢ normal_kind → t.kind s ≢ normal_kind
-  was_some s differ is = ⊎_elim
-      (λ (same : s ≡ start). omega (arith, ap t.kind same, is, here.kind))
-      (λ (apart : s ≢ start). differ (put_at-other t.kind start s kind apart ∙ is))
-      (cases_eq s start)
-
-  state_here : IsState kind (t.class start) (t.old start) (t.index_count start)
-  state_here =
-      let was = (sound.slabs start here.slab).state in
-      let moves : t.kind start ≢ normal_kind = λ is. omega (arith, is, here.kind) in
-      record {
-        kinds = inr stage;
-        is_class = was.is_class;
-        is_old_class = was.is_old_class;
-        none = λ normal. absurd (some normal);
-        differ = λ _. was.differ moves;
-        number = λ _. was.number moves;
-      }
-
-  slabs : (s : ℕ) → t.slab s ≡ true → IsValidSlab new s
-  slabs s slab =
-      let was = sound.slabs s slab in
-      let state : IsState (put_at t.kind start kind s) (t.class s) (t.old s) (t.index_count s) = ⊎_elim
-      (λ (same : s ≡ start). subst (λ s. IsState (put_at t.kind start kind s) (t.class s) (t.old s) (t.index_count s)) (sym same)
-      (subst (λ k. IsState k (t.class start) (t.old start) (t.index_count start)) (sym kind_here) state_here))
-      (λ (apart : s ≢ start). subst (λ k. IsState k (t.class s) (t.old s) (t.index_count s)) (sym (put_at-other t.kind start s kind apart)) was.state)
-      (cases_eq s start) in
-      record { state = state; small = was.small; once = was.once }
+  header_here : (s : ℕ) → s ≡ start → new.header s ≡ g
+  header_here s same = ap new.header same ∙ put_header-same t start g
 
   morphing_back : (s : ℕ) → IsMorphing new s → IsMorphing t s
   morphing_back s morphing = ⊎_elim
       (λ (same : s ≡ start). subst (IsMorphing t) (sym same) here)
-      (λ (apart : s ≢ start). record { slab = morphing.slab; kind = sym (put_at-other t.kind start s kind apart) ∙ morphing.kind })
+      (λ (apart : s ≢ start). IsMorphing-same (other_same t start g s apart) morphing)
       (cases_eq s start)
 
+  -- where it has no live index entry, it had none
+  spent_before : IsSpent g → IsSpent (t.header start)
+  spent_before spent = record {
+    kind = λ normal. omega (arith, normal, here.kind);
+    none = λ place below. ap (λ (f : ℕ → Bool). f place) (sym stage.live) ∙ spent.none place (omega (arith, below, stage.index_count));
+  }
+
   nearly : (s : ℕ) → IsNearlyDone new s → IsNearlyDone t s
-  nearly s done = record {
-    slab = done.slab;
-    kind = was_some s done.kind;
-    none = λ place below live. let leaves = done.none place below live in record { root = leaves.root; entry = leaves.entry; none = leaves.none };
-  }
+  nearly s done = ⊎_elim
+      (λ (same : s ≡ start). subst (IsNearlyDone t) (sym same) (spent_nearly t start here.slab (spent_before (subst IsSpent (header_here s same) (nearly_spent closed-finishing done)))))
+      (λ (apart : s ≢ start). IsNearlyDone-same (other_same t start g s apart) closed-finishing done)
+      (cases_eq s start)
 
-  done_nearly : (s : ℕ) → IsDoneSlab new s → IsNearlyDone t s
-  done_nearly s done = record {
-    slab = done.slab;
-    kind = was_some s (λ normal. omega (arith, normal, done.kind));
-    none = λ place below live. absurd (true≢false (sym live ∙ done.none place below));
-  }
-
-  turn : IsTurn b t (put_at t.kind start kind) bits t.old t.index_count
+  turn : IsTurn b t start g
   turn = record {
     sound = sound;
     held = held;
-    sizes = λ root at. refl;
-    slabs = slabs;
-    open_entry = λ e is. absurd ((sound.open_entry e is).calm start here.slab here.kind);
-    morphing = morphing_back;
-    done = AtMostOne-fewer done_nearly steady.one_done;
+    sizes = sizes_closed sound closed-finishing start g held;
+    valid = valid;
+    open_entry = λ e is. absurd ((sound.owned.open_entry e is).none_morphing start here.slab here.kind);
+    morphing = AtMostOne-fewer morphing_back sound.loose.morphing;
+    done = AtMostOne-fewer (λ s (done : IsDoneSlab new s). nearly s (nearly_done new s done)) steady.one_done;
   }
 
-  pub IsSteady-finishing : IsSteady b (finishing t start kind bits)
+  pub IsSteady-finishing : IsSteady b (put_header t start g)
   IsSteady-finishing = record { sound = IsSound-turned turn; one_done = AtMostOne-fewer nearly steady.one_done }
 
-  pub heap-finishing : (root : ℕ) → heap (finishing t start kind bits) root ≡ heap t root
+  pub heap-finishing : (root : ℕ) → heap (put_header t start g) root ≡ heap t root
   heap-finishing = heap-turned turn
 
   -- once it is in Morphed
-  pub loosens-finishing : kind ≡ morphed_kind → LoosensDone t (finishing t start kind bits) start
+  pub loosens-finishing : g.kind ≡ morphed_kind → LoosensDone t (put_header t start g) start
   loosens-finishing morphed = record {
-    large = large_back-turned turn;
-    empty = empty_back-turned turn;
-    calm = λ s morphing.
-        let same = sound.morphing.same s start (morphing_back s morphing) here in
-        omega (arith, morphing.kind, ap (put_at t.kind start kind) same, kind_here, morphed);
+    large = λ s loose. loose;
+    empty = λ s empty. empty;
+    none_morphing = λ s morphing.
+        let same = sound.loose.morphing.same s start (morphing_back s morphing) here in
+        omega (arith, morphing.kind, ap (λ (h : SlabHeader). h.kind) (header_here s same), morphed);
     done = λ s done. ⊎_elim
         (λ (same : s ≡ start). inr same)
-        (λ (apart : s ≢ start). inl (record { slab = done.slab; kind = sym (put_at-other t.kind start s kind apart) ∙ done.kind; none = done.none }))
+        (λ (apart : s ≢ start). inl (IsDoneSlab-same (other_same t start g s apart) done))
         (cases_eq s start);
   }

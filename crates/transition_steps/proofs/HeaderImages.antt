@@ -1,28 +1,21 @@
 -- Words of one slab's header differ: the form of the words, the numbers of the arena, and the words of blocks. And a step on
 -- the header, by the granule at which the slab begins.
 use Rattle.std.proofs.Common.{◌≡◌, ◌≢◌, ◌+◌, ◌*◌, ◌/◌, ◌<◌, ◌≤◌, ℕ, true, List, sym, ap, subst, ◌∙◌, arith, inl, inr, ⊎_elim}
-use Rattle.std.proofs.lemmas.Bool.{cases_eq, cases_lt}
+use Rattle.transition_steps.proofs.Common.{cases_eq, cases_lt, PmemState, IsIndexWord, is_slab, AreSlabsInHeap, state_word, index_word, state_field, tables_of, SlabHeader, IsValidSlab, IsSound, bounds_of, HasSlabHeader, IsFormed, header_at, IsOffHeader, IsValidHeader, KeepsHeld}
 use Rattle.pmem_lines.specs.Words.{word_at}
 use Rattle.pmem_lines.specs.declared.event.Event.{Event}
-use Rattle.pmem_lines.specs.Pmem.{PmemState}
 use Rattle.pmem_lines.specs.Steps.{IsQuietStep}
 use Rattle.pool_layout.specs.Places.{text_word, fields_word, wal_word, granule_word, blocks_place}
 use Rattle.pool_layout.specs.Header.{granules_field, version_in, granules_in}
-use Rattle.image_tables.specs.Forms.{IsIndexWord}
-use Rattle.image_tables.specs.Tables.{is_slab, AreSlabsInHeap, state_word, index_word, state_field, tables_of}
 use Rattle.image_tables.proofs.Headers.{IsSameOffHeader, SameLog-off_header, is_slab-off_header}
-use Rattle.image_tables.proofs.Places.{log_word-low}
-use Rattle.image_tables.proofs.Stores.{log_word-high, wal_word-low, state_field-same}
+use Rattle.image_tables.proofs.Places.{log_start-low}
+use Rattle.image_tables.proofs.Stores.{log_start-high, wal_word-low, state_field-same}
 use Rattle.image_tables.proofs.Tables.{slab_fields}
 use Rattle.book_log.specs.Book.{HasLog}
 use Rattle.book_log.proofs.Books.{HasLog-same}
-use Rattle.heap_check.specs.Sound.{IsValidSlab, IsSound}
-use Rattle.heap_check.specs.Image.{bounds_of, HasSlabHeader, IsFormed}
 use Rattle.heap_check.specs.State.{KeepsBlocks}
 use Rattle.heap_check.proofs.Forms.{AreSlabsInHeap-sound, IsHeader-same, HasWal-same, bounds_of-same}
 use Rattle.heap_check.proofs.StateWords.{IsStateWord-valid}
-use Rattle.slab_morph.specs.SlabHeaders.{SlabHeader, header_at, header_of, alone}
-use Rattle.slab_morph.specs.Stages.{IsOffHeader, IsValidHeader, KeepsHeld}
 use Rattle.slab_morph.proofs.HeaderTables.{header_of-slab}
 use Rattle.settle_steps.proofs.Images.{LiesInWords, slab_lies, few_entries}
 use Rattle.transition_steps.proofs.BlockPlaces.{word_off_header}
@@ -43,13 +36,13 @@ pub kept_here : {words new : List ℕ} (Stage : SlabHeader → SlabHeader → Ty
 kept_here {words} {new} Stage there kept = subst (λ a. KeepsHeld words a (Stage (header_at words a)) new) there kept
 
 -- the header of a slab of well-formed words, whose tables are valid, is
-valid_here : (words : List ℕ) (start : ℕ) → is_slab words start ≡ true → HasSlabHeader words start → IsValidSlab (tables_of words) start → IsValidHeader words start
+valid_here : (words : List ℕ) (start : ℕ) → is_slab words start ≡ true → HasSlabHeader words start → IsValidSlab ((tables_of words).header start) → IsValidHeader words start
 valid_here words start is header slab =
     let same = header_of-slab words start is in
     record {
       state = IsStateWord-valid words start is header.state slab;
       index = λ place below. header.index place (omega (arith, below, ap (λ (h : SlabHeader). h.index_count) same, (slab_fields words start).index_count));
-      slab = subst (λ (h : SlabHeader). IsValidSlab (alone h) start) same (record { state = slab.state; small = slab.small; once = slab.once });
+      slab = subst IsValidSlab same slab;
     }
 
 -- and a valid one has the form of one
@@ -69,7 +62,7 @@ module _ (words : List ℕ) (start : ℕ) (formed : IsFormed words) (sound : IsS
   pub is_valid_here : IsValidHeader words start
   is_valid_here = valid_here words start lies_here.here (formed.slabs start lies_here.here) (sound.slabs start slab)
 
-  pub header_here : header_of (tables_of words) start ≡ header_at words start
+  pub header_here : ((tables_of words).header start) ≡ header_at words start
   header_here = header_of-slab words start lies_here.here
 
   module _ (image : List ℕ) (off : IsOffHeader words start image) (valid : IsValidHeader image start) where
@@ -77,7 +70,7 @@ module _ (words : List ℕ) (start : ℕ) (formed : IsFormed words) (sound : IsS
     same = record { in_heap = lies_here.low; others = off.others }
 
     low : (k : ℕ) → k < 2048 → word_at image k ≡ word_at words k
-    low k small = off.others k (inl (omega (arith, small, lies_here.low, log_word-low (version_in words), log_word-high (version_in words))))
+    low k small = off.others k (inl (omega (arith, small, lies_here.low, log_start-low (version_in words), log_start-high (version_in words))))
 
     slab_same : (other : ℕ) → is_slab image other ≡ is_slab words other
     slab_same other = is_slab-off_header words image start other same

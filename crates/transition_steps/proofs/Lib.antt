@@ -1,4 +1,6 @@
-pub mod TransitionTables
+pub mod Common
+pub mod ChangedSlab
+pub mod ClosedSizes
 pub mod BlockPlaces
 pub mod HeaderImages
 pub mod Finishing

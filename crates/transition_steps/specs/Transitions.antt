@@ -4,22 +4,22 @@ use Rattle.pmem_lines.specs.declared.event.Event.{Event}
 use Rattle.image_tables.specs.declared.entry.WalEntry.TheVariants.{Place}
 use Rattle.image_tables.specs.Tables.{Tables, tables_of}
 use Rattle.slab_header.specs.Morph.{finish_morph_events, finish_old_events}
-use Rattle.slab_morph.specs.SlabHeaders.{header_of, put_header}
 use Rattle.slab_morph.specs.Stages.{finished, settled, IsOffHeader, AllHoldSame}
 use Rattle.heap_check.specs.Sound.{IsInSlab, IsLooseLarge, IsEmptySlab, IsMorphing, IsDoneSlab, IsNearlyDone, LoosensNothing}
 use Rattle.heap_check.specs.Image.{bounds_of, IsSoundImage, IsSteadyImage}
 use Rattle.heap_check.specs.State.{HaveSameHeap, KeepsBlocks}
 use Rattle.settle_steps.specs.Settled.{KeepsHeap}
+use Rattle.image_tables.specs.Updates.{put_header}
 
 -- events
 
 -- the bitmap is cleared, and then the state word says Morphed
 abbrev pub finish_events : List ℕ → ℕ → List Event
-finish_events words start = let t = tables_of words in finish_morph_events start (t.class start) (t.old start) (t.index_count start)
+finish_events words start = let t = tables_of words in finish_morph_events start (t.header start).class (t.header start).old (t.header start).index_count
 
 -- the state word says Normal
 abbrev pub end_events : List ℕ → ℕ → List Event
-end_events words start = finish_old_events start ((tables_of words).class start)
+end_events words start = finish_old_events start ((tables_of words).header start).class
 
 -- when
 
@@ -50,14 +50,14 @@ pub record LeavesEntry (words image : List ℕ) : Type 0 where
 pub record LoosensDone (t new : Tables) (start : ℕ) : Type 0 where
   pub large : (other : ℕ) → IsLooseLarge new other → IsLooseLarge t other
   pub empty : (other : ℕ) → IsEmptySlab new other → IsEmptySlab t other
-  pub calm : (other : ℕ) → ¬ (IsMorphing new other)
+  pub none_morphing : (other : ℕ) → ¬ (IsMorphing new other)
   pub done : (other : ℕ) → IsDoneSlab new other → IsDoneSlab t other ⊎ (other ≡ start)
 
 -- The slab is in Morphed, and the image says the same of all else; it is steady with the same heap, and no entry is open.
 pub record IsFinished (words : List ℕ) (start : ℕ) (new : List ℕ) : Type 0 where
   pub keeps : KeepsHeap words new
   pub off : IsOffHeader words start new
-  pub tables : tables_of new ≡ put_header (tables_of words) start (finished (header_of (tables_of words) start))
+  pub tables : tables_of new ≡ put_header (tables_of words) start (finished ((tables_of words).header start))
   pub closed : (tables_of new).open_entry ≡ None
   pub loose : LoosensDone (tables_of words) (tables_of new) start
 
@@ -70,7 +70,7 @@ pub record IsEnded (words : List ℕ) (start : ℕ) (new : List ℕ) : Type 0 wh
   pub blocks : KeepsBlocks words new
   pub off : IsOffHeader words start new
   pub bounds : bounds_of new ≡ bounds_of words
-  pub tables : tables_of new ≡ put_header (tables_of words) start (settled (header_of (tables_of words) start))
+  pub tables : tables_of new ≡ put_header (tables_of words) start (settled ((tables_of words).header start))
   pub held : AllHoldSame (tables_of words) (tables_of new)
   pub loose : LoosensNothing (tables_of words) (tables_of new)
   pub nearly : (other : ℕ) → IsNearlyDone (tables_of new) other → IsNearlyDone (tables_of words) other × (other ≢ start)

@@ -1,19 +1,10 @@
 -- What the steps of a call of a stack did, from what the arena says of its calls.
 use Rattle.std.proofs.Common.{◌≡◌, ◌≢◌, ℕ, ◌<◌, List, length, Some, Result, refl, ap, ◌∙◌, subst, arith}
-use Rattle.pmem_lines.specs.Pmem.{words_of}
+use Rattle.uses.proofs.Common.{words_of, IsEitherHeap, IsEitherMoved, BlockRefusal, IsOneCall, IsAnswered, IsMoveAnswered, IsWriteAnswered, ArenaState, call_events, line_after, payload_events, IsEitherWords, given, lacking, no_space, lost, passed, wrote, written_ok}
 use Rattle.heap_model.specs.declared.call.Call.TheVariants as calls
 use Rattle.heap_model.specs.declared.call.Reply.{Reply}
 use Rattle.heap_model.specs.declared.call.Reply.TheVariants as replies
-use Rattle.heap_check.specs.State.{IsEitherHeap}
-use Rattle.move_steps.specs.Moves.{IsEitherMoved}
-use Rattle.arena_core.specs.declared.answer.BlockRefusal.{BlockRefusal}
 use Rattle.arena_core.specs.Answer.{write_reply}
-use Rattle.arena_core.specs.Answered.{IsOneCall, IsAnswered, IsMoveAnswered, IsWriteAnswered}
-use Rattle.arena_core.specs.Arena.{ArenaState}
-use Rattle.arena_core.specs.Events.{call_events, line_after}
-use Rattle.arena_core.specs.Payload.{payload_events, IsEitherWords}
-use Rattle.arena_core.proofs.Callers.{given, lacking, no_space, lost, passed, wrote}
-use Rattle.arena_core.proofs.Replies.{written_ok}
 use Rattle.uses.specs.Stack.{stage, HasNone}
 use Rattle.uses.specs.Steps.{HasRecordBlock, HasSome, IsTaken, IsUntaken, IsFilled, IsShown, IsReleased}
 use Rattle.uses.proofs.Heaps.{stage_rooted, record_fits, class_64}

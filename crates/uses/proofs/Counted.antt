@@ -1,11 +1,6 @@
 -- The records that a count of roots stands for.
 use Rattle.std.proofs.Common.{◌≡◌, ◌↔◌, ◌==◌, IsTrue, ℕ, zero, suc, ◌+◌, ◌/◌, ◌<◌, ◌≤◌, List, [], length, slice_index, Option, refl, sym, ap, ◌∙◌, subst, arith, ⊎_elim}
-use Rattle.std.proofs.lemmas.Bool.{cases_lt}
-use Rattle.std.proofs.lemmas.List.{get_or_append_left, get_or_push, length_push}
-use Rattle.pmem_lines.specs.Words.{word_at}
-use Rattle.image_tables.specs.Tables.{tables_of}
-use Rattle.heap_model.specs.Machine.{Range}
-use Rattle.heap_check.specs.Heap.{heap}
+use Rattle.uses.proofs.Common.{cases_lt, get_or_append_left, get_or_push, length_push, word_at, tables_of, Range, heap}
 use Rattle.uses.specs.Stack.{stage, record_at, HasNone, HasRecord, IsStack, HoldsStack, words_from, contents_of, records_in}
 use Rattle.uses.specs.Steps.{HasRecordBlock, AreLeading, AreNone}
 use Rattle.uses.proofs.Stacks.{law_of_stacks}

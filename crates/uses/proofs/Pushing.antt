@@ -1,23 +1,10 @@
 -- A push: the stage takes a block, its words are written, and it moves to the root behind the last record.
 use Rattle.std.proofs.Common.{◌≡◌, ℕ, ◌+◌, ◌/◌, ◌<◌, ◌≤◌, List, [], ◌∷◌, ◌++◌, length, Some, Err, inl, inr, refl, sym, ap, ◌∙◌, subst, arith, ⊎_elim}
-use Rattle.std.proofs.lemmas.List.{length_push}
-use Rattle.pmem_lines.specs.declared.event.Event.{Event}
-use Rattle.pmem_lines.specs.Words.{word_at}
-use Rattle.pmem_lines.specs.Pmem.{PmemState, words_of}
-use Rattle.image_tables.specs.Tables.{tables_of}
-use Rattle.heap_model.specs.Machine.{Range}
+use Rattle.uses.proofs.Common.{length_push, Event, word_at, PmemState, words_of, tables_of, Range, heap, IsExactImage, HaveSameHeap, IsEitherHeap, ArenaState, call_events, line_after, HasWritten, IsEitherWords, exact_steady, one_range, root_place, leaves, same_word, left_word, IsOneCall}
 use Rattle.heap_model.specs.declared.call.Call.TheVariants as calls
 use Rattle.heap_model.specs.declared.call.Reply.TheVariants as replies
-use Rattle.heap_check.specs.Heap.{heap}
-use Rattle.heap_check.specs.Image.{IsExactImage}
-use Rattle.heap_check.specs.State.{HaveSameHeap, IsEitherHeap}
 use Rattle.move_steps.specs.Moves.{MovesOne, IsEitherMoved}
-use Rattle.arena_core.specs.Arena.{ArenaState}
-use Rattle.arena_core.specs.Events.{call_events, line_after}
-use Rattle.arena_core.specs.Payload.{HasWritten, IsEitherWords}
-use Rattle.arena_core.proofs.Callers.{exact_steady, one_range, root_place, leaves, same_word, left_word}
 use Rattle.uses.specs.Stack.{stage, HasNone, HasRecord, IsStack, IsSteadyStack, StackState, IsKept, records_in}
-use Rattle.arena_core.specs.Answered.{IsOneCall}
 use Rattle.uses.specs.Calls.{IsEitherStack, HasPushed, IsRefused, IsPushedBy}
 use Rattle.uses.specs.declared.refusal.PushRefusal.{PushRefusal}
 use Rattle.uses.specs.declared.refusal.PushRefusal.TheVariants.{Full, NoSpace}

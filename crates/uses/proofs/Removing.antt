@@ -1,29 +1,17 @@
 -- A block goes: that of the last record, or that of the stage.
 use Rattle.std.proofs.Common.{◌≡◌, ◌≢◌, ℕ, ◌+◌, ◌-◌, ◌/◌, ◌<◌, List, [], ◌∷◌, ◌++◌, length, take, get_or, Some, Err, ext_get_or, inl, inr, refl, sym, ap, ◌∙◌, subst, arith, ⊎_elim, length-take-le}
-use Rattle.pmem_lines.specs.declared.event.Event.{Event}
-use Rattle.pmem_lines.specs.Words.{word_at}
-use Rattle.pmem_lines.specs.Pmem.{words_of}
+use Rattle.uses.proofs.Common.{Event, word_at, words_of, tables_of, Range, heap, HaveSameHeap, KeepsBlocks, IsEitherHeap, BlockRefusal, ArenaState, AreWordsOf, IsViewOf, call_events, IsOneCall, leaves}
 use Rattle.pmem_lines.proofs.Words.{get_or-words_at}
-use Rattle.image_tables.specs.Tables.{tables_of}
-use Rattle.heap_model.specs.Machine.{Range}
 use Rattle.heap_model.specs.declared.call.Call.TheVariants as calls
 use Rattle.heap_model.specs.declared.call.Reply.TheVariants as replies
-use Rattle.heap_check.specs.Heap.{heap}
-use Rattle.heap_check.specs.State.{HaveSameHeap, KeepsBlocks, IsEitherHeap}
-use Rattle.arena_core.specs.declared.answer.BlockRefusal.{BlockRefusal}
 use Rattle.arena_core.specs.declared.answer.BlockRefusal.TheVariants.{NoRoot, Empty, OutOfRange}
-use Rattle.arena_core.specs.Arena.{ArenaState}
-use Rattle.arena_core.specs.Payload.{AreWordsOf, IsViewOf}
-use Rattle.arena_core.specs.Events.{call_events}
 use Rattle.uses.specs.Stack.{stage, record_at, HasNone, HasRecord, IsStack, IsSteadyStack, IsKept, records_in}
-use Rattle.arena_core.specs.Answered.{IsOneCall}
 use Rattle.uses.specs.Calls.{IsEitherStack, HasPopped, IsLast}
 use Rattle.uses.specs.Opening.{IsOpened}
 use Rattle.uses.specs.Steps.{HasSome, IsWhole, IsReleased, IsTidied, AreLeading, AreNone}
 use Rattle.uses.proofs.Stacks.{keeps_below, stack_kept, stack_less, records_less}
 use Rattle.uses.proofs.Heaps.{stage_rooted}
 use Rattle.uses.proofs.Counted.{length-records_in, counted_stack, counted_same}
-use Rattle.arena_core.proofs.Callers.{leaves}
 use Rattle.uses.proofs.Pushing.{left_stack, state_of}
 
 -- the last record

@@ -1,10 +1,7 @@
 -- A stack behind a power cut: recovery leaves it, and so does a crash within recovery.
 use Rattle.std.proofs.Common.{◌∙◌, ℕ, List, sym}
-use Rattle.pmem_lines.specs.Pmem.{PmemState, words_of}
-use Rattle.heap_check.specs.State.{HaveSameHeap, KeepsBlocks}
+use Rattle.uses.proofs.Common.{PmemState, words_of, HaveSameHeap, KeepsBlocks, ArenaState, IsRecovered}
 use Rattle.settle_steps.specs.Settled.{KeepsHeap}
-use Rattle.arena_core.specs.Arena.{ArenaState}
-use Rattle.recover.specs.Recovered.{IsRecovered}
 use Rattle.uses.specs.Stack.{IsStack, HoldsStack, IsSteadyStack, StackState}
 use Rattle.uses.specs.Opening.{IsOpened}
 use Rattle.uses.specs.Reopening.{IsReopened}

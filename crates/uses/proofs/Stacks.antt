@@ -1,12 +1,6 @@
 -- Stacks: what leaves one as it is, what it is once a record came or went, and that an image is the stack of one list only.
 use Rattle.std.proofs.Common.{◌≡◌, ◌≢◌, ℕ, ◌+◌, ◌/◌, ◌<◌, ◌≤◌, List, [], ◌∷◌, ◌++◌, length, take, Some, None, refl, sym, ap, ◌∙◌, subst, arith, ⊎_elim, ext_get_or, below_more, length-take-le, get_or-take}
-use Rattle.std.proofs.lemmas.Bool.{cases_lt}
-use Rattle.std.proofs.lemmas.List.{get_or_append_left, get_or_push, length_push, take_more, take_all}
-use Rattle.pmem_lines.specs.Words.{word_at}
-use Rattle.image_tables.specs.Tables.{tables_of}
-use Rattle.heap_model.specs.Machine.{Range}
-use Rattle.heap_check.specs.Heap.{heap}
-use Rattle.heap_check.specs.State.{IsWordOf, KeepsBlocks}
+use Rattle.uses.proofs.Common.{cases_lt, get_or_append_left, get_or_push, length_push, take_more, take_all, word_at, tables_of, Range, heap, IsWordOf, KeepsBlocks}
 use Rattle.uses.specs.Stack.{stage, record_at, HasNone, HasRecord, IsStack, LawOfStacks}
 
 -- a word of a record

@@ -3,7 +3,7 @@ ghost use Rattle.std.specs.Prelude.{◌≡◌, ◌+◌, ◌%◌, ◌<◌, ◌≤
 
 use book_log::{BookLog, LogEntry};
 use durable_steps::write_word;
-use log_gc::{Rolled, make_room};
+use log_room::{Rolled, make_room};
 use pmem_lines::{OutOfMemory, Pmem, SimPmem};
 use pool_layout::{directory_at, fields_at, layout_of};
 use std::alloc::Global;

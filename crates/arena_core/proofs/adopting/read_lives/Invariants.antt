@@ -1,12 +1,12 @@
 use Rattle.std.proofs.Common.{◌≡◌, ℕ, None}
-use Rattle.arena_core.proofs.Common.{words_of, calm_at, AreCountsOf, HasCounted}
+use Rattle.arena_core.proofs.Common.{words_of, normal_at, AreCountsOf, HasCounted}
 use Rattle.arena_core.specs.Adopting.{HasNoted}
 use Rattle.arena_core.proofs.adopting.read_lives.Given as goal
 
 abbrev pub invariant-loop-root : goal.invariant-loop-root
 invariant-loop-root g l = record {
   counted : HasCounted (words_of (g.P.Pmem.state l.device)) l.lives.counts l.root;
-  calm : (start : ℕ) → calm_at l.lives start ≡ None;
+  normal : (start : ℕ) → normal_at l.lives start ≡ None;
 }
 
 abbrev pub invariant-loop-start : goal.invariant-loop-start

@@ -1,7 +1,5 @@
 use Rattle.std.proofs.Common.{rules, arith, ◌≡◌, ◌≢◌, ℕ, suc, ◌<◌, ◌≤◌, List, ◌∷◌, Option, ◌∙◌, true, ap, sym, subst, length, map, drop, get_or, remove, refl, ◌+◌}
-use Rattle.std.specs.Vec.{vec_len, vec_capacity}
-use Rattle.shared_pool.specs.Closed.{is_in, HasAll}
-use Rattle.shared_pool.specs.Rows.{AllRoom, each_of}
+use Rattle.arena_server.proofs.Common.{vec_len, vec_capacity, is_in, HasAll, AllRoom, each_of}
 use Rattle.arena_server.specs.declared.request.Request.{Request}
 use Rattle.arena_server.specs.declared.owner.Till.{Till}
 use Rattle.arena_server.specs.Senders.{nowhere, AllSendTo, numbers, behead_sender}

@@ -1,9 +1,5 @@
 use Rattle.std.proofs.Common.{◌≡◌, ◌≤◌, ◌+◌, ◌++◌, ℕ, drop, length, List}
-use Rattle.std.specs.Vec.{vec_len, vec_capacity}
-use Rattle.heap_model.specs.declared.call.Entry.{Entry}
-use Rattle.arena_core.specs.Arena.{ArenaState}
-use Rattle.shared_pool.specs.Closed.{is_in, HasAll}
-use Rattle.shared_pool.specs.Rows.{each_of, AllRoom}
+use Rattle.arena_server.proofs.Common.{vec_len, vec_capacity, Entry, ArenaState, is_in, HasAll, each_of, AllRoom}
 use Rattle.arena_server.specs.declared.request.Request.{Request}
 use Rattle.arena_server.specs.Senders.{AllSendTo, numbers}
 use Rattle.arena_server.specs.Emptied.{arenas_of, list_at, held_at, AllTakeThere, AllEmptied}

@@ -1,6 +1,5 @@
 use Rattle.std.proofs.Common.{◌≡◌, length}
-use Rattle.std.specs.Vec.{vec_len, vec_capacity}
-use Rattle.shared_pool.specs.Rows.{each_of, AllRoom}
+use Rattle.arena_server.proofs.Common.{vec_len, vec_capacity, each_of, AllRoom}
 use Rattle.arena_server.proofs.parting.rooms.Given as goal
 
 abbrev pub invariant-loop : goal.invariant-loop

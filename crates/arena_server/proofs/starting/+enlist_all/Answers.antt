@@ -1,7 +1,5 @@
 use Rattle.std.proofs.Common.{rules, arith, ◌≡◌, ◌+◌, ◌∷◌, [], ◌++◌, ◌∙◌, ℕ, suc, ap, sym, subst}
-use Rattle.std.specs.Vec.{vec_len, vec_capacity}
-use Rattle.crossbeam_queue.specs.Passes.{view}
-use Rattle.shared_pool.specs.Rows.{each_of}
+use Rattle.arena_server.proofs.Common.{vec_len, vec_capacity, view, each_of}
 use Rattle.arena_server.specs.declared.part.Part.{Part}
 use Rattle.arena_server.specs.declared.part.Part.TheVariants.{Sends}
 use Rattle.arena_server.specs.Owners.{senders_of}

@@ -1,7 +1,5 @@
 use Rattle.std.proofs.Common.{◌≡◌, ◌≤◌, ◌+◌, ◌++◌, ℕ, length, List}
-use Rattle.std.specs.Vec.{vec_len, vec_capacity}
-use Rattle.atomic_table.specs.Seated.{TableId}
-use Rattle.shared_pool.specs.Rows.{each_of}
+use Rattle.arena_server.proofs.Common.{vec_len, vec_capacity, TableId, each_of}
 use Rattle.arena_server.specs.Started.{new_senders, AllNewRows}
 use Rattle.arena_server.proofs.starting.number_all.Given as goal
 

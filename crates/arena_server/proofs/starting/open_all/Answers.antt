@@ -1,8 +1,6 @@
 use Rattle.std.proofs.Common.{rules, arith, ◌≡◌, ◌+◌, ◌∷◌, [], ◌++◌, ◌∙◌, ℕ, ap, sym, subst, length}
 use mathlib.Core.List.{map-append}
-use Rattle.std.specs.Vec.{vec_len, vec_capacity}
-use Rattle.crossbeam_queue.specs.Passes.{view}
-use Rattle.shared_pool.specs.Rows.{each_of}
+use Rattle.arena_server.proofs.Common.{vec_len, vec_capacity, view, each_of}
 use Rattle.arena_server.specs.Owners.{senders_of}
 use Rattle.arena_server.specs.Servers.{queue_ids, AllHaveRoom}
 use Rattle.arena_server.specs.Started.{AllNewRows, AllSpace, AllNewTakers}

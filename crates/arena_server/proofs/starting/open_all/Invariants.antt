@@ -1,6 +1,5 @@
 use Rattle.std.proofs.Common.{◌≡◌, ◌≤◌, ◌+◌, ℕ, length}
-use Rattle.std.specs.Vec.{vec_len, vec_capacity}
-use Rattle.shared_pool.specs.Rows.{each_of}
+use Rattle.arena_server.proofs.Common.{vec_len, vec_capacity, each_of}
 use Rattle.arena_server.specs.Servers.{queue_ids, AllHaveRoom}
 use Rattle.arena_server.specs.Started.{AllNewRows, AllSpace, AllNewTakers}
 use Rattle.arena_server.proofs.starting.open_all.Given as goal

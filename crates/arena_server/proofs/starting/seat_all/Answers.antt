@@ -1,6 +1,5 @@
 use Rattle.std.proofs.Common.{rules, arith, ◌≡◌, ◌<◌, ◌+◌, ◌∷◌, ◌++◌, ◌∙◌, suc, ap, sym, length}
-use Rattle.std.proofs.lemmas.List.{append-nil}
-use Rattle.shared_pool.specs.Passes.{fresh_passes}
+use Rattle.arena_server.proofs.Common.{append-nil, fresh_passes}
 use Rattle.arena_server.specs.Started.{new_owners}
 use Rattle.arena_server.proofs.Arenas.{head_back}
 use Rattle.arena_server.proofs.Endings.{no_items}

@@ -1,8 +1,5 @@
 use Rattle.std.proofs.Common.{◌≡◌, ◌≤◌, ◌+◌, ◌++◌, ℕ, length, List}
-use Rattle.std.specs.Vec.{vec_len, vec_capacity}
-use Rattle.atomic_table.specs.Seated.{TableId}
-use Rattle.arena_lock.specs.Known.{Lock}
-use Rattle.shared_pool.specs.Passes.{fresh_passes}
+use Rattle.arena_server.proofs.Common.{vec_len, vec_capacity, TableId, Lock, fresh_passes}
 use Rattle.arena_server.specs.Started.{new_owners, AllNewTakers}
 use Rattle.arena_server.proofs.starting.seat_all.Given as goal
 

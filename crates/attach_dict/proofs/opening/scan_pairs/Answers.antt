@@ -1,6 +1,5 @@
 use Rattle.std.proofs.Common.{◌≡◌, ◌<◌, ℕ, subst, arith}
-use Rattle.pmem_lines.specs.Pmem.{words_of}
-use Rattle.heap_check.specs.Image.{bounds_of}
+use Rattle.attach_dict.proofs.Common.{words_of, bounds_of}
 use Rattle.attach_dict.specs.Reading.{IsScanned}
 use Rattle.attach_dict.proofs.Answered.{stage_rooted}
 use Rattle.attach_dict.proofs.opening.scan_pairs.Goals as goal

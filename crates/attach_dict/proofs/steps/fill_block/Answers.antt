@@ -1,7 +1,5 @@
 use Rattle.std.proofs.Common.{Result, subst}
-use Rattle.arena_core.specs.declared.answer.BlockRefusal.{BlockRefusal}
-use Rattle.arena_core.specs.Answered.{IsWriteAnswered}
-use Rattle.arena_core.proofs.Replies.{write_ok}
+use Rattle.attach_dict.proofs.Common.{BlockRefusal, IsWriteAnswered, write_ok}
 use Rattle.attach_dict.specs.Dict.{stage}
 use Rattle.attach_dict.proofs.Answered.{is_wrote, done_is}
 use Rattle.attach_dict.proofs.steps.fill_block.Goals as goal

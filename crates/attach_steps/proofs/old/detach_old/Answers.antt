@@ -11,7 +11,7 @@ bury-requires-clause-inside g c =
     inside (IsSite-old c.requires.detachable c.requires.line) c.requires.line (words_of (g.P.Pmem.state c.write_entry.new.device)) c.write_entry.ensures.step.appends.size
 
 -- what is read of the entry is its number
-number : (g : given.Over) (c : goal.After-close_entry g) → c.old_number-number.result ≡ (tables_of (words_of (g.P.Pmem.state c.args.p.now))).number c.args.block.start c.args.block.place
+number : (g : given.Over) (c : goal.After-close_entry g) → c.old_number-number.result ≡ ((tables_of (words_of (g.P.Pmem.state c.args.p.now))).header c.args.block.start).number c.args.block.place
 number g c = grind (arith, slab_table, number_table, place_low)
 
 pub returns-clause-detached : goal.returns-clause-detached

@@ -1,6 +1,5 @@
 use Rattle.std.proofs.Common.{◌≡◌, ◌-◌, ◌<◌, ◌≤◌, sym, ap, ◌∙◌, arith, ⊎_elim}
-use Rattle.std.proofs.lemmas.Bool.{cases_lt}
-use Rattle.slab_index.specs.SlabSet.{class_in}
+use Rattle.block_supply.proofs.Common.{cases_lt, class_in}
 use Rattle.block_supply.proofs.place.nearest_slab.Goals as goal
 use Rattle.block_supply.proofs.place.nearest_slab.Goals.{then-back-granule+in_default, else-back-granule}
 

@@ -1,11 +1,7 @@
 use Rattle.std.proofs.Common.{◌≡◌, ◌*◌, ◌∙◌, ap, sym, subst, length, List, ℕ, arith}
-use Rattle.pmem_lines.specs.Pmem.{words_of}
+use Rattle.book_log.proofs.Common.{words_of, layout_of, entry_slot, version_in, extent_at}
 use Rattle.durable_steps.proofs.Steps.{word_step}
-use Rattle.pool_layout.specs.Layout.{layout_of}
 use Rattle.pool_layout.specs.declared.layout.Layout.{Layout}
-use Rattle.pool_layout.specs.Places.{entry_word}
-use Rattle.pool_layout.specs.Header.{version_in}
-use Rattle.image_tables.specs.Extents.{extent_at}
 use Rattle.book_log.specs.Table.{extent_in}
 use Rattle.book_log.specs.Book.{HasLog, AreWithin, IsNextOf, IsPlaceAfter, chunks_of}
 use Rattle.book_log.proofs.Places.{header_within, place_at}
@@ -22,14 +18,14 @@ pub write_word-requires-clause-place : goal.write_word-requires-clause-place
 write_word-requires-clause-place g c =
     let a = c.args in
     let words = words_of (g.P.Pmem.state a.device.now) in
-    place_at (g.P.Pmem.state a.device.now) c.entry_at.result (entry_word (version_in words) a.place.chunk a.place.entry)
-    (c.entry_at.ensures ∙ ap (λ v. 8 * entry_word v a.place.chunk a.place.entry) c.version_of-version.ensures)
+    place_at (g.P.Pmem.state a.device.now) c.entry_at.result (entry_slot (version_in words) a.place.chunk a.place.entry)
+    (c.entry_at.ensures ∙ ap (λ v. 8 * entry_slot v a.place.chunk a.place.entry) c.version_of-version.ensures)
     (append_of c.requires.place).inside
 
 -- it puts the entry
 put : (g : given.Over) (c : goal.After-place_after g) → IsPut (words_of (g.P.Pmem.state c.args.device.now)) c.args.place c.args.entry c.entry_at.result c.log_word-word.result
 put g c = record {
-  at_is = c.entry_at.ensures ∙ ap (λ v. 8 * entry_word v c.args.place.chunk c.args.place.entry) c.version_of-version.ensures;
+  at_is = c.entry_at.ensures ∙ ap (λ v. 8 * entry_slot v c.args.place.chunk c.args.place.entry) c.version_of-version.ensures;
   value_is = c.log_word-word.ensures.word;
   says = c.log_word-word.ensures.says;
 }

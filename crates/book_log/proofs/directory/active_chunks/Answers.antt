@@ -1,6 +1,5 @@
 use Rattle.std.proofs.Common.{◌-◌, ◌++◌, ◌∷◌, [], ◌%◌, ◌/◌, ◌+◌, sym, ap, ◌∙◌, arith, append_assoc, append-nil}
-use Rattle.std.proofs.lemmas.Grind.{common_steps}
-use Rattle.image_tables.specs.Log.{most_chunks, chunks_named}
+use Rattle.book_log.proofs.Common.{common_steps, most_chunks, chunks_named}
 use Rattle.book_log.proofs.Directories.{named_first, named_last, named_more}
 use Rattle.book_log.proofs.directory.active_chunks.Goals as goal
 

@@ -1,6 +1,5 @@
 use Rattle.std.proofs.Common.{◌≡◌, ℕ}
-use Rattle.image_tables.specs.Log.{entries_below}
-use Rattle.image_tables.specs.Extents.{extent_behind}
+use Rattle.book_log.proofs.Common.{entries_below, extent_behind}
 use Rattle.book_log.specs.Log.{logged}
 use Rattle.book_log.specs.Table.{extent_in}
 use Rattle.book_log.proofs.taking.take_chunk.Given as goal

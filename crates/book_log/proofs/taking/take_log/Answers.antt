@@ -1,7 +1,5 @@
 use Rattle.std.proofs.Common.{◌≡◌, length, get_or, None, sym, ap, ◌∙◌, arith}
-use Rattle.pool_layout.specs.Places.{directory_word}
-use Rattle.image_tables.specs.Log.{chunk_log, active_chunks}
-use Rattle.image_tables.specs.Extents.{extent_behind}
+use Rattle.book_log.proofs.Common.{directory_word, chunk_log, active_chunks, extent_behind}
 use Rattle.book_log.specs.Book.{chunks_of}
 use Rattle.book_log.proofs.Places.{header_within, word_of_place}
 use Rattle.book_log.proofs.Takings.{behind_chunks, behind_all}

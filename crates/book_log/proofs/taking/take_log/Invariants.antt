@@ -1,6 +1,5 @@
 use Rattle.std.proofs.Common.{◌≡◌, ℕ, take, flat_map, None}
-use Rattle.image_tables.specs.Log.{chunk_log}
-use Rattle.image_tables.specs.Extents.{extent_behind}
+use Rattle.book_log.proofs.Common.{chunk_log, extent_behind}
 use Rattle.book_log.specs.Table.{extent_in}
 use Rattle.book_log.proofs.taking.take_log.Given as goal
 

@@ -2,12 +2,13 @@ use Rattle.std.proofs.Common.{◌≡◌, ◌+◌, length, inr, sym, ap, ◌∙�
 use Rattle.pmem_lines.specs.Pmem.{words_of, HasRoom}
 use Rattle.pmem_lines.proofs.Steps.{step_wider}
 use Rattle.slab_header.specs.Morph.{morph_events}
-use Rattle.slab_morph.specs.SlabHeaders.{SlabHeader, header_at, alone}
+use Rattle.slab_morph.specs.SlabHeaders.{header_at, alone}
 use Rattle.slab_morph.specs.Stages.{morphed, morph_count, IsMorphStage, IsMorphable}
 use Rattle.slab_morph.proofs.Stages.{keeps_wider}
 use Rattle.transition_steps.proofs.HeaderImages.{granule_is, step_here, kept_here}
 use Rattle.class_steps.proofs.ClassImages.{header_is, morphable, leaves_closed, of_class}
 use Rattle.class_steps.proofs.taking.take_class.Goals as goal
+use Rattle.image_tables.specs.Tables.{SlabHeader}
 
 pub morph-requires-clause-morphable : goal.morph-requires-clause-morphable
 morph-requires-clause-morphable g c =

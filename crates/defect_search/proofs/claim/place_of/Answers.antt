@@ -1,7 +1,6 @@
 use Rattle.std.proofs.Common.{◌≡◌, true, false, ltb, rules, arith}
 use Rattle.std.specs.List.Sorted.{IsPartitionPoint}
-use Rattle.std.proofs.lemmas.Bool.{ltb-true, ltb-false}
-use Rattle.std.proofs.lemmas.List.Sorted.{IsPartitionPoint-from_clause, IsPartitionedBy-ltb, IsNonDecreasingBy-from_default}
+use Rattle.defect_search.proofs.Common.{ltb-true, ltb-false, IsPartitionPoint-from_clause, IsPartitionedBy-ltb, IsNonDecreasingBy-from_default}
 use Rattle.defect_search.specs.declared.claim.Claim.{Claim}
 use Rattle.defect_search.specs.Claims.{no_claim, claim_in}
 use Rattle.defect_search.proofs.claim.place_of.Goals as goal

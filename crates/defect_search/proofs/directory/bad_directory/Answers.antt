@@ -1,8 +1,5 @@
 use Rattle.std.proofs.Common.{◌≡◌, ◌/◌, ◌∙◌, ap, sym, subst, true≢false, arith}
-use Rattle.pmem_lines.specs.Words.{word_at}
-use Rattle.pool_layout.specs.Places.{directory_word}
-use Rattle.image_tables.specs.Log.{active_chunks}
-use Rattle.book_log.specs.Log.{IsDirectory}
+use Rattle.defect_search.proofs.Common.{word_at, directory_word, active_chunks, IsDirectory}
 use Rattle.defect_search.proofs.directory.bad_directory.Goals as goal
 
 pub returns-then-is_directory : goal.returns-then-is_directory

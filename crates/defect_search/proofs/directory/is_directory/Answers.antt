@@ -1,7 +1,5 @@
 use Rattle.std.proofs.Common.{◌≡◌, ◌≢◌, ◌≤◌, ◌∙◌, ℕ, List, length, sym, ap, subst, arith}
-use Rattle.std.specs.List.{AllPairs}
-use Rattle.std.proofs.lemmas.Bool.{false≢true, eqb-true, eqb-false}
-use Rattle.image_tables.specs.Log.{active_chunks}
+use Rattle.defect_search.proofs.Common.{AllPairs, false≢true, eqb-true, eqb-false, active_chunks}
 use Rattle.defect_search.proofs.DirectoryBytes.{few_chunks, small_chunks}
 use Rattle.defect_search.proofs.directory.is_directory.Goals as goal
 

@@ -1,6 +1,5 @@
 use Rattle.std.proofs.Common.{subst}
-use Rattle.slab_header.specs.State.{IsWordOfState, SaysOfState}
-use Rattle.image_tables.specs.Forms.{IsStateWord}
+use Rattle.defect_search.proofs.Common.{IsWordOfState, SaysOfState, IsStateWord}
 use Rattle.defect_search.proofs.SlabWords.{state_of_word, word_or}
 use Rattle.defect_search.proofs.header.bad_word.Goals as goal
 

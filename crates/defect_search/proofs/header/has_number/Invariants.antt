@@ -3,4 +3,4 @@ use Rattle.image_tables.specs.Tables.{tables_of}
 use Rattle.defect_search.proofs.header.has_number.Given as goal
 
 abbrev pub invariant-loop-place : goal.invariant-loop-place
-invariant-loop-place l = (k : ℕ) → k < l.place → (tables_of l.words).number l.start k ≢ l.number
+invariant-loop-place l = (k : ℕ) → k < l.place → ((tables_of l.words).header l.start).number k ≢ l.number

@@ -1,6 +1,5 @@
 use Rattle.std.proofs.Common.{◌≤◌, ◌<◌, sym, subst, arith, inl, inr}
-use Rattle.size_classes.specs.Classes.{class_capacity}
-use Rattle.image_tables.specs.Tables.{tables_of}
+use Rattle.defect_search.proofs.Common.{class_capacity, tables_of}
 use Rattle.defect_search.proofs.SlabWords.{form_read, number_read, good_place, twice_place}
 use Rattle.defect_search.proofs.header.is_good_place.Goals as goal
 
@@ -8,7 +7,7 @@ pub returns-then-entry-capacity-clause-bad : goal.returns-then-entry-capacity-cl
 returns-then-entry-capacity-clause-bad c = λ _.
     let t = tables_of c.args.words.now in
     let number = number_read c.args.words.now c.args.start c.args.place c.index_word.result c.in-Some.entry c.requires.at.slab c.requires.few c.index_word.ensures c.in-Some.ensures.says in
-    let past : class_capacity (t.old c.args.start) ≤ t.number c.args.start c.args.place = subst (λ o. class_capacity o ≤ t.number c.args.start c.args.place) (sym c.requires.old) (omega (arith, number, c.capacity.ensures.count)) in
+    let past : class_capacity (t.header c.args.start).old ≤ (t.header c.args.start).number c.args.place = subst (λ o. class_capacity o ≤ (t.header c.args.start).number c.args.place) (sym c.requires.old) (omega (arith, number, c.capacity.ensures.count)) in
     record { below = c.requires.below; bad = inr (inl past) }
 
 pub returns-clause-good : goal.returns-clause-good
@@ -16,7 +15,7 @@ returns-clause-good c = λ e.
     let t = tables_of c.args.words.now in
     let number = number_read c.args.words.now c.args.start c.args.place c.index_word.result c.in-Some.entry c.requires.at.slab c.requires.few c.index_word.ensures c.in-Some.ensures.says in
     let form = form_read c.args.words.now c.args.start c.args.place c.index_word.result c.in-Some.entry c.index_word.ensures c.in-Some.ensures.says in
-    let small : c.in-Some.entry.number < class_capacity (t.old c.args.start) = subst (λ o. c.in-Some.entry.number < class_capacity o) (sym c.requires.old) (omega (arith, c.capacity.ensures.count)) in
+    let small : c.in-Some.entry.number < class_capacity (t.header c.args.start).old = subst (λ o. c.in-Some.entry.number < class_capacity o) (sym c.requires.old) (omega (arith, c.capacity.ensures.count)) in
     good_place c.args.words.now c.args.start c.args.place c.in-Some.entry.number c.has_number.result form number small c.has_number.ensures e
 
 pub returns-clause-bad : goal.returns-clause-bad

@@ -1,6 +1,5 @@
 use Rattle.std.proofs.Common.{Vec, Global, ◌≡◌, ◌+◌, ap, sym, subst, ◌∙◌, arith}
-use Rattle.image_tables.specs.Tables.{is_slab}
-use Rattle.image_reading.specs.declared.slab.Slab.{Slab}
+use Rattle.defect_search.proofs.Common.{is_slab, Slab}
 use Rattle.defect_search.proofs.SlabLists.{AreSlabsBelow, no_slabs, slabs_skip, slabs_push, slabs_all}
 use Rattle.defect_search.proofs.header.slabs_of.Goals as goal
 use Rattle.defect_search.proofs.header.slabs_of.Goals.{then-is_slab+in_ok-push, else-is_slab}

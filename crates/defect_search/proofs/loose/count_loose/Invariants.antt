@@ -1,6 +1,5 @@
 use Rattle.std.proofs.Common.{◌≤◌}
-use Rattle.image_tables.specs.Tables.{tables_of}
-use Rattle.image_defects.specs.Loose.{AreLoose}
+use Rattle.defect_search.proofs.Common.{tables_of, AreLoose}
 use Rattle.defect_search.proofs.loose.count_loose.Given as goal
 
 abbrev pub invariant-loop-start : goal.invariant-loop-start

@@ -1,7 +1,6 @@
 use Rattle.std.proofs.Common.{◌∙◌, sym, true≢false}
-use Rattle.image_tables.proofs.Tables.{slab_table}
+use Rattle.defect_search.proofs.Common.{slab_table, refuted}
 use Rattle.defect_search.proofs.Marks.{done_by}
-use Rattle.image_reading.proofs.Holding.{refuted}
 use Rattle.defect_search.proofs.loose.is_done.Goals as goal
 
 pub returns-then-not-is_kind : goal.returns-then-not-is_kind

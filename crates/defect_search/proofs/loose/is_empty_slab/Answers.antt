@@ -1,9 +1,6 @@
 use Rattle.std.proofs.Common.{◌∙◌, sym, arith, true≢false}
-use Rattle.pool_layout.specs.Header.{version_in}
-use Rattle.pool_layout.proofs.Layouts.{layout_rules}
-use Rattle.image_tables.proofs.Tables.{slab_table}
+use Rattle.defect_search.proofs.Common.{version_in, layout_rules, slab_table, refuted}
 use Rattle.defect_search.proofs.Marks.{empty_slab_by}
-use Rattle.image_reading.proofs.Holding.{refuted}
 use Rattle.defect_search.proofs.loose.is_empty_slab.Goals as goal
 
 pub returns-then-not-is_slab : goal.returns-then-not-is_slab

@@ -1,6 +1,5 @@
 use Rattle.std.proofs.Common.{arith}
-use Rattle.pool_layout.specs.Header.{version_in}
-use Rattle.pool_layout.proofs.Layouts.{layout_rules}
+use Rattle.defect_search.proofs.Common.{version_in, layout_rules}
 use Rattle.defect_search.proofs.Marks.{loose_large_by}
 use Rattle.defect_search.proofs.loose.is_loose_large.Goals as goal
 

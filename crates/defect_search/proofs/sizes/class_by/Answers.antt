@@ -7,7 +7,7 @@ pub returns-then-not-is_slab-clause-class : goal.returns-then-not-is_slab-clause
 returns-then-not-is_slab-clause-class c =
     let words = c.args.words.now in
     let none = sym (c.is_slab.ensures words c.requires.reads) ∙ c.if-not-is_slab.true in
-    elim c.args.of_old as (λ (of_old : Bool). cond of_old ((tables_of words).old c.args.start) ((tables_of words).class c.args.start) ≡ 0) [
+    elim c.args.of_old as (λ (of_old : Bool). cond of_old ((tables_of words).header c.args.start).old ((tables_of words).header c.args.start).class ≡ 0) [
       | true ↦ old_table-none words c.args.start none
       | false ↦ class_none words c.args.start none
     ]

@@ -1,6 +1,5 @@
 use Rattle.std.proofs.Common.{◌∙◌, ap}
-use Rattle.slab_header.specs.State.{entries_of}
-use Rattle.image_tables.specs.Tables.{tables_of}
+use Rattle.defect_search.proofs.Common.{entries_of, tables_of}
 use Rattle.defect_search.proofs.BlockSizes.{old_by, no_old}
 use Rattle.defect_search.proofs.sizes.has_old_in.Goals as goal
 

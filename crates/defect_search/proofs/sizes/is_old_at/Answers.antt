@@ -1,6 +1,5 @@
 use Rattle.std.proofs.Common.{◌/◌, ◌∙◌, ap, arith}
-use Rattle.image_tables.specs.Tables.{tables_of}
-use Rattle.heap_check.specs.Heap.{is_old, slab_of}
+use Rattle.defect_search.proofs.Common.{tables_of, is_old, slab_of}
 use Rattle.defect_search.proofs.BlockSizes.{slab_of-far, index_count_none, no_old}
 use Rattle.defect_search.proofs.sizes.is_old_at.Goals as goal
 
@@ -13,4 +12,4 @@ returns-then-granule-ge65536 c =
 pub returns : goal.returns
 returns c =
     let t = tables_of c.args.words.now in
-    c.is_old_in.ensures ∙ ap (λ s. is_old t s c.args.at) (c.slab_of.ensures c.args.words.now c.requires.reads)
+    c.is_old_in.ensures ∙ ap (λ s. is_old (t.header s) s c.args.at) (c.slab_of.ensures c.args.words.now c.requires.reads)

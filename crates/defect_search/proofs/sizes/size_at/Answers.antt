@@ -1,8 +1,5 @@
 use Rattle.std.proofs.Common.{◌≡◌, ◌<◌, ◌≤◌, ◌/◌, ◌∙◌, true≢false, sym, ap, ⊎_elim}
-use Rattle.std.proofs.lemmas.Bool.{cases_lt}
-use Rattle.image_tables.specs.Tables.{tables_of}
-use Rattle.heap_check.specs.Heap.{size_by, entry_at, entry_old}
-use Rattle.image_reading.proofs.Holding.{large_far}
+use Rattle.defect_search.proofs.Common.{cases_lt, tables_of, size_by, entry_at, entry_old, large_far}
 use Rattle.defect_search.proofs.BlockSizes.{size_at-large, size_at-entry, size_at-other}
 use Rattle.defect_search.proofs.sizes.size_at.Goals as goal
 

@@ -10,5 +10,5 @@ pub returns : goal.returns
 returns c =
     let t = tables_of c.args.words.now in
     let start = c.slab_of.ensures c.args.words.now c.requires.reads in
-    let class = subst (λ s. cond c.args.of_old (t.old s) (t.class s) ≡ c.class_by-class.result) start c.class_by-class.ensures.class in
+    let class = subst (λ s. cond c.args.of_old (t.header s).old (t.header s).class ≡ c.class_by-class.result) start c.class_by-class.ensures.class in
     c.from-2.ensures ∙ c.size_of_class-2.ensures.size ∙ sym (size_by-class t c.args.at c.class_by-class.result c.args.of_old class)

@@ -1,10 +1,6 @@
 use Rattle.std.proofs.Common.{◌≡◌, ◌↔◌, true, ◌∙◌, ◌<◌, sym, subst, arith}
-use Rattle.size_classes.specs.Classes.{class_capacity}
-use Rattle.heap_model.specs.Machine.{slab_block}
-use Rattle.image_tables.specs.Tables.{tables_of}
-use Rattle.image_defects.specs.Blocks.{IsRooted}
+use Rattle.defect_search.proofs.Common.{class_capacity, slab_block, tables_of, IsRooted, refuted}
 use Rattle.defect_search.specs.Stray.{number_in}
-use Rattle.image_reading.proofs.Holding.{refuted}
 use Rattle.defect_search.proofs.Strays.{clear_bit, set_bit}
 use Rattle.defect_search.proofs.stray.is_stray_bit.Goals as goal
 

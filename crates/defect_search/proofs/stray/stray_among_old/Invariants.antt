@@ -1,5 +1,4 @@
-use Rattle.image_tables.specs.Tables.{tables_of}
-use Rattle.image_defects.specs.Least.{IsLeastOf}
+use Rattle.defect_search.proofs.Common.{tables_of, IsLeastOf}
 use Rattle.defect_search.specs.Stray.{IsStrayOld}
 use Rattle.defect_search.proofs.stray.stray_among_old.Given as goal
 

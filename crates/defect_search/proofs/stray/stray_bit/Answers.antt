@@ -1,6 +1,5 @@
 use Rattle.std.proofs.Common.{◌≡◌, length, subst, arith}
-use Rattle.image_tables.specs.Tables.{tables_of}
-use Rattle.image_defects.specs.Least.{IsLeastOf}
+use Rattle.defect_search.proofs.Common.{tables_of, IsLeastOf}
 use Rattle.defect_search.proofs.Strays.{IsStrayAmong, among_more, among_all}
 use Rattle.defect_search.proofs.stray.stray_bit.Goals as goal
 

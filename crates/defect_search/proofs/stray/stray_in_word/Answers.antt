@@ -1,6 +1,5 @@
 use Rattle.std.proofs.Common.{◌∙◌, ap, arith}
-use Rattle.heap_model.specs.Machine.{slab_block}
-use Rattle.image_tables.specs.Tables.{tables_of}
+use Rattle.defect_search.proofs.Common.{slab_block, tables_of}
 use Rattle.defect_search.proofs.Strays.{clear_word, first_in_word, none_in_word}
 use Rattle.defect_search.proofs.stray.stray_in_word.Goals as goal
 

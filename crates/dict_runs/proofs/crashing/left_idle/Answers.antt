@@ -1,7 +1,5 @@
 use Rattle.std.proofs.Common.{◌≡◌, List, ℕ, [], sym, ap, ◌∙◌, subst}
-use Rattle.pmem_lines.specs.Pmem.{PmemState, words_of}
-use Rattle.attach_dict.specs.Dict.{IsSteadyDict}
-use Rattle.arena_core.specs.Arena.{ArenaState}
+use Rattle.dict_runs.proofs.Common.{PmemState, words_of, IsSteadyDict, ArenaState}
 use Rattle.arena_core.proofs.Callers.{exact_steady}
 use Rattle.trace_crashes.proofs.Crashes.{all_words}
 use Rattle.dict_runs.proofs.Runs.{empty_dict}

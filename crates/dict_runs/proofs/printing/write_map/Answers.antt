@@ -1,6 +1,5 @@
 use Rattle.std.proofs.Common.{◌≡◌, ◌++◌, ℕ, List, [], length, ap, sym, ◌∙◌, append_assoc, arith}
-use Rattle.std.proofs.lemmas.List.{append-nil}
-use Rattle.dict_text.specs.Report.{size_line, pair_line}
+use Rattle.dict_runs.proofs.Common.{append-nil, size_line, pair_line}
 use Rattle.dict_runs.proofs.Listing.{listed_none, listed_more, some_left, saturated, narrow_key}
 use Rattle.dict_runs.proofs.printing.write_map.Goals as goal
 

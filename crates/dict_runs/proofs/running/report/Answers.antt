@@ -1,10 +1,6 @@
 use Rattle.std.proofs.Common.{◌≡◌, ◌+◌, List, length, take, get_or, ap, sym, subst, arith}
-use Rattle.std.specs.Bool.{⊤}
-use Rattle.std.proofs.lemmas.List.{take_all, length-map}
-use Rattle.trace_runs.specs.Arenas.{bounds_for}
+use Rattle.dict_runs.proofs.Common.{⊤, take_all, length-map, bounds_for, DictCall, call_of, calls_of}
 use Rattle.dict_text.specs.declared.script.ScriptCall.TheVariants as said
-use Rattle.dict_text.specs.Script.{DictCall}
-use Rattle.dict_text.specs.Calls.{call_of, calls_of}
 use Rattle.dict_runs.specs.Making.{came_to}
 use Rattle.dict_runs.specs.Scripts.{header_of}
 use Rattle.dict_runs.specs.Turns.{HasMade}

@@ -1,7 +1,6 @@
 use Rattle.std.proofs.Common.{◌≡◌, ◌+◌, ◌<◌, ◌/◌, ◌^◌, ◌∙◌, arith, rules, ap, get_or, subst, sym}
 use Rattle.pmem_lines.specs.Words.{word_at, put_word}
-use Rattle.pool_layout.specs.declared.layout.Layout.{Layout}
-use Rattle.pool_layout.specs.Places.{root_word}
+use Rattle.image_raise.proofs.Common.{Layout, root_word}
 use Rattle.image_raise.specs.Rise.{rise, raised_at}
 use Rattle.image_raise.specs.Front.{HasRaisedRoots}
 use Rattle.image_raise.proofs.Rows.{more_roots, root_high}

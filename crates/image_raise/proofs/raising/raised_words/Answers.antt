@@ -1,9 +1,5 @@
 use Rattle.std.proofs.Common.{◌≡◌, ◌∙◌, ◌≤◌, ◌/◌, List, ℕ, length, ap, arith, subst, sym}
-use Rattle.pmem_lines.specs.Words.{AreZeros}
-use Rattle.pool_layout.specs.Places.{heap_word}
-use Rattle.pool_layout.specs.Header.{version_in, IsHeader}
-use Rattle.pool_layout.proofs.Headers.{header_fits}
-use Rattle.heap_check.specs.Image.{IsExactImage}
+use Rattle.image_raise.proofs.Common.{AreZeros, heap_word, version_in, IsHeader, header_fits, IsExactImage}
 use Rattle.heap_check.proofs.Sizes.{sizes_of, heap_inside}
 use Rattle.image_raise.specs.Rise.{raised_header, IsRaisedImage}
 use Rattle.image_raise.proofs.Raised.{raised_valid, with_heap, raised_by, header_now}

@@ -4,4 +4,4 @@ use Rattle.heap_model.specs.Machine.{slab_block}
 use Rattle.image_reading.proofs.held.has_old.Given as goal
 
 abbrev pub invariant-loop-place : goal.invariant-loop-place
-invariant-loop-place l = (k : ℕ) → k < l.place → (tables_of l.words).live l.fn.slab.start k ≡ true → l.at ≢ (slab_block l.fn.slab.start l.old ((tables_of l.words).number l.fn.slab.start k)).at
+invariant-loop-place l = (k : ℕ) → k < l.place → ((tables_of l.words).header l.fn.slab.start).live k ≡ true → l.at ≢ (slab_block l.fn.slab.start l.old (((tables_of l.words).header l.fn.slab.start).number k)).at

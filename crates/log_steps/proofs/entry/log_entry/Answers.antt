@@ -3,7 +3,7 @@ use Rattle.pmem_lines.specs.Pmem.{words_of}
 use Rattle.pmem_lines.proofs.Steps.{step_by, step_then}
 use Rattle.image_tables.proofs.Stores.{granules_in-off_log}
 use Rattle.book_log.specs.Book.{append_events}
-use Rattle.log_gc.specs.Room.{room_events}
+use Rattle.log_room.specs.Room.{room_events}
 use Rattle.log_steps.specs.Events.{log_events}
 use Rattle.log_steps.specs.Log.{IsLogged, IsLoggedOrNot}
 use Rattle.log_steps.proofs.Entries.{events_of_entry, off_log, room_once, logged_then, made_or_not, logged_or_not}

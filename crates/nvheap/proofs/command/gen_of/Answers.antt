@@ -1,6 +1,5 @@
 use Rattle.std.proofs.Common.{◌≡◌, ◌∷◌, [], arith}
-use Rattle.std.specs.Prelude.{decimal}
-use Rattle.std.proofs.lemmas.Fmt.{decimal_injective}
+use Rattle.nvheap.proofs.Common.{decimal, decimal_injective}
 use Rattle.nvheap.proofs.Table.{no_gen}
 use Rattle.nvheap.proofs.command.gen_of.Goals as goal
 

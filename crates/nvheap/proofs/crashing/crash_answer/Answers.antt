@@ -1,6 +1,5 @@
 use Rattle.std.proofs.Common.{arith, refl}
-use Rattle.trace_text.specs.declared.call.Refusal.TheVariants.{NoArena, NoEvent}
-use Rattle.trace_text.specs.Grammar.{pool_of, IsRefusedLine}
+use Rattle.nvheap.proofs.Common.{NoArena, NoEvent, pool_of, IsRefusedLine}
 use Rattle.trace_crashes.specs.Crash.{left_of}
 use Rattle.nvheap.specs.declared.cause.Cause.TheVariants.{Text}
 use Rattle.nvheap.specs.Crashing.{crashing}

@@ -1,10 +1,5 @@
 use Rattle.std.proofs.Common.{arith, subst, sym, ap, ◌∙◌, ◌≡◌, ℕ, List, Option, length}
-use Rattle.pmem_lines.specs.Pmem.{PmemState, words_of, fresh}
-use Rattle.heap_check.specs.Image.{IsSoundImage}
-use Rattle.image_defects.proofs.Faultless.{faultless_of}
-use Rattle.image_defects.proofs.Order.{no_defect}
-use Rattle.recover.specs.Recovered.{HasVersionRoom, IsRecovered}
-use Rattle.recover.proofs.Recoveries.{recovered_device}
+use Rattle.nvheap.proofs.Common.{PmemState, words_of, fresh, IsSoundImage, faultless_of, no_defect, HasVersionRoom, IsRecovered, recovered_device}
 use Rattle.nvheap.specs.Outside.{put_device}
 use Rattle.nvheap.proofs.Devices.{few_words}
 use Rattle.nvheap.proofs.Recoveries.{version_room}

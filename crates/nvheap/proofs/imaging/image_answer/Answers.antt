@@ -1,7 +1,5 @@
 use Rattle.std.proofs.Common.{◌∙◌}
-use Rattle.std.proofs.lemmas.List.{length-map}
-use Rattle.shared_pool.specs.Rows.{each_of}
-use Rattle.trace_text.specs.Grammar.{pool_of, IsRefusedLine}
+use Rattle.nvheap.proofs.Common.{length-map, each_of, pool_of, IsRefusedLine}
 use Rattle.nvheap.specs.Imaging.{imaging}
 use Rattle.nvheap.proofs.Answering.{refused_line}
 use Rattle.nvheap.proofs.imaging.image_answer.Goals as goal

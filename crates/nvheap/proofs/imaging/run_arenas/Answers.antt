@@ -1,8 +1,5 @@
 use Rattle.std.proofs.Common.{◌≡◌, ◌∙◌, ◌∷◌, ◌++◌, [], List, ℕ, ap, sym, subst, length, drop, map, arith, length-append}
-use Rattle.std.proofs.lemmas.List.{length-take-le}
-use Rattle.pmem_lines.specs.Pmem.{words_of}
-use Rattle.pool_layout.specs.Bytes.{bytes_of_words}
-use Rattle.trace_text.specs.Grammar.{pool_of}
+use Rattle.nvheap.proofs.Common.{length-take-le, words_of, bytes_of_words, pool_of}
 use Rattle.nvheap.specs.Imaging.{AreRunThrough, images_of}
 use Rattle.nvheap.proofs.Bytes.{all_words}
 use Rattle.nvheap.proofs.Devices.{few_words, AreRunThrough-pushed, images_of-more}

@@ -1,6 +1,5 @@
 use Rattle.std.proofs.Common.{◌≡◌, length}
-use Rattle.shared_pool.specs.Rows.{each_of}
-use Rattle.trace_text.specs.Grammar.{pool_of}
+use Rattle.nvheap.proofs.Common.{each_of, pool_of}
 use Rattle.nvheap.specs.Imaging.{AreRunThrough, images_of}
 use Rattle.nvheap.proofs.imaging.run_arenas.Given as goal
 

@@ -1,13 +1,7 @@
 use Rattle.std.proofs.Common.{◌≡◌, ◌*◌, ◌-◌, ◌+◌, ◌<◌, ◌++◌, ◌∙◌, List, ℕ, Option, length, ap, sym, subst, arith, append_assoc}
-use Rattle.pmem_lines.specs.Pmem.{PmemState, words_of, fresh}
+use Rattle.nvheap.proofs.Common.{PmemState, words_of, fresh, layout_of, part_of, IfDefect, IsSoundImage, HasVersionRoom, IsRecovered, IsOwnDefect, heap_lines, heaps_from}
 use Rattle.pool_layout.specs.declared.layout.Layout.{Layout}
-use Rattle.pool_layout.specs.Layout.{layout_of}
-use Rattle.pool_layout.specs.Image.{part_of, IfDefect}
 use Rattle.pool_layout.proofs.Images.{length-part_of}
-use Rattle.heap_check.specs.Image.{IsSoundImage}
-use Rattle.recover.specs.Recovered.{HasVersionRoom, IsRecovered}
-use Rattle.image_runs.specs.Checks.{IsOwnDefect}
-use Rattle.image_runs.specs.Recoveries.{heap_lines, heaps_from}
 use Rattle.nvheap.specs.Recovering.{HasRecovered}
 use Rattle.nvheap.proofs.Recoveries.{few_granules, pool_room, heaps_more, recovered_more, unsound_here, unsound_later}
 use Rattle.nvheap.proofs.recovering.+recover_from.Goals as goal

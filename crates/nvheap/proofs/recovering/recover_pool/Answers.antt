@@ -1,6 +1,5 @@
 use Rattle.std.proofs.Common.{◌≡◌, ◌-◌, ◌∙◌, ap, arith}
-use Rattle.pmem_lines.specs.Pmem.{risen}
-use Rattle.image_runs.proofs.Faults.{image_of}
+use Rattle.nvheap.proofs.Common.{risen, image_of}
 use Rattle.nvheap.proofs.Recoveries.{answers_by, unsound_of_pool}
 use Rattle.nvheap.proofs.recovering.recover_pool.Goals as goal
 

@@ -1,6 +1,5 @@
 use Rattle.std.proofs.Common.{◌∙◌, ap}
-use Rattle.shared_pool.specs.Rows.{each_of}
-use Rattle.trace_text.specs.Grammar.{pool_of, IsRefusedLine}
+use Rattle.nvheap.proofs.Common.{each_of, pool_of, IsRefusedLine}
 use Rattle.nvheap.specs.Outside.{put_devices}
 use Rattle.nvheap.specs.Meaning.{Places}
 use Rattle.nvheap.specs.Replaying.{replaying}

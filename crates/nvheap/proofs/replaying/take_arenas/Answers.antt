@@ -1,9 +1,6 @@
 use Rattle.std.proofs.Common.{◌≡◌, ◌∙◌, ◌+◌, ◌∷◌, [], ap, sym, subst, length, List, arith, length-append}
 use Rattle.arena_core.specs.Arena.{ArenaState}
-use Rattle.trace_text.specs.Grammar.{pool_of}
-use Rattle.trace_runs.specs.Arenas.{header_for, IsNewArena}
-use Rattle.trace_workers.specs.Reports.{AreNew}
-use Rattle.trace_runs.proofs.Each.{EachFrom-more}
+use Rattle.nvheap.proofs.Common.{pool_of, header_for, IsNewArena, AreNew, EachFrom-more}
 use Rattle.nvheap.proofs.replaying.take_arenas.Goals as goal
 
 pub loop-number-preserved : goal.loop-number-preserved

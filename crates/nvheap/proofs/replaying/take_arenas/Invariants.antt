@@ -1,6 +1,5 @@
 use Rattle.std.proofs.Common.{◌≡◌, length}
-use Rattle.trace_text.specs.Grammar.{pool_of}
-use Rattle.trace_workers.specs.Reports.{AreNew}
+use Rattle.nvheap.proofs.Common.{pool_of, AreNew}
 use Rattle.nvheap.proofs.replaying.take_arenas.Given as goal
 
 abbrev pub invariant-loop-number : goal.invariant-loop-number

@@ -1,7 +1,5 @@
 use Rattle.std.proofs.Common.{refl}
-use Rattle.trace_text.specs.declared.call.Refusal.TheVariants.{NoEvent}
-use Rattle.dict_text.specs.Script.{IsRefusedScript}
-use Rattle.dict_text.specs.Calls.{calls_of}
+use Rattle.nvheap.proofs.Common.{NoEvent, IsRefusedScript, calls_of}
 use Rattle.dict_runs.specs.Watching.{left_of}
 use Rattle.nvheap.specs.declared.cause.Cause.TheVariants.{Text}
 use Rattle.nvheap.specs.ScriptCrashing.{script_crashing}

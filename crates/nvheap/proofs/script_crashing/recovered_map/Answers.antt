@@ -1,10 +1,5 @@
 use Rattle.std.proofs.Common.{arith, subst, sym, ap, ◌∙◌, ℕ, List, Option, length}
-use Rattle.pmem_lines.specs.Pmem.{PmemState, words_of, fresh}
-use Rattle.heap_check.specs.Image.{IsSoundImage}
-use Rattle.recovery_steps.proofs.Arenas.{sound_of}
-use Rattle.recover.specs.Recovered.{HasVersionRoom, IsRecovered}
-use Rattle.recover.proofs.Recoveries.{recovered_device}
-use Rattle.attach_dict.specs.Dict.{IsSteadyDict}
+use Rattle.nvheap.proofs.Common.{PmemState, words_of, fresh, IsSoundImage, sound_of, HasVersionRoom, IsRecovered, recovered_device, IsSteadyDict}
 use Rattle.dict_runs.specs.Watching.{HasSteadyDict}
 use Rattle.nvheap.specs.Outside.{put_device}
 use Rattle.nvheap.proofs.Devices.{few_words}

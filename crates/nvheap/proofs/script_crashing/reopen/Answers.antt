@@ -1,9 +1,5 @@
 use Rattle.std.proofs.Common.{subst}
-use Rattle.pmem_lines.specs.Pmem.{words_of}
-use Rattle.image_defects.proofs.Faultless.{faultless_of}
-use Rattle.image_defects.proofs.Order.{no_defect}
-use Rattle.recovery_steps.proofs.Arenas.{sound_of}
-use Rattle.attach_dict.specs.Dict.{IsDict, IsNotDict}
+use Rattle.nvheap.proofs.Common.{words_of, faultless_of, no_defect, sound_of, IsDict, IsNotDict}
 use Rattle.attach_dict.proofs.Counting.{law_of_dicts}
 use Rattle.nvheap.proofs.Dictionaries.{recovered_dict}
 use Rattle.nvheap.proofs.script_crashing.reopen.Goals as goal

@@ -1,8 +1,5 @@
 use Rattle.std.proofs.Common.{List, ℕ, ◌++◌, ◌∙◌, ap, arith}
-use Rattle.pmem_lines.specs.Pmem.{PmemState}
-use Rattle.pool_layout.proofs.Layouts.{layout_rules}
-use Rattle.dict_text.specs.Script.{IsRefusedScript}
-use Rattle.dict_text.specs.Calls.{calls_of}
+use Rattle.nvheap.proofs.Common.{PmemState, layout_rules, IsRefusedScript, calls_of}
 use Rattle.dict_text.specs.Report.{dict_run_text}
 use Rattle.dict_runs.specs.Scripts.{replies_of}
 use Rattle.nvheap.specs.Outside.{put_device}

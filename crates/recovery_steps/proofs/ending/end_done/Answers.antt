@@ -1,8 +1,5 @@
 use Rattle.std.proofs.Common.{arith}
-use Rattle.pmem_lines.specs.Pmem.{words_of}
-use Rattle.pmem_lines.proofs.Steps.{step_wider}
-use Rattle.heap_check.specs.Sound.{IsDoneSlab}
-use Rattle.transition_steps.specs.Transitions.{end_events}
+use Rattle.recovery_steps.proofs.Common.{words_of, step_wider, IsDoneSlab, end_events}
 use Rattle.recovery_steps.proofs.Arenas.{sound_of}
 use Rattle.recovery_steps.proofs.Books.{book_off_header}
 use Rattle.recovery_steps.proofs.Chains.{does_one, does_none}

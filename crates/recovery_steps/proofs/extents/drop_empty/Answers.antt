@@ -1,6 +1,5 @@
-use Rattle.pmem_lines.specs.Pmem.{words_of}
-use Rattle.log_gc.specs.Room.{most_events}
-use Rattle.heap_check.specs.Sound.{IsEmptySlab}
+use Rattle.recovery_steps.proofs.Common.{words_of, IsEmptySlab}
+use Rattle.log_room.specs.Room.{most_events}
 use Rattle.extent_steps.specs.Slabs.{drop_events}
 use Rattle.recovery_steps.proofs.Chains.{drop_step, does_one, does_none}
 use Rattle.recovery_steps.proofs.Leaving.{rids_empty, rids_self}

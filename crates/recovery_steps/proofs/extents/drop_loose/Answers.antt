@@ -1,8 +1,5 @@
-use Rattle.pmem_lines.specs.Pmem.{words_of}
-use Rattle.pool_layout.specs.Layout.{layout_of}
-use Rattle.pool_layout.specs.Header.{version_in}
+use Rattle.recovery_steps.proofs.Common.{words_of, layout_of, version_in, IsLooseLarge}
 use Rattle.book_log.specs.declared.entry.LogEntry.TheVariants.{Tomb}
-use Rattle.heap_check.specs.Sound.{IsLooseLarge}
 use Rattle.log_steps.specs.Events.{log_events}
 use Rattle.recovery_steps.proofs.Chains.{drop_step, does_one, does_none}
 use Rattle.recovery_steps.proofs.Leaving.{rids_large, rids_self}

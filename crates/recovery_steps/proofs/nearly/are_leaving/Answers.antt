@@ -1,7 +1,5 @@
 use Rattle.std.proofs.Common.{refl, sym, ◌∙◌, arith}
-use Rattle.std.proofs.lemmas.Bool.{false≢true}
-use Rattle.image_tables.proofs.Tables.{slab_fields}
-use Rattle.heap_check.proofs.Geometry.{index_count_few}
+use Rattle.recovery_steps.proofs.Common.{false≢true, slab_fields, index_count_few}
 use Rattle.recovery_steps.proofs.Arenas.{slab_at}
 use Rattle.recovery_steps.proofs.nearly.are_leaving.Goals as goal
 

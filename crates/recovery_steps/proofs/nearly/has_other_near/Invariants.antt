@@ -1,6 +1,5 @@
 use Rattle.std.proofs.Common.{◌≢◌, ℕ, ◌<◌}
-use Rattle.image_tables.specs.Tables.{tables_of}
-use Rattle.heap_check.specs.Sound.{IsNearlyDone}
+use Rattle.recovery_steps.proofs.Common.{tables_of, IsNearlyDone}
 use Rattle.recovery_steps.proofs.nearly.has_other_near.Given as goal
 
 abbrev pub invariant-loop-start : goal.invariant-loop-start

@@ -1,6 +1,5 @@
 use Rattle.std.proofs.Common.{sym, ◌∙◌}
-use Rattle.std.proofs.lemmas.Bool.{false≢true}
-use Rattle.image_tables.proofs.Tables.{slab_table, slab_fields}
+use Rattle.recovery_steps.proofs.Common.{false≢true, slab_table, slab_fields}
 use Rattle.recovery_steps.proofs.Arenas.{slab_at}
 use Rattle.recovery_steps.proofs.nearly.is_nearly_done.Goals as goal
 

@@ -1,13 +1,7 @@
 use Rattle.std.proofs.Common.{◌-◌, ap, subst, ◌∙◌, arith}
-use Rattle.pmem_lines.specs.Pmem.{words_of}
-use Rattle.pool_layout.specs.Layout.{layout_of}
-use Rattle.pool_layout.specs.Header.{version_in}
-use Rattle.pool_layout.proofs.Layouts.{layout_rules}
-use Rattle.heap_check.proofs.Sizes.{version_by_bounds}
-use Rattle.settle_steps.specs.Settled.{KeepsHeap}
+use Rattle.recovery_steps.proofs.Common.{words_of, layout_of, version_in, layout_rules, version_by_bounds, KeepsHeap, KeepsHeap-then}
 use Rattle.recovery_steps.specs.Parts.{IsPart}
 use Rattle.recovery_steps.specs.Recovery.{Recovers}
-use Rattle.settle_steps.proofs.Keeping.{KeepsHeap-then}
 use Rattle.recovery_steps.proofs.Chains.{part_after, part_alone, none_taken}
 use Rattle.recovery_steps.proofs.Leaving.{names_same, classes_then}
 use Rattle.recovery_steps.proofs.NearlyDone.{none_besides}

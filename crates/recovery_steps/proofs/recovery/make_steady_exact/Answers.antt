@@ -1,17 +1,11 @@
 use Rattle.std.proofs.Common.{◌≤◌, ◌+◌, ◌-◌, List, ℕ, length, ap, arith}
-use Rattle.pmem_lines.specs.Pmem.{words_of}
-use Rattle.pool_layout.specs.Layout.{layout_of}
-use Rattle.pool_layout.specs.Header.{version_in}
-use Rattle.pool_layout.proofs.Layouts.{layout_rules}
-use Rattle.heap_check.specs.Image.{IsSteadyImage}
-use Rattle.settle_steps.specs.Settled.{KeepsHeap}
+use Rattle.recovery_steps.proofs.Common.{words_of, layout_of, version_in, layout_rules, IsSteadyImage, KeepsHeap, step_end}
 use Rattle.recovery_steps.specs.Parts.{IsPart, IsLeft}
 use Rattle.recovery_steps.specs.Recovery.{DropsLarge}
-use Rattle.pmem_lines.proofs.Steps.{step_end}
 use Rattle.recovery_steps.proofs.Chains.{adds_few, all_parts, first_parts}
 use Rattle.defect_search.proofs.NoneLoose.{exact_by_none}
 use Rattle.recovery_steps.proofs.Arenas.{sound_of}
-use Rattle.recovery_steps.proofs.Leaving.{no_large_still, no_empty_still, calm_still, left_version, left_then, left_all, names_left}
+use Rattle.recovery_steps.proofs.Leaving.{no_large_still, no_empty_still, none_morphing_still, left_version, left_then, left_all, names_left}
 use Rattle.recovery_steps.proofs.recovery.make_steady_exact.Goals as goal
 
 -- how many events two entries have in an image to which parts of recovery led
@@ -71,5 +65,5 @@ returns-clause-exact g c =
     exact_by_none words (sound_of words shut.image) shut.closed
     (no_large_still done.loose (no_large_still empty.loose loose.none))
     (no_empty_still done.loose empty.none)
-    (calm_still done.loose (calm_still empty.loose (calm_still loose.loose c.finish_morphing.ensures.left.none)))
+    (none_morphing_still done.loose (none_morphing_still empty.loose (none_morphing_still loose.loose c.finish_morphing.ensures.left.none)))
     done.none

@@ -1,9 +1,5 @@
 use Rattle.std.proofs.Common.{ℕ, List, subst, arith}
-use Rattle.pmem_lines.specs.Pmem.{words_of}
-use Rattle.pmem_lines.proofs.Steps.{step_wider}
-use Rattle.image_tables.specs.Tables.{tables_of}
-use Rattle.image_defects.specs.Least.{HasNone}
-use Rattle.transition_steps.specs.Transitions.{end_events}
+use Rattle.recovery_steps.proofs.Common.{words_of, step_wider, tables_of, HasNone, end_events}
 use Rattle.recovery_steps.specs.Nearly.{IsDoneBesides}
 use Rattle.recovery_steps.proofs.Books.{book_off_header}
 use Rattle.recovery_steps.proofs.Chains.{takes_none, does_one, leaves_none}

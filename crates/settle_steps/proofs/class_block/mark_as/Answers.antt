@@ -1,9 +1,5 @@
 use Rattle.std.proofs.Common.{◌*◌}
-use Rattle.pmem_lines.specs.Pmem.{words_of}
-use Rattle.pmem_lines.proofs.States.{then_step}
-use Rattle.pmem_lines.proofs.Steps.{step_of}
-use Rattle.durable_steps.proofs.Steps.{IsQuiet-word, word_crash}
-use Rattle.attach_steps.specs.Steps.{bit_word, bit_put}
+use Rattle.settle_steps.proofs.Common.{words_of, then_step, step_of, IsQuiet-word, word_crash, bit_word, bit_put}
 use Rattle.settle_steps.proofs.class_block.mark_as.Goals as goal
 
 pub returns-clause-step : goal.returns-clause-step

@@ -1,8 +1,5 @@
 use Rattle.std.proofs.Common.{◌≡◌, ◌*◌, ◌/◌, subst, ◌∙◌, arith}
-use Rattle.pmem_lines.specs.Words.{put_word}
-use Rattle.pmem_lines.specs.Pmem.{words_of}
-use Rattle.slab_header.specs.Steps.{PutsBitOver}
-use Rattle.attach_steps.specs.Steps.{bit_word, bit_put}
+use Rattle.settle_steps.proofs.Common.{put_word, words_of, PutsBitOver, bit_word, bit_put}
 use Rattle.settle_steps.specs.ClassBlocks.{is_named}
 use Rattle.settle_steps.proofs.ClassImages.{number_low, root_there, reads_named, class_block_settled, class_block_step}
 use Rattle.settle_steps.proofs.class_block.settle_class_block.Given as given

@@ -1,6 +1,5 @@
 use Rattle.std.proofs.Common.{sym, subst}
-use Rattle.pmem_lines.specs.Pmem.{words_of}
-use Rattle.pmem_lines.specs.Steps.{IsQuietStep}
+use Rattle.settle_steps.proofs.Common.{words_of, IsQuietStep}
 use Rattle.settle_steps.specs.Moves.{release_events, ReleasesOrNot}
 use Rattle.settle_steps.proofs.move_entry.release.Goals as goal
 

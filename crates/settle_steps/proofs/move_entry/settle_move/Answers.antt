@@ -1,9 +1,5 @@
 use Rattle.std.proofs.Common.{◌≡◌, ℕ, ◌*◌, List, ap, subst, ◌∙◌}
-use Rattle.pmem_lines.specs.Pmem.{words_of}
-use Rattle.pmem_lines.specs.Steps.{IsQuietStep}
-use Rattle.durable_steps.specs.Steps.{word_events}
-use Rattle.pool_layout.specs.Places.{wal_word}
-use Rattle.attach_wal.specs.Wal.{Closes, ClosesOrNot}
+use Rattle.settle_steps.proofs.Common.{words_of, IsQuietStep, word_events, wal_word, Closes, ClosesOrNot}
 use Rattle.settle_steps.specs.Moves.{both_named, release_events, released, ReleasesOrNot}
 use Rattle.settle_steps.proofs.MoveImages.{from_place, to_place, reads_both, move_settled, move_step}
 use Rattle.settle_steps.proofs.move_entry.settle_move.Given as given

@@ -1,13 +1,6 @@
 use Rattle.std.proofs.Common.{◌≡◌, ◌*◌, ◌/◌, List, [], ◌∷◌, ◌++◌, subst, arith}
-use Rattle.pmem_lines.specs.declared.event.Event.{Event}
+use Rattle.settle_steps.proofs.Common.{Event, words_of, Appends, then_step, step_of, IsQuiet-word, word_crash, index_word, word_of_index, put_events}
 use Rattle.pmem_lines.specs.declared.event.Event.TheVariants.{Fence}
-use Rattle.pmem_lines.specs.Pmem.{words_of, Appends}
-use Rattle.pmem_lines.proofs.States.{then_step}
-use Rattle.pmem_lines.proofs.Steps.{step_of}
-use Rattle.durable_steps.proofs.Steps.{IsQuiet-word, word_crash}
-use Rattle.image_tables.specs.Tables.{index_word}
-use Rattle.slab_header.specs.Index.{word_of_index}
-use Rattle.slab_header.specs.Steps.{put_events}
 use Rattle.settle_steps.proofs.old_block.mark_live.Goals as goal
 
 pub returns-clause-step : goal.returns-clause-step

@@ -1,10 +1,5 @@
 use Rattle.std.proofs.Common.{◌≡◌, ◌*◌, ◌/◌, subst, ◌∙◌, arith}
-use Rattle.pmem_lines.specs.Words.{put_word}
-use Rattle.pmem_lines.specs.Pmem.{words_of}
-use Rattle.image_tables.specs.Tables.{index_word}
-use Rattle.slab_header.specs.declared.index.IndexEntry.{IndexEntry}
-use Rattle.slab_header.specs.Index.{word_of_index}
-use Rattle.slab_header.specs.Steps.{PutsIndexOver}
+use Rattle.settle_steps.proofs.Common.{put_word, words_of, index_word, IndexEntry, word_of_index, PutsIndexOver}
 use Rattle.settle_steps.specs.ClassBlocks.{is_named}
 use Rattle.settle_steps.specs.OldBlocks.{entry_put, live_put}
 use Rattle.settle_steps.proofs.OldImages.{place_low, old_root_there, reads_named_old, reads_number, old_block_settled, old_block_step}

@@ -1,7 +1,5 @@
 use Rattle.std.proofs.Common.{◌≡◌, ℕ, Bool, List, sym, subst}
-use Rattle.pmem_lines.specs.Pmem.{words_of}
-use Rattle.image_tables.specs.declared.entry.WalEntry.{WalEntry}
-use Rattle.image_tables.specs.declared.entry.WalEntry.TheVariants.{Place}
+use Rattle.settle_steps.proofs.Common.{words_of, WalEntry, Place}
 use Rattle.settle_steps.specs.ClassBlocks.{IsOpenForBlock, IsClassBlockSettled}
 use Rattle.settle_steps.specs.Entries.{IsEntrySettled}
 use Rattle.settle_steps.proofs.ClassEntries.{flag_is, block_behind, slab_here, block_open}

@@ -1,8 +1,5 @@
-use Rattle.arena_core.specs.Arena.{ArenaState}
+use Rattle.shared_pool.proofs.Common.{ArenaState, padded_value, Entry, vec_len, vec_capacity}
 use Rattle.std.proofs.Common.{rules, ◌≡◌, ◌<◌, ◌++◌, [], ◌∷◌, ◌∙◌, ap, sym, length, List}
-use Rattle.crossbeam_utils.specs.Padded.{padded_value}
-use Rattle.heap_model.specs.declared.call.Entry.{Entry}
-use Rattle.std.specs.Vec.{vec_len, vec_capacity}
 use Rattle.std.proofs.lemmas.List.{length-map}
 use Rattle.shared_pool.specs.Rows.{each_of, behead}
 use Rattle.shared_pool.proofs.Closings.{AllEnded, head_back, fits_front, one_closed, all_closed, ended_all}

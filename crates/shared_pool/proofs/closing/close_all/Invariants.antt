@@ -1,8 +1,5 @@
-use Rattle.arena_core.specs.Arena.{ArenaState}
+use Rattle.shared_pool.proofs.Common.{ArenaState, vec_len, vec_capacity, padded_value, Entry}
 use Rattle.std.proofs.Common.{◌≡◌, ◌<◌, ◌≤◌, ◌+◌, ◌++◌, map, length, List}
-use Rattle.std.specs.Vec.{vec_len, vec_capacity}
-use Rattle.crossbeam_utils.specs.Padded.{padded_value}
-use Rattle.heap_model.specs.declared.call.Entry.{Entry}
 use Rattle.shared_pool.specs.Begun.{AllNew}
 use Rattle.shared_pool.specs.Closed.{AllFitLocks, HasAll}
 use Rattle.shared_pool.specs.Rows.{each_of, AllRoom}

@@ -1,13 +1,7 @@
 use Rattle.std.proofs.Common.{rules, ◌≡◌, ℕ, ◌<◌, ◌++◌, ◌∙◌, ap, sym, subst, length, List}
-use Rattle.arena_lock.specs.Known.{Known, AllAt, Covers, AllFit}
-use Rattle.atomic_table.specs.Seated.{TableId}
-use Rattle.heap_model.specs.declared.call.Entry.{Entry}
-use Rattle.arena_lock.specs.declared.opening.Opening.{Opening}
-use Rattle.heap_model.specs.Journal.{AllBelow}
+use Rattle.shared_pool.proofs.Common.{Known, AllAt, Covers, AllFit, TableId, Entry, Opening, AllBelow, IsBehind, ArenaState}
 use Rattle.shared_pool.specs.Closed.{AllAgree}
-use Rattle.arena_journal.specs.Journals.{IsBehind}
 use Rattle.shared_pool.specs.Rows.{heads, AllLong, HeadsBelong}
-use Rattle.arena_core.specs.Arena.{ArenaState}
 use Rattle.shared_pool.proofs.Closings.{long_of, at_heads, some_heads, covers_heads, agree_heads, below_since}
 use Rattle.shared_pool.proofs.FreshPasses.{no_items}
 use Rattle.shared_pool.proofs.closing.close_first.Goals as goal

@@ -1,6 +1,5 @@
 use Rattle.std.proofs.Common.{◌≡◌, ◌≤◌, ◌+◌, ℕ, length, List}
-use Rattle.arena_lock.specs.Known.{Lock}
-use Rattle.std.specs.Vec.{vec_len, vec_capacity}
+use Rattle.shared_pool.proofs.Common.{Lock, vec_len, vec_capacity}
 use Rattle.shared_pool.specs.Passes.{fresh_passes}
 use Rattle.shared_pool.specs.Rows.{each_of, AllRoom, lines}
 use Rattle.shared_pool.proofs.dealing.deal_out.Given as goal

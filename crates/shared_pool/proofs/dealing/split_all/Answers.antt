@@ -1,6 +1,5 @@
 use Rattle.std.proofs.Common.{rules, ◌≡◌, ◌≤◌, ◌<◌, ◌+◌, ◌∷◌, ◌∙◌, refl, sym, length}
-use Rattle.std.specs.Vec.{vec_len, vec_capacity}
-use Rattle.crossbeam_utils.specs.Padded.{padded_value}
+use Rattle.shared_pool.proofs.Common.{vec_len, vec_capacity, padded_value}
 use Rattle.shared_pool.specs.Rows.{each_of}
 use Rattle.shared_pool.proofs.Closings.{head_back}
 use Rattle.shared_pool.proofs.FreshPasses.{new_pushed}

@@ -1,6 +1,5 @@
 use Rattle.std.proofs.Common.{◌≡◌, ◌≤◌, ◌+◌, ◌++◌, length}
-use Rattle.std.specs.Vec.{vec_len, vec_capacity}
-use Rattle.crossbeam_utils.specs.Padded.{padded_value}
+use Rattle.shared_pool.proofs.Common.{vec_len, vec_capacity, padded_value}
 use Rattle.shared_pool.specs.Begun.{AllNew, AllBegun}
 use Rattle.shared_pool.specs.Rows.{each_of, lines}
 use Rattle.shared_pool.proofs.dealing.split_all.Given as goal

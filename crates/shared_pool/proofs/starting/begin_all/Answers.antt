@@ -1,11 +1,5 @@
 use Rattle.std.proofs.Common.{rules, ◌≡◌, ◌≤◌, ◌<◌, ◌+◌, ◌++◌, ◌∷◌, ◌∙◌, ap, sym, List, length}
-use Rattle.arena_lock.specs.Known.{new_seats}
-use Rattle.std.specs.Vec.{vec_len, vec_capacity}
-use Rattle.crossbeam_utils.specs.Padded.{padded_value}
-use Rattle.atomic_table.specs.Seated.{TableId}
-use Rattle.heap_model.specs.declared.call.Entry.{Entry}
-use Rattle.arena_lock.specs.declared.opening.Opening.{Opening}
-use Rattle.arena_journal.specs.Journals.{opened}
+use Rattle.shared_pool.proofs.Common.{new_seats, vec_len, vec_capacity, padded_value, TableId, Entry, Opening, opened}
 use Rattle.shared_pool.specs.Value.{Held}
 use Rattle.shared_pool.specs.Rows.{each_of}
 use Rattle.shared_pool.proofs.Closings.{head_back}

@@ -1,11 +1,5 @@
 use Rattle.std.proofs.Common.{rules, ◌≡◌, ◌≤◌, ◌+◌, ◌++◌, ◌∷◌, [], ◌∙◌, ap, sym, subst, ℕ, List}
-use Rattle.arena_lock.specs.Known.{AllAt, Covers}
-use Rattle.std.specs.Vec.{vec_len, vec_capacity}
-use Rattle.crossbeam_utils.specs.Padded.{padded_value}
-use Rattle.atomic_table.specs.Seated.{TableId}
-use Rattle.heap_model.specs.declared.call.Entry.{Entry}
-use Rattle.arena_lock.specs.Journal.{Since}
-use Rattle.arena_journal.specs.Journals.{opened}
+use Rattle.shared_pool.proofs.Common.{AllAt, Covers, vec_len, vec_capacity, padded_value, TableId, Entry, Since, opened}
 use Rattle.shared_pool.specs.Rows.{each_of}
 use Rattle.shared_pool.proofs.NewLocks.{last_begun, moved, begun_some, begun_at, begun_covers, as_was}
 use Rattle.shared_pool.proofs.starting.undo_all.Goals as goal

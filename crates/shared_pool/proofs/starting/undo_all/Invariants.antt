@@ -1,8 +1,6 @@
 use Rattle.std.proofs.Common.{◌≡◌, ◌≤◌, ◌+◌, ◌++◌, length}
-use Rattle.std.specs.Vec.{vec_len, vec_capacity}
-use Rattle.crossbeam_utils.specs.Padded.{padded_value}
+use Rattle.shared_pool.proofs.Common.{vec_len, vec_capacity, padded_value, opened}
 use Rattle.shared_pool.specs.Begun.{AllBegun}
-use Rattle.arena_journal.specs.Journals.{opened}
 use Rattle.shared_pool.specs.Rows.{each_of}
 use Rattle.shared_pool.proofs.starting.undo_all.Given as goal
 

@@ -1,8 +1,5 @@
 use Rattle.std.proofs.Common.{◌≡◌, refl, ◌+◌, ◌*◌, ◌-◌, ◌^◌, ◌<◌, bit_and, w64, get_or, sym, ap, ◌∙◌, arith}
-use Rattle.std.specs.Int.{trailing_zeros}
-use Rattle.std.proofs.lemmas.Nat.{and_le_l}
-use Rattle.std.proofs.lemmas.Nat.Bits.{bit_at-trailing_zeros}
-use Rattle.bit_words.specs.Numbers.{ones}
+use Rattle.slab_index.proofs.Common.{trailing_zeros, and_le_l, bit_at-trailing_zeros, ones}
 use Rattle.slab_index.proofs.Steps.{word_read}
 use Rattle.slab_index.proofs.Others.{left_of, none_in_clear_word, none_in_word, first_in_word}
 use Rattle.slab_index.proofs.sparse.in_word.Goals as goal

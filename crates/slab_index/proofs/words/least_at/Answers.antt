@@ -1,6 +1,5 @@
 use Rattle.std.proofs.Common.{◌≡◌, ◌+◌, ◌*◌, ◌-◌, ℕ, get_or, sym, ◌∙◌, subst, arith, ltb, true}
-use Rattle.std.proofs.lemmas.Bool.{ltb-true}
-use Rattle.bit_words.specs.Numbers.{IsLeastIn}
+use Rattle.slab_index.proofs.Common.{ltb-true, IsLeastIn}
 use Rattle.slab_index.proofs.words.least_at.Goals as goal
 
 pub returns : goal.returns

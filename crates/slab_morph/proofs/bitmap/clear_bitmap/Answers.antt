@@ -1,13 +1,5 @@
 use Rattle.std.proofs.Common.{◌≡◌, ◌+◌, ◌*◌, ◌/◌, ◌≤◌, ◌++◌, ◌∷◌, [], List, ℕ, sym, subst, length, arith}
-use Rattle.pmem_lines.specs.declared.event.Event.{Event}
-use Rattle.pmem_lines.specs.declared.event.Event.TheVariants.{Fence}
-use Rattle.pmem_lines.specs.Events.{reading}
-use Rattle.pmem_lines.specs.Pmem.{words_of, Appends}
-use Rattle.pmem_lines.proofs.States.{then_step}
-use Rattle.pmem_lines.proofs.Steps.{step_of}
-use Rattle.durable_steps.specs.Rows.{stores_at, flushes_of}
-use Rattle.pool_layout.specs.Places.{granule_word, blocks_place}
-use Rattle.slab_header.specs.Morph.{clear_events}
+use Rattle.slab_morph.proofs.Common.{Event, Fence, reading, words_of, Appends, then_step, step_of, stores_at, flushes_of, granule_word, blocks_place, clear_events}
 use Rattle.slab_morph.specs.Stages.{with_no_bit, IsOffBitmap, Changes}
 use Rattle.slab_morph.proofs.HeaderTables.{changes_by}
 use Rattle.slab_morph.proofs.HeaderWords.{off_bitmap}

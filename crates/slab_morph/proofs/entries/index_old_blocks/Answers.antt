@@ -1,18 +1,6 @@
 use Rattle.std.proofs.Common.{◌≡◌, ◌+◌, ◌*◌, ◌/◌, ◌≤◌, ◌<◌, ◌++◌, ◌∷◌, ◌^◌, [], min, List, ℕ, sym, subst, length, get_or, arith}
-use Rattle.pmem_lines.specs.Words.{word_at}
-use Rattle.pmem_lines.specs.declared.event.Event.{Event}
-use Rattle.pmem_lines.specs.declared.event.Event.TheVariants.{Fence}
-use Rattle.pmem_lines.specs.Events.{reading}
-use Rattle.pmem_lines.specs.Pmem.{words_of, Appends}
-use Rattle.pmem_lines.proofs.States.{then_step}
-use Rattle.pmem_lines.proofs.Steps.{step_of}
-use Rattle.durable_steps.specs.Rows.{flushes_of}
-use Rattle.size_classes.specs.Classes.{class_capacity}
-use Rattle.pool_layout.specs.Places.{granule_word, blocks_place}
-use Rattle.image_tables.specs.Forms.{IsIndexWord}
-use Rattle.image_tables.specs.Tables.{index_word}
-use Rattle.slab_header.specs.Morph.{index_stores, index_events}
-use Rattle.slab_morph.specs.SlabHeaders.{SlabHeader, header_at}
+use Rattle.slab_morph.proofs.Common.{word_at, Event, Fence, reading, words_of, Appends, then_step, step_of, flushes_of, class_capacity, granule_word, blocks_place, IsIndexWord, index_word, SlabHeader, index_stores, index_events}
+use Rattle.slab_morph.specs.SlabHeaders.{header_at}
 use Rattle.slab_morph.specs.Stages.{numbers_of, with_index, IsOffIndex, Changes}
 use Rattle.slab_morph.proofs.Fitting.{capacity_most}
 use Rattle.slab_morph.proofs.Numbers.{numbers_pass}

@@ -1,9 +1,5 @@
 use Rattle.std.proofs.Common.{◌≡◌, ◌+◌, ◌*◌, ◌/◌, ◌<◌, ◌≤◌, ◌∙◌, ℕ, true, false, length, sym, ap, arith, subst}
-use Rattle.pmem_lines.specs.Pmem.{PmemState, words_of, appended}
-use Rattle.pmem_lines.proofs.States.{Appends-state}
-use Rattle.size_classes.specs.Classes.{class_capacity}
-use Rattle.image_tables.specs.Tables.{index_word, slab_bit}
-use Rattle.slab_header.specs.Morph.{numbers_below, index_stores}
+use Rattle.slab_morph.proofs.Common.{PmemState, words_of, appended, Appends-state, class_capacity, index_word, slab_bit, numbers_below, index_stores}
 use Rattle.slab_morph.specs.SlabHeaders.{header_at}
 use Rattle.slab_morph.proofs.Numbers.{count_more}
 use Rattle.slab_morph.proofs.Storing.{bit_was, place_below, stored, skipped}

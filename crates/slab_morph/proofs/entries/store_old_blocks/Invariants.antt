@@ -1,6 +1,5 @@
 use Rattle.std.proofs.Common.{◌≡◌, ◌+◌, ◌/◌, length}
-use Rattle.pmem_lines.specs.Pmem.{words_of, appended}
-use Rattle.slab_header.specs.Morph.{numbers_below, index_stores}
+use Rattle.slab_morph.proofs.Common.{words_of, appended, numbers_below, index_stores}
 use Rattle.slab_morph.specs.SlabHeaders.{header_at}
 use Rattle.slab_morph.proofs.entries.store_old_blocks.Given as goal
 

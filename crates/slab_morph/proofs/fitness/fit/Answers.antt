@@ -1,6 +1,5 @@
 use Rattle.std.proofs.Common.{◌∙◌, ◌≡◌, ◌/◌, Bool, true, false, true≢false, not, refl, sym, ⊎_elim}
-use Rattle.std.proofs.lemmas.Bool.{cases_Bool}
-use Rattle.pmem_lines.specs.Pmem.{words_of}
+use Rattle.slab_morph.proofs.Common.{cases_Bool, words_of}
 use Rattle.slab_morph.specs.SlabHeaders.{header_at}
 use Rattle.slab_morph.specs.Fitness.{IsFitHeader}
 use Rattle.slab_morph.proofs.Fitting.{read_by, none_same, none_old, fits_untold, fits_told, told_counts, told_clear}

@@ -1,7 +1,6 @@
 use Rattle.std.proofs.Common.{◌≡◌, ◌<◌, ◌≤◌, ◌/◌, ⊎_elim, ℕ, refl, subst, arith}
-use Rattle.std.proofs.lemmas.Bool.{cases_lt}
-use Rattle.pmem_lines.specs.Pmem.{words_of}
-use Rattle.slab_morph.specs.SlabHeaders.{SlabHeader, header_at}
+use Rattle.slab_morph.proofs.Common.{cases_lt, words_of, SlabHeader}
+use Rattle.slab_morph.specs.SlabHeaders.{header_at}
 use Rattle.slab_morph.specs.Fitness.{IsClearOfBits}
 use Rattle.slab_morph.proofs.Fitting.{capacity_most, clear_by_none, not_clear}
 use Rattle.slab_morph.proofs.fitness.has_room.Given as given

@@ -1,6 +1,5 @@
 use Rattle.std.proofs.Common.{◌≡◌, ◌≤◌, ◌/◌, length}
-use Rattle.pmem_lines.specs.Pmem.{words_of}
-use Rattle.slab_header.specs.Morph.{numbers_below}
+use Rattle.slab_morph.proofs.Common.{words_of, numbers_below}
 use Rattle.slab_morph.specs.SlabHeaders.{header_at}
 use Rattle.slab_morph.proofs.held.count_bits.Given as goal
 

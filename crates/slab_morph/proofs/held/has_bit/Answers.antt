@@ -1,6 +1,5 @@
 use Rattle.std.proofs.Common.{◌/◌, ◌<◌, ◌≤◌, ◌≡◌, ⊎_elim, true, false, ap, ◌∙◌, arith}
-use Rattle.std.proofs.lemmas.Bool.{cases_lt}
-use Rattle.pmem_lines.specs.Pmem.{words_of}
+use Rattle.slab_morph.proofs.Common.{cases_lt, words_of}
 use Rattle.slab_morph.specs.SlabHeaders.{header_at}
 use Rattle.slab_morph.proofs.Reading.{bit_by}
 use Rattle.slab_morph.proofs.held.has_bit.Goals as goal

@@ -1,7 +1,5 @@
 use Rattle.std.proofs.Common.{◌≡◌, ◌/◌, ◌∙◌, sym, ap, arith}
-use Rattle.pmem_lines.specs.Words.{word_at}
-use Rattle.pmem_lines.specs.Pmem.{words_of}
-use Rattle.image_tables.specs.Tables.{index_word, bit_of_word}
+use Rattle.slab_morph.proofs.Common.{word_at, words_of, index_word, bit_of_word}
 use Rattle.slab_header.proofs.Entries.{bit_of_word-lowest}
 use Rattle.slab_morph.proofs.Reading.{live_read}
 use Rattle.slab_morph.proofs.held.live_at.Goals as goal

@@ -1,7 +1,5 @@
 use Rattle.std.proofs.Common.{◌≡◌, ◌/◌, ◌%◌, ◌∙◌, sym, ap, arith}
-use Rattle.pmem_lines.specs.Words.{word_at}
-use Rattle.pmem_lines.specs.Pmem.{words_of}
-use Rattle.image_tables.specs.Tables.{index_word}
+use Rattle.slab_morph.proofs.Common.{word_at, words_of, index_word}
 use Rattle.slab_morph.proofs.Reading.{number_read}
 use Rattle.slab_morph.proofs.held.number_at.Goals as goal
 

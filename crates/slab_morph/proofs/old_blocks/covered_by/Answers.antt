@@ -1,7 +1,5 @@
 use Rattle.std.proofs.Common.{◌/◌, ◌<◌, ◌∙◌, subst, sym}
-use Rattle.pmem_lines.specs.Pmem.{words_of}
-use Rattle.size_classes.specs.Classes.{class_capacity}
-use Rattle.image_tables.specs.Tables.{tables_of}
+use Rattle.slab_morph.proofs.Common.{words_of, class_capacity, tables_of}
 use Rattle.slab_morph.specs.Overlaps.{IsOverlapRange}
 use Rattle.slab_morph.proofs.OldBlocks.{number_is, class_is, old_is, entries_is, small_is}
 use Rattle.slab_morph.proofs.old_blocks.covered_by.Goals as goal
@@ -20,6 +18,6 @@ returns g c =
     let old = c.fields_of-state.ensures.old ∙ old_is words c.args.slab c.requires.here c.state_at.result says in
     let class = c.fields_of-state.ensures.class ∙ class_is words c.args.slab c.requires.here c.state_at.result says in
     let number = c.number_at.ensures ∙ number_is words c.args.slab c.requires.here c.args.place in
-    subst (λ o. IsOverlapRange o ((tables_of words).number (c.args.slab / 16384) c.args.place) ((tables_of words).class (c.args.slab / 16384)) c.overlaps.result.0 c.overlaps.result.1) old
-    (subst (λ n. IsOverlapRange c.fields_of-state.result.old n ((tables_of words).class (c.args.slab / 16384)) c.overlaps.result.0 c.overlaps.result.1) number
+    subst (λ o. IsOverlapRange o (((tables_of words).header (c.args.slab / 16384)).number c.args.place) ((tables_of words).header (c.args.slab / 16384)).class c.overlaps.result.0 c.overlaps.result.1) old
+    (subst (λ n. IsOverlapRange c.fields_of-state.result.old n ((tables_of words).header (c.args.slab / 16384)).class c.overlaps.result.0 c.overlaps.result.1) number
     (subst (λ k. IsOverlapRange c.fields_of-state.result.old c.number_at.result k c.overlaps.result.0 c.overlaps.result.1) class c.overlaps.ensures))

@@ -1,6 +1,5 @@
 use Rattle.std.proofs.Common.{sym, ap, ◌∙◌, true≢false, arith}
-use Rattle.pmem_lines.specs.Pmem.{words_of}
-use Rattle.slab_header.specs.State.{kind_of, entries_of}
+use Rattle.slab_morph.proofs.Common.{words_of, kind_of, entries_of}
 use Rattle.slab_morph.proofs.OldBlocks.{morphed_of, kind_is, entries_is, done_by}
 use Rattle.slab_morph.proofs.old_blocks.is_done.Goals as goal
 

@@ -1,9 +1,5 @@
 use Rattle.std.proofs.Common.{◌≡◌, ◌/◌, ap, sym, ◌∙◌, arith}
-use Rattle.std.proofs.lemmas.Bool.{eqb-true, eq-eqb}
-use Rattle.pmem_lines.specs.Words.{word_at}
-use Rattle.pmem_lines.specs.Pmem.{words_of}
-use Rattle.image_tables.specs.Forms.{normal_kind}
-use Rattle.image_tables.specs.Tables.{state_word}
+use Rattle.slab_morph.proofs.Common.{eqb-true, eq-eqb, word_at, words_of, normal_kind, state_word}
 use Rattle.slab_morph.proofs.OldBlocks.{kind_read}
 use Rattle.slab_morph.proofs.old_blocks.is_normal.Goals as goal
 

@@ -1,7 +1,5 @@
 use Rattle.std.proofs.Common.{◌≡◌, ◌<◌, ◌≤◌, ◌/◌, true, true≢false, sym, subst, ◌∙◌, arith, ⊎_elim}
-use Rattle.std.proofs.lemmas.Bool.{cases_lt}
-use Rattle.pmem_lines.specs.Pmem.{words_of}
-use Rattle.heap_model.specs.Machine.{slab_block}
+use Rattle.slab_morph.proofs.Common.{cases_lt, words_of, slab_block}
 use Rattle.slab_morph.specs.SlabHeaders.{header_at}
 use Rattle.slab_morph.proofs.OldBlocks.{old_is, entries_is, small_is, found_old, no_old, no_old_in_normal}
 use Rattle.slab_morph.proofs.old_blocks.old_place.Goals as goal

@@ -1,6 +1,5 @@
 use Rattle.std.proofs.Common.{◌≡◌, ◌<◌, ◌/◌, ℕ, true}
-use Rattle.pmem_lines.specs.Pmem.{words_of}
-use Rattle.heap_model.specs.Machine.{slab_block}
+use Rattle.slab_morph.proofs.Common.{words_of, slab_block}
 use Rattle.slab_morph.specs.SlabHeaders.{header_at}
 use Rattle.slab_morph.proofs.old_blocks.old_place.Given as goal
 

@@ -1,11 +1,6 @@
 use Rattle.std.proofs.Common.{◌≡◌, ◌+◌, ◌*◌, ◌/◌, ◌≤◌, ◌∙◌, List, ℕ, ⊎_elim, inl, inr, ap, sym, subst, length, arith}
-use Rattle.pmem_lines.specs.Words.{word_at, put_word}
-use Rattle.pmem_lines.specs.Pmem.{words_of}
+use Rattle.slab_morph.proofs.Common.{word_at, put_word, words_of, granule_word, blocks_place, IsStateWord, state_word, word_of_state, SaysOfState}
 use Rattle.durable_steps.proofs.Steps.{word_step}
-use Rattle.pool_layout.specs.Places.{granule_word, blocks_place}
-use Rattle.image_tables.specs.Forms.{IsStateWord}
-use Rattle.image_tables.specs.Tables.{state_word}
-use Rattle.slab_header.specs.State.{word_of_state, SaysOfState}
 use Rattle.slab_morph.specs.Stages.{with_state, IsOffState, Changes}
 use Rattle.slab_morph.proofs.StateEvents.{told_off, told_changes, told_valid}
 use Rattle.slab_morph.proofs.state.put_state.Given as given

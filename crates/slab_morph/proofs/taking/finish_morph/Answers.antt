@@ -1,12 +1,6 @@
 use Rattle.std.proofs.Common.{◌≡◌, ◌++◌, ◌∙◌, ◌/◌, sym, subst}
-use Rattle.pmem_lines.specs.Events.{CrashOnly}
-use Rattle.pmem_lines.specs.Pmem.{words_of, Appends}
-use Rattle.pmem_lines.proofs.States.{then_step}
-use Rattle.slab_header.specs.declared.state.SlabState.{SlabState}
-use Rattle.slab_header.specs.declared.state.SlabState.TheVariants.{Morphed}
-use Rattle.slab_header.specs.State.{class_of, old_of, entries_of}
-use Rattle.slab_header.specs.Morph.{clear_events, state_events}
-use Rattle.slab_morph.specs.SlabHeaders.{SlabHeader, header_at, HasState}
+use Rattle.slab_morph.proofs.Common.{CrashOnly, words_of, Appends, then_step, SlabState, Morphed, class_of, old_of, entries_of, clear_events, state_events, SlabHeader}
+use Rattle.slab_morph.specs.SlabHeaders.{header_at, HasStateWord}
 use Rattle.slab_morph.specs.Stages.{with_state, finished, KeepsHeld, IsFinishStage}
 use Rattle.slab_morph.proofs.BitmapEvents.{IsQuiet-clear}
 use Rattle.slab_morph.proofs.HeaderTables.{changes_by, off_then}
@@ -14,7 +8,7 @@ use Rattle.slab_morph.proofs.Stages.{keeps_changed, finishing, finish_crash}
 use Rattle.slab_morph.proofs.taking.finish_morph.Goals as goal
 
 -- the state at the end, by what the header says
-there : {h : SlabHeader} {was state : SlabState} → HasState h was → state ≡ Morphed (class_of was) (old_of was) (entries_of was) → state ≡ Morphed h.class h.old h.index_count
+there : {h : SlabHeader} {was state : SlabState} → HasStateWord h was → state ≡ Morphed (class_of was) (old_of was) (entries_of was) → state ≡ Morphed h.class h.old h.index_count
 there {h} {was} {state} says is = is ∙ (λ i. Morphed ((sym says.class) i) ((sym says.old) i) ((sym says.entries) i))
 
 pub returns-clause-finished : goal.returns-clause-finished

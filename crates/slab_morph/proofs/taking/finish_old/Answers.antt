@@ -1,18 +1,13 @@
 use Rattle.std.proofs.Common.{ℕ, ◌≡◌, ◌∙◌, ◌/◌, sym, ap, subst}
-use Rattle.pmem_lines.specs.Events.{CrashOnly}
-use Rattle.pmem_lines.specs.Pmem.{words_of, Appends}
-use Rattle.slab_header.specs.declared.state.SlabState.{SlabState}
-use Rattle.slab_header.specs.declared.state.SlabState.TheVariants.{Normal}
-use Rattle.slab_header.specs.State.{class_of}
-use Rattle.slab_header.specs.Morph.{state_events}
-use Rattle.slab_morph.specs.SlabHeaders.{SlabHeader, header_at, HasState}
+use Rattle.slab_morph.proofs.Common.{CrashOnly, words_of, Appends, SlabState, Normal, class_of, state_events, SlabHeader}
+use Rattle.slab_morph.specs.SlabHeaders.{header_at, HasStateWord}
 use Rattle.slab_morph.specs.Stages.{with_state, settled, KeepsHeld, IsSettleStage}
 use Rattle.slab_morph.proofs.HeaderTables.{changes_by}
 use Rattle.slab_morph.proofs.Stages.{keeps_changed, settling, settle_crash}
 use Rattle.slab_morph.proofs.taking.finish_old.Goals as goal
 
 -- the state that is put, by what the header says
-normal : {h : SlabHeader} {was : SlabState} {class : ℕ} → HasState h was → class ≡ class_of was → Normal class ≡ Normal h.class
+normal : {h : SlabHeader} {was : SlabState} {class : ℕ} → HasStateWord h was → class ≡ class_of was → Normal class ≡ Normal h.class
 normal says is = ap (λ class. Normal class) (is ∙ sym says.class)
 
 pub returns-clause-settled : goal.returns-clause-settled

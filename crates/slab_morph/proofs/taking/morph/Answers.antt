@@ -1,15 +1,7 @@
 use Rattle.std.proofs.Common.{◌≡◌, ◌*◌, ◌++◌, ◌∙◌, ◌/◌, length, List, ap, subst, arith}
-use Rattle.pmem_lines.specs.declared.event.Event.{Event}
-use Rattle.pmem_lines.specs.Pmem.{words_of, Appends}
-use Rattle.pmem_lines.specs.Events.{CrashOnly}
-use Rattle.pmem_lines.proofs.Images.{IsQuiet-append}
-use Rattle.pmem_lines.proofs.States.{then_step}
+use Rattle.slab_morph.proofs.Common.{Event, words_of, Appends, CrashOnly, IsQuiet-append, then_step, state_word, SlabHeader, Morphing, word_of_state, index_events, state_events, finish_morph_events, morph_events}
 use Rattle.durable_steps.proofs.Steps.{IsQuiet-word}
-use Rattle.image_tables.specs.Tables.{state_word}
-use Rattle.slab_header.specs.declared.state.SlabState.TheVariants.{Morphing}
-use Rattle.slab_header.specs.State.{word_of_state}
-use Rattle.slab_header.specs.Morph.{index_events, state_events, finish_morph_events, morph_events}
-use Rattle.slab_morph.specs.SlabHeaders.{SlabHeader, header_at, alone}
+use Rattle.slab_morph.specs.SlabHeaders.{header_at, alone}
 use Rattle.slab_morph.specs.Stages.{numbers_of, set_numbers, with_index, with_state, morphing, morphed, finished, IsMorphStage, HoldSame, KeepsHeld}
 use Rattle.slab_morph.proofs.HeaderTables.{changes_by, off_then}
 use Rattle.slab_morph.proofs.Holding.{same_then, same_morphing}

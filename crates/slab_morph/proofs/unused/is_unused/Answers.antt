@@ -1,9 +1,5 @@
 use Rattle.std.proofs.Common.{◌≡◌, ◌/◌, ◌<◌, Bool, true, false, true≢false, not, refl, sym, ap, subst, ◌∙◌, ⊎_elim}
-use Rattle.std.proofs.lemmas.Bool.{cases_Bool}
-use Rattle.pmem_lines.specs.Pmem.{words_of}
-use Rattle.size_classes.specs.Classes.{class_capacity}
-use Rattle.image_tables.specs.Tables.{tables_of}
-use Rattle.heap_check.proofs.Geometry.{number_few}
+use Rattle.slab_morph.proofs.Common.{cases_Bool, words_of, class_capacity, tables_of, number_few}
 use Rattle.slab_morph.proofs.UnusedBlocks.{IsRead_by, small_numbers, unused_read, used_marked, used_covered}
 use Rattle.slab_morph.proofs.unused.is_unused.Goals as goal
 
@@ -12,7 +8,7 @@ not_true true is = absurd (true≢false (sym is))
 not_true false is = refl
 
 pub is_marked-requires-clause-number : goal.is_marked-requires-clause-number
-is_marked-requires-clause-number g c = number_few ((tables_of (words_of (g.P.Pmem.state c.args.p.now))).class (c.args.slab / 16384)) c.args.number c.requires.here.valid.state.is_class c.requires.number
+is_marked-requires-clause-number g c = number_few (((tables_of (words_of (g.P.Pmem.state c.args.p.now))).header (c.args.slab / 16384)).class) c.args.number c.requires.here.valid.state.is_class c.requires.number
 
 pub is_covered-requires-clause-number : goal.is_covered-requires-clause-number
 is_covered-requires-clause-number g c =

@@ -1,6 +1,5 @@
 use Rattle.std.proofs.Common.{◌/◌, ◌<◌, arith}
-use Rattle.pmem_lines.specs.Pmem.{words_of}
-use Rattle.heap_check.proofs.Geometry.{number_few}
+use Rattle.slab_morph.proofs.Common.{words_of, number_few}
 use Rattle.slab_morph.specs.SlabHeaders.{header_at}
 use Rattle.slab_morph.proofs.Fitting.{capacity_most}
 use Rattle.slab_morph.proofs.OldBlocks.{class_is, small_is}

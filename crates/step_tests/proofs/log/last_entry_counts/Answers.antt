@@ -1,9 +1,5 @@
 use Rattle.std.proofs.Common.{◌≤◌, ◌∙◌, refl, arith}
-use Rattle.pmem_lines.specs.Pmem.{words_of}
-use Rattle.pool_layout.specs.Layout.{layout_of}
-use Rattle.pool_layout.specs.Header.{version_in}
-use Rattle.book_log.proofs.Places.{within_heap}
-use Rattle.book_log.proofs.Fresh.{HasLog-fresh}
+use Rattle.step_tests.proofs.Common.{words_of, layout_of, version_in, within_heap, HasLog-fresh}
 use Rattle.step_tests.proofs.Fresh.{IsFreshOf, fresh_by, first_heap}
 use Rattle.step_tests.proofs.log.last_entry_counts.Given as given
 use Rattle.step_tests.proofs.log.last_entry_counts.Goals as goal

@@ -1,12 +1,6 @@
 use Rattle.std.proofs.Common.{◌≤◌, ap, ◌∙◌, arith}
-use Rattle.pmem_lines.specs.Pmem.{PmemState, words_of}
-use Rattle.pool_layout.specs.declared.layout.Layout.{Layout}
-use Rattle.pool_layout.specs.Layout.{layout_of}
-use Rattle.pool_layout.specs.Header.{version_in}
+use Rattle.step_tests.proofs.Common.{PmemState, words_of, Layout, layout_of, version_in, within_heap, IsFormatted, IsAttachable}
 use Rattle.book_log.proofs.Books.{Reads-same}
-use Rattle.book_log.proofs.Places.{within_heap}
-use Rattle.heap_check.specs.Formatted.{IsFormatted}
-use Rattle.attach_steps.specs.Steps.{IsAttachable}
 use Rattle.step_tests.proofs.OneSlab.{header, block, formatted_by, formatted_row, made_row, log_by, same_log, attachable_by, detachable}
 use Rattle.step_tests.proofs.small.comes_and_goes.Given as given
 use Rattle.step_tests.proofs.small.comes_and_goes.Goals as goal

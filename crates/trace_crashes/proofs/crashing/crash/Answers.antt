@@ -1,7 +1,6 @@
 use Rattle.std.proofs.Common.{subst}
 use Rattle.trace_text.specs.Grammar.{pool_of}
-use Rattle.trace_runs.specs.Arenas.{header_for}
-use Rattle.trace_runs.specs.Calls.{calls_of}
+use Rattle.trace_crashes.proofs.Common.{header_for, calls_of}
 use Rattle.trace_crashes.specs.declared.seeking.Sought.{Sought}
 use Rattle.trace_crashes.specs.Crash.{left_of}
 use Rattle.trace_crashes.specs.Seek.{IsSought}

@@ -1,6 +1,5 @@
 use Rattle.std.proofs.Common.{◌≡◌, ◌∙◌, ap, refl, sym, subst}
-use Rattle.pmem_lines.specs.Pmem.{PmemState, words_of}
-use Rattle.heap_check.specs.Image.{IsSoundImage}
+use Rattle.trace_crashes.proofs.Common.{PmemState, words_of, IsSoundImage}
 use Rattle.trace_crashes.proofs.Crashes.{all_words}
 use Rattle.trace_crashes.proofs.leaving.left_idle.Goals as goal
 use Rattle.trace_crashes.proofs.leaving.left_idle.Goals.{After-drop-device-inside-3}

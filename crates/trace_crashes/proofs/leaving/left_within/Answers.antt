@@ -1,7 +1,5 @@
 use Rattle.std.proofs.Common.{◌<◌, length, subst, sym, List, ℕ}
-use Rattle.pool_layout.specs.Header.{version_in}
-use Rattle.pool_layout.specs.Places.{root_word}
-use Rattle.heap_model.specs.Step.{root_of}
+use Rattle.trace_crashes.proofs.Common.{version_in, root_word, root_of}
 use Rattle.trace_crashes.proofs.Crashes.{below_left, left_behind, IsLeftWithin-told}
 use Rattle.trace_crashes.proofs.Roots.{root-fits, root-inside}
 use Rattle.trace_crashes.proofs.leaving.left_within.Goals as goal

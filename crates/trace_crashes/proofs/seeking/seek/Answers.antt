@@ -1,8 +1,5 @@
 use Rattle.std.proofs.Common.{◌<◌, ◌∙◌, length, take, get_or, arith}
-use Rattle.heap_model.specs.declared.call.Call.TheVariants.{Malloc}
-use Rattle.arena_core.specs.Arena.{ArenaState}
-use Rattle.trace_text.specs.declared.call.TraceCall.{TraceCall}
-use Rattle.trace_runs.specs.Calls.{calls_of}
+use Rattle.trace_crashes.proofs.Common.{Malloc, ArenaState, TraceCall, calls_of}
 use Rattle.trace_crashes.proofs.UnderWay.{Seeking-none, Seeking-other, Seeking-here, IsBehindSought-here, IsBehindAll-none}
 use Rattle.trace_crashes.proofs.Stages.{some_events, next_stage, IsBehindEntry-answered}
 use Rattle.trace_crashes.proofs.seeking.seek.Goals as goal

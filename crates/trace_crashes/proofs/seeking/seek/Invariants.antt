@@ -1,6 +1,5 @@
 use Rattle.std.proofs.Common.{◌≡◌, ◌+◌, ◌≤◌}
-use Rattle.pool_layout.specs.declared.header.PoolHeader.{PoolHeader}
-use Rattle.trace_runs.specs.Arenas.{IsNewArena}
+use Rattle.trace_crashes.proofs.Common.{PoolHeader, IsNewArena}
 use Rattle.trace_crashes.proofs.UnderWay.{Seeking}
 use Rattle.trace_crashes.proofs.seeking.seek.Given as goal
 

@@ -1,9 +1,6 @@
 use Rattle.std.proofs.Common.{List, arith}
-use Rattle.std.proofs.lemmas.List.{length-map}
-use Rattle.heap_model.specs.declared.call.Entry.{Entry}
-use Rattle.arena_core.specs.Arena.{ArenaState}
+use Rattle.trace_workers.proofs.Common.{length-map, Entry, ArenaState, each_of}
 use Rattle.trace_text.specs.Grammar.{pool_of}
-use Rattle.shared_pool.specs.Rows.{each_of}
 use Rattle.trace_workers.specs.Summaries.{telling_of}
 use Rattle.trace_workers.proofs.Replays.{answers_length, IsTold-closed, IfOk-both}
 use Rattle.trace_workers.proofs.replaying.replay.Goals as goal

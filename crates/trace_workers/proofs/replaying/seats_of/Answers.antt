@@ -1,6 +1,5 @@
 use Rattle.std.proofs.Common.{◌+◌, max, get_or, ◌∙◌, ap, arith}
-use Rattle.heap_model.specs.declared.call.Call.TheVariants.{Malloc}
-use Rattle.trace_text.specs.declared.call.TraceCall.{TraceCall}
+use Rattle.trace_workers.proofs.Common.{Malloc, TraceCall}
 use Rattle.trace_workers.proofs.Replays.{by_at, by_more, seats_one_more}
 use Rattle.trace_workers.proofs.replaying.seats_of.Goals as goal
 

@@ -1,13 +1,5 @@
 use Rattle.std.proofs.Common.{rules, ◌≡◌, ℕ, ◌∙◌, ap, sym, subst, map, length, drop, List, arith}
-use Rattle.std.proofs.lemmas.List.{length-map}
-use Rattle.heap_model.specs.declared.call.Entry.{Entry}
-use Rattle.arena_core.specs.Arena.{ArenaState}
-use Rattle.arena_lock.specs.declared.opening.Opening.{Opening}
-use Rattle.arena_lock.specs.Known.{Lock}
-use Rattle.shared_pool.specs.Closed.{AllFitLocks, HasAll, AllClosed}
-use Rattle.arena_journal.specs.Journals.{opened}
-use Rattle.shared_pool.specs.Passes.{PassState, fresh_passes}
-use Rattle.shared_pool.specs.Rows.{each_of}
+use Rattle.trace_workers.proofs.Common.{length-map, Entry, ArenaState, Opening, Lock, AllFitLocks, HasAll, AllClosed, opened, PassState, fresh_passes, each_of}
 use Rattle.shared_pool.proofs.AllPasses.{has_fresh}
 use Rattle.trace_workers.specs.Answers.{AllAnswer}
 use Rattle.trace_workers.specs.Workers.{AllReady}

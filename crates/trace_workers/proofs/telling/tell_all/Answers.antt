@@ -1,6 +1,5 @@
 use Rattle.std.proofs.Common.{rules, List, sym, ◌≡◌, ◌<◌, ◌++◌, [], ◌∷◌, ◌∙◌, ap, length, arith, remove}
-use Rattle.heap_model.specs.declared.call.Entry.{Entry}
-use Rattle.shared_pool.specs.Rows.{each_of}
+use Rattle.trace_workers.proofs.Common.{Entry, each_of}
 use Rattle.trace_workers.specs.Summaries.{telling_of, lengths_of}
 use Rattle.trace_workers.proofs.Replays.{head_back, texts_more, devices_more}
 use Rattle.trace_workers.proofs.telling.tell_all.Goals as goal

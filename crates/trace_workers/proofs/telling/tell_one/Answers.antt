@@ -1,6 +1,5 @@
 use Rattle.std.proofs.Common.{◌<◌, ◌^◌, List, length, sym, subst}
-use Rattle.pmem_lines.specs.Pmem.{words_of}
-use Rattle.heap_model.specs.declared.block.Block.{Block}
+use Rattle.trace_workers.proofs.Common.{words_of, Block}
 use Rattle.trace_workers.proofs.ListedBlocks.{blocks_in-few}
 use Rattle.trace_workers.proofs.telling.tell_one.Goals as goal
 

@@ -1,9 +1,7 @@
 use Rattle.std.proofs.Common.{rules, arith, ◌≡◌, ◌<◌, ◌≤◌, ◌+◌, ◌++◌, [], ◌∷◌, ◌∙◌, ap, sym, subst, length, List, take, get_or}
-use Rattle.shared_pool.specs.Passes.{PassState, IsPassOf}
+use Rattle.trace_workers.proofs.Common.{PassState, IsPassOf, Malloc, TraceCall}
 use Rattle.trace_workers.specs.Answers.{calls_in}
 use Rattle.trace_workers.specs.Workers.{HasMadeOwn, HasTurns}
-use Rattle.heap_model.specs.declared.call.Call.TheVariants.{Malloc}
-use Rattle.trace_text.specs.declared.call.TraceCall.{TraceCall}
 use Rattle.trace_workers.proofs.Calls.{in_at, has_part, done_other, done_more, turns_left, turns_other, turns_more, take_next}
 use Rattle.trace_workers.proofs.working.work.Goals as goal
 use Rattle.trace_workers.proofs.working.work.Goals.{then-call-number+in_ok-call, else-call-number}

@@ -1,10 +1,6 @@
 use Rattle.std.proofs.Common.{◌≡◌, inr, sym, subst}
-use Rattle.pmem_lines.specs.Pmem.{words_of}
-use Rattle.pmem_lines.proofs.Steps.{step_wider}
+use Rattle.transition_steps.proofs.Common.{words_of, step_wider, settled, IsSettleStage, IsDone, keeps_wider, SlabHeader}
 use Rattle.slab_header.specs.Morph.{finish_old_events}
-use Rattle.slab_morph.specs.SlabHeaders.{SlabHeader}
-use Rattle.slab_morph.specs.Stages.{settled, IsSettleStage, IsDone}
-use Rattle.slab_morph.proofs.Stages.{keeps_wider}
 use Rattle.transition_steps.proofs.HeaderImages.{granule_is, step_here, kept_here}
 use Rattle.transition_steps.proofs.EndImages.{header_is, done_there, end_keeps, end_done}
 use Rattle.transition_steps.proofs.transition.end_transition.Goals as goal

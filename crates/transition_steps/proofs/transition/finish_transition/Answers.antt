@@ -1,10 +1,6 @@
 use Rattle.std.proofs.Common.{◌≡◌, inr, sym, subst}
-use Rattle.pmem_lines.specs.Pmem.{words_of}
-use Rattle.pmem_lines.proofs.Steps.{step_wider}
+use Rattle.transition_steps.proofs.Common.{words_of, step_wider, finished, IsFinishStage, IsOnItsWay, keeps_wider, SlabHeader}
 use Rattle.slab_header.specs.Morph.{finish_morph_events}
-use Rattle.slab_morph.specs.SlabHeaders.{SlabHeader}
-use Rattle.slab_morph.specs.Stages.{finished, IsFinishStage, IsOnItsWay}
-use Rattle.slab_morph.proofs.Stages.{keeps_wider}
 use Rattle.transition_steps.proofs.HeaderImages.{granule_is, step_here, kept_here}
 use Rattle.transition_steps.proofs.FinishImages.{header_is, on_its_way, finish_keeps, finish_done}
 use Rattle.transition_steps.proofs.transition.finish_transition.Goals as goal

@@ -1,7 +1,5 @@
 use Rattle.std.proofs.Common.{ap, subst, sym, ◌∙◌}
-use Rattle.pmem_lines.specs.Pmem.{PmemState}
-use Rattle.arena_core.specs.Arena.{ArenaState}
-use Rattle.recover.specs.Recovered.{IsRecovered}
+use Rattle.uses.proofs.Common.{PmemState, ArenaState, IsRecovered}
 use Rattle.uses.proofs.Reopened.{reopened, still_none}
 use Rattle.uses.proofs.reopening.reopen.Goals as goal
 

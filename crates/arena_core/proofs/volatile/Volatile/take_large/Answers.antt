@@ -1,7 +1,5 @@
-use Rattle.std.proofs.Common.{arith}
-use Rattle.arena_core.proofs.Common.{sizes_of}
 use Rattle.arena_core.proofs.Arenas.{book_root}
-use Rattle.arena_core.proofs.LargeCalls.{taken_loose, taken_covers}
+use Rattle.arena_core.proofs.LargeCalls.{taken_loose, taken_held}
 use Rattle.arena_core.proofs.LargeBlocks.{large_taken}
 use Rattle.arena_core.proofs.volatile.Volatile.take_large.Goals as goal
 
@@ -16,4 +14,4 @@ returns-clause-done g c =
     large_taken c.requires.arena c.requires.takable c.give.new.self c.drop_extent.new.log c.put_root.ensures.words c.put_root.ensures.step c.drop_extent.ensures.gone c.drop_extent.ensures.step c.drop_extent.ensures.book c.give.ensures.granules c.give.ensures.free
 
 pub give-requires : goal.give-requires
-give-requires g c = grind (arith, sizes_of, taken_covers)
+give-requires g c = taken_held _ c.args.root c.args.start c.args.granules c.requires.arena.current.exact c.requires.takable c.args.self.now.free c.requires.arena.current.index

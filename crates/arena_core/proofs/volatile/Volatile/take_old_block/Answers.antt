@@ -5,13 +5,13 @@ use Rattle.arena_core.proofs.volatile.Volatile.take_old_block.Goals as goal
 
 pub returns : goal.returns
 returns g c = record {
-  taken = old_taken c.args.self.now c.requires.arena c.requires.detachable c.detach_old.ensures.detached c.open_covered.new.supply c.lower.new.lives c.requires.fresh c.detach_old.ensures.step c.open_covered.ensures.slabs
+  taken = old_taken c.args.self.now c.requires.arena c.requires.detachable c.detach_old.ensures.detached c.free_covered.new.supply c.lower.new.lives c.requires.fresh c.detach_old.ensures.step c.free_covered.ensures.slabs
       (c.lower.ensures _ (old_one_more c.requires.arena c.requires.detachable c.detach_old.ensures.detached));
-  stacks = c.open_covered.ensures.stacks;
+  stacks = c.free_covered.ensures.stacks;
 }
 
-pub open_covered-requires-clause-slabs : goal.open_covered-requires-clause-slabs
-open_covered-requires-clause-slabs g c =
+pub free_covered-requires-clause-slabs : goal.free_covered-requires-clause-slabs
+free_covered-requires-clause-slabs g c =
     slabs_old (words_of (g.P.Pmem.state c.args.device.now)) c.args.self.now.line c.args.root c.args.block c.requires.detachable (words_of (g.P.Pmem.state c.detach_old.new.p)) c.detach_old.ensures.detached c.args.self.now.supply c.requires.arena.slabs
 
 pub lower-requires : goal.lower-requires

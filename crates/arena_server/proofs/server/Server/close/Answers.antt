@@ -1,10 +1,5 @@
 use Rattle.std.proofs.Common.{◌≡◌, ◌∙◌, ℕ, List, map, length, ap, sym, subst}
-use Rattle.std.proofs.lemmas.List.{length-map}
-use Rattle.heap_model.specs.declared.call.Entry.{Entry}
-use Rattle.arena_core.specs.Arena.{ArenaState}
-use Rattle.arena_lock.specs.Known.{Lock}
-use Rattle.shared_pool.specs.Closed.{AllFitLocks, HasAll, AllClosed}
-use Rattle.shared_pool.specs.Rows.{each_of}
+use Rattle.arena_server.proofs.Common.{length-map, Entry, ArenaState, Lock, AllFitLocks, HasAll, AllClosed, each_of}
 use Rattle.arena_server.specs.declared.request.Request.{Request}
 use Rattle.arena_server.specs.Senders.{AllSendTo, numbers}
 use Rattle.arena_server.specs.Owners.{OwnerState}

@@ -1,6 +1,5 @@
 use Rattle.std.proofs.Common.{◌∙◌, ◌≡◌, ◌<◌, length, ap, sym, subst}
-use Rattle.std.proofs.lemmas.List.{length-map}
-use Rattle.shared_pool.specs.Passes.{PassState, Called}
+use Rattle.arena_server.proofs.Common.{length-map, PassState, Called}
 use Rattle.arena_server.specs.Owners.{OwnerState}
 use Rattle.arena_server.specs.Servers.{ServerState}
 use Rattle.arena_server.proofs.Servings.{has_part, served_owner}

@@ -1,6 +1,5 @@
 use Rattle.std.proofs.Common.{◌+◌, ◌<◌, true, refl, arith}
-use Rattle.std.proofs.lemmas.List.{with_items_is}
-use Rattle.bit_words.specs.Numbers.{IsPut}
+use Rattle.attach_dict.proofs.Common.{with_items_is, IsPut}
 use Rattle.attach_dict.specs.Roots.{IsOut, IsIn}
 use Rattle.attach_dict.proofs.Counts.{count_most}
 use Rattle.attach_dict.proofs.RootSets.{set_of, more_set, has_more}

@@ -1,6 +1,5 @@
 use Rattle.std.proofs.Common.{◌≡◌, ◌+◌, ◌-◌, ◌≤◌, false, refl, arith}
-use Rattle.std.proofs.lemmas.List.{with_items_is}
-use Rattle.bit_words.specs.Numbers.{IsPut}
+use Rattle.attach_dict.proofs.Common.{with_items_is, IsPut}
 use Rattle.attach_dict.specs.Roots.{IsIn}
 use Rattle.attach_dict.proofs.RootSets.{set_of, some_count, fewer_set, has_fewer}
 use Rattle.attach_dict.proofs.root_set.RootSet.remove.Goals as goal

@@ -1,8 +1,5 @@
 use Rattle.std.proofs.Common.{◌≡◌, ℕ, false, Some, true≢false, sym, ◌∙◌, subst, inr, ⊎_elim}
-use Rattle.std.proofs.lemmas.Bool.{cases_Bool}
-use Rattle.heap_model.specs.Placement.{Has, IsInNoStack}
-use Rattle.slab_index.specs.SlabSet.{class_in, is_available, IsBlock}
-use Rattle.thread_cache.specs.Stacks.{stacks_of}
+use Rattle.block_supply.proofs.Common.{cases_Bool, Has, IsInNoStack, class_in, is_available, IsBlock, stacks_of}
 use Rattle.block_supply.specs.Supply.{Supply, IsStacked}
 use Rattle.block_supply.proofs.Addresses.{same_within}
 use Rattle.block_supply.proofs.Opens.{not_stacked, stacked_if}

@@ -1,6 +1,5 @@
 use Rattle.std.proofs.Common.{◌≡◌, ℕ, List, slice_index_or, refl, sym, ap, ◌∙◌, subst}
-use Rattle.heap_model.specs.Placement.{with_stack, AreRising, AreLoose}
-use Rattle.thread_cache.specs.Stacks.{stacks_of}
+use Rattle.block_supply.proofs.Common.{with_stack, AreRising, AreLoose, stacks_of}
 use Rattle.block_supply.specs.Supply.{Supply}
 use Rattle.block_supply.proofs.Refills.{numbers_within, rest_rise, rest_loose, refill_is, kept_refilled, taken_refilled}
 use Rattle.block_supply.proofs.supply.BlockSupply.refill.Goals as goal

@@ -1,7 +1,5 @@
 use Rattle.std.proofs.Common.{◌≡◌, ℕ, Some, sym, ap, ◌∙◌, subst, arith}
-use Rattle.heap_model.specs.Placement.{without_slab}
-use Rattle.slab_index.specs.SlabSet.{class_in}
-use Rattle.thread_cache.specs.Stacks.{stacks_of}
+use Rattle.block_supply.proofs.Common.{without_slab, class_in, stacks_of}
 use Rattle.block_supply.specs.Supply.{Supply}
 use Rattle.block_supply.proofs.Slabs.{kept_removed, less_removed}
 use Rattle.block_supply.proofs.supply.BlockSupply.remove.Goals as goal

@@ -1,6 +1,5 @@
 use Rattle.std.proofs.Common.{◌∙◌, ◌++◌, List, ℕ, sym, ap, arith, length-append}
-use Rattle.pool_layout.specs.Bytes.{words_of_bytes}
-use Rattle.pool_layout.specs.Image.{AreWordsOf}
+use Rattle.nvheap.proofs.Common.{words_of_bytes, AreWordsOf}
 use Rattle.pool_layout.proofs.Words.{words_of_bytes-append}
 use Rattle.nvheap.proofs.input.Input.add.Goals as goal
 

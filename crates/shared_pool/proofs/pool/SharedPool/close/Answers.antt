@@ -1,6 +1,5 @@
 use Rattle.std.proofs.Common.{ℕ, ◌∙◌, ap, sym, subst, map, List}
-use Rattle.arena_lock.specs.Known.{Lock}
-use Rattle.arena_lock.specs.declared.opening.Opening.{Opening}
+use Rattle.shared_pool.proofs.Common.{Lock, Opening}
 use Rattle.shared_pool.specs.Closed.{AllFitLocks, HasAll, AllClosed}
 use Rattle.shared_pool.specs.Passes.{PoolState}
 use Rattle.shared_pool.specs.Rows.{each_of}

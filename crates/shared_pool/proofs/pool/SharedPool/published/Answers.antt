@@ -1,6 +1,5 @@
 use Rattle.std.proofs.Common.{◌∙◌, ◌≡◌, ◌≤◌, ap, sym, subst, length, map, set}
-use Rattle.arena_lock.specs.Journal.{calls_by, calls_of}
-use Rattle.arena_lock.specs.Known.{Known, after_read}
+use Rattle.shared_pool.proofs.Common.{calls_by, calls_of, Known, after_read}
 use Rattle.shared_pool.specs.declared.pass.Spot.{Spot}
 use Rattle.shared_pool.specs.Passes.{PassState, part_at, with_part, first_calls}
 use Rattle.shared_pool.specs.Rows.{part_of}

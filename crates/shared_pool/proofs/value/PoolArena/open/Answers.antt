@@ -1,8 +1,5 @@
 use Rattle.std.proofs.Common.{rules, ◌≡◌, [], subst, sym, List}
-use Rattle.heap_model.specs.declared.call.Entry.{Entry}
-use Rattle.arena_core.specs.Arena.{ArenaState}
-use Rattle.arena_journal.specs.Journals.{opened, IsBehind}
-use Rattle.arena_journal.proofs.Journals.{behind_none, behind_legal}
+use Rattle.shared_pool.proofs.Common.{Entry, ArenaState, opened, IsBehind, behind_none, behind_legal}
 use Rattle.shared_pool.proofs.value.PoolArena.open.Goals as goal
 
 pub invariant_of-result : goal.invariant_of-result

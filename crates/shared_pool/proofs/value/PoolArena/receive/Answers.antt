@@ -1,7 +1,5 @@
 use Rattle.std.proofs.Common.{rules, ◌≡◌, ◌++◌, [], ◌∷◌, subst, sym, List}
-use Rattle.heap_model.specs.declared.call.Entry.{Entry}
-use Rattle.arena_journal.specs.Journals.{opened, IsBehind}
-use Rattle.arena_journal.proofs.Journals.{behind_answered, behind_legal}
+use Rattle.shared_pool.proofs.Common.{Entry, opened, IsBehind, behind_answered, behind_legal}
 use Rattle.shared_pool.proofs.value.PoolArena.receive.Goals as goal
 
 pub invariant_of-self-2 : goal.invariant_of-self-2

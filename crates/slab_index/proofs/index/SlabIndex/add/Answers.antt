@@ -1,7 +1,5 @@
 use Rattle.std.proofs.Common.{◌<◌, Some, refl, sym, ◌∙◌, arith, true, set}
-use Rattle.std.proofs.lemmas.Bool.{eq-eqb, and_from}
-use Rattle.std.proofs.lemmas.Option.{same_Some}
-use Rattle.bit_words.proofs.Fills.{some_if_more}
+use Rattle.slab_index.proofs.Common.{eq-eqb, and_from, same_Some, some_if_more}
 use Rattle.slab_index.proofs.Steps.{IsReplaced-set, HasOnly-none, HasOnly-some, IsIndex-filled}
 use Rattle.slab_index.proofs.Views.{class_of_list, granules_of, classes_after, blocks_after}
 use Rattle.slab_index.proofs.index.SlabIndex.add.Goals as goal

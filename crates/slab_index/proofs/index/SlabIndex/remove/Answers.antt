@@ -1,6 +1,5 @@
 use Rattle.std.proofs.Common.{◌<◌, cond, eqb, false, None, refl, sym, ap, ◌∙◌, arith, set}
-use Rattle.std.proofs.lemmas.Bool.{le-ltb}
-use Rattle.std.proofs.lemmas.Option.{none-some}
+use Rattle.slab_index.proofs.Common.{le-ltb, none-some}
 use Rattle.slab_index.specs.SlabSet.{is_available}
 use Rattle.slab_index.proofs.Steps.{IsReplaced-set, HasOnly-none, HasOnly-some, IsIndex-filled}
 use Rattle.slab_index.proofs.Views.{class_of_list, granules_of, classes_after, blocks_after}

@@ -1,11 +1,5 @@
 use Rattle.std.proofs.Common.{◌≡◌, ◌*◌, length, ap, ◌∙◌, arith}
-use Rattle.pmem_lines.specs.Pmem.{PmemState, words_of}
-use Rattle.pool_layout.specs.declared.layout.Layout.{Layout}
-use Rattle.pool_layout.specs.Layout.{layout_of}
-use Rattle.pool_layout.specs.Header.{version_in}
-use Rattle.image_tables.specs.Extents.{extent_at}
-use Rattle.book_log.proofs.Places.{within_heap}
-use Rattle.book_log.proofs.Fresh.{HasLog-fresh}
+use Rattle.step_tests.proofs.Common.{PmemState, words_of, Layout, layout_of, version_in, extent_at, within_heap, HasLog-fresh}
 use Rattle.step_tests.proofs.Evens.{even_none, even_more, even_same}
 use Rattle.step_tests.proofs.Filling.{log_size, begun_most}
 use Rattle.step_tests.proofs.Fresh.{IsFreshOf, fresh_by, fresh_none}

@@ -1,6 +1,5 @@
 use Rattle.std.proofs.Common.{◌<◌, sym, ◌∙◌, arith}
-use Rattle.size_classes.specs.Classes.{class_capacity}
-use Rattle.pmem_lines.specs.Pmem.{words_of}
+use Rattle.step_tests.proofs.Common.{class_capacity, words_of}
 use Rattle.step_tests.proofs.TakenClasses.{may_take, takes_few}
 use Rattle.step_tests.proofs.slabs.morphs.take_class.Goals as goal
 

@@ -1,7 +1,0 @@
-use Rattle.std.proofs.Common.{ℕ, ◌<◌}
-use Rattle.image_tables.specs.Tables.{tables_of}
-use Rattle.defect_search.proofs.OpenEntries.{HasNewBlock}
-use Rattle.defect_search.proofs.opening.is_new.Given as goal
-
-abbrev pub invariant-loop-back : goal.invariant-loop-back
-invariant-loop-back l = (d : ℕ) → d < l.back → ¬ (HasNewBlock (tables_of l.words) l.last d l.at)

@@ -1,5 +1,0 @@
-use Rattle.log_gc.proofs.Telling.{blank_at}
-use Rattle.log_gc.proofs.census.blank_slots.Goals as goal
-
-pub returns : goal.returns
-returns g c = blank_at g.row.N

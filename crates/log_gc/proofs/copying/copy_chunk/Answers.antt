@@ -1,5 +1,0 @@
-use Rattle.pmem_lines.proofs.States.{then_step}
-use Rattle.log_gc.proofs.copying.copy_chunk.Goals as goal
-
-pub returns-clause-appends : goal.returns-clause-appends
-returns-clause-appends g c = then_step c.copy_entries-behind.ensures.appends c.flush_chunk.ensures.appends

@@ -1,0 +1,15 @@
+pub mod Common
+pub mod Events
+pub mod Storing
+pub mod Copies
+pub mod Filled
+pub mod Switches
+pub mod Flushes
+pub mod Choices
+pub mod Listing
+pub mod Alone
+pub mod Ways
+pub mod Next
+pub mod Telling
+pub mod Making
+pub mod Booked
