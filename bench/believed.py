@@ -18,7 +18,7 @@ RUN = [
     ("nvheap", "source.rt", ["Source"]),
     ("nvheap", "sink.rt", ["Sink"]),
     ("nvheap", "shelf.rt", ["Shelf"]),
-    ("trace_workers", "gate.rt", ["Gate"]),
+    ("shared_pool", "gate.rt", ["Gate"]),
 ]
 HEAD = re.compile(r"^(\s*)(?:(?:abbrev|unfoldable|pub|data|record)\s+)+([^\s:({]+)")
 WORD = re.compile(r"[A-Za-z_][\w'-]*(?:\.[A-Za-z_][\w'-]*)*|[◌≡∷+*/<>=&|×⊎¬≤≢∙-]+")

@@ -1,7 +1,7 @@
 #!/usr/bin/env bash
 # Has the built program meet faults, one at a time, and looks at how it ends: each request for memory refused in turn, each
-# read and write failing in turn, and each moving one byte where it asked for several, in `replay` on two traces and in
-# `check` and `recover` on an image; and the code and the line on standard error of each way to end. It prints a line for
+# read and write failing in turn, and each moving one byte where it asked for several, in `replay` and `serve` on two traces and
+# in `check` and `recover` on an image; and the code and the line on standard error of each way to end. It prints a line for
 # each kind of fault and ends with 0 where all was as docs/program.md says. It needs `cc` and the GNU C library. It is no
 # part of the gate. With a word it looks at that program, in place of the one that the launcher builds.
 set -u
@@ -28,7 +28,7 @@ meet() {
     read -ra faults <<<"$1"
     shift 2
     code=0
-    env LD_PRELOAD="$room/faults.so" "${faults[@]}" "$program" "$@" <"$input" >"$room/out" 2>"$room/err" || code=$?
+    timeout 60 env LD_PRELOAD="$room/faults.so" "${faults[@]}" "$program" "$@" <"$input" >"$room/out" 2>"$room/err" || code=$?
 }
 
 # The program ended otherwise than it must.
@@ -115,7 +115,7 @@ ends() {
 }
 
 all_ends() {
-    local usage='usage: nvheap replay, image, check, recover, crash A K SEED, gen N SEED, migrate'
+    local usage='usage: nvheap replay, image, check, recover, crash A K SEED, gen N SEED, migrate, dict, dict-crash K SEED, serve'
     meet "" /dev/null
     ends "no words" 1 "$usage"
     meet "" /dev/null --help
@@ -148,6 +148,8 @@ printf 'pool 1 16\n0 0 m 5 100\n' >"$room/one"
 
 all_faults "replay of a call" "$room/one" replay
 all_faults "replay of examples/small.trace" "$top/examples/small.trace" replay
+all_faults "serve of a call" "$room/one" serve
+all_faults "serve of examples/small.trace" "$top/examples/small.trace" serve
 all_faults "check of an image" "$room/image" check
 all_faults "recover of an image" "$room/image" recover
 all_ends

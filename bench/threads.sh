@@ -1,9 +1,10 @@
 #!/usr/bin/env bash
-# Times `replay` of the built program on a million mallocs and frees of small blocks over four arenas: all of them by one
-# thread, then each arena's by a thread of its own; on a hundred thousand over one arena, by one thread, by four and by 64; and
-# `gen` of a million calls. Of each trace the program `call_times` says how long its calls alone take, without text: by
-# workers, through the locks of the pool, and where they are the calls of one thread by a caller without a pool too. Calls that
-# are refused show what the turns take. It is no test. The traces are made in a temporary folder, which is removed at the end.
+# Times `replay` and `serve` of the built program, one behind the other, on a million mallocs and frees of small blocks over four
+# arenas: all of them by one thread, then each arena's by a thread of its own; on a hundred thousand over one arena, by one
+# thread, by four, by eight and by 64; and `gen` of a million calls. Of each trace the program `call_times` says how long its
+# calls alone take, without text: by workers, through the locks of the pool, and where they are the calls of one thread by a
+# caller without a pool too, and through the queue of a server. Calls that are refused show what the turns and the requests
+# take. It is no test. The traces are made in a temporary folder, which is removed at the end.
 set -eu
 
 top=$(dirname -- "$(dirname -- "$(readlink -f -- "${BASH_SOURCE[0]}")")")
@@ -33,9 +34,11 @@ calls() {
     }'
 }
 
-# Times `replay` of the trace, and its calls alone: the best of five times.
+# Times `replay` and `serve` of the trace, and its calls alone: the best of five times.
 measure() {
-    python3 "$top/bench/measure.py" "$program" "$room/trace" "$room/out" "$1" "$2" call replay
+    for command in replay serve; do
+        python3 "$top/bench/measure.py" "$program" "$room/trace" "$room/out" "$1, $command" "$2" call "$command"
+    done
     alone "$1, the calls alone" workers
 }
 
@@ -53,11 +56,14 @@ measure "one arena, one thread" 100000
 alone "one arena, without a pool" alone
 calls 100000 1 4 >"$room/trace"
 measure "one arena, four threads" 100000
+calls 100000 1 8 >"$room/trace"
+measure "one arena, eight threads" 100000
 calls 100000 1 64 >"$room/trace"
 measure "one arena, 64 threads" 100000
 
 # Calls of one arena that are all refused but for the first, so that the turns at its lock are most of what they take: by one
-# caller without a pool, and by one, four and eight threads in turn.
+# caller without a pool, by one, four and eight threads in turn, and by one caller that sends each to the arena's queue and then
+# has its owner serve it.
 refused() {
     awk -v count="$1" -v threads="$2" 'BEGIN {
         print "pool 1 16"
@@ -67,6 +73,7 @@ refused() {
 refused 1000000 1
 alone "refused calls, without a pool" alone
 alone "refused calls, one thread" workers
+alone "refused calls, through a queue" queue
 refused 1000000 4
 alone "refused calls, four threads" workers
 refused 1000000 8

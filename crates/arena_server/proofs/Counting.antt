@@ -69,5 +69,9 @@ found : (s n : ℕ) (es : List Ended) (xs ys : List Request) → is_in s (map (�
 found s n [] xs ys has p q = absurd (false≢true has)
 found s n (e ∷ es) xs ys has p q = found_in s e xs ys (e.sender == s) (is_in s (map (λ e. e.sender) es)) refl has p.0.1 q.0.1 (λ h. found s n es xs ys h p.1 q.1)
 
+-- two lists of requests of these senders that agree on each of them are of one length
+pub same_senders : (n : ℕ) (xs ys : List Request) → AllOfSenders n xs → AllOfSenders n ys → ((s : ℕ) → s < n → of s xs ≡ of s ys) → length xs ≡ length ys
+same_senders n xs ys p q same = sym (all_counted n xs p) ∙ (same_counted n xs ys same ∙ all_counted n ys q)
+
 pub same_length : (n : ℕ) (es : List Ended) (xs ys : List Request) → HasAll n (map (λ e. e.sender) es) → IsWhole n es xs → IsWhole n es ys → length xs ≡ length ys
-same_length n es xs ys all p q = sym (all_counted n xs p.enlisted) ∙ (same_counted n xs ys (λ s l. found s n es xs ys (all s l) p.sent q.sent) ∙ all_counted n ys q.enlisted)
+same_length n es xs ys all p q = same_senders n xs ys p.enlisted q.enlisted (λ s l. found s n es xs ys (all s l) p.sent q.sent)

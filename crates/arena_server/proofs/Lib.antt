@@ -7,6 +7,7 @@ pub mod Emptying
 pub mod Endings
 pub mod Entering
 pub mod Orders
+pub mod NewParties
 pub mod OwnerParts
 pub mod PartLists
 pub mod QueueSteps

@@ -35,6 +35,13 @@ impl Model for Owner {
 }
 
 impl Owner {
+    /// The number of the arena that the owner serves.
+    pub fn number(&self) -> u32
+        ensures { result ≡ self.now.pass.number }
+    {
+        self.pass.number()
+    }
+
     /// Whether the owner has skipped a request. One that has serves no more.
     pub fn has_skipped(&self) -> bool
         ensures { result ≡ self.now.skipped }

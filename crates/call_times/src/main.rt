@@ -1,19 +1,25 @@
 // The program `call_times`: how long the calls of a trace take alone, without the reading of its text and the report of its
 // journals. The trace comes on standard input. The word `workers` has a worker for each thread make the calls, through the
-// locks of a pool, as `replay` does; the word `alone` has one caller make them in the order of the lines, without a pool.
+// locks of a pool, as `replay` does; the word `alone` has one caller make them in the order of the lines, without a pool; and the
+// word `queue` has one caller send each to the queue of a server's one arena, and then the arena's owner serve it.
 // Standard output has the number of calls of each arena, standard error the time. It serves `bench/`, and nothing of it is
 // promised but that it is safe.
 #![tactic(auto)]
 
-ghost use Rattle.std.specs.Prelude.{◌≡◌, ◌<◌, ◌^◌, length, IfOk};
+ghost use Rattle.std.specs.Prelude.{◌≡◌, ◌<◌, ◌^◌, false, length, IfOk};
 ghost use Rattle.std.specs.List.{All};
+ghost use Rattle.shared_pool.specs.Passes.{part_at};
+ghost use Rattle.arena_server.specs.Servers.{IsSenderOf, IsOwnerOf};
 ghost use Rattle.trace_text.specs.Grammar.{pool_of, IsPool, IsTraceCall};
 
 use arena_core::Arena;
 use arena_journal::answer;
+use arena_server::{Owner, Sender, Server};
 use heap_model::Entry;
 use pmem_lines::{OutOfMemory, SimPmem};
 use pool_layout::layout_of;
+use server_tests::{Single, open_one};
+use shared_pool::OpenGate;
 use std::alloc::{AllocError, Global};
 use std::io::Read;
 use std::process::ExitCode;
@@ -23,18 +29,21 @@ use std::thread::Threads;
 use std::time::Instant;
 use std::{env, io};
 use trace_runs::new_arena;
-use trace_text::{TextFault, Trace, read_trace};
-use trace_workers::{OpenGate, make_calls};
+use trace_text::{TextFault, Trace, TraceCall, read_trace};
+use trace_workers::make_calls;
 
 const GRANULE_LINES: u32 = 256;
 
 const LONGEST: usize = 67_108_864;
+
+const QUEUE_ROOM: u32 = 1024;
 
 /// Who makes the calls.
 #[derive(Clone, Copy)]
 enum Caller {
     Workers,
     Alone,
+    Queue,
 }
 
 /// Why there is no time.
@@ -82,6 +91,7 @@ fn caller_named<R: Runtime>(rt: &R) -> Result<Caller, Fault> {
     match word.as_str() {
         "workers" => Ok(Caller::Workers),
         "alone" => Ok(Caller::Alone),
+        "queue" => Ok(Caller::Queue),
         _ => Err(Fault::Usage),
     }
 }
@@ -159,6 +169,51 @@ fn by_one_caller(
     Ok(counts)
 }
 
+/// Has the owner of the one arena serve the calls, each once it was sent, and gives the number of entries.
+fn by_queue<R: Wait>(
+    rt: &R,
+    alloc: Global,
+    trace: &Trace,
+    mut arenas: Vec<Arena<SimPmem>>,
+) -> Result<Vec<usize>, OutOfMemory>
+    requires one { length arenas.items ≡ 1 }
+    requires few { length trace.now.calls.items < 2 ^ 32 }
+{
+    let Single {
+        server,
+        mut sender,
+        mut owner,
+    } = open_one(alloc, arenas.remove(0), QUEUE_ROOM)?;
+    let served = serve_each(rt, alloc, &server, &mut sender, &mut owner, &trace.calls);
+    let mut counts = Vec::new(alloc);
+    counts.push(served)?;
+    Ok(counts)
+}
+
+/// Sends each call to the first arena, and has its owner serve it. How many were served before memory ran out.
+fn serve_each<R: Wait>(
+    rt: &R,
+    alloc: Global,
+    server: &Server<SimPmem>,
+    sender: &mut Sender,
+    owner: &mut Owner,
+    calls: &[TraceCall],
+) -> usize
+    requires sender { IsSenderOf server.now sender.old × (0 < length server.now.queues) }
+    requires owner { IsOwnerOf server.now owner.old × (owner.old.skipped ≡ false) }
+    requires turns { length calls.now < (part_at owner.old.pass owner.old.pass.number).turns }
+{
+    let mut served = 0;
+    for call in calls {
+        server.send(rt, sender, 0, call.call);
+        if server.serve_one(rt, alloc, owner).is_err() {
+            break;
+        }
+        served += 1;
+    }
+    served
+}
+
 /// Times the calls, and says how many each arena had.
 fn time_calls<R: Runtime + Threads + Wait + Sync, S: Read + Drop>(
     rt: &R,
@@ -172,6 +227,8 @@ fn time_calls<R: Runtime + Threads + Wait + Sync, S: Read + Drop>(
     let counts = match caller {
         Caller::Workers => by_workers(rt, alloc, &trace, arenas)?,
         Caller::Alone => by_one_caller(alloc, &trace, arenas)?,
+        Caller::Queue if arenas.len() == 1 => by_queue(rt, alloc, &trace, arenas)?,
+        Caller::Queue => return Err(Fault::NoTrace),
     };
     let took = begun.elapsed(rt)?.as_nanos();
     for (arena, count) in counts.iter().enumerate() {
@@ -185,7 +242,7 @@ fn time_calls<R: Runtime + Threads + Wait + Sync, S: Read + Drop>(
 fn main(rt: HostRuntime) -> ExitCode {
     let line = match time_calls(&rt, rt.alloc(), rt.stdin()) {
         Ok(()) => return ExitCode::SUCCESS,
-        Err(Fault::Usage) => "usage: call_times workers, alone",
+        Err(Fault::Usage) => "usage: call_times workers, alone, queue",
         Err(Fault::Outside) => "read, write or clock fault",
         Err(Fault::Memory) => "out of memory",
         Err(Fault::NoTrace) => "no trace",

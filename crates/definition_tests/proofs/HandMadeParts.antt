@@ -6,7 +6,7 @@ use Rattle.image_tables.specs.declared.entry.WalEntry.{WalEntry}
 use Rattle.image_tables.specs.Tables.{SlabHeader, Tables}
 use Rattle.heap_model.specs.Machine.{Bounds, Range, AreApart}
 use Rattle.heap_check.specs.Heap.{entry_at, IsClaim, Holds}
-use Rattle.heap_check.specs.Sound.{granules_at, Covers, IsInSlab, IsValidSlab, IsOpen, IsStanding, IsDoneSlab, IsSound, IsSteady, IsExact}
+use Rattle.heap_check.specs.Sound.{granules_at, Covers, IsInSlab, IsValidSlab, AreExtents, IsOpen, IsStanding, IsDoneSlab, IsSound, IsSteady, IsExact}
 use Rattle.heap_check.proofs.Claims.{IsNamed-claim}
 use Rattle.heap_check.proofs.Geometry.{granules_at-slab, granules_at-large}
 
@@ -93,12 +93,15 @@ module _ {t : Tables} {start count : ℕ} (has : HasExtents t start count) where
       (cases_lt 0 (t.large g))
 
   -- what is a slab is that one, so of each loose thing there is one at most
-  one_slab : (g other : ℕ) → t.slab g ≡ true → t.slab other ≡ true → g ≡ other
+  pub one_slab : (g other : ℕ) → t.slab g ≡ true → t.slab other ≡ true → g ≡ other
   one_slab g other first second = slab_is g first ∙ sym (slab_is other second)
+
+  pub extents_by : AreExtents bounds t.large t.slab
+  extents_by = record { disjoint = disjoint; starts = starts; one_kind = one_kind }
 
   pub sound_by : HasBlocks t start → IsSound bounds t
   sound_by blocks = record {
-    extents = record { disjoint = disjoint; starts = starts; one_kind = one_kind };
+    extents = extents_by;
     slabs = λ g slab. subst (λ s. IsValidSlab (t.header s)) (sym (slab_is g slab)) blocks.slab;
     owned = record {
       open_entry = blocks.open_entry;

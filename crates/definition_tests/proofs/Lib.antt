@@ -13,3 +13,4 @@ pub mod HandMadeMove
 pub mod HandMadeSlab
 pub mod HandMadeMorphing
 pub mod HandMadeMorphed
+pub mod HandMadeGc

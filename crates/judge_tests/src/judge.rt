@@ -5,7 +5,7 @@ mod changed;
 mod known;
 
 use crate::machine::calls::{Asked, Pool, calls_at, numbered, pool_of};
-use crate::machine::{Counts, Machine};
+use crate::machine::{Counts, Machine, Seats};
 use std::alloc::{AllocError, Global};
 
 /// What the judge says of a report.
@@ -76,6 +76,7 @@ fn last_number(line: &str) -> u64 {
 // A line is the first call that its thread has left, with the machine's reply.
 fn is_answered(
     alloc: Global,
+    seats: Seats,
     machine: &mut Machine,
     left: &mut Vec<Asked<'_>>,
     line: &str,
@@ -86,7 +87,8 @@ fn is_answered(
     let Some(asked) = take_first(left, thread) else {
         return Ok(false);
     };
-    let reply = machine.answer(alloc, thread, asked.call)?;
+    let seat = seats.at(asked.arena, thread);
+    let reply = machine.answer(alloc, seat, asked.call)?;
     let said = reply.text(alloc, last_number(line))?;
     let text = asked.text;
     let wanted = format!(in alloc; "{thread} {text} {said}")?;
@@ -112,6 +114,7 @@ fn is_heap(alloc: Global, machine: &Machine, lines: &mut Lines<'_>) -> Result<bo
 // The next lines are the journal and the heap of an arena. How often each way came, if they are.
 fn judge_arena(
     alloc: Global,
+    seats: Seats,
     trace: &str,
     arena: u64,
     pool: Pool,
@@ -128,7 +131,7 @@ fn judge_arena(
         let Some(line) = lines.next() else {
             return Ok(None);
         };
-        if !is_answered(alloc, &mut machine, &mut left, line)? {
+        if !is_answered(alloc, seats, &mut machine, &mut left, line)? {
             return Ok(None);
         }
     }
@@ -138,10 +141,15 @@ fn judge_arena(
     Ok(Some(machine.counts))
 }
 
-/// Judges a report of a trace: each line's reply is the machine's, where the word that a read finds unwritten may be any; the
-/// calls at each arena are those that its threads ask of it, each thread's in its order and each call once; and the heaps
-/// are those behind the last calls.
-pub(crate) fn judge(alloc: Global, trace: &str, report: &str) -> Result<Verdict, AllocError> {
+/// Judges a report of a trace: each line's reply is the machine's by these seats, where the word that a read finds unwritten may
+/// be any; the calls at each arena are those that its threads ask of it, each thread's in its order and each call once; and
+/// the heaps are those behind the last calls.
+pub(crate) fn judge(
+    alloc: Global,
+    seats: Seats,
+    trace: &str,
+    report: &str,
+) -> Result<Verdict, AllocError> {
     let mut lines = Lines {
         lines: report.lines().collect(alloc)?,
         read: 0,
@@ -149,7 +157,7 @@ pub(crate) fn judge(alloc: Global, trace: &str, report: &str) -> Result<Verdict,
     let pool = pool_of(trace);
     let mut counts = Counts::ZERO;
     for arena in 0..pool.arenas {
-        match judge_arena(alloc, trace, arena, pool, &mut lines)? {
+        match judge_arena(alloc, seats, trace, arena, pool, &mut lines)? {
             Some(more) => counts = counts.with(more),
             None => return Ok(Verdict::WrongAt(lines.read)),
         }

@@ -1,5 +1,5 @@
-// A judge of reports of `replay`, which knows the heap machine and its placement by their words alone, and reports that it
-// judges.
+// A judge of reports of `replay` and `serve`, which knows the heap machine and its placement by their words alone, and reports
+// that it judges.
 //
 // The crate has no code. It stands apart from `run_tests`, since a crate with tests is proved twice, and it takes nothing of
 // the crates that define or serve the machine: `machine` is a plain body of it, with the calls of a trace, and `judge` replays

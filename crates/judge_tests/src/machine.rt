@@ -85,6 +85,25 @@ fn numbered(alloc: Global, word: &str, number: u64) -> Result<String, AllocError
     format!(in alloc; "{word} {number}")
 }
 
+/// Whose stacks a call goes by.
+#[derive(Clone, Copy, Debug)]
+pub(crate) enum Seats {
+    /// Those of its thread, as under `replay`.
+    OfThreads,
+    /// Those of the arena's owner, who has the arena's number, as under `serve`.
+    OfOwners,
+}
+
+impl Seats {
+    /// The seat by which a thread's call at an arena is placed.
+    pub(crate) fn at(self, arena: u64, thread: u64) -> u64 {
+        match self {
+            Seats::OfThreads => thread,
+            Seats::OfOwners => arena,
+        }
+    }
+}
+
 /// How often each way of a malloc was taken, and what else came of calls.
 #[derive(Clone, Copy, Debug, PartialEq, Eq)]
 pub(crate) struct Counts {

@@ -6,7 +6,7 @@ ghost use Rattle.std.specs.Prelude.{◌<◌, length, IfSome};
 
 use crate::judge::judge;
 use crate::machine::calls::{Pool, calls_at, pool_of};
-use crate::machine::{Counts, Machine};
+use crate::machine::{Counts, Machine, Seats};
 use crate::threads::generated::{Made, of_seed, on_one_thread, trace};
 use nvheap::{Gate, KeptShelf, MemSink, Status, SureSource, run};
 use shared_pool::Pass;
@@ -81,28 +81,51 @@ fn tells<R: Threads + Wait + Sync>(
     Ok(sink.bytes().to_vec(alloc)?)
 }
 
-// The report of a trace, and what the judge says of it.
-fn replayed<R: Abort + Threads + Wait + Sync>(
+// The commands that have a trace's threads make its calls, each with whose stacks these go by.
+const REPLAY: (&str, Seats) = ("replay", Seats::OfThreads);
+
+const SERVE: (&str, Seats) = ("serve", Seats::OfOwners);
+
+// The report of a trace by one of these commands, and what the judge says of it.
+fn judged<R: Abort + Threads + Wait + Sync>(
     rt: &R,
     alloc: Global,
+    command: (&str, Seats),
     trace: &str,
     most: u32,
 ) -> Result<Counts, Fail> {
-    let written = tells(rt, alloc, "replay", trace.as_bytes(), most)?;
+    let (word, seats) = command;
+    let written = tells(rt, alloc, word, trace.as_bytes(), most)?;
     let report = str::from_utf8(&written)?;
-    let verdict = judge(alloc, trace, report)?;
-    assert!(rt; verdict.is_right(), "{verdict:?} of {report} of {trace}");
+    let verdict = judge(alloc, seats, trace, report)?;
+    assert!(rt;
+        verdict.is_right(),
+        "{verdict:?} of {report} of {word} of {trace}"
+    );
     Ok(verdict.counts())
 }
 
-// Four threads, whose calls come in turns. Which order they come in is not said, and so not how often each way does.
-#[test]
-fn reports_of_four_threads(rt: HostRuntime) -> Result<(), Fail> {
+// The traces of four threads, whose calls come in turns. Which order they come in is not said, and so not how often each way does.
+fn all_judged<R: Abort + Threads + Wait + Sync>(
+    rt: &R,
+    alloc: Global,
+    command: (&str, Seats),
+) -> Result<(), Fail> {
     for seed in 0..TRACES {
-        let text = trace(rt.alloc(), of_seed(seed))?;
-        let _ = replayed(&rt, rt.alloc(), &text, 100_000)?;
+        let text = trace(alloc, of_seed(seed))?;
+        let _ = judged(rt, alloc, command, &text, 100_000)?;
     }
     Ok(())
+}
+
+#[test]
+fn reports_of_four_threads(rt: HostRuntime) -> Result<(), Fail> {
+    all_judged(&rt, rt.alloc(), REPLAY)
+}
+
+#[test]
+fn reports_of_four_senders(rt: HostRuntime) -> Result<(), Fail> {
+    all_judged(&rt, rt.alloc(), SERVE)
 }
 
 // A trace of 131072 bytes at root 0, so many blocks of 64 bytes, and one of 1000 bytes: four granules are left for them.
@@ -121,7 +144,7 @@ fn with_old_blocks(alloc: Global, count: u32) -> Result<String, AllocError> {
 fn as_many_old_blocks_as_may_be(rt: HostRuntime) -> Result<(), Fail> {
     for (count, taken, none) in [(1, 1, 0), (64, 1, 0), (65, 0, 1)] {
         let text = with_old_blocks(rt.alloc(), count)?;
-        let counts = replayed(&rt, rt.alloc(), &text, 0)?;
+        let counts = judged(&rt, rt.alloc(), REPLAY, &text, 0)?;
         assert_eq!(rt; (counts.taken, counts.none), (taken, none), "of {count}");
     }
     Ok(())
@@ -142,7 +165,7 @@ fn reports_of_one_thread(rt: HostRuntime) -> Result<(), Fail> {
     for seed in 0..TRACES {
         let text = trace(rt.alloc(), of_seed(seed))?;
         let single = on_one_thread(rt.alloc(), &text)?;
-        counts = counts.with(replayed(&rt, rt.alloc(), &single, 0)?);
+        counts = counts.with(judged(&rt, rt.alloc(), REPLAY, &single, 0)?);
     }
     assert!(rt; counts.refilled > 10, "{counts:?}");
     came_often(&rt, counts);

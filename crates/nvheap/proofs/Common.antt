@@ -24,8 +24,8 @@ pub use Rattle.recovery_steps.proofs.Arenas.{sound_of}
 pub use Rattle.shared_pool.specs.Rows.{each_of}
 pub use Rattle.trace_runs.proofs.Each.{EachFrom-more}
 pub use Rattle.trace_runs.specs.Arenas.{header_for, IsNewArena}
+pub use Rattle.trace_runs.specs.Told.{AreNew}
 pub use Rattle.trace_text.specs.Grammar.{pool_of, IsRefusedLine}
 pub use Rattle.trace_text.specs.declared.call.PoolSize.{PoolSize}
 pub use Rattle.trace_text.specs.declared.call.Refusal.TheVariants.{BadLine, NoArena, NoEvent}
 pub use Rattle.trace_text.specs.declared.call.TraceCall.{TraceCall}
-pub use Rattle.trace_workers.specs.Reports.{AreNew}

@@ -3,7 +3,7 @@ use Rattle.std.proofs.Common.{◌≡◌, ◌==◌, ℕ, ◌+◌, ◌*◌, List, 
 use Rattle.nvheap.proofs.Common.{decimal, decimal_injective}
 use Rattle.nvheap.specs.declared.cause.Cause.{Cause}
 use Rattle.nvheap.specs.declared.command.Command.{Command}
-use Rattle.nvheap.specs.declared.command.Command.TheVariants.{Replay, Image, Check, Recover, Crash, Gen, Migrate, Dict, DictCrash}
+use Rattle.nvheap.specs.declared.command.Command.TheVariants.{Replay, Image, Check, Recover, Crash, Gen, Migrate, Dict, DictCrash, Serve}
 use Rattle.nvheap.specs.Meaning.{Meaning}
 use Rattle.nvheap.specs.Command.{row_of, meaning_of, AreNumbers, IsCommand, IsNoCommand, IsSaid}
 use Rattle.nvheap.proofs.Refusals.{trace_not_refused, image_not_refused, crash_not_refused, migrate_not_refused, script_not_refused, dict_crash_not_refused}
@@ -26,6 +26,7 @@ command_by k numbers =
     if k == 1897 then Some Migrate else
     if k == 1129 then Some Dict else
     if k == 2665 then Some (DictCrash (get_or numbers 0 0) (get_or numbers 1 0)) else
+    if k == 1381 then Some Serve else
     None
 
 -- it is the one whose text and numbers they are
@@ -39,6 +40,7 @@ back (Gen count seed) = refl
 back Migrate = refl
 back Dict = refl
 back (DictCrash event seed) = refl
+back Serve = refl
 
 -- what a command accepts it does not refuse
 pub settled : (command : Command) (input : List ℕ) (why : Cause) → (meaning_of command).accepts input → ¬ ((meaning_of command).refuses input why)
@@ -51,6 +53,7 @@ settled (Gen count seed) input why has = λ refused. refused
 settled Migrate input why has = migrate_not_refused input why has
 settled Dict input why has = script_not_refused input why has
 settled (DictCrash event seed) input why has = dict_crash_not_refused event input why has
+settled Serve input why has = trace_not_refused input why has
 
 -- one command
 

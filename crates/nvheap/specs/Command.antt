@@ -1,7 +1,7 @@
 -- The words of the program.
 use Rattle.std.specs.Prelude.{◌≡◌, ℕ, ◌<◌, ◌≤◌, ◌^◌, List, [], ◌∷◌, map, decimal, codes}
 use Rattle.nvheap.specs.declared.command.Command.{Command}
-use Rattle.nvheap.specs.declared.command.Command.TheVariants.{Replay, Image, Check, Recover, Crash, Gen, Migrate, Dict, DictCrash}
+use Rattle.nvheap.specs.declared.command.Command.TheVariants.{Replay, Image, Check, Recover, Crash, Gen, Migrate, Dict, DictCrash, Serve}
 use Rattle.nvheap.specs.Meaning.{Meaning}
 use Rattle.nvheap.specs.Replaying.{replaying}
 use Rattle.nvheap.specs.Imaging.{imaging}
@@ -12,6 +12,7 @@ use Rattle.nvheap.specs.Generating.{generating}
 use Rattle.nvheap.specs.Migrating.{migrating}
 use Rattle.nvheap.specs.Scripting.{scripting}
 use Rattle.nvheap.specs.ScriptCrashing.{script_crashing}
+use Rattle.nvheap.specs.Serving.{serving}
 
 -- a command: its first word, the numbers behind it and which they may be, and what it means
 pub record Row : Type 1 where
@@ -35,6 +36,7 @@ row_of (Gen count seed) = record { text = codes "gen"; numbers = count ∷ seed 
 row_of Migrate = alone (codes "migrate") migrating
 row_of Dict = alone (codes "dict") scripting
 row_of (DictCrash event seed) = record { text = codes "dict-crash"; numbers = event ∷ seed ∷ []; fits = Unit {0}; meaning = script_crashing event seed }
+row_of Serve = alone (codes "serve") serving
 
 -- what a command means
 abbrev pub meaning_of : Command → Meaning

@@ -3,7 +3,9 @@ pub mod Inputs
 pub mod Causes
 pub mod Meaning
 pub mod Traces
+pub mod Reporting
 pub mod Replaying
+pub mod Serving
 pub mod Imaging
 pub mod Checking
 pub mod Recovering

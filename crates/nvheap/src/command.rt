@@ -26,6 +26,8 @@ pub enum Command {
     Dict,
     /// Run a script up to an event, and print the map that a crash leaves.
     DictCrash { event: u64, seed: u64 },
+    /// Have a server of arenas run a trace, and print its report.
+    Serve,
 }
 
 const MOST_CALLS: u64 = 1_000_000;
@@ -37,7 +39,7 @@ impl Command {
     {
         match self {
             Command::Replay | Command::Image | Command::Crash { .. } => Some(Kind::Text),
-            Command::Dict | Command::DictCrash { .. } => Some(Kind::Text),
+            Command::Dict | Command::DictCrash { .. } | Command::Serve => Some(Kind::Text),
             Command::Check | Command::Recover | Command::Migrate => Some(Kind::Pool),
             Command::Gen { .. } => None,
         }
@@ -88,6 +90,9 @@ fn plain_command(word: &String) -> Option<Command>
     }
     if is_word(word, "dict") {
         return Some(Command::Dict);
+    }
+    if is_word(word, "serve") {
+        return Some(Command::Serve);
     }
     None
 }

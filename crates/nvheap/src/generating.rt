@@ -4,15 +4,16 @@ ghost use Rattle.nvheap.specs.Generating.{generating};
 ghost use Rattle.nvheap.specs.Ends.{IsAnswer};
 
 use crate::answers::Answer;
-use crate::replaying::take_arenas;
+use crate::reporting::take_arenas;
 use crate::shelf::{Shelf, put_all};
 use pmem_lines::OutOfMemory;
+use shared_pool::Gate;
 use std::alloc::Global;
 use std::sync::Wait;
 use std::thread::Threads;
 use trace_gen::{generate, generated_pool};
 use trace_text::Trace;
-use trace_workers::{Account, Gate, replay};
+use trace_workers::{Account, replay};
 
 /// What so many generated calls come to, which are made by a worker for each arena. Each arena's device comes from the shelf,
 /// and is put into the place of the arena's number once all calls are made.

@@ -1,13 +1,13 @@
 // What the program does between its words and its exit code: it replays allocation traces on the arenas of a pool over
-// simulated persistent memory and prints journals and heaps, it generates such work and prints what it came to, it writes the
-// pool's image, it shows the heap that recovery makes of a crash at a chosen event, it checks, recovers and migrates the image
-// of a pool, and it runs scripts of a dictionary and shows what a crash leaves of one.
+// simulated persistent memory, or has a server of arenas serve them, and prints journals and heaps, it generates such work and
+// prints what it came to, it writes the pool's image, it shows the heap that recovery makes of a crash at a chosen event, it
+// checks, recovers and migrates the image of a pool, and it runs scripts of a dictionary and shows what a crash leaves of one.
 //
 // `run` does all of it, over traits for the outside: a source of bytes, a sink for bytes, a gate and a shelf of
 // devices. Its contract is what the program promises: `specs/Ends.antt` says how a run ends by what a command means, and
 // the table of `specs/Command.antt` has the meaning of each. The program's `main` makes the real source, sink, gate and
 // shelf, and calls `run`; those in memory are for tests. No rule of the heap stands here: the calls of a trace are made by
-// `trace_workers` and `trace_runs`, those of generated work are drawn by `trace_gen`, those of a script are made by
+// `trace_workers`, `serve_runs` and `trace_runs`, those of generated work are drawn by `trace_gen`, those of a script are made by
 // `dict_runs`, images are checked, recovered and migrated by `image_runs`, text is read and written by `trace_text` and
 // `dict_text`, memory comes from `pmem_lines`.
 #![tactic(auto)]
@@ -24,7 +24,7 @@ mod input;
 mod migrating;
 mod output;
 mod recovering;
-mod replaying;
+mod reporting;
 mod running;
 mod script_crashing;
 mod scripting;
@@ -37,8 +37,8 @@ pub use adapter::Adapter;
 pub use cause::Cause;
 pub use command::Command;
 pub use running::run;
+pub use shared_pool::{Gate, OpenGate};
 pub use shelf::{DropShelf, KeptShelf, Shelf};
 pub use sink::{MemSink, Sink, SureSink};
 pub use source::{Failed, MemSource, Source, SureSource};
 pub use status::Status;
-pub use trace_workers::{Gate, OpenGate};

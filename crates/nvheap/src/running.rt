@@ -1,8 +1,8 @@
 // The top call.
 ghost use Rattle.std.specs.Prelude.{◌≡◌, ◌≢◌, ◌↔◌, ◌⊎◌, ℕ, List, Option, None, IsTrue, map, string_bytes};
 ghost use Rattle.nvheap.specs.Outside.{told_by, Rose};
-ghost use Rattle.nvheap.specs.Replaying.{replaying};
 ghost use Rattle.nvheap.specs.Generating.{generating};
+ghost use Rattle.nvheap.specs.Reporting.{reporting, seats_of};
 ghost use Rattle.nvheap.specs.Command.{meaning_of, IsNoCommand, IsSaid};
 ghost use Rattle.nvheap.specs.Ends.{Ends, HasAcceptable, IsSilent, IsAside};
 
@@ -11,15 +11,15 @@ use crate::command::{Command, command_of};
 use crate::generating::gen_answer;
 use crate::input::{Input, read_input};
 use crate::output::write_answer;
-use crate::replaying::replay_answer;
+use crate::reporting::{Crew, report_answer};
 use crate::shelf::Shelf;
 use crate::sink::Sink;
 use crate::source::Source;
 use crate::status::Status;
+use shared_pool::Gate;
 use std::alloc::Global;
 use std::sync::Wait;
 use std::thread::Threads;
-use trace_workers::Gate;
 
 /// Does all that the program does: reads the words, then all of the source where the command reads one, runs the command, and
 /// then writes. `words` are the words after the program's name.
@@ -62,23 +62,25 @@ pub fn run<R: Threads + Wait + Sync, S: Source, K: Sink, G: Gate + Sync, H: Shel
         return Status::Usage;
     };
     match command {
-        Command::Replay => run_replay(rt, alloc, source, sink, gate, shelf),
+        Command::Replay => run_report(rt, alloc, Crew::Workers, source, sink, gate, shelf),
+        Command::Serve => run_report(rt, alloc, Crew::Owners, source, sink, gate, shelf),
         Command::Gen { count, seed } => run_gen(rt, alloc, count, seed, sink, gate, shelf),
         _ => run_returning(alloc, command, source, sink, shelf),
     }
 }
 
-// Runs `replay`, which may wait.
-fn run_replay<R: Threads + Wait + Sync, S: Source, K: Sink, G: Gate + Sync, H: Shelf>(
+// Runs `replay` or `serve`, which may wait.
+fn run_report<R: Threads + Wait + Sync, S: Source, K: Sink, G: Gate + Sync, H: Shelf>(
     rt: &R,
     alloc: Global,
+    crew: Crew,
     source: &mut S,
     sink: &mut K,
     gate: &G,
     shelf: &mut H,
 ) -> Status
     ensures ends { let told = told_by S.left K.taken H.places H.images in
-        Ends replaying (told source.old sink.old shelf.old) (told source.new sink.new shelf.new) result }
+        Ends (reporting (seats_of crew)) (told source.old sink.old shelf.old) (told source.new sink.new shelf.new) result }
     ensures read_fault { result ≡ Status.ReadFault → Rose (S.faults source.old) (S.faults source.new) }
     ensures unfailed { result ≡ Status.TooLong → S.faults source.new ≡ S.faults source.old }
     ensures write_fault { result ≡ Status.WriteFault → Rose (K.faults sink.old) (K.faults sink.new) }
@@ -91,7 +93,7 @@ fn run_replay<R: Threads + Wait + Sync, S: Source, K: Sink, G: Gate + Sync, H: S
         Ok(Input::Pool { .. }) => unreachable!(),
         Err(status) => return status,
     };
-    match replay_answer(rt, alloc, &text, gate, shelf) {
+    match report_answer(rt, alloc, crew, &text, gate, shelf) {
         Ok(answer) => write_answer(sink, &answer),
         Err(_) => Status::Memory,
     }

@@ -7,7 +7,7 @@ ghost use Rattle.nvheap.specs.Ends.{IsAnswer, IsBadLine};
 
 use crate::answers::{Answer, fault_line};
 use crate::cause::Cause;
-use crate::replaying::GRANULE_LINES;
+use crate::reporting::GRANULE_LINES;
 use crate::shelf::Shelf;
 use dict_runs::run_script;
 use dict_text::{Script, read_script};

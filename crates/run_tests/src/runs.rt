@@ -162,16 +162,17 @@ pub(crate) fn counted(alloc: Global, name: &str, parts: &str) -> Result<String, 
     format!(in alloc; "{name} {count}\n{lines}")
 }
 
-/// The word at an address of the device that a replay of a trace leaves on a shelf. The address lies in the first 16
-/// granules.
+/// The word at an address of the device that a run over a trace leaves on a shelf, with one word of the program. The address
+/// lies in the first 16 granules.
 pub(crate) fn word_after<R: Threads + Wait + Sync>(
     rt: &R,
     alloc: Global,
+    word: &str,
     trace: &str,
     at: u32,
 ) -> Result<Option<u64>, Fail> {
     let mut shelf = KeptShelf::new(alloc)?;
-    let _ = ends_with(rt, alloc, "replay", trace.as_bytes(), &OpenGate, &mut shelf)?;
+    let _ = ends_with(rt, alloc, word, trace.as_bytes(), &OpenGate, &mut shelf)?;
     match shelf.device(0) {
         Some(device) if at % 8 == 0 && at < 262_144 && device.size_words() >= 32_768 => {
             Ok(Some(device.load(at)))

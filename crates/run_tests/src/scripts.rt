@@ -123,7 +123,7 @@ $2 dict, dict-crash 0 0
 bad line 2
 ----
 dict 16
-$2 replay
+$2 replay, serve
 bad line 1
 ";
 

@@ -1,8 +1,11 @@
 pub mod Each
 pub mod Answers
+pub mod Asked
 pub mod Formatting
 pub mod Journals
 pub mod Listing
 mod OneWay
 pub mod Runs
 mod Settled
+pub mod Tellings
+pub mod ThreadNumbers

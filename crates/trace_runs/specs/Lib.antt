@@ -5,3 +5,6 @@ pub mod Calls
 pub mod Runs
 pub mod Journals
 pub mod Laws
+pub mod Answers
+pub mod Threads
+pub mod Told

@@ -1,33 +1,13 @@
 -- What was asked so far.
-use Rattle.std.proofs.Common.{◌≡◌, ◌≢◌, ℕ, zero, suc, ◌+◌, ◌-◌, ◌^◌, ◌<◌, ◌==◌, ◌&&◌, Bool, true, false, if◌then◌else◌, List, [], ◌∷◌, ◌++◌, map, length, take, get_or, set, refl, ap, sym, ◌∙◌, subst, arith, eq-eqb, ne_eqb}
-use Rattle.trace_workers.proofs.Common.{append-nil, length-map, All-get_or, Entry, PassState, PoolState, IsPassOf, nobody, part_at, Called, mine_at, first_calls, Lock, Known, Call, TraceCall}
+use Rattle.std.proofs.Common.{◌≡◌, ◌≢◌, ℕ, zero, suc, ◌+◌, ◌-◌, ◌^◌, ◌<◌, ◌==◌, ◌&&◌, Bool, true, false, List, [], ◌∷◌, ◌++◌, map, length, get_or, set, refl, ap, sym, ◌∙◌, subst, arith, eq-eqb, ne_eqb}
+use Rattle.trace_workers.proofs.Common.{append-nil, length-map, Entry, PassState, PoolState, IsPassOf, nobody, part_at, Called, mine_at, first_calls, Lock, Known, Call, TraceCall}
 use mathlib.Core.List.{map-append}
 use mathlib.Core.Logic.{dite}
 use native.Mathlib.Decide.{ℕ_discrete}
 use Rattle.shared_pool.specs.declared.job.Receipt.{Receipt}
-use Rattle.trace_workers.specs.Answers.{asked, calls_in}
-use Rattle.trace_workers.specs.Workers.{AllIn, HasMadeOwn, HasTurns, AllReady, AllOf, AllDone}
-
-put : Bool → Call → List Call → List Call
-put b x xs = if b then x ∷ xs else xs
-
-put_more : (b : Bool) (x : Call) (xs ys : List Call) → (if b then x ∷ (xs ++ ys) else (xs ++ ys)) ≡ (if b then x ∷ xs else xs) ++ ys
-put_more true x xs ys = refl
-put_more false x xs ys = refl
-
-asked-append : (t a : ℕ) (xs ys : List TraceCall) → asked t a (xs ++ ys) ≡ asked t a xs ++ asked t a ys
-asked-append t a [] ys = refl
-asked-append t a (c ∷ cs) ys = ap (λ (l : List Call). if (c.thread == t) && (c.arena == a) then c.call ∷ l else l) (asked-append t a cs ys) ∙ put_more ((c.thread == t) && (c.arena == a)) c.call (asked t a cs) (asked t a ys)
-
-one_asked : (c : TraceCall) (t a : ℕ) (b : Bool) → (c.thread == t) && (c.arena == a) ≡ b → asked t a (c ∷ []) ≡ (if b then c.call ∷ [] else [])
-one_asked c t a b e = ap (λ (z : Bool). if z then c.call ∷ [] else []) e
-
-and_first : (x y : Bool) → x ≡ false → x && y ≡ false
-and_first x y e = ap (λ z. z && y) e
-
-and_second : (x y : Bool) → y ≡ false → x && y ≡ false
-and_second true y e = e
-and_second false y e = refl
+use Rattle.trace_runs.specs.Answers.{asked, calls_in}
+use Rattle.trace_runs.proofs.Asked.{asked-append, one_asked, and_first, and_second}
+use Rattle.trace_workers.specs.Workers.{HasMadeOwn, HasTurns, AllReady, AllOf, AllDone}
 
 -- a call of another thread
 pub done_other : (xs : List TraceCall) (c : TraceCall) (p : PassState) → c.thread ≢ p.number → HasMadeOwn xs p → HasMadeOwn (xs ++ c ∷ []) p
@@ -87,17 +67,6 @@ turns_more k arena call p q r room called h a l =
     (λ (other : a ≢ arena).
     let same : (part_at q a).turns ≡ (part_at p a).turns = ap (λ (z : PassState). (part_at z a).turns) called.pass ∙ ap (λ (z : Known). z.turns) (get_other p.parts arena a _ other) in
     omega (arith, same, t))
-
-take_suc : {A : Type 0} (xs : List A) (k : ℕ) (d : A) → k < length xs → take (suc k) xs ≡ take k xs ++ get_or xs k d ∷ []
-take_suc [] k d l = absurd (omega arith)
-take_suc (x ∷ xs) zero d l = refl
-take_suc (x ∷ xs) (suc k) d l = ap (λ l. x ∷ l) (take_suc xs k d (omega arith))
-
-pub take_next : {A : Type 0} (xs : List A) (k : ℕ) (d : A) → k < length xs → take k xs ++ get_or xs k d ∷ [] ≡ take (k + 1) xs
-take_next xs k d l = sym (take_suc xs k d l) ∙ ap (λ n. take n xs) (let up : suc k ≡ k + 1 = omega arith in up)
-
-pub in_at : (n : ℕ) (xs : List TraceCall) (k : ℕ) (d : TraceCall) → k < length xs → AllIn n xs → (get_or xs k d).arena < n
-in_at n xs k d l h = All-get_or (λ (x : TraceCall). x.arena < n) xs k d l h
 
 pub ready_front : (pool : PoolState) (xs ys : List PassState) → AllReady pool (xs ++ ys) → AllReady pool xs
 ready_front pool [] ys h = tt

@@ -1,9 +1,11 @@
 -- The journals at the end answer the trace.
-use Rattle.std.proofs.Common.{◌≡◌, ◌≢◌, ◌⊎◌, inl, inr, ℕ, zero, suc, ◌+◌, ◌<◌, ◌≤◌, ◌==◌, ◌||◌, ◌&&◌, Bool, true, false, if◌then◌else◌, List, [], ◌∷◌, ◌++◌, map, length, refl, ap, sym, ◌∙◌, subst, arith, eqb-true, ne_eqb, take}
-use Rattle.trace_workers.proofs.Common.{false≢true, All-head, All-tail, Entry, Opening, Lock, calls_by, AllBelow, is_in, HasAll, AllFitLocks, AllAgree, AllClosed, PassState, PoolState, mine_at, fresh_pass, fresh_passes, ArenaState, TraceCall}
+use Rattle.std.proofs.Common.{◌≡◌, ◌≢◌, ◌⊎◌, inl, inr, ℕ, zero, suc, ◌+◌, ◌<◌, ◌≤◌, ◌==◌, ◌||◌, Bool, true, false, if◌then◌else◌, List, [], ◌∷◌, ◌++◌, map, length, refl, ap, sym, ◌∙◌, subst, arith, eqb-true, ne_eqb, take}
+use Rattle.trace_workers.proofs.Common.{false≢true, Entry, Opening, Lock, calls_by, AllBelow, is_in, HasAll, AllFitLocks, AllAgree, AllClosed, PassState, PoolState, mine_at, fresh_pass, fresh_passes, ArenaState, TraceCall}
 use Rattle.shared_pool.proofs.AllPasses.{fresh_fits}
-use Rattle.trace_workers.specs.Answers.{asked, calls_in, AllAnswer}
-use Rattle.trace_workers.specs.Workers.{HasTurns, AllBy, AllReady, AllOf, AllDone}
+use Rattle.trace_runs.specs.Answers.{by_threads, asked, calls_in, AllAnswer}
+use Rattle.trace_runs.specs.Threads.{AllBy}
+use Rattle.trace_runs.proofs.Asked.{none_asked}
+use Rattle.trace_workers.specs.Workers.{HasTurns, AllReady, AllOf, AllDone}
 use Rattle.trace_workers.proofs.Counting.{few_entries}
 
 below_or : (t n : ℕ) → (t < n) ⊎ (n ≤ t)
@@ -14,14 +16,6 @@ below_or (suc t) (suc n) = up (below_or t n)
     up : (t < n) ⊎ (n ≤ t) → (suc t < suc n) ⊎ (suc n ≤ suc t)
     up (inl l) = inl (omega arith)
     up (inr l) = inr (omega arith)
-
--- what is asked by no thread of the trace
-none_asked : (seats t a : ℕ) (calls : List TraceCall) → seats ≤ t → AllBy seats calls → asked t a calls ≡ []
-none_asked seats t a [] l h = refl
-none_asked seats t a (c ∷ cs) l h =
-    let first = All-head (λ (x : TraceCall). x.thread < seats) c cs h in
-    let other : c.thread ≢ t = λ e. absurd (omega (arith, first, e)) in
-    ap (λ (b : Bool). if b && (c.arena == a) then c.call ∷ asked t a cs else asked t a cs) (ne_eqb c.thread t other) ∙ none_asked seats t a cs l (All-tail (λ (x : TraceCall). x.thread < seats) c cs h)
 
 none_called : (seats t : ℕ) (journal : List Entry) → seats ≤ t → AllBelow seats journal → calls_by t journal ≡ []
 none_called seats t [] l h = refl
@@ -45,7 +39,7 @@ threads_of : (seats t a : ℕ) (calls : List TraceCall) (ps : List PassState) (j
 threads_of seats t a calls ps journal (inl l) all by d g below = found t a calls journal ps (all t l) d g
 threads_of seats t a calls ps journal (inr l) all by d g below = ap calls_in (none_called seats t journal l below) ∙ sym (none_asked seats t a calls l by)
 
-pub answers : (calls : List TraceCall) (seats a : ℕ) (ps : List PassState) (os : List Opening) (cs : List (List Entry × ArenaState)) → HasAll seats (map (λ p. p.number) ps) → AllBy seats calls → AllDone calls ps → AllClosed seats a ps os cs → AllAnswer calls a os cs
+pub answers : (calls : List TraceCall) (seats a : ℕ) (ps : List PassState) (os : List Opening) (cs : List (List Entry × ArenaState)) → HasAll seats (map (λ p. p.number) ps) → AllBy seats calls → AllDone calls ps → AllClosed seats a ps os cs → AllAnswer by_threads calls a os cs
 answers calls seats a ps [] [] all by d h = tt
 answers calls seats a ps [] (c ∷ cs) all by d h = h
 answers calls seats a ps (o ∷ os) [] all by d h = h

@@ -1,7 +1,7 @@
 -- A journal of which every thread has just what it asks has no more entries than the trace has calls.
 use Rattle.std.proofs.Common.{◌≡◌, ◌≢◌, ℕ, zero, suc, ◌+◌, ◌≤◌, ◌<◌, ◌==◌, ◌&&◌, Bool, true, false, if◌then◌else◌, List, [], ◌∷◌, length, refl, ap, sym, ◌∙◌, arith, eq-eqb, ne_eqb, ⊎_elim}
 use Rattle.trace_workers.proofs.Common.{length-map, cases_lt, cases_eq, Call, Entry, calls_by, AllBelow, TraceCall}
-use Rattle.trace_workers.specs.Answers.{asked, calls_in}
+use Rattle.trace_runs.specs.Answers.{asked, calls_in}
 
 -- the sum over the numbers below n
 abbrev sum_below : ℕ → (ℕ → ℕ) → ℕ

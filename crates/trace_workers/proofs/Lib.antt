@@ -2,6 +2,5 @@ mod Common
 mod Calls
 mod ClosedJournals
 mod Counting
-mod Replays
 mod PublishedLengths
 mod ListedBlocks

@@ -2,7 +2,7 @@
 use Rattle.std.proofs.Common.{◌≡◌, ◌≢◌, ◌⊎◌, inl, inr, ℕ, zero, suc, ◌+◌, ◌<◌, ◌≤◌, ◌==◌, ◌||◌, ◌&&◌, Bool, true, false, if◌then◌else◌, List, [], ◌∷◌, map, length, get_or, set, refl, ap, sym, ◌∙◌, subst, arith, eqb-true, eq-eqb, ne_eqb, ⊎_elim, Result, Ok, Err}
 use Rattle.trace_workers.proofs.Common.{IfOk, All, false≢true, cases_lt, cases_eq, get_or-set_same, get_or-set_other, All-head, All-tail, Entry, ArenaState, Opening, calls_by, AllBelow, Lock, Known, after_read, is_in, HasAll, AllAgree, AllClosed, PassState, PoolState, IsPassOf, nobody, part_at, with_part, seen_at, mine_at, first_calls, fresh_passes, TraceCall, EachFrom}
 use Rattle.trace_gen.specs.Draws.{IsOwn}
-use Rattle.trace_workers.specs.Answers.{asked, calls_in, AllAnswer}
+use Rattle.trace_runs.specs.Answers.{by_threads, asked, calls_in, AllAnswer}
 use Rattle.trace_workers.specs.Lengths.{HasAsked, AllAsked, AreInOrder, SomeKnows, HasMadeFew, IsCounted}
 use Rattle.trace_workers.specs.Summaries.{lengths_of}
 use Rattle.trace_workers.specs.Workers.{HasMadeOwn, AllOf, AllDone}
@@ -268,7 +268,7 @@ counted_is calls seats arena n ps journal own all below agree threads counted =
 
 -- the counts of arenas, from one on, are the lengths of their journals
 pub lengths_are : (calls : List TraceCall) (seats arena : ℕ) (ps : List PassState) (os : List Opening) (cs : List (List Entry × ArenaState)) (ns : List ℕ) → All IsOwn calls → HasAll seats (map (λ p. p.number) ps) →
-    AllClosed seats arena ps os cs → AllAnswer calls arena os cs → EachFrom (IsCounted ps) arena ns → length ns ≡ length os → ns ≡ lengths_of cs
+    AllClosed seats arena ps os cs → AllAnswer by_threads calls arena os cs → EachFrom (IsCounted ps) arena ns → length ns ≡ length os → ns ≡ lengths_of cs
 lengths_are calls seats arena ps [] [] [] own all closed answers counted many = refl
 lengths_are calls seats arena ps [] [] (n ∷ ns) own all closed answers counted many = absurd (omega (arith, many))
 lengths_are calls seats arena ps [] (c ∷ cs) ns own all closed answers counted many = absurd closed

@@ -7,13 +7,14 @@ use Rattle.trace_text.specs.declared.call.PoolSize.{PoolSize}
 use Rattle.trace_text.specs.declared.call.TraceCall.{TraceCall}
 use Rattle.trace_gen.specs.Works.{summary_text}
 use Rattle.trace_text.specs.Report.{arena_text}
+use Rattle.trace_runs.specs.Answers.{by_threads}
+use Rattle.trace_runs.specs.Told.{Telling, IsTold}
 use Rattle.trace_workers.specs.declared.telling.Account.{Account}
 use Rattle.trace_workers.specs.declared.telling.Account.TheVariants.{Report, Summary}
-use Rattle.trace_workers.specs.Reports.{Telling, IsTold}
 
 -- the text is the summary: of each arena what its calls came to, by its journal and the blocks at the end
 abbrev pub IsSummed : PoolSize → List TraceCall → List ℕ → List PmemState → Type 0
-IsSummed pool calls text devices = IsTold summary_text pool calls text devices
+IsSummed pool calls text devices = IsTold by_threads summary_text pool calls text devices
 
 -- what is told of an arena by its report, or by its summary
 abbrev pub telling_of : Account → Telling

@@ -1,25 +1,26 @@
 // The calls of a trace, and what is told of them.
-ghost use Rattle.std.specs.Prelude.{◌≡◌, ◌≤◌, ◌<◌, ◌+◌, max, length, IfOk};
+ghost use Rattle.std.specs.Prelude.{◌≡◌, length, IfOk};
 ghost use Rattle.std.specs.List.{All};
 ghost use Rattle.arena_journal.specs.Journals.{opened};
 ghost use Rattle.shared_pool.specs.Rows.{each_of};
 ghost use Rattle.trace_text.specs.Grammar.{pool_of};
 ghost use Rattle.trace_gen.specs.Draws.{IsOwn};
-ghost use Rattle.trace_workers.specs.Answers.{AllAnswer};
-ghost use Rattle.trace_workers.specs.Workers.{seats_for, AllBy, IsWorkOf};
-ghost use Rattle.trace_workers.specs.Reports.{IsTold, AreNew};
+ghost use Rattle.trace_runs.specs.Answers.{by_threads, AllAnswer};
+ghost use Rattle.trace_runs.specs.Threads.{IsWorkOf};
+ghost use Rattle.trace_runs.specs.Told.{IsTold, AreNew};
 ghost use Rattle.trace_workers.specs.Summaries.{telling_of, lengths_of};
 ghost use Rattle.trace_workers.specs.declared.telling.Account.TheVariants as accounts;
 
-use crate::gate::Gate;
 use crate::running::{Ended, run_trace};
-use crate::telling::{Account, Replayed, tell_all};
+use crate::telling::{Account, tell_all};
 use arena_core::Arena;
 use pmem_lines::{OutOfMemory, Pmem};
+use shared_pool::Gate;
 use std::alloc::Global;
 use std::sync::Wait;
 use std::thread::Threads;
-use trace_text::{Trace, TraceCall};
+use trace_runs::{Told, threads_of};
+use trace_text::Trace;
 
 /// Carries out the calls of a trace on the arenas of its pool, which are new, each thread's by a worker of its own. It gives
 /// what is told of the journals, and the devices that went through them. For a summary each arena has one thread.
@@ -30,11 +31,11 @@ pub fn replay<R: Threads + Wait + Sync, P: Pmem + Drop + Send, G: Gate + Sync>(
     trace: &Trace,
     arenas: Vec<Arena<P>>,
     gate: &G,
-) -> Result<Replayed<P>, OutOfMemory>
+) -> Result<Told<P>, OutOfMemory>
     requires work { IsWorkOf (pool_of trace.now) trace.now.calls.items (length arenas.items) }
     requires own { account ≡ accounts.Summary → All IsOwn trace.now.calls.items }
     requires new { AreNew (pool_of trace.now) 0 arenas.items }
-    ensures { IfOk result (λ done. IsTold (telling_of account) (pool_of trace.now) trace.now.calls.items done.text.items (each_of done.devices.items (λ d. P.state d))) }
+    ensures { IfOk result (λ done. IsTold by_threads (telling_of account) (pool_of trace.now) trace.now.calls.items done.text.items (each_of done.devices.items (λ d. P.state d))) }
 {
     let Ended { lengths, closed } = make_calls(rt, alloc, trace, arenas, gate)?;
     tell_all(alloc, account, lengths, closed)
@@ -50,36 +51,9 @@ pub fn make_calls<R: Threads + Wait + Sync, P: Pmem + Drop + Send, G: Gate + Syn
     gate: &G,
 ) -> Result<Ended<P>, OutOfMemory>
     requires { IsWorkOf (pool_of trace.now) trace.now.calls.items (length arenas.items) }
-    ensures answers { IfOk result (λ e. AllAnswer trace.now.calls.items 0 (each_of arenas.items (λ a. opened a)) (each_of e.closed.items (λ c. (c.journal.items, c.arena)))) }
+    ensures answers { IfOk result (λ e. AllAnswer by_threads trace.now.calls.items 0 (each_of arenas.items (λ a. opened a)) (each_of e.closed.items (λ c. (c.journal.items, c.arena)))) }
     ensures lengths { IfOk result (λ e. All IsOwn trace.now.calls.items → e.lengths.items ≡ lengths_of (each_of e.closed.items (λ c. (c.journal.items, c.arena)))) }
 {
-    let seats = seats_of(&trace.calls);
+    let seats = threads_of(&trace.calls);
     run_trace(rt, alloc, arenas, seats, &trace.calls, gate)
-}
-
-// How many seats the threads of these calls need: one more than the greatest thread number, and one for no calls.
-fn seats_of(calls: &[TraceCall]) -> u32
-    requires { AllBy 64 calls.now }
-    ensures seats { result ≡ seats_for calls.now }
-    ensures some { 1 ≤ result }
-    ensures few { result ≤ 64 }
-    ensures threads { AllBy result calls.now }
-{
-    let mut seats = 1;
-    for call in calls {
-        seats = seats_with(seats, call.thread);
-    }
-    seats
-}
-
-// So many seats, or more where a thread needs them.
-fn seats_with(seats: u32, thread: u32) -> u32
-    requires few { seats ≤ 64 }
-    requires below { thread < 64 }
-    ensures greater { result ≡ max seats (thread + 1) }
-    ensures more { seats ≤ result }
-    ensures few { result ≤ 64 }
-    ensures thread { thread < result }
-{
-    if thread < seats { seats } else { thread + 1 }
 }

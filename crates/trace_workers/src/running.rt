@@ -4,19 +4,19 @@ ghost use Rattle.std.specs.List.{All};
 ghost use Rattle.std.specs.Thread.{IsSync};
 ghost use Rattle.arena_journal.specs.Journals.{opened};
 ghost use Rattle.shared_pool.specs.Rows.{each_of};
-ghost use Rattle.trace_workers.specs.Workers.{AllIn, AllBy, AllReady, AllOf, AllDone};
+ghost use Rattle.trace_runs.specs.Threads.{AllIn, AllBy};
+ghost use Rattle.trace_workers.specs.Workers.{AllReady, AllOf, AllDone};
 ghost use Rattle.trace_gen.specs.Draws.{IsOwn};
 ghost use Rattle.trace_runs.specs.Each.{EachFrom};
 ghost use Rattle.trace_workers.specs.Lengths.{AreInOrder, IsCounted};
-ghost use Rattle.trace_workers.specs.Answers.{AllAnswer};
+ghost use Rattle.trace_runs.specs.Answers.{by_threads, AllAnswer};
 ghost use Rattle.trace_workers.specs.Summaries.{lengths_of};
 
-use crate::gate::Gate;
 use crate::lengths::lengths_of;
 use crate::working::work;
 use arena_core::Arena;
 use pmem_lines::{OutOfMemory, Pmem};
-use shared_pool::{ClosedArena, Pass, SharedPool, Started};
+use shared_pool::{ClosedArena, Gate, Pass, SharedPool, Started};
 use std::alloc::Global;
 use std::sync::Wait;
 use std::thread::{Threads, join_mut};
@@ -113,7 +113,7 @@ pub fn run_trace<R: Threads + Wait + Sync, P: Pmem + Drop + Send, G: Gate + Sync
     requires arenas { AllIn (length arenas.items) calls.now }
     requires few { length calls.now < 2 ^ 32 }
     requires many { length arenas.items < 2 ^ 32 }
-    ensures answers { IfOk result (λ e. AllAnswer calls.now 0 (each_of arenas.items (λ a. opened a)) (each_of e.closed.items (λ c. (c.journal.items, c.arena)))) }
+    ensures answers { IfOk result (λ e. AllAnswer by_threads calls.now 0 (each_of arenas.items (λ a. opened a)) (each_of e.closed.items (λ c. (c.journal.items, c.arena)))) }
     ensures lengths { IfOk result (λ e. All IsOwn calls.now → e.lengths.items ≡ lengths_of (each_of e.closed.items (λ c. (c.journal.items, c.arena)))) }
 {
     let many = arenas.len() as u32;

@@ -1,18 +1,16 @@
 // What is told of the arenas of a trace once their workers have ended, and their devices.
 ghost use Rattle.std.specs.Prelude.{◌≡◌, ◌<◌, ℕ, List, ◌∷◌, ◌^◌, ◌++◌, length, remove, IfOk, OnOk};
 ghost use Rattle.shared_pool.specs.Rows.{each_of};
-ghost use Rattle.trace_text.specs.Report.{arena_text};
-ghost use Rattle.trace_workers.specs.Reports.{closed_text, closed_texts, closed_devices};
+ghost use Rattle.trace_runs.specs.Told.{closed_text, closed_texts, closed_devices};
 ghost use Rattle.trace_workers.specs.Summaries.{telling_of, lengths_of};
 ghost use Rattle.trace_workers.specs.declared.telling.Account.TheVariants as accounts;
 
-use heap_model::{Block, Entry};
+use heap_model::Entry;
 use pmem_lines::{OutOfMemory, Pmem};
 use shared_pool::ClosedArena;
 use std::alloc::Global;
 use trace_gen::put_summary;
-use trace_runs::blocks_of;
-use trace_text::{write_arena, write_entry, write_heap};
+use trace_runs::{Told, blocks_of, put_report};
 
 /// What is told of each arena.
 #[derive(Clone, Copy)]
@@ -23,20 +21,13 @@ pub enum Account {
     Summary,
 }
 
-/// What is told of arenas, and the devices that went through their journals, by arena.
-#[derive(Drop)]
-pub struct Replayed<P: Pmem + Drop> {
-    pub text: Vec<u8>,
-    pub devices: Vec<P>,
-}
-
 /// What is told of closed arenas, and their devices. For a summary the lengths are those of their journals.
 pub(crate) fn tell_all<P: Pmem + Drop>(
     alloc: Global,
     account: Account,
     mut lengths: Vec<u64>,
     mut closed: Vec<ClosedArena<P>>,
-) -> Result<Replayed<P>, OutOfMemory>
+) -> Result<Told<P>, OutOfMemory>
     requires few { length closed.items < 2 ^ 32 }
     requires lengths { account ≡ accounts.Summary → lengths.items ≡ lengths_of (each_of closed.items (λ c. (c.journal.items, c.arena))) }
     ensures text { IfOk result (λ done. done.text.items ≡ closed_texts (telling_of account) 0 (each_of closed.items (λ c. (c.journal.items, c.arena)))) }
@@ -52,7 +43,7 @@ pub(crate) fn tell_all<P: Pmem + Drop>(
         devices.push(one.arena.into_pmem())?;
         number += 1;
     }
-    Ok(Replayed { text, devices })
+    Ok(Told { text, devices })
 }
 
 // How long a journal is: for a summary the first of these lengths, which is taken.
@@ -84,20 +75,4 @@ fn tell_one<P: Pmem + Drop>(
         Account::Report => put_report(text, number, &closed.journal, &blocks),
         Account::Summary => put_summary(text, number, count, &closed.journal, &blocks),
     }
-}
-
-// Writes the report of an arena behind what stands in a text.
-fn put_report(
-    text: &mut Vec<u8>,
-    number: u32,
-    journal: &[Entry],
-    blocks: &[Block],
-) -> Result<(), OutOfMemory>
-    ensures { OnOk result (text.new.items ≡ text.old.items ++ arena_text number journal.now blocks.now) }
-{
-    write_arena(text, number, journal.len() as u64)?;
-    for entry in journal.iter() {
-        write_entry(text, *entry)?;
-    }
-    write_heap(text, blocks)
 }

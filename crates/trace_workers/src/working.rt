@@ -1,11 +1,11 @@
 // One worker.
 ghost use Rattle.std.specs.Prelude.{◌≡◌, ◌<◌, ◌^◌, length, IfOk};
 ghost use Rattle.shared_pool.specs.Passes.{IsPassOf};
-ghost use Rattle.trace_workers.specs.Workers.{AllIn, IsFresh, HasMadeOwn};
+ghost use Rattle.trace_runs.specs.Threads.{AllIn};
+ghost use Rattle.trace_workers.specs.Workers.{IsFresh, HasMadeOwn};
 
-use crate::gate::Gate;
 use pmem_lines::{OutOfMemory, Pmem};
-use shared_pool::{Pass, SharedPool};
+use shared_pool::{Gate, Pass, SharedPool};
 use std::sync::Wait;
 use trace_text::TraceCall;
 

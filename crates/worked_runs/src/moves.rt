@@ -8,7 +8,7 @@ pub const MOVES: &str = "pool 1 16
 0 0 v 9 9
 0 0 v 5 9
 0 0 v 9 4096
-$0 replay
+$0 replay, serve
 arena 0 calls 5
 0 m 5 100 placed 67584 112
 0 v 5 9 moved 67584 112
@@ -43,7 +43,7 @@ pool 1 16
 0 0 r 1 7
 0 0 f 1
 0 0 m 4 64
-$0 replay
+$0 replay, serve
 arena 0 calls 10
 0 m 1 20000 placed 65536 32768
 0 m 2 64 placed 100352 64

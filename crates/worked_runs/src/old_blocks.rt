@@ -12,7 +12,7 @@ pool 1 16
 0 0 f 2
 0 0 m 5 1000
 0 0 m 6 64
-$0 replay
+$0 replay, serve
 arena 0 calls 9
 0 m 0 131072 placed 65536 131072
 0 m 1 64 placed 198656 64
@@ -46,7 +46,7 @@ pool 1 16
 0 0 f 7
 0 0 f 2
 0 0 m 8 65536
-$0 replay
+$0 replay, serve
 arena 0 calls 14
 0 m 0 131072 placed 65536 131072
 0 m 1 64 placed 198656 64
@@ -87,7 +87,7 @@ pool 1 16
 0 0 m 3 64
 0 0 r 2 0
 0 0 r 3 7
-$0 replay
+$0 replay, serve
 arena 0 calls 18
 0 m 0 131072 placed 65536 131072
 0 m 1 64 placed 198656 64
@@ -123,7 +123,7 @@ pool 1 16
 0 0 f 4
 0 0 f 1
 0 0 m 5 65536
-$0 replay
+$0 replay, serve
 arena 0 calls 9
 0 m 0 131072 placed 65536 131072
 0 m 1 64 placed 198656 64

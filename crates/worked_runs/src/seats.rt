@@ -1,4 +1,5 @@
-// Traces of several threads, each at its own seat: the stacks of one seat are not those of another.
+// Traces of several threads, each at its own seat: the stacks of one seat are not those of another. Under `serve` an arena's owner
+// has one seat for all of them.
 
 /// Under `crash` the calls are made in the order of the lines, and each crash is behind the last event of one. A malloc that
 /// opens a slab has 89 events, any other small one eleven and a large one six. A free of a small block has eleven, and three
@@ -8,7 +9,7 @@ pub const SEATS: &str = "pool 1 16
 0 0 m 0 131072
 0 0 m 1 16384
 1 0 m {2..4} 16384
-$may replay
+$may replay, serve
 arena 0 calls 5
 0 m 0 131072 placed 65536 131072
 0 m 1 16384 placed 198656 16384
@@ -150,16 +151,34 @@ $events 0 231
 pool 1 16
 0 0 m 5 100
 1 0 m 5 100
-$may replay
+$may replay, serve
 arena 0 calls 2
 0 m 5 100 placed 67584 112
 1 m 5 100 occupied 67584
 heap 1
 5 67584 112
-$may replay
+$may replay, serve
 arena 0 calls 2
 1 m 5 100 placed 67584 112
 0 m 5 100 occupied 67584
 heap 1
 5 67584 112
+----
+pool 1 16
+0 0 m 1 64
+1 0 m 2 64
+$may replay
+arena 0 calls 2
+0 m 1 64 placed 67584 64
+1 m 2 64 placed 68096 64
+heap 2
+1 67584 64
+2 68096 64
+$may serve
+arena 0 calls 2
+0 m 1 64 placed 67584 64
+1 m 2 64 placed 67648 64
+heap 2
+1 67584 64
+2 67648 64
 ";

@@ -8,7 +8,7 @@ pub const SECOND_VERSION: &str = "pool2 1 25
 0 0 m 16383 100
 0 0 m 16384 100
 0 0 m 1 196609
-$0 replay
+$0 replay, serve
 arena 0 calls 3
 0 m 16383 100 placed 215040 112
 0 m 16384 100 no root
@@ -30,7 +30,7 @@ pool2 1 25
 0 0 f 16383
 0 0 f 4096
 0 0 m 0 196608
-$0 replay
+$0 replay, serve
 arena 0 calls 13
 0 m 16383 100 placed 215040 112
 0 w 16383 13 9 wrote
@@ -50,28 +50,28 @@ heap 1
 $events 0 124
 ----
 pool2 5 4096
-$2 replay, image, crash 0 0 0
+$2 replay, serve, image, crash 0 0 0
 bad line 1
 ----
 pool2 16 1034
-$2 replay, image, crash 0 0 0
+$2 replay, serve, image, crash 0 0 0
 bad line 1
 ----
 pool2 4 4133
-$2 replay
+$2 replay, serve
 bad line 1
 ----
 pool2 1 24
-$2 replay
+$2 replay, serve
 bad line 1
 ----
 pool2 1 4097
-$2 replay
+$2 replay, serve
 bad line 1
 ----
 pool2 1 25
 253 times 0 0 m 0 20000, 0 0 f 0
-$0 replay
+$0 replay, serve
 arena 0 calls 506
 253 times 0 m 0 20000 placed 212992 32768, 0 f 0 freed 212992 32768
 heap 0
@@ -113,7 +113,7 @@ pool2 1 64
 251 times 0 0 m 100 20000, 0 0 f 100
 0 0 m 15 20000
 0 0 m 101 20000
-$0 replay
+$0 replay, serve
 arena 0 calls 4033
 0 m 0 20000 placed 212992 32768
 251 times 0 m 100 20000 placed 245760 32768, 0 f 100 freed 245760 32768
@@ -159,7 +159,7 @@ $events 0 28766
 /// anew into five chunks, by 2839.
 pub const LARGEST_ARENA: &str = "pool2 1 4096
 0 0 m {0..2041} 20000
-$0 replay
+$0 replay, serve
 arena 0 calls 2042
 0 m {0..2040} 20000 placed {212992 by 32768} 32768
 0 m 2041 20000 no space

@@ -1,6 +1,7 @@
 // Reports that were changed by hand: the judge refuses each at the line at which it is no report of its trace any more.
 use crate::judge::known::old_block_goes;
 use crate::judge::{Verdict, judge};
+use crate::machine::Seats;
 use std::alloc::{AllocError, Global};
 use std::test::Fail;
 
@@ -73,14 +74,14 @@ fn changed(alloc: Global, old: &str, new: &str) -> Result<Option<String>, AllocE
 
 #[test]
 fn changed_reports_are_refused(rt: HostRuntime) -> Result<(), Fail> {
-    let verdict = judge(rt.alloc(), TRACE, REPORT)?;
+    let verdict = judge(rt.alloc(), Seats::OfThreads, TRACE, REPORT)?;
     assert!(rt; verdict.is_right(), "{verdict:?}");
     for change in CHANGES.lines() {
         let (line, parts) = change.split_once(": ").ok_or("no line")?;
         let parts = parts.replace(rt.alloc(), '/', "\n")?;
         let (old, new) = parts.split_once(" ->").ok_or("no change")?;
         let report = changed(rt.alloc(), old, new.trim_start_matches(' '))?.ok_or("no such part")?;
-        let verdict = judge(rt.alloc(), TRACE, &report)?;
+        let verdict = judge(rt.alloc(), Seats::OfThreads, TRACE, &report)?;
         assert_eq!(rt; verdict, Verdict::WrongAt(line.parse()?), "{change}");
     }
     Ok(())
@@ -97,7 +98,7 @@ fn other_reports_are_right(rt: HostRuntime) -> Result<(), Fail> {
         ),
     ] {
         let report = changed(rt.alloc(), old, new)?.ok_or("no such part")?;
-        let verdict = judge(rt.alloc(), TRACE, &report)?;
+        let verdict = judge(rt.alloc(), Seats::OfThreads, TRACE, &report)?;
         assert!(rt; verdict.is_right(), "{verdict:?} of {new}");
     }
     Ok(())
@@ -110,16 +111,35 @@ fn reports_that_are_cut_are_refused(rt: HostRuntime) -> Result<(), Fail> {
     let mut cut = String::new(rt.alloc());
     let mut count = 0usize;
     for line in report.lines() {
-        let verdict = judge(rt.alloc(), &trace, &cut)?;
+        let verdict = judge(rt.alloc(), Seats::OfThreads, &trace, &cut)?;
         count = count.saturating_add(1);
         assert_eq!(rt; verdict, Verdict::WrongAt(count));
         cut.push_str(line)?;
         cut.push_str("\n")?;
     }
-    let verdict = judge(rt.alloc(), &trace, &cut)?;
+    let verdict = judge(rt.alloc(), Seats::OfThreads, &trace, &cut)?;
     assert!(rt; verdict.is_right(), "{verdict:?}");
     cut.push_str("arena 1 calls 0\n")?;
-    let verdict = judge(rt.alloc(), &trace, &cut)?;
+    let verdict = judge(rt.alloc(), Seats::OfThreads, &trace, &cut)?;
     assert_eq!(rt; verdict, Verdict::WrongAt(count.saturating_add(1)));
+    Ok(())
+}
+
+// Thread 1 has a block of its own stack, or of the stack that thread 0 filled.
+#[test]
+fn reports_by_other_seats_are_refused(rt: HostRuntime) -> Result<(), Fail> {
+    let trace = "pool 1 16\n0 0 m 1 64\n1 0 m 2 64\n";
+    for (at, seats, others) in [
+        (68096, Seats::OfThreads, Seats::OfOwners),
+        (67648, Seats::OfOwners, Seats::OfThreads),
+    ] {
+        let report = format!(in rt.alloc();
+            "arena 0 calls 2\n0 m 1 64 placed 67584 64\n1 m 2 64 placed {at} 64\nheap 2\n1 67584 64\n2 {at} 64\n"
+        )?;
+        let verdict = judge(rt.alloc(), seats, trace, &report)?;
+        assert!(rt; verdict.is_right(), "{verdict:?} {seats:?}");
+        let verdict = judge(rt.alloc(), others, trace, &report)?;
+        assert_eq!(rt; verdict, Verdict::WrongAt(3), "{others:?}");
+    }
     Ok(())
 }

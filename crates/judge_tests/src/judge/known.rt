@@ -1,6 +1,7 @@
 // Reports that were worked by hand, which the judge finds right. `worked_runs` has them, and `run_tests` tests that `replay`
 // writes them; those of several threads are each one of those that it may write.
 use crate::judge::judge;
+use crate::machine::Seats;
 use std::alloc::{AllocError, Global};
 use std::process::Abort;
 use std::test::Fail;
@@ -9,23 +10,36 @@ use worked_runs::{
     SECOND_VERSION, SHORT, STACKS, expanded, filled,
 };
 
-// The report that a run of a table writes or may write, where it is one of `replay`.
-fn report_of(run: &str) -> Option<&str> {
-    match run.strip_prefix("0 replay\n") {
-        Some(report) => Some(report),
-        None => run.strip_prefix("may replay\n"),
+// The report that a run of a table writes or may write, where it is one of the command with this word.
+fn report_of<'a>(run: &'a str, word: &str) -> Option<&'a str> {
+    let (line, report) = run.split_once('\n')?;
+    let (code, words) = line.split_once(' ')?;
+    if code != "0" && code != "may" {
+        return None;
     }
+    for said in words.split(", ") {
+        if said == word {
+            return Some(report);
+        }
+    }
+    None
 }
 
-// The judge finds each report of a table right. How many it has.
-fn all_right<R: Abort>(rt: &R, alloc: Global, table: &str) -> Result<u32, Fail> {
+// The judge finds each report of a table right that is one of the command with this word. How many it has.
+fn all_right<R: Abort>(
+    rt: &R,
+    alloc: Global,
+    seats: Seats,
+    word: &str,
+    table: &str,
+) -> Result<u32, Fail> {
     let mut count = 0u32;
     for case in expanded(alloc, table)?.split("----\n") {
         let (trace, runs) = case.split_once('$').unwrap_or((case, ""));
         for run in runs.split('$') {
-            if let Some(report) = report_of(run) {
-                let verdict = judge(alloc, trace, report)?;
-                assert!(rt; verdict.is_right(), "{verdict:?} {case}");
+            if let Some(report) = report_of(run, word) {
+                let verdict = judge(alloc, seats, trace, report)?;
+                assert!(rt; verdict.is_right(), "{verdict:?} {word} {case}");
                 count = count.saturating_add(1);
             }
         }
@@ -38,14 +52,17 @@ fn known_reports_are_right(rt: HostRuntime) -> Result<(), Fail> {
     for (table, reports) in [
         (SHORT, 13),
         (STACKS, 5),
-        (SEATS, 3),
+        (SEATS, 4),
         (CLASSES_OF_ONE_SEAT, 5),
         (OLD_BLOCKS, 4),
         (PAYLOAD, 5),
         (MOVES, 2),
         (SECOND_VERSION, 4),
     ] {
-        assert_eq!(rt; all_right(&rt, rt.alloc(), table)?, reports);
+        let count = all_right(&rt, rt.alloc(), Seats::OfThreads, "replay", table)?;
+        assert_eq!(rt; count, reports);
+        let count = all_right(&rt, rt.alloc(), Seats::OfOwners, "serve", table)?;
+        assert_eq!(rt; count, reports);
     }
     Ok(())
 }
@@ -54,7 +71,7 @@ fn known_reports_are_right(rt: HostRuntime) -> Result<(), Fail> {
 fn slabs_as_full_as_they_may_be(rt: HostRuntime) -> Result<(), Fail> {
     for row in &FILLINGS {
         let (trace, report) = filled(rt.alloc(), row)?;
-        let verdict = judge(rt.alloc(), &trace, &report)?;
+        let verdict = judge(rt.alloc(), Seats::OfThreads, &trace, &report)?;
         assert!(rt; verdict.is_right(), "{verdict:?} {report}");
     }
     Ok(())
@@ -81,7 +98,7 @@ fn a_word_that_was_never_written(rt: HostRuntime) -> Result<(), Fail> {
 heap 1
 1 67584 16
 ";
-    let verdict = judge(rt.alloc(), trace, report)?;
+    let verdict = judge(rt.alloc(), Seats::OfThreads, trace, report)?;
     assert!(rt; verdict.is_right(), "{verdict:?}");
     Ok(())
 }
@@ -91,7 +108,7 @@ pub(crate) fn old_block_goes(alloc: Global) -> Result<(String, String), AllocErr
     let table = expanded(alloc, OLD_BLOCK_GOES)?;
     let (trace, runs) = table.split_once('$').unwrap_or((&table, ""));
     let (run, _) = runs.split_once('$').unwrap_or((runs, ""));
-    let report = String::from_str(alloc, report_of(run).unwrap_or(""))?;
+    let report = String::from_str(alloc, report_of(run, "replay").unwrap_or(""))?;
     Ok((String::from_str(alloc, trace)?, report))
 }
 
@@ -99,7 +116,7 @@ pub(crate) fn old_block_goes(alloc: Global) -> Result<(String, String), AllocErr
 #[test]
 fn ways_are_counted(rt: HostRuntime) -> Result<(), Fail> {
     let (trace, report) = old_block_goes(rt.alloc())?;
-    let verdict = judge(rt.alloc(), &trace, &report)?;
+    let verdict = judge(rt.alloc(), Seats::OfThreads, &trace, &report)?;
     assert!(rt; verdict.is_right(), "{verdict:?}");
     let counts = verdict.counts();
     assert_eq!(rt; (counts.own, counts.refilled, counts.stolen), (7, 1, 0));

@@ -1,4 +1,4 @@
-// The words of the device that a replay leaves on a shelf, and a shelf that keeps none.
+// The words of the device that `replay` and `serve` leave on a shelf, and a shelf that keeps none.
 use crate::outside::{REPORT, TRACE};
 use crate::runs::{ends_and_writes, ends_with, word_after};
 use nvheap::{DropShelf, OpenGate, Status};
@@ -11,7 +11,7 @@ use std::thread::Threads;
 // The text `NVALLOG1` of an arena's header, as a word.
 const TEXT: u64 = 0x3147_4f4c_4c41_564e;
 
-// These words are at these addresses of the device that a replay of a trace leaves.
+// These words are at these addresses of the device that either leaves of a trace.
 fn all_left<R: Abort + Threads + Wait + Sync>(
     rt: &R,
     alloc: Global,
@@ -19,8 +19,10 @@ fn all_left<R: Abort + Threads + Wait + Sync>(
     rows: &[(u32, u64)],
 ) -> Result<(), Fail> {
     for (at, word) in rows {
-        let left = word_after(rt, alloc, trace, *at)?;
-        assert_eq!(rt; left, Some(*word), "at {at}");
+        for command in ["replay", "serve"] {
+            let left = word_after(rt, alloc, command, trace, *at)?;
+            assert_eq!(rt; left, Some(*word), "{command} at {at}");
+        }
     }
     Ok(())
 }
@@ -70,13 +72,14 @@ fn a_slab_goes_back(rt: HostRuntime) -> Result<(), Fail> {
     all_left(&rt, rt.alloc(), "pool 1 16\n0 0 m 1 64\n0 0 f 1\n", &rows)
 }
 
-// A shelf that drops what is put serves as well, for the device of a replay and for one that is recovered.
+// A shelf that drops what is put serves as well, for the device behind a trace's calls and for one that is recovered.
 #[test]
 fn a_shelf_that_drops(rt: HostRuntime) -> Result<(), Fail> {
     let (_, image) = ends_and_writes(&rt, rt.alloc(), "image", TRACE.as_bytes())?;
     let heap = "arena 0 heap 1\n5 67584 112\n";
     for (line, input, text) in [
         ("replay", TRACE.as_bytes(), REPORT),
+        ("serve", TRACE.as_bytes(), REPORT),
         ("recover", image.as_slice(), heap),
     ] {
         let mut shelf = DropShelf::new();

@@ -1,21 +1,36 @@
-// Two threads of a trace that wait for each other.
+// Two threads of a trace that wait for each other, with workers and with a server.
 ghost use Rattle.std.specs.Prelude.{◌<◌, length, IfSome};
 
 use crate::runs::ends_with;
 use nvheap::{Gate, KeptShelf, Status};
 use shared_pool::Pass;
+use std::alloc::Global;
+use std::process::Abort;
 use std::sync::Wait;
 use std::sync::atomic::{AtomicU64, Ordering};
 use std::test::Fail;
+use std::thread::Threads;
 use std::{str, thread};
 
 /// Holds each of two threads ahead of its second call until the other one's first was answered, and notes where somebody
-/// waited in vain, or a pass is not that of the thread or has not seen its calls.
+/// waited in vain, or a pass is not that of the thread or has not seen its calls. Who sends calls has no pass.
 #[derive(Drop)]
 struct Held {
     answered: [AtomicU64; 2],
     gave_up: AtomicU64,
     odd: AtomicU64,
+    sends: bool,
+}
+
+impl Held {
+    fn new(sends: bool) -> Held {
+        Held {
+            answered: [AtomicU64::new(0), AtomicU64::new(0)],
+            gave_up: AtomicU64::new(0),
+            odd: AtomicU64::new(0),
+            sends,
+        }
+    }
 }
 
 impl Gate for Held {
@@ -34,7 +49,9 @@ impl Gate for Held {
 
     fn after<R: Wait>(&self, _rt: &R, thread: u32, call: u32, pass: Option<&Pass>) {
         match pass {
-            Some(pass) if pass.number() == thread && pass.seen(0) >= call as u64 => {}
+            Some(pass) if !self.sends && pass.number() == thread && pass.seen(0) >= call as u64 =>
+                {}
+            None if self.sends => {}
             _ => self.odd.store(1, Ordering::SeqCst),
         }
         if call == 1 && thread < 2 {
@@ -51,22 +68,32 @@ const TWO_THREADS: &str = "pool 1 16
 1 0 f 7
 ";
 
-#[test]
-fn workers_at_the_same_time(rt: HostRuntime) -> Result<(), Fail> {
-    let alloc = rt.alloc();
-    let gate = Held {
-        answered: [AtomicU64::new(0), AtomicU64::new(0)],
-        gave_up: AtomicU64::new(0),
-        odd: AtomicU64::new(0),
-    };
+// How a run over this trace ends, with one word of the program.
+fn at_the_same_time<R: Abort + Threads + Wait + Sync>(
+    rt: &R,
+    alloc: Global,
+    word: &str,
+    sends: bool,
+) -> Result<(), Fail> {
+    let gate = Held::new(sends);
     let mut shelf = KeptShelf::new(alloc)?;
     let trace = TWO_THREADS.as_bytes();
-    let (status, written) = ends_with(&rt, alloc, "replay", trace, &gate, &mut shelf)?;
-    assert_eq!(&rt; status, Status::Done);
-    assert_eq!(&rt; gate.gave_up.load(Ordering::SeqCst), 0);
-    assert_eq!(&rt; gate.odd.load(Ordering::SeqCst), 0);
+    let (status, written) = ends_with(rt, alloc, word, trace, &gate, &mut shelf)?;
+    assert_eq!(rt; status, Status::Done);
+    assert_eq!(rt; gate.gave_up.load(Ordering::SeqCst), 0);
+    assert_eq!(rt; gate.odd.load(Ordering::SeqCst), 0);
     let report = str::from_utf8(&written)?;
-    assert!(&rt; report.starts_with("arena 0 calls 4\n"));
-    assert!(&rt; report.contains("\nheap 2\n5 "));
+    assert!(rt; report.starts_with("arena 0 calls 4\n"));
+    assert!(rt; report.contains("\nheap 2\n5 "));
     Ok(())
+}
+
+#[test]
+fn workers_at_the_same_time(rt: HostRuntime) -> Result<(), Fail> {
+    at_the_same_time(&rt, rt.alloc(), "replay", false)
+}
+
+#[test]
+fn senders_at_the_same_time(rt: HostRuntime) -> Result<(), Fail> {
+    at_the_same_time(&rt, rt.alloc(), "serve", true)
 }

@@ -30,6 +30,7 @@ heap 1
 fn two_arenas(rt: HostRuntime) -> Result<(), Fail> {
     let rows = [
         ("replay", 0, REPORT),
+        ("serve", 0, REPORT),
         ("crash 0 0 0", 0, "call 1 before\nheap 0\n"),
         ("crash 0 89 0", 0, "call 1 after\nheap 1\n0 67584 4096\n"),
         (
@@ -59,7 +60,7 @@ fn an_idle_arena(rt: HostRuntime) -> Result<(), Fail> {
     let trace = "pool 2 16\n0 0 m 5 100\n";
     let report =
         "arena 0 calls 1\n0 m 5 100 placed 67584 112\nheap 1\n5 67584 112\narena 1 calls 0\nheap 0\n";
-    let table = format!(in rt.alloc(); "{trace}$0 replay\n{report}$idle 1\n")?;
+    let table = format!(in rt.alloc(); "{trace}$0 replay, serve\n{report}$idle 1\n")?;
     all_end_and_write(&rt, rt.alloc(), &table)
 }
 
@@ -71,8 +72,13 @@ fn two_threads_one_root(rt: HostRuntime) -> Result<(), Fail> {
         "arena 0 calls 2\n0 m 5 100 placed 67584 112\n1 m 5 100 occupied 67584\nheap 1\n5 67584 112\n";
     let second =
         "arena 0 calls 2\n1 m 5 100 placed 67584 112\n0 m 5 100 occupied 67584\nheap 1\n5 67584 112\n";
-    let (code, told) = tells(&rt, rt.alloc(), "replay", trace.as_bytes())?;
-    assert_eq!(rt; code, 0);
-    assert!(rt; told.as_str() == first || told.as_str() == second, "{told}");
+    for word in ["replay", "serve"] {
+        let (code, told) = tells(&rt, rt.alloc(), word, trace.as_bytes())?;
+        assert_eq!(rt; code, 0, "{word}");
+        assert!(rt;
+            told.as_str() == first || told.as_str() == second,
+            "{word} {told}"
+        );
+    }
     Ok(())
 }

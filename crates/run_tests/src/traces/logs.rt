@@ -12,7 +12,7 @@ fn leaves_the_directory(rt: HostRuntime) -> Result<(), Fail> {
     let anew = writes_anew(rt.alloc(), 1)?;
     for (text, directory) in [(ROLLS, 2), (anew.as_str(), 9), (REPEATS, 0x0301)] {
         let trace = expanded(rt.alloc(), text)?;
-        let word = word_after(&rt, rt.alloc(), &trace, DIRECTORY_AT)?;
+        let word = word_after(&rt, rt.alloc(), "replay", &trace, DIRECTORY_AT)?;
         assert_eq!(rt; word, Some(directory));
     }
     Ok(())

@@ -26,7 +26,7 @@ fn in_a_write(rt: HostRuntime) -> Result<(), Fail> {
 fn a_word_on_the_device(rt: HostRuntime) -> Result<(), Fail> {
     let trace = "pool 1 16\n0 0 m 1 16\n0 0 w 1 1 18446744073709551615\n";
     for (at, word) in [(67576, 0), (67584, 0), (67592, u64::MAX), (67600, 0)] {
-        let left = word_after(&rt, rt.alloc(), trace, at)?;
+        let left = word_after(&rt, rt.alloc(), "replay", trace, at)?;
         assert_eq!(rt; left, Some(word), "at {at}");
     }
     Ok(())

@@ -13,6 +13,7 @@ fn as_many_as_may_live_and_one_more(rt: HostRuntime) -> Result<(), Fail> {
         let none = format!(in rt.alloc(); "no event {over} of {events}\n")?;
         let runs = [
             ("replay", 0, report.as_str()),
+            ("serve", 0, report.as_str()),
             (words.as_str(), 2, none.as_str()),
         ];
         all_tell(&rt, rt.alloc(), trace.as_bytes(), &runs)?;

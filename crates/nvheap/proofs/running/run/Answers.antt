@@ -1,7 +1,7 @@
 use Rattle.std.proofs.Common.{◌≡◌, None, IsTrue, map, subst}
 use Rattle.std.specs.String.{string_bytes}
 use Rattle.nvheap.specs.declared.command.Command.{Command}
-use Rattle.nvheap.specs.declared.command.Command.TheVariants.{Replay, Gen}
+use Rattle.nvheap.specs.declared.command.Command.TheVariants.{Replay, Serve, Gen}
 use Rattle.nvheap.specs.declared.status.Status.{Status}
 use Rattle.nvheap.specs.declared.status.Status.TheVariants.{Done, Usage, Refused, ReadFault, WriteFault, TooLong}
 use Rattle.nvheap.specs.Outside.{Outside, told_by, Rose}
@@ -14,22 +14,41 @@ use Rattle.nvheap.proofs.running.run.Goals as goal
 
 -- `replay`
 
-replay_said : (g : given.Over) (c : goal.After-run_replay g) → IsCommand (map string_bytes c.args.words.now) Replay
+replay_said : (g : given.Over) (c : goal.After-run_report g) → IsCommand (map string_bytes c.args.words.now) Replay
 replay_said g c = subst (λ (command : Command). IsCommand (map string_bytes c.args.words.now) command) c.in-Replay.is c.in-Some.ensures
 
 pub returns-in-Replay-clause-complete : goal.returns-in-Replay-clause-complete
 returns-in-Replay-clause-complete g c =
     let told = told_by g.S.Source.left g.K.Sink.taken g.H.Shelf.places g.H.Shelf.images in
     let words = map string_bytes c.args.words.now in
-    completes words Replay (told c.args.source.now c.args.sink.now c.args.shelf.now) (told c.run_replay.new.source c.run_replay.new.sink c.run_replay.new.shelf) c.run_replay.result
-    (Rose (g.S.Source.faults c.args.source.now) (g.S.Source.faults c.run_replay.new.source)) (Rose (g.K.Sink.faults c.args.sink.now) (g.K.Sink.faults c.run_replay.new.sink))
-    (replay_said g c) c.run_replay.ensures.ends c.run_replay.ensures.read_fault c.run_replay.ensures.write_fault
+    completes words Replay (told c.args.source.now c.args.sink.now c.args.shelf.now) (told c.run_report.new.source c.run_report.new.sink c.run_report.new.shelf) c.run_report.result
+    (Rose (g.S.Source.faults c.args.source.now) (g.S.Source.faults c.run_report.new.source)) (Rose (g.K.Sink.faults c.args.sink.now) (g.K.Sink.faults c.run_report.new.sink))
+    (replay_said g c) c.run_report.ensures.ends c.run_report.ensures.read_fault c.run_report.ensures.write_fault
 
 pub returns-in-Replay-clause-idle : goal.returns-in-Replay-clause-idle
 returns-in-Replay-clause-idle g c said = absurd (cc (said_holds (map string_bytes c.args.words.now) Replay (λ m. IsTrue m.idle) (replay_said g c) said))
 
 pub returns-in-Replay-clause-unread : goal.returns-in-Replay-clause-unread
 returns-in-Replay-clause-unread g c said = absurd (cc (said_holds (map string_bytes c.args.words.now) Replay (λ m. m.reads ≡ None) (replay_said g c) said))
+
+-- `serve`
+
+serve_said : (g : given.Over) (c : goal.After-run_report-in-Serve g) → IsCommand (map string_bytes c.args.words.now) Serve
+serve_said g c = subst (λ (command : Command). IsCommand (map string_bytes c.args.words.now) command) c.in-Serve.is c.in-Some.ensures
+
+pub returns-in-Serve-clause-complete : goal.returns-in-Serve-clause-complete
+returns-in-Serve-clause-complete g c =
+    let told = told_by g.S.Source.left g.K.Sink.taken g.H.Shelf.places g.H.Shelf.images in
+    let words = map string_bytes c.args.words.now in
+    completes words Serve (told c.args.source.now c.args.sink.now c.args.shelf.now) (told c.run_report-in-Serve.new.source c.run_report-in-Serve.new.sink c.run_report-in-Serve.new.shelf) c.run_report-in-Serve.result
+    (Rose (g.S.Source.faults c.args.source.now) (g.S.Source.faults c.run_report-in-Serve.new.source)) (Rose (g.K.Sink.faults c.args.sink.now) (g.K.Sink.faults c.run_report-in-Serve.new.sink))
+    (serve_said g c) c.run_report-in-Serve.ensures.ends c.run_report-in-Serve.ensures.read_fault c.run_report-in-Serve.ensures.write_fault
+
+pub returns-in-Serve-clause-idle : goal.returns-in-Serve-clause-idle
+returns-in-Serve-clause-idle g c said = absurd (cc (said_holds (map string_bytes c.args.words.now) Serve (λ m. IsTrue m.idle) (serve_said g c) said))
+
+pub returns-in-Serve-clause-unread : goal.returns-in-Serve-clause-unread
+returns-in-Serve-clause-unread g c said = absurd (cc (said_holds (map string_bytes c.args.words.now) Serve (λ m. m.reads ≡ None) (serve_said g c) said))
 
 -- commands that do not wait
 

@@ -1,10 +1,10 @@
 use Rattle.std.proofs.Common.{subst, sym}
-use Rattle.trace_workers.specs.Workers.{AllBy}
-use Rattle.trace_workers.proofs.Replays.{AllIn-trace, AllBy-trace}
+use Rattle.trace_runs.specs.Threads.{AllBy}
+use Rattle.trace_runs.proofs.ThreadNumbers.{AllIn-trace, AllBy-trace}
 use Rattle.trace_workers.proofs.replaying.make_calls.Goals as goal
 
-pub seats_of-seats-requires : goal.seats_of-seats-requires
-seats_of-seats-requires g c =
+pub threads_of-seats-requires : goal.threads_of-seats-requires
+threads_of-seats-requires g c =
     subst (AllBy 64) (sym c.deref.ensures.value) (AllBy-trace c.args.trace.now.arenas c.args.trace.now.calls.items c.requires.each)
 
 pub run_trace-requires-clause-arenas : goal.run_trace-requires-clause-arenas

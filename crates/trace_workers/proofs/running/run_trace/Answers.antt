@@ -1,7 +1,7 @@
 use Rattle.std.proofs.Common.{rules, ◌≡◌, ℕ, ◌∙◌, ap, sym, subst, map, length, drop, List, arith}
 use Rattle.trace_workers.proofs.Common.{length-map, Entry, ArenaState, Opening, Lock, AllFitLocks, HasAll, AllClosed, opened, PassState, fresh_passes, each_of}
 use Rattle.shared_pool.proofs.AllPasses.{has_fresh}
-use Rattle.trace_workers.specs.Answers.{AllAnswer}
+use Rattle.trace_runs.specs.Answers.{by_threads, AllAnswer}
 use Rattle.trace_workers.specs.Workers.{AllReady}
 use Rattle.trace_workers.proofs.ClosedJournals.{answers, ready_fresh, length_fresh, fits_of, take_front}
 use Rattle.trace_workers.proofs.PublishedLengths.{order_fresh, lengths_are}
@@ -64,7 +64,7 @@ ended g c =
     (λ i. (c.in-Ok.ensures.seats i, take_front (passes g c) (drop (length (passes g c)) c.in-Ok.started.passes.items) c.in-Ok.started.passes.len (search rules) i, c.in-Ok.ensures.openings i))
     c.in-Ok-close.ensures.closed
 
-told : (g : given.Over) (c : goal.In-Ok-close g) → AllAnswer c.args.calls.now 0 (openings g c) (closed g c)
+told : (g : given.Over) (c : goal.In-Ok-close g) → AllAnswer by_threads c.args.calls.now 0 (openings g c) (closed g c)
 told g c = answers c.args.calls.now c.args.seats 0 (passes g c) (openings g c) (closed g c) (all g c) c.requires.threads c.in_ok-lengths.ensures.done (ended g c)
 
 pub returns-in-Ok-close-clause-answers : goal.returns-in-Ok-close-clause-answers

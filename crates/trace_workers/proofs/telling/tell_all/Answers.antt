@@ -1,7 +1,7 @@
 use Rattle.std.proofs.Common.{rules, List, sym, ◌≡◌, ◌<◌, ◌++◌, [], ◌∷◌, ◌∙◌, ap, length, arith, remove}
 use Rattle.trace_workers.proofs.Common.{Entry, each_of}
 use Rattle.trace_workers.specs.Summaries.{telling_of, lengths_of}
-use Rattle.trace_workers.proofs.Replays.{head_back, texts_more, devices_more}
+use Rattle.trace_runs.proofs.Tellings.{head_back, texts_more, devices_more}
 use Rattle.trace_workers.proofs.telling.tell_all.Goals as goal
 
 pub take_length-count-requires : goal.take_length-count-requires

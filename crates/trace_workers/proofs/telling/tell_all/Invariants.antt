@@ -1,7 +1,7 @@
 use Rattle.std.proofs.Common.{◌≡◌, ◌+◌, ◌++◌, ◌<◌, ◌^◌, length}
 use Rattle.shared_pool.specs.Rows.{each_of}
 use Rattle.trace_workers.specs.declared.telling.Account.TheVariants.{Summary}
-use Rattle.trace_workers.specs.Reports.{closed_texts, closed_devices}
+use Rattle.trace_runs.specs.Told.{closed_texts, closed_devices}
 use Rattle.trace_workers.specs.Summaries.{telling_of, lengths_of}
 use Rattle.trace_workers.proofs.telling.tell_all.Given as goal
 

@@ -1,8 +1,9 @@
 use Rattle.std.proofs.Common.{rules, arith, ◌≡◌, ◌<◌, ◌≤◌, ◌+◌, ◌++◌, [], ◌∷◌, ◌∙◌, ap, sym, subst, length, List, take, get_or}
 use Rattle.trace_workers.proofs.Common.{PassState, IsPassOf, Malloc, TraceCall}
-use Rattle.trace_workers.specs.Answers.{calls_in}
+use Rattle.trace_runs.specs.Answers.{calls_in}
 use Rattle.trace_workers.specs.Workers.{HasMadeOwn, HasTurns}
-use Rattle.trace_workers.proofs.Calls.{in_at, has_part, done_other, done_more, turns_left, turns_other, turns_more, take_next}
+use Rattle.trace_runs.proofs.ThreadNumbers.{take_next, in_at}
+use Rattle.trace_workers.proofs.Calls.{has_part, done_other, done_more, turns_left, turns_other, turns_more}
 use Rattle.trace_workers.proofs.working.work.Goals as goal
 use Rattle.trace_workers.proofs.working.work.Goals.{then-call-number+in_ok-call, else-call-number}
 

@@ -1,0 +1,10 @@
+pub mod Tables
+pub mod Heaps
+pub mod Blank
+pub mod ExactStates
+pub mod Faultless
+pub mod Classes
+pub mod Order
+pub mod RootWords
+pub mod Forms
+pub mod Steps

@@ -1,0 +1,13 @@
+pub mod Common
+pub mod Machines
+pub mod Granules
+pub mod StrangerBlocks
+pub mod Supplies
+pub mod Covers
+pub mod LiveBlocks
+pub mod LargeBlocks
+pub mod BestSlabs
+pub mod Placed
+pub mod Ways
+pub mod Freed
+pub mod Settled

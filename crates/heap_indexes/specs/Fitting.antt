@@ -1,0 +1,25 @@
+-- Which slab takes another class, by the indexes: the first of those with few live blocks of which a block of the class is clear.
+use Rattle.std.specs.Prelude.{ℕ, ◌<◌}
+use Rattle.size_classes.specs.Classes.{class_capacity}
+use Rattle.heap_model.specs.Machine.{slab_block}
+use Rattle.slab_index.specs.Candidates.{IsBefore}
+use Rattle.slab_lives.specs.Lives.{Lives, IsSparse}
+use Rattle.unit_map.specs.Units.{Units}
+use Rattle.unit_map.specs.Blocks.{IsClearRange}
+
+-- a block of the class in the slab at a start is clear
+pub record HasClearBlock (units : Units) (class start : ℕ) : Type 0 where
+  pub number : ℕ
+  pub within : number < class_capacity class
+  pub clear : IsClearRange units (slab_block start class number)
+
+-- no slab that is sparse has a clear block of the class
+pub record HasNoReady (lives : Lives) (units : Units) (class : ℕ) : Type 0 where
+  pub none : (start live : ℕ) → IsSparse lives class start live → ¬ (HasClearBlock units class start)
+
+-- of those that have one it is the first: the one with the fewest live blocks, the lowest start among equals
+pub record IsFirstReady (lives : Lives) (units : Units) (class start : ℕ) : Type 0 where
+  pub live : ℕ
+  pub is : IsSparse lives class start live
+  pub clear : HasClearBlock units class start
+  pub first : (other more : ℕ) → IsSparse lives class other more → HasClearBlock units class other → ¬ (IsBefore more other live start)

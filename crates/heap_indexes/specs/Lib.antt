@@ -1,0 +1,4 @@
+pub mod Indexes
+pub mod Fitting
+pub mod Kept
+pub mod Steps

@@ -1,0 +1,11 @@
+use Rattle.std.proofs.Common.{length}
+use Rattle.serve_runs.proofs.running.+fn-send_all-join_mut+arg2+fn-send_all-join_mut+arg3+send_all.Given as goal
+
+abbrev pub decreases-join_mut+arg2 : goal.decreases-join_mut+arg2
+decreases-join_mut+arg2 g l = length l.front.now
+
+abbrev pub decreases-join_mut+arg3 : goal.decreases-join_mut+arg3
+decreases-join_mut+arg3 g l = length l.back.now
+
+abbrev pub decreases-send_all : goal.decreases-send_all
+decreases-send_all g l = length l.senders.now

@@ -1,0 +1,3 @@
+pub mod Clerks
+pub mod Sent
+pub mod Signed

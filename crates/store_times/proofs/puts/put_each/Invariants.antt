@@ -1,0 +1,7 @@
+use Rattle.std.proofs.Common.{◌≡◌}
+use Rattle.pmem_lines.specs.Pmem.{words_of}
+use Rattle.attach_dict.specs.Stages.{Idle, AreNoneStale}
+use Rattle.store_times.proofs.puts.put_each.Given as goal
+
+abbrev pub invariant-loop-held : goal.invariant-loop-held
+invariant-loop-held l = record { idle : l.dict.phase ≡ Idle; tidy : AreNoneStale (words_of l.dict.arena.device) Idle }
