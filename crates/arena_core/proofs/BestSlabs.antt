@@ -1,79 +1,135 @@
--- The search for the slab that takes a class: the candidates come in order, so the first one that is fit is the best.
-use Rattle.std.proofs.Common.{◌≡◌, ℕ, ◌+◌, ◌-◌, ◌*◌, ◌<◌, ◌≤◌, true, List, length, Option, Some, None, MatchOption, IfSome, sym, ◌∙◌, subst, arith, inl, inr, ⊎_elim}
-use Rattle.arena_core.proofs.Common.{cases_lt, cond-true, class_capacity, normal_kind, Tables, tables_of, IsBestSlab, HasNoFitSlab, live_below, Lives, heap, bounds_of, AreLivesOf, tables_view, IsMorphable}
+-- The search for the slab that takes a class: the candidates come in order, so the first one that is fit is the best; and what
+-- was found unfit stays known.
+use Rattle.std.proofs.Common.{◌≡◌, ◌≢◌, ◌==◌, ◌&&◌, if◌then◌else◌, ℕ, ◌+◌, ◌-◌, ◌*◌, ◌<◌, ◌≤◌, Bool, true, false, refl, ap, slice_index, slice_index_or, List, length, Option, Some, None, MatchOption, IfSome, sym, ◌∙◌, subst, arith, inl, inr, ⊎_elim}
+use Rattle.arena_core.proofs.Common.{cases_lt, cond-true, class_capacity, normal_kind, Tables, tables_of, IsBestSlab, HasNoFitSlab, live_below, Lives, heap, bounds_of, AreCountsOf, is_unfit, HasNoUnused, AreLivesOf, tables_view, IsMorphable}
 use Rattle.heap_model.specs.Choice.{View, IsFit, slab_view}
 use Rattle.slab_index.specs.declared.candidates.Candidate.{Candidate}
-use Rattle.slab_index.specs.Candidates.{IsBefore}
-use Rattle.slab_lives.specs.Lives.{IsSparse, HasNoSparse, IsFirstSparse, HasNoSparseBehind, IsNextSparse}
+use Rattle.slab_lives.specs.Lives.{normal_at, IsSparse, HasNoSparse, IsFirstSparse}
+use Rattle.std.proofs.lemmas.Bool.{cases_eq, false_from_ne_true, false≢true, and_from, and_parts, eq-eqb, eqb-true}
 use Rattle.class_steps.specs.Classes.{IsReadyFor, IsFitIn}
 use Rattle.heap_check.proofs.NormalSlabs.{normal_of-parts}
-
--- the order of candidates
 
 -- how far a candidate is from the last place that one may have
 abbrev pub left_behind : Option Candidate → ℕ
 left_behind None = 0
 left_behind (Some found) = 300000 - (4096 * found.live + found.start)
 
-module _ (words : List ℕ) (lives : Lives) (class : ℕ) where
+-- the same row has the same slabs
+same_normal : (lives next : Lives) → next.normal ≡ lives.normal → (s : ℕ) → normal_at lives s ≡ normal_at next s
+unfolding normal_at
+same_normal lives next normal s = ap (λ (row : List (Option ℕ)). slice_index_or row s None) (sym normal)
+
+-- either way
+always : (b : Bool) → (if b then true else true) ≡ true
+always true = refl
+always false = refl
+
+-- what is not said to be is not
+unsaid : (b : Bool) → ¬ (b ≡ true) → b ≡ false
+unsaid b differs = false_from_ne_true b differs
+
+module _ (words : List ℕ) (lives : Lives) (class : ℕ) (are : AreLivesOf lives words) where
   abbrev t : Tables
   t = tables_of words
 
   abbrev v : View
   v = tables_view (bounds_of words) (tables_of words)
 
-  -- A candidate is such a slab, and none before it is fit; where there is none any more, no slab is fit.
-  abbrev pub IsSought : Option Candidate → Type 0
-  IsSought None = HasNoFitSlab (slab_view (tables_view (bounds_of words) (tables_of words))) class
-  IsSought (Some found) = IsSparse lives class found.start found.live × ((s : ℕ) → IsFit (slab_view (tables_view (bounds_of words) (tables_of words))) class s → ¬ (IsBefore (live_below (heap (tables_of words)) s (bounds_of words).roots) s found.live found.start))
+  -- a candidate is a normal slab
+  pub sparse_slab : (start live : ℕ) → IsSparse lives class start live → ((tables_of words).slab start ≡ true) × (((tables_of words).header start).kind ≡ normal_kind)
+  sparse_slab start live is = let parts = normal_of-parts t start is.own (sym (are.normal start) ∙ is.slab) in (parts.0, parts.1)
 
-  module _ (are : AreLivesOf lives words) where
-    -- a candidate is a normal slab
-    pub sparse_slab : (start live : ℕ) → IsSparse lives class start live → ((tables_of words).slab start ≡ true) × (((tables_of words).header start).kind ≡ normal_kind)
-    sparse_slab start live is = let parts = normal_of-parts t start is.own (sym (are.normal start) ∙ is.slab) in (parts.0, parts.1)
+  -- a slab that is fit was not found unfit
+  sought : (s : ℕ) → IsFit (slab_view v) class s → is_unfit lives.unfit class s ≡ false
+  sought s fit = unsaid (is_unfit lives.unfit class s) (λ noted. (are.unfit class s noted).none fit.number fit.block.within (record { each = λ range holds. fit.block.unused.each range holds }))
 
-    -- a slab that is fit is a candidate
-    sparse_of_fit : (s : ℕ) → IsFit (slab_view v) class s → IsSparse lives class s (live_below (heap t) s (bounds_of words).roots)
-    sparse_of_fit s fit = grind arith
+  -- so it is a candidate
+  sparse_of_fit : (s : ℕ) → IsFit (slab_view v) class s → IsSparse lives class s (live_below (heap t) s (bounds_of words).roots)
+  sparse_of_fit s fit = let new = sought s fit in grind arith
 
-    -- what the first candidate is, and what the one behind another
-    pub first_sought : (next : Option Candidate) → MatchOption next (HasNoSparse lives class) (IsFirstSparse lives class) → IsSought next
-    first_sought None none = record { none = λ s fit. none.none s _ (sparse_of_fit s fit) }
-    first_sought (Some found) first = (first.is, λ s fit. first.first s _ (sparse_of_fit s fit))
+  -- where there is no candidate no slab is fit
+  pub none_fit : HasNoSparse lives class → HasNoFitSlab (slab_view (tables_view (bounds_of words) (tables_of words))) class
+  none_fit none = record { none = λ s fit. none.none s _ (sparse_of_fit s fit) }
 
-    -- a slab that is fit is not the one that isn't, and so it comes behind
-    comes_behind : (found : Candidate) → IsSought (Some found) → ¬ (IsFitIn words found.start class) → (s : ℕ) → IsFit (slab_view v) class s → IsBefore found.live found.start (live_below (heap t) s (bounds_of words).roots) s
-    comes_behind found sought unfit s fit = grind arith
+  -- the first candidate is the best slab, if it is fit
+  pub best_sought : (found : Candidate) → IsFirstSparse lives class found → IsReadyFor words found.start class → IsBestSlab (slab_view (tables_view (bounds_of words) (tables_of words))) class found.start × IsMorphable (tables_of words) found.start class
+  best_sought found first ready =
+      let is = first.is in
+      let parts = normal_of-parts t found.start is.own (sym (are.normal found.start) ∙ is.slab) in
+      let live : found.live ≡ live_below (heap t) found.start (bounds_of words).roots = is.count ∙ are.counts.each found.start ∙ cond-true (t.slab found.start) _ 0 ready.slab in (
+        record {
+          fit = record {
+            class = (t.header found.start).class;
+            slab = cond-true (t.slab found.start) (Some (t.header found.start).class) None ready.slab;
+            no_transition = λ moving. moving ready.normal;
+            differs = λ own. is.differs (own ∙ sym parts.2);
+            few = omega (arith, live, is.few);
+            sparse = subst (λ (c : ℕ). 5 * live_below (heap t) found.start (bounds_of words).roots ≤ class_capacity c) parts.2 (omega (arith, live, is.sparse));
+            number = ready.fit.number;
+            block = record { within = ready.fit.block.within; unused = record { each = λ range holds. ⊎_elim inr inl (ready.fit.block.unused.each range holds) } };
+          };
+          fewest = λ s fit. ⊎_elim (λ less. absurd (first.first s _ (sparse_of_fit s fit) (inl (omega (arith, less, live))))) (λ most. most) (cases_lt (live_below (heap t) s (bounds_of words).roots) (live_below (heap t) found.start (bounds_of words).roots));
+          lowest = λ s fit same. ⊎_elim (λ less. absurd (first.first s _ (sparse_of_fit s fit) (inr (same ∙ sym live, less)))) (λ most. most) (cases_lt s found.start);
+        },
+        record { slab = ready.slab; normal = ready.normal; fit = ready.fit },
+      )
 
-    pub next_sought : (found : Candidate) → IsSought (Some found) → ¬ (IsFitIn words found.start class) → (next : Option Candidate) → MatchOption next (HasNoSparseBehind lives class found.live found.start) (IsNextSparse lives class found.live found.start) → IsSought next
-    next_sought found sought unfit None none = record { none = λ s fit. none.none s _ (comes_behind found sought unfit s fit) (sparse_of_fit s fit) }
-    next_sought found sought unfit (Some later) next = (next.is, λ s fit. next.first s _ (sparse_of_fit s fit) (comes_behind found sought unfit s fit))
-
-    -- a candidate that is fit is the best slab
-    pub best_sought : (found : Candidate) → IsSought (Some found) → IsReadyFor words found.start class → IsBestSlab (slab_view (tables_view (bounds_of words) (tables_of words))) class found.start × IsMorphable (tables_of words) found.start class
-    best_sought found sought ready =
-        let is = sought.0 in
-        let parts = normal_of-parts t found.start is.own (sym (are.normal found.start) ∙ is.slab) in
-        let live : found.live ≡ live_below (heap t) found.start (bounds_of words).roots = is.count ∙ are.counts.each found.start ∙ cond-true (t.slab found.start) _ 0 ready.slab in (
+  -- one that is not is unfit, and may be noted so
+  pub lives_noted : (found : Candidate) (next : Lives) → IsFirstSparse lives class found → ¬ (IsFitIn words found.start class) → next.counts ≡ lives.counts → next.normal ≡ lives.normal →
+      ((c s : ℕ) → is_unfit next.unfit c s ≡ (if s == found.start && c == class then true else is_unfit lives.unfit c s)) → AreLivesOf next words
+  lives_noted found next first unfit counts normal noted = record {
+    counts = subst (λ (n : List ℕ). AreCountsOf n words) (sym counts) are.counts;
+    normal = λ s. sym (same_normal lives next normal s) ∙ are.normal s;
+    unfit = λ c s known. by c s (s == found.start && c == class) refl known;
+  }
+    where
+      here : HasNoUnused words found.start class
+      here =
+          let is = first.is in
+          let parts = normal_of-parts t found.start is.own (sym (are.normal found.start) ∙ is.slab) in
+          let live : found.live ≡ live_below (heap t) found.start (bounds_of words).roots = is.count ∙ are.counts.each found.start ∙ cond-true (t.slab found.start) _ 0 parts.0 in
           record {
-            fit = record {
-              class = (t.header found.start).class;
-              slab = cond-true (t.slab found.start) (Some (t.header found.start).class) None ready.slab;
-              no_transition = λ moving. moving ready.normal;
+            none = λ number below unused. unfit (record {
               differs = λ own. is.differs (own ∙ sym parts.2);
               few = omega (arith, live, is.few);
               sparse = subst (λ (c : ℕ). 5 * live_below (heap t) found.start (bounds_of words).roots ≤ class_capacity c) parts.2 (omega (arith, live, is.sparse));
-              number = ready.fit.number;
-              block = record { within = ready.fit.block.within; unused = record { each = λ range holds. ⊎_elim inr inl (ready.fit.block.unused.each range holds) } };
-            };
-            fewest = λ s fit. ⊎_elim (λ less. absurd (sought.1 s fit (inl (omega (arith, less, live))))) (λ most. most) (cases_lt (live_below (heap t) s (bounds_of words).roots) (live_below (heap t) found.start (bounds_of words).roots));
-            lowest = λ s fit same. ⊎_elim (λ less. absurd (sought.1 s fit (inr (same ∙ sym live, less)))) (λ most. most) (cases_lt s found.start);
-          },
-          record { slab = ready.slab; normal = ready.normal; fit = ready.fit },
-        )
+              number = number;
+              below = below;
+              unused = unused;
+            });
+          }
 
--- a candidate behind another is nearer to the end
-pub smaller : (lives : Lives) (class : ℕ) (found : Candidate) (next : Option Candidate) → IsSparse lives class found.start found.live → length lives.counts ≤ 4096 → found.start < length lives.counts →
-    MatchOption next (HasNoSparseBehind lives class found.live found.start) (IsNextSparse lives class found.live found.start) → IfSome next (λ later. later.start < length lives.counts) → left_behind next < left_behind (Some found)
-smaller lives class found None is size inside next within = omega (arith, is.few, inside, size)
-smaller lives class found (Some later) is size inside next within = omega (arith, next.behind, next.is.few, within, inside, size)
+      by : (c s : ℕ) (b : Bool) → (s == found.start && c == class) ≡ b → is_unfit next.unfit c s ≡ true → HasNoUnused words s c
+      by c s true is known = let parts = and_parts (s == found.start) (c == class) is in subst (λ d. HasNoUnused words s d) (sym (eqb-true c class parts.1)) (subst (λ d. HasNoUnused words d class) (sym (eqb-true s found.start parts.0)) here)
+      by c s false is known = are.unfit c s (sym (noted c s ∙ ap (λ b. if b then true else is_unfit lives.unfit c s) is) ∙ known)
+
+-- a candidate that comes once one was noted is nearer to the end
+pub smaller : (lives next : Lives) (class : ℕ) (found : Candidate) (later : Option Candidate) → IsFirstSparse lives class found → length lives.counts ≤ 4096 → found.start < length lives.counts → next.counts ≡ lives.counts → next.normal ≡ lives.normal →
+    ((c s : ℕ) → is_unfit next.unfit c s ≡ (if s == found.start && c == class then true else is_unfit lives.unfit c s)) → MatchOption later (HasNoSparse next class) (IsFirstSparse next class) → IfSome later (λ more. more.start < length next.counts) → left_behind later < left_behind (Some found)
+smaller lives next class found None first size inside counts normal noted none within = omega (arith, first.is.few, inside, size)
+smaller lives next class found (Some later) first size inside counts normal noted second within =
+    let is = second.is in
+    let known : (s : ℕ) → is_unfit lives.unfit class s ≡ true → is_unfit next.unfit class s ≡ true = λ s was. noted class s ∙ ap (λ b. if s == found.start && class == class then true else b) was ∙ always (s == found.start && class == class) in
+    let before : IsSparse lives class later.start later.live = record {
+      own = is.own;
+      slab = same_normal lives next normal later.start ∙ is.slab;
+      count = is.count ∙ ap (λ (n : List ℕ). slice_index n later.start) counts;
+      differs = is.differs;
+      few = is.few;
+      sparse = is.sparse;
+      sought = unsaid (is_unfit lives.unfit class later.start) (λ was. false≢true (sym is.sought ∙ known later.start was));
+    } in
+    let differ : later.start ≢ found.start = λ same. false≢true (sym is.sought ∙ noted class later.start ∙ cond-true (later.start == found.start && class == class) true (is_unfit lives.unfit class later.start) (and_from (later.start == found.start) (class == class) (eq-eqb later.start found.start same) (eq-eqb class class refl))) in
+    let behind = first.first later.start later.live before in
+    let few = first.is.few in
+    let low : later.start < 4096 = omega (arith, within, size, ap (λ (n : List ℕ). length n) counts) in
+    ⊎_elim
+    (λ (less : later.live < found.live). absurd (behind (inl less)))
+    (λ (most : found.live ≤ later.live). ⊎_elim
+    (λ (same : later.live ≡ found.live). ⊎_elim
+    (λ (lower : later.start < found.start). absurd (behind (inr (same, lower))))
+    (λ (upper : found.start ≤ later.start). omega (arith, same, upper, differ, low, few, is.few))
+    (cases_lt later.start found.start))
+    (λ (more : later.live ≢ found.live). omega (arith, more, most, low, few, is.few, inside, size))
+    (cases_eq later.live found.live))
+    (cases_lt later.live found.live)

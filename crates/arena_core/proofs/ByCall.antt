@@ -1,6 +1,6 @@
 -- The laws of the calls on one word, and of what crashes leave.
-use Rattle.std.proofs.Common.{◌≡◌, ◌⊎◌, ◌<◌, ◌≤◌, ℕ, List, [], ◌∷◌, length, Option, Some, None, Ok, Err, Result, get_or, refl, sym, ap, ◌∙◌, arith, inl, inr, ⊎_elim}
-use Rattle.arena_core.proofs.Common.{cases_lt, lt-ltb, le-ltb, tables_of, HasNoMove, roots_plain, root_table-past, Call, Reply, Bounds, Machine, HasBlock, heap, slabs, bounds_of, HasState, KeepsBlocks, law_of_steady, heap-none, BlockRefusal, IsStepOfAny, line_after, AreWordsOf, block_refusal, OutOfRange}
+use Rattle.std.proofs.Common.{◌≡◌, ◌<◌, ◌≤◌, ℕ, List, [], ◌∷◌, length, Option, Some, None, Ok, Err, Result, get_or, refl, sym, ap, ◌∙◌, arith, inl, inr, ⊎_elim}
+use Rattle.arena_core.proofs.Common.{cases_lt, lt-ltb, le-ltb, tables_of, HasNoMove, roots_plain, root_table-past, Call, Reply, Bounds, Machine, HasBlock, heap, slabs, bounds_of, HasState, KeepsBlocks, law_of_steady, heap-none, BlockRefusal, IsStepOfAny, line_after, AreWordsOf, block_refusal}
 use Rattle.pmem_lines.proofs.Words.{get_or-words_at}
 use Rattle.heap_model.specs.declared.call.Call.TheVariants as calls
 use Rattle.heap_model.specs.declared.call.Reply.TheVariants as replies

@@ -1,7 +1,7 @@
 -- The header of a slab changed, and each slab holds the blocks that it held: what stands beside the words and knows of the
 -- header no more than that holds again. So it is where a slab took another class.
 use Rattle.std.proofs.Common.{refl, length, [], ◌+◌, ◌*◌, ◌/◌, ◌≡◌, ◌↔◌, ℕ, true, List, ap, arith, ◌≢◌, ◌==◌, ◌<◌, ◌≤◌, Bool, false, Some, None, sym, ◌∙◌, subst, inl, if◌then◌else◌}
-use Rattle.arena_core.proofs.Common.{normal_of, PmemState, words_of, Volatile, IsQuietStep, step_wider, HasClassNow, Tables, tables_of, Book, FreeSet, IsUnusedIn, IsSound, granules_at, bounds_of, granules_at-slab, IsBookOf, SlabHeader, put_header, IsIndexOf, cond-true, class_capacity, HasNoMove-closed, normal_kind, Bounds, with_key, class_in, Lives, normal_at, Supply, MayBeGiven, IsClearOf, HasSlabMore, HasSlabLess, slabs, IsExactImage, Covers-slab, IsSlabsOf, AreCountsOf, IsMorphable, MayTakeClass, granule_word, morph_events, counts_kept, live_same, slab_parts, iff_then, with_key-is, with_key-twice}
+use Rattle.arena_core.proofs.Common.{is_unfit, normal_of, PmemState, words_of, Volatile, IsQuietStep, step_wider, HasClassNow, Tables, tables_of, Book, FreeSet, IsUnusedIn, IsSound, granules_at, bounds_of, granules_at-slab, IsBookOf, SlabHeader, put_header, IsIndexOf, cond-true, class_capacity, HasNoMove-closed, normal_kind, Bounds, with_key, class_in, Lives, normal_at, Supply, MayBeGiven, IsClearOf, HasSlabMore, HasSlabLess, slabs, IsExactImage, Covers-slab, IsSlabsOf, AreCountsOf, IsMorphable, MayTakeClass, granule_word, morph_events, counts_kept, live_same, slab_parts, iff_then, with_key-is, with_key-twice}
 use Rattle.image_tables.proofs.Headers.{SameLog-off_header}
 use Rattle.image_tables.proofs.Updates.{put_header-same, put_header-other}
 use Rattle.slab_morph.specs.Stages.{IsOffHeader, AllHoldSame, morphed, morph_count}
@@ -127,10 +127,10 @@ module _ (device u : PmemState) (volatile : Volatile) (start class : ℕ) (may :
 
   -- it came back into the supply, with the blocks of the class that are unused
   pub came_changed : {less mid : Supply} {next : Lives} {used : ℕ → Bool} {slab : ℕ} → device.events ≡ [] → IsQuietStep device u (morph_events (tables_of (words_of device)) start class) (LeavesClosed (words_of device)) → length u.events ≡ length device.events + morph_count ((tables_of (words_of device)).header start) →
-      HasSlabLess volatile.supply less start → next.counts ≡ volatile.lives.counts → ((s : ℕ) → normal_at next s ≡ with_key (normal_at volatile.lives) start None s) → slab ≡ 8 * granule_word start → HasSlabMore less mid start class (λ i. (i < class_capacity class) × (used i ≡ false)) →
+      HasSlabLess volatile.supply less start → next.counts ≡ volatile.lives.counts → ((s : ℕ) → normal_at next s ≡ with_key (normal_at volatile.lives) start None s) → ((k o : ℕ) → is_unfit next.unfit k o ≡ (if o == start then false else is_unfit volatile.lives.unfit k o)) → slab ≡ 8 * granule_word start → HasSlabMore less mid start class (λ i. (i < class_capacity class) × (used i ≡ false)) →
       ((i : ℕ) → i < class_capacity (((tables_of (words_of u)).header (slab / 16384)).class) → (used i ≡ false) ↔ IsUnusedIn (tables_of (words_of u)) (slab / 16384) (((tables_of (words_of u)).header (slab / 16384)).class) i) →
       HasClassNow device u volatile (record volatile { supply = mid; lives = next }) start class (morph_events (tables_of (words_of device)) start class) × ((less : Supply) × HasSlabLess volatile.supply less start × HasSlabMore less mid start class (λ i. (i < class_capacity class) × IsUnusedIn (tables_of (words_of device)) start class i))
-  came_changed {less} {mid} {next} {used} {slab} fresh step count gone same put at back says =
+  came_changed {less} {mid} {next} {used} {slab} fresh step count gone same put unfit at back says =
       let arena = may.arena in
       let current = arena.current in
       let more : HasSlabMore less mid start class (λ i. (i < class_capacity class) × IsUnusedIn t start class i) = record {
@@ -160,7 +160,7 @@ module _ (device u : PmemState) (volatile : Volatile) (start class : ℕ) (may :
             blocks = of_each start (λ i slab below. open_now class_now below (more.here i) (unused_header class_change start class i))
                 (λ s differ i. blocks_kept (slab_now s) (class_other s differ) (unused_header class_change s (t.header s).class i) (iff_then (more.others s i differ) (gone.others s i differ)) (arena.slabs.blocks s i));
           };
-          lives = lives_put words new volatile.lives next (subst (λ (n : List ℕ). AreCountsOf n new) (sym same) counts) arena.lives start None put normal_changed;
+          lives = lives_put words new volatile.lives next (subst (λ (n : List ℕ). AreCountsOf n new) (sym same) counts) arena.lives start None put normal_changed unfit (λ s c number differ. (unused_header class_change s c number).1);
         };
         lively = taken.exact.exact.none_done start;
         class_is = class_now;

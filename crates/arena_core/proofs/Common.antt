@@ -72,7 +72,7 @@ pub use Rattle.attach_steps.specs.declared.block.OldBlock.{OldBlock}
 pub use Rattle.attach_steps.specs.declared.block.SmallBlock.{SmallBlock}
 pub use Rattle.arena_core.specs.Adopting.{IsWithSlabOf, HasCounted, IsReadBelow}
 pub use Rattle.arena_core.specs.Answer.{malloc_reply, free_reply, move_reply, block_refusal}
-pub use Rattle.arena_core.specs.Arena.{IsSlabsOf, IsIndexOf, AreLivesOf, IsCurrent, old_range, IsArena, ArenaState}
+pub use Rattle.arena_core.specs.Arena.{IsSlabsOf, IsIndexOf, HasNoUnused, AreLivesOf, IsCurrent, old_range, IsArena, ArenaState}
 pub use Rattle.arena_core.specs.Call.{IsStepOfAny, IsReady, IsStepOf}
 pub use Rattle.arena_core.specs.Carried.{IsTidied, IsDone, IsTaken, HaveOneMore, IsCalled, IsHeldFor, HasClassNow, IsSlabFor, MayOpen, MayTakeClass}
 pub use Rattle.arena_core.specs.Effect.{slabs_but, stacks_but, IsLastOf, GivesRoot}
@@ -103,3 +103,4 @@ pub use Rattle.heap_check.proofs.Small.{is_old-held}
 pub use Rattle.heap_check.proofs.States.{named_at, slab_parts}
 pub use Rattle.heap_check.proofs.UnusedBlocks.{iff_then, unused_apart}
 pub use Rattle.slab_header.specs.Morph.{morph_events}
+pub use Rattle.slab_index.specs.Unfit.{is_unfit}

@@ -1,7 +1,7 @@
 -- An arena is formatted: the words that its header line leaves, and those that a crash leaves.
 use Rattle.std.proofs.lemmas.Nat.{mul-le}
-use Rattle.std.proofs.Common.{◌≡◌, ◌≢◌, ◌↔◌, ℕ, zero, suc, ◌*◌, ◌<◌, ◌≤◌, List, length, take, None, refl, sym, ap, subst, ◌∙◌, arith, inr, slice_index}
-use Rattle.arena_core.proofs.Common.{layout_rules, word_at, put_word, reading, IsQuiet, PmemState, words_of, began, length-put_word, word_at-put_other, text_word, fields_word, directory_word, IsExactImage, HasState, IsFree, class_in, granules_at-large, Volatile, normal_at, IsArena, IsReady, heap_inside, normal_of-none}
+use Rattle.std.proofs.Common.{false, ◌≡◌, ◌≢◌, ◌↔◌, ℕ, zero, suc, ◌*◌, ◌<◌, ◌≤◌, List, length, take, None, refl, sym, ap, subst, ◌∙◌, arith, inr, slice_index}
+use Rattle.arena_core.proofs.Common.{is_unfit, layout_rules, word_at, put_word, reading, IsQuiet, PmemState, words_of, began, length-put_word, word_at-put_other, text_word, fields_word, directory_word, IsExactImage, HasState, IsFree, class_in, granules_at-large, Volatile, normal_at, IsArena, IsReady, heap_inside, normal_of-none}
 use Rattle.pmem_lines.specs.Words.{AreZeros}
 use Rattle.pmem_lines.specs.Events.{CrashOnly}
 use Rattle.pmem_lines.specs.Pmem.{Appends}
@@ -130,5 +130,5 @@ module _ {old begun new : PmemState} {header : PoolHeader} (made : IsWritten old
 -- what an arena keeps, of one that was formatted
 pub formatted_arena : (device : PmemState) (header : PoolHeader) (volatile : Volatile) → IsReady device → IsFormatted (words_of device) header → Reads volatile.log (words_of device) → volatile.log.granules ≡ header.granules →
     volatile.free.granules ≡ header.granules → ((k : ℕ) → IsFree volatile.free k ↔ (((layout_of header.version).first_granule ≤ k) × (k < header.granules))) → volatile.supply.slabs.granules ≡ header.granules → ((s : ℕ) → class_in volatile.supply.slabs s ≡ None) →
-    length volatile.lives.counts ≡ header.granules → ((s : ℕ) → slice_index volatile.lives.counts s ≡ 0) → ((s : ℕ) → normal_at volatile.lives s ≡ None) → volatile.line ≡ 0 → IsArena device volatile
-formatted_arena device header volatile ready formatted reads size index each parts_size no_class count_size no_count no_normal first_line = grind (arith, AreBlank-formatted, header_in-formatted, law_of_formatted, granules_at-large, normal_of-none)
+    length volatile.lives.counts ≡ header.granules → ((s : ℕ) → slice_index volatile.lives.counts s ≡ 0) → ((s : ℕ) → normal_at volatile.lives s ≡ None) → ((class s : ℕ) → is_unfit volatile.lives.unfit class s ≡ false) → volatile.line ≡ 0 → IsArena device volatile
+formatted_arena device header volatile ready formatted reads size index each parts_size no_class count_size no_count no_normal no_unfit first_line = grind (arith, AreBlank-formatted, header_in-formatted, law_of_formatted, granules_at-large, normal_of-none)

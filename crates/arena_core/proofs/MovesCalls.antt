@@ -1,7 +1,7 @@
 -- A block moved from a root to another: what stands beside the words is what they say still, the step of the heap machine,
 -- and what a move did behind its begin.
 use Rattle.std.proofs.Common.{◌≡◌, ◌≢◌, ℕ, ◌<◌, List, Option, Some, None, sym, ap, ◌∙◌, arith, ◌⊎◌, ◌+◌, ◌/◌, ◌≤◌, Err, refl, inl, inr, ⊎_elim, ◌%◌, []}
-use Rattle.arena_core.proofs.Common.{entry_slot, version_in, granules_in, Tables, tables_of, SameLog, root_word-low, Book, FreeSet, Bounds, Range, with_key, heap, granules_at, bounds_of, heap-none, IsBookOf, Lives, normal_at, IsIndexOf, live_in, AreLivesOf, KeepsSlabs, Reply, Machine, IsExactImage, HasValue, HasState, move_reply, IsStepOfAny, AreRoots, IsMovePlan, PmemState, words_of, IsQuietStep, step_by, step_none, HasNoMove-closed, roots_plain, law_of_steady, Volatile, IsArena, call_events, line_after, IsToMove, IsMoveCarried, log_start-low, entry_slot-low, same_log, counts_kept, normal_of-same, named_at}
+use Rattle.arena_core.proofs.Common.{IsUnusedIn-same, entry_slot, version_in, granules_in, Tables, tables_of, SameLog, root_word-low, Book, FreeSet, Bounds, Range, with_key, heap, granules_at, bounds_of, heap-none, IsBookOf, Lives, normal_at, IsIndexOf, live_in, AreLivesOf, KeepsSlabs, Reply, Machine, IsExactImage, HasValue, HasState, move_reply, IsStepOfAny, AreRoots, IsMovePlan, PmemState, words_of, IsQuietStep, step_by, step_none, HasNoMove-closed, roots_plain, law_of_steady, Volatile, IsArena, call_events, line_after, IsToMove, IsMoveCarried, log_start-low, entry_slot-low, same_log, counts_kept, normal_of-same, named_at}
 use Rattle.heap_check.specs.Heap.{slabs}
 use Rattle.heap_check.specs.Slabs.{IsSameSlab}
 use Rattle.std.specs.Prelude.{if◌then◌else◌}
@@ -53,7 +53,7 @@ module _ {words new : List ℕ} {line from to at : ℕ} (may : IsMovable words f
       grind arith
 
   pub lives_moved : (range : Range) → heap (tables_of words) from ≡ Some range → (lives : Lives) → AreLivesOf lives words → AreLivesOf lives new
-  lives_moved range named lives were = lives_kept words new lives lives (counts_kept words new lives.counts granules_moved (live_in_moved range named) were.counts) were (λ s i. normal_at lives s) (λ s. normal_of-same t (tables_of new) s (moved.slabs s))
+  lives_moved range named lives were = lives_kept words new lives lives (counts_kept words new lives.counts granules_moved (live_in_moved range named) were.counts) were (λ s i. normal_at lives s) (λ s. normal_of-same t (tables_of new) s (moved.slabs s)) (λ i. lives.unfit) (λ s class number. (IsUnusedIn-same (moved.slabs s) class number).1)
 
 -- whichever seat calls, and whatever stands on the stacks, it is a step of the machine
 pub any_seat : (old new : List ℕ) (from to : ℕ) (reply : Reply) → IsMoveStep old new from to reply → IsStepOfAny old new (calls.Move from to) reply

@@ -1,6 +1,6 @@
 -- Words that differ within the block of a root alone: what stands beside the words of an arena stays what they say.
 use Rattle.std.proofs.Common.{◌≡◌, ◌<◌, ◌↔◌, ℕ, true, List, Some, sym, ap, subst, ◌∙◌, cond}
-use Rattle.arena_core.proofs.Common.{class_capacity, PmemState, words_of, granules_in, Tables, Book, FreeSet, Supply, MayBeGiven, Bounds, Range, live_below, heap, slabs, IsUnusedIn, granules_at, IsExactImage, IsBookOf, Volatile, Lives, normal_at, IsIndexOf, IsSlabsOf, live_in, normal_of, AreLivesOf, IsArena, IsReady, tables_of, counts_kept, IsSameOffBlock, slabs_kept, bounds_kept, exact_kept}
+use Rattle.arena_core.proofs.Common.{class_capacity, PmemState, words_of, granules_in, Tables, Book, FreeSet, Supply, MayBeGiven, Bounds, Range, live_below, heap, IsUnusedIn, granules_at, IsExactImage, IsBookOf, Volatile, Lives, normal_at, IsIndexOf, IsSlabsOf, live_in, normal_of, AreLivesOf, IsArena, IsReady, tables_of, counts_kept, IsSameOffBlock, slabs_kept, bounds_kept, exact_kept}
 use Rattle.arena_core.proofs.Arenas.{index_as, book_same}
 use Rattle.arena_core.proofs.LiveSlabs.{lives_kept}
 use Rattle.heap_check.proofs.OffBlocks.{tables_kept, log}
@@ -26,7 +26,8 @@ module _ {words new : List ℕ} {range : Range} (image : IsExactImage words) (ro
   lives start i = cond ((tables_kept image root named same i).slab start) (live_below (heap (tables_kept image root named same i)) start (bounds_kept image root named same i).roots) 0
 
   pub lives_same : (l : Lives) → AreLivesOf l words → AreLivesOf l new
-  lives_same l was = lives_kept words new l l (counts_kept words new l.counts granules lives was.counts) was (λ s i. normal_at l s) (λ s. ap (λ (t : Tables). normal_of t s) (tables_kept image root named same))
+  lives_same l was = lives_kept words new l l (counts_kept words new l.counts granules lives was.counts) was (λ s i. normal_at l s) (λ s. ap (λ (t : Tables). normal_of t s) (tables_kept image root named same)) (λ i. l.unfit)
+      (λ s class number. subst (λ (t : Tables). IsUnusedIn t s class number) (tables_kept image root named same))
 
 -- a memory that is ready, of which the words differ so from those that an arena had
 pub IsArena-block : {old new : PmemState} {was : Volatile} {range : Range} (root : ℕ) → IsArena old was → heap (tables_of (words_of old)) root ≡ Some range → IsSameOffBlock (words_of old) (words_of new) range → IsReady new → IsArena new was

@@ -1,7 +1,7 @@
 -- What a malloc or a free has done, put together: a malloc by its plan, of which all but the supply of an arena is as it was,
 -- and a free by what the root held.
 use Rattle.std.proofs.Common.{◌≡◌, ℕ, ◌<◌, Option, Some, None, Result, Ok, Err, refl, sym, ap, subst, ◌∙◌, List, ◌+◌, ◌*◌, ◌%◌, inl, inr, ⊎_elim, arith, ◌++◌}
-use Rattle.arena_core.proofs.Common.{place_events, placed_events, line_after, sizes_of, slabs, IsUnusedIn, attach_events, class_in, Site, IsSite, range_of, slabs_with, Event, PmemState, words_of, began, Tables, tables_of, class_size, class_capacity, Bounds, slab_block, class_small, Supply, MayBeGiven, HasSlabMore, HasSlabLess, TookBlock, Volatile, bounds_of, malloc_reply, IsCalled, IsHeldFor, IsDone, HasClassNow, IsSlabFor, SmallBlock, IsArena, IsAskedOf, tables_view, reading, stacks_of, IsPutOn, Range, heap, IsInSlab, OldBlock, detach_events, detach_old_events, free_reply, IsTaken, IsTidied, stacks_but, holds_none, take_events, freed_events, tidy_events, IsTakable, IsNamedSmall, IsNamedOld, IsFreePlan, open_events, none_open, morph_events, Granules, InSlab, InMorph, InNewSlab, Small, Morph, Fresh, MallocRefusal, NoSpace, MayOpen, MayTakeClass, FreeRefusal, slab_parts}
+use Rattle.arena_core.proofs.Common.{place_events, placed_events, line_after, sizes_of, slabs, IsUnusedIn, attach_events, class_in, Site, IsSite, range_of, slabs_with, Event, PmemState, words_of, began, Tables, tables_of, class_size, class_capacity, Bounds, slab_block, class_small, Supply, MayBeGiven, HasSlabMore, HasSlabLess, TookBlock, Volatile, AreLivesOf, bounds_of, malloc_reply, IsCalled, IsHeldFor, IsDone, HasClassNow, IsSlabFor, SmallBlock, IsArena, IsAskedOf, tables_view, reading, stacks_of, IsPutOn, Range, heap, IsInSlab, OldBlock, detach_events, detach_old_events, free_reply, IsTaken, IsTidied, stacks_but, holds_none, take_events, freed_events, tidy_events, IsTakable, IsNamedSmall, IsNamedOld, IsFreePlan, open_events, none_open, morph_events, Granules, InSlab, InMorph, InNewSlab, Small, Morph, Fresh, MallocRefusal, NoSpace, MayOpen, MayTakeClass, FreeRefusal, slab_parts}
 use Rattle.arena_core.proofs.StackSteps.{IsSuppliedFresh, IsSuppliedMorph}
 use Rattle.arena_core.proofs.MachineSteps.{IsServedAt, placed_reply, placed_step, refused_malloc, Returns, refused_free, freed_step, large_stays, small_stays, large_returned, small_returned, old_returned}
 use Rattle.arena_core.proofs.CallEvents.{IsCalled-done, IsCalled-refused, placed_large, line_large, placed_there, placed_morph, placed_fresh, start_is, line_small, freed_large, freed_there, named_lies, named_new, old_lies, old_differs, freed_old}
@@ -12,17 +12,17 @@ use Rattle.heap_model.specs.declared.call.Reply.TheVariants as replies
 use Rattle.arena_core.specs.declared.plan.Place.{Place}
 use Rattle.arena_core.specs.declared.plan.Place.TheVariants.{Large}
 use Rattle.std.specs.Option.{ok_or}
-use Rattle.arena_core.specs.declared.answer.Placed.{Placed}
 use Rattle.arena_core.specs.Plan.{IsFound, IsSuppliedFor, IsPlanned, IsBlockAs, number_of}
 use Rattle.arena_core.proofs.SmallCalls.{slabs_without}
-use Rattle.arena_core.specs.declared.answer.Freed.{Freed}
 use Rattle.arena_core.proofs.RootBlocks.{done_behind, last_taken, done_taken}
 use Rattle.arena_core.proofs.LargeStages.{heap-takable}
 
 -- what is found is a plan, and none where the heap has no place
-pub planned_found : {device : PmemState} {was now : Volatile} {seat root size : ℕ} (place : Option Place) → IsArena device was → IsAskedOf (bounds_of (words_of device)) (tables_of (words_of device)) root size → IsSuppliedFor was.supply now.supply seat place → now ≡ record was { supply = now.supply } →
-    IsFound (bounds_of (words_of device)) (tables_of (words_of device)) root size place → IsPlanned device was now seat root size (ok_or place NoSpace)
-planned_found {device} {was} {now} {seat} {root} {size} place arena asked supplied rest found = grind arith
+pub planned_found : {device : PmemState} {was now : Volatile} {seat root size : ℕ} (place : Option Place) → IsArena device was → IsAskedOf (bounds_of (words_of device)) (tables_of (words_of device)) root size → IsSuppliedFor was.supply now.supply seat place → now ≡ record was { supply = now.supply; lives = now.lives } →
+    AreLivesOf now.lives (words_of device) → IsFound (bounds_of (words_of device)) (tables_of (words_of device)) root size place → IsPlanned device (record was { lives = now.lives }) now seat root size (ok_or place NoSpace)
+planned_found {device} {was} {now} {seat} {root} {size} place arena asked supplied rest lives found =
+    let noted : IsArena device (record was { lives = now.lives }) = record { current = record { ready = arena.current.ready; exact = arena.current.exact; log = arena.current.log; index = arena.current.index }; slabs = arena.slabs; lives = lives; few = arena.few } in
+    grind arith
 
 -- what is found for whole granules takes nothing of the supply
 pub supplied_found : (b : Bounds) (t : Tables) (root size : ℕ) (old : Supply) (seat : ℕ) (found : Option Place) → 16384 < size → IsFound b t root size found → IsSuppliedFor old old seat found

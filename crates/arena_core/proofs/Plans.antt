@@ -1,7 +1,7 @@
 -- What the reads before a call say of the tables of an exact image: the slabs of the set, the best fits of the vacant
 -- granules, and what a root names.
 use Rattle.std.proofs.Common.{◌≡◌, ◌≢◌, ℕ, ◌+◌, ◌-◌, ◌*◌, ◌/◌, ◌<◌, ◌≤◌, true, false, sym, ap, ◌∙◌, arith, List, Some, ◌↔◌}
-use Rattle.arena_core.proofs.Common.{word_at, root_word, HasNoMove-closed, IsHeldBy, class_size, class_capacity, class_size-least, class_size-most, Tables, tables_of, Bounds, Range, slab_block, IsBestSlab, HasNoFitSlab, IsBestFit, HasNoFit, SlabBlock, class_in, FreeSet, IsFree, entry_at, slabs, HoldsBit, IsUnusedIn, is_old, IsVacant, bounds_of, IsExactImage, sizes_of, plain_size, IsClaim-word, granules_at-slab, granules_at-live, IsInSlab-held, IsWithin-claim, Holds-claim, IsIndexOf, IsSlabsOf, Supply, MayBeGiven, IsInNoSlabOf, HasNoOpen, IsAskedOf, IsVacantRow, tables_view, IsMorphable, IsPlacing, IsTakable, IsNamedSmall, IsClassOf, Small, Morph, Fresh, Held, is_old-held, slab_parts}
+use Rattle.arena_core.proofs.Common.{word_at, root_word, HasNoMove-closed, IsHeldBy, class_size, class_capacity, class_size-least, class_size-most, Tables, tables_of, Bounds, Range, slab_block, IsBestSlab, HasNoFitSlab, IsBestFit, HasNoFit, SlabBlock, class_in, FreeSet, IsFree, entry_at, HoldsBit, IsUnusedIn, is_old, IsVacant, bounds_of, IsExactImage, sizes_of, plain_size, IsClaim-word, granules_at-slab, granules_at-live, IsInSlab-held, IsWithin-claim, Holds-claim, IsIndexOf, IsSlabsOf, Supply, MayBeGiven, IsInNoSlabOf, HasNoOpen, IsAskedOf, IsVacantRow, tables_view, IsMorphable, IsPlacing, IsTakable, IsNamedSmall, IsClassOf, Small, Morph, Fresh, Held, is_old-held, slab_parts}
 use Rattle.std.proofs.lemmas.Nat.{le-div}
 use Rattle.size_classes.specs.Classes.{granules_of}
 use Rattle.heap_model.specs.Choice.{HasNoSite, slab_view}

@@ -1,10 +1,10 @@
 -- A block of a slab came to a root, or went from it: what an arena keeps holds again.
-use Rattle.std.proofs.Common.{◌==◌, if◌then◌else◌, ◌≡◌, ℕ, [], ◌+◌, ◌%◌, ◌<◌, ◌≤◌, Bool, true, false, List, length, slice_index, Some, None, refl, sym, ap, subst, ◌∙◌, arith, ◌++◌, inr, ◌*◌, ◌^◌, Option, MatchOption, IsSome, inl}
-use Rattle.arena_core.proofs.Common.{normal_at, heap-none, IsUnusedIn, Event, reading, PmemState, words_of, IsQuietStep, Tables, tables_of, put_at-same, put_at-other, Supply, IsWith, Bounds, Range, heap, slabs, bounds_of, IsExactButImage, IsEitherHeap, granules_at-slab, sizes_of, KeepsAllButBlock, IsDetachable, IsDetached, IsOldDetachable, IsOldDetached, detach_events, detach_old_events, Volatile, Lives, IsSlabsOf, IsCurrent, live_in, AreLivesOf, IsArena, normal_of, IsDone, IsTaken, IsTidied, HaveOneMore, IsLastOf, slabs_but, holds_none, tidy_events, SmallBlock, OldBlock, IsInSlab-held, Holds, class_size, class_capacity, with_key, slab_block, SlabBlock, HadNoOpen, TookBlock, attach_events, IsHeldFor, IsSlabFor, HasClassNow, GivesRoot, stage_of, GivesOne, none_open, steps_then, IsOneMore, begins_only}
+use Rattle.std.proofs.Common.{◌==◌, if◌then◌else◌, ◌≡◌, ◌≢◌, ℕ, [], ◌+◌, ◌%◌, ◌<◌, ◌≤◌, Bool, true, false, List, length, slice_index, Some, None, refl, sym, ap, subst, ◌∙◌, arith, ◌++◌, inr, ◌*◌, ◌^◌, Option, MatchOption, IsSome, inl}
+use Rattle.arena_core.proofs.Common.{IsUnusedIn-same, IsSameSlab, put_at, normal_at, heap-none, IsUnusedIn, Event, reading, PmemState, words_of, IsQuietStep, Tables, tables_of, put_at-same, put_at-other, Supply, IsWith, Bounds, Range, slabs, bounds_of, IsExactButImage, IsEitherHeap, granules_at-slab, sizes_of, KeepsAllButBlock, IsDetachable, IsDetached, IsOldDetachable, IsOldDetached, detach_events, detach_old_events, Volatile, Lives, IsSlabsOf, IsCurrent, live_in, AreLivesOf, IsArena, normal_of, IsDone, IsTaken, IsTidied, HaveOneMore, IsLastOf, slabs_but, holds_none, tidy_events, SmallBlock, OldBlock, IsInSlab-held, Holds, class_size, class_capacity, with_key, slab_block, SlabBlock, HadNoOpen, TookBlock, attach_events, IsHeldFor, IsSlabFor, HasClassNow, GivesRoot, stage_of, GivesOne, none_open, steps_then, IsOneMore, begins_only}
 use Rattle.arena_core.proofs.Readiness.{ready_after}
 use Rattle.image_tables.specs.Updates.{put_in}
 use Rattle.attach_steps.specs.Steps.{IsAttached}
-use Rattle.arena_core.proofs.SmallCalls.{slabs_used, used_given, IsBlockChange, book_small, change_bit, change_index, gives_small, index_small, slabs_with, slabs_less, slabs_missing, named_used, unused_taken, slabs_without}
+use Rattle.arena_core.proofs.SmallCalls.{unused_beside, unused_given, slabs_used, used_given, IsBlockChange, book_small, change_bit, change_index, gives_small, index_small, slabs_with, slabs_less, slabs_missing, named_used, unused_taken, slabs_without}
 use Rattle.arena_core.proofs.Tidying.{last_of}
 use Rattle.arena_core.proofs.HeldBlocks.{heap_held, class_holds, old_holds}
 use Rattle.heap_check.proofs.SmallPlaces.{IsWithin-block, in_slab}
@@ -22,8 +22,8 @@ counted words start lives image slab were =
 
 -- a block went from its root, and is counted still
 one_taken : {words new : List ℕ} {root start : ℕ} {range : Range} {lives : Lives} → AreLivesOf lives words → IsExactButImage words start → root < (bounds_of words).roots → Holds (tables_of words) start range → (tables_of words).root root ≡ range.at → bounds_of new ≡ bounds_of words →
-    ((s : ℕ) → (tables_of new).slab s ≡ (tables_of words).slab s) → ((s : ℕ) → normal_of (tables_of new) s ≡ normal_of (tables_of words) s) → GivesOne words root None new → HaveOneMore lives new start
-one_taken {words} {new} {root} {start} {range} {lives} were image rooted holds named bounds slab_same normal gives =
+    ((s : ℕ) → (tables_of new).slab s ≡ (tables_of words).slab s) → ((s : ℕ) → normal_of (tables_of new) s ≡ normal_of (tables_of words) s) → ((s class i : ℕ) → s ≢ start → IsUnusedIn (tables_of new) s class i → IsUnusedIn (tables_of words) s class i) → GivesOne words root None new → HaveOneMore lives new start
+one_taken {words} {new} {root} {start} {range} {lives} were image rooted holds named bounds slab_same normal fewer gives =
     let sound = image.but.sound in
     let more : IsOneMore new words root start range = record {
       rooted = subst (λ (b : Bounds). root < b.roots) (sym bounds) rooted;
@@ -35,7 +35,7 @@ one_taken {words} {new} {root} {start} {range} {lives} were image rooted holds n
       inside = slab_same start ∙ holds.slab;
       begins = λ s slab. begins_only sound start range (IsInSlab-held sound start range holds) s (sym (slab_same s) ∙ slab);
     } in
-    one_more lives more (counted words start lives image holds.slab were).0 were (λ s. sym (normal s))
+    one_more lives more (counted words start lives image holds.slab were).0 were (λ s. sym (normal s)) fewer
 
 -- a block went
 taken_by : {old new : PmemState} (was : Volatile) (fewer : Supply) (lives_left : Lives) {root start k : ℕ} (bits lives : Bool → ℕ → ℕ → Bool) {events : List Event} → IsBlockChange (words_of old) was.line root start k →
@@ -67,7 +67,8 @@ taken_by {old} {new} was fewer lives_left {root} {start} {k} bits lives {events}
 -- of its slab's class: it may be given out again, and is counted until then
 pub class_one_more : {old : PmemState} {new : List ℕ} {was : Volatile} {root : ℕ} {block : SmallBlock} → IsArena old was → IsDetachable (words_of old) root block → IsDetached (words_of old) was.line root block new → HaveOneMore was.lives new block.start
 class_one_more {old} {new} {was} {root} {block} arena may detached =
-    one_taken arena.lives may.block_in.image may.block_in.rooted (class_holds may) (may.named ∙ may.block_in.at) detached.bounds (λ s. ap (λ (x : Tables). x.slab s) detached.tables) (λ s. ap (λ (x : Tables). normal_of x s) detached.tables) detached.gives
+    one_taken arena.lives may.block_in.image may.block_in.rooted (class_holds may) (may.named ∙ may.block_in.at) detached.bounds (λ s. ap (λ (x : Tables). x.slab s) detached.tables) (λ s. ap (λ (x : Tables). normal_of x s) detached.tables)
+    (unused_beside (words_of old) root block.start block.number false 0 new detached.bounds detached.tables) detached.gives
 
 pub class_taken : {old new : PmemState} (was : Volatile) {root : ℕ} {block : SmallBlock} → IsArena old was → IsDetachable (words_of old) root block → IsDetached (words_of old) was.line root block (words_of new) → (fewer : Supply) (lives : Lives) → old.events ≡ [] →
     IsQuietStep old new (detach_events (words_of old) was.line root block) (IsEitherHeap (words_of old) (words_of new)) → IsWith was.supply fewer block.start block.number → AreLivesOf lives (words_of new) →
@@ -83,10 +84,20 @@ class_taken {old} {new} was {root} {block} arena may detached fewer lives fresh 
     came (unused_taken words was.line root block may (words_of new) detached))
     lives_are
 
+-- where an entry of an index table changed, of another slab no block is unused that was not
+old_beside : (words new : List ℕ) (root start place word : ℕ) (on : Bool) → tables_of new ≡ stage_of (tables_of words) (λ b. bit_rows (tables_of words)) (put_in (live_rows (tables_of words)) start place) root on word None →
+    (s class i : ℕ) → s ≢ start → IsUnusedIn (tables_of new) s class i → IsUnusedIn (tables_of words) s class i
+old_beside words new root start place word on tables s class i differ unused =
+    let t = tables_of words in
+    let after = stage_of t (λ b. bit_rows t) (put_in (live_rows t) start place) root on word None in
+    let same : IsSameSlab t after s = record { slab = refl; header = λ j. record (t.header s) { live = put_at-other (live_rows t) start s (put_at (live_rows t start) place on) differ j } } in
+    (IsUnusedIn-same same class i).1 (subst (λ (x : Tables). IsUnusedIn x s class i) tables unused)
+
 -- an old one: the blocks that it alone covered may be given out, and it is counted until then
 pub old_one_more : {old : PmemState} {new : List ℕ} {was : Volatile} {root : ℕ} {block : OldBlock} → IsArena old was → IsOldDetachable (words_of old) root block → IsOldDetached (words_of old) was.line root block new → HaveOneMore was.lives new block.start
 old_one_more {old} {new} {was} {root} {block} arena may detached =
-    one_taken arena.lives may.image may.rooted (old_holds may) (may.named ∙ may.at) detached.bounds (λ s. ap (λ (x : Tables). x.slab s) detached.tables) (λ s. ap (λ (x : Tables). normal_of x s) detached.tables) detached.gives
+    one_taken arena.lives may.image may.rooted (old_holds may) (may.named ∙ may.at) detached.bounds (λ s. ap (λ (x : Tables). x.slab s) detached.tables) (λ s. ap (λ (x : Tables). normal_of x s) detached.tables)
+    (old_beside (words_of old) new root block.start block.place 0 false detached.tables) detached.gives
 
 pub old_taken : {old new : PmemState} (was : Volatile) {root : ℕ} {block : OldBlock} → IsArena old was → IsOldDetachable (words_of old) root block → IsOldDetached (words_of old) was.line root block (words_of new) → (fewer : Supply) (lives : Lives) → old.events ≡ [] →
     let events = detach_old_events (tables_of (words_of old)) was.line root block.at block.start block.place in
@@ -163,9 +174,9 @@ module _ {device : PmemState} {volatile : Volatile} {root start class : ℕ} (re
 -- a block came to the root, and is counted
 pub given_done : {old new : PmemState} {was : Volatile} {next : Lives} {root class line : ℕ} (block : SmallBlock) → IsHeldFor old was root block → ((tables_of (words_of old)).header block.start).class ≡ class →
     IsQuietStep old new (attach_events (words_of old) was.line root block) (IsEitherHeap (words_of old) (words_of new)) → IsAttached (words_of old) was.line root block (words_of new) → length next.counts ≡ length was.lives.counts →
-    ((s : ℕ) → slice_index next.counts s ≡ (if s == block.start then slice_index was.lives.counts s + 1 else slice_index was.lives.counts s)) → ((s : ℕ) → normal_at next s ≡ normal_at was.lives s) →
+    ((s : ℕ) → slice_index next.counts s ≡ (if s == block.start then slice_index was.lives.counts s + 1 else slice_index was.lives.counts s)) → ((s : ℕ) → normal_at next s ≡ normal_at was.lives s) → next.unfit ≡ was.lives.unfit →
     IsDone old new (record was { lives = next; line = line }) root (Some (slab_block block.start class block.number)) (slabs (tables_of (words_of old))) (attach_events (words_of old) was.line root block)
-given_done {old} {new} {was} {next} {root} {class} block held class_is step attached size counts normal =
+given_done {old} {new} {was} {next} {root} {class} block held class_is step attached size counts normal unfit =
     let words = words_of old in
     let after = words_of new in
     let t = tables_of words in
@@ -196,7 +207,8 @@ given_done {old} {new} {was} {next} {root} {class} block held class_is step atta
       };
       slabs = slabs_used block.start block.number (slabs_less words root block.start block.number true block.at after attached.bounds attached.tables was.supply held.slabs)
           (subst (λ (x : Tables). ¬ (IsUnusedIn x block.start (x.header block.start).class block.number)) (sym attached.tables) (used_given words root block block.at block_in));
-      lives = lives_kept words after was.lives next (counts_raised words after root block.start range was.lives.counts next.counts more size counts held.lives.counts) held.lives normal (λ s. ap (λ (x : Tables). normal_of x s) attached.tables);
+      lives = lives_kept words after was.lives next (counts_raised words after root block.start range was.lives.counts next.counts more size counts held.lives.counts) held.lives normal (λ s. ap (λ (x : Tables). normal_of x s) attached.tables) unfit
+          (unused_given words root block block.at after block_in attached.bounds attached.tables);
       gives = subst (λ c. GivesRoot words root (Some (slab_block block.start c block.number)) (slabs (tables_of words)) after) class_is (gives_small change after attached.rest bits live_bits true block.at attached.bounds attached.tables attached.gives);
     }
 

@@ -1,6 +1,6 @@
 -- A slab comes or goes: what an arena keeps holds again.
-use Rattle.std.proofs.Common.{refl, length, [], ◌≡◌, ◌≢◌, ◌⊎◌, ◌↔◌, ◌==◌, ℕ, ◌+◌, ◌<◌, ◌≤◌, true, List, sym, ap, subst, ◌∙◌, arith, inl, inr, ⊎_elim, Some, if◌then◌else◌}
-use Rattle.arena_core.proofs.Common.{cond-true, cond-false, PmemState, words_of, Volatile, Book, IsQuietStep, IsEitherHeap, IsBookOf, HasClassNow, layout_of, version_in, class_capacity, Tables, tables_of, FreeSet, IsFree, Supply, MayBeGiven, IsClearOf, HasSlabMore, Bounds, with_key, slabs, IsUnusedIn, IsInSlab, IsDoneSlab, bounds_of, IsExactImage, IsExactButImage, granules_at-slab, Covers, Covers-slab, sizes_of, Lives, normal_at, IsIndexOf, AreCountsOf, normal_of, IsVacantRow, IsUnusedIn-same, live_below, IsFreeRow, slabs-other, IsSlabPlace, open_events, MayOpen, keeps_blocks, counts_kept, live_none, normal_of-same, with_key-is, slab_parts}
+use Rattle.std.proofs.Common.{false, refl, length, [], ◌≡◌, ◌≢◌, ◌⊎◌, ◌↔◌, ◌==◌, ℕ, ◌+◌, ◌<◌, ◌≤◌, true, List, sym, ap, subst, ◌∙◌, arith, inl, inr, ⊎_elim, Some, if◌then◌else◌}
+use Rattle.arena_core.proofs.Common.{is_unfit, cond-true, cond-false, PmemState, words_of, Volatile, Book, IsQuietStep, IsEitherHeap, IsBookOf, HasClassNow, layout_of, version_in, class_capacity, Tables, tables_of, FreeSet, IsFree, Supply, MayBeGiven, IsClearOf, HasSlabMore, Bounds, with_key, slabs, IsUnusedIn, IsInSlab, IsDoneSlab, bounds_of, IsExactImage, IsExactButImage, granules_at-slab, Covers, Covers-slab, sizes_of, Lives, normal_at, IsIndexOf, AreCountsOf, normal_of, IsVacantRow, IsUnusedIn-same, live_below, IsFreeRow, slabs-other, IsSlabPlace, open_events, MayOpen, keeps_blocks, counts_kept, live_none, normal_of-same, with_key-is, slab_parts}
 use Rattle.extent_index.specs.FreeSet.{IsHeldRow}
 use Rattle.heap_check.proofs.BlockWords.{block_word-vacant}
 use Rattle.heap_check.proofs.SlabHeaps.{slabs-slab, IsVacant-slab}
@@ -54,8 +54,9 @@ module _ (device : PmemState) (volatile : Volatile) (start class : ℕ) (may : M
     pub class_opened : {log : Book} {less : FreeSet} {more : Supply} {next : Lives} → device.events ≡ [] → IsQuietStep device u (open_events (words_of device) start class) (IsEitherHeap (words_of device) (words_of u)) →
         length u.events ≤ length device.events + (layout_of (version_in (words_of device))).slab_events → IsBookOf log (words_of u) → less.granules ≡ volatile.free.granules → ((k : ℕ) → IsFree less k ↔ (IsFree volatile.free k × ((k < start) ⊎ (start + 4 ≤ k)))) →
         HasSlabMore volatile.supply more start class (λ i. i < class_capacity class) → next.counts ≡ volatile.lives.counts → ((s : ℕ) → normal_at next s ≡ with_key (normal_at volatile.lives) start (Some class) s) →
+        ((k o : ℕ) → is_unfit next.unfit k o ≡ (if o == start then false else is_unfit volatile.lives.unfit k o)) →
         HasClassNow device u volatile (record volatile { log = log; free = less; supply = more; lives = next }) start class (open_events (words_of device) start class)
-    class_opened {log} {less} {more} {next} fresh step few book granules taken added same put =
+    class_opened {log} {less} {more} {next} fresh step few book granules taken added same put unfit =
         let arena = may.arena in
         let ready = arena.current.ready in
         let none = live_none opened.image.but.sound opened.image.but.closed start opened.slab.more.slab (holds_none-fresh (tables_of new) opened.slab.fresh) (bounds_of new).roots in
@@ -77,7 +78,8 @@ module _ (device : PmemState) (volatile : Volatile) (start class : ℕ) (may : M
                   (λ s differ i. let it = opened.slab.more.others s differ in blocks_kept it.slab (ap (λ (h : SlabHeader). h.class) it.header) (IsUnusedIn-same it (t.header s).class i) (added.others s i differ) (arena.slabs.blocks s i));
             };
             lives = lives_put words new volatile.lives next (subst (λ (n : List ℕ). AreCountsOf n new) (sym same) counts) arena.lives start (Some class) put
-                (with_key-is (normal_of t) (normal_of after) start (Some class) (normal_of-normal after start opened.slab.more.slab opened.slab.fresh.kind ∙ ap (λ c. Some c) opened.slab.fresh.class_is) (λ s differ. normal_of-same t after s (opened.slab.more.others s differ)));
+                (with_key-is (normal_of t) (normal_of after) start (Some class) (normal_of-normal after start opened.slab.more.slab opened.slab.fresh.kind ∙ ap (λ c. Some c) opened.slab.fresh.class_is) (λ s differ. normal_of-same t after s (opened.slab.more.others s differ)))
+                unfit (λ s c number differ. (IsUnusedIn-same (opened.slab.more.others s differ) c number).1);
           };
           lively = λ done. omega (arith, done.kind, opened.slab.fresh.kind);
           class_is = opened.slab.fresh.class_is;

@@ -108,6 +108,10 @@ module _ (words : List ℕ) (root start number : ℕ) (on : Bool) (word : ℕ) (
   same_slab : (s : ℕ) → s ≢ start → IsSameSlab t after s
   same_slab s differ = record { slab = refl; header = λ i. record (t.header s) { bit = put_at-other (bit_rows t) start s (put_at (bit_rows t start) number on) differ i } }
 
+  -- of another slab no block is unused that was not
+  pub unused_beside : (s class i : ℕ) → s ≢ start → IsUnusedIn (tables_of new) s class i → IsUnusedIn (tables_of words) s class i
+  unused_beside s class i differ unused = (IsUnusedIn-same (same_slab s differ) class i).1 (subst (λ (x : Tables). IsUnusedIn x s class i) tables unused)
+
   -- so a supply that has not this block open, and of the others those that are unused, has them still
   pub slabs_less : (set : Supply) → AreSlabsLess set words start number → AreSlabsLess set new start number
   slabs_less set was = record {
@@ -158,17 +162,37 @@ named_used {set} {words} {root} {block} slabs may is =
     let unused = (slabs.blocks block.start block.number block_in.slab block_in.below).0 is in
     true≢false (sym may.set ∙ clear_unused but.sound but.closed block.start block.number block_in.slab block_in.below (none_morphing_but but block.start block_in.slab) unused)
 
--- a block that came to a root is used
+-- a block that came to a root is held
+held_given : (words : List ℕ) (root : ℕ) (block : SmallBlock) (word : ℕ) → IsBlockIn words root block → let t = tables_of words in
+    Holds (with_small t block.start block.number true root word None) block.start (slab_block block.start (t.header block.start).class block.number)
+held_given words root block word block_in =
+    let but = block_in.image.but in
+    grind (arith, none_morphing_but, put_in-same)
+
+-- so it is used
 pub used_given : (words : List ℕ) (root : ℕ) (block : SmallBlock) (word : ℕ) → IsBlockIn words root block → let t = tables_of words in
     ¬ (IsUnusedIn (with_small t block.start block.number true root word None) block.start (t.header block.start).class block.number)
 used_given words root block word block_in =
     let t = tables_of words in
     let but = block_in.image.but in
-    let after = with_small t block.start block.number true root word None in
     let size = class_size-least (t.header block.start).class (but.sound.slabs block.start block_in.slab).state.is_class in
     let range : Range = slab_block block.start (t.header block.start).class block.number in
-    let held : Holds after block.start range = grind (arith, none_morphing_but, put_in-same) in
-    λ unused. absurd (⊎_elim (λ x. omega (arith, x, size)) (λ x. omega (arith, x, size)) (unused.each range held))
+    λ unused. absurd (⊎_elim (λ x. omega (arith, x, size)) (λ x. omega (arith, x, size)) (unused.each range (held_given words root block word block_in)))
+
+-- and no block is unused that was not
+pub unused_given : (words : List ℕ) (root : ℕ) (block : SmallBlock) (word : ℕ) (new : List ℕ) → IsBlockIn words root block → bounds_of new ≡ bounds_of words → tables_of new ≡ with_small (tables_of words) block.start block.number true root word None →
+    (s class i : ℕ) → IsUnusedIn (tables_of new) s class i → IsUnusedIn (tables_of words) s class i
+unused_given words root block word new block_in bounds tables = of_each block.start
+    (λ class i unused.
+    let after = with_small (tables_of words) block.start block.number true root word None in
+    let left : IsUnusedIn after block.start class i = subst (λ (x : Tables). IsUnusedIn x block.start class i) tables unused in
+    record {
+      each = λ range holds. ⊎_elim
+          (λ is. left.each range is)
+          (λ own. left.each range (subst (λ r. Holds after block.start r) (sym own) (held_given words root block word block_in)))
+          (Holds-forth (tables_of words) block.start block.number true root word None block.start range holds);
+    })
+    (λ s differ class i. unused_beside words root block.start block.number true word new bounds tables s class i differ)
 
 -- and one that went from its root is unused
 pub unused_taken : (words : List ℕ) (line root : ℕ) (block : SmallBlock) → IsDetachable words root block → (new : List ℕ) → IsDetached words line root block new → IsUnusedIn (tables_of new) block.start ((tables_of new).header block.start).class block.number

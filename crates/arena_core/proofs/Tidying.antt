@@ -1,7 +1,7 @@
 -- Whether a slab keeps a block once one of its blocks goes: it is dropped where it holds none, and its transition ends where
 -- no old one is left.
 use Rattle.std.proofs.Common.{◌<◌, true≢false, ◌⊎◌, ◌≤◌, ◌+◌, ◌≡◌, ◌≢◌, ◌||◌, ℕ, true, false, refl, sym, ap, subst, ◌∙◌, inl, inr, ⊎_elim, Bool, arith, ◌*◌, ◌/◌, ◌↔◌, ◌==◌, not, IsTrue, List, [], slice_index, Some, None, if◌then◌else◌}
-use Rattle.arena_core.proofs.Common.{Book, FreeSet, IsFree, Supply, HasSlabLess, IsEitherHeap, IsBookOf, sizes_of, IsUnusedIn-same, live_below, cases_Bool, class_capacity, Tables, Bounds, Range, slab_block, any_below, entry_at, Holds, HoldsBit, HoldsOld, IsInSlab, IsEmptySlab, IsExactBut, plain_size, IsNamed-claim, IsClaim-word, Holds-claim, none_morphing_but, IsInSlab-held, IsLastOf, holds_none, cond-true, cond-false, eqb-true, and_from, and_parts, false_from_ne_true, PmemState, words_of, IsQuietStep, step_by, step_none, step_wider, morphed_kind, is_slab, tables_of, with_key, slabs, heap, IsDoneSlab, bounds_of, IsExactImage, IsSteadyImage, IsSteady-but, Volatile, Lives, normal_at, AreCountsOf, normal_of, IsTidied, slabs_but, tidy_events, HasNoMove-closed, granule_word, block_word-header, slabs-other, IsSlabPlace, keeps_blocks, same_heap, live_none, live_same, counts_kept, with_key-is, normal_of-none, normal_of-same}
+use Rattle.arena_core.proofs.Common.{is_unfit, Book, FreeSet, IsFree, Supply, HasSlabLess, IsEitherHeap, IsBookOf, sizes_of, IsUnusedIn-same, live_below, cases_Bool, class_capacity, Tables, Bounds, Range, slab_block, any_below, entry_at, Holds, HoldsBit, HoldsOld, IsInSlab, IsEmptySlab, IsExactBut, plain_size, IsNamed-claim, IsClaim-word, Holds-claim, none_morphing_but, IsInSlab-held, IsLastOf, holds_none, cond-true, cond-false, eqb-true, and_from, and_parts, false_from_ne_true, PmemState, words_of, IsQuietStep, step_by, step_none, step_wider, morphed_kind, is_slab, tables_of, with_key, slabs, heap, IsDoneSlab, bounds_of, IsExactImage, IsSteadyImage, IsSteady-but, Volatile, Lives, normal_at, AreCountsOf, normal_of, IsTidied, slabs_but, tidy_events, HasNoMove-closed, granule_word, block_word-header, slabs-other, IsSlabPlace, keeps_blocks, same_heap, live_none, live_same, counts_kept, with_key-is, normal_of-none, normal_of-same}
 use Rattle.std.proofs.lemmas.Bool.{cases_eq, or_parts, or_cases, true_from_ne_false}
 use Rattle.image_tables.specs.Forms.{morphing_kind}
 use Rattle.heap_model.proofs.Below.{any_below-each, any_below-some}
@@ -164,8 +164,9 @@ module _ (s : PmemState) (volatile : Volatile) (start : ℕ) (untidy : IsUntidy 
     -- no block lived in it, and it is normal no more
     pub tidied_dropped : {log : Book} {more : FreeSet} {set : Supply} {next : Lives} → IsQuietStep s u (drop_events (words_of s) start) (IsEitherHeap (words_of s) (words_of u)) → IsBookOf log (words_of u) → more.granules ≡ volatile.free.granules →
         ((k : ℕ) → IsFree more k ↔ (IsFree volatile.free k ⊎ ((start ≤ k) × (k < start + 4)))) → HasSlabLess volatile.supply set start → next.counts ≡ volatile.lives.counts → ((o : ℕ) → normal_at next o ≡ with_key (normal_at volatile.lives) start None o) →
+        ((k o : ℕ) → is_unfit next.unfit k o ≡ (if o == start then false else is_unfit volatile.lives.unfit k o)) →
         IsTidied s u (record volatile { log = log; free = more; supply = set; lives = next }) start
-    tidied_dropped {log} {more} {set} {next} step book granules given removed same put =
+    tidied_dropped {log} {more} {set} {next} step book granules given removed same put unfit =
         let none = none_by_count zero in
         let exact = dropped.exact untidy.image.but in
         let counts : AreCountsOf volatile.lives.counts fewer = counts_kept words fewer volatile.lives.counts (ap (λ (b : Bounds). b.granules) dropped.bounds) (of_each start
@@ -189,7 +190,8 @@ module _ (s : PmemState) (volatile : Volatile) (start : ℕ) (untidy : IsUntidy 
                 blocks_kept kept.slab (ap (λ (h : SlabHeader). h.class) kept.header) (IsUnusedIn-same kept (t.header o).class i) (removed.others o i differ) (untidy.slabs.blocks o i) slab;
           };
           lives = lives_put words fewer volatile.lives next (subst (λ (n : List ℕ). AreCountsOf n fewer) (sym same) counts) untidy.lives start None put
-              (with_key-is (normal_of t) (normal_of less) start None (normal_of-none less start dropped.slab.none) (λ o differ. sym (normal_of-same less t o (dropped.slab.others o differ))));
+              (with_key-is (normal_of t) (normal_of less) start None (normal_of-none less start dropped.slab.none) (λ o differ. sym (normal_of-same less t o (dropped.slab.others o differ))))
+              unfit (λ o c number differ. (IsUnusedIn-same (IsSameSlab-back (dropped.slab.others o differ)) c number).1);
           bounds = dropped.bounds;
           heap = dropped.heap;
           slab = λ o. classes_dropped o ∙ sym (ap (λ gone. slabs_but (slabs t) start gone o) none);
@@ -249,8 +251,8 @@ module _ (s : PmemState) (volatile : Volatile) (start : ℕ) (untidy : IsUntidy 
     pub class_left : {slab class : ℕ} → slab ≡ 8 * granule_word start → (is_slab (words_of u) (slab / 16384) ≡ true → class ≡ ((tables_of (words_of u)).header (slab / 16384)).class) → class ≡ ((tables_of (words_of s)).header start).class
     class_left {slab} {class} at read = class_read new slab start class (omega arith) (slab_same start ∙ untidy.slab) read ∙ class_same start
 
-    pub tidied_ended : (next : Lives) {class : ℕ} → next.counts ≡ volatile.lives.counts → ((o : ℕ) → normal_at next o ≡ with_key (normal_at volatile.lives) start (Some class) o) → class ≡ ((tables_of (words_of s)).header start).class → IsTidied s u (record volatile { lives = next }) start
-    tidied_ended next same put class_is =
+    pub tidied_ended : (next : Lives) {class : ℕ} → next.counts ≡ volatile.lives.counts → ((o : ℕ) → normal_at next o ≡ with_key (normal_at volatile.lives) start (Some class) o) → ((k o : ℕ) → is_unfit next.unfit k o ≡ (if o == start then false else is_unfit volatile.lives.unfit k o)) → class ≡ ((tables_of (words_of s)).header start).class → IsTidied s u (record volatile { lives = next }) start
+    tidied_ended next same put unfit class_is =
         let none = some_by_count some in
         let counts : AreCountsOf volatile.lives.counts new = counts_kept words new volatile.lives.counts (ap (λ (b : Bounds). b.granules) ended.bounds) (live_same words new ended.bounds slab_same ended.heap.each) untidy.lives.counts in
         let steady : IsSteadyImage words = record { formed = untidy.image.formed; steady = IsSteady-but untidy.image.but } in
@@ -266,7 +268,7 @@ module _ (s : PmemState) (volatile : Volatile) (start : ℕ) (untidy : IsUntidy 
             classes = λ o. untidy.slabs.classes o ∙ sym (classes_ended o);
             blocks = λ o i. blocks_kept (slab_same o) (class_same o) (unused_header change o (t.header o).class i) (λ is. is, λ is. is) (untidy.slabs.blocks o i);
           };
-          lives = lives_put words new volatile.lives next (subst (λ (n : List ℕ). AreCountsOf n new) (sym same) counts) untidy.lives start (Some (t.header start).class) (λ o. put o ∙ ap (λ c. with_key (normal_at volatile.lives) start (Some c) o) class_is) normal_ended;
+          lives = lives_put words new volatile.lives next (subst (λ (n : List ℕ). AreCountsOf n new) (sym same) counts) untidy.lives start (Some (t.header start).class) (λ o. put o ∙ ap (λ c. with_key (normal_at volatile.lives) start (Some c) o) class_is) normal_ended unfit (λ o c number differ. (unused_header change o c number).1);
           bounds = ended.bounds;
           heap = ended.heap;
           slab = λ o. classes_ended o ∙ sym (ap (λ gone. slabs_but (slabs t) start gone o) none);

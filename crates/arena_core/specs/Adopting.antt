@@ -1,5 +1,5 @@
 -- What the indexes of an arena have read of an image so far, while an arena is made over it.
-use Rattle.std.specs.Prelude.{◌≡◌, ◌↔◌, nat_lt, ℕ, ◌<◌, ◌≤◌, true, List, length, slice_index, Option, Some, None, if◌then◌else◌}
+use Rattle.std.specs.Prelude.{false, ◌≡◌, ◌↔◌, nat_lt, ℕ, ◌<◌, ◌≤◌, true, List, length, slice_index, Option, Some, None, if◌then◌else◌}
 use Rattle.pool_layout.specs.Header.{granules_in}
 use Rattle.size_classes.specs.Classes.{class_capacity}
 use Rattle.image_tables.specs.Extents.{extent_at}
@@ -10,6 +10,7 @@ use Rattle.heap_model.specs.Machine.{Bounds}
 use Rattle.heap_model.specs.Slabs.{live_below}
 use Rattle.extent_index.specs.FreeSet.{FreeSet, IsFree}
 use Rattle.slab_index.specs.SlabSet.{class_in}
+use Rattle.slab_index.specs.Unfit.{is_unfit}
 use Rattle.slab_lives.specs.Lives.{Lives, normal_at}
 use Rattle.block_supply.specs.Supply.{Supply, MayBeGiven}
 use Rattle.heap_check.specs.Heap.{heap, slabs, IsUnusedIn}
@@ -52,6 +53,7 @@ pub record HasCounted (words : List ℕ) (counts : List ℕ) (root : ℕ) : Type
 -- of the slabs that begin below a granule the normal ones are noted
 pub record HasNoted (words : List ℕ) (lives : Lives) (from : ℕ) : Type 0 where
   pub each : (start : ℕ) → normal_at lives start ≡ (if nat_lt start from then normal_of (tables_of words) start else None)
+  pub no_unfit : (class start : ℕ) → is_unfit lives.unfit class start ≡ false
 
 -- the entry says the next live extent, and those that start below it are read
 pub record IsNextRead (words : List ℕ) (set : FreeSet) (parts : Supply) (next : LogEntry) : Type 0 where

@@ -1,5 +1,5 @@
 -- What an arena keeps between its calls, and the memory that it is made of.
-use Rattle.std.specs.Prelude.{◌≡◌, ◌↔◌, ℕ, ◌<◌, ◌≤◌, ◌≢◌, ◌⊎◌, true, List, length, slice_index, Option, Some, None}
+use Rattle.std.specs.Prelude.{◌≡◌, ◌↔◌, ℕ, ◌<◌, ◌≤◌, ◌≢◌, ◌⊎◌, true, false, List, length, slice_index, Option, Some, None}
 use Rattle.pmem_lines.specs.Pmem.{PmemState, words_of}
 use Rattle.pool_layout.specs.Header.{granules_in}
 use Rattle.size_classes.specs.Classes.{class_capacity}
@@ -10,6 +10,7 @@ use Rattle.heap_model.specs.Machine.{Range, AreApart, slab_block}
 use Rattle.extent_index.specs.FreeSet.{FreeSet, IsFree}
 use Rattle.heap_model.specs.Placement.{no_stacks}
 use Rattle.slab_index.specs.SlabSet.{class_in}
+use Rattle.slab_index.specs.Unfit.{is_unfit}
 use Rattle.slab_lives.specs.Lives.{Lives, normal_at}
 use Rattle.thread_cache.specs.Stacks.{StackTable, stacks_of}
 use Rattle.block_supply.specs.Supply.{Supply, MayBeGiven}
@@ -59,10 +60,15 @@ pub record AreSlabsBut (set : Supply) (words : List ℕ) (block : OldBlock) : Ty
       MayBeGiven set start i ↔ IsUnusedIn (tables_of words) start ((tables_of words).header start).class i
   pub none : (i : ℕ) → i < class_capacity ((tables_of words).header block.start).class → ¬ (AreApart (old_range (tables_of words) block) (slab_block block.start ((tables_of words).header block.start).class i)) → ¬ (MayBeGiven set block.start i)
 
--- the counts are those of these words, and the normal slabs are those of the tables
+-- each block of a class in the slab at a start shares a byte with one that the slab holds
+pub record HasNoUnused (words : List ℕ) (start class : ℕ) : Type 0 where
+  pub none : (number : ℕ) → number < class_capacity class → ¬ (IsUnusedIn (tables_of words) start class number)
+
+-- the counts are those of these words, the normal slabs are those of the tables, and each slab that was found unfit is unfit still
 pub record AreLivesOf (lives : Lives) (words : List ℕ) : Type 0 where
   pub counts : AreCountsOf lives.counts words
   pub normal : (start : ℕ) → normal_at lives start ≡ normal_of (tables_of words) start
+  pub unfit : (class start : ℕ) → is_unfit lives.unfit class start ≡ true → HasNoUnused words start class
 
 -- what an arena keeps, whatever slabs there are: its memory is ready and its image exact, and log and index are those of
 -- the image
@@ -80,7 +86,7 @@ pub record IsArena (device : PmemState) (volatile : Volatile) : Type 0 where
   pub few : volatile.line < 8
 
 -- memory for an arena of so many granules: an empty log, an index in which all of the heap is free, a supply without slabs and
--- with empty stacks, counts of 0 and no normal slab
+-- with empty stacks, counts of 0, no normal slab, and none that was found unfit
 pub record IsRoom (granules : ℕ) (volatile : Volatile) : Type 0 where
   pub least : 16 ≤ granules
   pub most : granules ≤ 4096
@@ -93,6 +99,7 @@ pub record IsRoom (granules : ℕ) (volatile : Volatile) : Type 0 where
   pub counts : length volatile.lives.counts ≡ granules
   pub no_lives : (start : ℕ) → slice_index volatile.lives.counts start ≡ 0
   pub no_normal : (start : ℕ) → normal_at volatile.lives start ≡ None
+  pub no_unfit : (class start : ℕ) → is_unfit volatile.lives.unfit class start ≡ false
   pub first : volatile.line ≡ 0
 
 -- the block of a root, where it has one

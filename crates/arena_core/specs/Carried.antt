@@ -1,5 +1,5 @@
 -- What a call has done once it is carried out.
-use Rattle.std.specs.Prelude.{◌≡◌, ◌==◌, ◌+◌, ◌%◌, ◌<◌, ◌≤◌, ℕ, if◌then◌else◌, List, length, slice_index, Option, Some, None, true}
+use Rattle.std.specs.Prelude.{◌≡◌, ◌≢◌, ◌==◌, ◌+◌, ◌%◌, ◌<◌, ◌≤◌, ℕ, if◌then◌else◌, List, length, slice_index, Option, Some, None, true}
 use Rattle.pmem_lines.specs.declared.event.Event.{Event}
 use Rattle.pmem_lines.specs.Pmem.{PmemState, words_of, HasRoom}
 use Rattle.pmem_lines.specs.Steps.{IsQuietStep}
@@ -9,6 +9,7 @@ use Rattle.heap_model.specs.declared.call.Reply.{Reply}
 use Rattle.pool_layout.specs.Header.{granules_in}
 use Rattle.heap_model.specs.Machine.{Range, with_key}
 use Rattle.slab_index.specs.SlabSet.{class_in}
+use Rattle.slab_index.specs.Unfit.{is_unfit}
 use Rattle.slab_lives.specs.Lives.{Lives, normal_at}
 use Rattle.block_supply.specs.Supply.{MayBeGiven}
 use Rattle.attach_steps.specs.declared.block.SmallBlock.{SmallBlock}
@@ -19,7 +20,7 @@ use Rattle.heap_check.specs.Image.{bounds_of, IsExactButImage}
 use Rattle.heap_check.specs.State.{HaveSameHeap, KeepsBlocks, IsEitherHeap}
 use Rattle.log_steps.specs.Log.{IsBookOf}
 use Rattle.arena_core.specs.declared.volatile.Volatile.{Volatile}
-use Rattle.arena_core.specs.Arena.{IsIndexOf, IsSlabsOf, AreSlabsLess, AreLivesOf, IsCurrent, IsArena}
+use Rattle.arena_core.specs.Arena.{IsIndexOf, IsSlabsOf, AreSlabsLess, HasNoUnused, AreLivesOf, IsCurrent, IsArena}
 use Rattle.thread_cache.specs.Stacks.{stacks_of}
 use Rattle.arena_core.specs.Call.{IsReady, IsStepOf}
 use Rattle.arena_core.specs.Plan.{IsMorphable}
@@ -35,12 +36,14 @@ pub record IsDone (old new : PmemState) (left : Volatile) (root : ℕ) (block : 
   pub lives : AreLivesOf left.lives (words_of new)
   pub gives : GivesRoot (words_of old) root block slab (words_of new)
 
--- the counts are those of these words, but that the slab at a start has one more, and the normal slabs are those of the tables
+-- the counts are those of these words, but that the slab at a start has one more; the normal slabs are those of the tables; and
+-- each other slab that was found unfit is unfit still
 pub record HaveOneMore (lives : Lives) (words : List ℕ) (start : ℕ) : Type 0 where
   pub size : length lives.counts ≡ granules_in words
   pub inside : start < length lives.counts
   pub each : (s : ℕ) → slice_index lives.counts s ≡ (if s == start then live_in words s + 1 else live_in words s)
   pub normal : (s : ℕ) → normal_at lives s ≡ normal_of (tables_of words) s
+  pub unfit : (class s : ℕ) → s ≢ start → is_unfit lives.unfit class s ≡ true → HasNoUnused words s class
 
 -- what an arena keeps, but that a slab may be without a block, or done
 pub record IsUntidy (device : PmemState) (volatile : Volatile) (start : ℕ) : Type 0 where

@@ -1,5 +1,5 @@
 // What an arena keeps beside its words is read from an image that is there.
-ghost use Rattle.std.specs.Prelude.{◌≡◌, ◌↔◌, ◌+◌, ◌<◌, ◌≤◌, ℕ, true, None, length, slice_index};
+ghost use Rattle.std.specs.Prelude.{false, ◌≡◌, ◌↔◌, ◌+◌, ◌<◌, ◌≤◌, ℕ, true, None, length, slice_index};
 ghost use Rattle.pmem_lines.specs.Pmem.{words_of};
 ghost use Rattle.pool_layout.specs.Header.{granules_in};
 ghost use Rattle.image_tables.specs.Tables.{tables_of};
@@ -9,6 +9,7 @@ ghost use Rattle.slab_index.specs.SlabSet.{class_in};
 ghost use Rattle.block_supply.specs.Supply.{IsClearOf};
 ghost use Rattle.heap_check.specs.Image.{bounds_of, IsExactImage};
 ghost use Rattle.log_steps.specs.Log.{IsBookOf};
+ghost use Rattle.slab_index.specs.Unfit.{is_unfit};
 ghost use Rattle.slab_lives.specs.Lives.{normal_at};
 ghost use Rattle.arena_core.specs.Arena.{IsIndexOf, IsSlabsOf, AreLivesOf};
 ghost use Rattle.arena_core.specs.Adopting.{IsReadBelow, IsNextRead, IsWithSlabOf, HasCounted, HasNoted};
@@ -102,13 +103,14 @@ fn read_slab<P: Pmem>(device: &P, supply: &mut BlockSupply, start: u32)
 }
 
 /// Counts the live blocks of each slab of an exact image, by the words of its roots, and notes which slabs are normal; all counts
-/// were 0 before, and no slab was normal.
+/// were 0 before, no slab was normal, and none was found unfit.
 pub(crate) fn read_lives<P: Pmem>(device: &P, supply: &BlockSupply, lives: &mut SlabLives)
     requires exact { IsExactImage (words_of (P.state device.now)) }
     requires slabs { IsSlabsOf supply.now (words_of (P.state device.now)) }
     requires size { length lives.old.counts ≡ granules_in (words_of (P.state device.now)) }
     requires none { (start : ℕ) → slice_index lives.old.counts start ≡ 0 }
     requires no_normal { (start : ℕ) → normal_at lives.old start ≡ None }
+    requires no_unfit { (class start : ℕ) → is_unfit lives.old.unfit class start ≡ false }
     ensures { AreLivesOf lives.new (words_of (P.state device.now)) }
 {
     for root in 0..layout_in(device).roots {
@@ -128,6 +130,7 @@ fn count_root<P: Pmem>(device: &P, supply: &BlockSupply, lives: &mut SlabLives, 
     requires counted { HasCounted (words_of (P.state device.now)) lives.old.counts root }
     ensures counted { HasCounted (words_of (P.state device.now)) lives.new.counts (root + 1) }
     ensures normal { (start : ℕ) → normal_at lives.new start ≡ normal_at lives.old start }
+    ensures unfit { lives.new.unfit ≡ lives.old.unfit }
 {
     let at = root_word(device, root);
     if at == 0 {

@@ -14,20 +14,23 @@ use slab_lives::SlabLives;
 
 /// Of the slabs that are fit for a class, below 36, the one with the fewest live blocks, the lowest among equals. `None`
 /// exactly where none is. The candidates are looked at in this order, so a slab is read only where all before it are too
-/// full for a block of the class.
-#[tactic(auto, using(crate::proofs::BestSlabs::sparse_slab, crate::proofs::BestSlabs::first_sought, crate::proofs::BestSlabs::next_sought, crate::proofs::BestSlabs::smaller, heap_check::proofs::Sizes::sizes_of))]
-pub(crate) fn best_slab<P: Pmem>(device: &P, lives: &SlabLives, class: u8) -> Option<u32>
+/// full for a block of the class; and it is noted where it is too full itself, so that it is not read again for the class until
+/// one of its blocks goes.
+#[tactic(auto, using(crate::proofs::BestSlabs::sparse_slab))]
+pub(crate) fn best_slab<P: Pmem>(device: &P, lives: &mut SlabLives, class: u8) -> Option<u32>
     requires exact { IsExactImage (words_of (P.state device.now)) }
-    requires lives { AreLivesOf lives.now (words_of (P.state device.now)) }
+    requires lives { AreLivesOf lives.old (words_of (P.state device.now)) }
     requires class { class < 36 }
-    ensures { let b = bounds_of (words_of (P.state device.now)) in let t = tables_of (words_of (P.state device.now)) in MatchOption result (HasNoFitSlab (slab_view (tables_view b t)) class) (λ start. IsBestSlab (slab_view (tables_view b t)) class start × IsMorphable t start class) }
+    ensures best { let b = bounds_of (words_of (P.state device.now)) in let t = tables_of (words_of (P.state device.now)) in MatchOption result (HasNoFitSlab (slab_view (tables_view b t)) class) (λ start. IsBestSlab (slab_view (tables_view b t)) class start × IsMorphable t start class) }
+    ensures lives { AreLivesOf lives.new (words_of (P.state device.now)) }
 {
     let mut next = lives.first(class);
     while let Some(slab) = next {
         if is_ready(device, slab.start, class) {
             return Some(slab.start);
         }
-        next = lives.next_behind(class, slab);
+        lives.note_unfit(slab.start, class);
+        next = lives.first(class);
     }
     None
 }

@@ -10,7 +10,7 @@ ghost use Rattle.heap_model.specs.Runs.{IsBestFit, HasNoFit};
 ghost use Rattle.heap_check.specs.Sound.{IsVacant};
 ghost use Rattle.heap_check.specs.Image.{bounds_of, IsFormed, IsExactImage};
 ghost use Rattle.log_steps.specs.Log.{IsBookOf};
-ghost use Rattle.arena_core.specs.Arena.{IsIndexOf, IsArena};
+ghost use Rattle.arena_core.specs.Arena.{AreLivesOf, IsIndexOf, IsArena};
 ghost use Rattle.arena_core.specs.Plan.{IsPlanned, IsFreePlan, IsHeldBy, IsSlabAt, IsRootIn, IsAskedOf, IsFound, IsSuppliedFor, range_held};
 
 use crate::fitting::best_slab;
@@ -53,7 +53,7 @@ pub(crate) enum Held {
 
 impl Volatile {
     /// The place for a malloc of a seat, below 64, or why there is none. The block of a small place is taken out of the
-    /// supply, and nothing else changes.
+    /// supply, and what was found of slabs that are unfit is noted; nothing else changes.
     #[tactic(auto, using(heap_check::proofs::Sizes::sizes_of, crate::proofs::PlannedCalls::planned_found))]
     pub(crate) fn plan_malloc<P: Pmem>(
         &mut self,
@@ -64,7 +64,7 @@ impl Volatile {
     ) -> Result<Place, MallocRefusal>
         requires arena { IsArena (P.state device.now) self.old }
         requires seat { seat < 64 }
-        ensures { IsPlanned (P.state device.now) self.old self.new seat root size result }
+        ensures { IsPlanned (P.state device.now) (record self.old { lives = self.new.lives }) self.new seat root size result }
     {
         let layout = layout_in(device);
         if root >= layout.roots {
@@ -93,7 +93,8 @@ impl Volatile {
         requires few { size < 2 ^ 32 }
         ensures found { (root : ℕ) → IsAskedOf (bounds_of (words_of (P.state device.now))) (tables_of (words_of (P.state device.now))) root size → IsFound (bounds_of (words_of (P.state device.now))) (tables_of (words_of (P.state device.now))) root size result }
         ensures supplied { (root : ℕ) → IsAskedOf (bounds_of (words_of (P.state device.now))) (tables_of (words_of (P.state device.now))) root size → IsSuppliedFor self.old.supply self.new.supply seat result }
-        ensures rest { self.new ≡ record self.old { supply = self.new.supply } }
+        ensures rest { self.new ≡ record self.old { supply = self.new.supply; lives = self.new.lives } }
+        ensures lives { AreLivesOf self.new.lives (words_of (P.state device.now)) }
     {
         match class_of(size) {
             Some(class) => self.small_place(device, seat, class),
@@ -110,7 +111,8 @@ impl Volatile {
         requires class { class < 36 }
         ensures found { (root size : ℕ) → IsClassOf size class → IsFound (bounds_of (words_of (P.state device.now))) (tables_of (words_of (P.state device.now))) root size result }
         ensures supplied { IsSuppliedFor self.old.supply self.new.supply seat result }
-        ensures rest { self.new ≡ record self.old { supply = self.new.supply } }
+        ensures rest { self.new ≡ record self.old { supply = self.new.supply; lives = self.new.lives } }
+        ensures lives { AreLivesOf self.new.lives (words_of (P.state device.now)) }
     {
         if let Some(block) = self.supply.take(seat, class) {
             let at = blocks_at(granule_at(block.start)) + block.number * size_of_class(class);
@@ -121,7 +123,7 @@ impl Volatile {
             };
             return Some(Place::Small { block, class });
         }
-        if let Some(start) = best_slab(device, &self.lives, class) {
+        if let Some(start) = best_slab(device, &mut self.lives, class) {
             return Some(Place::Morph { start, class });
         }
         match self.free.best_fit(SLAB_GRANULES) {

@@ -1,26 +1,26 @@
 -- A root's block was freed: that of a pair which counted, or that of a stale root.
-use Rattle.std.proofs.Common.{◌≡◌, ◌≢◌, ℕ, ◌<◌, List, length, inl, inr, refl, sym, ap, ◌∙◌, subst, arith, ⊎_elim}
-use Rattle.attach_dict.proofs.Common.{words_of, tables_of, Bounds, heap, bounds_of, IsExactImage, HaveSameHeap, IsEitherHeap, Ranked, IsRanked, HasPlace, HasLess, ArenaState, rooted}
+use Rattle.std.proofs.Common.{◌≡◌, ◌≢◌, ℕ, ◌<◌, List, length, set, inl, inr, refl, sym, ap, ◌∙◌, subst, arith, ⊎_elim}
+use Rattle.attach_dict.proofs.Common.{words_of, tables_of, Bounds, heap, bounds_of, IsExactImage, HaveSameHeap, IsEitherHeap, KeyRoots, HasLess, ArenaState, rooted}
 use Rattle.image_defects.specs.Least.{HasNone as HasNoNumber, IsLeast}
 use Rattle.attach_dict.specs.declared.index.DictIndex.{DictIndex}
 use Rattle.attach_dict.specs.declared.progress.Progress.{Progress}
 use Rattle.attach_dict.specs.declared.progress.Progress.TheVariants as stages
 use Rattle.attach_dict.specs.Calls.{IsEitherDict, KeepsMap, HasTidied, HasRemoved}
-use Rattle.attach_dict.specs.Dict.{Pair, stage, HasSome, IsPair, Counts, IsFit, IsDict, IsStaleRoot, IsSteadyDict}
-use Rattle.attach_dict.specs.Index.{HasLessPair, MayDrop, HasDroppedStale}
-use Rattle.attach_dict.specs.Roots.{Roots, IsIn, IsOut, HasMoreRoots, HasFewerRoots}
+use Rattle.attach_dict.specs.Dict.{Pair, stage, HasSome, Counts, IsDict, IsStaleRoot, IsSteadyDict}
+use Rattle.attach_dict.specs.Index.{MayGo, IsReleased, MayDrop, HasDroppedStale}
+use Rattle.attach_dict.specs.Roots.{Roots, IsIn, HasMoreRoots, HasFewerRoots}
 use Rattle.attach_dict.specs.Stages.{Idle, IsStale, AreNoneStale, IsAtStage}
 use Rattle.attach_dict.specs.Steps.{IsFreed}
-use Rattle.attach_dict.specs.View.{pairs_in, phase_in, turned, IsPairOf, AreOrders, AreStaleRoots}
+use Rattle.attach_dict.specs.View.{value_in, pairs_in, phase_in, AreFreeRoots, AreNumbers, AreKeys, AreTables, AreStaleRoots}
 use Rattle.attach_dict.specs.Whole.{state_of, IsWhole}
 use Rattle.attach_dict.proofs.Answered.{left_keeps, left_dict, freed_others, freed_none, freed_keeps}
 use Rattle.attach_dict.proofs.Counting.{law_of_dicts}
-use Rattle.attach_dict.proofs.Indexed.{dict_of, ranked_of_pair}
+use Rattle.attach_dict.proofs.Indexed.{counts_of, dict_of}
 use Rattle.attach_dict.proofs.Kept.{keeps_back, keeps_heap, dict_same, stale_same, numbers_same}
-use Rattle.attach_dict.proofs.Less.{none_not_some, numbers_less, fit_less, both_less, orders_less, puts_none, still_tidy, dict_less, stale_left, stale_was}
+use Rattle.attach_dict.proofs.Less.{none_not_some, numbers_less, fit_less, both_less, numbers_gone, free_gone, keys_gone, keys_less, puts_none, still_tidy, dict_less, stale_left, stale_was}
 use Rattle.attach_dict.proofs.Pairs.{some_of}
-use Rattle.attach_dict.proofs.Stale.{stale_some, stale_rooted}
-use Rattle.attach_dict.proofs.Still.{leaves_by, stale_none, orders_still, dict_still, map_still}
+use Rattle.attach_dict.proofs.Stale.{stale_some}
+use Rattle.attach_dict.proofs.Still.{leaves_by, stale_none, tables_still, dict_still, map_still}
 
 -- phases
 
@@ -36,28 +36,20 @@ idle_where words key stages.Idle root at_stage so = refl
 idle_where words key (stages.Staged count) root at_stage so = absurd (at_stage.2 root so)
 idle_where words key stages.Filled root at_stage so = absurd (at_stage.2 root so)
 
--- the pair that a root's block is has its places in the orders
-module _ (words : List ℕ) (exact : IsExactImage words) (index : DictIndex) (orders : AreOrders words (bounds_of words).roots index.by_key index.by_number index.free) where
-  pub key_place : (root key number : ℕ) (value : List ℕ) → IsPair words root key number value → HasPlace index.by_key root
-  key_place root key number value pair = record { ranked = record { root = root; first = key; second = number }; is = ranked_of_pair words exact index.by_key index.by_number index.free orders root key number value pair; root_is = refl }
-
-  pub number_place : (root key number : ℕ) (value : List ℕ) → IsPair words root key number value → HasPlace index.by_number root
-  number_place root key number value pair = record {
-    ranked = record { root = root; first = number; second = key };
-    is = orders.to_number (record { root = root; first = key; second = number }) (ranked_of_pair words exact index.by_key index.by_number index.free orders root key number value pair);
-    root_is = refl;
-  }
-
-  -- and is not free
-  pub some_out : (root : ℕ) → HasSome words root → IsOut index.free root
-  some_out root some = record { none = λ is. none_not_some (orders.free_are root is).none some }
-
-  pub some_low : (root : ℕ) → HasSome words root → root < index.free.below
-  some_low root some = subst (λ (n : ℕ). root < n) (sym orders.free_below) (rooted words root some.range exact some.named)
+-- a root with a block is one of the tables', and not free
+module _ (words : List ℕ) (exact : IsExactImage words) (index : DictIndex) (tables : AreTables words index.keys index.numbers index.free) where
+  pub may_go : (root : ℕ) → HasSome words root → MayGo index root
+  may_go root some =
+      let low : root < (bounds_of words).roots = rooted words root some.range exact some.named in
+      record {
+        numbered = subst (λ (n : ℕ). root < n) (sym tables.numbers_are.size) low;
+        low = subst (λ (n : ℕ). root < n) (sym tables.free_are.below) low;
+        out = record { none = λ is. none_not_some (tables.free_are.are root is).none some };
+      }
 
 -- a pair goes
 
-module _ (old new : ArenaState) (index after : DictIndex) (key : ℕ) (whole : IsWhole old index key stages.Idle) (root : ℕ) (low : stage < root) (f : IsFreed old new root) (keys : HasLess index.by_key root after.by_key) (numbers : HasLess index.by_number root after.by_number) (frees : HasMoreRoots index.free root after.free) where
+module _ (old new : ArenaState) (index after : DictIndex) (key : ℕ) (whole : IsWhole old index key stages.Idle) (root : ℕ) (low : stage < root) (f : IsFreed old new root) (numbers : after.numbers ≡ set index.numbers root 0) (frees : HasMoreRoots index.free root after.free) (keys : AreKeys (words_of new.device) after.keys) where
   abbrev was : List ℕ
   was = words_of old.device
 
@@ -65,10 +57,10 @@ module _ (old new : ArenaState) (index after : DictIndex) (key : ℕ) (whole : I
   is = words_of new.device
 
   abbrev pairs : List Pair
-  pairs = pairs_in was index.by_key.ranked
+  pairs = pairs_in was index.keys.rows
 
   abbrev left : List Pair
-  left = pairs_in is after.by_key.ranked
+  left = pairs_in is after.keys.rows
 
   bounds : bounds_of is ≡ bounds_of was
   bounds = f.did.step.bounds
@@ -76,12 +68,16 @@ module _ (old new : ArenaState) (index after : DictIndex) (key : ℕ) (whole : I
   in_arena : root < (bounds_of was).roots
   in_arena = rooted was root f.range f.did.did.was_exact f.named
 
-  pub orders_after : AreOrders is (bounds_of is).roots after.by_key after.by_number after.free
-  orders_after = subst (λ (b : Bounds). AreOrders is b.roots after.by_key after.by_number after.free) (sym bounds)
-      (orders_less (freed_keeps f) (freed_none f) (bounds_of was).roots index.by_key index.by_number after.by_key after.by_number index.free after.free bounds low in_arena whole.indexes.orders keys numbers frees)
+  pub tables_after : AreTables is after.keys after.numbers after.free
+  tables_after = record {
+    keys_are = keys;
+    numbers_are = subst (λ (b : Bounds). AreNumbers is b.roots after.numbers) (sym bounds)
+        (subst (λ (ns : List ℕ). AreNumbers is (bounds_of was).roots ns) (sym numbers) (numbers_gone (freed_keeps f) (freed_none f) (bounds_of was).roots index.numbers bounds in_arena whole.indexes.tables.numbers_are));
+    free_are = subst (λ (b : Bounds). AreFreeRoots is b.roots after.free) (sym bounds) (free_gone (freed_keeps f) (freed_none f) (bounds_of was).roots index.free after.free bounds low in_arena whole.indexes.tables.free_are frees);
+  }
 
   pub dict_after : IsDict is left
-  dict_after = dict_of is f.did.did.exact after.by_key after.by_number after.free orders_after (fit_less (freed_keeps f) (freed_none f) whole.kept.dict.fit)
+  dict_after = dict_of is f.did.did.exact after.keys keys (fit_less (freed_keeps f) (freed_none f) whole.kept.dict.fit)
 
   -- a crash leaves the map of before or the one of behind
   pub left_either : (image : List ℕ) → IsEitherHeap was is image → IsEitherDict pairs left image
@@ -106,8 +102,8 @@ module _ (old new : ArenaState) (index after : DictIndex) (key : ℕ) (whole : I
     whole_removed = record {
       kept = record { ready = f.did.did.ready; exact = f.did.did.exact; dict = dict_after; at_stage = tt };
       indexes = record {
-        orders = orders_after;
-        stale_roots = subst (λ (s : Roots). AreStaleRoots is Idle (bounds_of is).roots s) (sym stale) (stale_none was is Idle Idle index.stale bounds whole.indexes.stale_roots tidy tidy_after);
+        tables = tables_after;
+        stale_roots = subst (λ (s : Roots). AreStaleRoots is Idle s) (sym stale) (stale_none was is Idle Idle index.stale bounds whole.indexes.stale_roots tidy tidy_after);
         wide = ap (λ b. length b.items) block ∙ whole.indexes.wide;
       };
     }
@@ -138,28 +134,27 @@ module _ (old new : ArenaState) (index after : DictIndex) (key : ℕ) (whole : I
     gone_apart : {other : ℕ} → HasSome is other → other ≢ root
     gone_apart {other} some same = none_not_some (freed_none f) (subst (λ (r : ℕ). HasSome is r) same some)
 
-    stale_after : AreStaleRoots is Idle (bounds_of is).roots after.stale
+    stale_after : AreStaleRoots is Idle after.stale
     stale_after = record {
-      stale_below = fewer.below ∙ (whole.indexes.stale_roots.stale_below ∙ ap (λ (b : Bounds). b.roots) (sym bounds));
+      below = fewer.below ∙ (whole.indexes.stale_roots.below ∙ ap (λ (b : Bounds). b.roots) (sym bounds));
       are = λ other held.
           let apart : other ≢ root = λ same. fewer.out.none (subst (λ (r : ℕ). IsIn after.stale r) same held) in
           ⊎_elim
           (λ s. inl (stale_left (freed_keeps f) (freed_none f) pairs left whole.kept.dict dict_after so other apart s))
           (λ s. inr (s.0, record { range = s.1.range; named = stage_same ∙ s.1.named }))
           (whole.indexes.stale_roots.are other (fewer.each other held));
-      inside = λ other held. subst (λ (b : Bounds). other < b.roots) (sym bounds) (whole.indexes.stale_roots.inside other (fewer.each other held));
-      each = λ other below s.
+      each = λ other s.
           let before : IsStale was Idle other = ⊎_elim
           (λ t. inl (stale_was (freed_keeps f) (freed_none f) pairs left whole.kept.dict dict_after so other t))
           (λ t. inr (t.0, record { range = t.1.range; named = sym stage_same ∙ t.1.named }))
           s in
-          fewer.kept other (whole.indexes.stale_roots.each other (subst (λ (b : Bounds). other < b.roots) bounds below) before) (gone_apart (stale_some is Idle other s));
+          fewer.kept other (whole.indexes.stale_roots.each other before) (gone_apart (stale_some is Idle other s));
     }
 
     pub whole_tidied : IsWhole new after key stages.Idle
     whole_tidied = record {
       kept = record { ready = f.did.did.ready; exact = f.did.did.exact; dict = dict_after; at_stage = tt };
-      indexes = record { orders = orders_after; stale_roots = stale_after; wide = ap (λ b. length b.items) block ∙ whole.indexes.wide };
+      indexes = record { tables = tables_after; stale_roots = stale_after; wide = ap (λ b. length b.items) block ∙ whole.indexes.wide };
     }
 
     pub tidied_map : KeepsMap (state_of old index key stages.Idle) (state_of new after key stages.Idle) Idle
@@ -173,34 +168,33 @@ module _ (old new : ArenaState) (index after : DictIndex) (key : ℕ) (whole : I
 
 -- the stage's block goes, where nothing is staged
 
-module _ (old new : ArenaState) (index after : DictIndex) (key : ℕ) (whole : IsWhole old index key stages.Idle) (f : IsFreed old new stage) (fewer : HasFewerRoots index.stale stage after.stale) (same : after ≡ record { by_key = index.by_key; by_number = index.by_number; free = index.free; stale = after.stale; block = index.block }) where
+module _ (old new : ArenaState) (index after : DictIndex) (key : ℕ) (whole : IsWhole old index key stages.Idle) (f : IsFreed old new stage) (fewer : HasFewerRoots index.stale stage after.stale) (same : after ≡ record { keys = index.keys; numbers = index.numbers; free = index.free; stale = after.stale; block = index.block }) where
   abbrev were : List ℕ
   were = words_of old.device
 
   abbrev are : List ℕ
   are = words_of new.device
 
-  stale_cleared : AreStaleRoots are Idle (bounds_of are).roots after.stale
+  stale_cleared : AreStaleRoots are Idle after.stale
   stale_cleared = record {
-    stale_below = fewer.below ∙ (whole.indexes.stale_roots.stale_below ∙ ap (λ (b : Bounds). b.roots) (sym f.did.step.bounds));
+    below = fewer.below ∙ (whole.indexes.stale_roots.below ∙ ap (λ (b : Bounds). b.roots) (sym f.did.step.bounds));
     are = λ other held. ⊎_elim
         (λ s. inl (stale_same (freed_keeps f) s))
         (λ s. absurd (fewer.out.none (subst (λ (r : ℕ). IsIn after.stale r) s.0 held)))
         (whole.indexes.stale_roots.are other (fewer.each other held));
-    inside = λ other held. subst (λ (b : Bounds). other < b.roots) (sym f.did.step.bounds) (whole.indexes.stale_roots.inside other (fewer.each other held));
-    each = λ other below s. ⊎_elim
-        (λ t. fewer.kept other (whole.indexes.stale_roots.each other (subst (λ (b : Bounds). other < b.roots) f.did.step.bounds below) (inl (stale_same (keeps_back (freed_keeps f)) t))) (λ is. omega (arith, is, t.low)))
+    each = λ other s. ⊎_elim
+        (λ t. fewer.kept other (whole.indexes.stale_roots.each other (inl (stale_same (keeps_back (freed_keeps f)) t))) (λ is. omega (arith, is, t.low)))
         (λ t. absurd (none_not_some (freed_none f) t.1))
         s;
   }
 
   abbrev cleared : DictIndex
-  cleared = record { by_key = index.by_key; by_number = index.by_number; free = index.free; stale = after.stale; block = index.block }
+  cleared = record { keys = index.keys; numbers = index.numbers; free = index.free; stale = after.stale; block = index.block }
 
   whole_at : IsWhole new cleared key stages.Idle
   whole_at = record {
     kept = record { ready = f.did.did.ready; exact = f.did.did.exact; dict = dict_still old new index key stages.Idle whole (freed_keeps f) f.did.step.bounds f.did.did.exact; at_stage = tt };
-    indexes = record { orders = orders_still old new index key stages.Idle whole (freed_keeps f) f.did.step.bounds f.did.did.exact; stale_roots = stale_cleared; wide = whole.indexes.wide };
+    indexes = record { tables = tables_still old new index key stages.Idle whole (freed_keeps f) f.did.step.bounds f.did.did.exact; stale_roots = stale_cleared; wide = whole.indexes.wide };
   }
 
   pub whole_cleared : IsWhole new after key stages.Idle
@@ -211,7 +205,7 @@ module _ (old new : ArenaState) (index after : DictIndex) (key : ℕ) (whole : I
     pairs = map_still old new index key stages.Idle whole (freed_keeps f) f.did.step.bounds f.did.did.exact;
     phase_is = refl;
     numbers = λ n up. numbers_same (freed_keeps f) n up;
-    crash = leaves_by old new (IsEitherHeap were are) (IsSteadyDict (pairs_in were index.by_key.ranked)) (λ image l. left_dict were are image (pairs_in were index.by_key.ranked) whole.kept.dict (freed_others f) l) f.did.did;
+    crash = leaves_by old new (IsEitherHeap were are) (IsSteadyDict (pairs_in were index.keys.rows)) (λ image l. left_dict were are image (pairs_in were index.keys.rows) whole.kept.dict (freed_others f) l) f.did.did;
   })
 
 -- a stale root goes, whichever it is
@@ -220,12 +214,16 @@ module _ (old new : ArenaState) (index after : DictIndex) (key : ℕ) (whole : I
   not_stage : root ≢ stage → IsStaleRoot (words_of old.device) root
   not_stage apart = ⊎_elim (λ s. s) (λ s. absurd (apart s.0)) (whole.indexes.stale_roots.are root held)
 
+  -- the map is that of the new image
+  keys_dropped : IsStaleRoot (words_of old.device) root → after.keys ≡ index.keys → AreKeys (words_of new.device) after.keys
+  keys_dropped s is = subst (λ (k : KeyRoots). AreKeys (words_of new.device) k) (sym is) (keys_gone (freed_keeps f) (freed_none f) index.keys f.did.step.bounds s whole.indexes.tables.keys_are)
+
   pub whole_dropped : IsWhole new after key stages.Idle
   whole_dropped = ⊎_elim
       (λ at. whole_cleared old new index after key whole (subst (λ (r : ℕ). IsFreed old new r) at.0 f) (subst (λ (r : ℕ). HasFewerRoots index.stale r after.stale) at.0 dropped.stale) at.1)
       (λ at.
       let s = not_stage at.0 in
-      whole_tidied old new index after key whole root s.low f at.1.keys at.1.numbers at.1.free s dropped.stale at.1.block)
+      whole_tidied old new index after key whole root s.low f at.1.numbers at.1.free (keys_dropped s at.1.keys) s dropped.stale at.1.block)
       dropped.pair
 
   pub dropped_map : KeepsMap (state_of old index key stages.Idle) (state_of new after key stages.Idle) Idle
@@ -233,13 +231,13 @@ module _ (old new : ArenaState) (index after : DictIndex) (key : ℕ) (whole : I
       (λ at. cleared_map old new index after key whole (subst (λ (r : ℕ). IsFreed old new r) at.0 f) (subst (λ (r : ℕ). HasFewerRoots index.stale r after.stale) at.0 dropped.stale) at.1)
       (λ at.
       let s = not_stage at.0 in
-      tidied_map old new index after key whole root s.low f at.1.keys at.1.numbers at.1.free s dropped.stale at.1.block)
+      tidied_map old new index after key whole root s.low f at.1.numbers at.1.free (keys_dropped s at.1.keys) s dropped.stale at.1.block)
       dropped.pair
 
   -- what is stale behind it was so before
   still_stale : (other : ℕ) → IsStale (words_of new.device) Idle other → IsStale (words_of old.device) Idle other × (other ≢ root)
   still_stale other so =
-      let had : IsIn after.stale other = whole_dropped.indexes.stale_roots.each other (stale_rooted (words_of new.device) Idle other whole_dropped.kept.exact so) so in
+      let had : IsIn after.stale other = whole_dropped.indexes.stale_roots.each other so in
       (whole.indexes.stale_roots.are other (dropped.stale.each other had), λ same. dropped.stale.out.none (subst (λ (r : ℕ). IsIn after.stale r) same had))
 
   pub has_tidied : IsLeast (IsIn index.stale) root → HasTidied (state_of old index key stages.Idle) (state_of new after key stages.Idle)
@@ -249,7 +247,7 @@ module _ (old new : ArenaState) (index after : DictIndex) (key : ℕ) (whole : I
     size = f.range.size;
     stale = record {
       here = whole.indexes.stale_roots.are root held;
-      least = λ other so. least.least other (whole.indexes.stale_roots.each other (stale_rooted (words_of old.device) Idle other whole.kept.exact so) so);
+      least = λ other so. least.least other (whole.indexes.stale_roots.each other so);
     };
     did = f.did;
     left = still_stale;
@@ -268,18 +266,8 @@ module _ (old : ArenaState) (index : DictIndex) (key : ℕ) (progress : Progress
   pub tidy_some : HasSome (words_of old.device) root
   tidy_some = stale_some (words_of old.device) Idle root (still_whole.indexes.stale_roots.are root held)
 
-  -- a stale root that is not the stage has a pair
-  tidy_pair : root ≢ stage → IsFit (words_of old.device) root
-  tidy_pair apart = ⊎_elim (λ s. whole.kept.dict.fit root s.low s.some) (λ s. absurd (apart s.0)) (still_whole.indexes.stale_roots.are root held)
-
   pub may_drop : MayDrop index root
-  may_drop = record {
-    stale = held;
-    key = λ apart. let fit = tidy_pair apart in key_place (words_of old.device) whole.kept.exact index whole.indexes.orders root fit.key fit.number fit.value fit.pair;
-    number = λ apart. let fit = tidy_pair apart in number_place (words_of old.device) whole.kept.exact index whole.indexes.orders root fit.key fit.number fit.value fit.pair;
-    low = some_low (words_of old.device) whole.kept.exact index whole.indexes.orders root tidy_some;
-    out = λ apart. some_out (words_of old.device) whole.kept.exact index whole.indexes.orders root tidy_some;
-  }
+  may_drop = record { stale = held; pair = λ apart. may_go (words_of old.device) whole.kept.exact index whole.indexes.tables root tidy_some }
 
   module _ (new : ArenaState) (after : DictIndex) (f : IsFreed old new root) (dropped : HasDroppedStale index root after) where
     pub whole_behind : IsWhole new after key progress
@@ -290,38 +278,36 @@ module _ (old : ArenaState) (index : DictIndex) (key : ℕ) (progress : Progress
 
 -- no root is stale
 pub none_found : (old : ArenaState) (index : DictIndex) (key : ℕ) (progress : Progress) → IsWhole old index key progress → HasNoNumber (IsIn index.stale) → AreNoneStale (words_of old.device) (phase_in (words_of old.device) key progress)
-none_found old index key progress whole none root so = none.none root (whole.indexes.stale_roots.each root (stale_rooted (words_of old.device) (phase_in (words_of old.device) key progress) root whole.kept.exact so) so)
+none_found old index key progress whole none root so = none.none root (whole.indexes.stale_roots.each root so)
 
 -- a key is removed
-module _ (old : ArenaState) (index : DictIndex) (key : ℕ) (progress : Progress) (whole : IsWhole old index key progress) (r : Ranked) (is_in : IsRanked index.by_key r) where
-  abbrev pair_in : IsPairOf (words_of old.device) r
-  pair_in = whole.indexes.orders.are r is_in
+module _ (old : ArenaState) (index : DictIndex) (key : ℕ) (progress : Progress) (whole : IsWhole old index key progress) (gone root : ℕ) (less : KeyRoots) (removed_key : HasLess index.keys (record { key = gone; root = root }) less) where
+  abbrev value : List ℕ
+  value = value_in (words_of old.device) root
 
-  pub remove_some : HasSome (words_of old.device) r.root
-  remove_some = some_of pair_in.pair
+  counted : Counts (words_of old.device) root gone value
+  counted = counts_of (words_of old.device) whole.kept.exact index.keys whole.indexes.tables.keys_are (record { key = gone; root = root }) removed_key.had
 
-  pub remove_key : HasPlace index.by_key r.root
-  remove_key = record { ranked = r; is = is_in; root_is = refl }
+  pub remove_some : HasSome (words_of old.device) root
+  remove_some = some_of counted.pair
 
-  pub remove_number : HasPlace index.by_number r.root
-  remove_number = record { ranked = turned r; is = whole.indexes.orders.to_number r is_in; root_is = refl }
+  pub remove_may : MayGo index root
+  remove_may = may_go (words_of old.device) whole.kept.exact index whole.indexes.tables root remove_some
 
-  pub remove_low : r.root < index.free.below
-  remove_low = some_low (words_of old.device) whole.kept.exact index whole.indexes.orders r.root remove_some
-
-  pub remove_out : IsOut index.free r.root
-  remove_out = some_out (words_of old.device) whole.kept.exact index whole.indexes.orders r.root remove_some
-
-  module _ (new : ArenaState) (after : DictIndex) (f : IsFreed old new r.root) (less : HasLessPair index r.root after) (idle : phase_in (words_of old.device) key progress ≡ Idle) (tidy : AreNoneStale (words_of old.device) Idle) (gone : ℕ) (value : List ℕ) (counted : Counts (words_of old.device) r.root gone value) where
+  module _ (new : ArenaState) (after : DictIndex) (f : IsFreed old new root) (released : IsReleased (record { keys = less; numbers = index.numbers; free = index.free; stale = index.stale; block = index.block }) root after) (idle : phase_in (words_of old.device) key progress ≡ Idle) (tidy : AreNoneStale (words_of old.device) Idle) where
     remove_idle : progress ≡ stages.Idle
     remove_idle = idle_is (words_of old.device) key progress idle
 
     whole_was : IsWhole old index key stages.Idle
     whole_was = subst (λ (p : Progress). IsWhole old index key p) remove_idle whole
 
+    keys_after : AreKeys (words_of new.device) after.keys
+    keys_after = subst (λ (k : KeyRoots). AreKeys (words_of new.device) k) (sym released.keys)
+        (keys_less (freed_keeps f) (freed_none f) (pairs_in (words_of old.device) index.keys.rows) whole.kept.dict gone value counted (λ r s. tidy r (inl s)) index.keys less f.did.step.bounds whole.indexes.tables.keys_are removed_key)
+
     pub whole_less : IsWhole new after key progress
-    whole_less = subst (λ (p : Progress). IsWhole new after key p) (sym remove_idle) (whole_removed old new index after key whole_was r.root pair_in.pair.low f less.keys less.numbers less.free gone value counted tidy less.stale less.block)
+    whole_less = subst (λ (p : Progress). IsWhole new after key p) (sym remove_idle) (whole_removed old new index after key whole_was root counted.pair.low f released.numbers released.free keys_after gone value counted tidy released.stale released.block)
 
     pub removed_behind : HasRemoved (state_of old index key progress) (state_of new after key progress) gone
     removed_behind = subst (λ (p : Progress). HasRemoved (state_of old index key p) (state_of new after key p) gone) (sym remove_idle)
-        (removed old new index after key whole_was r.root pair_in.pair.low f less.keys less.numbers less.free gone value counted tidy less.stale less.block)
+        (removed old new index after key whole_was root counted.pair.low f released.numbers released.free keys_after gone value counted tidy released.stale released.block)

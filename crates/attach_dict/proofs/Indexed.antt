@@ -1,12 +1,12 @@
--- An image and the orders of its pairs: which block counts, and that the pairs of the order are its map.
-use Rattle.std.proofs.Common.{◌≡◌, ℕ, ◌+◌, ◌*◌, ◌/◌, ◌<◌, ◌≤◌, List, length, Option, Some, refl, sym, ap, ◌∙◌, subst, arith, ⊎_elim, ext_get_or}
-use Rattle.attach_dict.proofs.Common.{cases_lt, word_at, words_at, length-words_at, get_or-words_at, tables_of, Range, heap, bounds_of, IsExactImage, Ranked, Order, IsRanked, HasNoneOf, IsLastOf, state_in, has_state, rooted, root_place}
+-- An image and the roots of its keys: which block counts, and that the pairs of the rows are its map.
+use Rattle.std.proofs.Common.{◌≡◌, ℕ, ◌+◌, ◌*◌, ◌/◌, ◌<◌, ◌≤◌, List, length, Option, Some, sym, ap, ◌∙◌, subst, arith, ⊎_elim, ext_get_or}
+use Rattle.attach_dict.proofs.Common.{cases_lt, word_at, words_at, length-words_at, get_or-words_at, tables_of, Range, heap, IsExactImage, Keyed, KeyRoots, IsKeyed, LacksKey, state_in, has_state, root_place}
 use Rattle.heap_check.proofs.ExactStates.{law_of_exact_state}
-use Rattle.attach_dict.specs.Dict.{head_words, HasPair, IsPair, Counts, IsValueOf, IsDict}
-use Rattle.attach_dict.specs.Roots.{Roots}
-use Rattle.attach_dict.specs.View.{value_in, pairs_in, IsPairOf, AreOrders}
+use Rattle.attach_dict.specs.Dict.{head_words, HasPair, IsPair, Counts, IsValueOf, value_of, IsDict}
+use Rattle.attach_dict.specs.Reading.{HoldsPair}
+use Rattle.attach_dict.specs.View.{value_in, pairs_in, CountsFor, HasKey, AreKeys}
 use Rattle.attach_dict.proofs.Counting.{AllFit}
-use Rattle.attach_dict.proofs.Ranks.{last_or_none, order_rising, order_last, order_none}
+use Rattle.attach_dict.proofs.Keys.{key_or_none, rows_rising, row_value, row_none}
 
 -- a block of an exact image lies inside it
 pub block_inside : (words : List ℕ) (root : ℕ) (range : Range) → IsExactImage words → heap (tables_of words) root ≡ Some range → range.at + range.size ≤ 8 * length words
@@ -33,34 +33,34 @@ value_in_is words root key number value exact pair =
     let below : i < length value = omega (arith, low, count) in
     get_or-words_at words (pair.range.at / 8 + head_words) (length value) i below ∙ pair.each i below)
 
-module _ (words : List ℕ) (exact : IsExactImage words) (by_key by_number : Order) (free : Roots) (orders : AreOrders words (bounds_of words).roots by_key by_number free) where
-  -- each pair has its place in the order
-  pub ranked_of_pair : (root key number : ℕ) (value : List ℕ) → IsPair words root key number value → IsRanked by_key (record { root = root; first = key; second = number })
-  ranked_of_pair root key number value pair = orders.ranked root key number value (rooted words root pair.has.range exact pair.has.named) pair
+module _ (words : List ℕ) (exact : IsExactImage words) (keys : KeyRoots) (are : AreKeys words keys) where
+  -- the root of a key counts for it
+  pub counts_of : (r : Keyed) → IsKeyed keys r → Counts words r.root r.key (value_in words r.root)
+  counts_of r is =
+      let c : CountsFor words r = are.are r is in
+      subst (λ (v : List ℕ). Counts words r.root r.key v) (sym (value_in_is words r.root r.key c.counts.number c.value exact c.counts.pair.has)) c.counts
 
-  -- the last root of a key counts for it
-  pub counts_last : (key : ℕ) (r : Ranked) → IsLastOf by_key key r → Counts words r.root key (value_in words r.root)
-  counts_last key r last =
-      let has : IsPairOf words r = orders.are r last.is in
-      let value : value_in words r.root ≡ has.value = value_in_is words r.root r.first r.second has.value exact has.pair.has in
-      let here : IsPair words r.root r.first r.second (value_in words r.root) = subst (λ (v : List ℕ). IsPair words r.root r.first r.second v) (sym value) has.pair in
-      record {
-        number = r.second;
-        pair = subst (λ (k : ℕ). IsPair words r.root k r.second (value_in words r.root)) last.first_is here;
-        greatest = λ other n v pair. last.greatest (record { root = other; first = key; second = n }) (ranked_of_pair other key n v pair) refl;
-      }
+  -- so its block is a pair
+  pub holds_of : (r : Keyed) → IsKeyed keys r → HoldsPair words r.root
+  holds_of r is = let c = are.are r is in record { key = r.key; number = c.counts.number; value = c.value; pair = c.counts.pair.has }
 
-  -- and a key that no root has is no pair's
-  pub none_of : (key : ℕ) → HasNoneOf by_key key → (root number : ℕ) (value : List ℕ) → ¬ (IsPair words root key number value)
-  none_of key none root number value pair = none.none (record { root = root; first = key; second = number }) (ranked_of_pair root key number value pair) refl
+  -- and a key that the map lacks is no pair's
+  pub none_of : (key : ℕ) → LacksKey keys key → (root number : ℕ) (value : List ℕ) → ¬ (IsPair words root key number value)
+  none_of key none root number value pair = let has = are.each root key number value pair in none.none has.row has.is has.key_is
 
-  -- the pairs of the order are the map of the image
-  pub dict_of : AllFit words → IsDict words (pairs_in words by_key.ranked)
+  value_at : (key : ℕ) (has : HasKey keys key) → value_of (pairs_in words keys.rows) key ≡ Some (value_in words has.row.root)
+  value_at key has = subst (λ (k : ℕ). value_of (pairs_in words keys.rows) k ≡ Some (value_in words has.row.root)) has.key_is (row_value words keys are.sound has.row has.is)
+
+  counts_at : (key : ℕ) (has : HasKey keys key) → Counts words has.row.root key (value_in words has.row.root)
+  counts_at key has = subst (λ (k : ℕ). Counts words has.row.root k (value_in words has.row.root)) has.key_is (counts_of has.row has.is)
+
+  -- the pairs of its rows are the map of the image
+  pub dict_of : AllFit words → IsDict words (pairs_in words keys.rows)
   dict_of fit = record {
     fit = fit;
-    rising = order_rising words by_key orders.keys;
+    rising = rows_rising words keys are.sound;
     each = λ key. ⊎_elim
-        (λ (none : HasNoneOf by_key key). subst (λ (v : Option (List ℕ)). IsValueOf words key v) (sym (order_none words by_key orders.keys key none)) (none_of key none))
-        (λ (some : (r : Ranked) × IsLastOf by_key key r). subst (λ (v : Option (List ℕ)). IsValueOf words key v) (sym (order_last words by_key orders.keys key some.0 some.1)) (some.0.root, counts_last key some.0 some.1))
-        (last_or_none by_key key orders.keys);
+        (λ (none : LacksKey keys key). subst (λ (v : Option (List ℕ)). IsValueOf words key v) (sym (row_none words keys are.sound key none)) (none_of key none))
+        (λ (has : HasKey keys key). subst (λ (v : Option (List ℕ)). IsValueOf words key v) (sym (value_at key has)) (has.row.root, counts_at key has))
+        (key_or_none keys key);
   }

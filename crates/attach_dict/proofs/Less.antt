@@ -1,9 +1,9 @@
 -- The dictionary of an image in which the block of a root has gone.
-use Rattle.std.proofs.Common.{◌≡◌, ◌≢◌, ℕ, ◌<◌, List, Option, Some, None, sym, ap, ◌∙◌, subst, ⊎_elim}
-use Rattle.attach_dict.proofs.Common.{cases_eq, tables_of, heap, bounds_of, Order, HasLess}
+use Rattle.std.proofs.Common.{◌≡◌, ◌≢◌, ℕ, ◌<◌, List, set, get_or, Option, Some, None, sym, ap, ◌∙◌, subst, ⊎_elim}
+use Rattle.attach_dict.proofs.Common.{cases_eq, length-set, get_or-set_same, get_or-set_other, tables_of, heap, bounds_of, Keyed, KeyRoots, HasLess}
 use Rattle.attach_dict.specs.Dict.{Pair, stage, HasSome, HasNone, HasPair, IsPair, Counts, IsValueOf, value_of, IsDict, IsStaleRoot, AreNumbersUpTo, Puts}
 use Rattle.attach_dict.specs.Roots.{Roots, IsIn, HasMoreRoots}
-use Rattle.attach_dict.specs.View.{turned, IsPairOf, IsVacant, AreOrders}
+use Rattle.attach_dict.specs.View.{CountsFor, HasKey, IsNumbered, IsVacant, AreFreeRoots, AreNumbers, AreKeys}
 use Rattle.attach_dict.proofs.Pairs.{some_of, pair_once}
 use Rattle.attach_dict.proofs.Kept.{KeepsRoots, keeps_back, some_to, none_to, pair_to}
 use Rattle.attach_dict.proofs.Counting.{AllFit, counts_once, value_is, value_counts, counts_or_stale}
@@ -50,48 +50,80 @@ module _ {old new : List ℕ} {gone : ℕ} (keeps : KeepsRoots old new gone) (no
         also.words root k range low differs was word ∙ sym (keeps.words root k range low differs was word);
   }
 
-  -- the orders without the root's pair are those of the image
-  pub orders_less : (end : ℕ) (by_key by_number key_less number_less : Order) (free more : Roots) → bounds_of new ≡ bounds_of old → stage < gone → gone < end → AreOrders old end by_key by_number free → HasLess by_key gone key_less → HasLess by_number gone number_less →
-      HasMoreRoots free gone more → AreOrders new end key_less number_less more
-  orders_less end by_key by_number key_less number_less free more bounds low high were keys numbers frees = record {
-    keys = keys.sound;
-    numbers = numbers.sound;
-    key_roots = keys.roots ∙ (were.key_roots ∙ ap (λ b. b.roots) (sym bounds));
-    number_roots = numbers.roots ∙ (were.number_roots ∙ ap (λ b. b.roots) (sym bounds));
-    ranked = λ root key number value below pair. keys.kept (record { root = root; first = key; second = number }) (were.ranked root key number value below (pair_was pair)) (not_gone (some_of pair));
-    are = λ r is.
-        let was : IsPairOf old r = were.are r (keys.each r is) in
-        record { value = was.value; pair = pair_to keeps (keys.gone.none r is) was.pair };
-    below = λ r is. were.below r (keys.each r is);
-    narrow = λ r is. were.narrow r (keys.each r is);
-    to_number = λ r is. numbers.kept (turned r) (were.to_number r (keys.each r is)) (keys.gone.none r is);
-    to_key = λ r is. keys.kept (turned r) (were.to_key r (numbers.each r is)) (numbers.gone.none r is);
-    free_below = frees.below ∙ (were.free_below ∙ ap (λ b. b.roots) (sym bounds));
-    free_are = λ root is. ⊎_elim
+  -- the numbers without the root's are those of the image
+  pub numbers_gone : (end : ℕ) (numbers : List ℕ) → bounds_of new ≡ bounds_of old → gone < (bounds_of old).roots → AreNumbers old end numbers → AreNumbers new end (set numbers gone 0)
+  numbers_gone end numbers bounds low were = record {
+    size = length-set numbers gone 0 ∙ (were.size ∙ ap (λ b. b.roots) (sym bounds));
+    each = λ root key number value below pair. get_or-set_other numbers gone root 0 0 (not_gone (some_of pair)) ∙ were.each root key number value below (pair_was pair);
+    are = λ root some. ⊎_elim
+        (λ (same : root ≡ gone). absurd (some (ap (λ (r : ℕ). get_or (set numbers gone 0) r 0) same ∙ get_or-set_same numbers gone 0 0 (subst (λ (n : ℕ). gone < n) (sym were.size) low))))
+        (λ (apart : root ≢ gone).
+        let other : get_or (set numbers gone 0) root 0 ≡ get_or numbers root 0 = get_or-set_other numbers gone root 0 0 apart in
+        let n : IsNumbered old root (get_or numbers root 0) = were.are root (λ none. some (other ∙ none)) in
+        subst (λ (k : ℕ). IsNumbered new root k) (sym other) (record { key = n.key; value = n.value; pair = pair_to keeps apart n.pair }))
+        (cases_eq root gone);
+  }
+
+  -- the free roots with it too
+  pub free_gone : (end : ℕ) (free more : Roots) → bounds_of new ≡ bounds_of old → stage < gone → gone < end → AreFreeRoots old end free → HasMoreRoots free gone more → AreFreeRoots new end more
+  free_gone end free more bounds low high were frees = record {
+    below = frees.below ∙ (were.below ∙ ap (λ b. b.roots) (sym bounds));
+    are = λ root is. ⊎_elim
         (λ (same : root ≡ gone). subst (λ (r : ℕ). IsVacant new end r) (sym same) (record { low = low; high = high; none = none }))
         (λ (apart : root ≢ gone). ⊎_elim
-        (λ (was : IsIn free root). let v = were.free_are root was in record { low = v.low; high = v.high; none = none_to keeps v.low apart v.none })
+        (λ (was : IsIn free root). let v = were.are root was in record { low = v.low; high = v.high; none = none_to keeps v.low apart v.none })
         (λ (same : root ≡ gone). absurd (apart same))
         (frees.each root is))
         (cases_eq root gone);
-    free_each = λ root vacant. ⊎_elim
+    each = λ root vacant. ⊎_elim
         (λ (same : root ≡ gone). subst (λ (r : ℕ). IsIn more r) (sym same) frees.here)
-        (λ (apart : root ≢ gone). frees.kept root (were.free_each root (record { low = vacant.low; high = vacant.high; none = none_to (keeps_back keeps) vacant.low apart vacant.none })))
+        (λ (apart : root ≢ gone). frees.kept root (were.each root (record { low = vacant.low; high = vacant.high; none = none_to (keeps_back keeps) vacant.low apart vacant.none })))
         (cases_eq root gone);
   }
+
+  -- and a key's root counts for it still where it is another one
+  count_left : (r : Keyed) → r.root ≢ gone → CountsFor old r → CountsFor new r
+  count_left r apart c = record { value = c.value; counts = counts_left apart c.counts }
+
+  -- so the map is that of the image where the block did not count
+  pub keys_gone : (keys : KeyRoots) → bounds_of new ≡ bounds_of old → IsStaleRoot old gone → AreKeys old keys → AreKeys new keys
+  keys_gone keys bounds stale were = record {
+    sound = were.sound;
+    roots = were.roots ∙ ap (λ b. b.roots) (sym bounds);
+    are = λ r is.
+        let c : CountsFor old r = were.are r is in
+        count_left r (λ same. stale.less r.key c.value (subst (λ (n : ℕ). Counts old n r.key c.value) same c.counts)) c;
+    each = λ root key number value pair. were.each root key number value (pair_was pair);
+  }
+
+  -- where the block counted for a key and none was stale
+  module _ (pairs : List Pair) (was : IsDict old pairs) (key : ℕ) (value : List ℕ) (counted : Counts old gone key value) (tidy : (root : ℕ) → ¬ (IsStaleRoot old root)) where
+    counts_here : (root number : ℕ) (v : List ℕ) → IsPair old root key number v → Counts old root key v
+    counts_here root number v pair = ⊎_elim (λ counts. counts) (λ stale. absurd (tidy root stale)) (counts_or_stale old pairs was root key number v pair)
+
+    none_left : IsValueOf new key None
+    none_left root number v pair = not_gone (some_of pair) (counts_once old was.fit root gone key v value (counts_here root number v (pair_was pair)) counted).0
+
+    -- the map without the key is that of the image
+    pub keys_less : (keys less : KeyRoots) → bounds_of new ≡ bounds_of old → AreKeys old keys → HasLess keys (record { key = key; root = gone }) less → AreKeys new less
+    keys_less keys less bounds were h = record {
+      sound = h.sound;
+      roots = h.roots ∙ (were.roots ∙ ap (λ b. b.roots) (sym bounds));
+      are = λ r is. count_left r (h.root.none r is) (were.are r (h.each r is));
+      each = λ root k number v pair.
+          let has : HasKey keys k = were.each root k number v (pair_was pair) in
+          ⊎_elim
+          (λ (same : has.row.key ≡ key). absurd (none_left root number v (subst (λ (n : ℕ). IsPair new root n number v) (sym has.key_is ∙ same) pair)))
+          (λ (apart : has.row.key ≢ key). record { row = has.row; is = h.kept has.row has.is apart; key_is = has.key_is })
+          (cases_eq has.row.key key);
+    }
 
   module _ (pairs left : List Pair) (was : IsDict old pairs) (is : IsDict new left) where
     -- where the block counted for a key and none was stale, the map lost the key
     module _ (key : ℕ) (value : List ℕ) (counted : Counts old gone key value) (tidy : (root : ℕ) → ¬ (IsStaleRoot old root)) where
-      counts_here : (root number : ℕ) (v : List ℕ) → IsPair old root key number v → Counts old root key v
-      counts_here root number v pair = ⊎_elim (λ counts. counts) (λ stale. absurd (tidy root stale)) (counts_or_stale old pairs was root key number v pair)
-
-      none_left : IsValueOf new key None
-      none_left root number v pair = not_gone (some_of pair) (counts_once old was.fit root gone key v value (counts_here root number v (pair_was pair)) counted).0
-
       pub puts_none : Puts pairs key None left
       puts_none = record {
-        here = value_is new left is key None none_left;
+        here = value_is new left is key None (none_left pairs was key value counted tidy);
         others = λ other differs. value_is new left is other (value_of pairs other) (value_left other (value_of pairs other)
             (λ root v counts same. differs (pair_once old gone other key _ counted.number v value (subst (λ (r : ℕ). HasPair old r other counts.number v) same counts.pair.has) counted.pair.has).key_is)
             (was.each other));

@@ -5,7 +5,7 @@ pub mod Maps
 pub mod Pairs
 pub mod Kept
 pub mod Counting
-pub mod Ranks
+pub mod Keys
 pub mod Indexed
 pub mod Stale
 pub mod Less
@@ -13,7 +13,10 @@ pub mod More
 pub mod Room
 pub mod Still
 pub mod Readings
+pub mod HeadOrder
+pub mod Taken
 pub mod Scans
+pub mod Openings
 pub mod Answered
 pub mod Layouts
 pub mod Freed

@@ -1,13 +1,33 @@
 -- The dictionary of an image in which a root has a pair anew, with a number above those of all others.
-use Rattle.std.proofs.Common.{◌≡◌, ◌≢◌, ◌⊎◌, ℕ, ◌+◌, ◌^◌, ◌<◌, ◌≤◌, List, Option, Some, None, inl, inr, sym, ap, ◌∙◌, subst, arith, ⊎_elim}
-use Rattle.attach_dict.proofs.Common.{cases_eq, bounds_of, Ranked, Order, IsRanked, HasMore}
+use Rattle.std.proofs.Common.{◌≡◌, ◌≢◌, ◌⊎◌, ℕ, ◌+◌, ◌<◌, ◌≤◌, List, set, get_or, Option, Some, None, inl, inr, sym, ap, ◌∙◌, subst, arith, ⊎_elim}
+use Rattle.attach_dict.proofs.Common.{cases_eq, length-set, get_or-set_same, get_or-set_other, bounds_of, Keyed, KeyRoots, IsKeyed, IsKeyMap, HasMore, HasReplaced}
 use Rattle.attach_dict.specs.Dict.{Pair, HasSome, HasNone, HasPair, IsPair, Counts, IsFit, IsValueOf, value_of, IsDict, IsStaleRoot, AreNumbersUpTo, Puts}
 use Rattle.attach_dict.specs.Roots.{Roots, IsIn, HasFewerRoots}
-use Rattle.attach_dict.specs.View.{turned, IsPairOf, AreOrders}
+use Rattle.attach_dict.specs.View.{CountsFor, HasKey, IsNumbered, AreFreeRoots, AreNumbers, AreKeys}
 use Rattle.attach_dict.proofs.Pairs.{some_of, IsSamePair, pair_once}
 use Rattle.attach_dict.proofs.Kept.{KeepsRoots, keeps_back, some_to, none_to, pair_to}
 use Rattle.attach_dict.proofs.Counting.{AllFit, value_is, counts_or_stale, other_stale}
 use Rattle.attach_dict.proofs.Less.{none_not_some}
+
+-- a key has a root anew, whether it had one or not, and the others are as they were
+pub record IsKeyedAnew (old : KeyRoots) (more : Keyed) (new : KeyRoots) : Type 0 where
+  pub roots : new.roots ≡ old.roots
+  pub here : IsKeyed new more
+  pub kept : (r : Keyed) → IsKeyed old r → r.key ≢ more.key → IsKeyed new r
+  pub each : (r : Keyed) → IsKeyed new r → (IsKeyed old r × (r.key ≢ more.key)) ⊎ (r ≡ more)
+  pub sound : IsKeyMap new
+
+pub anew_more : {old new : KeyRoots} {more : Keyed} → HasMore old more new → IsKeyedAnew old more new
+anew_more h = record {
+  roots = h.roots;
+  here = h.here;
+  kept = λ r is apart. h.kept r is;
+  each = λ r is. ⊎_elim (λ was. inl (was, h.lacked.none r was)) (λ same. inr same) (h.each r is);
+  sound = h.sound;
+}
+
+pub anew_replaced : {old new : KeyRoots} {was more : Keyed} → HasReplaced old was more new → IsKeyedAnew old more new
+anew_replaced h = record { roots = h.roots; here = h.here; kept = h.kept; each = h.each; sound = h.sound }
 
 module _ {old new : List ℕ} {come key number : ℕ} {value : List ℕ} (keeps : KeepsRoots old new come) (none : HasNone old come) (pair : IsPair new come key number value) (above : (root k n : ℕ) (v : List ℕ) → IsPair old root k n v → n < number) where
   -- a pair that was there is another root's
@@ -49,58 +69,69 @@ module _ {old new : List ℕ} {come key number : ℕ} {value : List ℕ} (keeps 
       record { key = f.key; number = f.number; value = f.value; pair = pair_stays f.pair; once = λ lower w less. once_old root f.key f.number f.value f.pair lower w (f.once lower w less) })
       (cases_eq root come)
 
-  -- the orders with the root's pair are those of the image
-  pub orders_more : (end : ℕ) (by_key by_number key_more number_more : Order) (free less : Roots) → bounds_of new ≡ bounds_of old → come < end → key < 2 ^ 64 → AreOrders old end by_key by_number free → HasMore by_key (record { root = come; first = key; second = number }) key_more →
-      HasMore by_number (record { root = come; first = number; second = key }) number_more → HasFewerRoots free come less → AreOrders new end key_more number_more less
-  orders_more end by_key by_number key_more number_more free less bounds high small were keys numbers frees = record {
-    keys = keys.sound;
-    numbers = numbers.sound;
-    key_roots = keys.roots ∙ (were.key_roots ∙ ap (λ b. b.roots) (sym bounds));
-    number_roots = numbers.roots ∙ (were.number_roots ∙ ap (λ b. b.roots) (sym bounds));
-    ranked = λ root k n v below is. ⊎_elim
-        (λ new_one.
-        let same : record { root = root; first = k; second = n } ≡ record { root = come; first = key; second = number } = λ i. record { root = new_one.0 i; first = new_one.1.key_is i; second = new_one.1.number_is i } in
-        subst (λ (r : Ranked). IsRanked key_more r) (sym same) keys.here)
-        (λ was. keys.kept (record { root = root; first = k; second = n }) (were.ranked root k n v below was))
-        (new_or_old root k n v is);
-    are = λ r is. ⊎_elim
-        (λ (had : IsRanked by_key r). let was : IsPairOf old r = were.are r had in record { value = was.value; pair = pair_stays was.pair })
-        (λ (same : r ≡ record { root = come; first = key; second = number }). subst (λ (x : Ranked). IsPairOf new x) (sym same) (record { value = value; pair = pair }))
-        (keys.each r is);
-    below = λ r is. ⊎_elim
-        (λ (had : IsRanked by_key r). were.below r had)
-        (λ (same : r ≡ record { root = come; first = key; second = number }). omega (arith, high, ap (λ (x : Ranked). x.root) same))
-        (keys.each r is);
-    narrow = λ r is. ⊎_elim
-        (λ (had : IsRanked by_key r). were.narrow r had)
-        (λ (same : r ≡ record { root = come; first = key; second = number }). subst (λ (x : Ranked). x.first < 2 ^ 64) (sym same) small)
-        (keys.each r is);
-    to_number = λ r is. ⊎_elim
-        (λ (had : IsRanked by_key r). numbers.kept (turned r) (were.to_number r had))
-        (λ (same : r ≡ record { root = come; first = key; second = number }). subst (λ (x : Ranked). IsRanked number_more x) (ap turned (sym same)) numbers.here)
-        (keys.each r is);
-    to_key = λ r is. ⊎_elim
-        (λ (had : IsRanked by_number r). keys.kept (turned r) (were.to_key r had))
-        (λ (same : r ≡ record { root = come; first = number; second = key }). subst (λ (x : Ranked). IsRanked key_more x) (ap turned (sym same)) keys.here)
-        (numbers.each r is);
-    free_below = frees.below ∙ (were.free_below ∙ ap (λ b. b.roots) (sym bounds));
-    free_are = λ root is.
-        let v = were.free_are root (frees.each root is) in
+  -- another key's root counts for it still
+  counts_stays : (root k : ℕ) (v : List ℕ) → k ≢ key → Counts old root k v → Counts new root k v
+  counts_stays root k v differs counts = record {
+    number = counts.number;
+    pair = pair_stays counts.pair;
+    greatest = λ other n w found. ⊎_elim (λ new_one. absurd (differs new_one.1.key_is)) (λ had. counts.greatest other n w had) (new_or_old other k n w found);
+  }
+
+  -- the numbers with the root's are those of the image
+  pub numbers_come : (end : ℕ) (numbers : List ℕ) → bounds_of new ≡ bounds_of old → come < (bounds_of old).roots → AreNumbers old end numbers → AreNumbers new end (set numbers come number)
+  numbers_come end numbers bounds low were =
+      let here : get_or (set numbers come number) come 0 ≡ number = get_or-set_same numbers come number 0 (subst (λ (n : ℕ). come < n) (sym were.size) low) in
+      record {
+        size = length-set numbers come number ∙ (were.size ∙ ap (λ b. b.roots) (sym bounds));
+        each = λ root k n v below is. ⊎_elim
+            (λ new_one. ap (λ (r : ℕ). get_or (set numbers come number) r 0) new_one.0 ∙ (here ∙ sym new_one.1.number_is))
+            (λ had. get_or-set_other numbers come root number 0 (not_come had) ∙ were.each root k n v below had)
+            (new_or_old root k n v is);
+        are = λ root some. ⊎_elim
+            (λ (same : root ≡ come).
+            let it : get_or (set numbers come number) root 0 ≡ number = ap (λ (r : ℕ). get_or (set numbers come number) r 0) same ∙ here in
+            subst (λ (n : ℕ). IsNumbered new root n) (sym it) (subst (λ (r : ℕ). IsNumbered new r number) (sym same) (record { key = key; value = value; pair = pair })))
+            (λ (apart : root ≢ come).
+            let other : get_or (set numbers come number) root 0 ≡ get_or numbers root 0 = get_or-set_other numbers come root number 0 apart in
+            let n : IsNumbered old root (get_or numbers root 0) = were.are root (λ zero. some (other ∙ zero)) in
+            subst (λ (k : ℕ). IsNumbered new root k) (sym other) (record { key = n.key; value = n.value; pair = pair_stays n.pair }))
+            (cases_eq root come);
+      }
+
+  -- the free roots without it too
+  pub free_come : (end : ℕ) (free less : Roots) → bounds_of new ≡ bounds_of old → AreFreeRoots old end free → HasFewerRoots free come less → AreFreeRoots new end less
+  free_come end free less bounds were frees = record {
+    below = frees.below ∙ (were.below ∙ ap (λ b. b.roots) (sym bounds));
+    are = λ root is.
+        let v = were.are root (frees.each root is) in
         let apart : root ≢ come = λ same. frees.out.none (subst (λ (r : ℕ). IsIn less r) same is) in
         record { low = v.low; high = v.high; none = none_to keeps v.low apart v.none };
-    free_each = λ root vacant.
+    each = λ root vacant.
         let apart : root ≢ come = λ same. none_not_some (subst (λ (r : ℕ). HasNone new r) same vacant.none) (some_of pair) in
-        frees.kept root (were.free_each root (record { low = vacant.low; high = vacant.high; none = none_to (keeps_back keeps) vacant.low apart vacant.none })) apart;
+        frees.kept root (were.each root (record { low = vacant.low; high = vacant.high; none = none_to (keeps_back keeps) vacant.low apart vacant.none })) apart;
+  }
+
+  -- and the map in which the key has the root
+  pub keys_come : (keys after : KeyRoots) → bounds_of new ≡ bounds_of old → AreKeys old keys → IsKeyedAnew keys (record { key = key; root = come }) after → AreKeys new after
+  keys_come keys after bounds were h = record {
+    sound = h.sound;
+    roots = h.roots ∙ (were.roots ∙ ap (λ b. b.roots) (sym bounds));
+    are = λ r is. ⊎_elim
+        (λ (had : IsKeyed keys r × (r.key ≢ key)). let c : CountsFor old r = were.are r had.0 in record { value = c.value; counts = counts_stays r.root r.key c.value had.1 c.counts })
+        (λ (same : r ≡ record { key = key; root = come }). subst (λ (x : Keyed). CountsFor new x) (sym same) (record { value = value; counts = counts_new }))
+        (h.each r is);
+    each = λ root k n v is. ⊎_elim
+        (λ new_one. record { row = record { key = key; root = come }; is = h.here; key_is = sym new_one.1.key_is })
+        (λ had.
+        let has : HasKey keys k = were.each root k n v had in
+        ⊎_elim
+        (λ (same : has.row.key ≡ key). record { row = record { key = key; root = come }; is = h.here; key_is = sym same ∙ has.key_is })
+        (λ (apart : has.row.key ≢ key). record { row = has.row; is = h.kept has.row has.is apart; key_is = has.key_is })
+        (cases_eq has.row.key key))
+        (new_or_old root k n v is);
   }
 
   module _ (pairs more : List Pair) (was : IsDict old pairs) (is : IsDict new more) where
-    counts_stays : (root k : ℕ) (v : List ℕ) → k ≢ key → Counts old root k v → Counts new root k v
-    counts_stays root k v differs counts = record {
-      number = counts.number;
-      pair = pair_stays counts.pair;
-      greatest = λ other n w found. ⊎_elim (λ new_one. absurd (differs new_one.1.key_is)) (λ had. counts.greatest other n w had) (new_or_old other k n w found);
-    }
-
     value_stays : (other : ℕ) (found : Option (List ℕ)) → other ≢ key → IsValueOf old other found → IsValueOf new other found
     value_stays other None differs lacks = λ root n v found. ⊎_elim (λ new_one. absurd (differs new_one.1.key_is)) (λ had. lacks root n v had) (new_or_old root other n v found)
     value_stays other (Some v) differs counts = (counts.0, counts_stays counts.0 other v differs counts.1)

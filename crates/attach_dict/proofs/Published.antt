@@ -1,6 +1,6 @@
 -- The block at the stage comes to a free root: its pair is in the map, and the pair that its key had is stale.
 use Rattle.std.proofs.Common.{◌≡◌, ◌≢◌, ℕ, ◌+◌, ◌-◌, ◌^◌, ◌<◌, List, [], length, Option, Some, IsSome, inl, inr, refl, sym, ap, ◌∙◌, subst, arith, ⊎_elim}
-use Rattle.attach_dict.proofs.Common.{cases_eq, word_at, words_of, tables_of, Bounds, Range, heap, bounds_of, IsWordOf, HaveSameHeap, IsLeastOf, Ranked, IsRanked, IsLastOf, ArenaState, IsPassed, passed}
+use Rattle.attach_dict.proofs.Common.{cases_eq, word_at, words_of, tables_of, Bounds, Range, heap, bounds_of, IsWordOf, HaveSameHeap, IsLeastOf, Keyed, IsKeyed, IsGreatestOf, ArenaState, IsPassed, passed, rooted}
 use Rattle.heap_model.specs.declared.call.Reply.TheVariants as replies
 use Rattle.move_steps.specs.Moves.{IsEitherMoved}
 use Rattle.attach_dict.specs.declared.index.DictIndex.{DictIndex}
@@ -8,17 +8,17 @@ use Rattle.attach_dict.specs.declared.progress.Progress.{Progress}
 use Rattle.attach_dict.specs.declared.progress.Progress.TheVariants as stages
 use Rattle.attach_dict.specs.Calls.{IsEitherDict, HasPublished}
 use Rattle.attach_dict.specs.Dict.{Pair, stage, HasSome, HasPair, IsPair, Counts, IsDict, IsStaleRoot, IsNextNumber, IsFreeRoot}
-use Rattle.attach_dict.specs.Index.{IsGreatestNumber, MayComeNext, HasPutPair, IsLastStale}
+use Rattle.attach_dict.specs.Index.{MayComeNext, HasPutPair, IsPutOver}
 use Rattle.attach_dict.specs.Roots.{Roots, IsIn}
 use Rattle.attach_dict.specs.Stages.{Idle, Filled, IsStale, HasNumbered, HasFilledPhase}
 use Rattle.attach_dict.specs.Steps.{IsShown}
-use Rattle.attach_dict.specs.View.{value_in, pairs_in, phase_in, turned, AreOrders, AreStaleRoots}
+use Rattle.attach_dict.specs.View.{value_in, pairs_in, phase_in, AreFreeRoots, AreNumbers, AreTables, AreStaleRoots}
 use Rattle.attach_dict.specs.Whole.{state_of, IsWhole}
-use Rattle.attach_dict.proofs.Indexed.{dict_of, counts_last, none_of}
+use Rattle.attach_dict.proofs.Indexed.{dict_of, counts_of, none_of}
 use Rattle.attach_dict.proofs.Counting.{counts_once}
 use Rattle.attach_dict.proofs.Kept.{KeepsRoots, keeps_heap, dict_same}
 use Rattle.attach_dict.proofs.Less.{none_not_some}
-use Rattle.attach_dict.proofs.More.{fit_more, numbers_more, orders_more, puts_some, stale_counted, counted_stale}
+use Rattle.attach_dict.proofs.More.{IsKeyedAnew, anew_more, anew_replaced, fit_more, numbers_more, numbers_come, free_come, keys_come, puts_some, stale_counted, counted_stale}
 use Rattle.attach_dict.proofs.Pairs.{some_of, pair_kept}
 use Rattle.attach_dict.proofs.Room.{next_above, next_most, next_number, next_once, not_last, found_free}
 use Rattle.attach_dict.proofs.Still.{leaves_by}
@@ -44,7 +44,7 @@ module _ (old : ArenaState) (index : DictIndex) (key : ℕ) (whole : IsWhole old
   -- the root that it comes to
   module _ (found : Option ℕ) (least : IsLeastOf (IsIn index.free) found) where
     free_found : (root : ℕ) × (found ≡ Some root) × IsFreeRoot (words_of old.device) root
-    free_found = found_free (words_of old.device) index.by_key index.by_number index.free whole.indexes.orders found least whole.kept.at_stage.1.root
+    free_found = found_free (words_of old.device) index.free whole.indexes.tables.free_are found least whole.kept.at_stage.1.root
 
     pub free_some : IsSome found
     free_some = subst (λ (f : Option ℕ). IsSome f) (sym free_found.1) refl
@@ -59,24 +59,23 @@ module _ (old : ArenaState) (index : DictIndex) (key : ℕ) (whole : IsWhole old
     number_is : held.number ≡ number
     number_is = next_once (words_of old.device) held.number number held.next next
 
-    -- a root with a pair is another one
-    not_root : (r : Ranked) → IsRanked index.by_key r → r.root ≢ root
-    not_root r is same = none_not_some free.none (subst (λ (n : ℕ). HasSome (words_of old.device) n) same (some_of (whole.indexes.orders.are r is).pair))
+    -- a root with a key is another one, and is not stale
+    row_some : (r : Keyed) → IsKeyed index.keys r → HasSome (words_of old.device) r.root
+    row_some r is = some_of (whole.indexes.tables.keys_are.are r is).counts.pair
 
-    pub may_come : MayComeNext index (record { root = root; first = key; second = number })
+    pub may_come : MayComeNext index root
     may_come = record {
-      key_root = subst (λ (n : ℕ). root < n) (sym whole.indexes.orders.key_roots) free.high;
-      number_root = subst (λ (n : ℕ). root < n) (sym whole.indexes.orders.number_roots) free.high;
-      key = record { none = not_root };
-      number = record { none = λ r is. not_root (turned r) (whole.indexes.orders.to_key r is) };
-      free = whole.indexes.orders.free_each root (record { low = free.low; high = free.high; none = free.none });
-      fresh = λ r is. record { none = λ s. filled_tidy r.root (whole.indexes.stale_roots.are r.root s) };
-      below = λ r is. subst (λ (n : ℕ). r.root < n) (sym whole.indexes.stale_roots.stale_below) (whole.indexes.orders.below r is);
+      low = subst (λ (n : ℕ). root < n) (sym whole.indexes.tables.keys_are.roots) free.high;
+      numbered = subst (λ (n : ℕ). root < n) (sym whole.indexes.tables.numbers_are.size) free.high;
+      fresh = record { none = λ r is same. none_not_some free.none (subst (λ (n : ℕ). HasSome (words_of old.device) n) same (row_some r is)) };
+      free = whole.indexes.tables.free_are.each root (record { low = free.low; high = free.high; none = free.none });
+      tidy = λ r is. record { none = λ s. filled_tidy r.root (whole.indexes.stale_roots.are r.root s) };
+      below = λ r is. let some = row_some r is in subst (λ (n : ℕ). r.root < n) (sym whole.indexes.stale_roots.below) (rooted (words_of old.device) r.root some.range whole.kept.exact some.named);
     }
 
     -- behind the move
 
-    module _ (new : ArenaState) (after : DictIndex) (s : IsShown old new root) (put : HasPutPair index (record { root = root; first = key; second = number }) after) where
+    module _ (new : ArenaState) (after : DictIndex) (s : IsShown old new root) (put : HasPutPair index (record { key = key; root = root }) number after) where
       abbrev was : List ℕ
       was = words_of old.device
 
@@ -87,10 +86,10 @@ module _ (old : ArenaState) (index : DictIndex) (key : ℕ) (whole : IsWhole old
       value = value_in was stage
 
       abbrev pairs : List Pair
-      pairs = pairs_in was index.by_key.ranked
+      pairs = pairs_in was index.keys.rows
 
       abbrev more : List Pair
-      more = pairs_in is after.by_key.ranked
+      more = pairs_in is after.keys.rows
 
       p : IsPassed was is stage root s.range (replies.Moved s.range.at s.range.size)
       p = passed was is stage root s.range (replies.Moved s.range.at s.range.size) s.did.step s.did.did.was_exact s.named free.high free.none
@@ -127,12 +126,19 @@ module _ (old : ArenaState) (index : DictIndex) (key : ℕ) (whole : IsWhole old
       above : (other k n : ℕ) (v : List ℕ) → IsPair was other k n v → n < number
       above other k n v pair = next_above was number next other k n v pair
 
-      orders_new : AreOrders is (bounds_of is).roots after.by_key after.by_number after.free
-      orders_new = subst (λ (b : Bounds). AreOrders is b.roots after.by_key after.by_number after.free) (sym bounds)
-          (orders_more new_keeps free.none new_pair above (bounds_of was).roots index.by_key index.by_number after.by_key after.by_number index.free after.free bounds free.high put.narrow whole.indexes.orders put.keys put.numbers put.free)
+      anew : IsKeyedAnew index.keys (record { key = key; root = root }) after.keys
+      anew = ⊎_elim (λ more_one. anew_more more_one.0) (λ replaced. anew_replaced replaced.1) put.keys
+
+      tables_new : AreTables is after.keys after.numbers after.free
+      tables_new = record {
+        keys_are = keys_come new_keeps free.none new_pair above index.keys after.keys bounds whole.indexes.tables.keys_are anew;
+        numbers_are = subst (λ (b : Bounds). AreNumbers is b.roots after.numbers) (sym bounds)
+            (subst (λ (ns : List ℕ). AreNumbers is (bounds_of was).roots ns) (sym put.numbers) (numbers_come new_keeps free.none new_pair above (bounds_of was).roots index.numbers bounds free.high whole.indexes.tables.numbers_are));
+        free_are = subst (λ (b : Bounds). AreFreeRoots is b.roots after.free) (sym bounds) (free_come new_keeps free.none new_pair above (bounds_of was).roots index.free after.free bounds whole.indexes.tables.free_are put.free);
+      }
 
       dict_new : IsDict is more
-      dict_new = dict_of is s.did.did.exact after.by_key after.by_number after.free orders_new (fit_more new_keeps free.none new_pair above whole.kept.dict.fit)
+      dict_new = dict_of is s.did.did.exact after.keys tables_new.keys_are (fit_more new_keeps free.none new_pair above whole.kept.dict.fit)
 
       -- what is stale is what counted for the key before
 
@@ -142,36 +148,34 @@ module _ (old : ArenaState) (index : DictIndex) (key : ℕ) (whole : IsWhole old
       counted : (other : ℕ) → IsStale is Idle other → (v : List ℕ) × Counts was other key v
       counted other so = ⊎_elim (λ t. stale_counted new_keeps free.none new_pair above pairs more whole.kept.dict dict_new filled_tidy other t) (λ t. absurd (stage_empty t.1)) so
 
-      last_counts : (r : Ranked) → IsLastOf index.by_key key r → Counts was r.root key (value_in was r.root)
-      last_counts r last = counts_last was whole.kept.exact index.by_key index.by_number index.free whole.indexes.orders key r last
+      -- the root that the key had counted for it
+      row_counts : (r : Keyed) → IsKeyed index.keys r → r.key ≡ key → Counts was r.root key (value_in was r.root)
+      row_counts r had same = subst (λ (k : ℕ). Counts was r.root k (value_in was r.root)) same (counts_of was whole.kept.exact index.keys whole.indexes.tables.keys_are r had)
 
-      stale_by : (stale : Roots) → IsLastStale index key stale → AreStaleRoots is Idle (bounds_of is).roots stale
-      stale_by stale (inl none) = record {
-        stale_below = ap (λ (f : Roots). f.below) none.1 ∙ (whole.indexes.stale_roots.stale_below ∙ ap (λ (b : Bounds). b.roots) (sym bounds));
-        are = λ other in_set. absurd (filled_tidy other (whole.indexes.stale_roots.are other (subst (λ (f : Roots). IsIn f other) none.1 in_set)));
-        inside = λ other in_set. absurd (filled_tidy other (whole.indexes.stale_roots.are other (subst (λ (f : Roots). IsIn f other) none.1 in_set)));
-        each = λ other below so. let c = counted other so in absurd (none_of was whole.kept.exact index.by_key index.by_number index.free whole.indexes.orders key none.0 other c.1.number c.0 c.1.pair);
+      stale_by : IsPutOver index (record { key = key; root = root }) after → AreStaleRoots is Idle after.stale
+      stale_by (inl over) = record {
+        below = ap (λ (f : Roots). f.below) over.1 ∙ (whole.indexes.stale_roots.below ∙ ap (λ (b : Bounds). b.roots) (sym bounds));
+        are = λ other in_set. absurd (filled_tidy other (whole.indexes.stale_roots.are other (subst (λ (f : Roots). IsIn f other) over.1 in_set)));
+        each = λ other so. let c = counted other so in absurd (none_of was whole.kept.exact index.keys whole.indexes.tables.keys_are key over.0.lacked other c.1.number c.0 c.1.pair);
       }
-      stale_by stale (inr (r, last, came)) = record {
-        stale_below = came.below ∙ (whole.indexes.stale_roots.stale_below ∙ ap (λ (b : Bounds). b.roots) (sym bounds));
-        are = λ other in_set. ⊎_elim
-            (λ had. absurd (filled_tidy other (whole.indexes.stale_roots.are other had)))
-            (λ same. inl (subst (λ (n : ℕ). IsStaleRoot is n) (sym same) (counted_stale new_keeps free.none new_pair above pairs more whole.kept.dict dict_new r.root (value_in was r.root) (last_counts r last))))
-            (came.each other in_set);
-        inside = λ other in_set. ⊎_elim
-            (λ had. absurd (filled_tidy other (whole.indexes.stale_roots.are other had)))
-            (λ same. subst (λ (b : Bounds). other < b.roots) (sym bounds) (subst (λ (n : ℕ). n < (bounds_of was).roots) (sym same) (whole.indexes.orders.below r last.is)))
-            (came.each other in_set);
-        each = λ other below so.
-            let c = counted other so in
-            let same : other ≡ r.root = (counts_once was whole.kept.dict.fit other r.root key c.0 (value_in was r.root) c.1 (last_counts r last)).0 in
-            subst (λ (n : ℕ). IsIn stale n) (sym same) came.here;
-      }
+      stale_by (inr (r, replaced, came)) =
+          let counts : Counts was r.root key (value_in was r.root) = row_counts r replaced.had replaced.same_key in
+          record {
+            below = came.below ∙ (whole.indexes.stale_roots.below ∙ ap (λ (b : Bounds). b.roots) (sym bounds));
+            are = λ other in_set. ⊎_elim
+                (λ had. absurd (filled_tidy other (whole.indexes.stale_roots.are other had)))
+                (λ same. inl (subst (λ (n : ℕ). IsStaleRoot is n) (sym same) (counted_stale new_keeps free.none new_pair above pairs more whole.kept.dict dict_new r.root (value_in was r.root) counts)))
+                (came.each other in_set);
+            each = λ other so.
+                let c = counted other so in
+                let same : other ≡ r.root = (counts_once was whole.kept.dict.fit other r.root key c.0 (value_in was r.root) c.1 counts).0 in
+                subst (λ (n : ℕ). IsIn after.stale n) (sym same) came.here;
+          }
 
       pub whole_published : IsWhole new after key stages.Idle
       whole_published = record {
         kept = record { ready = s.did.did.ready; exact = s.did.did.exact; dict = dict_new; at_stage = tt };
-        indexes = record { orders = orders_new; stale_roots = stale_by after.stale put.stale; wide = ap (λ b. length b.items) put.block ∙ whole.indexes.wide };
+        indexes = record { tables = tables_new; stale_roots = stale_by put.keys; wide = ap (λ b. length b.items) put.block ∙ whole.indexes.wide };
       }
 
       -- a crash leaves the map of before or the one of behind
@@ -236,18 +240,18 @@ module _ (old : ArenaState) (index : DictIndex) (key : ℕ) (progress : Progress
   pub publish_block : HasSome (words_of old.device) stage
   publish_block = filled_block old index key whole_at
 
-  module _ (greatest : ℕ) (is : IsGreatestNumber index.by_number greatest) where
+  module _ (greatest : ℕ) (is : IsGreatestOf index.numbers greatest) where
     pub publish_room : greatest ≢ 2 ^ 64 - 1
-    publish_room = not_last (words_of old.device) whole.kept.exact index.by_key index.by_number index.free whole.indexes.orders greatest is whole_at.kept.at_stage.1.number
+    publish_room = not_last (words_of old.device) whole.kept.exact index.keys index.numbers index.free whole.indexes.tables greatest is whole_at.kept.at_stage.1.number
 
     next : IsNextNumber (words_of old.device) (greatest + 1)
-    next = next_number (words_of old.device) whole.kept.exact index.by_key index.by_number index.free whole.indexes.orders greatest is
+    next = next_number (words_of old.device) whole.kept.exact index.keys index.numbers index.free whole.indexes.tables greatest is
 
     module _ (root : ℕ) (free : IsFreeRoot (words_of old.device) root) where
-      pub publish_may : MayComeNext index (record { root = root; first = key; second = greatest + 1 })
+      pub publish_may : MayComeNext index root
       publish_may = may_come old index key whole_at root free (greatest + 1) next
 
-      module _ (new : ArenaState) (after : DictIndex) (s : IsShown old new root) (put : HasPutPair index (record { root = root; first = key; second = greatest + 1 }) after) where
+      module _ (new : ArenaState) (after : DictIndex) (s : IsShown old new root) (put : HasPutPair index (record { key = key; root = root }) (greatest + 1) after) where
         pub publish_whole : IsWhole new after key stages.Idle
         publish_whole = whole_published old index key whole_at root free (greatest + 1) next new after s put
 

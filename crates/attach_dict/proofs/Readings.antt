@@ -2,8 +2,9 @@
 use Rattle.std.proofs.Common.{◌≡◌, ℕ, ◌+◌, ◌/◌, ◌<◌, ◌≤◌, List, length, get_or, take, drop, Result, Ok, Err, IsOk, refl, sym, ap, ◌∙◌, subst, arith, ⊎_elim}
 use Rattle.std.specs.Borrow.{Bor}
 use Rattle.pmem_lines.specs.Words.{word_at, words_at}
-use Rattle.attach_dict.proofs.Common.{length-words_at, get_or-words_at, Range, IsExactImage, Ranked, BlockRefusal, AreWordsOf, IsViewOf, one_range, rooted}
+use Rattle.attach_dict.proofs.Common.{length-words_at, get_or-words_at, Range, IsExactImage, BlockRefusal, AreWordsOf, IsViewOf, one_range, rooted}
 use Rattle.arena_core.specs.declared.answer.BlockRefusal.TheVariants.{NoRoot, Empty, OutOfRange}
+use Rattle.attach_dict.specs.declared.heads.Head.{Head}
 use Rattle.attach_dict.specs.declared.reading.Reading.{Reading}
 use Rattle.attach_dict.specs.declared.reading.Reading.TheVariants as readings
 use Rattle.attach_dict.specs.Dict.{head_words, most_values, HasSome, HasPair}
@@ -40,14 +41,14 @@ module _ (words : List ℕ) (root : ℕ) (view : List ℕ) (are : AreWordsOf wor
         none
 
   -- words of a pair
-  module _ (r : Ranked) (is : AreWordsOfPair view r) where
+  module _ (h : Head) (is : AreWordsOfPair view h) where
     abbrev count : ℕ
     count = get_or view 2 0
 
     size : length (words_at view head_words count) ≡ count
     size = length-words_at view head_words count is.wide
 
-    pub pair_seen : HasPair words root r.first r.second (words_at view head_words count)
+    pub pair_seen : HasPair words root h.key h.number (words_at view head_words count)
     pair_seen =
         let wide : head_words + count ≤ length view = is.wide in
         let few : count ≤ most_values = is.few in
@@ -56,8 +57,8 @@ module _ (words : List ℕ) (root : ℕ) (view : List ℕ) (are : AreWordsOf wor
           named = are.named;
           few = omega (arith, size, few);
           wide = omega (arith, size, wide, are.count);
-          key_is = sym (is.first_is ∙ (seen 0 (omega (arith, wide)) ∙ ap (word_at words) (omega arith)));
-          number_is = sym (is.second_is ∙ seen 1 (omega (arith, wide)));
+          key_is = sym (is.key_is ∙ (seen 0 (omega (arith, wide)) ∙ ap (word_at words) (omega arith)));
+          number_is = sym (is.number_is ∙ seen 1 (omega (arith, wide)));
           count_is = sym (seen 2 (omega (arith, wide))) ∙ sym size;
           each = λ i low.
               let below : i < count = omega (arith, low, size) in
@@ -78,11 +79,11 @@ module _ (words : List ℕ) (root : ℕ) (view : List ℕ) (exact : IsExactImage
   pub few_in : n ≤ most_values
   few_in = omega (arith, n_is, holds.pair.few)
 
-  of_pair : AreWordsOfPair view (record { root = root; first = get_or view 0 0; second = get_or view 1 0 })
-  of_pair = record { first_is = refl; second_is = refl; few = few_in; wide = room_in }
+  of_pair : AreWordsOfPair view (record { key = get_or view 0 0; number = get_or view 1 0; root = root })
+  of_pair = record { key_is = refl; number_is = refl; few = few_in; wide = room_in }
 
   same_value : IsSamePair holds.key (get_or view 0 0) holds.number (get_or view 1 0) holds.value (words_at view head_words n)
-  same_value = pair_once words root holds.key (get_or view 0 0) holds.number (get_or view 1 0) holds.value (words_at view head_words n) holds.pair (pair_seen words root view are (record { root = root; first = get_or view 0 0; second = get_or view 1 0 }) of_pair)
+  same_value = pair_once words root holds.key (get_or view 0 0) holds.number (get_or view 1 0) holds.value (words_at view head_words n) holds.pair (pair_seen words root view are (record { key = get_or view 0 0; number = get_or view 1 0; root = root }) of_pair)
 
   pub lent_value : (many : ℕ) → many ≡ n → take many (drop head_words view) ≡ value_in words root
   unfolding words_at
@@ -94,11 +95,11 @@ read_as words root view readings.Unfit are none = record {
   some = record { range = are.range; named = are.named };
   none = λ key number value pair. not_none words root view are key number value pair none;
 }
-read_as words root view (readings.Pair r) are is = (
+read_as words root view (readings.Pair h) are is = (
   is.0,
   record {
     value = words_at view head_words (get_or view 2 0);
-    pair = subst (λ (n : ℕ). HasPair words n r.first r.second (words_at view head_words (get_or view 2 0))) (sym is.0) (pair_seen words root view are r is.1);
+    pair = subst (λ (n : ℕ). HasPair words n h.key h.number (words_at view head_words (get_or view 2 0))) (sym is.0) (pair_seen words root view are h is.1);
   },
 )
 

@@ -1,14 +1,13 @@
 -- Room for a new pair: a free root, and a number above those of all pairs.
-use Rattle.std.proofs.Common.{◌≡◌, ◌≢◌, ◌⊎◌, ℕ, ◌+◌, ◌-◌, ◌^◌, ◌<◌, ◌≤◌, List, Option, Some, None, inl, inr, refl, sym, ◌∙◌, subst, arith, ⊎_elim}
-use Rattle.attach_dict.proofs.Common.{tables_of, Range, heap, bounds_of, IsExactImage, IsLeastOf, none_below, some_below, Ranked, Order, IsRanked, IsEmpty}
+use Rattle.std.proofs.Common.{◌≡◌, ◌≢◌, ◌⊎◌, ℕ, ◌+◌, ◌-◌, ◌^◌, ◌<◌, ◌≤◌, List, length, get_or, Option, Some, None, inl, inr, refl, sym, ◌∙◌, subst, arith, ⊎_elim}
+use Rattle.attach_dict.proofs.Common.{cases_eq, tables_of, Range, heap, bounds_of, IsExactImage, IsLeastOf, none_below, some_below, rooted, Keyed, KeyRoots, IsKeyed, IsGreatestOf}
 use Rattle.attach_dict.specs.Dict.{stage, HasSome, HasNone, IsPair, IsGreatest, IsNextNumber, AreNumbersUpTo, AreNumbersSpent, IsFreeRoot, IsFull}
-use Rattle.attach_dict.specs.Index.{IsGreatestNumber}
 use Rattle.attach_dict.specs.Roots.{Roots, IsIn, AreRoots}
 use Rattle.attach_dict.specs.Stages.{HasRoomForPair}
-use Rattle.attach_dict.specs.View.{turned, IsPairOf, IsVacant, AreOrders}
+use Rattle.attach_dict.specs.View.{IsNumbered, IsVacant, AreFreeRoots, AreTables}
 use Rattle.attach_dict.proofs.Kept.{KeepsRoots, keeps_back, some_to, greatest_same}
 use Rattle.attach_dict.proofs.Less.{none_not_some}
-use Rattle.attach_dict.proofs.Indexed.{ranked_of_pair}
+use Rattle.attach_dict.proofs.Keys.{some_key}
 
 -- a root names a block, or none
 some_by : (words : List ℕ) (root : ℕ) (block : Option Range) → heap (tables_of words) root ≡ block → HasSome words root ⊎ HasNone words root
@@ -20,29 +19,36 @@ some_or_none words root = some_by words root (heap (tables_of words) root) refl
 
 -- numbers
 
-module _ (words : List ℕ) (exact : IsExactImage words) (by_key by_number : Order) (free : Roots) (orders : AreOrders words (bounds_of words).roots by_key by_number free) (number : ℕ) (greatest : IsGreatestNumber by_number number) where
-  -- no pair has a greater number than the order has
+module _ (words : List ℕ) (exact : IsExactImage words) (keys : KeyRoots) (numbers : List ℕ) (free : Roots) (tables : AreTables words keys numbers free) (number : ℕ) (greatest : IsGreatestOf numbers number) where
+  -- no pair has a greater number than the roots have
   pub most_number : (root key n : ℕ) (value : List ℕ) → IsPair words root key n value → n ≤ number
   most_number root key n value pair =
-      greatest.most (record { root = root; first = n; second = key }) (orders.to_number (record { root = root; first = key; second = n }) (ranked_of_pair words exact by_key by_number free orders root key n value pair))
+      omega (arith, greatest.most root, tables.numbers_are.each root key n value (rooted words root pair.has.range exact pair.has.named) pair)
+
+  greatest_by : (root : ℕ) → IsNumbered words root number → IsGreatest words number
+  greatest_by root n = record { root = root; key = n.key; value = n.value; pair = n.pair; most = λ other k m v pair. most_number other k m v pair }
 
   -- there is no pair and it is 0, or it is the greatest number of a pair
-  pub greatest_or_none : (((root key n : ℕ) (value : List ℕ) → ¬ (IsPair words root key n value)) × (number ≡ 0)) ⊎ IsGreatest words number
-  greatest_or_none = ⊎_elim
-      (λ (empty : IsEmpty by_number × (number ≡ 0)). inl (
-        (λ root key n value pair. empty.0.none (record { root = root; first = n; second = key }) (orders.to_number (record { root = root; first = key; second = n }) (ranked_of_pair words exact by_key by_number free orders root key n value pair))),
-        empty.1,
-      ))
-      (λ (some : (r : Ranked) × IsRanked by_number r × (r.first ≡ number)).
-      let has : IsPairOf words (turned some.0) = orders.are (turned some.0) (orders.to_key some.0 some.1) in
-      inr (record {
-        root = some.0.root;
-        key = some.0.second;
-        value = has.value;
-        pair = subst (λ (n : ℕ). IsPair words some.0.root some.0.second n has.value) some.2 has.pair;
-        most = λ other k n v pair. most_number other k n v pair;
-      }))
-      greatest.is
+  abbrev pub IsGreatestOrNone : Type 0
+  IsGreatestOrNone = (((root key n : ℕ) (value : List ℕ) → ¬ (IsPair words root key n value)) × (number ≡ 0)) ⊎ IsGreatest words number
+
+  zero_or_none : number ≡ 0 → IsGreatestOrNone
+  zero_or_none zero = ⊎_elim
+      (λ (none : (r : Keyed) → ¬ (IsKeyed keys r)). inl ((λ root key n value pair. let has = tables.keys_are.each root key n value pair in none has.row has.is), zero))
+      (λ (some : (r : Keyed) × IsKeyed keys r).
+      let c = tables.keys_are.are some.0 some.1 in
+      let is : c.counts.number ≡ number = omega (arith, zero, most_number some.0.root some.0.key c.counts.number c.value c.counts.pair) in
+      inr (greatest_by some.0.root (record { key = some.0.key; value = c.value; pair = subst (λ (n : ℕ). IsPair words some.0.root some.0.key n c.value) is c.counts.pair })))
+      (some_key keys)
+
+  some_or_zero : (root : ℕ) → get_or numbers root 0 ≡ number → IsGreatestOrNone
+  some_or_zero root is = ⊎_elim
+      (λ (zero : number ≡ 0). zero_or_none zero)
+      (λ (some : number ≢ 0). inr (greatest_by root (subst (λ (n : ℕ). IsNumbered words root n) is (tables.numbers_are.are root (λ none. some (sym is ∙ none))))))
+      (cases_eq number 0)
+
+  pub greatest_or_none : IsGreatestOrNone
+  greatest_or_none = ⊎_elim zero_or_none (λ (at : (root : ℕ) × (root < length numbers) × (get_or numbers root 0 ≡ number)). some_or_zero at.0 at.2) greatest.is
 
   -- the one behind it is the number of a new pair
   pub next_number : IsNextNumber words (number + 1)
@@ -93,25 +99,25 @@ next_once words one other a b = ⊎_elim
 
 -- roots
 
-module _ (words : List ℕ) (by_key by_number : Order) (free : Roots) (orders : AreOrders words (bounds_of words).roots by_key by_number free) where
+module _ (words : List ℕ) (free : Roots) (are_free : AreFreeRoots words (bounds_of words).roots free) where
   vacant_in : (root : ℕ) → IsVacant words (bounds_of words).roots root → ¬ (IsFull words)
   vacant_in root vacant full = none_not_some vacant.none (full.each root vacant.low vacant.high)
 
   -- every root has a block where none is free
   pub full_where : ((root : ℕ) → ¬ (IsIn free root)) → IsFull words
-  full_where none = record { each = λ root low high. ⊎_elim (λ some. some) (λ (empty : HasNone words root). absurd (none root (orders.free_each root (record { low = low; high = high; none = empty })))) (some_or_none words root) }
+  full_where none = record { each = λ root low high. ⊎_elim (λ some. some) (λ (empty : HasNone words root). absurd (none root (are_free.each root (record { low = low; high = high; none = empty })))) (some_or_none words root) }
 
   pub full_counted : AreRoots free → free.count ≡ 0 → IsFull words
   full_counted are zero = full_where (λ root is. none_below (IsIn free) free.below free.count are.count_is zero root (are.inside root is) is)
 
   pub not_full : AreRoots free → free.count ≢ 0 → ¬ (IsFull words)
-  not_full are some = let found = some_below (IsIn free) free.below free.count are.count_is (omega (arith, some)) in vacant_in found.0 (orders.free_are found.0 found.2)
+  not_full are some = let found = some_below (IsIn free) free.below free.count are.count_is (omega (arith, some)) in vacant_in found.0 (are_free.are found.0 found.2)
 
   -- a root is found where there is room, and it is the free one
   found_by : (found : Option ℕ) → IsLeastOf (IsIn free) found → ¬ (IsFull words) → (root : ℕ) × (found ≡ Some root) × IsFreeRoot words root
   found_by None none room = absurd (room (full_where none.none))
   found_by (Some root) least room =
-      let vacant = orders.free_are root least.here in (
+      let vacant = are_free.are root least.here in (
         root,
         refl,
         record {
@@ -120,7 +126,7 @@ module _ (words : List ℕ) (by_key by_number : Order) (free : Roots) (orders : 
           none = vacant.none;
           least = λ other low below. ⊎_elim
               (λ some. some)
-              (λ (empty : HasNone words other). absurd (omega (arith, below, least.least other (orders.free_each other (record { low = low; high = omega (arith, below, vacant.high); none = empty })))))
+              (λ (empty : HasNone words other). absurd (omega (arith, below, least.least other (are_free.each other (record { low = low; high = omega (arith, below, vacant.high); none = empty })))))
               (some_or_none words other);
         },
       )

@@ -1,6 +1,6 @@
 -- Sets of roots as bits: one without roots, a root that comes and one that goes, and the lowest.
-use Rattle.std.proofs.Common.{◌≡◌, ◌≢◌, ◌↔◌, IsTrue, ℕ, ◌+◌, ◌*◌, ◌/◌, ◌^◌, ◌<◌, ◌≤◌, Bool, true, false, true≢false, eqb, List, length, replicate, Option, Some, None, MatchOption, refl, sym, ◌∙◌, subst, arith, inl, inr, ⊎_elim}
-use Rattle.attach_dict.proofs.Common.{cases_eq, cases_lt, cond-true, cond-false, eq-eqb, ne_eqb, length-replicate, has, IsPut, HasNoneIn, IsLeastIn, IsCount, none_below, IsLeastOf}
+use Rattle.std.proofs.Common.{◌≡◌, ◌≢◌, ℕ, ◌+◌, ◌*◌, ◌/◌, ◌^◌, ◌<◌, ◌≤◌, Bool, true, false, true≢false, eqb, List, length, replicate, Option, Some, None, MatchOption, refl, sym, ◌∙◌, subst, arith, inl, inr, ⊎_elim}
+use Rattle.attach_dict.proofs.Common.{cases_eq, cases_lt, cond-true, cond-false, eq-eqb, ne_eqb, length-replicate, has, IsPut, HasNoneIn, IsLeastIn, IsCount, IsLeastOf}
 use Rattle.bit_words.proofs.Bits.{has-zeros}
 use Rattle.attach_dict.specs.Roots.{Roots, IsIn, AreRoots, AreNoRoots, IsOut, HasMoreRoots, HasFewerRoots}
 use Rattle.attach_dict.proofs.Counts.{count_none, count_more, count_less}
@@ -114,15 +114,3 @@ lowest_in set (Some k) are least = record {
   here = least.is;
   least = λ other is. ⊎_elim (λ (below : other < k). absurd (true≢false (sym is ∙ least.least other (omega arith) below))) (λ (from : k ≤ other). from) (cases_lt other k);
 }
-
--- a bit that is read
-pub has_in : (set : Roots) (root : ℕ) (result : Bool) → result ≡ has set.bits root → IsTrue result ↔ IsIn set root
-unfolding IsIn
-has_in set root result is = (λ test. sym is ∙ test, λ held. is ∙ held)
-
--- a set with a root has some
-pub some_in : (set : Roots) (root : ℕ) → AreRoots set → IsIn set root → 1 ≤ set.count
-some_in set root are held = ⊎_elim
-    (λ (some : 0 < set.count). omega (arith, some))
-    (λ (none : set.count ≤ 0). absurd (none_below (IsIn set) set.below set.count are.count_is (omega (arith, none)) root (are.inside root held) held))
-    (cases_lt 0 set.count)

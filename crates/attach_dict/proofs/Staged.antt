@@ -1,6 +1,6 @@
 -- A pair is made ready at the stage: its block is given, is written, and is freed again.
 use Rattle.std.proofs.Common.{◌≡◌, ◌≢◌, ℕ, suc, ◌+◌, ◌-◌, ◌/◌, ◌^◌, ◌<◌, ◌≤◌, List, ◌∷◌, length, get_or, Ok, Err, inl, inr, refl, sym, ap, ◌∙◌, subst, arith, ⊎_elim}
-use Rattle.attach_dict.proofs.Common.{word_at, PmemState, words_of, tables_of, heap, IsEitherHeap, ArenaState, IsAnswered, IsWriteAnswered, HasWritten, IsEitherWords, KeepsOthers, root_place}
+use Rattle.attach_dict.proofs.Common.{word_at, IsGreatestOf, PmemState, words_of, tables_of, heap, IsEitherHeap, ArenaState, IsAnswered, IsWriteAnswered, HasWritten, IsEitherWords, KeepsOthers, root_place}
 use Rattle.heap_model.specs.declared.call.Call.TheVariants as calls
 use Rattle.heap_model.specs.declared.call.Reply.TheVariants as replies
 use Rattle.attach_dict.specs.declared.index.DictIndex.{DictIndex}
@@ -19,7 +19,6 @@ use Rattle.attach_dict.proofs.Freed.{idle_is}
 use Rattle.attach_dict.proofs.Indexed.{value_in_is}
 use Rattle.attach_dict.proofs.Kept.{KeepsRoots, keeps_back, keeps_blocks, stale_same, next_same}
 use Rattle.attach_dict.proofs.Less.{none_not_some}
-use Rattle.attach_dict.specs.Index.{IsGreatestNumber}
 use Rattle.attach_dict.specs.Roots.{AreRoots}
 use Rattle.attach_dict.proofs.Room.{some_or_none, room_same, not_full, not_spent, not_last, next_number}
 use Rattle.attach_dict.proofs.Still.{leaves_by, whole_still, keeps_still}
@@ -29,10 +28,10 @@ pub stage_none : (words : List ℕ) → AreNoneStale words Idle → HasNone word
 stage_none words tidy = ⊎_elim (λ (some : HasSome words stage). absurd (tidy stage (inr (refl, some)))) (λ none. none) (some_or_none words stage)
 
 -- there is room for a pair where a root is free and the greatest number is not the last
-pub room_here : (old : ArenaState) (index : DictIndex) (key : ℕ) (progress : Progress) → IsWhole old index key progress → AreRoots index.free → index.free.count ≢ 0 → (greatest : ℕ) → IsGreatestNumber index.by_number greatest → greatest < 2 ^ 64 - 1 → HasRoomForPair (words_of old.device)
+pub room_here : (old : ArenaState) (index : DictIndex) (key : ℕ) (progress : Progress) → IsWhole old index key progress → AreRoots index.free → index.free.count ≢ 0 → (greatest : ℕ) → IsGreatestOf index.numbers greatest → greatest < 2 ^ 64 - 1 → HasRoomForPair (words_of old.device)
 room_here old index key progress whole are some greatest is less = record {
-  root = not_full (words_of old.device) index.by_key index.by_number index.free whole.indexes.orders are some;
-  number = not_spent (words_of old.device) whole.kept.exact index.by_key index.by_number index.free whole.indexes.orders greatest is less;
+  root = not_full (words_of old.device) index.free whole.indexes.tables.free_are are some;
+  number = not_spent (words_of old.device) whole.kept.exact index.keys index.numbers index.free whole.indexes.tables greatest is less;
 }
 
 -- a block is asked for
@@ -62,7 +61,7 @@ module _ (old new : ArenaState) (index : DictIndex) (key : ℕ) (whole : IsWhole
       did = e;
       tidy = still;
       keeps = keeps_still old new index key stages.Idle whole keeps e.step.bounds e.did.exact e.did.ready index whole.indexes.wide key stages.Idle tidy still tt
-          (leaves_by old new (IsEitherHeap (words_of old.device) (words_of new.device)) (IsSteadyDict (pairs_in (words_of old.device) index.by_key.ranked)) (λ image l. left_dict (words_of old.device) (words_of new.device) image (pairs_in (words_of old.device) index.by_key.ranked) whole.kept.dict others l) e.did);
+          (leaves_by old new (IsEitherHeap (words_of old.device) (words_of new.device)) (IsSteadyDict (pairs_in (words_of old.device) index.keys.rows)) (λ image l. left_dict (words_of old.device) (words_of new.device) image (pairs_in (words_of old.device) index.keys.rows) whole.kept.dict others l) e.did);
     }
 
   -- or it was given
@@ -89,7 +88,7 @@ module _ (old new : ArenaState) (index : DictIndex) (key : ℕ) (whole : IsWhole
         did = t.did;
         tidy = staged_still;
         keeps = keeps_still old new index key stages.Idle whole given_keeps t.did.step.bounds t.did.did.exact t.did.did.ready index whole.indexes.wide next (stages.Staged count) tidy staged_still at_staged
-            (leaves_by old new (IsEitherHeap (words_of old.device) (words_of new.device)) (IsSteadyDict (pairs_in (words_of old.device) index.by_key.ranked)) (λ image l. left_dict (words_of old.device) (words_of new.device) image (pairs_in (words_of old.device) index.by_key.ranked) whole.kept.dict (taken_others t) l) t.did.did);
+            (leaves_by old new (IsEitherHeap (words_of old.device) (words_of new.device)) (IsSteadyDict (pairs_in (words_of old.device) index.keys.rows)) (λ image l. left_dict (words_of old.device) (words_of new.device) image (pairs_in (words_of old.device) index.keys.rows) whole.kept.dict (taken_others t) l) t.did.did);
       };
     }
 
@@ -188,13 +187,13 @@ module _ (old new : ArenaState) (index after : DictIndex) (key : ℕ) (value : L
       filled_still,
     )
 
-    pub whole_filled : IsWhole new (record { by_key = index.by_key; by_number = index.by_number; free = index.free; stale = index.stale; block = after.block }) key stages.Filled
+    pub whole_filled : IsWhole new (record { keys = index.keys; numbers = index.numbers; free = index.free; stale = index.stale; block = after.block }) key stages.Filled
     whole_filled = whole_still old new index key (stages.Staged (length value)) whole kept_roots e.step.bounds e.did.exact e.did.ready after wide key stages.Filled none_was filled_still at_filled
 
-    pub has_filled : HasFilled (state_of old index key (stages.Staged (length value))) (state_of new (record { by_key = index.by_key; by_number = index.by_number; free = index.free; stale = index.stale; block = after.block }) key stages.Filled) key value
+    pub has_filled : HasFilled (state_of old index key (stages.Staged (length value))) (state_of new (record { keys = index.keys; numbers = index.numbers; free = index.free; stale = index.stale; block = after.block }) key stages.Filled) key value
     has_filled =
         let kept = keeps_still old new index key (stages.Staged (length value)) whole kept_roots e.step.bounds e.did.exact e.did.ready after wide key stages.Filled none_was filled_still at_filled
-        (leaves_by old new (IsEitherWords was is) (IsSteadyDict (pairs_in was index.by_key.ranked)) (λ image l. left_written room_for e image (pairs_in was index.by_key.ranked) whole.kept.dict l) e.did) in
+        (leaves_by old new (IsEitherWords was is) (IsSteadyDict (pairs_in was index.keys.rows)) (λ image l. left_written room_for e image (pairs_in was index.keys.rows) whole.kept.dict l) e.did) in
         record {
           number = number;
           next = next;
@@ -203,7 +202,7 @@ module _ (old new : ArenaState) (index after : DictIndex) (key : ℕ) (value : L
         }
 
 -- as the call has it
-module _ (old new : ArenaState) (index after : DictIndex) (key : ℕ) (progress : Progress) (whole : IsWhole old index key progress) (value : List ℕ) (asked : ℕ) (phase : phase_in (words_of old.device) key progress ≡ Staged asked (length value)) (greatest : ℕ) (greatest_is : IsGreatestNumber index.by_number greatest) where
+module _ (old new : ArenaState) (index after : DictIndex) (key : ℕ) (progress : Progress) (whole : IsWhole old index key progress) (value : List ℕ) (asked : ℕ) (phase : phase_in (words_of old.device) key progress ≡ Staged asked (length value)) (greatest : ℕ) (greatest_is : IsGreatestOf index.numbers greatest) where
   staged : IsStagedAs progress key asked (length value)
   staged = staged_is (words_of old.device) key progress asked (length value) phase
 
@@ -212,23 +211,23 @@ module _ (old new : ArenaState) (index after : DictIndex) (key : ℕ) (progress 
 
   -- the greatest number is not the last
   pub fill_room : greatest ≢ 2 ^ 64 - 1
-  fill_room = not_last (words_of old.device) whole.kept.exact index.by_key index.by_number index.free whole.indexes.orders greatest greatest_is whole_at.kept.at_stage.1.number
+  fill_room = not_last (words_of old.device) whole.kept.exact index.keys index.numbers index.free whole.indexes.tables greatest greatest_is whole_at.kept.at_stage.1.number
 
   next_is : IsNextNumber (words_of old.device) (greatest + 1)
-  next_is = next_number (words_of old.device) whole.kept.exact index.by_key index.by_number index.free whole.indexes.orders greatest greatest_is
+  next_is = next_number (words_of old.device) whole.kept.exact index.keys index.numbers index.free whole.indexes.tables greatest greatest_is
 
   module _ (wide : length after.block.items ≡ 512) (words : List ℕ) (words_are : words ≡ block_words key (greatest + 1) value) (e : IsWriteAnswered old new stage 0 words (Ok tt)) where
     did_write : IsWriteAnswered old new stage 0 (block_words key (greatest + 1) value) (Ok tt)
     did_write = subst (λ (ws : List ℕ). IsWriteAnswered old new stage 0 ws (Ok tt)) words_are e
 
-    pub fill_whole : IsWhole new (record { by_key = index.by_key; by_number = index.by_number; free = index.free; stale = index.stale; block = after.block }) key stages.Filled
+    pub fill_whole : IsWhole new (record { keys = index.keys; numbers = index.numbers; free = index.free; stale = index.stale; block = after.block }) key stages.Filled
     fill_whole = whole_filled old new index after key value (greatest + 1) whole_at next_is wide did_write
 
-    pub fill_done : (k : ℕ) → phase_in (words_of old.device) key progress ≡ Staged k (length value) → HasFilled (state_of old index key progress) (state_of new (record { by_key = index.by_key; by_number = index.by_number; free = index.free; stale = index.stale; block = after.block }) key stages.Filled) k value
+    pub fill_done : (k : ℕ) → phase_in (words_of old.device) key progress ≡ Staged k (length value) → HasFilled (state_of old index key progress) (state_of new (record { keys = index.keys; numbers = index.numbers; free = index.free; stale = index.stale; block = after.block }) key stages.Filled) k value
     fill_done k is =
         let as_k : IsStagedAs progress key k (length value) = staged_is (words_of old.device) key progress k (length value) is in
-        subst (λ (n : ℕ). HasFilled (state_of old index key progress) (state_of new (record { by_key = index.by_key; by_number = index.by_number; free = index.free; stale = index.stale; block = after.block }) key stages.Filled) n value) as_k.key_is
-        (subst (λ (p : Progress). HasFilled (state_of old index key p) (state_of new (record { by_key = index.by_key; by_number = index.by_number; free = index.free; stale = index.stale; block = after.block }) key stages.Filled) key value) (sym staged.progress_is)
+        subst (λ (n : ℕ). HasFilled (state_of old index key progress) (state_of new (record { keys = index.keys; numbers = index.numbers; free = index.free; stale = index.stale; block = after.block }) key stages.Filled) n value) as_k.key_is
+        (subst (λ (p : Progress). HasFilled (state_of old index key p) (state_of new (record { keys = index.keys; numbers = index.numbers; free = index.free; stale = index.stale; block = after.block }) key stages.Filled) key value) (sym staged.progress_is)
         (has_filled old new index after key value (greatest + 1) whole_at next_is wide did_write))
 
 -- the block is freed
@@ -262,5 +261,5 @@ module _ (old new : ArenaState) (index : DictIndex) (key : ℕ) (progress : Prog
     gone = freed_none f;
     tidy = none_now;
     keeps = keeps_still old new index key progress whole (freed_keeps f) f.did.step.bounds f.did.did.exact f.did.did.ready index whole.indexes.wide key stages.Idle none_here none_now tt
-        (leaves_by old new (IsEitherHeap (words_of old.device) (words_of new.device)) (IsSteadyDict (pairs_in (words_of old.device) index.by_key.ranked)) (λ image l. left_dict (words_of old.device) (words_of new.device) image (pairs_in (words_of old.device) index.by_key.ranked) whole.kept.dict (freed_others f) l) f.did.did);
+        (leaves_by old new (IsEitherHeap (words_of old.device) (words_of new.device)) (IsSteadyDict (pairs_in (words_of old.device) index.keys.rows)) (λ image l. left_dict (words_of old.device) (words_of new.device) image (pairs_in (words_of old.device) index.keys.rows) whole.kept.dict (freed_others f) l) f.did.did);
   }

@@ -1,5 +1,5 @@
 -- The stale roots of an image: each names a block, and how many they are.
-use Rattle.std.proofs.Common.{ℕ, ◌<◌, List, refl, sym, subst, arith, ⊎_elim}
+use Rattle.std.proofs.Common.{ℕ, ◌<◌, List, refl, sym, subst, ⊎_elim}
 use Rattle.attach_dict.proofs.Common.{bounds_of, IsExactImage, IsCount, none_below, rooted}
 use Rattle.attach_dict.specs.Dict.{HasSome}
 use Rattle.attach_dict.specs.Roots.{Roots, IsIn, AreRoots}
@@ -18,10 +18,10 @@ pub stale_rooted : (words : List ℕ) (phase : Phase) (root : ℕ) → IsExactIm
 stale_rooted words phase root exact so = let some = stale_some words phase root so in rooted words root some.range exact some.named
 
 -- how many are stale
-pub stale_counted : (words : List ℕ) (phase : Phase) (stale : Roots) → AreStaleRoots words phase (bounds_of words).roots stale → AreRoots stale → IsStaleCount words phase stale.count
+pub stale_counted : (words : List ℕ) (phase : Phase) (stale : Roots) → AreStaleRoots words phase stale → AreRoots stale → IsStaleCount words phase stale.count
 stale_counted words phase stale were are =
-    subst (λ (n : ℕ). IsCount (IsStale words phase) n stale.count) were.stale_below
-    (count_same (IsIn stale) (IsStale words phase) stale.below stale.count (λ k low is. were.are k is) (λ k low so. were.each k (omega (arith, low, were.stale_below)) so) are.count_is)
+    subst (λ (n : ℕ). IsCount (IsStale words phase) n stale.count) were.below
+    (count_same (IsIn stale) (IsStale words phase) stale.below stale.count (λ k low is. were.are k is) (λ k low so. were.each k so) are.count_is)
 
 -- none are exactly where there is none
 pub law_of_stale_counts : LawOfStaleCounts

@@ -4,6 +4,7 @@ pub mod Calls
 pub mod Roots
 pub mod View
 pub mod Index
+pub mod Heads
 pub mod Reading
 pub mod Steps
 pub mod Whole

@@ -1,16 +1,19 @@
 -- For the functions that read the blocks of an arena's roots, and make indexes of them.
-use Rattle.std.specs.Prelude.{◌≡◌, ◌⊎◌, ℕ, ◌+◌, ◌<◌, ◌≤◌, List, length, slice_index, Bool, true, false}
+use Rattle.std.specs.Prelude.{◌≡◌, ◌⊎◌, ℕ, ◌+◌, ◌<◌, ◌≤◌, List, length, slice_index, Option, Some, None}
+use Rattle.std.specs.List.{Contains}
 use Rattle.heap_check.specs.Image.{bounds_of}
-use Rattle.pair_order.specs.declared.order.Ranked.{Ranked}
+use Rattle.dict_index.specs.KeyRoots.{IsNew}
+use Rattle.attach_dict.specs.declared.heads.Head.{Head}
 use Rattle.attach_dict.specs.declared.index.DictIndex.{DictIndex}
 use Rattle.attach_dict.specs.declared.reading.Reading.{Reading}
 use Rattle.attach_dict.specs.declared.reading.Reading.TheVariants.{Empty, Unfit, Pair}
 use Rattle.attach_dict.specs.declared.refusal.OpenFault.{OpenFault}
 use Rattle.attach_dict.specs.declared.refusal.OpenFault.TheVariants as faults
-use Rattle.attach_dict.specs.Dict.{stage, head_words, most_values, HasSome, HasNone, HasPair, IsFit, IsMisfit, IsNotDict}
+use Rattle.attach_dict.specs.Dict.{stage, head_words, most_values, HasSome, HasNone, HasPair, IsPair, IsFit, IsNotDict}
 use Rattle.attach_dict.specs.Stages.{Idle}
-use Rattle.attach_dict.specs.Roots.{AreNoRoots}
-use Rattle.attach_dict.specs.View.{AreOrders, AreIndexes}
+use Rattle.attach_dict.specs.Roots.{AreNoRoots, HasMoreRoots}
+use Rattle.attach_dict.specs.Heads.{AreApart}
+use Rattle.attach_dict.specs.View.{AreNumbers, AreFreeRoots, AreIndexes}
 
 -- one root
 
@@ -21,10 +24,10 @@ pub record HoldsPair (words : List ℕ) (root : ℕ) : Type 0 where
   pub value : List ℕ
   pub pair : HasPair words root key number value
 
--- the block of a root is a pair of these numbers
-pub record HoldsPairOf (words : List ℕ) (r : Ranked) : Type 0 where
+-- the block of a root is a pair of this key and this number
+pub record HoldsHead (words : List ℕ) (h : Head) : Type 0 where
   pub value : List ℕ
-  pub pair : HasPair words r.root r.first r.second value
+  pub pair : HasPair words h.root h.key h.number value
 
 -- the block of a root is no pair
 pub record HoldsNoPair (words : List ℕ) (root : ℕ) : Type 0 where
@@ -35,12 +38,12 @@ pub record HoldsNoPair (words : List ℕ) (root : ℕ) : Type 0 where
 abbrev pub IsReadAs : List ℕ → ℕ → Reading → Type 0
 IsReadAs words root Empty = HasNone words root
 IsReadAs words root Unfit = HoldsNoPair words root
-IsReadAs words root (Pair r) = (r.root ≡ root) × HoldsPairOf words r
+IsReadAs words root (Pair h) = (h.root ≡ root) × HoldsHead words h
 
--- the words of a block are those of a pair of these numbers
-pub record AreWordsOfPair (block : List ℕ) (r : Ranked) : Type 0 where
-  pub first_is : r.first ≡ slice_index block 0
-  pub second_is : r.second ≡ slice_index block 1
+-- the words of a block are those of a pair of this key and this number
+pub record AreWordsOfPair (block : List ℕ) (h : Head) : Type 0 where
+  pub key_is : h.key ≡ slice_index block 0
+  pub number_is : h.number ≡ slice_index block 1
   pub few : slice_index block 2 ≤ most_values
   pub wide : head_words + slice_index block 2 ≤ length block
 
@@ -51,26 +54,40 @@ AreWordsOfNone block = (length block < head_words) ⊎ ((most_values < slice_ind
 abbrev pub IsReadOf : List ℕ → ℕ → Reading → Type 0
 IsReadOf block root Empty = ⊥
 IsReadOf block root Unfit = AreWordsOfNone block
-IsReadOf block root (Pair r) = (r.root ≡ root) × AreWordsOfPair block r
+IsReadOf block root (Pair h) = (h.root ≡ root) × AreWordsOfPair block h
 
 -- all roots
 
--- the blocks of the roots below an end, but the stage, are fit, and the indexes have them; none is said to be stale
-pub record IsScanned (words : List ℕ) (end : ℕ) (index : DictIndex) : Type 0 where
-  pub orders : AreOrders words end index.by_key index.by_number index.free
-  pub fit : (root : ℕ) → stage < root → root < end → HasSome words root → IsFit words root
+-- the heads of the pairs of the roots below an end
+pub record AreHeads (words : List ℕ) (end : ℕ) (heads : List Head) : Type 0 where
+  pub are : (h : Head) → Contains heads h → (stage < h.root) × HoldsHead words h
+  pub below : (h : Head) → Contains heads h → h.root < end
+  pub each : (root key number : ℕ) (value : List ℕ) → root < end → IsPair words root key number value → Contains heads (record { key = key; number = number; root = root })
+
+-- the block of each root below an end, but the stage, is a pair, where it has one
+abbrev pub ArePairs : List ℕ → ℕ → Type 0
+ArePairs words end = (root : ℕ) → stage < root → root < end → HasSome words root → HoldsPair words root
+
+-- the blocks of the roots below an end, but the stage, were read, and are pairs: the row has the head of each, once
+pub record IsScanned (words : List ℕ) (end : ℕ) (heads : List Head) (index : DictIndex) : Type 0 where
+  pub pairs : ArePairs words end
+  pub heads_are : AreHeads words end heads
+  pub apart : AreApart heads
+  pub numbers : AreNumbers words end index.numbers
+  pub free : AreFreeRoots words end index.free
+  pub keys : IsNew index.keys (bounds_of words).roots
   pub stale : AreNoRoots index.stale (bounds_of words).roots
   pub wide : length index.block.items ≡ 512
 
--- the block of a root was taken into the indexes, or is no fit one
-abbrev pub IsScannedBy : List ℕ → ℕ → DictIndex → Bool → Type 0
-IsScannedBy words root index true = IsScanned words (root + 1) index
-IsScannedBy words root index false = IsMisfit words root
+-- by the lowest root whose block is no pair: those below it were read, or all
+abbrev pub IsScannedTo : List ℕ → List Head → DictIndex → Option ℕ → Type 0
+IsScannedTo words heads index None = IsScanned words (bounds_of words).roots heads index
+IsScannedTo words heads index (Some root) = IsScanned words root heads index × (stage < root) × HoldsNoPair words root
 
--- every block but the stage's is fit, and the orders have all
-pub record IsReadThrough (words : List ℕ) (index : DictIndex) : Type 0 where
-  pub orders : AreOrders words (bounds_of words).roots index.by_key index.by_number index.free
-  pub fit : (root : ℕ) → stage < root → HasSome words root → IsFit words root
+-- the stage is stale too where it has a block
+abbrev pub IsStageTaken : List ℕ → DictIndex → DictIndex → Type 0
+IsStageTaken words old new =
+    (HasSome words stage × HasMoreRoots old.stale stage new.stale × (new ≡ record old { stale = new.stale })) ⊎ (HasNone words stage × (new ≡ old))
 
 -- the image is a dictionary, and the indexes are its own
 pub record IsIndexed (words : List ℕ) (index : DictIndex) : Type 0 where

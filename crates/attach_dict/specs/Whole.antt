@@ -7,10 +7,10 @@ use Rattle.attach_dict.specs.declared.progress.Progress.{Progress}
 use Rattle.attach_dict.specs.Stages.{DictState, IsKept}
 use Rattle.attach_dict.specs.View.{pairs_in, phase_in, AreIndexes}
 
--- its arena, its map and its phase, by its orders and how far a put has come
+-- its arena, its map and its phase, by the roots of its keys and how far a put has come
 abbrev pub state_of : ArenaState → DictIndex → ℕ → Progress → DictState
 state_of arena index key progress =
-    record { arena = arena; pairs = pairs_in (words_of arena.device) index.by_key.ranked; phase = phase_in (words_of arena.device) key progress }
+    record { arena = arena; pairs = pairs_in (words_of arena.device) index.keys.rows; phase = phase_in (words_of arena.device) key progress }
 
 -- the arena is kept as a dictionary has to keep it, and the indexes are those of its image
 pub record IsWhole (arena : ArenaState) (index : DictIndex) (key : ℕ) (progress : Progress) : Type 0 where

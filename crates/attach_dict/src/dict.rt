@@ -42,7 +42,7 @@ impl<P: Pmem> Dict<P> {
         ensures keys { HasNoneFrom self.now.pairs (2 ^ 64) }
         ensures kept { IsKept self.now }
     {
-        self.index.by_key.len() - self.index.stale_pairs()
+        self.index.keys.len()
     }
 
     /// There is no key.
@@ -65,8 +65,8 @@ impl<P: Pmem> Dict<P> {
         ensures got { IsGot self.now.pairs key result }
         ensures kept { IsKept self.now }
     {
-        match self.index.by_key.last_of(key) {
-            Some(pair) => Some(value_at(&self.arena, pair.root)),
+        match self.index.keys.get(key) {
+            Some(root) => Some(value_at(&self.arena, root)),
             None => None,
         }
     }
@@ -76,8 +76,8 @@ impl<P: Pmem> Dict<P> {
         ensures next { MatchOption result (HasNoneFrom self.now.pairs key) (λ found. IsNextFrom self.now.pairs key found.0 found.1.now) }
         ensures kept { IsKept self.now }
     {
-        match self.index.by_key.next_from(key) {
-            Some(pair) => Some((pair.first, value_at(&self.arena, pair.root))),
+        match self.index.keys.next_from(key) {
+            Some(pair) => Some((pair.key, value_at(&self.arena, pair.root))),
             None => None,
         }
     }

@@ -11,6 +11,7 @@
 #![tactic(auto)]
 
 mod dict;
+mod heads;
 mod index;
 mod layout;
 mod opening;

@@ -6,7 +6,7 @@ ghost use Rattle.attach_dict.specs.Stages.{Filled, IsKept, HasFilledPhase};
 use crate::dict::Dict;
 use crate::progress::Progress;
 use crate::steps::show_block;
-use pair_order::Ranked;
+use dict_index::Keyed;
 use pmem_lines::Pmem;
 
 impl<P: Pmem> Dict<P> {
@@ -19,13 +19,11 @@ impl<P: Pmem> Dict<P> {
         ensures published { (key : ℕ) (value : List ℕ) → self.old.phase ≡ Filled key value → HasPublished self.old self.new key value }
         ensures kept { IsKept self.new }
     {
-        let pair = Ranked {
-            root: self.index.free.lowest().unwrap(),
-            first: self.key,
-            second: self.index.greatest_number() + 1,
-        };
-        show_block(&mut self.arena, pair.root);
-        self.index.put_pair(pair);
+        let root = self.index.free.lowest().unwrap();
+        let number = self.index.numbers.greatest() + 1;
+        show_block(&mut self.arena, root);
+        let key = self.key;
+        self.index.put_pair(Keyed { key, root }, number);
         self.progress = Progress::Idle;
     }
 }

@@ -6,9 +6,9 @@ ghost use Rattle.arena_core.specs.Call.{IsReady};
 ghost use Rattle.attach_dict.specs.Reading.{IsReadAs, IsReadOf, HoldsPair};
 ghost use Rattle.attach_dict.specs.View.{value_in};
 
+use crate::heads::Head;
 use crate::layout::{HEAD_WORDS, MOST_VALUES};
 use arena_core::Arena;
-use pair_order::Ranked;
 use pmem_lines::Pmem;
 use pool_layout::{fields_at, layout_of};
 
@@ -20,7 +20,7 @@ pub(crate) enum Reading {
     /// No pair.
     Unfit,
     /// A pair, by its key and its number.
-    Pair(Ranked),
+    Pair(Head),
 }
 
 /// How many roots an arena has.
@@ -55,10 +55,10 @@ fn read_pair(words: &[u64], root: u32) -> Reading
     if words.len() - HEAD_WORDS < words[2] as usize {
         return Reading::Unfit;
     }
-    Reading::Pair(Ranked {
+    Reading::Pair(Head {
+        key: words[0],
+        number: words[1],
         root,
-        first: words[0],
-        second: words[1],
     })
 }
 

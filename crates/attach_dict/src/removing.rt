@@ -19,10 +19,10 @@ impl<P: Pmem> Dict<P> {
         ensures removed { IsRemovedBy self.old self.new key result }
         ensures kept { IsKept self.new }
     {
-        match self.index.by_key.last_of(key) {
-            Some(pair) => {
-                free_block(&mut self.arena, pair.root);
-                self.index.drop_pair(pair.root);
+        match self.index.keys.remove(key) {
+            Some(root) => {
+                free_block(&mut self.arena, root);
+                self.index.release(root);
                 Ok(())
             }
             None => Err(Absent),

@@ -1,9 +1,9 @@
 // Sets of roots.
-ghost use Rattle.std.specs.Prelude.{◌≡◌, ◌^◌, ◌<◌, ◌≤◌, ◌↔◌, IsTrue, IfOk};
+ghost use Rattle.std.specs.Prelude.{◌≡◌, ◌^◌, ◌<◌, ◌≤◌, IfOk};
 ghost use Rattle.image_defects.specs.Least.{IsLeastOf};
 ghost use Rattle.attach_dict.specs.Roots.{IsIn, AreRoots, AreNoRoots, IsOut, HasMoreRoots, HasFewerRoots};
 
-use bit_words::{has, least_in, put};
+use bit_words::{least_in, put};
 use pmem_lines::OutOfMemory;
 use std::alloc::Global;
 use std::marker::Model;
@@ -47,14 +47,6 @@ impl RootSet {
         ensures sound { AreRoots self.now }
     {
         self.count
-    }
-
-    /// A root below the number is in it.
-    pub(crate) fn contains(&self, root: u32) -> bool
-        requires { root < self.now.below }
-        ensures { IsTrue result ↔ IsIn self.now root }
-    {
-        has(&self.bits, root)
     }
 
     /// A root that is not in it comes.

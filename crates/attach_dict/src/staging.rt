@@ -28,7 +28,7 @@ impl<P: Pmem> Dict<P> {
         if self.index.free.len() == 0 {
             return Err(StageRefusal::Full);
         }
-        if self.index.greatest_number() == u64::MAX {
+        if self.index.numbers.greatest() == u64::MAX {
             return Err(StageRefusal::NumbersSpent);
         }
         take_block(&mut self.arena, count)?;
@@ -45,7 +45,7 @@ impl<P: Pmem> Dict<P> {
         ensures filled { (key : ℕ) → self.old.phase ≡ Staged key (length value.now) → HasFilled self.old self.new key value.now }
         ensures kept { IsKept self.new }
     {
-        let number = self.index.greatest_number() + 1;
+        let number = self.index.numbers.greatest() + 1;
         lay_out(&mut self.index.block, self.key, number, value);
         let words = HEAD_WORDS + value.len();
         fill_block(&mut self.arena, &self.index.block[..words]);

@@ -2,9 +2,12 @@
 // journals. The trace comes on standard input. The word `workers` has a worker for each thread make the calls, through the
 // locks of a pool, as `replay` does; the word `alone` has one caller make them in the order of the lines, without a pool; and the
 // word `queue` has one caller send each to the queue of a server's one arena, and then the arena's owner serve it.
-// Standard output has the number of calls of each arena, standard error the time. It serves `bench/`, and nothing of it is
-// promised but that it is safe.
+// Standard output has the number of calls of each arena, standard error the time. The word `events` times nothing: it has the
+// calls made on the one arena, and standard output has their events, as `event_text` says. It serves `bench/`, and nothing of
+// it is promised but that it is safe.
 #![tactic(auto)]
+
+mod event_text;
 
 ghost use Rattle.std.specs.Prelude.{◌≡◌, ◌<◌, ◌^◌, false, length, IfOk};
 ghost use Rattle.std.specs.List.{All};
@@ -15,13 +18,14 @@ ghost use Rattle.trace_text.specs.Grammar.{pool_of, IsPool, IsTraceCall};
 use arena_core::Arena;
 use arena_journal::answer;
 use arena_server::{Owner, Sender, Server};
+use event_text::write_calls;
 use heap_model::Entry;
 use pmem_lines::{OutOfMemory, SimPmem};
 use pool_layout::layout_of;
 use server_tests::{Single, open_one};
 use shared_pool::OpenGate;
 use std::alloc::{AllocError, Global};
-use std::io::Read;
+use std::io::{Read, Write};
 use std::process::ExitCode;
 use std::rt::Runtime;
 use std::sync::Wait;
@@ -44,6 +48,13 @@ enum Caller {
     Workers,
     Alone,
     Queue,
+}
+
+/// What is to be done with a trace.
+#[derive(Clone, Copy)]
+enum Task {
+    Time(Caller),
+    Events,
 }
 
 /// Why there is no time.
@@ -82,16 +93,17 @@ impl From<TextFault> for Fault {
     }
 }
 
-/// The caller that the words name.
-fn caller_named<R: Runtime>(rt: &R) -> Result<Caller, Fault> {
+/// The task that the words name.
+fn task_named<R: Runtime>(rt: &R) -> Result<Task, Fault> {
     let mut words = env::args(rt)?.skip(1);
     let (Some(word), None) = (words.next(), words.next()) else {
         return Err(Fault::Usage);
     };
     match word.as_str() {
-        "workers" => Ok(Caller::Workers),
-        "alone" => Ok(Caller::Alone),
-        "queue" => Ok(Caller::Queue),
+        "workers" => Ok(Task::Time(Caller::Workers)),
+        "alone" => Ok(Task::Time(Caller::Alone)),
+        "queue" => Ok(Task::Time(Caller::Queue)),
+        "events" => Ok(Task::Events),
         _ => Err(Fault::Usage),
     }
 }
@@ -214,20 +226,43 @@ fn serve_each<R: Wait>(
     served
 }
 
-/// Times the calls, and says how many each arena had.
-fn time_calls<R: Runtime + Threads + Wait + Sync, S: Read + Drop>(
+/// Does what the words say with the trace of the input. Events are written to the sink.
+fn do_task<R: Runtime + Threads + Wait + Sync, S: Read + Drop, W: Write>(
     rt: &R,
     alloc: Global,
     input: S,
+    sink: &mut W,
 ) -> Result<(), Fault> {
-    let caller = caller_named(rt)?;
+    let task = task_named(rt)?;
     let trace = trace_of(input, alloc)?;
-    let arenas = arenas_for(alloc, &trace)?;
+    let mut arenas = arenas_for(alloc, &trace)?;
+    match task {
+        Task::Time(caller) => time_calls(rt, alloc, caller, &trace, arenas),
+        Task::Events if arenas.len() == 1 => {
+            write_calls(alloc, &mut arenas[0], &trace.calls, sink)
+        }
+        Task::Events => Err(Fault::NoTrace),
+    }
+}
+
+/// Times the calls, and says how many each arena had.
+fn time_calls<R: Runtime + Threads + Wait + Sync>(
+    rt: &R,
+    alloc: Global,
+    caller: Caller,
+    trace: &Trace,
+    arenas: Vec<Arena<SimPmem>>,
+) -> Result<(), Fault>
+    requires pool { IsPool (pool_of trace.now) }
+    requires each { All (IsTraceCall trace.now.arenas) trace.now.calls.items }
+    requires few { length trace.now.calls.items < 2 ^ 32 }
+    requires all { length arenas.items ≡ trace.now.arenas }
+{
     let begun = Instant::now(rt)?;
     let counts = match caller {
-        Caller::Workers => by_workers(rt, alloc, &trace, arenas)?,
-        Caller::Alone => by_one_caller(alloc, &trace, arenas)?,
-        Caller::Queue if arenas.len() == 1 => by_queue(rt, alloc, &trace, arenas)?,
+        Caller::Workers => by_workers(rt, alloc, trace, arenas)?,
+        Caller::Alone => by_one_caller(alloc, trace, arenas)?,
+        Caller::Queue if arenas.len() == 1 => by_queue(rt, alloc, trace, arenas)?,
         Caller::Queue => return Err(Fault::NoTrace),
     };
     let took = begun.elapsed(rt)?.as_nanos();
@@ -240,9 +275,9 @@ fn time_calls<R: Runtime + Threads + Wait + Sync, S: Read + Drop>(
 }
 
 fn main(rt: HostRuntime) -> ExitCode {
-    let line = match time_calls(&rt, rt.alloc(), rt.stdin()) {
+    let line = match do_task(&rt, rt.alloc(), rt.stdin(), &mut rt.stdout()) {
         Ok(()) => return ExitCode::SUCCESS,
-        Err(Fault::Usage) => "usage: call_times workers, alone, queue",
+        Err(Fault::Usage) => "usage: call_times workers, alone, queue, events",
         Err(Fault::Outside) => "read, write or clock fault",
         Err(Fault::Memory) => "out of memory",
         Err(Fault::NoTrace) => "no trace",

@@ -1,70 +1,109 @@
--- The search for the slab that takes a class: the candidates come in order, so the first one that is ready is the best. And what it
--- finds is what the choice of the machine asks for.
-use Rattle.std.proofs.Common.{◌≡◌, ◌≢◌, ℕ, ◌+◌, ◌-◌, ◌*◌, ◌<◌, ◌≤◌, length, Option, Some, None, MatchOption, IfSome, sym, ◌∙◌, subst, arith, inl, inr, ⊎_elim}
-use Rattle.heap_indexes.proofs.Common.{cases_lt, Bounds, Machine, IsOverlapFree, IsBestSlab, HasNoFitSlab, slab_view, live_below, view_of, Lives, Units, law_of_unused_blocks, Indexes, AreIndexesOf, IsInTransition}
+-- The search for the slab that takes a class: the candidates come in order, so the first one that is ready is the best; what was
+-- found unfit stays known. And what it finds is what the choice of the machine asks for.
+use Rattle.std.proofs.Common.{◌≡◌, ◌≢◌, ◌⊎◌, ◌==◌, ◌&&◌, if◌then◌else◌, ℕ, ◌+◌, ◌-◌, ◌*◌, ◌<◌, ◌≤◌, Bool, true, false, List, slice_index, slice_index_or, refl, ap, length, Option, Some, None, MatchOption, IfSome, sym, ◌∙◌, subst, arith, inl, inr, ⊎_elim}
+use Rattle.heap_indexes.proofs.Common.{cases_lt, class_capacity, slab_block, IsUnused, Bounds, Machine, IsOverlapFree, IsBestSlab, HasNoFitSlab, slab_view, live_below, view_of, Lives, Units, law_of_unused_blocks, Indexes, AreIndexesOf, IsInTransition}
 use Rattle.heap_model.specs.Choice.{IsFit}
 use Rattle.slab_index.specs.declared.candidates.Candidate.{Candidate}
-use Rattle.slab_index.specs.Candidates.{IsBefore}
-use Rattle.slab_lives.specs.Lives.{IsSparse, HasNoSparse, IsFirstSparse, HasNoSparseBehind, IsNextSparse}
+use Rattle.slab_lives.specs.Lives.{normal_at, IsSparse, HasNoSparse, IsFirstSparse}
+use Rattle.slab_index.specs.Unfit.{is_unfit}
+use Rattle.std.proofs.lemmas.Bool.{cases_eq, cond-true, false_from_ne_true, false≢true, and_from, and_parts, eq-eqb, eqb-true}
 use Rattle.unit_map.specs.Blocks.{HasNoClearBlock, IsFirstClearBlock}
-use Rattle.heap_indexes.specs.Fitting.{HasClearBlock, HasNoReady, IsFirstReady}
-
--- the order of candidates
+use Rattle.heap_indexes.specs.Fitting.{HasClearBlock, HasNoReady, IsFirstReady, AreNotedBesides}
 
 -- how far a candidate is from the last place that one may have
 abbrev pub left_behind : Option Candidate → ℕ
 left_behind None = 0
 left_behind (Some found) = 300000 - (4096 * found.live + found.start)
 
--- a place that another is not before is that one, or before it
-ordered : (n s live start : ℕ) → ¬ (IsBefore n s live start) → (s ≢ start) → IsBefore live start n s
-ordered n s live start behind differ = ⊎_elim
-    (λ (less : live < n). inl less)
-    (λ (most : n ≤ live). ⊎_elim
-    (λ (more : n < live). absurd (behind (inl more)))
-    (λ (from : live ≤ n). ⊎_elim
-    (λ (before : start < s). inr (omega (arith, most, from), before))
-    (λ (to : s ≤ start). absurd (behind (inr (omega (arith, most, from), omega (arith, to, differ)))))
-    (cases_lt start s))
-    (cases_lt n live))
-    (cases_lt live n)
+-- the same row has the same slabs
+same_normal : (lives next : Lives) → next.normal ≡ lives.normal → (s : ℕ) → normal_at lives s ≡ normal_at next s
+unfolding normal_at
+same_normal lives next normal s = ap (λ (row : List (Option ℕ)). slice_index_or row s None) (sym normal)
+
+-- either way
+always : (b : Bool) → (if b then true else true) ≡ true
+always true = refl
+always false = refl
+
+-- what is not said to be is not
+unsaid : (b : Bool) → ¬ (b ≡ true) → b ≡ false
+unsaid b differs = false_from_ne_true b differs
+
+-- the slabs that are searched
 
 module _ (lives : Lives) (units : Units) (class : ℕ) where
-  -- A candidate is such a slab, and none before it is ready; where there is none any more, no slab is.
-  abbrev pub IsSought : Option Candidate → Type 0
-  IsSought None = HasNoReady lives units class
-  IsSought (Some found) = IsSparse lives class found.start found.live × ((s n : ℕ) → IsSparse lives class s n → HasClearBlock units class s → ¬ (IsBefore n s found.live found.start))
+  -- where there is no candidate no slab is ready
+  pub none_ready : HasNoSparse lives class → HasNoReady lives units class
+  none_ready none = record { none = λ s n sparse ready. none.none s n sparse }
 
-  -- what the first candidate is, and what the one behind another
-  pub first_sought : (next : Option Candidate) → MatchOption next (HasNoSparse lives class) (IsFirstSparse lives class) → IsSought next
-  first_sought None none = record { none = λ s n sparse ready. none.none s n sparse }
-  first_sought (Some found) first = (first.is, λ s n sparse ready. first.first s n sparse)
-
-  -- the one that has no clear block isn't
-  unready : (start : ℕ) → HasNoClearBlock units start class 0 → ¬ (HasClearBlock units class start)
-  unready start none ready = none.none ready.number (omega arith) ready.within ready.clear
-
-  comes_behind : (found : Candidate) → IsSought (Some found) → HasNoClearBlock units found.start class 0 → (s n : ℕ) → IsSparse lives class s n → HasClearBlock units class s → IsBefore found.live found.start n s
-  comes_behind found sought none s n sparse ready = ordered n s found.live found.start (sought.1 s n sparse ready) (λ same. unready found.start none (subst (HasClearBlock units class) same ready))
-
-  pub next_sought : (found : Candidate) → IsSought (Some found) → HasNoClearBlock units found.start class 0 → (next : Option Candidate) → MatchOption next (HasNoSparseBehind lives class found.live found.start) (IsNextSparse lives class found.live found.start) → IsSought next
-  next_sought found sought unfit None none = record { none = λ s n sparse ready. none.none s n (comes_behind found sought unfit s n sparse ready) sparse }
-  next_sought found sought unfit (Some later) next = (next.is, λ s n sparse ready. next.first s n sparse (comes_behind found sought unfit s n sparse ready))
-
-  -- one that is ready is the first
-  pub best_sought : (found : Candidate) (number : ℕ) → IsSought (Some found) → IsFirstClearBlock units found.start class 0 number → IsFirstReady lives units class found.start
-  best_sought found number sought clear = record {
+  -- the first candidate is the first that is ready, if it is
+  pub best_sought : (found : Candidate) (number : ℕ) → IsFirstSparse lives class found → IsFirstClearBlock units found.start class 0 number → IsFirstReady lives units class found.start
+  best_sought found number first clear = record {
     live = found.live;
-    is = sought.0;
+    is = first.is;
     clear = record { number = number; within = clear.within; clear = clear.clear };
-    first = λ s n sparse ready. sought.1 s n sparse ready;
+    first = λ s n sparse ready. first.first s n sparse;
   }
 
--- a candidate behind another is nearer to the end
-pub smaller : (lives : Lives) (class : ℕ) (found : Candidate) (next : Option Candidate) → IsSparse lives class found.start found.live → length lives.counts ≤ 4096 → found.start < length lives.counts →
-    MatchOption next (HasNoSparseBehind lives class found.live found.start) (IsNextSparse lives class found.live found.start) → IfSome next (λ later. later.start < length lives.counts) → left_behind next < left_behind (Some found)
-smaller lives class found None is size inside next within = omega (arith, is.few, inside, size)
-smaller lives class found (Some later) is size inside next within = omega (arith, next.behind, next.is.few, within, inside, size)
+-- what is noted leaves the normal slabs
+pub was_normal : (old lives : Lives) → lives ≡ record old { unfit = lives.unfit } → (s : ℕ) → normal_at old s ≡ normal_at lives s
+was_normal old lives same s = same_normal old lives (ap (λ (l : Lives). l.normal) same) s
+
+-- nothing is noted yet
+pub noted_none : (lives : Lives) (units : Units) (class : ℕ) → AreNotedBesides lives units class lives
+noted_none lives units class = record { same = refl; each = λ c s known. inl known }
+
+-- one that is not ready is noted
+pub noted_more : {old lives next : Lives} {units : Units} {class : ℕ} (start : ℕ) → AreNotedBesides old units class lives → HasNoClearBlock units start class 0 → next.counts ≡ lives.counts → next.normal ≡ lives.normal →
+    ((c s : ℕ) → is_unfit next.unfit c s ≡ (if s == start && c == class then true else is_unfit lives.unfit c s)) → AreNotedBesides old units class next
+noted_more {old} {lives} {next} {units} {class} start so_far none counts normal noted = record {
+  same = λ i. record { counts = (counts ∙ ap (λ (l : Lives). l.counts) so_far.same) i; normal = (normal ∙ ap (λ (l : Lives). l.normal) so_far.same) i; unfit = next.unfit };
+  each = λ c s known. by c s (s == start && c == class) refl known;
+}
+  where
+    unready : ¬ (HasClearBlock units class start)
+    unready ready = none.none ready.number (omega arith) ready.within ready.clear
+
+    by : (c s : ℕ) (b : Bool) → (s == start && c == class) ≡ b → is_unfit next.unfit c s ≡ true → (is_unfit old.unfit c s ≡ true) ⊎ ((c ≡ class) × ¬ (HasClearBlock units class s))
+    by c s true is known = let parts = and_parts (s == start) (c == class) is in inr (eqb-true c class parts.1, subst (λ k. ¬ (HasClearBlock units class k)) (sym (eqb-true s start parts.0)) unready)
+    by c s false is known = so_far.each c s (sym (noted c s ∙ ap (λ b. if b then true else is_unfit lives.unfit c s) is) ∙ known)
+
+-- a candidate that comes once one was noted is nearer to the end
+smaller_by : (lives next : Lives) (class : ℕ) (found : Candidate) (later : Option Candidate) → IsFirstSparse lives class found → length lives.counts ≤ 4096 → found.start < length lives.counts → next.counts ≡ lives.counts → next.normal ≡ lives.normal →
+    ((c s : ℕ) → is_unfit next.unfit c s ≡ (if s == found.start && c == class then true else is_unfit lives.unfit c s)) → MatchOption later (HasNoSparse next class) (IsFirstSparse next class) → IfSome later (λ more. more.start < length next.counts) → left_behind later < left_behind (Some found)
+smaller_by lives next class found None first size inside counts normal noted none within = omega (arith, first.is.few, inside, size)
+smaller_by lives next class found (Some later) first size inside counts normal noted second within =
+    let is = second.is in
+    let known : (s : ℕ) → is_unfit lives.unfit class s ≡ true → is_unfit next.unfit class s ≡ true = λ s was. noted class s ∙ ap (λ b. if s == found.start && class == class then true else b) was ∙ always (s == found.start && class == class) in
+    let before : IsSparse lives class later.start later.live = record {
+      own = is.own;
+      slab = same_normal lives next normal later.start ∙ is.slab;
+      count = is.count ∙ ap (λ (n : List ℕ). slice_index n later.start) counts;
+      differs = is.differs;
+      few = is.few;
+      sparse = is.sparse;
+      sought = unsaid (is_unfit lives.unfit class later.start) (λ was. false≢true (sym is.sought ∙ known later.start was));
+    } in
+    let differ : later.start ≢ found.start = λ same. false≢true (sym is.sought ∙ noted class later.start ∙ cond-true (later.start == found.start && class == class) true (is_unfit lives.unfit class later.start) (and_from (later.start == found.start) (class == class) (eq-eqb later.start found.start same) (eq-eqb class class refl))) in
+    let behind = first.first later.start later.live before in
+    let few = first.is.few in
+    let low : later.start < 4096 = omega (arith, within, size, ap (λ (n : List ℕ). length n) counts) in
+    ⊎_elim
+    (λ (less : later.live < found.live). absurd (behind (inl less)))
+    (λ (most : found.live ≤ later.live). ⊎_elim
+    (λ (same : later.live ≡ found.live). ⊎_elim
+    (λ (lower : later.start < found.start). absurd (behind (inr (same, lower))))
+    (λ (upper : found.start ≤ later.start). omega (arith, same, upper, differ, low, few, is.few))
+    (cases_lt later.start found.start))
+    (λ (more : later.live ≢ found.live). omega (arith, more, most, low, few, is.few, inside, size))
+    (cases_eq later.live found.live))
+    (cases_lt later.live found.live)
+
+-- as the search has it
+pub smaller : (old lives next : Lives) (units : Units) (class : ℕ) (found : Candidate) (later : Option Candidate) → AreNotedBesides old units class lives → length old.counts ≤ 4096 → IsFirstSparse lives class found → found.start < length lives.counts → next.counts ≡ lives.counts → next.normal ≡ lives.normal →
+    ((c s : ℕ) → is_unfit next.unfit c s ≡ (if s == found.start && c == class then true else is_unfit lives.unfit c s)) → MatchOption later (HasNoSparse next class) (IsFirstSparse next class) → IfSome later (λ more. more.start < length next.counts) → left_behind later < left_behind (Some found)
+smaller old lives next units class found later so_far few first inside counts normal noted second within =
+    smaller_by lives next class found later first (omega (arith, few, ap (λ (l : Lives). length l.counts) so_far.same)) inside counts normal noted second within
 
 -- the choice of the machine
 
@@ -75,7 +114,11 @@ module _ {b : Bounds} {m : Machine} {x : Indexes} (apart : IsOverlapFree b m) (a
       let normal = (are.lives.normal s sparse.own).0 sparse.slab in
       (normal.0, normal.1, sparse.count ∙ are.lives.counts s sparse.own normal.0)
 
-  -- a fit slab is sparse, and has a clear block
+  -- a fit slab was not found unfit
+  sought : (s : ℕ) → IsFit (slab_view (view_of b m)) class s → is_unfit x.lives.unfit class s ≡ false
+  sought s fit = unsaid (is_unfit x.lives.unfit class s) (λ noted. are.lives.unfit s fit.class class fit.number fit.slab is_class noted fit.block.within fit.block.unused)
+
+  -- so it is sparse, and it has a clear block
   sparse_of_fit : (s : ℕ) (fit : IsFit (slab_view (view_of b m)) class s) → IsSparse x.lives class s (live_below m.block s b.roots)
   sparse_of_fit s fit = record {
     own = fit.class;
@@ -84,6 +127,7 @@ module _ {b : Bounds} {m : Machine} {x : Indexes} (apart : IsOverlapFree b m) (a
     differs = fit.differs;
     few = fit.few;
     sparse = fit.sparse;
+    sought = sought s fit;
   }
 
   clear_of_fit : (s : ℕ) → IsFit (slab_view (view_of b m)) class s → HasClearBlock x.units class s
@@ -120,3 +164,23 @@ module _ {b : Bounds} {m : Machine} {x : Indexes} (apart : IsOverlapFree b m) (a
             (λ most. most)
             (cases_lt t start);
       }
+
+  -- with more slabs noted they are indexes of the state still
+  pub noted_indexes : (lives : Lives) → AreNotedBesides x.lives x.units class lives → AreIndexesOf b m (record x { lives = lives })
+  noted_indexes lives noted = subst (λ (l : Lives). AreIndexesOf b m (record x { lives = l })) (sym noted.same) (record {
+    sized = record { least = are.sized.least; most = are.sized.most; first = are.sized.first; roots = are.sized.roots; free = are.sized.free; slabs = are.sized.slabs; counts = are.sized.counts; strangers = are.sized.strangers; units = are.sized.units };
+    placed = are.placed;
+    free = are.free;
+    supply = are.supply;
+    lives = record {
+      counts = are.lives.counts;
+      none = are.lives.none;
+      normal = λ s c. (λ is. (are.lives.normal s c).0 (same_normal x.lives (record x.lives { unfit = lives.unfit }) refl s ∙ is), λ is. sym (same_normal x.lives (record x.lives { unfit = lives.unfit }) refl s) ∙ (are.lives.normal s c).1 is);
+      unfit = λ s own c i slab known told within unused. ⊎_elim
+          (λ was. are.lives.unfit s own c i slab known was within unused)
+          (λ here. here.1 (record { number = i; within = subst (λ k. i < class_capacity k) here.0 within; clear = (law_of_unused_blocks b m x.units s own class i are.units apart slab is_class (subst (λ k. i < class_capacity k) here.0 within)).1 (subst (λ k. IsUnused m (slab_block s k i)) here.0 unused) }))
+          (noted.each c s told);
+    };
+    strangers = are.strangers;
+    units = are.units;
+  })

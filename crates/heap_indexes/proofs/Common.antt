@@ -28,3 +28,4 @@ pub use Rattle.unit_map.specs.Blocks.{first_unit, unit_count, IsOnUnits, IsClear
 pub use Rattle.unit_map.proofs.StateUnits.{law_of_placed_units, law_of_freed_units, law_of_kept_units, law_of_unused_blocks}
 pub use Rattle.heap_indexes.specs.Indexes.{Indexes, is_stranger, strangers_below, AreSizedFor, IsInSomeSlab, AreInSlabs, IsFreeSetOf, IsSupplyOf, AreLivesOf, AreStrangersOf, AreIndexesOf, HaveState}
 pub use Rattle.heap_indexes.specs.Kept.{loosened, closed, IsBlockAt, HasChanged, HasOpened, HasNoneOpen, IsBehindHeader}
+pub use Rattle.slab_index.specs.Unfit.{is_unfit}

@@ -1,6 +1,6 @@
 -- The indexes after the parts of a free.
-use Rattle.std.proofs.Common.{MatchOption, IsSome, ◌≡◌, ◌≢◌, ◌⊎◌, ◌↔◌, ◌==◌, ℕ, ◌+◌, ◌-◌, ◌*◌, ◌/◌, ◌<◌, ◌≤◌, List, length, slice_index, Option, Some, None, if◌then◌else◌, refl, sym, ap, ◌∙◌, subst, arith, ⊎_elim, true≢false}
-use Rattle.heap_indexes.proofs.Common.{cases_eq, class_size, class_capacity, class_size-most, Bounds, Machine, Range, with_key, slab_block, LiesIn, IsLarge, IsBlockOf, IsOverlapFree, live_below, class_known, LiesIn-block, with_key-other, FreeSet, IsFree, IsHeldRow, class_in, Lives, normal_at, Supply, MayBeGiven, IsWith, IsInSlabOf, IsInNoSlabOf, HasSlabLess, Units, IsRangeCleared, law_of_freed_units, Indexes, AreIndexesOf, strangers_below, loosened, closed, HasOpened, HasNoneOpen, IsBehindHeader, eq-eqb, eqb-true}
+use Rattle.std.proofs.Common.{false, MatchOption, IsSome, ◌≡◌, ◌≢◌, ◌⊎◌, ◌↔◌, ◌==◌, ℕ, ◌+◌, ◌-◌, ◌*◌, ◌/◌, ◌<◌, ◌≤◌, List, length, slice_index, Option, Some, None, if◌then◌else◌, refl, sym, ap, ◌∙◌, subst, arith, ⊎_elim, true≢false}
+use Rattle.heap_indexes.proofs.Common.{is_unfit, cases_eq, class_size, class_capacity, class_size-most, Bounds, Machine, Range, with_key, slab_block, LiesIn, IsLarge, IsBlockOf, IsOverlapFree, live_below, class_known, LiesIn-block, with_key-other, FreeSet, IsFree, IsHeldRow, class_in, Lives, normal_at, Supply, MayBeGiven, IsWith, IsInSlabOf, IsInNoSlabOf, HasSlabLess, Units, IsRangeCleared, law_of_freed_units, Indexes, AreIndexesOf, strangers_below, loosened, closed, HasOpened, HasNoneOpen, IsBehindHeader, eq-eqb, eqb-true}
 use Rattle.heap_indexes.proofs.Machines.{one_lost, one_slab, placed_less, lies_in, block_some, IsOverlapFree-loosened}
 use Rattle.heap_indexes.proofs.Granules.{free_small_less, free_given, held_own, free_closed, held_slab}
 use Rattle.heap_indexes.proofs.Supplies.{supply_returned, supply_opened, supply_closed, none_covered, used_block}
@@ -104,9 +104,9 @@ module _ {b : Bounds} {m : Machine} {x : Indexes} (apart : IsOverlapFree b m) (a
     own_counted = omega (arith, count_some (one_lost b m root block apart named) (IsOverlapFree-loosened b m root apart) start class slab block_lies (block_some start class number within) x.lives are.lives)
 
     pub own_back : (supply : Supply) (lives : Lives) (units : Units) → IsWith x.supply supply start number → IsRangeCleared x.units (slab_block start class number) units → length lives.counts ≡ length x.lives.counts →
-        ((s : ℕ) → slice_index lives.counts s ≡ (if s == start then slice_index x.lives.counts s - 1 else slice_index x.lives.counts s)) → ((s : ℕ) → normal_at lives s ≡ normal_at x.lives s) →
+        ((k o : ℕ) → is_unfit lives.unfit k o ≡ (if o == start then false else is_unfit x.lives.unfit k o)) → ((s : ℕ) → slice_index lives.counts s ≡ (if s == start then slice_index x.lives.counts s - 1 else slice_index x.lives.counts s)) → ((s : ℕ) → normal_at lives s ≡ normal_at x.lives s) →
         AreIndexesOf b (loosened m root) (record x { supply = supply; lives = lives; units = units })
-    own_back supply lives units came cleared size lowered normal =
+    own_back supply lives units came cleared size unfit lowered normal =
         let one = one_lost b m root block apart named in
         let less = IsOverlapFree-loosened b m root apart in
         let some = block_some start class number within in
@@ -126,7 +126,7 @@ module _ {b : Bounds} {m : Machine} {x : Indexes} (apart : IsOverlapFree b m) (a
           placed = placed_less one are.placed;
           free = free_small_less one x.free small are.free;
           supply = supply_returned one x.supply supply start class number apart slab within refl are.supply came;
-          lives = lives_lowered one less start class slab block_lies some x.lives lives are.lives lowered (normal_returned one less start class slab block_lies some refl x.lives lives are.lives normal);
+          lives = lives_lowered one less start class slab block_lies some x.lives lives are.lives unfit lowered (normal_returned one less start class slab block_lies some refl x.lives lives are.lives normal);
           strangers = strangers_returned one less start class slab block_lies some refl x.strangers are.strangers;
           units = law_of_freed_units b m (loosened m root) root block x.units units are.units apart named (λ r. refl) (λ large. omega (arith, large, small)) cleared;
         }
@@ -146,10 +146,10 @@ module _ {b : Bounds} {m : Machine} {x : Indexes} (apart : IsOverlapFree b m) (a
     stranger_covers = none_covered {m = m} x.supply root start class range are.supply named slab
 
     pub stranger_back : (supply : Supply) (lives : Lives) (strangers : List ℕ) (units : Units) (left : ℕ) → HasOpened units x.supply start class range supply → IsRangeCleared x.units range units → length lives.counts ≡ length x.lives.counts →
-        ((s : ℕ) → slice_index lives.counts s ≡ (if s == start then slice_index x.lives.counts s - 1 else slice_index x.lives.counts s)) → left ≡ slice_index x.strangers start - 1 →
+        ((k o : ℕ) → is_unfit lives.unfit k o ≡ (if o == start then false else is_unfit x.lives.unfit k o)) → ((s : ℕ) → slice_index lives.counts s ≡ (if s == start then slice_index x.lives.counts s - 1 else slice_index x.lives.counts s)) → left ≡ slice_index x.strangers start - 1 →
         ((s : ℕ) → normal_at lives s ≡ (if left == 0 then with_key (normal_at x.lives) start (Some class) s else normal_at x.lives s)) → length strangers ≡ length x.strangers → ((s : ℕ) → slice_index strangers s ≡ (if s == start then left else slice_index x.strangers s)) →
         AreIndexesOf b (loosened m root) (record { free = x.free; supply = supply; lives = lives; strangers = strangers; units = units })
-    stranger_back supply lives strangers units left opened cleared size lowered is normal wide put =
+    stranger_back supply lives strangers units left opened cleared size unfit lowered is normal wide put =
         let one = one_lost b m root range apart named in
         let less = IsOverlapFree-loosened b m root apart in
         let some = apart.sized root range named in
@@ -171,7 +171,7 @@ module _ {b : Bounds} {m : Machine} {x : Indexes} (apart : IsOverlapFree b m) (a
           placed = placed_less one are.placed;
           free = free_small_less one x.free small are.free;
           supply = supply_opened one x.supply supply start class units apart less slab lies units_are are.supply opened;
-          lives = lives_lowered one less start class slab lies some x.lives lives are.lives lowered (normal_lowered one less start class slab lies some other apart x.lives lives left (left == 0) are.lives left_is (λ done. eqb-true left 0 done) (λ not_done zero_is. true≢false (sym (eq-eqb left 0 zero_is) ∙ not_done)) normal);
+          lives = lives_lowered one less start class slab lies some x.lives lives are.lives unfit lowered (normal_lowered one less start class slab lies some other apart x.lives lives left (left == 0) are.lives left_is (λ done. eqb-true left 0 done) (λ not_done zero_is. true≢false (sym (eq-eqb left 0 zero_is) ∙ not_done)) normal);
           strangers = strangers_lowered one less start class slab lies some other x.strangers strangers left are.strangers is put;
           units = units_are;
         }
@@ -186,8 +186,8 @@ module _ {b : Bounds} {m : Machine} {x : Indexes} (apart : IsOverlapFree b m) (a
     }
 
     pub slab_back : (free : FreeSet) (supply : Supply) (lives : Lives) → slice_index x.lives.counts start ≡ 0 → free.granules ≡ x.free.granules → ((k : ℕ) → IsFree free k ↔ (IsFree x.free k ⊎ ((start ≤ k) × (k < start + 4)))) → HasSlabLess x.supply supply start →
-        lives.counts ≡ x.lives.counts → ((s : ℕ) → normal_at lives s ≡ with_key (normal_at x.lives) start None s) → (live_below m.block start b.roots ≡ 0) × AreIndexesOf b (closed m start) (record x { free = free; supply = supply; lives = lives })
-    slab_back free supply lives none granules given gone counts normal =
+        lives.counts ≡ x.lives.counts → ((k o : ℕ) → is_unfit lives.unfit k o ≡ (if o == start then false else is_unfit x.lives.unfit k o)) → ((s : ℕ) → normal_at lives s ≡ with_key (normal_at x.lives) start None s) → (live_below m.block start b.roots ≡ 0) × AreIndexesOf b (closed m start) (record x { free = free; supply = supply; lives = lives })
+    slab_back free supply lives none granules given gone counts unfit normal =
         let bare = sym (are.lives.counts start class slab) ∙ none in (
           bare,
           record {
@@ -212,7 +212,7 @@ module _ {b : Bounds} {m : Machine} {x : Indexes} (apart : IsOverlapFree b m) (a
             };
             free = free_closed b m start class x.free free apart slab are.free given;
             supply = supply_closed m start class x.supply supply are.supply gone;
-            lives = lives_closed b m start class x.lives lives are.lives none counts normal;
+            lives = lives_closed b m start class x.lives lives are.lives none counts unfit normal;
             strangers = strangers_closed b m start class x.strangers are.strangers;
             units = units_same m (closed m start) x.units (λ r. refl) are.units;
           },

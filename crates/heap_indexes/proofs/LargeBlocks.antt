@@ -11,13 +11,13 @@ module _ {b : Bounds} {less more : Machine} {root : ℕ} {range : Range} (one : 
   away : (s c : ℕ) → less.slab s ≡ Some c → 16384 * s ≤ range.at → range.at < 16384 * s + 65536 → ⊥
   away s c slab low high = ⊎_elim (λ x. omega (arith, x, low, some)) (λ x. omega (arith, x, high)) (off s c slab)
 
-  block_off : (s c i : ℕ) → less.slab s ≡ Some c → i < class_capacity c → AreApart (slab_block s c i) range
-  block_off s c i slab within =
+  block_off : (s own c i : ℕ) → less.slab s ≡ Some own → i < class_capacity c → AreApart (slab_block s c i) range
+  block_off s own c i slab within =
       let lies = LiesIn-block s c (slab_block s c i) (record { number = i; within = within; is = refl }) in
-      ⊎_elim (λ before. inr (omega (arith, before, lies.low))) (λ behind. inl (omega (arith, behind, lies.high))) (off s c slab)
+      ⊎_elim (λ before. inr (omega (arith, before, lies.low))) (λ behind. inl (omega (arith, behind, lies.high))) (off s own slab)
 
   unused_same : (s c i : ℕ) → less.slab s ≡ Some c → i < class_capacity c → IsUnused less (slab_block s c i) ↔ IsUnused more (slab_block s c i)
-  unused_same s c i slab within = (unused_more one (slab_block s c i) (block_off s c i slab within), unused_less one (slab_block s c i))
+  unused_same s c i slab within = (unused_more one (slab_block s c i) (block_off s c c i slab within), unused_less one (slab_block s c i))
 
   count_same : (s c : ℕ) → less.slab s ≡ Some c → live_below more.block s b.roots ≡ live_below less.block s b.roots
   count_same s c slab =
@@ -56,6 +56,7 @@ module _ {b : Bounds} {less more : Machine} {root : ℕ} {range : Range} (one : 
       λ is. let was = (are.normal s c).0 is in (one.slab s ∙ was.0, λ moving. was.1 (moving_as s c was.0 moving)),
       λ is. (are.normal s c).1 (sym (one.slab s) ∙ is.0, λ moving. is.1 (moving_more one s moving)),
     );
+    unfit = λ s own c i here known noted within unused. are.unfit s own c i (sym (one.slab s) ∙ here) known noted within (unused_less one (slab_block s c i) unused);
   }
 
   pub lives_without : (lives : Lives) → AreLivesOf b more lives → AreLivesOf b less lives
@@ -66,6 +67,7 @@ module _ {b : Bounds} {less more : Machine} {root : ℕ} {range : Range} (one : 
       λ is. let here = (are.normal s c).0 is in (sym (one.slab s) ∙ here.0, λ moving. here.1 (moving_more one s moving)),
       λ is. (are.normal s c).1 (one.slab s ∙ is.0, λ moving. is.1 (moving_as s c is.0 moving)),
     );
+    unfit = λ s own c i was known noted within unused. are.unfit s own c i (one.slab s ∙ was) known noted within (unused_more one (slab_block s c i) (block_off s own c i was within) unused);
   }
 
   pub strangers_with : (strangers : List ℕ) → AreStrangersOf b less strangers → AreStrangersOf b more strangers

@@ -1,7 +1,8 @@
 -- The live blocks of slabs, the strangers among them and the normal slabs, as blocks and slabs come and go.
-use Rattle.std.proofs.Common.{◌≡◌, ◌≢◌, ◌↔◌, ◌==◌, not, ℕ, ◌+◌, ◌-◌, ◌*◌, ◌<◌, ◌≤◌, Bool, true, false, List, slice_index, Option, Some, None, if◌then◌else◌, refl, sym, ap, ◌∙◌, subst, arith, ⊎_elim, ◌/◌}
-use Rattle.heap_indexes.proofs.Common.{cases_eq, cases_lt, cases_Bool, cond-true, cond-false, eq-eqb, ne_eqb, and_left, false_from_ne_true, class_size, class_size-rises, Bounds, Machine, Range, with_key, LiesIn, IsFreeGranule, IsFreeRow, IsOverlapFree, is_within, begins_in, live_below, IsInTransition, with_class, with_key-here, with_key-other, with_key-cases, one_if, live_given, begins_in-here, begins_in-true, begins_at, BeginsIn, live_below-some, live_below-none, Lives, normal_at, Units, AreUnitsOf, law_of_kept_units, is_stranger, strangers_below, AreLivesOf, AreStrangersOf, closed}
-use Rattle.heap_indexes.proofs.Machines.{some_same, IsOneMore, one_slab, lies_in}
+use Rattle.std.proofs.Common.{◌≡◌, ◌≢◌, ◌↔◌, ◌==◌, not, ℕ, ◌+◌, ◌-◌, ◌*◌, ◌<◌, ◌≤◌, Bool, true, false, List, slice_index, Option, Some, None, if◌then◌else◌, refl, sym, ap, ◌∙◌, subst, arith, inl, inr, ⊎_elim, ◌/◌}
+use Rattle.heap_indexes.proofs.Common.{is_unfit, class_capacity, slab_block, AreApart, LiesIn-block, cases_eq, cases_lt, cases_Bool, cond-true, cond-false, eq-eqb, ne_eqb, and_left, false_from_ne_true, class_size, class_size-rises, Bounds, Machine, Range, with_key, LiesIn, IsFreeGranule, IsFreeRow, IsOverlapFree, is_within, begins_in, live_below, IsInTransition, with_class, with_key-here, with_key-other, with_key-cases, one_if, live_given, begins_in-here, begins_in-true, begins_at, BeginsIn, live_below-some, live_below-none, Lives, normal_at, Units, AreUnitsOf, law_of_kept_units, is_stranger, strangers_below, AreLivesOf, AreStrangersOf, closed}
+use Rattle.std.proofs.lemmas.Bool.{false≢true}
+use Rattle.heap_indexes.proofs.Machines.{some_same, IsOneMore, unused_less, unused_more, one_slab, lies_in}
 use Rattle.heap_indexes.proofs.StrangerBlocks.{stranger_from, stranger_size, stranger_away, strangers_given, strangers_most, strangers_all, moving_some, moving_none, moving_more, moving_less}
 
 -- classes of one size are one
@@ -19,6 +20,13 @@ pub off_start : {X : Type 0} (s start : ℕ) (here there : X) → s ≢ start �
 off_start s start here there differ = cond-false (s == start) here there (ne_eqb s start differ)
 
 -- blocks
+
+-- what is known of a slab, where nothing is of one, is known of another
+pub other_noted : (start s : ℕ) (b : Bool) → (if s == start then false else b) ≡ true → (s ≢ start) × (b ≡ true)
+other_noted start s b known = ⊎_elim
+    (λ (here : s ≡ start). absurd (false≢true (sym (at_start s start false b here) ∙ known)))
+    (λ (there : s ≢ start). (there, sym (off_start s start false b there) ∙ known))
+    (cases_eq s start)
 
 -- the block of a range comes into the slab at a start, or goes from it
 module _ {b : Bounds} {less more : Machine} {root : ℕ} {range : Range} (one : IsOneMore b less more root range) (apart : IsOverlapFree b less) (start class : ℕ) (slab : less.slab start ≡ Some class) (lies : LiesIn start range) (some : 0 < range.size) where
@@ -42,9 +50,18 @@ module _ {b : Bounds} {less more : Machine} {root : ℕ} {range : Range} (one : 
   pub count_some : (lives : Lives) → AreLivesOf b more lives → (slice_index lives.counts start ≡ live_below less.block start b.roots + 1)
   count_some lives are = are.counts start class (one.slab start ∙ slab) ∙ count_here
 
-  pub lives_raised : (old new : Lives) → AreLivesOf b less old → ((s : ℕ) → slice_index new.counts s ≡ (if s == start then slice_index old.counts s + 1 else slice_index old.counts s)) →
+  -- a block of another slab is apart from it
+  block_there : (s own c i : ℕ) → less.slab s ≡ Some own → s ≢ start → c < 36 → i < class_capacity c → AreApart (slab_block s c i) range
+  block_there s own c i other differ known within =
+      let inside = LiesIn-block s c (slab_block s c i) (record { number = i; within = within; is = refl }) in
+      ⊎_elim
+      (λ before. inl (omega (arith, before, inside.high, lies.low)))
+      (λ behind. inr (omega (arith, behind, inside.low, lies.high)))
+      (apart.slabs_apart s start own class differ other slab)
+
+  pub lives_raised : (old new : Lives) → AreLivesOf b less old → new.unfit ≡ old.unfit → ((s : ℕ) → slice_index new.counts s ≡ (if s == start then slice_index old.counts s + 1 else slice_index old.counts s)) →
       ((s c : ℕ) → normal_at new s ≡ Some c ↔ ((more.slab s ≡ Some c) × ¬ (IsInTransition more s))) → AreLivesOf b more new
-  lives_raised old new are raised normal = record {
+  lives_raised old new are unfit raised normal = record {
     counts = λ s c here.
         let was = sym (one.slab s) ∙ here in
         ⊎_elim
@@ -60,11 +77,13 @@ module _ {b : Bounds} {less more : Machine} {root : ℕ} {range : Range} (one : 
         let differ : s ≢ start = λ same. absurd (let had : less.slab s ≡ Some class = ap less.slab same ∙ slab in cc) in
         raised s ∙ off_start s start _ _ differ ∙ are.none s was;
     normal = normal;
+    unfit = λ s own c i here known noted within unused.
+        are.unfit s own c i (sym (one.slab s) ∙ here) known (ap (λ (set : List ℕ). is_unfit set c s) (sym unfit) ∙ noted) within (unused_less one (slab_block s c i) unused);
   }
 
-  pub lives_lowered : (old new : Lives) → AreLivesOf b more old → ((s : ℕ) → slice_index new.counts s ≡ (if s == start then slice_index old.counts s - 1 else slice_index old.counts s)) →
+  pub lives_lowered : (old new : Lives) → AreLivesOf b more old → ((k o : ℕ) → is_unfit new.unfit k o ≡ (if o == start then false else is_unfit old.unfit k o)) → ((s : ℕ) → slice_index new.counts s ≡ (if s == start then slice_index old.counts s - 1 else slice_index old.counts s)) →
       ((s c : ℕ) → normal_at new s ≡ Some c ↔ ((less.slab s ≡ Some c) × ¬ (IsInTransition less s))) → AreLivesOf b less new
-  lives_lowered old new are lowered normal = record {
+  lives_lowered old new are unfit lowered normal = record {
     counts = λ s c was.
         let here = one.slab s ∙ was in
         ⊎_elim
@@ -79,6 +98,9 @@ module _ {b : Bounds} {less more : Machine} {root : ℕ} {range : Range} (one : 
         let differ : s ≢ start = λ same. absurd (let had : less.slab s ≡ Some class = ap less.slab same ∙ slab in cc) in
         lowered s ∙ off_start s start _ _ differ ∙ are.none s (one.slab s ∙ was);
     normal = normal;
+    unfit = λ s own c i was known noted within unused.
+        let other = other_noted start s _ (sym (unfit c s) ∙ noted) in
+        are.unfit s own c i (one.slab s ∙ was) known other.1 within (unused_more one (slab_block s c i) (block_there s own c i was other.0 known within) unused);
   }
 
   -- in other slabs it is no stranger
@@ -192,8 +214,8 @@ module _ (b : Bounds) (m : Machine) (start class : ℕ) where
   -- a slab has the class now, and all that live in it are strangers: it is normal where none does
   module _ (apart : IsOverlapFree b (with_class m start class)) (all : strangers_below m.block start class b.roots ≡ live_below m.block start b.roots) where
     pub lives_classed : (old new : Lives) (calm : Bool) → AreLivesOf b m old → slice_index old.counts start ≡ live_below m.block start b.roots → (calm ≡ true → slice_index old.counts start ≡ 0) → (calm ≡ false → slice_index old.counts start ≢ 0) →
-        new.counts ≡ old.counts → ((s : ℕ) → normal_at new s ≡ with_key (normal_at old) start (if calm then Some class else None) s) → AreLivesOf b (with_class m start class) new
-    lives_classed old new calm are count when_calm when_not same put = record {
+        new.counts ≡ old.counts → ((k o : ℕ) → is_unfit new.unfit k o ≡ (if o == start then false else is_unfit old.unfit k o)) → ((s : ℕ) → normal_at new s ≡ with_key (normal_at old) start (if calm then Some class else None) s) → AreLivesOf b (with_class m start class) new
+    lives_classed old new calm are count when_calm when_not same unfit put = record {
       counts = λ s c slab. ap (λ (xs : List ℕ). slice_index xs s) same ∙ ⊎_elim
           (λ here. subst (λ k. slice_index old.counts k ≡ live_below m.block k b.roots) (sym here.0) count)
           (λ there. are.counts s c there.1)
@@ -210,6 +232,9 @@ module _ (b : Bounds) (m : Machine) (start class : ℕ) where
             λ n. now ∙ (are.normal s c).1 (sym (with_key-other m.slab start s (Some class) differ) ∙ n.0, λ moving. n.1 (moving_back m start s (Some class) differ moving)),
           ))
           (cases_eq s start);
+      unfit = λ s own c i slab known noted within unused.
+          let other = other_noted start s _ (sym (unfit c s) ∙ noted) in
+          are.unfit s own c i (sym (with_key-other m.slab start s (Some class) other.0) ∙ slab) known other.1 within (record { each = unused.each });
     }
       where
         slab_now : with_key m.slab start (Some class) start ≡ Some class
@@ -241,8 +266,8 @@ module _ (b : Bounds) (m : Machine) (start class : ℕ) where
     }
 
   -- a slab leaves in which no block lives
-  pub lives_closed : (old new : Lives) → AreLivesOf b m old → slice_index old.counts start ≡ 0 → new.counts ≡ old.counts → ((s : ℕ) → normal_at new s ≡ with_key (normal_at old) start None s) → AreLivesOf b (closed m start) new
-  lives_closed old new are count same put = record {
+  pub lives_closed : (old new : Lives) → AreLivesOf b m old → slice_index old.counts start ≡ 0 → new.counts ≡ old.counts → ((k o : ℕ) → is_unfit new.unfit k o ≡ (if o == start then false else is_unfit old.unfit k o)) → ((s : ℕ) → normal_at new s ≡ with_key (normal_at old) start None s) → AreLivesOf b (closed m start) new
+  lives_closed old new are count same unfit put = record {
     counts = λ s c slab. ap (λ (xs : List ℕ). slice_index xs s) same ∙ ⊎_elim (λ here. absurd (let is = here.1 in cc)) (λ there. are.counts s c there.1) (with_key-cases m.slab start s None (Some c) slab);
     none = λ s slab. ap (λ (xs : List ℕ). slice_index xs s) same ∙ ⊎_elim (λ here. subst (λ k. slice_index old.counts k ≡ 0) (sym here.0) count) (λ there. are.none s there.1) (with_key-cases m.slab start s None None slab);
     normal = λ s c. ⊎_elim
@@ -256,6 +281,9 @@ module _ (b : Bounds) (m : Machine) (start class : ℕ) where
           λ n. now ∙ (are.normal s c).1 (sym (with_key-other m.slab start s None differ) ∙ n.0, λ moving. n.1 (moving_back m start s None differ moving)),
         ))
         (cases_eq s start);
+    unfit = λ s own c i slab known noted within unused.
+        let other = other_noted start s _ (sym (unfit c s) ∙ noted) in
+        are.unfit s own c i (sym (with_key-other m.slab start s None other.0) ∙ slab) known other.1 within (record { each = unused.each });
   }
 
   pub strangers_closed : (strangers : List ℕ) → AreStrangersOf b m strangers → AreStrangersOf b (closed m start) strangers

@@ -1,7 +1,7 @@
 -- The indexes after the parts of a malloc.
 use Rattle.std.proofs.Common.{MatchOption, IsSome, ◌≡◌, ◌≢◌, ◌⊎◌, ◌↔◌, ◌==◌, ℕ, ◌+◌, ◌*◌, ◌/◌, ◌<◌, ◌≤◌, ◌^◌, true, false, true≢false, List, length, slice_index, Option, Some, None, if◌then◌else◌, refl, sym, ap, ◌∙◌, subst, arith, inl, inr, ⊎_elim}
 use Rattle.std.proofs.lemmas.Nat.{le-div}
-use Rattle.heap_indexes.proofs.Common.{HasNoOpen, HasSlabLess, IsClearRange, with_key-here, with_key-other, cases_eq, class_size, class_capacity, class_size-most, class_size-least, class_size-aligned, Bounds, Machine, Range, with_key, slab_block, IsBlockOf, IsUnused, IsFreeGranule, IsOverlapFree, IsBestFit, IsFreeRow, with_block, with_class, LiesIn-block, IsOverlapFree-morph, IsOverlapFree-slab, IsUnused-free, fit_free, live_below-most, FreeSet, IsFree, class_in, SlabBlock, Lives, normal_at, Supply, MayBeGiven, TookBlock, HasSlabMore, IsClearOf, Units, IsOnUnits, IsRangeMarked, law_of_placed_units, Indexes, AreIndexesOf, HasChanged, eq-eqb, eqb-true}
+use Rattle.heap_indexes.proofs.Common.{is_unfit, HasNoOpen, HasSlabLess, IsClearRange, with_key-here, with_key-other, cases_eq, class_size, class_capacity, class_size-most, class_size-least, class_size-aligned, Bounds, Machine, Range, with_key, slab_block, IsBlockOf, IsUnused, IsFreeGranule, IsOverlapFree, IsBestFit, IsFreeRow, with_block, with_class, LiesIn-block, IsOverlapFree-morph, IsOverlapFree-slab, IsUnused-free, fit_free, live_below-most, FreeSet, IsFree, class_in, SlabBlock, Lives, normal_at, Supply, MayBeGiven, TookBlock, HasSlabMore, IsClearOf, Units, IsOnUnits, IsRangeMarked, law_of_placed_units, Indexes, AreIndexesOf, HasChanged, eq-eqb, eqb-true}
 use Rattle.heap_model.specs.Choice.Site.{Granules, InSlab}
 use Rattle.heap_indexes.specs.Fitting.{IsFirstReady}
 use Rattle.heap_indexes.proofs.Machines.{one_given, placed_more, placed_class, block_some}
@@ -48,9 +48,9 @@ module _ {b : Bounds} {m : Machine} {x : Indexes} (apart : IsOverlapFree b m) (a
 
   -- a block of a slab of the class was taken out of the supply, for a root that names nothing
   pub taken_indexes : (supply : Supply) (lives : Lives) (units : Units) (seat class : ℕ) (block : SlabBlock) (root : ℕ) → root < b.roots → m.block root ≡ None → TookBlock x.supply seat class block supply →
-      IsRangeMarked x.units (slab_block block.start class block.number) units → length lives.counts ≡ length x.lives.counts → ((s : ℕ) → slice_index lives.counts s ≡ (if s == block.start then slice_index x.lives.counts s + 1 else slice_index x.lives.counts s)) → ((s : ℕ) → normal_at lives s ≡ normal_at x.lives s) →
+      IsRangeMarked x.units (slab_block block.start class block.number) units → lives.unfit ≡ x.lives.unfit → length lives.counts ≡ length x.lives.counts → ((s : ℕ) → slice_index lives.counts s ≡ (if s == block.start then slice_index x.lives.counts s + 1 else slice_index x.lives.counts s)) → ((s : ℕ) → normal_at lives s ≡ normal_at x.lives s) →
       AreIndexesOf b (with_block m root (InSlab block.start class block.number)) (record x { supply = supply; lives = lives; units = units })
-  taken_indexes supply lives units seat class block root below none took marked size raised normal =
+  taken_indexes supply lives units seat class block root below none took marked unfit size raised normal =
       let range = slab_block block.start class block.number in
       let one = one_given b m root range below none in
       let home = slab_of block.start class took.slab in
@@ -73,7 +73,7 @@ module _ {b : Bounds} {m : Machine} {x : Indexes} (apart : IsOverlapFree b m) (a
         placed = placed_more one (λ _. record { start = block.start; class = class; slab = home.slab; own = class; block = is_block }) are.placed;
         free = free_small one x.free small are.free;
         supply = supply_taken one x.supply supply block.start class block.number apart home.slab took.within refl are.supply took.without;
-        lives = lives_raised one apart block.start class home.slab lies some x.lives lives are.lives raised (normal_taken one apart block.start class home.slab lies some refl x.lives lives are.lives normal);
+        lives = lives_raised one apart block.start class home.slab lies some x.lives lives are.lives unfit raised (normal_taken one apart block.start class home.slab lies some refl x.lives lives are.lives normal);
         strangers = strangers_taken one apart block.start class home.slab lies some refl x.strangers are.strangers;
         units = law_of_placed_units m (with_block m root (InSlab block.start class block.number)) root range x.units units are.units none (λ r. refl) (λ large. omega (arith, large, small)) (block_on_units block.start class block.number home.known) marked;
       }
@@ -141,9 +141,9 @@ module _ {b : Bounds} {m : Machine} {x : Indexes} (apart : IsOverlapFree b m) (a
   -- a slab was made on them
   pub opened_indexes : (free : FreeSet) (supply : Supply) (lives : Lives) (strangers : List ℕ) (start class : ℕ) → IsBestFit (IsFree x.free) 4 start → class < 36 → free.granules ≡ x.free.granules →
       ((k : ℕ) → IsFree free k ↔ (IsFree x.free k × ((k < start) ⊎ (start + 4 ≤ k)))) → HasSlabMore x.supply supply start class (λ i. i < class_capacity class) → lives.counts ≡ x.lives.counts →
-      ((s : ℕ) → normal_at lives s ≡ with_key (normal_at x.lives) start (Some class) s) → length strangers ≡ length x.strangers → ((s : ℕ) → slice_index strangers s ≡ (if s == start then 0 else slice_index x.strangers s)) →
+      ((k o : ℕ) → is_unfit lives.unfit k o ≡ (if o == start then false else is_unfit x.lives.unfit k o)) → ((s : ℕ) → normal_at lives s ≡ with_key (normal_at x.lives) start (Some class) s) → length strangers ≡ length x.strangers → ((s : ℕ) → slice_index strangers s ≡ (if s == start then 0 else slice_index x.strangers s)) →
       AreIndexesOf b (with_class m start class) (record { free = free; supply = supply; lives = lives; strangers = strangers; units = x.units })
-  opened_indexes free supply lives strangers start class fit known granules taken more counts normal size put =
+  opened_indexes free supply lives strangers start class fit known granules taken more counts unfit normal size put =
       let none = no_slab_there start fit in
       let after = apart_opened start class fit in
       let bare = none_begin b m start apart (free_row start fit) in
@@ -164,7 +164,7 @@ module _ {b : Bounds} {m : Machine} {x : Indexes} (apart : IsOverlapFree b m) (a
         placed = placed_class m start class are.placed;
         free = free_opened b m start class x.free free none are.free taken;
         supply = supply_classed m start class x.supply supply known are.supply more.classes (λ i within. (λ _. unused_fresh start class i fit within, λ _. (more.here i).1 within)) more.others;
-        lives = lives_classed b m start class after all x.lives lives true are.lives (zero_is ∙ sym bare) (λ _. zero_is) (λ is. absurd (true≢false is)) counts normal;
+        lives = lives_classed b m start class after all x.lives lives true are.lives (zero_is ∙ sym bare) (λ _. zero_is) (λ is. absurd (true≢false is)) counts unfit normal;
         strangers = strangers_classed b m start class after all x.strangers strangers 0 are.strangers (sym bare) put;
         units = units_same m (with_class m start class) x.units (λ r. refl) are.units;
       }
@@ -174,9 +174,9 @@ module _ {b : Bounds} {m : Machine} {x : Indexes} (apart : IsOverlapFree b m) (a
   apart_changed start class ready = IsOverlapFree-morph b m start class ready.is.own apart ((are.lives.normal start ready.is.own).0 ready.is.slab).0
 
   pub changed_indexes : (supply : Supply) (lives : Lives) (strangers : List ℕ) (start class live : ℕ) → class < 36 → IsFirstReady x.lives x.units class start → HasChanged x.units x.supply start class supply → live ≡ slice_index x.lives.counts start → lives.counts ≡ x.lives.counts →
-      ((s : ℕ) → normal_at lives s ≡ with_key (normal_at x.lives) start (if live == 0 then Some class else None) s) → length strangers ≡ length x.strangers → ((s : ℕ) → slice_index strangers s ≡ (if s == start then live else slice_index x.strangers s)) →
+      ((k o : ℕ) → is_unfit lives.unfit k o ≡ (if o == start then false else is_unfit x.lives.unfit k o)) → ((s : ℕ) → normal_at lives s ≡ with_key (normal_at x.lives) start (if live == 0 then Some class else None) s) → length strangers ≡ length x.strangers → ((s : ℕ) → slice_index strangers s ≡ (if s == start then live else slice_index x.strangers s)) →
       AreIndexesOf b (with_class m start class) (record { free = x.free; supply = supply; lives = lives; strangers = strangers; units = x.units })
-  changed_indexes supply lives strangers start class live known ready changed is counts normal size put =
+  changed_indexes supply lives strangers start class live known ready changed is counts unfit normal size put =
       let d = ready.is.own in
       let was = (are.lives.normal start d).0 ready.is.slab in
       let after = apart_changed start class ready in
@@ -197,7 +197,7 @@ module _ {b : Bounds} {m : Machine} {x : Indexes} (apart : IsOverlapFree b m) (a
         placed = placed_class m start class are.placed;
         free = free_changed b m start class d x.free was.0 are.free;
         supply = supply_classed m start class x.supply supply known are.supply (changed_classes x.units x.supply supply start class changed) (changed_here x.units x.supply supply start class d apart are.units was.0 changed) (changed_others x.units x.supply supply start class changed);
-        lives = lives_classed b m start class after all x.lives lives (live == 0) are.lives count (λ zero_is. sym is ∙ eqb-true live 0 zero_is) (λ some zero_is. true≢false (sym (eq-eqb live 0 (is ∙ zero_is)) ∙ some)) counts normal;
+        lives = lives_classed b m start class after all x.lives lives (live == 0) are.lives count (λ zero_is. sym is ∙ eqb-true live 0 zero_is) (λ some zero_is. true≢false (sym (eq-eqb live 0 (is ∙ zero_is)) ∙ some)) counts unfit normal;
         strangers = strangers_classed b m start class after all x.strangers strangers live are.strangers (is ∙ count) put;
         units = units_same m (with_class m start class) x.units (λ r. refl) are.units;
       }

@@ -1,5 +1,5 @@
 -- What a malloc takes of the stacks, and what a free puts back, is what the placement says.
-use Rattle.std.proofs.Common.{◌≡◌, ◌⊎◌, ◌↔◌, not, ℕ, ◌+◌, ◌*◌, ◌<◌, ◌≤◌, [], Some, None, refl, sym, ap, ◌∙◌, subst, inl, inr, ⊎_elim, length}
+use Rattle.std.proofs.Common.{◌≡◌, ◌⊎◌, ◌↔◌, not, ℕ, ◌+◌, ◌*◌, ◌<◌, ◌≤◌, [], Option, Some, None, refl, sym, ap, ◌∙◌, subst, inl, inr, ⊎_elim, length}
 use Rattle.std.specs.List.{filter}
 use Rattle.heap_indexes.proofs.Common.{class_size, class_capacity, IsClassOf, granules_of, Bounds, Machine, Range, with_key, slab_block, IsBlockOf, IsOverlapFree, IsBestFit, HasNoFit, IsBestFit-same, HasNoFit-same, IsFreeGranule, HasNoSite, block_view, view_of, with_class, Stacks, without_slab, without_left, IsReturned, IsKeepable, class_small, FreeSet, IsFree, stacks_of, SlabBlock, HasNoOpen, HasSlabMore, Indexes, AreIndexesOf, HasChanged, fit_free}
 use Rattle.heap_model.specs.Choice.{HasUnusedBlock}
@@ -9,7 +9,14 @@ use Rattle.heap_model.proofs.LeftSlabs.{not_kept, purged_put, one_left, within, 
 use Rattle.block_supply.proofs.Ways.{way_there, way_anew, refill_anew}
 use Rattle.block_supply.proofs.Takes.{none_open}
 use Rattle.heap_indexes.specs.Fitting.{HasNoReady, IsFirstReady}
-use Rattle.heap_indexes.specs.Steps.{HasPlaced}
+use Rattle.heap_indexes.specs.Steps.{HasPlaced, IsPlacedIn, site_of}
+use Rattle.heap_indexes.specs.declared.answer.Place.{Place}
+use Rattle.heap_model.specs.Choice.{range_of}
+use Rattle.heap_model.specs.Step.{with_block}
+use Rattle.heap_model.specs.Placement.{IsStacked}
+use Rattle.heap_model.specs.declared.call.Call.TheVariants.{Malloc}
+use Rattle.heap_model.specs.declared.call.Reply.TheVariants.{Placed}
+use Rattle.block_supply.specs.Supply.{Supply}
 use Rattle.heap_indexes.specs.Kept.{HasTaken, IsPutBack}
 use Rattle.heap_indexes.proofs.Machines.{some_same}
 use Rattle.heap_indexes.proofs.BestSlabs.{no_fit_slab, best_slab}
@@ -131,3 +138,12 @@ module _ (b : Bounds) (m : Machine) (apart : IsOverlapFree b m) (start class : �
       class_kept keep =
           let home = one_home b m apart start class range slab low high keep.start keep.class (sym (same keep.start) ∙ keep.slab) keep.block in
           some_same keep.class class (sym (ap m.slab (sym home) ∙ sym (same keep.start) ∙ keep.slab) ∙ slab)
+
+-- what was found where more slabs were noted
+pub placed_noted : (b : Bounds) (m : Machine) (seat size : ℕ) (old mid new : Indexes) (found : Option Place) → mid.supply ≡ old.supply → IsPlacedIn b m seat size mid found new → IsPlacedIn b m seat size old found new
+placed_noted b m seat size old mid new None same placed = record { none = placed.none; indexes = placed.indexes; supply = placed.supply ∙ same }
+placed_noted b m seat size old mid new (Some place) same placed = record {
+  chosen = placed.chosen;
+  indexes = placed.indexes;
+  stacked = λ root. subst (λ (s : Supply). IsStacked b seat (record { machine = m; stacks = stacks_of s.stacks }) (Malloc root size) (Placed (range_of (site_of place)).at (range_of (site_of place)).size) (record { machine = with_block m root (site_of place); stacks = stacks_of new.supply.stacks })) same (placed.stacked root);
+}

@@ -1,8 +1,9 @@
 -- Which slab takes another class, by the indexes: the first of those with few live blocks of which a block of the class is clear.
-use Rattle.std.specs.Prelude.{ℕ, ◌<◌}
+use Rattle.std.specs.Prelude.{◌≡◌, ◌⊎◌, ℕ, ◌<◌, true}
 use Rattle.size_classes.specs.Classes.{class_capacity}
 use Rattle.heap_model.specs.Machine.{slab_block}
 use Rattle.slab_index.specs.Candidates.{IsBefore}
+use Rattle.slab_index.specs.Unfit.{is_unfit}
 use Rattle.slab_lives.specs.Lives.{Lives, IsSparse}
 use Rattle.unit_map.specs.Units.{Units}
 use Rattle.unit_map.specs.Blocks.{IsClearRange}
@@ -23,3 +24,8 @@ pub record IsFirstReady (lives : Lives) (units : Units) (class start : ℕ) : Ty
   pub is : IsSparse lives class start live
   pub clear : HasClearBlock units class start
   pub first : (other more : ℕ) → IsSparse lives class other more → HasClearBlock units class other → ¬ (IsBefore more other live start)
+
+-- besides those that were, some slabs are noted as unfit for the class, each without a clear block of it; all else is as before
+pub record AreNotedBesides (old : Lives) (units : Units) (class : ℕ) (new : Lives) : Type 0 where
+  pub same : new ≡ record old { unfit = new.unfit }
+  pub each : (c s : ℕ) → is_unfit new.unfit c s ≡ true → (is_unfit old.unfit c s ≡ true) ⊎ ((c ≡ class) × ¬ (HasClearBlock units class s))

@@ -1,11 +1,12 @@
 -- The indexes of a heap: what is kept so that a malloc finds its block and a free gives it back. They know no memory: they are
 -- those of a state of the machine, and a call changes them as a step changes the state.
-use Rattle.std.specs.Prelude.{◌≡◌, ◌↔◌, ◌&&◌, not, ◌==◌, ℕ, zero, suc, ◌+◌, ◌<◌, ◌≤◌, ◌^◌, Bool, false, List, length, slice_index, Option, Some, None, if◌then◌else◌}
+use Rattle.std.specs.Prelude.{◌≡◌, ◌↔◌, ◌&&◌, not, ◌==◌, ℕ, zero, suc, ◌+◌, ◌<◌, ◌≤◌, ◌^◌, Bool, true, false, List, length, slice_index, Option, Some, None, if◌then◌else◌}
 use Rattle.size_classes.specs.Classes.{class_size, class_capacity}
 use Rattle.heap_model.specs.Machine.{Bounds, Range, Machine, IsLarge, slab_block, IsBlockOf, IsUnused, IsFreeGranule, IsOverlapFree}
 use Rattle.heap_model.specs.Slabs.{is_within, live_below, IsInTransition}
 use Rattle.extent_index.specs.FreeSet.{FreeSet, IsFree}
 use Rattle.slab_index.specs.SlabSet.{class_in}
+use Rattle.slab_index.specs.Unfit.{is_unfit}
 use Rattle.slab_lives.specs.Lives.{Lives, normal_at}
 use Rattle.block_supply.specs.Supply.{Supply, MayBeGiven}
 use Rattle.unit_map.specs.Units.{Units}
@@ -73,6 +74,8 @@ pub record AreLivesOf (b : Bounds) (m : Machine) (lives : Lives) : Type 0 where
   pub counts : (s class : ℕ) → m.slab s ≡ Some class → slice_index lives.counts s ≡ live_below m.block s b.roots
   pub none : (s : ℕ) → m.slab s ≡ None → slice_index lives.counts s ≡ 0
   pub normal : (s class : ℕ) → normal_at lives s ≡ Some class ↔ ((m.slab s ≡ Some class) × ¬ (IsInTransition m s))
+  -- of a slab that was found unfit for a class each block of the class shares a byte with a live one
+  pub unfit : (s own class number : ℕ) → m.slab s ≡ Some own → class < 36 → is_unfit lives.unfit class s ≡ true → number < class_capacity class → ¬ (IsUnused m (slab_block s class number))
 
 -- so many live blocks of each slab have another size than that of its class
 pub record AreStrangersOf (b : Bounds) (m : Machine) (strangers : List ℕ) : Type 0 where

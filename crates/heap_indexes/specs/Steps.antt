@@ -31,9 +31,15 @@ pub record HasPlaced (b : Bounds) (m : Machine) (seat size : ℕ) (old : Indexes
   pub indexes : (root : ℕ) → root < b.roots → m.block root ≡ None → AreIndexesOf b (with_block m root site) new
   pub stacked : (root : ℕ) → IsStacked b seat (record { machine = m; stacks = stacks_of old.supply.stacks }) (Malloc root size) (Placed (range_of site).at (range_of site).size) (record { machine = with_block m root site; stacks = stacks_of new.supply.stacks })
 
--- by what was found: where there is no site nothing changed
+-- There is no site for a request of so many bytes: the indexes are those of the same state, with the same blocks to be given out.
+pub record HasFoundNone (b : Bounds) (m : Machine) (size : ℕ) (old new : Indexes) : Type 0 where
+  pub none : HasNoSite (view_of b m) size
+  pub indexes : AreIndexesOf b m new
+  pub supply : new.supply ≡ old.supply
+
+-- by what was found
 abbrev pub IsPlacedIn : Bounds → Machine → (seat size : ℕ) → Indexes → Option Place → Indexes → Type 0
-IsPlacedIn b m seat size old found new = MatchOption found (HasNoSite (view_of b m) size × (new ≡ old)) (λ place. HasPlaced b m seat size old (site_of place) new)
+IsPlacedIn b m seat size old found new = MatchOption found (HasFoundNone b m size old new) (λ place. HasPlaced b m seat size old (site_of place) new)
 
 abbrev pub IsPlacedBy : (seat size : ℕ) → Indexes → Option Place → Indexes → Type 0
 IsPlacedBy seat size old found new = (b : Bounds) (m : Machine) → IsOverlapFree b m → AreIndexesOf b m old → IsPlacedIn b m seat size old found new

@@ -1,9 +1,10 @@
 // How a block comes back.
-ghost use Rattle.std.specs.Prelude.{◌≡◌, ◌≢◌, ◌==◌, ◌<◌, ◌≤◌, ◌-◌, ◌*◌, ◌/◌, ℕ, true, length, slice_index, Some, if◌then◌else◌};
+ghost use Rattle.std.specs.Prelude.{false, ◌≡◌, ◌≢◌, ◌==◌, ◌<◌, ◌≤◌, ◌-◌, ◌*◌, ◌/◌, ℕ, true, length, slice_index, Some, if◌then◌else◌};
 ghost use Rattle.size_classes.specs.Classes.{class_size, class_capacity};
 ghost use Rattle.heap_model.specs.Machine.{with_key, slab_block};
 ghost use Rattle.thread_cache.specs.Stacks.{stacks_of};
 ghost use Rattle.slab_index.specs.SlabSet.{class_in, IsSlab};
+ghost use Rattle.slab_index.specs.Unfit.{is_unfit};
 ghost use Rattle.slab_lives.specs.Lives.{normal_at};
 ghost use Rattle.block_supply.specs.Supply.{IsInSlabOf, IsPutOn};
 ghost use Rattle.heap_indexes.specs.Indexes.{HaveState};
@@ -129,6 +130,7 @@ fn lower(lives: &mut SlabLives, slab: SlabAt, normal: bool)
     requires class { slab.class < 36 }
     ensures size { length lives.new.counts ≡ length lives.old.counts }
     ensures counts { (s : ℕ) → slice_index lives.new.counts s ≡ (if s == slab.start then slice_index lives.old.counts s - 1 else slice_index lives.old.counts s) }
+    ensures unfit { (c s : ℕ) → is_unfit lives.new.unfit c s ≡ (if s == slab.start then false else is_unfit lives.old.unfit c s) }
     ensures normal { (s : ℕ) → normal_at lives.new s ≡ (if normal then with_key (normal_at lives.old) slab.start (Some slab.class) s else normal_at lives.old s) }
 {
     lives.lower(slab.start);

@@ -73,7 +73,7 @@ impl HeapIndexes {
     /// class that holds them: the top of the seat's stack; else the lowest available one, and the next ones go on the stack;
     /// else the top of the lowest other seat's stack; else the slab with the fewest live blocks that is fit for the class takes
     /// it; else a slab is made on four granules at their best fit. `None` exactly where there is no site for the request, and
-    /// then nothing changed.
+    /// then the indexes are those of the same state, and the same blocks may be given out.
     pub fn place(&mut self, seat: u32, size: u64) -> Option<Place>
         requires state { HaveState self.old }
         requires seat { seat < 64 }

@@ -1,10 +1,11 @@
 // How a malloc finds its block.
-ghost use Rattle.std.specs.Prelude.{◌≡◌, ◌<◌, ◌≤◌, ℕ, length, Some, None, if◌then◌else◌, MatchOption};
+ghost use Rattle.std.specs.Prelude.{◌==◌, false, ◌≡◌, ◌<◌, ◌≤◌, ℕ, length, Some, None, if◌then◌else◌, MatchOption};
 ghost use Rattle.size_classes.specs.Classes.{class_capacity, IsClassOf, granules_of};
 ghost use Rattle.heap_model.specs.Machine.{with_key};
 ghost use Rattle.heap_model.specs.Runs.{IsBestFit};
 ghost use Rattle.heap_model.specs.Placement.{with_class};
 ghost use Rattle.extent_index.specs.FreeSet.{IsFree};
+ghost use Rattle.slab_index.specs.Unfit.{is_unfit};
 ghost use Rattle.slab_lives.specs.Lives.{normal_at};
 ghost use Rattle.block_supply.specs.Supply.{HasNoOpen, HasSlabMore};
 ghost use Rattle.heap_indexes.specs.Indexes.{HaveState};
@@ -60,7 +61,31 @@ impl HeapIndexes {
         requires full { HasNoOpen self.old.supply class }
         ensures { (size : ℕ) → IsClassOf size class → IsPlacedBy seat size self.old result self.new }
     {
-        if let Some(start) = best_slab(&self.lives, &self.units, class) {
+        let fit = self.best_slab(class);
+        self.place_in(seat, class, fit)
+    }
+
+    // Of the slabs that are fit for the class the best one. Those that were found unfit are noted.
+    fn best_slab(&mut self, class: u8) -> Option<u32>
+        requires state { HaveState self.old }
+        requires class { class < 36 }
+        ensures best { MatchOption result (HasNoReady self.new.lives self.new.units class) (IsFirstReady self.new.lives self.new.units class) }
+        ensures indexes { Follow self.old (λ b m. m) self.new }
+        ensures supply { self.new.supply ≡ self.old.supply }
+    {
+        best_slab(&mut self.lives, &self.units, class)
+    }
+
+    // Where no block of the class is open, finds one in the slab that is fit for it, or in a new slab where none is.
+    fn place_in(&mut self, seat: u32, class: u8, fit: Option<u32>) -> Option<Place>
+        requires state { HaveState self.old }
+        requires seat { seat < 64 }
+        requires class { class < 36 }
+        requires full { HasNoOpen self.old.supply class }
+        requires fit { MatchOption fit (HasNoReady self.old.lives self.old.units class) (IsFirstReady self.old.lives self.old.units class) }
+        ensures { (size : ℕ) → IsClassOf size class → IsPlacedBy seat size self.old result self.new }
+    {
+        if let Some(start) = fit {
             return Some(self.place_in_morph(seat, start, class));
         }
         match self.free.best_fit(SLAB_GRANULES) {
@@ -172,6 +197,7 @@ fn put_class(lives: &mut SlabLives, start: u32, class: u8, normal: bool)
     requires inside { start < length lives.old.counts }
     requires class { class < 36 }
     ensures counts { lives.new.counts ≡ lives.old.counts }
+    ensures unfit { (c s : ℕ) → is_unfit lives.new.unfit c s ≡ (if s == start then false else is_unfit lives.old.unfit c s) }
     ensures normal { (s : ℕ) → normal_at lives.new s ≡ with_key (normal_at lives.old) start (if normal then Some class else None) s }
 {
     if normal {

@@ -1,9 +1,14 @@
 -- The lowest available blocks of a slab are taken one after another.
-use Rattle.std.proofs.Common.{◌≡◌, ◌≢◌, ℕ, ◌+◌, ◌-◌, ◌<◌, ◌≤◌, ◌⊎◌, ⊎_elim, inl, inr, true, false, eqb, ◌&&◌, List, [], ◌∷◌, ◌++◌, length, Some, length-append, append_assoc, refl, sym, ap, ◌∙◌, subst, arith}
+use Rattle.std.proofs.Common.{◌≡◌, ◌≢◌, ℕ, ◌+◌, ◌-◌, ◌<◌, ◌≤◌, ◌⊎◌, ⊎_elim, inl, inr, true, false, eqb, ◌&&◌, List, [], ◌∷◌, ◌++◌, length, Option, None, Some, MatchOption, length-append, append_assoc, refl, sym, ap, ◌∙◌, subst, arith}
 use Rattle.slab_index.proofs.Common.{cases_lt, cases_eq, eq-eqb, ne_eqb, cond-true, cond-false, and_from, and_left, and_right, both_ways, append-nil, class_capacity}
 use Rattle.heap_model.specs.Placement.{Has, IsNext, AreLowest}
 use Rattle.slab_index.specs.SlabSet.{SlabSet, class_in, is_available, IsBlock, AreTaken}
 use Rattle.slab_index.specs.Kept.{capacity_or_none, IsUsedUp, TookFirst, TookSome}
+
+-- what follows of either case
+pub either : {A : Type 0} {None_is None_then : Type 0} {Is Then : A → Type 0} (o : Option A) → (None_is → None_then) → ((x : A) → Is x → Then x) → MatchOption o None_is Is → MatchOption o None_then Then
+either None none some is = none is
+either (Some x) none some is = some x is
 
 -- a block of a slab is available
 abbrev pub Available : SlabSet → ℕ → ℕ → Type 0

@@ -8,3 +8,4 @@ pub mod Searches
 pub mod Steps
 pub mod Views
 pub mod Taken
+pub mod UnfitSets

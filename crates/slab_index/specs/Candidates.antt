@@ -1,51 +1,35 @@
 -- The slabs that may take another class. A slab is normal where no live block in it has another size than that of its class.
 -- A candidate for a class is a normal slab of another class with so few live blocks that it may take this one, if some block of
--- the class overlaps none of them.
-use Rattle.std.specs.Prelude.{◌≡◌, ◌≢◌, ◌⊎◌, ℕ, ◌*◌, ◌<◌, ◌≤◌, List, Option, Some, None, slice_index_or}
+-- the class overlaps none of them, and which was not found unfit for the class.
+use Rattle.std.specs.Prelude.{◌≡◌, ◌≢◌, ◌⊎◌, ℕ, ◌*◌, ◌<◌, ◌≤◌, false, List, Option, Some, None, slice_index_or}
 use Rattle.size_classes.specs.Classes.{class_capacity}
 use Rattle.slab_index.specs.declared.candidates.NormalSlab.{NormalSlab}
 use Rattle.slab_index.specs.declared.candidates.Candidate.{Candidate}
+use Rattle.slab_index.specs.Unfit.{is_unfit}
 
 -- the normal slab that begins at a granule
 unfoldable pub normal_in : List (Option NormalSlab) → ℕ → Option NormalSlab
 normal_in set start = slice_index_or set start None
 
--- The slab at a start is normal, has another class than this one, and so many live blocks: at most 64, and at most a fifth of
--- those that it holds.
-pub record IsCandidate (set : List (Option NormalSlab)) (class start live : ℕ) : Type 0 where
+-- The slab at a start is normal, has another class than this one, was not found unfit for it, and has so many live blocks: at
+-- most 64, and at most a fifth of those that it holds.
+pub record IsCandidate (set : List (Option NormalSlab)) (unfit : List ℕ) (class start live : ℕ) : Type 0 where
   pub own : ℕ
   pub slab : normal_in set start ≡ Some (record { class = own; live = live })
   pub differs : class ≢ own
   pub few : live ≤ 64
   pub sparse : 5 * live ≤ class_capacity own
+  pub sought : is_unfit unfit class start ≡ false
 
 -- the order of candidates: fewer live blocks first, and the lower start first among equals
 abbrev pub IsBefore : (live start other_live other : ℕ) → Type 0
 IsBefore live start other_live other = (live < other_live) ⊎ ((live ≡ other_live) × (start < other))
 
 -- there is no candidate for the class
-pub record HasNoCandidate (set : List (Option NormalSlab)) (class : ℕ) : Type 0 where
-  pub none : (start live : ℕ) → ¬ (IsCandidate set class start live)
+pub record HasNoCandidate (set : List (Option NormalSlab)) (unfit : List ℕ) (class : ℕ) : Type 0 where
+  pub none : (start live : ℕ) → ¬ (IsCandidate set unfit class start live)
 
 -- the first candidate for the class
-pub record IsFirstCandidate (set : List (Option NormalSlab)) (class : ℕ) (found : Candidate) : Type 0 where
-  pub is : IsCandidate set class found.start found.live
-  pub first : (start live : ℕ) → IsCandidate set class start live → ¬ (IsBefore live start found.live found.start)
-
--- there is none in a part of their order, which is told by a number of live blocks and a start
-pub record HasNoneAmong (set : List (Option NormalSlab)) (class : ℕ) (IsIn : ℕ → ℕ → Type 0) : Type 0 where
-  pub none : (s n : ℕ) → IsIn n s → ¬ (IsCandidate set class s n)
-
--- the first one in a part of their order
-pub record IsFirstAmong (set : List (Option NormalSlab)) (class : ℕ) (IsIn : ℕ → ℕ → Type 0) (found : Candidate) : Type 0 where
-  pub is : IsCandidate set class found.start found.live
-  pub behind : IsIn found.live found.start
-  pub first : (s n : ℕ) → IsCandidate set class s n → IsIn n s → ¬ (IsBefore n s found.live found.start)
-
--- there is none behind a place in their order
-abbrev pub HasNoneBehind : List (Option NormalSlab) → (class live start : ℕ) → Type 0
-HasNoneBehind set class live start = HasNoneAmong set class (IsBefore live start)
-
--- the first one behind a place in their order
-abbrev pub IsNextCandidate : List (Option NormalSlab) → (class live start : ℕ) → Candidate → Type 0
-IsNextCandidate set class live start found = IsFirstAmong set class (IsBefore live start) found
+pub record IsFirstCandidate (set : List (Option NormalSlab)) (unfit : List ℕ) (class : ℕ) (found : Candidate) : Type 0 where
+  pub is : IsCandidate set unfit class found.start found.live
+  pub first : (start live : ℕ) → IsCandidate set unfit class start live → ¬ (IsBefore live start found.live found.start)

@@ -1,11 +1,9 @@
 -- What candidates keep beside the list of normal slabs: sets of starts, 4096 numbers for each class, and as many for each number
 -- of live blocks that a slab may have which takes another class. And the steps of a search in them.
-use Rattle.std.specs.Prelude.{◌≡◌, ◌==◌, ◌⊎◌, ℕ, ◌+◌, ◌*◌, ◌/◌, ◌%◌, ◌<◌, ◌≤◌, Bool, true, false, ◌&&◌, nat_le, List, length, Option, Some, None, slice_index_or, if◌then◌else◌}
+use Rattle.std.specs.Prelude.{◌≡◌, ◌==◌, ℕ, ◌+◌, ◌*◌, ◌/◌, ◌%◌, ◌<◌, ◌≤◌, Bool, true, false, ◌&&◌, nat_le, List, length, Option, Some, None, slice_index_or, if◌then◌else◌}
 use Rattle.size_classes.specs.Classes.{class_capacity}
 use Rattle.bit_words.specs.Numbers.{has}
 use Rattle.slab_index.specs.declared.candidates.NormalSlab.{NormalSlab}
-use Rattle.slab_index.specs.declared.candidates.Candidate.{Candidate}
-use Rattle.slab_index.specs.Candidates.{HasNoneAmong, IsFirstAmong}
 use Rattle.slab_index.specs.Kept.{IsSummary}
 
 -- so few blocks live in the slab that it may take another class
@@ -48,41 +46,28 @@ pub record IsMarkedAnew (old : List ℕ) (start : ℕ) (was slab : NormalSlab) (
   pub out : IsMarked old start was false mid
   pub back : IsMarked mid start slab true new
 
--- a slab with so many live blocks begins at the start, and has another class than this one
-pub record IsOther (starts classes : List ℕ) (class live start : ℕ) : Type 0 where
+-- a slab with so many live blocks begins at the start, has another class than this one, and was not found unfit for it
+pub record IsOther (starts classes unfit : List ℕ) (class live start : ℕ) : Type 0 where
   pub is : has starts (4096 * live + start) ≡ true
   pub other : has classes (4096 * class + start) ≡ false
+  pub sought : has unfit (4096 * class + start) ≡ false
 
--- among the 64 granules of a word none does from a start on
-pub record HasNoneInWord (starts classes : List ℕ) (class live at from : ℕ) : Type 0 where
-  pub none : (s : ℕ) → s / 64 ≡ at → from ≤ s → ¬ (IsOther starts classes class live s)
+-- among the 64 granules of a word none does
+pub record HasNoneInWord (starts classes unfit : List ℕ) (class live at : ℕ) : Type 0 where
+  pub none : (s : ℕ) → s / 64 ≡ at → ¬ (IsOther starts classes unfit class live s)
 
 -- the first of them
-pub record IsFirstInWord (starts classes : List ℕ) (class live at from start : ℕ) : Type 0 where
+pub record IsFirstInWord (starts classes unfit : List ℕ) (class live at start : ℕ) : Type 0 where
   pub place : start / 64 ≡ at
-  pub behind : from ≤ start
-  pub is : IsOther starts classes class live start
-  pub first : (s : ℕ) → s / 64 ≡ at → from ≤ s → s < start → ¬ (IsOther starts classes class live s)
+  pub is : IsOther starts classes unfit class live start
+  pub first : (s : ℕ) → s / 64 ≡ at → s < start → ¬ (IsOther starts classes unfit class live s)
 
--- none does at any granule from a start on
-pub record HasNoneInRow (starts classes : List ℕ) (class live from : ℕ) : Type 0 where
-  pub none : (s : ℕ) → from ≤ s → s < 4096 → ¬ (IsOther starts classes class live s)
+-- none does at any granule
+pub record HasNoneInRow (starts classes unfit : List ℕ) (class live : ℕ) : Type 0 where
+  pub none : (s : ℕ) → s < 4096 → ¬ (IsOther starts classes unfit class live s)
 
 -- the first that does
-pub record IsFirstInRow (starts classes : List ℕ) (class live from start : ℕ) : Type 0 where
+pub record IsFirstInRow (starts classes unfit : List ℕ) (class live start : ℕ) : Type 0 where
   pub inside : start < 4096
-  pub behind : from ≤ start
-  pub is : IsOther starts classes class live start
-  pub first : (s : ℕ) → from ≤ s → s < start → ¬ (IsOther starts classes class live s)
-
--- a place in the order of candidates, or behind it
-abbrev pub IsFrom : (live start other_live other : ℕ) → Type 0
-IsFrom live start other_live other = (live < other_live) ⊎ ((live ≡ other_live) × (start ≤ other))
-
--- there is no candidate from a place on
-abbrev pub HasNoneFrom : List (Option NormalSlab) → (class live start : ℕ) → Type 0
-HasNoneFrom set class live start = HasNoneAmong set class (IsFrom live start)
-
--- the first one from a place on
-abbrev pub IsLeastFrom : List (Option NormalSlab) → (class live start : ℕ) → Candidate → Type 0
-IsLeastFrom set class live start found = IsFirstAmong set class (IsFrom live start) found
+  pub is : IsOther starts classes unfit class live start
+  pub first : (s : ℕ) → s < start → ¬ (IsOther starts classes unfit class live s)

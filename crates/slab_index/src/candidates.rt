@@ -1,9 +1,9 @@
 // The normal slabs of an arena, and which of them may take another class.
 ghost use Rattle.std.specs.Prelude.{◌≡◌, ℕ, ◌<◌, ◌≤◌, length, Some, None, MatchOption, IfSome, IfOk};
 ghost use Rattle.heap_model.specs.Machine.{with_key};
-ghost use Rattle.slab_index.specs.Candidates.{normal_in, HasNoCandidate, IsFirstCandidate, HasNoneBehind, IsNextCandidate};
-ghost use Rattle.slab_index.specs.Sparse.{HasNoneFrom, IsLeastFrom};
+ghost use Rattle.slab_index.specs.Candidates.{normal_in, HasNoCandidate, IsFirstCandidate};
 
+use crate::UnfitSlabs;
 use crate::sparse::{COUNTS, in_row, mark_anew, mark_class, mark_sparse};
 use crate::words::Summed;
 use pmem_lines::OutOfMemory;
@@ -32,9 +32,9 @@ pub struct Candidate {
 /// The normal slabs of an arena, and which of them have so few live blocks that they may take another class: at most 64, and
 /// at most a fifth of the blocks that they hold. In contracts it is the list of what begins at each granule.
 ///
-/// A search looks at one word for each number of live blocks from 0 to 64, and of those numbers that some slab has at a word
-/// and one more for each 64 granules among which such a slab begins. It ends at the first slab of another class: where no
-/// normal slab of the class itself has so few live blocks it looks at some 70 words, however many slabs there are.
+/// A search looks at one word for each number of live blocks from 0 to 64, and of those numbers that some slab has at a bit for
+/// each 64 granules, and at three words for each 64 among which such a slab begins. It ends at the first slab of another class
+/// that was not found unfit.
 #[derive(Drop)]
 pub struct Candidates {
     normal: Vec<Option<NormalSlab>>,
@@ -128,39 +128,16 @@ impl Candidates {
         }
     }
 
-    /// Of the normal slabs of another class that have so few live blocks, the one with the fewest, the lowest start among
-    /// equals. `None` exactly where there is none.
-    pub fn first(&self, class: u8) -> Option<Candidate>
+    /// Of the normal slabs of another class that have so few live blocks and were not found unfit for this one, below 36, that
+    /// with the fewest, the lowest start among equals. `None` exactly where there is none.
+    pub fn first(&self, unfit: &UnfitSlabs, class: u8) -> Option<Candidate>
         requires { class < 36 }
-        ensures first { MatchOption result (HasNoCandidate self.now class) (IsFirstCandidate self.now class) }
+        ensures first { MatchOption result (HasNoCandidate self.now unfit.now class) (IsFirstCandidate self.now unfit.now class) }
         ensures inside { IfSome result (λ found. found.start < length self.now) }
     {
-        self.least_from(class, 0, 0)
-    }
-
-    /// The same of those behind one with so many live blocks and this start: they have more, or as many and a higher start.
-    pub fn next_behind(&self, class: u8, live: u32, start: u32) -> Option<Candidate>
-        requires { class < 36 }
-        ensures next { MatchOption result (HasNoneBehind self.now class live start) (IsNextCandidate self.now class live start) }
-        ensures inside { IfSome result (λ found. found.start < length self.now) }
-    {
-        self.least_from(class, live, start.saturating_add(1))
-    }
-
-    // The least that is not before one with so many live blocks and this start.
-    fn least_from(&self, class: u8, live: u32, start: u32) -> Option<Candidate>
-        requires { class < 36 }
-        ensures least { MatchOption result (HasNoneFrom self.now class live start) (IsLeastFrom self.now class live start) }
-        ensures inside { IfSome result (λ found. found.start < length self.now) }
-        ensures few { length self.now ≤ 4096 }
-    {
-        for count in live..COUNTS {
-            let low = low_of(count, live, start);
-            if let Some(found) = in_row(&self.starts, &self.classes, class, count, low) {
-                return Some(Candidate {
-                    start: found,
-                    live: count,
-                });
+        for live in 0..COUNTS {
+            if let Some(start) = in_row(&self.starts, &self.classes, &unfit.words, class, live) {
+                return Some(Candidate { start, live });
             }
         }
         None
@@ -178,12 +155,4 @@ impl Candidates {
         mark_class(&mut self.classes, start, slab, true);
         mark_sparse(&mut self.starts, start, slab, true);
     }
-}
-
-// The lowest start of so many live blocks that is not before `start` with `live` of them.
-fn low_of(count: u32, live: u32, start: u32) -> u32
-    ensures same { count ≡ live → result ≡ start }
-    ensures more { live < count → result ≡ 0 }
-{
-    if count == live { start } else { 0 }
 }

@@ -9,7 +9,8 @@
 //
 // `LiveCounts` beside it has a number for each slab. `Candidates` means the normal slabs, in which no live block has another
 // size than that of their class. It finds the first of those that may take another class, by their order `IsBefore` of
-// `specs/Candidates.antt`, and the next one behind it. Whether a block of that class overlaps no live one it does not know.
+// `specs/Candidates.antt`. Whether a block of that class overlaps no live one it does not know: `UnfitSlabs` has the slabs that
+// the layer above found unfit for a class, which a search passes over by words.
 //
 // The layers above know these contracts, which speak of those definitions alone, and nothing of how the set is kept: as
 // bits of words, with one bit more for each word that is not 0.
@@ -20,9 +21,11 @@ mod candidates;
 mod index;
 mod lives;
 mod sparse;
+mod unfit;
 mod words;
 
 pub use block::{SlabBlock, SlabBlocks};
 pub use candidates::{Candidate, Candidates, NormalSlab};
 pub use index::SlabIndex;
 pub use lives::LiveCounts;
+pub use unfit::UnfitSlabs;

@@ -5,7 +5,7 @@ ghost use Rattle.slab_index.specs.Sparse.{is_sparse, HasRows, IsMarked, IsMarked
 
 use crate::NormalSlab;
 use crate::words::{NUMBERS, Summed, put_summed};
-use bit_words::{has, ones, put};
+use bit_words::{has, put};
 use size_classes::has_at_least;
 
 /// How many numbers of live blocks there are that a slab may have which takes another class: from 0 to 64.
@@ -57,53 +57,54 @@ pub(crate) fn mark_anew(starts: &mut Summed, start: u32, was: NormalSlab, slab: 
     mark_sparse(starts, start, slab, true);
 }
 
-// Of the slabs with so many live blocks that begin among 64 granules the lowest that has another class, from a start on.
+// Of the slabs with so many live blocks that begin among 64 granules the lowest that has another class and was not found unfit.
 fn in_word(
     starts: &Summed,
     classes: &[u64],
+    unfit: &[u64],
     class: u8,
     live: u32,
     at: u32,
-    from: u32,
 ) -> Option<u32>
     requires class { class < 36 }
     requires live { live < 65 }
     requires at { at < 64 }
     requires rows { HasRows starts.now.words.items starts.now.some.items }
     requires classes_size { length classes.now ≡ 2304 }
-    ensures { MatchOption result (HasNoneInWord starts.now.words.items classes.now class live at from) (IsFirstInWord starts.now.words.items classes.now class live at from) }
+    requires unfit_size { length unfit.now ≡ 2304 }
+    ensures { MatchOption result (HasNoneInWord starts.now.words.items classes.now unfit.now class live at) (IsFirstInWord starts.now.words.items classes.now unfit.now class live at) }
 {
     if !has(&starts.some, 64 * live + at) {
         return None;
     }
-    let here = starts.words[(64 * live + at) as usize];
-    let own = classes[(64 * u32::from(class) + at) as usize];
-    let word = here & !own & !ones(from.saturating_sub(64 * at));
+    let own = (64 * u32::from(class) + at) as usize;
+    let word = starts.words[(64 * live + at) as usize] & !classes[own] & !unfit[own];
     if word == 0 {
         return None;
     }
     Some(64 * at + word.trailing_zeros())
 }
 
-/// Of the slabs with so many live blocks, from 0 to 64, the lowest that has another class, from a start on.
+/// Of the slabs with so many live blocks, from 0 to 64, the lowest that has another class and was not found unfit for this one.
 pub(crate) fn in_row(
     starts: &Summed,
     classes: &[u64],
+    unfit: &[u64],
     class: u8,
     live: u32,
-    from: u32,
 ) -> Option<u32>
     requires class { class < 36 }
     requires live { live < 65 }
     requires rows { HasRows starts.now.words.items starts.now.some.items }
     requires classes_size { length classes.now ≡ 2304 }
-    ensures { MatchOption result (HasNoneInRow starts.now.words.items classes.now class live from) (IsFirstInRow starts.now.words.items classes.now class live from) }
+    requires unfit_size { length unfit.now ≡ 2304 }
+    ensures { MatchOption result (HasNoneInRow starts.now.words.items classes.now unfit.now class live) (IsFirstInRow starts.now.words.items classes.now unfit.now class live) }
 {
     if starts.some[live as usize] == 0 {
         return None;
     }
-    for at in from / 64..64 {
-        if let Some(start) = in_word(starts, classes, class, live, at, from) {
+    for at in 0..64 {
+        if let Some(start) = in_word(starts, classes, unfit, class, live, at) {
             return Some(start);
         }
     }

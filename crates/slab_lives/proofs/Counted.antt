@@ -1,12 +1,12 @@
 -- Counts and normal slabs agree, and what the candidates are is what they mean.
-use Rattle.std.proofs.Common.{◌≡◌, ◌≢◌, ◌↔◌, ◌==◌, ℕ, zero, suc, List, [], ◌∷◌, length, map, Option, Some, None, MatchOption, slice_index, slice_index_or, if◌then◌else◌, refl, sym, ap, ◌∙◌, ⊎_elim}
+use Rattle.std.proofs.Common.{◌≡◌, ◌≢◌, ◌↔◌, ◌==◌, ℕ, zero, suc, List, [], ◌∷◌, length, map, Option, Some, None, MatchOption, slice_index, slice_index_or, if◌then◌else◌, refl, sym, ap, ◌∙◌, ⊎_elim, arith}
 use Rattle.std.proofs.lemmas.Bool.{cases_eq, cond-true, cond-false, eq-eqb, ne_eqb}
 use Rattle.heap_model.specs.Machine.{with_key}
 use Rattle.heap_model.proofs.Maps.{with_key-here}
 use Rattle.slab_index.specs.declared.candidates.NormalSlab.{NormalSlab}
-use Rattle.slab_index.specs.Candidates.{normal_in, IsCandidate, HasNoCandidate, IsFirstCandidate, HasNoneBehind, IsNextCandidate}
+use Rattle.slab_index.specs.Candidates.{normal_in, IsCandidate, HasNoCandidate, IsFirstCandidate}
 use Rattle.slab_index.specs.declared.candidates.Candidate.{Candidate}
-use Rattle.slab_lives.specs.Lives.{normal_at, IsSparse, HasNoSparse, IsFirstSparse, HasNoSparseBehind, IsNextSparse}
+use Rattle.slab_lives.specs.Lives.{normal_at, IsSparse, HasNoSparse, IsFirstSparse}
 use Rattle.slab_lives.specs.Kept.{class_if, lives_of, IsKept, IsRecounted}
 
 -- what stands at a place of the classes is the class of what stands there
@@ -15,9 +15,9 @@ map_at [] s = refl
 map_at (x ∷ xs) zero = refl
 map_at (x ∷ xs) (suc s) = map_at xs s
 
-pub normal_at-is : (counts : List ℕ) (normal : List (Option NormalSlab)) (s : ℕ) → normal_at (lives_of counts normal) s ≡ class_if (normal_in normal s)
+pub normal_at-is : (counts : List ℕ) (normal : List (Option NormalSlab)) (unfit : List ℕ) (s : ℕ) → normal_at (lives_of counts normal unfit) s ≡ class_if (normal_in normal s)
 unfolding normal_at normal_in
-normal_at-is counts normal s = map_at normal s
+normal_at-is counts normal unfit s = map_at normal s
 
 length_map : (normal : List (Option NormalSlab)) → length (map class_if normal) ≡ length normal
 length_map [] = refl
@@ -30,12 +30,13 @@ class_with old new start slab is s = ⊎_elim
     (λ (differ : s ≢ start). ap class_if (is s ∙ cond-false (s == start) slab (normal_in old s) (ne_eqb s start differ)) ∙ sym (cond-false (s == start) (class_if slab) (class_if (normal_in old s)) (ne_eqb s start differ)))
     (cases_eq s start)
 
-pub classes_with : (counts : List ℕ) (normal : List (Option NormalSlab)) (start : ℕ) (class : Option ℕ) (s : ℕ) → with_key (λ k. class_if (normal_in normal k)) start class s ≡ with_key (normal_at (lives_of counts normal)) start class s
-classes_with counts normal start class s = ap (λ x. if s == start then class else x) (sym (normal_at-is counts normal s))
+pub classes_with : (counts : List ℕ) (normal : List (Option NormalSlab)) (unfit : List ℕ) (start : ℕ) (class : Option ℕ) (s : ℕ) → with_key (λ k. class_if (normal_in normal k)) start class s ≡ with_key (normal_at (lives_of counts normal unfit)) start class s
+classes_with counts normal unfit start class s = ap (λ x. if s == start then class else x) (sym (normal_at-is counts normal unfit s))
 
 -- it has the count
 pub kept_put : (counts : List ℕ) (old new : List (Option NormalSlab)) (start class live : ℕ) → live ≡ slice_index counts start → length new ≡ length old → ((s : ℕ) → normal_in new s ≡ with_key (normal_in old) start (Some (record { class = class; live = live })) s) → IsKept counts old → IsKept counts new
 kept_put counts old new start class live count size is kept = record {
+  few = kept.few;
   size = size ∙ kept.size;
   agree = λ s slab here. ⊎_elim
       (λ (same : s ≡ start).
@@ -48,6 +49,7 @@ kept_put counts old new start class live count size is kept = record {
 
 pub kept_gone : (counts : List ℕ) (old new : List (Option NormalSlab)) (start : ℕ) → length new ≡ length old → ((s : ℕ) → normal_in new s ≡ with_key (normal_in old) start None s) → IsKept counts old → IsKept counts new
 kept_gone counts old new start size is kept = record {
+  few = kept.few;
   size = size ∙ kept.size;
   agree = λ s slab here. ⊎_elim
       (λ (same : s ≡ start). absurd (let none = sym (is s ∙ cond-true (s == start) None (normal_in old s) (eq-eqb s start same)) ∙ here in cc))
@@ -73,6 +75,7 @@ recounted_none old start live none = record { size = refl; here = λ slab here. 
 -- so all agree, where the other counts stay
 pub kept_recounted : (counts after : List ℕ) (old new : List (Option NormalSlab)) (start live : ℕ) → live ≡ slice_index after start → length after ≡ length counts → ((s : ℕ) → s ≢ start → slice_index after s ≡ slice_index counts s) → IsRecounted old start live new → IsKept counts old → IsKept after new
 kept_recounted counts after old new start live count size others again kept = record {
+  few = omega (arith, size, kept.few);
   size = again.size ∙ kept.size ∙ sym size;
   agree = λ s slab here. ⊎_elim
       (λ (same : s ≡ start). again.here slab (ap (normal_in new) (sym same) ∙ here) ∙ count ∙ ap (slice_index after) (sym same))
@@ -81,23 +84,24 @@ kept_recounted counts after old new start live count size others again kept = re
 }
 
 -- sparse slabs are the candidates
-pub sparse_is : (counts : List ℕ) (normal : List (Option NormalSlab)) (class start live : ℕ) → IsKept counts normal → IsSparse (lives_of counts normal) class start live ↔ IsCandidate normal class start live
-sparse_is counts normal class start live kept = (
+pub sparse_is : (counts : List ℕ) (normal : List (Option NormalSlab)) (unfit : List ℕ) (class start live : ℕ) → IsKept counts normal → IsSparse (lives_of counts normal unfit) class start live ↔ IsCandidate normal unfit class start live
+sparse_is counts normal unfit class start live kept = (
   λ sparse. by (normal_in normal start) refl sparse,
   λ candidate. record {
     own = candidate.own;
-    slab = normal_at-is counts normal start ∙ ap class_if candidate.slab;
+    slab = normal_at-is counts normal unfit start ∙ ap class_if candidate.slab;
     count = kept.agree start (record { class = candidate.own; live = live }) candidate.slab;
     differs = candidate.differs;
     few = candidate.few;
     sparse = candidate.sparse;
+    sought = candidate.sought;
   },
 )
   where
-    by : (slab : Option NormalSlab) → normal_in normal start ≡ slab → IsSparse (lives_of counts normal) class start live → IsCandidate normal class start live
-    by None is sparse = absurd (let none = sym (normal_at-is counts normal start ∙ ap class_if is) ∙ sparse.slab in cc)
+    by : (slab : Option NormalSlab) → normal_in normal start ≡ slab → IsSparse (lives_of counts normal unfit) class start live → IsCandidate normal unfit class start live
+    by None is sparse = absurd (let none = sym (normal_at-is counts normal unfit start ∙ ap class_if is) ∙ sparse.slab in cc)
     by (Some slab) is sparse =
-        let same : Some slab.class ≡ Some sparse.own = sym (normal_at-is counts normal start ∙ ap class_if is) ∙ sparse.slab in
+        let same : Some slab.class ≡ Some sparse.own = sym (normal_at-is counts normal unfit start ∙ ap class_if is) ∙ sparse.slab in
         let own : slab.class ≡ sparse.own = cc in
         let count : slab.live ≡ live = kept.agree start slab is ∙ sym sparse.count in
         record {
@@ -106,22 +110,14 @@ sparse_is counts normal class start live kept = (
           differs = sparse.differs;
           few = sparse.few;
           sparse = sparse.sparse;
+          sought = sparse.sought;
         }
 
--- so is the first, and the next
-pub first_is : (counts : List ℕ) (normal : List (Option NormalSlab)) (class : ℕ) (found : Option Candidate) → IsKept counts normal → MatchOption found (HasNoCandidate normal class) (IsFirstCandidate normal class) →
-    MatchOption found (HasNoSparse (lives_of counts normal) class) (IsFirstSparse (lives_of counts normal) class)
-first_is counts normal class None kept none = record { none = λ start live sparse. none.none start live ((sparse_is counts normal class start live kept).0 sparse) }
-first_is counts normal class (Some found) kept first = record {
-  is = (sparse_is counts normal class found.start found.live kept).1 first.is;
-  first = λ start live sparse. first.first start live ((sparse_is counts normal class start live kept).0 sparse);
-}
-
-pub next_is : (counts : List ℕ) (normal : List (Option NormalSlab)) (class live start : ℕ) (found : Option Candidate) → IsKept counts normal → MatchOption found (HasNoneBehind normal class live start) (IsNextCandidate normal class live start) →
-    MatchOption found (HasNoSparseBehind (lives_of counts normal) class live start) (IsNextSparse (lives_of counts normal) class live start)
-next_is counts normal class live start None kept none = record { none = λ s n before sparse. none.none s n before ((sparse_is counts normal class s n kept).0 sparse) }
-next_is counts normal class live start (Some found) kept next = record {
-  is = (sparse_is counts normal class found.start found.live kept).1 next.is;
-  behind = next.behind;
-  first = λ s n sparse. next.first s n ((sparse_is counts normal class s n kept).0 sparse);
+-- so is the first
+pub first_is : (counts : List ℕ) (normal : List (Option NormalSlab)) (unfit : List ℕ) (class : ℕ) (found : Option Candidate) → IsKept counts normal → MatchOption found (HasNoCandidate normal unfit class) (IsFirstCandidate normal unfit class) →
+    MatchOption found (HasNoSparse (lives_of counts normal unfit) class) (IsFirstSparse (lives_of counts normal unfit) class)
+first_is counts normal unfit class None kept none = record { none = λ start live sparse. none.none start live ((sparse_is counts normal unfit class start live kept).0 sparse) }
+first_is counts normal unfit class (Some found) kept first = record {
+  is = (sparse_is counts normal unfit class found.start found.live kept).1 first.is;
+  first = λ start live sparse. first.first start live ((sparse_is counts normal unfit class start live kept).0 sparse);
 }

@@ -1,5 +1,5 @@
 -- What counts and normal slabs keep of each other.
-use Rattle.std.specs.Prelude.{◌≡◌, ◌≢◌, ℕ, List, length, map, Option, Some, None, slice_index}
+use Rattle.std.specs.Prelude.{◌≡◌, ◌≢◌, ◌≤◌, ℕ, List, length, map, Option, Some, None, slice_index}
 use Rattle.slab_index.specs.declared.candidates.NormalSlab.{NormalSlab}
 use Rattle.slab_index.specs.Candidates.{normal_in}
 use Rattle.slab_lives.specs.Lives.{Lives}
@@ -9,12 +9,13 @@ abbrev pub class_if : Option NormalSlab → Option ℕ
 class_if None = None
 class_if (Some slab) = Some slab.class
 
--- what counts and normal slabs mean
-abbrev pub lives_of : List ℕ → List (Option NormalSlab) → Lives
-lives_of counts normal = record { counts = counts; normal = map class_if normal }
+-- what counts, normal slabs and unfit ones mean
+abbrev pub lives_of : List ℕ → List (Option NormalSlab) → List ℕ → Lives
+lives_of counts normal unfit = record { counts = counts; normal = map class_if normal; unfit = unfit }
 
--- each normal slab has as many live blocks as are counted
+-- there are at most 4096 granules, and each normal slab has as many live blocks as are counted
 pub record IsKept (counts : List ℕ) (normal : List (Option NormalSlab)) : Type 0 where
+  pub few : length counts ≤ 4096
   pub size : length normal ≡ length counts
   pub agree : (start : ℕ) (slab : NormalSlab) → normal_in normal start ≡ Some slab → slab.live ≡ slice_index counts start
 

@@ -1,5 +1,5 @@
 -- Stacks that lose the addresses of a slab, one stack after another.
-use Rattle.std.proofs.Common.{◌≡◌, ◌≢◌, ℕ, ◌+◌, ◌<◌, ◌≤◌, ⊎_elim, Bool, true, false, cond, eqb, ltb, not, ◌&&◌, List, [], refl, sym, ap, ◌∙◌, arith}
+use Rattle.std.proofs.Common.{◌≡◌, ◌≢◌, ℕ, ◌+◌, ◌<◌, ◌≤◌, ⊎_elim, cond, eqb, ltb, not, ◌&&◌, List, [], sym, ap, ◌∙◌, arith}
 use Rattle.std.proofs.lemmas.Bool.{cases_lt, cases_eq, lt-ltb, le-ltb, eq-eqb, ne_eqb, cond-true, cond-false, and_from, and_left, and_right}
 use Rattle.std.specs.List.{filter}
 use Rattle.heap_model.specs.Placement.{Stacks, with_stack, without_slab}
@@ -7,7 +7,7 @@ use Rattle.heap_model.specs.Slabs.{is_within}
 use Rattle.thread_cache.specs.Stacks.{StackTable, stacks_of}
 use Rattle.thread_cache.specs.Kept.{IsPurgedWhere}
 use Rattle.heap_model.proofs.Distinct.{IsOther, stack_here, stack_there, here_or_there}
-use Rattle.thread_cache.proofs.Tables.{no_seat, no_class}
+use Rattle.thread_cache.proofs.Tables.{no_class}
 
 -- an empty stack loses nothing
 purged_none : (slab : ℕ) (stacks : Stacks) (seat class : ℕ) → stacks seat class ≡ [] → without_slab stacks slab seat class ≡ stacks seat class
@@ -32,17 +32,6 @@ purged_empty slab stacks seat class none = sym (with_same stacks seat class (wit
 pub purged_start : (slab class : ℕ) (stacks : Stacks) → IsPurgedWhere slab (λ other c. ltb other 0 && eqb c class) stacks stacks
 purged_start slab class stacks = record {
   each = λ other c. sym (cond-false (ltb other 0 && eqb c class) (without_slab stacks slab other c) (stacks other c) (and_left (ltb other 0) (eqb c class) (le-ltb other 0 (omega arith))));
-}
-
--- a class of empty stacks is as after a purge
-pub purged_class_empty : (slab class : ℕ) (stacks : Stacks) → ((seat : ℕ) → stacks seat class ≡ []) → IsPurgedWhere slab (λ other c. eqb c class) stacks stacks
-purged_class_empty slab class stacks none = record {
-  each = λ other c. ⊎_elim
-      (λ (here : c ≡ class).
-      let empty : stacks other c ≡ [] = ap (stacks other) here ∙ none other in
-      sym (cond-true (eqb c class) (without_slab stacks slab other c) (stacks other c) (eq-eqb c class here) ∙ purged_none slab stacks other c empty))
-      (λ (there : c ≢ class). sym (cond-false (eqb c class) (without_slab stacks slab other c) (stacks other c) (ne_eqb c class there)))
-      (cases_eq c class);
 }
 
 -- whether a number is below the next of one, where it is not that
@@ -92,20 +81,19 @@ module _ {slab : ℕ} {old mid new : Stacks} where
         (cases_eq c class);
   }
 
--- all stacks of a class
-pub purged_seats : {slab : ℕ} (old : StackTable) {new : Stacks} (seat class : ℕ) → 64 ≤ seat → IsPurgedWhere slab (λ other c. ltb other seat && eqb c class) (stacks_of old) new → IsPurgedWhere slab (λ other c. eqb c class) (stacks_of old) new
-purged_seats {slab} old seat class all before = record {
+-- all stacks of a class, where those from a seat on are empty
+pub purged_seats : {slab : ℕ} (old : Stacks) {new : Stacks} (seat class : ℕ) → ((other : ℕ) → seat ≤ other → old other class ≡ []) → IsPurgedWhere slab (λ other c. ltb other seat && eqb c class) old new → IsPurgedWhere slab (λ other c. eqb c class) old new
+purged_seats {slab} old seat class rest before = record {
   each = λ other c. before.each other c ∙ ⊎_elim
-      (λ (below : other < seat). ap (λ b. cond (b && eqb c class) (without_slab (stacks_of old) slab other c) (stacks_of old other c)) (lt-ltb other seat below))
+      (λ (below : other < seat). ap (λ b. cond (b && eqb c class) (without_slab old slab other c) (old other c)) (lt-ltb other seat below))
       (λ (past : seat ≤ other).
-      cond-false (ltb other seat && eqb c class) (without_slab (stacks_of old) slab other c) (stacks_of old other c) (and_left (ltb other seat) (eqb c class) (le-ltb other seat past))
-      ∙ either (eqb c class) other c (no_seat old other c (omega arith)))
+      cond-false (ltb other seat && eqb c class) (without_slab old slab other c) (old other c) (and_left (ltb other seat) (eqb c class) (le-ltb other seat past))
+      ∙ ⊎_elim
+      (λ (here : c ≡ class). sym (cond-true (eqb c class) (without_slab old slab other c) (old other c) (eq-eqb c class here) ∙ purged_none slab old other c (ap (old other) here ∙ rest other past)))
+      (λ (there : c ≢ class). sym (cond-false (eqb c class) (without_slab old slab other c) (old other c) (ne_eqb c class there)))
+      (cases_eq c class))
       (cases_lt other seat);
 }
-  where
-    either : (b : Bool) (other c : ℕ) → stacks_of old other c ≡ [] → stacks_of old other c ≡ cond b (without_slab (stacks_of old) slab other c) (stacks_of old other c)
-    either true other c none = sym (purged_none slab (stacks_of old) other c none)
-    either false other c none = refl
 
 -- all classes
 pub purged_all : {slab : ℕ} (old : StackTable) {new : Stacks} (class : ℕ) → 36 ≤ class → IsPurgedWhere slab (λ other c. ltb c class) (stacks_of old) new → new ≡ without_slab (stacks_of old) slab

@@ -1,9 +1,11 @@
 -- The stacks that the lists of a table say.
-use Rattle.std.proofs.Common.{◌≡◌, ◌≢◌, ℕ, ◌+◌, ◌*◌, ◌/◌, ◌%◌, ◌<◌, ◌≤◌, ⊎_elim, Bool, true, false, eqb, ltb, not, ◌&&◌, List, [], ◌∷◌, Option, Some, None, length, get_or, set, replicate, refl, sym, ap, ◌∙◌, subst, arith}
+use Rattle.std.proofs.Common.{◌≡◌, ◌≢◌, ℕ, ◌+◌, ◌*◌, ◌/◌, ◌%◌, ◌^◌, ◌<◌, ◌≤◌, ⊎_elim, Bool, true, false, eqb, ltb, not, ◌&&◌, List, [], ◌∷◌, Option, Some, None, length, get_or, set, replicate, refl, sym, ap, ◌∙◌, subst, arith}
 use Rattle.std.proofs.lemmas.Bool.{cases_lt, cases_eq, lt-ltb, le-ltb, ltb-true, ltb-false, eq-eqb, ne_eqb, cond-true, cond-false, and_from, and_left, and_right}
 use Rattle.std.proofs.lemmas.List.{get_or_read, set-get_or, get_or-set_same, get_or-set_other, get_or_past, get_or-replicate, length-set, length-replicate}
 use Rattle.bit_words.specs.Numbers.{has, IsPut, IsLeastIn}
-use Rattle.bit_words.proofs.Bits.{put_here, put_beside, has-zero, has-zeros}
+use Rattle.bit_words.proofs.Bits.{put_here, put_beside, has_in_word, has-zero, has-zeros}
+use Rattle.std.specs.Int.{bit_at}
+use Rattle.std.proofs.lemmas.Nat.Bits.{bit_at_above}
 use Rattle.heap_model.specs.Placement.{no_stacks, with_stack, HasTop, AreDistinct}
 use Rattle.std.specs.Option.{MatchOption}
 use Rattle.thread_cache.specs.Stacks.{StackTable, stacks_of, WasEmpty, GaveTop, WereEmpty, GaveFirst}
@@ -124,6 +126,18 @@ module _ {lists : List (List ℕ)} {table : StackTable} (is : table_of lists ≡
         none_by_bit seat class is_seat is_class (has-zero seats (64 * class + seat) (ap (λ k. get_or seats k 0) place ∙ zero)))
         (λ (past : 64 ≤ seat). no_seat table seat class past)
         (cases_lt seat 64)
+
+    -- where a class's word has no bit from a seat on, the stacks from there on are empty
+    pub none_from : (class seat : ℕ) → class < 36 → get_or seats class 0 < 2 ^ seat → (other : ℕ) → seat ≤ other → stacks_of table other class ≡ []
+    none_from class seat is_class low other past = ⊎_elim
+        (λ (is_seat : other < 64).
+        let number = 64 * class + other in
+        let word : number / 64 ≡ class = omega arith in
+        let bit : number % 64 ≡ other = omega arith in
+        none_by_bit other class is_seat is_class
+        (has_in_word seats number (get_or seats class 0) (ap (λ k. get_or seats k 0) word) ∙ ap (λ b. eqb (bit_at (get_or seats class 0) b) 1) bit ∙ ap (λ b. eqb b 1) (bit_at_above (get_or seats class 0) seat other low past)))
+        (λ (last : 64 ≤ other). no_seat table other class last)
+        (cases_lt other 64)
 
     -- the least bit of a class's word is that of the seat that is stolen from
     pub steals : (class number seat : ℕ) → class < 36 → seat ≡ number % 64 → IsLeastIn seats (64 * class) 64 number → (result : Option ℕ) (new : StackTable) →

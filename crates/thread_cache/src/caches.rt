@@ -117,7 +117,7 @@ impl ThreadCaches {
     }
 
     /// Takes all addresses in the slab that begins at byte `slab`, a multiple of 16384, out of all stacks. The others keep
-    /// their order. It looks at one word for each class, and at the stacks of a class that are not empty.
+    /// their order. It looks at one word for each class, and at the stacks of a class up to the last that is not empty.
     pub fn purge_slab(&mut self, slab: u32)
         requires { slab % 16384 ≡ 0 }
         ensures stacks { stacks_of self.new ≡ without_slab (stacks_of self.old) (slab / 16384) }
@@ -153,10 +153,11 @@ impl ThreadCaches {
         requires class { class < 36 }
         ensures { IsPurgedWhere (slab / 16384) (λ other c. c == class) (stacks_of self.old) (stacks_of self.new) }
     {
-        if self.seats[class as usize] == 0 {
-            return;
-        }
+        let seats = self.seats[class as usize];
         for seat in 0..SEATS {
+            if seats >> seat == 0 {
+                return;
+            }
             self.purge_stack(slab, seat, class);
         }
     }

@@ -1,12 +1,12 @@
 -- Numbers at the front of a text, and that a text has one at most.
-use Rattle.std.proofs.Common.{◌≡◌, ℕ, zero, suc, ◌+◌, ◌*◌, ◌-◌, ◌<◌, ◌≤◌, ◌^◌, List, [], ◌∷◌, ◌++◌, length, take, drop, get_or, refl, sym, ◌∙◌, ap, subst, arith}
+use Rattle.std.proofs.Common.{◌≡◌, ℕ, zero, suc, ◌+◌, ◌*◌, ◌-◌, ◌<◌, ◌≤◌, ◌^◌, List, [], ◌∷◌, ◌++◌, length, take, drop, get_or, refl, sym, ◌∙◌, ap, subst, arith, lit≤}
 use Rattle.std.specs.Prelude.{decimal}
 use Rattle.std.specs.Char.{digit_value}
 use Rattle.std.specs.Int.{IsInRange}
 use Rattle.std.specs.Str.Parse.{AllDigits, digits_value, digits_value_after}
 use Rattle.std.proofs.lemmas.List.{append-nil, take_more, take-append-drop, take_at, take_rest, length-take-le, get_or-take}
 use Rattle.std.proofs.lemmas.Str.{digit_value_digit}
-use Rattle.std.proofs.lemmas.Str.Parse.{digit_from_value, tells_digits, numerals_by_value, digits_value-take-le}
+use Rattle.std.proofs.lemmas.Str.Parse.{digit_from_value, tells_digits, numerals_by_value, digits_value-take-le, digits_value_short}
 use Rattle.std.proofs.lemmas.Fmt.{decimal_is_IsNumeral, decimal_injective, decimal_nonempty, decimal_digit, first_decimal, decimal-digits_value}
 use Rattle.trace_text.specs.Numbers.{BeginsWithoutDigit, HasDigits, HasTooManyDigits, IsNumberThen}
 
@@ -69,6 +69,15 @@ digits_further text value many further so_far lt r is =
       writes = ap (digits_value 10) e ∙ digits_value_push (take many text) (get_or text many 0) r ∙ ap (λ v. v * 10 + (get_or text many 0 - 48)) so_far.writes ∙ sym is;
     }
 
+-- behind fewer than 19 digits there is room for one more
+pub one_more_fits : (text : List ℕ) (value many : ℕ) → DigitsSoFar text value many → many ≤ length text → many ≤ 18 → value * 10 + 9 < 2 ^ 64
+one_more_fits text value many so_far within few =
+    let long = length-take-le many text within in
+    let short = digits_value_short (numerals_by_value (AllDigits 10) tells_digits) (take many text) 18 so_far.digits (omega (arith, long, few)) in
+    let below : 10 ^ 18 ≤ 1844674407370955160 = lit≤ tt in
+    let wide : 18446744073709551616 ≤ 2 ^ 64 = lit≤ tt in
+    omega (arith, short, so_far.writes, below, wide)
+
 -- a further digit that takes the value past 64 bits
 pub too_many : (text : List ℕ) (value many : ℕ) → DigitsSoFar text value many → many < length text → IsInRange 48 57 (get_or text many 0) → 2 ^ 64 ≤ value * 10 + (get_or text many 0 - 48) → HasTooManyDigits text
 too_many text value many so_far lt r large =
@@ -124,6 +133,10 @@ number_from_digits text value many has fits some plain =
 -- a number before a space
 pub as_field : (line : List ℕ) (number : ℕ) (rest : List ℕ) → number < 2 ^ 64 → line ≡ decimal number ++ 32 ∷ rest → IsNumberThen line number (32 ∷ rest)
 as_field line number rest fits is = record { is = is; fits = fits; ends = λ r. omega (arith, r.0) }
+
+-- a digit before a space
+pub digit_field : (line : List ℕ) (digit : ℕ) (rest : List ℕ) → digit < 10 → line ≡ (48 + digit) ∷ 32 ∷ rest → line ≡ decimal digit ++ 32 ∷ rest
+digit_field line digit rest small is = is ∙ ap (λ (ds : List ℕ). ds ++ 32 ∷ rest) (sym (decimal_digit digit small))
 
 -- a number at the end
 pub as_last : (line : List ℕ) (number : ℕ) → number < 2 ^ 64 → line ≡ decimal number → IsNumberThen line number []

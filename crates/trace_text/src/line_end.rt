@@ -48,13 +48,27 @@ impl LineEnd {
         self.start = start;
     }
 
-    /// Puts a number ahead of the text.
-    pub(crate) fn put_number(&mut self, number: u64)
+    // Puts the digits of a number ahead of the text.
+    fn put_digits(&mut self, number: u64)
         requires { 20 + length self.old ≤ 160 }
         ensures text { self.new ≡ decimal number ++ self.old }
         ensures few { length self.new ≤ 20 + length self.old }
     {
         self.start = write_digits(number, &mut self.bytes, self.start);
+    }
+
+    /// Puts a number ahead of the text.
+    #[inline(always)]
+    pub(crate) fn put_number(&mut self, number: u64)
+        requires { 20 + length self.old ≤ 160 }
+        ensures text { self.new ≡ decimal number ++ self.old }
+        ensures few { length self.new ≤ 20 + length self.old }
+    {
+        if number < 10 {
+            self.put(&[b'0' + number as u8]);
+        } else {
+            self.put_digits(number);
+        }
     }
 
     /// Puts bytes and a number ahead of the text.

@@ -1,6 +1,9 @@
 // Numbers in a line: decimal, without a sign and without leading zeros.
-ghost use Rattle.std.specs.Prelude.{◌≡◌, ◌≢◌, ◌↔◌, ℕ, List, ◌+◌, ◌*◌, ◌^◌, ◌<◌, ◌≤◌, ◌∷◌, ◌++◌, length, slice_index, decimal, IsTrue, MatchOption, SomeIff};
+ghost use Rattle.std.specs.Prelude.{◌≡◌, ◌≢◌, ◌↔◌, ℕ, List, ◌+◌, ◌*◌, ◌^◌, ◌<◌, ◌≤◌, ◌∷◌, ◌++◌, length, slice_index, decimal, IsTrue, IfSome, MatchOption, SomeIff};
 ghost use Rattle.trace_text.specs.Numbers.{HasDigits, HasTooManyDigits, IsNumberThen};
+
+/// Numbers of so many digits are below 2^64, whichever they are.
+const SAFE_DIGITS: usize = 19;
 
 /// A number with one more digit; none where 64 bits are too few.
 fn with_digit(value: u64, digit: u8) -> Option<u64>
@@ -10,8 +13,31 @@ fn with_digit(value: u64, digit: u8) -> Option<u64>
     value.checked_mul(10)?.checked_add(u64::from(digit))
 }
 
-/// The value of the digits at the front of a text, and how many they are; none where 64 bits are too few.
-fn read_digits(text: &[u8]) -> Option<(u64, usize)>
+/// The value of the digits at the front of a text, and how many they are; none where they are more than 19. With fewer no sum
+/// of theirs needs more than 64 bits.
+#[inline(always)]
+fn read_few_digits(text: &[u8]) -> Option<(u64, usize)>
+    ensures { IfSome result (λ found. HasDigits text.now found.0 found.1) }
+{
+    let mut value: u64 = 0;
+    let mut many = 0;
+    while many < text.len() {
+        let byte = text[many];
+        if !byte.is_ascii_digit() {
+            break;
+        }
+        if many == SAFE_DIGITS {
+            return None;
+        }
+        value = value * 10 + u64::from(byte - b'0');
+        many += 1;
+    }
+    Some((value, many))
+}
+
+/// The value of the digits at the front of a text, however many, and how many they are; none where 64 bits are too few.
+#[inline(never)]
+fn read_many_digits(text: &[u8]) -> Option<(u64, usize)>
     ensures { MatchOption result (HasTooManyDigits text.now) (λ found. HasDigits text.now found.0 found.1) }
 {
     let mut value: u64 = 0;
@@ -27,6 +53,17 @@ fn read_digits(text: &[u8]) -> Option<(u64, usize)>
     Some((value, text.len()))
 }
 
+/// The value of the digits at the front of a text, and how many they are; none where 64 bits are too few.
+#[inline(always)]
+fn read_digits(text: &[u8]) -> Option<(u64, usize)>
+    ensures { MatchOption result (HasTooManyDigits text.now) (λ found. HasDigits text.now found.0 found.1) }
+{
+    match read_few_digits(text) {
+        Some(found) => Some(found),
+        None => read_many_digits(text),
+    }
+}
+
 /// Whether these many digits at the front of a text begin with a zero that a number does without.
 fn is_padded(text: &[u8], many: usize) -> bool
     requires { many ≤ length text.now }
@@ -36,6 +73,7 @@ fn is_padded(text: &[u8], many: usize) -> bool
 }
 
 /// The number of 64 bits at the front of a text, and what follows it; none where there is no such number.
+#[inline(always)]
 pub fn read_number(text: &[u8]) -> Option<(u64, &[u8])>
     ensures { MatchOption result ((number : ℕ) (rest : List ℕ) → ¬ (IsNumberThen text.now number rest)) (λ found. IsNumberThen text.now found.0 found.1.now) }
 {
@@ -56,23 +94,67 @@ pub fn after<'a>(text: &'a [u8], front: &[u8]) -> Option<&'a [u8]>
     text.strip_prefix(front)
 }
 
-/// The number up to the first space of a line, and what follows the space; none where that is no number of at most
+/// The digit that a line is up to its first space, and what follows the space; none where it begins otherwise.
+#[inline(always)]
+fn read_digit_field(line: &[u8]) -> Option<(u64, &[u8])>
+    ensures { IfSome result (λ found. (found.0 < 10) × (line.now ≡ (48 + found.0) ∷ 32 ∷ found.1.now)) }
+{
+    match line {
+        [digit, b' ', rest @ ..] if digit.is_ascii_digit() => Some((
+            u64::from(*digit - b'0'),
+            rest,
+        )),
+        _ => None,
+    }
+}
+
+/// What follows the space that a text begins with; none where it begins with none.
+#[inline(always)]
+fn behind_space(text: &[u8]) -> Option<&[u8]>
+    ensures { MatchOption result ((rest : List ℕ) → text.now ≢ 32 ∷ rest) (λ rest. text.now ≡ 32 ∷ rest.now) }
+{
+    match text {
+        [b' ', rest @ ..] => Some(rest),
+        _ => None,
+    }
+}
+
+/// The number of 64 bits up to the first space of a line, and what follows the space; none where that is no number of at most
 /// `most`.
-pub(crate) fn read_field(line: &[u8], most: u64) -> Option<(u64, &[u8])>
+#[inline(always)]
+fn read_long_field(line: &[u8], most: u64) -> Option<(u64, &[u8])>
     ensures { MatchOption result ((number : ℕ) (rest : List ℕ) → number ≤ most → line.now ≢ decimal number ++ 32 ∷ rest) (λ found. (found.0 ≤ most) × (line.now ≡ decimal found.0 ++ 32 ∷ found.1.now)) }
 {
     let (number, rest) = read_number(line)?;
     if number > most {
         return None;
     }
-    match after(rest, b" ") {
+    match behind_space(rest) {
         Some(rest) => Some((number, rest)),
         None => None,
     }
 }
 
+/// The number up to the first space of a line, and what follows the space; none where that is no number of at most
+/// `most`. Most threads and arenas have one digit.
+#[inline(always)]
+pub(crate) fn read_field(line: &[u8], most: u64) -> Option<(u64, &[u8])>
+    ensures { MatchOption result ((number : ℕ) (rest : List ℕ) → number ≤ most → line.now ≢ decimal number ++ 32 ∷ rest) (λ found. (found.0 ≤ most) × (line.now ≡ decimal found.0 ++ 32 ∷ found.1.now)) }
+{
+    match read_digit_field(line) {
+        Some((digit, rest)) => {
+            if digit > most {
+                return None;
+            }
+            Some((digit, rest))
+        }
+        None => read_long_field(line, most),
+    }
+}
+
 /// The number that a text is as a whole, in decimal, without a sign and without leading zeros; none where it is no
 /// number of at most `most`.
+#[inline(always)]
 pub fn whole_number(text: &[u8], most: u64) -> Option<u64>
     ensures { MatchOption result ((number : ℕ) → number ≤ most → text.now ≢ decimal number) (λ number. (number ≤ most) × (text.now ≡ decimal number)) }
 {

@@ -61,18 +61,17 @@ fn put_reply(line: &mut LineEnd, reply: Reply)
     }
 }
 
-// The line of an entry.
-fn entry_end(entry: Entry) -> LineEnd
-    ensures { result ≡ entry_line entry }
+// Puts the line of an entry into a line that has no text.
+fn put_entry(line: &mut LineEnd, entry: Entry)
+    requires { line.old ≡ [] }
+    ensures { line.new ≡ entry_line entry }
 {
-    let mut line = LineEnd::new();
     line.put(b"\n");
-    put_reply(&mut line, entry.reply);
+    put_reply(line, entry.reply);
     line.put(b" ");
-    put_call(&mut line, entry.call);
+    put_call(line, entry.call);
     line.put(b" ");
     line.put_number(u64::from(entry.seat));
-    line
 }
 
 /// Writes the line of an entry of a journal behind what stands in `out`. Where memory runs out, what stood there still
@@ -81,7 +80,9 @@ pub fn write_entry(out: &mut Vec<u8>, entry: Entry) -> Result<(), OutOfMemory>
     ensures text { OnOk result (out.new.items ≡ out.old.items ++ entry_line entry) }
     ensures kept { OnErr result (BeginsWith out.new.items out.old.items) }
 {
-    write_bytes(out, entry_end(entry).text())
+    let mut line = LineEnd::new();
+    put_entry(&mut line, entry);
+    write_bytes(out, line.text())
 }
 
 /// Writes a block of a heap.

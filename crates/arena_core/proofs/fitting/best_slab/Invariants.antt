@@ -1,11 +1,13 @@
-use Rattle.std.proofs.Common.{◌<◌, IfSome, length}
-use Rattle.arena_core.proofs.Common.{words_of}
-use Rattle.arena_core.proofs.BestSlabs.{IsSought, left_behind}
+use Rattle.std.proofs.Common.{◌<◌, MatchOption, IfSome, length}
+use Rattle.arena_core.proofs.Common.{words_of, AreLivesOf}
+use Rattle.slab_lives.specs.Lives.{HasNoSparse, IsFirstSparse}
+use Rattle.arena_core.proofs.BestSlabs.{left_behind}
 use Rattle.arena_core.proofs.fitting.best_slab.Given as goal
 
 abbrev pub invariant-loop-next : goal.invariant-loop-next
 invariant-loop-next g l = record {
-  sought : IsSought (words_of (g.P.Pmem.state l.device)) l.lives l.class l.next;
+  lives : AreLivesOf l.lives (words_of (g.P.Pmem.state l.device));
+  first : MatchOption l.next (HasNoSparse l.lives l.class) (IsFirstSparse l.lives l.class);
   inside : IfSome l.next (λ found. found.start < length l.lives.counts);
 }
 

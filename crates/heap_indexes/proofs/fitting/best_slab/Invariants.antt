@@ -1,10 +1,13 @@
-use Rattle.std.proofs.Common.{◌<◌, IfSome, length}
-use Rattle.heap_indexes.proofs.BestSlabs.{IsSought, left_behind}
+use Rattle.std.proofs.Common.{◌<◌, MatchOption, IfSome, length}
+use Rattle.slab_lives.specs.Lives.{HasNoSparse, IsFirstSparse}
+use Rattle.heap_indexes.specs.Fitting.{AreNotedBesides}
+use Rattle.heap_indexes.proofs.BestSlabs.{left_behind}
 use Rattle.heap_indexes.proofs.fitting.best_slab.Given as goal
 
 abbrev pub invariant-loop-next : goal.invariant-loop-next
 invariant-loop-next l = record {
-  sought : IsSought l.lives l.units l.class l.next;
+  noted : AreNotedBesides l.initial.lives l.units l.class l.lives;
+  first : MatchOption l.next (HasNoSparse l.lives l.class) (IsFirstSparse l.lives l.class);
   inside : IfSome l.next (λ found. found.start < length l.lives.counts);
 }
 

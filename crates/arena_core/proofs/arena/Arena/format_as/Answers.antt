@@ -1,5 +1,5 @@
 use Rattle.std.proofs.Common.{sym, ap, arith}
-use Rattle.arena_core.proofs.Common.{Layout, layout_of, layout_rules}
+use Rattle.arena_core.proofs.Common.{Layout, layout_rules}
 use Rattle.arena_core.proofs.Formats.{IsWritten, formatted_device, formatted_crash, formatted_ready, formatted_exact, formatted_log, formatted_arena}
 use Rattle.arena_core.proofs.arena.Arena.format_as.Given as given
 use Rattle.arena_core.proofs.arena.Arena.format_as.Goals as goal
@@ -18,7 +18,7 @@ load-requires-clause-log g c = formatted_log (written g c) _ (sym c.granules.ens
 pub invariant_of-result : goal.invariant_of-result
 invariant_of-result g c =
     formatted_arena (g.P.Pmem.state c.write_header.new.device) (record { version = c.args.version; number = c.args.number; arenas = c.args.arenas; granules = c.granules.result }) (record c.room.inside.volatile { free = c.take_front.new.free; log = c.load.new.self })
-    (formatted_ready (written g c.before)) (formatted_device (written g c.before)) c.load.ensures.reads (grind arith) (grind arith) (grind arith) (grind arith) c.room.invariant.no_slab (grind arith) c.room.invariant.no_lives c.room.invariant.no_normal c.room.invariant.first
+    (formatted_ready (written g c.before)) (formatted_device (written g c.before)) c.load.ensures.reads (grind arith) (grind arith) (grind arith) (grind arith) c.room.invariant.no_slab (grind arith) c.room.invariant.no_lives c.room.invariant.no_normal c.room.invariant.no_unfit c.room.invariant.first
 
 pub returns-clause-exact : goal.returns-clause-exact
 returns-clause-exact g c = (formatted_exact (written g c.before)).0

@@ -19,7 +19,7 @@ add_used-requires-clause-fresh g c = c.remove.ensures.classes c.args.start ∙ w
 pub returns : goal.returns
 returns g c =
     let class = c.take_class.ensures in
-    let both = came_changed _ _ _ _ _ c.requires.may class.taken c.requires.fresh class.step class.count c.remove.ensures c.drop_normal.ensures.counts c.drop_normal.ensures.normal c.granule_at.ensures c.add_used.ensures c.used_blocks-used.ensures.unused in
+    let both = came_changed _ _ _ _ _ c.requires.may class.taken c.requires.fresh class.step class.count c.remove.ensures c.drop_normal.ensures.counts c.drop_normal.ensures.normal c.drop_normal.ensures.unfit c.granule_at.ensures c.add_used.ensures c.used_blocks-used.ensures.unused in
     record { came = both.0; supplied = both.1 }
 
 pub add_used-requires-clause-clear : goal.add_used-requires-clause-clear

@@ -13,4 +13,4 @@ pub returns-in-Some-best_slab-clause-found : goal.returns-in-Some-best_slab-clau
 returns-in-Some-best_slab-clause-found g c root size least = grind (arith, placing_morph)
 
 pub returns-in-Some-best_fit-clause-found : goal.returns-in-Some-best_fit-clause-found
-returns-in-Some-best_fit-clause-found g c root size least = placing_fresh c.requires.arena.current.index root size c.requires.arena.slabs c.args.class c.in-Some-best_fit.start least c.in_default.ensures.none c.in_default-best_slab.ensures c.in-Some-best_fit.ensures
+returns-in-Some-best_fit-clause-found g c root size least = placing_fresh c.requires.arena.current.index root size c.requires.arena.slabs c.args.class c.in-Some-best_fit.start least c.in_default.ensures.none c.in_default-best_slab.ensures.best c.in-Some-best_fit.ensures

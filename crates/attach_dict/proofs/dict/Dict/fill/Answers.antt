@@ -12,8 +12,8 @@ use Rattle.attach_dict.proofs.dict.Dict.fill.Goals as goal
 pub overflow_add-number : goal.overflow_add-number
 overflow_add-number g c =
     let s = c.self.inside in
-    let room : c.greatest_number-number.result ≢ 2 ^ 64 - 1 = fill_room s.arena s.arena s.index s.index s.key s.progress c.self.invariant c.args.value.now c.requires.key (rw (← c.self.view_is) at c.requires.is) c.greatest_number-number.result c.greatest_number-number.ensures in
-    omega (arith, room, c.greatest_number-number.type_inv)
+    let room : c.greatest-number.result ≢ 2 ^ 64 - 1 = fill_room s.arena s.arena s.index s.index s.key s.progress c.self.invariant c.args.value.now c.requires.key (rw (← c.self.view_is) at c.requires.is) c.greatest-number.result c.greatest-number.ensures in
+    omega (arith, room, c.greatest-number.type_inv)
 
 pub invariant_of-self : goal.invariant_of-self
 invariant_of-self g c =
@@ -21,10 +21,10 @@ invariant_of-self g c =
     let size : length c.lay_out.new.block ≡ s.index.block.len = omega (arith, c.lay_out.auto.block, ap (λ (xs : List ℕ). length xs) c.deref_mut.ensures.value, s.index.block.ok.0) in
     let items = with_items_is s.index.block c.lay_out.new.block size in
     let wide : length (with_items s.index.block c.lay_out.new.block).items ≡ 512 = ap (λ (xs : List ℕ). length xs) items ∙ (size ∙ (s.index.block.ok.0 ∙ c.self.invariant.indexes.wide)) in
-    let after : DictIndex = record { by_key = s.index.by_key; by_number = s.index.by_number; free = s.index.free; stale = s.index.stale; block = with_items s.index.block c.lay_out.new.block } in
-    let words_are : take (3 + length c.args.value.now) c.deref.result.now ≡ block_words s.key (c.greatest_number-number.result + 1) c.args.value.now =
+    let after : DictIndex = record { keys = s.index.keys; numbers = s.index.numbers; free = s.index.free; stale = s.index.stale; block = with_items s.index.block c.lay_out.new.block } in
+    let words_are : take (3 + length c.args.value.now) c.deref.result.now ≡ block_words s.key (c.greatest-number.result + 1) c.args.value.now =
     ap (λ (xs : List ℕ). take (3 + length c.args.value.now) xs) (c.deref.ensures.value ∙ items) ∙ c.lay_out.ensures in
-    fill_whole s.arena c.fill_block.new.arena s.index after s.key s.progress c.self.invariant c.args.value.now c.requires.key (rw (← c.self.view_is) at c.requires.is) c.greatest_number-number.result c.greatest_number-number.ensures wide (take (3 + length c.args.value.now) c.deref.result.now) words_are
+    fill_whole s.arena c.fill_block.new.arena s.index after s.key s.progress c.self.invariant c.args.value.now c.requires.key (rw (← c.self.view_is) at c.requires.is) c.greatest-number.result c.greatest-number.ensures wide (take (3 + length c.args.value.now) c.deref.result.now) words_are
     c.fill_block.ensures
 
 pub returns-clause-filled : goal.returns-clause-filled
@@ -33,11 +33,11 @@ returns-clause-filled g c = λ key phase.
     let size : length c.lay_out.new.block ≡ s.index.block.len = omega (arith, c.lay_out.auto.block, ap (λ (xs : List ℕ). length xs) c.deref_mut.ensures.value, s.index.block.ok.0) in
     let items = with_items_is s.index.block c.lay_out.new.block size in
     let wide : length (with_items s.index.block c.lay_out.new.block).items ≡ 512 = ap (λ (xs : List ℕ). length xs) items ∙ (size ∙ (s.index.block.ok.0 ∙ c.self.invariant.indexes.wide)) in
-    let after : DictIndex = record { by_key = s.index.by_key; by_number = s.index.by_number; free = s.index.free; stale = s.index.stale; block = with_items s.index.block c.lay_out.new.block } in
-    let words_are : take (3 + length c.args.value.now) c.deref.result.now ≡ block_words s.key (c.greatest_number-number.result + 1) c.args.value.now =
+    let after : DictIndex = record { keys = s.index.keys; numbers = s.index.numbers; free = s.index.free; stale = s.index.stale; block = with_items s.index.block c.lay_out.new.block } in
+    let words_are : take (3 + length c.args.value.now) c.deref.result.now ≡ block_words s.key (c.greatest-number.result + 1) c.args.value.now =
     ap (λ (xs : List ℕ). take (3 + length c.args.value.now) xs) (c.deref.ensures.value ∙ items) ∙ c.lay_out.ensures in
     subst (λ (d : DictState). HasFilled d (state_of c.fill_block.new.arena after s.key stages.Filled) key c.args.value.now) c.self.view_is
-    (fill_done s.arena c.fill_block.new.arena s.index after s.key s.progress c.self.invariant c.args.value.now c.requires.key (rw (← c.self.view_is) at c.requires.is) c.greatest_number-number.result c.greatest_number-number.ensures wide (take (3 + length c.args.value.now) c.deref.result.now) words_are
+    (fill_done s.arena c.fill_block.new.arena s.index after s.key s.progress c.self.invariant c.args.value.now c.requires.key (rw (← c.self.view_is) at c.requires.is) c.greatest-number.result c.greatest-number.ensures wide (take (3 + length c.args.value.now) c.deref.result.now) words_are
     c.fill_block.ensures key (rw (← c.self.view_is) at phase))
 
 pub returns-clause-kept : goal.returns-clause-kept
@@ -46,8 +46,8 @@ returns-clause-kept g c =
     let size : length c.lay_out.new.block ≡ s.index.block.len = omega (arith, c.lay_out.auto.block, ap (λ (xs : List ℕ). length xs) c.deref_mut.ensures.value, s.index.block.ok.0) in
     let items = with_items_is s.index.block c.lay_out.new.block size in
     let wide : length (with_items s.index.block c.lay_out.new.block).items ≡ 512 = ap (λ (xs : List ℕ). length xs) items ∙ (size ∙ (s.index.block.ok.0 ∙ c.self.invariant.indexes.wide)) in
-    let after : DictIndex = record { by_key = s.index.by_key; by_number = s.index.by_number; free = s.index.free; stale = s.index.stale; block = with_items s.index.block c.lay_out.new.block } in
-    let words_are : take (3 + length c.args.value.now) c.deref.result.now ≡ block_words s.key (c.greatest_number-number.result + 1) c.args.value.now =
+    let after : DictIndex = record { keys = s.index.keys; numbers = s.index.numbers; free = s.index.free; stale = s.index.stale; block = with_items s.index.block c.lay_out.new.block } in
+    let words_are : take (3 + length c.args.value.now) c.deref.result.now ≡ block_words s.key (c.greatest-number.result + 1) c.args.value.now =
     ap (λ (xs : List ℕ). take (3 + length c.args.value.now) xs) (c.deref.ensures.value ∙ items) ∙ c.lay_out.ensures in
-    (fill_whole s.arena c.fill_block.new.arena s.index after s.key s.progress c.self.invariant c.args.value.now c.requires.key (rw (← c.self.view_is) at c.requires.is) c.greatest_number-number.result c.greatest_number-number.ensures wide (take (3 + length c.args.value.now) c.deref.result.now) words_are
+    (fill_whole s.arena c.fill_block.new.arena s.index after s.key s.progress c.self.invariant c.args.value.now c.requires.key (rw (← c.self.view_is) at c.requires.is) c.greatest-number.result c.greatest-number.ensures wide (take (3 + length c.args.value.now) c.deref.result.now) words_are
     c.fill_block.ensures).kept

@@ -1,4 +1,4 @@
-use Rattle.attach_dict.proofs.Scans.{opened_whole}
+use Rattle.attach_dict.proofs.Openings.{opened_whole}
 use Rattle.attach_dict.proofs.dict.Dict.open.Goals as goal
 
 pub invariant_of-result : goal.invariant_of-result

@@ -14,15 +14,15 @@ use Rattle.attach_dict.proofs.dict.Dict.stage.Goals as goal
 pub returns-then-len-eq0-clause-staged : goal.returns-then-len-eq0-clause-staged
 returns-then-len-eq0-clause-staged g c =
     let s = c.self.inside in (
-      rw (← c.self.view_is) (full_counted (words_of s.arena.device) s.index.by_key s.index.by_number s.index.free c.self.invariant.indexes.orders c.len.ensures.sound (sym c.len.ensures.count ∙ c.if-len-eq0.true)),
+      rw (← c.self.view_is) (full_counted (words_of s.arena.device) s.index.free c.self.invariant.indexes.tables.free_are c.len.ensures.sound (sym c.len.ensures.count ∙ c.if-len-eq0.true)),
       refl,
     )
 
-pub returns-then-greatest_number-clause-staged : goal.returns-then-greatest_number-clause-staged
-returns-then-greatest_number-clause-staged g c =
+pub returns-then-greatest-clause-staged : goal.returns-then-greatest-clause-staged
+returns-then-greatest-clause-staged g c =
     let s = c.self.inside in (
-      rw (← c.self.view_is) (not_full (words_of s.arena.device) s.index.by_key s.index.by_number s.index.free c.self.invariant.indexes.orders c.len.ensures.sound (λ zero. c.if-len-eq0.false (c.len.ensures.count ∙ zero))),
-      rw (← c.self.view_is) (spent (words_of s.arena.device) c.self.invariant.kept.exact s.index.by_key s.index.by_number s.index.free c.self.invariant.indexes.orders c.greatest_number.result c.greatest_number.ensures c.if-greatest_number.true),
+      rw (← c.self.view_is) (not_full (words_of s.arena.device) s.index.free c.self.invariant.indexes.tables.free_are c.len.ensures.sound (λ zero. c.if-len-eq0.false (c.len.ensures.count ∙ zero))),
+      rw (← c.self.view_is) (spent (words_of s.arena.device) c.self.invariant.kept.exact s.index.keys s.index.numbers s.index.free c.self.invariant.indexes.tables c.greatest.result c.greatest.ensures c.if-greatest.true),
       refl,
     )
 
@@ -35,8 +35,8 @@ returns-in_err-take_block-clause-staged g c =
     let words = words_of s.arena.device in
     let idle : phase_in words s.key s.progress ≡ Idle = rw (← c.self.view_is) at c.requires.idle in
     let tidy : AreNoneStale words Idle = rw (← c.self.view_is) at c.requires.tidy in
-    let less : c.greatest_number.result < 2 ^ 64 - 1 = omega (arith, c.greatest_number.type_inv, c.if-greatest_number.false) in
-    let room : HasRoomForPair words = room_here s.arena s.index s.key s.progress c.self.invariant c.len.ensures.sound (λ zero. c.if-len-eq0.false (c.len.ensures.count ∙ zero)) c.greatest_number.result c.greatest_number.ensures less in
+    let less : c.greatest.result < 2 ^ 64 - 1 = omega (arith, c.greatest.type_inv, c.if-greatest.false) in
+    let room : HasRoomForPair words = room_here s.arena s.index s.key s.progress c.self.invariant c.len.ensures.sound (λ zero. c.if-len-eq0.false (c.len.ensures.count ∙ zero)) c.greatest.result c.greatest.ensures less in
     let p = err_from_is_err_and c.from_residual.result c.from_residual.ensures.1 in
     let is : c.from_residual.result ≡ Err c.in_err-take_block.field-0.0 = p.1 ∙ ap Err p.2 in
     subst (λ (d : DictState). IsStagedBy d (state_of c.take_block.new.arena s.index s.key s.progress) c.args.key c.args.count c.from_residual.result) c.self.view_is
@@ -49,8 +49,8 @@ invariant_of-self-2 g c =
     let words = words_of s.arena.device in
     let idle : phase_in words s.key s.progress ≡ Idle = rw (← c.self.view_is) at c.requires.idle in
     let tidy : AreNoneStale words Idle = rw (← c.self.view_is) at c.requires.tidy in
-    let less : c.greatest_number.result < 2 ^ 64 - 1 = omega (arith, c.greatest_number.type_inv, c.if-greatest_number.false) in
-    let room : HasRoomForPair words = room_here s.arena s.index s.key s.progress c.self.invariant c.len.ensures.sound (λ zero. c.if-len-eq0.false (c.len.ensures.count ∙ zero)) c.greatest_number.result c.greatest_number.ensures less in
+    let less : c.greatest.result < 2 ^ 64 - 1 = omega (arith, c.greatest.type_inv, c.if-greatest.false) in
+    let room : HasRoomForPair words = room_here s.arena s.index s.key s.progress c.self.invariant c.len.ensures.sound (λ zero. c.if-len-eq0.false (c.len.ensures.count ∙ zero)) c.greatest.result c.greatest.ensures less in
     stage_whole s.arena c.take_block.new.arena s.index s.key s.progress c.self.invariant idle tidy room c.args.count c.args.key c.requires.few c.in_ok-take_block.ensures
 
 pub returns-clause-staged : goal.returns-clause-staged
@@ -59,8 +59,8 @@ returns-clause-staged g c =
     let words = words_of s.arena.device in
     let idle : phase_in words s.key s.progress ≡ Idle = rw (← c.self.view_is) at c.requires.idle in
     let tidy : AreNoneStale words Idle = rw (← c.self.view_is) at c.requires.tidy in
-    let less : c.greatest_number.result < 2 ^ 64 - 1 = omega (arith, c.greatest_number.type_inv, c.if-greatest_number.false) in
-    let room : HasRoomForPair words = room_here s.arena s.index s.key s.progress c.self.invariant c.len.ensures.sound (λ zero. c.if-len-eq0.false (c.len.ensures.count ∙ zero)) c.greatest_number.result c.greatest_number.ensures less in
+    let less : c.greatest.result < 2 ^ 64 - 1 = omega (arith, c.greatest.type_inv, c.if-greatest.false) in
+    let room : HasRoomForPair words = room_here s.arena s.index s.key s.progress c.self.invariant c.len.ensures.sound (λ zero. c.if-len-eq0.false (c.len.ensures.count ∙ zero)) c.greatest.result c.greatest.ensures less in
     subst (λ (d : DictState). HasStaged d (state_of c.take_block.new.arena s.index c.args.key (stages.Staged c.args.count)) c.args.key c.args.count) c.self.view_is
     (stage_done s.arena c.take_block.new.arena s.index s.key s.progress c.self.invariant idle tidy room c.args.count c.args.key c.requires.few c.in_ok-take_block.ensures)
 
@@ -70,6 +70,6 @@ returns-clause-kept g c =
     let words = words_of s.arena.device in
     let idle : phase_in words s.key s.progress ≡ Idle = rw (← c.self.view_is) at c.requires.idle in
     let tidy : AreNoneStale words Idle = rw (← c.self.view_is) at c.requires.tidy in
-    let less : c.greatest_number.result < 2 ^ 64 - 1 = omega (arith, c.greatest_number.type_inv, c.if-greatest_number.false) in
-    let room : HasRoomForPair words = room_here s.arena s.index s.key s.progress c.self.invariant c.len.ensures.sound (λ zero. c.if-len-eq0.false (c.len.ensures.count ∙ zero)) c.greatest_number.result c.greatest_number.ensures less in
+    let less : c.greatest.result < 2 ^ 64 - 1 = omega (arith, c.greatest.type_inv, c.if-greatest.false) in
+    let room : HasRoomForPair words = room_here s.arena s.index s.key s.progress c.self.invariant c.len.ensures.sound (λ zero. c.if-len-eq0.false (c.len.ensures.count ∙ zero)) c.greatest.result c.greatest.ensures less in
     (stage_whole s.arena c.take_block.new.arena s.index s.key s.progress c.self.invariant idle tidy room c.args.count c.args.key c.requires.few c.in_ok-take_block.ensures).kept

@@ -49,4 +49,4 @@ pub returns-clause-indexes : goal.returns-clause-indexes
 returns-clause-indexes c =
     let ready = subst (λ (x : Indexes). IsFirstReady x.lives x.units c.args.class c.args.start) (sym c.self.view_is) c.requires.ready in
     let changed = changed_by c.self.inside.units c.self.inside.supply c.remove.new.self c.add_used.new.self c.args.start c.args.class c.used_blocks-used.result c.remove.ensures c.add_used.ensures c.used_blocks-used.ensures.blocks in
-    rw (sym c.self.view_is) (λ b m apart are. changed_indexes apart are c.add_used.new.self c.put_class.new.lives c.put.new.self c.args.start c.args.class c.at-live.result c.requires.class ready changed c.at-live.ensures c.put_class.ensures.counts c.put_class.ensures.normal c.put.ensures.size c.put.ensures.counts)
+    rw (sym c.self.view_is) (λ b m apart are. changed_indexes apart are c.add_used.new.self c.put_class.new.lives c.put.new.self c.args.start c.args.class c.at-live.result c.requires.class ready changed c.at-live.ensures c.put_class.ensures.counts c.put_class.ensures.unfit c.put_class.ensures.normal c.put.ensures.size c.put.ensures.counts)

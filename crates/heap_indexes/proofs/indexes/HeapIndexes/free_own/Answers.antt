@@ -23,4 +23,4 @@ returns-clause-loosened c =
     let slab = subst (λ (x : Indexes). class_in x.supply.slabs c.args.block.start ≡ Some c.args.class) (sym c.self.view_is) c.requires.slab in
     let came = c.put_back.ensures c.args.class slab in
     let cleared = rw (c.address_of-at.ensures, c.size_of_class.ensures.size) at c.clear.ensures in
-    rw (sym c.self.view_is) (λ b m root apart are named. own_back apart are root c.args.block.start c.args.class c.args.block.number named (sym (are.supply.classes c.args.block.start) ∙ slab) c.requires.within c.put_back.new.self c.lower.new.self c.clear.new.self came.with_block cleared c.lower.ensures.size c.lower.ensures.counts c.lower.ensures.normal)
+    rw (sym c.self.view_is) (λ b m root apart are named. own_back apart are root c.args.block.start c.args.class c.args.block.number named (sym (are.supply.classes c.args.block.start) ∙ slab) c.requires.within c.put_back.new.self c.lower.new.self c.clear.new.self came.with_block cleared c.lower.ensures.size c.lower.ensures.unfit c.lower.ensures.counts c.lower.ensures.normal)

@@ -40,4 +40,4 @@ returns-clause-loosened c =
     rw (sym c.self.view_is) (λ b m root apart are named.
     let home = home_of apart are root c.args.slab.start c.args.slab.class (record { at = c.args.at; size = c.args.size }) named c.requires.small inside in
     stranger_back apart are root c.args.slab.start c.args.slab.class (record { at = c.args.at; size = c.args.size }) named home.slab.slab home.lies c.requires.small c.requires.other c.open_covered.new.supply c.lower.new.lives c.put.new.self c.clear.new.self (c.at-left.result - 1)
-    c.open_covered.ensures c.clear.ensures c.lower.ensures.size c.lower.ensures.counts (ap (λ n. n - 1) c.at-left.ensures) c.lower.ensures.normal c.put.ensures.size c.put.ensures.counts)
+    c.open_covered.ensures c.clear.ensures c.lower.ensures.size c.lower.ensures.unfit c.lower.ensures.counts (ap (λ n. n - 1) c.at-left.ensures) c.lower.ensures.normal c.put.ensures.size c.put.ensures.counts)

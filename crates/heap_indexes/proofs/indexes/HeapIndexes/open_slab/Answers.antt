@@ -20,4 +20,4 @@ add-requires-clause-clear c =
 pub returns-clause-indexes : goal.returns-clause-indexes
 returns-clause-indexes c =
     let fit = subst (λ (x : Indexes). IsBestFit (IsFree x.free) 4 c.args.start) (sym c.self.view_is) c.requires.fit in
-    rw (sym c.self.view_is) (λ b m apart are. opened_indexes apart are c.take.new.self c.add.new.self c.put_normal.new.self c.put.new.self c.args.start c.args.class fit c.requires.class c.take.ensures.granules c.take.ensures.free c.add.ensures c.put_normal.ensures.counts c.put_normal.ensures.normal c.put.ensures.size c.put.ensures.counts)
+    rw (sym c.self.view_is) (λ b m apart are. opened_indexes apart are c.take.new.self c.add.new.self c.put_normal.new.self c.put.new.self c.args.start c.args.class fit c.requires.class c.take.ensures.granules c.take.ensures.free c.add.ensures c.put_normal.ensures.counts c.put_normal.ensures.unfit c.put_normal.ensures.normal c.put.ensures.size c.put.ensures.counts)

@@ -1,14 +1,15 @@
-use Rattle.std.proofs.Common.{sym, subst, refl}
-use Rattle.block_supply.specs.Supply.{HasNoOpen}
-use Rattle.heap_indexes.specs.Indexes.{Indexes, HaveState}
-use Rattle.heap_indexes.proofs.Placed.{normal_inside}
-use Rattle.heap_indexes.proofs.Ways.{no_site_small}
+use Rattle.std.proofs.Common.{sym, subst}
+use Rattle.block_supply.specs.Supply.{Supply, HasNoOpen}
+use Rattle.heap_indexes.proofs.Ways.{placed_noted}
 use Rattle.heap_indexes.proofs.indexes.HeapIndexes.place_anew.Goals as goal
 
-pub best_slab-requires-clause-inside : goal.best_slab-requires-clause-inside
-best_slab-requires-clause-inside c = let state = subst HaveState (sym c.self.view_is) c.requires.state in normal_inside state.apart state.are
+pub place_in-requires-clause-state : goal.place_in-requires-clause-state
+place_in-requires-clause-state c =
+    let state = c.requires.state in
+    record { bounds = state.bounds; machine = state.machine; apart = state.apart; are = c.best_slab-fit.ensures.indexes state.bounds state.machine state.apart state.are }
 
-pub returns-in-None : goal.returns-in-None
-returns-in-None c size least =
-    let full = subst (λ (x : Indexes). HasNoOpen x.supply c.args.class) (sym c.self.view_is) c.requires.full in
-    rw (sym c.self.view_is) (λ b m apart are. (no_site_small apart are size c.args.class least full c.in_default.ensures c.in-None.ensures, refl))
+pub place_in-requires-clause-full : goal.place_in-requires-clause-full
+place_in-requires-clause-full c = subst (λ (s : Supply). HasNoOpen s c.args.class) (sym c.best_slab-fit.ensures.supply) c.requires.full
+
+pub returns : goal.returns
+returns c size least b m apart are = placed_noted b m c.args.seat size c.args.self.now c.best_slab-fit.new.self c.place_in.new.self c.place_in.result c.best_slab-fit.ensures.supply (c.place_in.ensures size least b m apart (c.best_slab-fit.ensures.indexes b m apart are))

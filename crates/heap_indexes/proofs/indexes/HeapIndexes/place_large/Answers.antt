@@ -8,4 +8,4 @@ returns-in-Some c seat size large is =
 
 pub returns-in-None : goal.returns-in-None
 returns-in-None c seat size large is =
-    rw (sym c.self.view_is) (λ b m apart are. (no_site_large apart are size c.args.granules large is c.in-None.ensures, refl))
+    rw (sym c.self.view_is) (λ b m apart are. record { none = no_site_large apart are size c.args.granules large is c.in-None.ensures; indexes = are; supply = refl })

@@ -21,5 +21,5 @@ returns-in-Some c =
     let marked = rw (c.address_of-at.ensures, c.size_of_class.ensures.size) at c.mark.ensures in
     rw (sym c.self.view_is) (record {
       took = took;
-      indexes = λ b m apart are root below none. taken_indexes apart are c.take.new.self c.raise.new.self c.mark.new.self c.args.seat c.args.class c.in-Some.block root below none took marked c.raise.ensures.size c.raise.ensures.counts c.raise.ensures.normal;
+      indexes = λ b m apart are root below none. taken_indexes apart are c.take.new.self c.raise.new.self c.mark.new.self c.args.seat c.args.class c.in-Some.block root below none took marked c.raise.ensures.unfit c.raise.ensures.size c.raise.ensures.counts c.raise.ensures.normal;
     })

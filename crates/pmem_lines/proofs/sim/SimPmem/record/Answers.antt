@@ -6,7 +6,7 @@ use Rattle.pmem_lines.proofs.sim.SimPmem.record.Goals as goal
 pub invariant_of-self : goal.invariant_of-self
 invariant_of-self c =
     let s = c.self.inside in
-    let t = record s { cells = c.put-old.new.cells; recorded = c.push_reserved.new.self; made = c.saturating_add-self-inside.result } in
+    let t = record s { cells = c.put-old.new.cells; recorded = c.push_reserved.new.self } in
     let size = length_base s c.args.self.now c.self.view_is c.self.invariant in
     let put = c.put-old.ensures in
     record {
@@ -24,6 +24,6 @@ invariant_of-self c =
 pub returns : goal.returns
 returns c =
     let s = c.self.inside in
-    let t = record s { cells = c.put-old.new.cells; recorded = c.push_reserved.new.self; made = c.saturating_add-self-inside.result } in
+    let t = record s { cells = c.put-old.new.cells; recorded = c.push_reserved.new.self } in
     let put = c.put-old.ensures in
-    appends s t c.args.self.now c.args.event c.put-old.result put.before put.after c.push_reserved.ensures.items c.self.invariant c.self.view_is refl refl put.size (omega (arith, c.self.invariant.counted))
+    appends s t c.args.self.now c.args.event c.put-old.result put.before put.after c.push_reserved.ensures.items c.self.invariant c.self.view_is refl refl put.size refl

@@ -1,6 +1,6 @@
 use Rattle.std.proofs.Common.{sym, ◌∙◌, arith}
 use Rattle.slab_index.proofs.Lowest.{used_up, first_block}
-use Rattle.slab_index.proofs.Searches.{either}
+use Rattle.slab_index.proofs.Firsts.{either}
 use Rattle.slab_index.proofs.Views.{class_of_list, slab_inside}
 use Rattle.slab_index.proofs.index.SlabIndex.first_of.Goals as goal
 

@@ -6,7 +6,7 @@ use Rattle.slab_lives.proofs.lives.SlabLives.drop_normal.Goals as goal
 
 pub returns-clause-normal : goal.returns-clause-normal
 returns-clause-normal c s =
-    normal_at-is c.self.inside.counts c.remove.new.self s
+    normal_at-is c.self.inside.counts c.remove.new.self _ s
     ∙ class_with c.self.inside.normal c.remove.new.self c.args.start None c.remove.ensures.normal s
-    ∙ classes_with c.self.inside.counts c.self.inside.normal c.args.start None s
+    ∙ classes_with c.self.inside.counts c.self.inside.normal c.self.inside.unfit c.args.start None s
     ∙ ap (λ (l : Lives). with_key (normal_at l) c.args.start None s) c.self.view_is

@@ -6,7 +6,7 @@ use Rattle.slab_lives.proofs.lives.SlabLives.put_normal.Goals as goal
 
 pub returns-clause-normal : goal.returns-clause-normal
 returns-clause-normal c s =
-    normal_at-is c.self.inside.counts c.put.new.self s
+    normal_at-is c.self.inside.counts c.put.new.self _ s
     ∙ class_with c.self.inside.normal c.put.new.self c.args.start (Some (record { class = c.args.class; live = c.at.result })) c.put.ensures.normal s
-    ∙ classes_with c.self.inside.counts c.self.inside.normal c.args.start (Some c.args.class) s
+    ∙ classes_with c.self.inside.counts c.self.inside.normal c.self.inside.unfit c.args.start (Some c.args.class) s
     ∙ ap (λ (l : Lives). with_key (normal_at l) c.args.start (Some c.args.class) s) c.self.view_is

@@ -1,6 +1,0 @@
-use Rattle.pmem_lines.specs.Pmem.{words_of}
-use Rattle.attach_dict.specs.Reading.{IsScanned}
-use Rattle.attach_dict.proofs.opening.scan_pairs.Given as goal
-
-abbrev pub invariant-loop-root : goal.invariant-loop-root
-invariant-loop-root g l = IsScanned (words_of l.arena.device) l.root l.index

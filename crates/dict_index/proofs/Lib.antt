@@ -1,0 +1,11 @@
+pub mod Fresh
+pub mod Greatest
+pub mod Inserted
+pub mod Places
+pub mod Readings
+pub mod Removed
+pub mod Replaced
+pub mod Room
+pub mod Searches
+pub mod SlotRoots
+pub mod Turns

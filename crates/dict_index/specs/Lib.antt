@@ -1,0 +1,3 @@
+pub mod KeyRoots
+pub mod Numbers
+pub mod Kept

@@ -1,0 +1,181 @@
+// Maps from keys to roots.
+ghost use Rattle.std.specs.Prelude.{◌≡◌, ◌≤◌, ◌<◌, ◌^◌, length};
+ghost use Rattle.dict_index.specs.KeyRoots.{IsKeyMap, LacksRoot};
+
+use dict_index::{KeyMap, Keyed};
+use pmem_lines::OutOfMemory;
+use rand_core::SeedableRng;
+use rand_core::utils::NextWord;
+use rand_xoshiro::SplitMix64;
+use std::alloc::{AllocError, Global};
+use std::test::Fail;
+
+// A map in which these keys have roots 0, 1 and so on. Where one comes twice its last root counts.
+#[tactic(auto, using(crate::proofs::Maps::put_roots, crate::proofs::Maps::put_below))]
+fn map_of(alloc: Global, keys: &[u64]) -> Result<KeyMap, OutOfMemory>
+    requires { length keys.now < 2 ^ 16 }
+{
+    let mut map = KeyMap::with_room(alloc, keys.len() as u32)?;
+    for (i, key) in keys.iter().enumerate() {
+        let root = i as u32;
+        let _ = map.put(Keyed { key: *key, root });
+    }
+    Ok(map)
+}
+
+// A map of the most roots, with keys that rise.
+fn map_of_most(alloc: Global) -> Result<KeyMap, OutOfMemory> {
+    let mut map = KeyMap::with_room(alloc, 65535)?;
+    for root in 0..65535u32 {
+        let key = u64::from(root) * STRIDE;
+        map.push(Keyed { key, root });
+    }
+    Ok(map)
+}
+
+const STRIDE: u64 = 1_000_003;
+
+// A key's root goes to another key, and that one's root, if it has one, to the first key.
+fn swap(map: &mut KeyMap, from: u64, to: u64) -> Option<u32> {
+    let root = map.remove(from)?;
+    let was = map.put(Keyed { key: to, root });
+    if let Some(root) = was {
+        let _ = map.put(Keyed { key: from, root });
+    }
+    was
+}
+
+// All keys with their roots, from the least on.
+fn drain(alloc: Global, mut map: KeyMap) -> Result<Vec<(u64, u32)>, AllocError> {
+    let mut rows = Vec::new(alloc);
+    while let Some(next) = map.next_from(0) {
+        match map.remove(next.key) {
+            Some(root) => rows.push((next.key, root))?,
+            None => break,
+        }
+    }
+    Ok(rows)
+}
+
+fn pair_of(found: Option<Keyed>) -> Option<(u64, u32)> {
+    let next = found?;
+    Some((next.key, next.root))
+}
+
+// By hand: the keys stand as 0, 3, 5, 8 with the roots 3, 1, 0, 2.
+const KEYS: [u64; 4] = [5, 3, 8, 0];
+
+#[test]
+fn searches_by_hand(rt: HostRuntime) -> Result<(), Fail> {
+    let map = map_of(rt.alloc(), &KEYS)?;
+    assert_eq!(rt; map.len(), 4);
+    for (key, root, next) in [
+        (0, Some(3), Some((0, 3))),
+        (1, None, Some((3, 1))),
+        (3, Some(1), Some((3, 1))),
+        (4, None, Some((5, 0))),
+        (5, Some(0), Some((5, 0))),
+        (6, None, Some((8, 2))),
+        (8, Some(2), Some((8, 2))),
+        (9, None, None),
+        (u64::MAX, None, None),
+    ] {
+        assert_eq!(rt; map.get(key), root, "the root of {key}");
+        assert_eq!(rt; pair_of(map.next_from(key)), next, "the next from {key}");
+    }
+    Ok(())
+}
+
+#[test]
+fn keys_go_and_come_by_hand(rt: HostRuntime) -> Result<(), Fail> {
+    let mut map = map_of(rt.alloc(), &KEYS)?;
+    // Roots 0 and 3 are changed, key 8 goes for key 4 at once, and what is not there stays so.
+    assert_eq!(rt; (swap(&mut map, 5, 0), map.len()), (Some(3), 4));
+    assert_eq!(rt; (map.get(0), map.get(5)), (Some(0), Some(3)));
+    assert_eq!(rt; (swap(&mut map, 8, 4), map.len()), (None, 4));
+    assert_eq!(rt; (map.get(8), map.get(4)), (None, Some(2)));
+    assert_eq!(rt; (map.remove(8), map.len()), (None, 4));
+    // The first of all, and the last.
+    assert_eq!(rt; (map.remove(0), map.remove(5)), (Some(0), Some(3)));
+    assert_eq!(rt; (map.get(0), map.get(5), map.len()), (None, None, 2));
+    assert_eq!(rt;
+        drain(rt.alloc(), map)?.as_slice(),
+        [(3, 1), (4, 2)].as_slice()
+    );
+    Ok(())
+}
+
+// By how the keys came.
+#[test]
+fn drained_maps(rt: HostRuntime) -> Result<(), Fail> {
+    let rising = map_of(rt.alloc(), &[1, 2, 3])?;
+    assert_eq!(rt;
+        drain(rt.alloc(), rising)?.as_slice(),
+        [(1, 0), (2, 1), (3, 2)].as_slice()
+    );
+    let falling = map_of(rt.alloc(), &[3, 2, 1])?;
+    assert_eq!(rt;
+        drain(rt.alloc(), falling)?.as_slice(),
+        [(1, 2), (2, 1), (3, 0)].as_slice()
+    );
+    let again = map_of(rt.alloc(), &[7, 9, 7, 7])?;
+    assert_eq!(rt;
+        drain(rt.alloc(), again)?.as_slice(),
+        [(7, 3), (9, 1)].as_slice()
+    );
+    Ok(())
+}
+
+// The ends of the type, and a map to no root.
+#[test]
+fn searches_at_the_ends(rt: HostRuntime) -> Result<(), Fail> {
+    let most = u64::MAX;
+    let map = map_of(rt.alloc(), &[most, 0])?;
+    assert_eq!(rt; (map.get(0), map.get(most)), (Some(1), Some(0)));
+    assert_eq!(rt;
+        (pair_of(map.next_from(1)), pair_of(map.next_from(most))),
+        (Some((most, 0)), Some((most, 0)))
+    );
+    let none = map_of(rt.alloc(), &[])?;
+    assert_eq!(rt;
+        (none.len(), none.get(0), none.next_from(0)),
+        (0, None, None)
+    );
+    Ok(())
+}
+
+#[test]
+fn the_most_roots(rt: HostRuntime) -> Result<(), Fail> {
+    let map = map_of_most(rt.alloc())?;
+    assert_eq!(rt; map.len(), 65535);
+    for root in [0u32, 1, 255, 32767, 32768, 65533, 65534] {
+        let key = u64::from(root) * STRIDE;
+        assert_eq!(rt; (map.get(key), map.get(key + 1)), (Some(root), None));
+        assert_eq!(rt; pair_of(map.next_from(key)), Some((key, root)));
+    }
+    assert_eq!(rt; map.next_from(65535 * STRIDE), None);
+    Ok(())
+}
+
+// Roots that go from key to key, beside a list of the root of each key.
+#[test]
+fn roots_as_in_a_list(rt: HostRuntime) -> Result<(), Fail> {
+    let mut map = map_of(rt.alloc(), &[0, 2, 4, 6, 8, 10, 12, 14, 16, 18, 20, 22])?;
+    let mut list = [None; 24];
+    for i in 0..12u32 {
+        list[2 * i as usize] = Some(i);
+    }
+    let mut random = SplitMix64::from_seed([7; 8]);
+    for _ in 0..2000u32 {
+        let from = (random.next_word() % 24) as usize;
+        let to = (random.next_word() % 24) as usize;
+        if list[from].is_some() && from != to {
+            assert_eq!(rt; swap(&mut map, from as u64, to as u64), list[to]);
+            list.swap(from, to);
+        }
+        assert_eq!(rt; map.get(from as u64), list[from], "the root of {from}");
+        assert_eq!(rt; map.get(to as u64), list[to], "the root of {to}");
+    }
+    assert_eq!(rt; map.len(), 12);
+    Ok(())
+}
