@@ -37,7 +37,7 @@ pub(crate) fn gen_answer<R: Threads + Wait + Sync, G: Gate + Sync, H: Shelf>(
         calls: generate(alloc, count, seed)?,
     };
     let arenas = take_arenas(alloc, &trace, shelf)?;
-    let done = replay(rt, alloc, Account::Summary, &trace, arenas, gate)?;
+    let done = replay(rt, alloc, Account::Summary, trace, arenas, gate)?;
     put_all(shelf, done.devices);
     Ok(Answer::Output(done.text))
 }

@@ -93,7 +93,7 @@ fn run_report<R: Threads + Wait + Sync, S: Source, K: Sink, G: Gate + Sync, H: S
         Ok(Input::Pool { .. }) => unreachable!(),
         Err(status) => return status,
     };
-    match report_answer(rt, alloc, crew, &text, gate, shelf) {
+    match report_answer(rt, alloc, crew, text, gate, shelf) {
         Ok(answer) => write_answer(sink, &answer),
         Err(_) => Status::Memory,
     }

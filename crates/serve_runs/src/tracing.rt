@@ -35,22 +35,36 @@ const ROOM: u32 = 1024;
 
 /// Carries out the calls of a trace on the arenas of its pool, which are new: each thread's are sent by a sender of its own, and
 /// each arena's served by its owner. It gives the report of the journals, in which a sender's number is a thread's, and the devices
-/// that went through them.
+/// that went through them. The trace is let go before anything is told.
 ///
 /// It waits for ever where no thread can be made and an arena has more than 1,024 calls.
 pub fn serve<R: Threads + Wait + Sync, P: Pmem + Drop + Send, G: Gate + Sync>(
     rt: &R,
     alloc: Global,
-    trace: &Trace,
+    trace: Trace,
     arenas: Vec<Arena<P>>,
     gate: &G,
 ) -> Result<Told<P>, OutOfMemory>
-    requires work { IsWorkOf (pool_of trace.now) trace.now.calls.items (length arenas.items) }
-    requires new { AreNew (pool_of trace.now) 0 arenas.items }
-    ensures { IfOk result (λ done. IsTold by_owner arena_text (pool_of trace.now) trace.now.calls.items done.text.items (each_of done.devices.items (λ d. P.state d))) }
+    requires work { IsWorkOf (pool_of trace) trace.calls.items (length arenas.items) }
+    requires new { AreNew (pool_of trace) 0 arenas.items }
+    ensures { IfOk result (λ done. IsTold by_owner arena_text (pool_of trace) trace.calls.items done.text.items (each_of done.devices.items (λ d. P.state d))) }
 {
-    let closed = make_calls(rt, alloc, trace, arenas, ROOM, gate)?;
+    let closed = make_last_calls(rt, alloc, trace, arenas, gate)?;
     tell_all(alloc, closed)
+}
+
+// Carries out the calls of a trace as `make_calls` does, and lets the trace go.
+fn make_last_calls<R: Threads + Wait + Sync, P: Pmem + Drop + Send, G: Gate + Sync>(
+    rt: &R,
+    alloc: Global,
+    trace: Trace,
+    arenas: Vec<Arena<P>>,
+    gate: &G,
+) -> Result<Vec<ClosedArena<P>>, OutOfMemory>
+    requires { IsWorkOf (pool_of trace) trace.calls.items (length arenas.items) }
+    ensures { IfOk result (λ closed. AllAnswer by_owner trace.calls.items 0 (each_of arenas.items (λ a. opened a)) (each_of closed.items (λ c. (c.journal.items, c.arena)))) }
+{
+    make_calls(rt, alloc, &trace, arenas, ROOM, gate)
 }
 
 /// Carries out the calls of a trace on the arenas of its pool, by a server with room for 1 to 65,536 requests in each arena's queue,

@@ -7,7 +7,7 @@ use Rattle.nvheap.proofs.Answering.{refused_line}
 use Rattle.nvheap.proofs.reporting.report_answer.Goals as goal
 
 pub returns-in-Err-clause-answer : goal.returns-in-Err-clause-answer
-returns-in-Err-clause-answer g c = refused_line (reporting (seats_of c.args.crew)) c.args.input.now (g.H.Shelf.places c.args.shelf.now) (IsRefusedLine c.args.input.now) c.in-Err.answer (λ line is. is) c.in-Err.ensures.refused
+returns-in-Err-clause-answer g c = refused_line (reporting (seats_of c.args.crew)) c.args.input.items (g.H.Shelf.places c.args.shelf.now) (IsRefusedLine c.args.input.items) c.in-Err.answer (λ line is. is) c.in-Err.ensures.refused
 
 pub returns-clause-answer : goal.returns-clause-answer
 returns-clause-answer g c =

@@ -1,4 +1,4 @@
-use Rattle.std.proofs.Common.{ℕ, List, ◌∙◌, subst}
+use Rattle.std.proofs.Common.{ℕ, List, subst}
 use Rattle.nvheap.specs.declared.input.Input.TheVariants.{Text}
 use Rattle.nvheap.specs.Outside.{told_by}
 use Rattle.nvheap.specs.Inputs.{limit_of, IsRead}
@@ -17,6 +17,6 @@ returns-in-Ok-clause-ends g c =
     let read : IsRead (limit_of meaning.reads) (g.S.Source.left c.args.source.now) (g.S.Source.left c.read_input.new.source) (Text c.in-Ok-Text.text) = rw c.in-Ok-Text.field-0-is at c.in-Ok-Text.ensures.read in
     ends_written meaning (told c.args.source.now c.args.sink.now c.args.shelf.now) (told c.read_input.new.source c.write_answer.new.sink c.report_answer.new.shelf) read.bytes
     c.in-Ok.answer c.write_answer.result read.read
-    (subst (λ (bytes : List ℕ). IsAnswer meaning bytes (places c.args.shelf.now) (places c.report_answer.new.shelf) c.in-Ok.answer) (c.deref.ensures.value ∙ read.has) c.in-Ok.ensures.answer)
+    (subst (λ (bytes : List ℕ). IsAnswer meaning bytes (places c.args.shelf.now) (places c.report_answer.new.shelf) c.in-Ok.answer) read.has c.in-Ok.ensures.answer)
     (counts_kept meaning read.bytes (images c.args.shelf.now) (images c.report_answer.new.shelf) c.in-Ok.answer (λ same. same) c.in-Ok.ensures.images)
     c.write_answer.ensures.written
