@@ -1,36 +1,56 @@
 -- What holds of every call and every pool of a trace.
-use Rattle.std.proofs.Common.{ℕ, zero, suc, List, [], ◌∷◌, length, ap, arith, ⊎_elim}
+use Rattle.std.proofs.Common.{◌≡◌, ℕ, zero, suc, List, [], ◌∷◌, length, ap, arith, ⊎_elim}
 use Rattle.std.specs.List.{All}
 use Rattle.trace_text.specs.declared.call.TraceCall.{TraceCall}
 use Rattle.trace_text.specs.declared.call.PoolSize.{PoolSize}
-use Rattle.trace_text.specs.Texts.{lines_of, AreCalls, AreText}
-use Rattle.trace_text.specs.Grammar.{trace_lines, IsPool, IsTraceCall, IsTrace}
+use Rattle.trace_text.specs.declared.kind.Kind.{Kind}
+use Rattle.trace_text.specs.declared.kind.Kind.TheVariants.{Every, Still}
+use Rattle.trace_text.specs.Texts.{Lines, lines_of, AreCalls, AreText, IsText}
+use Rattle.trace_text.specs.Grammar.{still_lines, IsPool, IsPoolLine, IsTraceCall, IsCallLine, IsStill, IsStillTrace}
+use Rattle.trace_text.specs.Lines.{lines_for}
 
--- the calls of lines are calls that a trace may have
-calls_at : (pool : PoolSize) (lines : List (List ℕ)) (calls : List TraceCall) → AreCalls trace_lines pool lines calls → All (IsTraceCall pool.arenas) calls
-calls_at pool [] calls are k d h = absurd (omega (arith, ap length are))
-calls_at pool (line ∷ lines) [] are k d h = absurd (omega arith)
-calls_at pool (line ∷ lines) (call ∷ calls) are zero d h = ⊎_elim
-    (λ passed. calls_at pool lines (call ∷ calls) passed.1 zero d h)
-    (λ here. here.0.valid)
-    are
-calls_at pool (line ∷ lines) (call ∷ calls) are (suc k) d h = ⊎_elim
-    (λ passed. calls_at pool lines (call ∷ calls) passed.1 (suc k) d h)
-    (λ here. calls_at pool lines calls here.1 k d (omega arith))
-    are
+module _ {H C : Type 0} (g : Lines H C) where
+  -- what holds of the call of each line holds of all calls
+  calls_at : (P : C → Type 0) (head : H) → ((line : List ℕ) (call : C) → g.call head line call → P call) → (lines : List (List ℕ)) (calls : List C) → AreCalls g head lines calls → All P calls
+  calls_at P head each [] calls are k d h = absurd (omega (arith, ap length are))
+  calls_at P head each (line ∷ lines) [] are k d h = absurd (omega arith)
+  calls_at P head each (line ∷ lines) (call ∷ calls) are zero d h = ⊎_elim
+      (λ passed. calls_at P head each lines (call ∷ calls) passed.1 zero d h)
+      (λ here. each line call here.0)
+      are
+  calls_at P head each (line ∷ lines) (call ∷ calls) are (suc k) d h = ⊎_elim
+      (λ passed. calls_at P head each lines (call ∷ calls) passed.1 (suc k) d h)
+      (λ here. calls_at P head each lines calls here.1 k d (omega arith))
+      are
 
-trace_calls : (lines : List (List ℕ)) (pool : PoolSize) (calls : List TraceCall) → AreText trace_lines lines pool calls → All (IsTraceCall pool.arenas) calls
-trace_calls [] pool calls are = absurd are
-trace_calls (line ∷ lines) pool calls are = ⊎_elim (λ passed. trace_calls lines pool calls passed.1) (λ here. calls_at pool lines calls here.1) are
+  text_calls : (P : C → Type 0) (lines : List (List ℕ)) (head : H) (calls : List C) → ((line : List ℕ) (call : C) → g.call head line call → P call) → AreText g lines head calls → All P calls
+  text_calls P [] head calls each are = absurd are
+  text_calls P (line ∷ lines) head calls each are = ⊎_elim (λ passed. text_calls P lines head calls each passed.1) (λ here. calls_at P head each lines calls here.1) are
 
-trace_pool : (lines : List (List ℕ)) (pool : PoolSize) (calls : List TraceCall) → AreText trace_lines lines pool calls → IsPool pool
-trace_pool [] pool calls are = absurd are
-trace_pool (line ∷ lines) pool calls are = ⊎_elim (λ passed. trace_pool lines pool calls passed.1) (λ here. here.0.valid) are
+  text_head : (Q : Type 0) (lines : List (List ℕ)) (head : H) (calls : List C) → ((line : List ℕ) → g.head line head → Q) → AreText g lines head calls → Q
+  text_head Q [] head calls each are = absurd are
+  text_head Q (line ∷ lines) head calls each are = ⊎_elim (λ passed. text_head Q lines head calls each passed.1) (λ here. each line here.0) are
 
--- each call of a trace is one that it may have
-pub IsTrace-calls : (text : List ℕ) (pool : PoolSize) (calls : List TraceCall) → IsTrace text pool calls → All (IsTraceCall pool.arenas) calls
-IsTrace-calls text pool calls is = trace_calls (lines_of text) pool calls is.lines
+-- each call of a trace of either kind is one that a trace may have, and so is its pool
 
--- the pool of a trace is one that it may have
-pub IsTrace-pool : (text : List ℕ) (pool : PoolSize) (calls : List TraceCall) → IsTrace text pool calls → IsPool pool
-IsTrace-pool text pool calls is = trace_pool (lines_of text) pool calls is.lines
+kind_call : (kind : Kind) (pool : PoolSize) (line : List ℕ) (call : TraceCall) → (lines_for kind).call pool line call → IsCallLine pool.arenas line call
+kind_call Every pool line call says = says
+kind_call Still pool line call says = says.0
+
+pub kind_head : (kind : Kind) (line : List ℕ) (pool : PoolSize) → (lines_for kind).head line pool → IsPoolLine line pool
+kind_head Every line pool says = says
+kind_head Still line pool says = says.0
+
+pub kind_calls : (kind : Kind) (text : List ℕ) (pool : PoolSize) (calls : List TraceCall) → IsText (lines_for kind) text pool calls → All (IsTraceCall pool.arenas) calls
+kind_calls kind text pool calls is = text_calls (lines_for kind) (IsTraceCall pool.arenas) (lines_of text) pool calls (λ line call says. (kind_call kind pool line call says).valid) is.lines
+
+pub kind_pool : (kind : Kind) (text : List ℕ) (pool : PoolSize) (calls : List TraceCall) → IsText (lines_for kind) text pool calls → IsPool pool
+kind_pool kind text pool calls is = text_head (lines_for kind) (IsPool pool) (lines_of text) pool calls (λ line says. (kind_head kind line pool says).valid) is.lines
+
+-- a trace without moves has none, and its pool is of version 1
+
+pub still_calls : (text : List ℕ) (pool : PoolSize) (calls : List TraceCall) → IsStillTrace text pool calls → All (λ call. IsStill call.call) calls
+still_calls text pool calls is = text_calls still_lines (λ call. IsStill call.call) (lines_of text) pool calls (λ line call says. says.1) is.lines
+
+pub still_version : (text : List ℕ) (pool : PoolSize) (calls : List TraceCall) → IsStillTrace text pool calls → pool.version ≡ 1
+still_version text pool calls is = text_head still_lines (pool.version ≡ 1) (lines_of text) pool calls (λ line says. says.1) is.lines

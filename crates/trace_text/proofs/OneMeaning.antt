@@ -12,8 +12,8 @@ use Rattle.trace_text.specs.declared.call.PoolSize.{PoolSize}
 use Rattle.trace_text.specs.declared.call.TraceCall.{TraceCall}
 use Rattle.trace_text.specs.Words.{call_text}
 use Rattle.trace_text.specs.Texts.{IsPassedOver, IsClear}
-use Rattle.trace_text.specs.Grammar.{pool_word, pool_sizes, trace_lines, IsAsked, IsPoolLine, IsCallLine}
-use Rattle.trace_text.specs.Laws.{LawOfOneTrace, LawOfNoRefusal, LawOfOneRefusal}
+use Rattle.trace_text.specs.Grammar.{pool_word, pool_sizes, trace_lines, still_lines, IsAsked, IsPoolLine, IsCallLine}
+use Rattle.trace_text.specs.Laws.{LawOfOneTrace, LawOfNoRefusal, LawOfOneRefusal, LawOfOneStillTrace, LawOfNoStillRefusal, LawOfOneStillRefusal}
 use Rattle.trace_text.proofs.Pools.{one_version, one_size}
 use Rattle.trace_text.proofs.OneText.{same_letter, law_of_one_text, law_of_none_outside, law_of_one_outside}
 use Rattle.trace_text.proofs.CallLines.{same_field, same_three, call_words, behind_arena}
@@ -110,7 +110,7 @@ same_call : (a b : TraceCall) → a.thread ≡ b.thread → a.arena ≡ b.arena 
 same_call a b thread arena call = λ i. record { thread = thread i; arena = arena i; call = call i }
 
 -- a line makes one call
-one_call : (arenas : ℕ) (line : List ℕ) (a b : TraceCall) → arenas ≤ 2 ^ 32 → IsCallLine arenas line a → IsCallLine arenas line b → a ≡ b
+pub one_call : (arenas : ℕ) (line : List ℕ) (a b : TraceCall) → arenas ≤ 2 ^ 32 → IsCallLine arenas line a → IsCallLine arenas line b → a ≡ b
 one_call arenas line a b few p q =
     let first = call_words arenas line a p in
     let thread = (same_field line a.thread b.thread _ _ (omega (arith, p.valid.thread)) (omega (arith, q.valid.thread)) first (call_words arenas line b q)).0 in
@@ -137,3 +137,21 @@ law_of_no_refusal = law_of_none_outside trace_lines trace_is_clear
 -- a text has one refused line at most
 pub law_of_one_refusal : LawOfOneRefusal
 law_of_one_refusal = law_of_one_outside trace_lines trace_is_clear
+
+-- so is that of traces without moves
+still_is_clear : IsClear still_lines
+still_is_clear = record {
+  no_head = λ line pool passed says. trace_is_clear.no_head line pool passed says.0;
+  no_call = λ pool line call passed says. trace_is_clear.no_call pool line call passed says.0;
+  one_head = λ line pool other says also. trace_is_clear.one_head line pool other says.0 also.0;
+  one_call = λ first pool line a b says one other. trace_is_clear.one_call first pool line a b says.0 one.0 other.0;
+}
+
+pub law_of_one_still_trace : LawOfOneStillTrace
+law_of_one_still_trace = law_of_one_text still_lines still_is_clear
+
+pub law_of_no_still_refusal : LawOfNoStillRefusal
+law_of_no_still_refusal = law_of_none_outside still_lines still_is_clear
+
+pub law_of_one_still_refusal : LawOfOneStillRefusal
+law_of_one_still_refusal = law_of_one_outside still_lines still_is_clear

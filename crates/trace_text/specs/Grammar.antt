@@ -67,3 +67,25 @@ IsTrace text pool calls = IsText trace_lines text pool calls
 -- just behind its last line
 abbrev pub IsRefusedLine : List ℕ → ℕ → Type 0
 IsRefusedLine text number = IsFirstOutside trace_lines text number
+
+-- traces without moves
+
+-- no block moves from one root to another
+abbrev pub IsStill : Call → Type 0
+IsStill (Malloc root size) = Unit {0}
+IsStill (Free root) = Unit {0}
+IsStill (Write root index value) = Unit {0}
+IsStill (Read root index) = Unit {0}
+IsStill (Move from to) = ⊥
+
+-- what the lines of a trace without moves say: its pool, of version 1, and calls of it of which none is a move
+abbrev pub still_lines : Lines PoolSize TraceCall
+still_lines = record { head = λ line pool. IsPoolLine line pool × (pool.version ≡ 1); call = λ pool line call. IsCallLine pool.arenas line call × IsStill call.call }
+
+-- the text is a trace without moves, of this pool and these calls
+abbrev pub IsStillTrace : List ℕ → PoolSize → List TraceCall → Type 0
+IsStillTrace text pool calls = IsText still_lines text pool calls
+
+-- the line of this number, counted from 1, is the first outside their grammar
+abbrev pub IsRefusedStillLine : List ℕ → ℕ → Type 0
+IsRefusedStillLine text number = IsFirstOutside still_lines text number

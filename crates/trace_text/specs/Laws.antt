@@ -1,7 +1,7 @@
--- Laws of texts of lines, and of traces: a text says one thing, or has one refused line, and never both.
+-- Laws of texts of lines, of traces and of those without moves: a text says one thing, or has one refused line, and never both.
 use Rattle.std.specs.Prelude.{◌≡◌, ℕ, List}
 use Rattle.trace_text.specs.Texts.{Lines, IsText, IsFirstOutside}
-use Rattle.trace_text.specs.Grammar.{trace_lines}
+use Rattle.trace_text.specs.Grammar.{trace_lines, still_lines}
 
 module _ {H C : Type 0} (g : Lines H C) where
   -- a text says one thing at most
@@ -27,3 +27,14 @@ LawOfNoRefusal = LawOfNoneOutside trace_lines
 -- a text has one refused line at most
 abbrev pub LawOfOneRefusal : Type 0
 LawOfOneRefusal = LawOfOneOutside trace_lines
+
+-- the same of traces without moves
+
+abbrev pub LawOfOneStillTrace : Type 0
+LawOfOneStillTrace = LawOfOneText still_lines
+
+abbrev pub LawOfNoStillRefusal : Type 0
+LawOfNoStillRefusal = LawOfNoneOutside still_lines
+
+abbrev pub LawOfOneStillRefusal : Type 0
+LawOfOneStillRefusal = LawOfOneOutside still_lines

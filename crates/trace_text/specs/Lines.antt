@@ -1,14 +1,22 @@
 -- What was read of a line and of the lines of a text, and what is left.
 use Rattle.std.specs.Prelude.{◌≡◌, ℕ, ◌+◌, ◌≤◌, List, length}
 use Rattle.trace_text.specs.declared.call.PoolSize.{PoolSize}
+use Rattle.trace_text.specs.declared.call.TraceCall.{TraceCall}
+use Rattle.trace_text.specs.declared.kind.Kind.{Kind}
+use Rattle.trace_text.specs.declared.kind.Kind.TheVariants.{Every, Still}
 use Rattle.trace_text.specs.Texts.{Lines, lines_of, AreCalls, AreText, IsNoCallAt, IsNoTextAt}
-use Rattle.trace_text.specs.Grammar.{pool_sizes, IsPool}
+use Rattle.trace_text.specs.Grammar.{pool_sizes, IsPool, trace_lines, still_lines}
 
 -- the words behind the first of a pool's line say this pool of the version
 pub record IsPoolOf (version : ℕ) (words : List ℕ) (pool : PoolSize) : Type 0 where
   pub named : pool.version ≡ version
   pub text : words ≡ pool_sizes pool
   pub valid : IsPool pool
+
+-- what the lines of a kind of trace say
+abbrev pub lines_for : Kind → Lines PoolSize TraceCall
+lines_for Every = trace_lines
+lines_for Still = still_lines
 
 module _ {H C : Type 0} (g : Lines H C) where
   -- these many lines of the text, the last of them one that says the head, and then the rest

@@ -1,11 +1,11 @@
 // Traces, read from their text.
 ghost use Rattle.std.specs.Prelude.{◌≡◌, ◌+◌, ◌<◌, ◌≤◌, ◌^◌, ◌∷◌, length, IfOk, IfErr, MatchResult};
 ghost use Rattle.std.specs.List.{All};
-ghost use Rattle.trace_text.specs.Texts.{lines_of, AreCalls, IfBadLine};
-ghost use Rattle.trace_text.specs.Grammar.{trace_lines, pool_of, IsPool, IsTraceCall, IsTrace, IsRefusedLine};
-ghost use Rattle.trace_text.specs.Lines.{IsBehindHead, IsRefusedCall};
+ghost use Rattle.trace_text.specs.Texts.{lines_of, AreCalls, IsText, IsFirstOutside, IfBadLine};
+ghost use Rattle.trace_text.specs.Grammar.{pool_of, IsPool, IsTraceCall, IsTrace, IsRefusedLine, IsStill, IsStillTrace, IsRefusedStillLine};
+ghost use Rattle.trace_text.specs.Lines.{lines_for, IsBehindHead, IsRefusedCall};
 
-use crate::line::{read_call_line, read_pool_line};
+use crate::kind::{Kind, read_call, read_head};
 use crate::text::{TextFault, is_passed_over, next_line};
 use crate::{PoolSize, TraceCall};
 use pmem_lines::OutOfMemory;
@@ -43,15 +43,15 @@ struct BehindPool<'a> {
 
 /// The pool that a text begins with, behind lines that are passed over; the number of the line that says none where
 /// it doesn't.
-fn read_pool(text: &[u8]) -> Result<BehindPool<'_>, u64>
-    ensures { MatchResult result (λ behind. IsBehindHead trace_lines text.now behind.rest.now behind.pool behind.many) (IsRefusedLine text.now) }
+fn read_pool(kind: Kind, text: &[u8]) -> Result<BehindPool<'_>, u64>
+    ensures { MatchResult result (λ behind. IsBehindHead (lines_for kind) text.now behind.rest.now behind.pool behind.many) (IsFirstOutside (lines_for kind) text.now) }
 {
     let mut rest = text;
     let mut many: u64 = 0;
     while !rest.is_empty() {
         let (line, after) = next_line(rest);
         if !is_passed_over(line) {
-            return match read_pool_line(line) {
+            return match read_head(kind, line) {
                 Some(pool) => Ok(BehindPool {
                     pool,
                     many: many + 1,
@@ -69,15 +69,16 @@ fn read_pool(text: &[u8]) -> Result<BehindPool<'_>, u64>
 /// The calls of a pool, of at least one arena, that a text makes, of which as many lines stand before it.
 fn read_calls(
     alloc: Global,
+    kind: Kind,
     pool: PoolSize,
     text: &[u8],
     before: u64,
 ) -> Result<Vec<TraceCall>, TextFault>
     requires some { 1 ≤ pool.arenas }
     requires short { before + length text.now < 2 ^ 64 }
-    ensures calls { IfOk result (λ calls. AreCalls trace_lines pool (lines_of text.now) calls.items) }
+    ensures calls { IfOk result (λ calls. AreCalls (lines_for kind) pool (lines_of text.now) calls.items) }
     ensures few { IfOk result (λ calls. length calls.items ≤ length text.now) }
-    ensures refused { IfErr result (λ fault. IfBadLine fault (IsRefusedCall trace_lines pool text.now before)) }
+    ensures refused { IfErr result (λ fault. IfBadLine fault (IsRefusedCall (lines_for kind) pool text.now before)) }
 {
     let mut calls = Vec::new(alloc);
     let mut rest = text;
@@ -87,7 +88,7 @@ fn read_calls(
         rest = after;
         many += 1;
         if !is_passed_over(line) {
-            match read_call_line(pool.arenas, line) {
+            match read_call(kind, pool, line) {
                 Some(call) => {
                     if calls.push(call).is_err() {
                         return Err(TextFault::Memory(OutOfMemory));
@@ -102,6 +103,28 @@ fn read_calls(
         }
     }
     Ok(calls)
+}
+
+/// What a text of this kind says.
+fn read_kind(alloc: Global, kind: Kind, bytes: &[u8]) -> Result<Trace, TextFault>
+    ensures text { IfOk result (λ trace. IsText (lines_for kind) bytes.now (pool_of trace) trace.calls.items) }
+    ensures pool { IfOk result (λ trace. IsPool (pool_of trace)) }
+    ensures each { IfOk result (λ trace. All (IsTraceCall trace.arenas) trace.calls.items) }
+    ensures few { IfOk result (λ trace. length trace.calls.items ≤ length bytes.now) }
+    ensures refused { IfErr result (λ fault. IfBadLine fault (IsFirstOutside (lines_for kind) bytes.now)) }
+{
+    match read_pool(kind, bytes) {
+        Err(line) => Err(TextFault::BadLine { line }),
+        Ok(behind) => {
+            let calls = read_calls(alloc, kind, behind.pool, behind.rest, behind.many)?;
+            Ok(Trace {
+                version: behind.pool.version,
+                arenas: behind.pool.arenas,
+                granules: behind.pool.granules,
+                calls,
+            })
+        }
+    }
 }
 
 /// Reads the text of a trace: lines, each ended by a line feed that the last one may lack, of which those that are empty
@@ -119,16 +142,19 @@ pub fn read_trace(alloc: Global, bytes: &[u8]) -> Result<Trace, TextFault>
     ensures few { IfOk result (λ trace. length trace.calls.items ≤ length bytes.now) }
     ensures refused { IfErr result (λ fault. IfBadLine fault (IsRefusedLine bytes.now)) }
 {
-    match read_pool(bytes) {
-        Err(line) => Err(TextFault::BadLine { line }),
-        Ok(behind) => {
-            let calls = read_calls(alloc, behind.pool, behind.rest, behind.many)?;
-            Ok(Trace {
-                version: behind.pool.version,
-                arenas: behind.pool.arenas,
-                granules: behind.pool.granules,
-                calls,
-            })
-        }
-    }
+    read_kind(alloc, Kind::Every, bytes)
+}
+
+/// Reads the text of a trace without moves, as `read_trace` does, but that the pool is `pool A G`, of version 1, and no line is
+/// `T B v R Q`: other lines are outside this grammar.
+pub fn read_still_trace(alloc: Global, bytes: &[u8]) -> Result<Trace, TextFault>
+    ensures trace { IfOk result (λ trace. IsStillTrace bytes.now (pool_of trace) trace.calls.items) }
+    ensures pool { IfOk result (λ trace. IsPool (pool_of trace)) }
+    ensures version { IfOk result (λ trace. trace.version ≡ 1) }
+    ensures each { IfOk result (λ trace. All (IsTraceCall trace.arenas) trace.calls.items) }
+    ensures still { IfOk result (λ trace. All (λ call. IsStill call.call) trace.calls.items) }
+    ensures few { IfOk result (λ trace. length trace.calls.items ≤ length bytes.now) }
+    ensures refused { IfErr result (λ fault. IfBadLine fault (IsRefusedStillLine bytes.now)) }
+{
+    read_kind(alloc, Kind::Still, bytes)
 }

@@ -1,14 +1,29 @@
 // Texts in and outside the grammar.
 use heap_model::Call;
 use std::alloc::Global;
-use trace_text::{TextFault, TraceCall, read_trace};
+use trace_text::{TextFault, TraceCall, read_still_trace, read_trace};
 
-// The refused line, 0 of a trace, and the greatest number where there was no memory.
+// The number of the line, and the greatest one where there was no memory.
+fn line_of(fault: TextFault) -> u64 {
+    match fault {
+        TextFault::BadLine { line } => line,
+        TextFault::Memory(_) => u64::MAX,
+    }
+}
+
+// The refused line, 0 of a trace.
 fn refused_line(alloc: Global, text: &str) -> u64 {
     match read_trace(alloc, text.as_bytes()) {
         Ok(_) => 0,
-        Err(TextFault::BadLine { line }) => line,
-        Err(TextFault::Memory(_)) => u64::MAX,
+        Err(fault) => line_of(fault),
+    }
+}
+
+// The refused line, 0 of a trace without moves.
+fn refused_still_line(alloc: Global, text: &str) -> u64 {
+    match read_still_trace(alloc, text.as_bytes()) {
+        Ok(_) => 0,
+        Err(fault) => line_of(fault),
     }
 }
 
@@ -64,6 +79,24 @@ fn first_line_outside_the_grammar(rt: HostRuntime) {
     ];
     for (text, want) in rows {
         assert_eq!(rt; refused_line(rt.alloc(), text), want, "at {text}");
+    }
+}
+
+#[test]
+fn first_line_outside_the_grammar_without_moves(rt: HostRuntime) {
+    let rows = [
+        ("", 1),
+        ("pool2 1 25\n", 1),
+        ("pool 1 1025\n", 1),
+        ("# a\npool 1 16\n0 0 v 1 2\n", 3),
+        ("pool 2 16\n0 1 m 5 100\n# b\n1 0 w 5 0 7\n0 2 f 5\n", 5),
+        (
+            "pool 2 16\n0 1 m 5 100\n63 0 r 5 0\n0 0 w 5 0 7\n0 1 f 5",
+            0,
+        ),
+    ];
+    for (text, want) in rows {
+        assert_eq!(rt; refused_still_line(rt.alloc(), text), want, "at {text}");
     }
 }
 

@@ -1,12 +1,12 @@
 use Rattle.std.proofs.Common.{◌+◌, ◌≤◌, length}
 use Rattle.trace_text.specs.Texts.{lines_of}
-use Rattle.trace_text.specs.Grammar.{trace_lines}
+use Rattle.trace_text.specs.Lines.{lines_for}
 use Rattle.trace_text.proofs.Texts.{CallsSoFar}
 use Rattle.trace_text.proofs.trace.read_calls.Given as goal
 
 abbrev pub invariant-loop-rest : goal.invariant-loop-rest
 invariant-loop-rest l = record {
-  so_far : CallsSoFar trace_lines l.pool (lines_of l.text) (lines_of l.rest) l.calls.items l.many;
+  so_far : CallsSoFar (lines_for l.kind) l.pool (lines_of l.text) (lines_of l.rest) l.calls.items l.many;
   within : l.many + length l.rest ≤ length l.text;
   few : length l.calls.items + length l.rest ≤ length l.text;
 }

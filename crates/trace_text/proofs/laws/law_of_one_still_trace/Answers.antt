@@ -1,0 +1,5 @@
+use Rattle.trace_text.proofs.OneMeaning.{law_of_one_still_trace}
+use Rattle.trace_text.proofs.laws.law_of_one_still_trace.Goals as goal
+
+pub returns : goal.returns
+returns c = law_of_one_still_trace
