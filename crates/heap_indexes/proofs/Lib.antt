@@ -11,3 +11,5 @@ pub mod Placed
 pub mod Ways
 pub mod Freed
 pub mod Settled
+pub mod CountedRoots
+pub mod TakenExtents

@@ -2,3 +2,4 @@ pub mod Indexes
 pub mod Fitting
 pub mod Kept
 pub mod Steps
+pub mod Adopting

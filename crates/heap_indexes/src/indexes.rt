@@ -1,10 +1,11 @@
 // The indexes, and their calls.
 ghost use Rattle.std.specs.Prelude.{◌≡◌, ◌≢◌, ◌<◌, ◌≤◌, ◌+◌, ◌^◌, ℕ, IfOk};
-ghost use Rattle.heap_model.specs.Machine.{Bounds, no_heap};
+ghost use Rattle.heap_model.specs.Machine.{Bounds, Machine, no_heap};
 ghost use Rattle.heap_model.specs.Placement.{no_stacks};
 ghost use Rattle.thread_cache.specs.Stacks.{stacks_of};
 ghost use Rattle.heap_indexes.specs.Indexes.{AreIndexesOf, HaveState};
 ghost use Rattle.heap_indexes.specs.Steps.{IsPlacedBy, IsGivenBy, HasLive};
+ghost use Rattle.heap_indexes.specs.Adopting.{IsAdoptable, AreAdopted};
 
 use crate::range::{GRANULE_BYTES, LARGEST_SMALL};
 use crate::strangers::StrangerCounts;
@@ -50,6 +51,7 @@ impl HeapIndexes {
         requires most { granules ≤ 4096 }
         requires low { 4 ≤ first }
         requires high { first < granules }
+        ensures adopted { IfOk result (λ indexes. (b : Bounds) (m : Machine) → b.granules ≡ granules → b.first ≡ first → b.roots + 1 < 2 ^ 32 → IsAdoptable b m → AreAdopted b m 0 0 indexes) }
         ensures indexes { IfOk result (λ indexes. (b : Bounds) → b.granules ≡ granules → b.first ≡ first → b.roots + 1 < 2 ^ 32 → AreIndexesOf b no_heap indexes) }
         ensures stacks { IfOk result (λ indexes. stacks_of indexes.supply.stacks ≡ no_stacks) }
     {

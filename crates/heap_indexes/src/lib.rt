@@ -9,10 +9,14 @@
 // The blocks of a slab may have any number of classes, since what is unused is told by bytes. So a slab may take another class
 // whatever sizes its blocks have that came before.
 //
+// The indexes of a state that is there already, as that of an image is, come about by counting its roots and then taking over its
+// extents (`specs/Adopting.antt`).
+//
 // The layer above keeps the roots, and asks for a block's place before it says so in its memory. No call but `new` takes memory,
 // and none looks at more than the words of a range or a slab, and at what its searches pass over.
 #![tactic(auto)]
 
+mod adopting;
 mod answer;
 mod covered;
 mod fitting;
@@ -22,5 +26,6 @@ mod placing;
 mod range;
 mod strangers;
 
+pub use adopting::{law_of_adopted_indexes, law_of_passed_granules, law_of_passed_roots};
 pub use answer::{Given, Place};
 pub use indexes::HeapIndexes;

@@ -192,8 +192,8 @@ impl HeapIndexes {
     }
 }
 
-// The slab at a start has a class, and is normal or not.
-fn put_class(lives: &mut SlabLives, start: u32, class: u8, normal: bool)
+/// The slab at a start has a class, and is normal or not.
+pub(crate) fn put_class(lives: &mut SlabLives, start: u32, class: u8, normal: bool)
     requires inside { start < length lives.old.counts }
     requires class { class < 36 }
     ensures counts { lives.new.counts ≡ lives.old.counts }

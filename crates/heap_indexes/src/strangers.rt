@@ -25,6 +25,7 @@ impl StrangerCounts {
     /// later call takes any.
     pub fn new(alloc: Global, granules: u32) -> Result<StrangerCounts, OutOfMemory>
         ensures size { IfOk result (λ counts. length counts ≡ granules) }
+        ensures none { IfOk result (λ counts. (s : ℕ) → slice_index counts s ≡ 0) }
     {
         let counts = vec![in alloc; 0; granules as usize]?;
         Ok(StrangerCounts { counts })
