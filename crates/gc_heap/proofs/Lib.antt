@@ -4,3 +4,6 @@ pub mod Formats
 pub mod RootBlocks
 pub mod Places
 pub mod Books
+pub mod Carried
+pub mod Freed
+pub mod Writes

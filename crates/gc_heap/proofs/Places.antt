@@ -43,7 +43,7 @@ use Rattle.gc_heap.proofs.RootBlocks.{no_word}
 
 -- slabs by their state
 
-slab_there : (t : Tables) (start class : ℕ) → cond (t.slab start) (Some (t.header start).class) None ≡ Some class → t.slab start ≡ true
+pub slab_there : (t : Tables) (start class : ℕ) → cond (t.slab start) (Some (t.header start).class) None ≡ Some class → t.slab start ≡ true
 slab_there t start class is = by (t.slab start) is
   where
     by : (here : Bool) → cond here (Some (t.header start).class) None ≡ Some class → here ≡ true

@@ -1,5 +1,6 @@
 -- The numbers of an arena of this variant, which are those of version 1.
 use Rattle.std.proofs.Common.{◌≡◌, ◌+◌, ◌*◌, ◌^◌, ◌<◌, ◌≤◌, ℕ, List, length, ap, ◌∙◌, arith}
+use Rattle.pmem_lines.specs.Events.{IsQuiet}
 use Rattle.pmem_lines.specs.Pmem.{PmemState, words_of}
 use Rattle.pool_layout.specs.declared.layout.Layout.{Layout}
 use Rattle.pool_layout.specs.Layout.{layout_of}
@@ -65,3 +66,7 @@ most_first words formed =
 -- a root below the number of those of version 1
 pub root_first : (words : List ℕ) (row : Layout) (root : ℕ) → IsGcFormed words → row ≡ layout_of 1 → root < row.roots → root < (bounds_of words).roots
 root_first words row root formed is below = omega (arith, below, ap (λ (r : Layout). r.roots) is, (first_sizes words formed).roots_row)
+
+-- a memory is ready again where it is quiet and has the same room
+pub ready_after : {old new : PmemState} → IsReady old → new.room ≡ old.room → IsQuiet new.events → version_in (words_of old) ≡ 1 → version_in (words_of new) ≡ 1 → IsReady new
+ready_after {old} {new} ready same quiet was is = record { quiet = quiet; room = omega (arith, ready.room, same, ap (λ v. (layout_of v).room) was, ap (λ v. (layout_of v).room) is) }

@@ -6,7 +6,7 @@ use Rattle.unit_map.specs.Blocks.{AreUnitsOf, IsSmallLive, HasUnit}
 use Rattle.heap_indexes.specs.Indexes.{Indexes, AreIndexesOf, HaveState}
 use Rattle.heap_check.specs.Image.{bounds_of}
 use Rattle.gc_check.specs.Image.{IsGcExactImage}
-use Rattle.gc_check.specs.State.{gc_blocks, gc_slabs, HasGcState}
+use Rattle.gc_check.specs.State.{gc_blocks, gc_slabs, HasGcState, HaveSameGcHeap}
 use Rattle.gc_check.proofs.ExactStates.{law_of_exact_gc_state}
 use Rattle.gc_heap.specs.Arena.{state_in}
 
@@ -102,3 +102,7 @@ indexes_in {b} words n x bounds blocks slabs are =
 -- the indexes of an exact image have a state
 pub have_state : (words : List ℕ) (x : Indexes) → IsGcExactImage words → AreIndexesOf (bounds_of words) (state_in words) x → HaveState x
 have_state words x image are = record { bounds = bounds_of words; machine = state_in words; apart = law_of_exact_gc_state words (state_in words) image (state_of_image words); are = are }
+
+-- images with the same blocks and slabs have one state
+pub same_images : (words new : List ℕ) → HaveSameGcHeap words new → ((start : ℕ) → gc_slabs new start ≡ gc_slabs words start) → state_in new ≡ state_in words
+same_images words new heap slabs = λ i. record { block = λ root. heap.each root i; slab = λ start. slabs start i; value = λ root index. None }
