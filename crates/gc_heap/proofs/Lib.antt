@@ -1,0 +1,9 @@
+pub mod States
+pub mod Sizes
+pub mod Formats
+pub mod RootBlocks
+pub mod Places
+pub mod Books
+pub mod Carried
+pub mod Freed
+pub mod Writes

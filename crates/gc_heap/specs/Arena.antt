@@ -6,7 +6,7 @@ use Rattle.book_log.specs.Book.{Book, IsBlank}
 use Rattle.log_steps.specs.Log.{IsBookOf}
 use Rattle.heap_model.specs.declared.block.Block.{Block}
 use Rattle.heap_model.specs.Machine.{Bounds, Machine, no_heap}
-use Rattle.heap_model.specs.Placement.{no_stacks}
+use Rattle.heap_model.specs.Placement.{no_stacks, AreSound}
 use Rattle.thread_cache.specs.Stacks.{StackTable, stacks_of}
 use Rattle.heap_indexes.specs.Indexes.{Indexes, AreIndexesOf}
 use Rattle.heap_check.specs.Image.{bounds_of}
@@ -27,12 +27,14 @@ gc_bounds granules = record { roots = (layout_of 1).roots; first = (layout_of 1)
 abbrev pub state_in : List ℕ → Machine
 state_in words = record { block = gc_blocks words; slab = gc_slabs words; value = λ root index. None }
 
--- what an arena keeps: its memory is ready and its image exact, and log and indexes are those of the image
+-- what an arena keeps: its memory is ready and its image exact, log and indexes are those of the image, and the stacks are sound
+-- beside its state
 pub record IsGcArena (device : PmemState) (book : Book) (indexes : Indexes) : Type 0 where
   pub ready : IsReady device
   pub exact : IsGcExactImage (words_of device)
   pub log : IsBookOf book (words_of device)
   pub are : AreIndexesOf (bounds_of (words_of device)) (state_in (words_of device)) indexes
+  pub sound : AreSound (record { machine = state_in (words_of device); stacks = stacks_of indexes.supply.stacks })
 
 -- memory for an arena of so many granules: an empty log, and the indexes of an empty heap with empty stacks
 pub record IsGcRoom (granules : ℕ) (book : Book) (indexes : Indexes) : Type 0 where

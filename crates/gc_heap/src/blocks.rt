@@ -1,6 +1,7 @@
 // What the word of a root says, and which block it names.
 ghost use Rattle.std.specs.Prelude.{◌≡◌, ◌<◌, ℕ, List};
 ghost use Rattle.pmem_lines.specs.Pmem.{words_of};
+ghost use Rattle.image_tables.specs.Tables.{large_of};
 ghost use Rattle.log_steps.specs.Log.{IsBookOf};
 ghost use Rattle.heap_check.specs.Image.{bounds_of};
 ghost use Rattle.gc_check.specs.Heap.{address_field, class_field, gc_size, gc_tables};
@@ -77,8 +78,16 @@ fn size_in<P: Pmem>(device: &P, log: &BookLog, word: u64) -> u32
 fn granules_at(log: &BookLog, start: u32) -> u32
     ensures { (words : List ℕ) → IsBookOf log.now words → result ≡ (gc_tables words).large start }
 {
-    match log.extent_at(start) {
+    granules_of(log.extent_at(start))
+}
+
+// How many granules an extent has, where it is a large one.
+fn granules_of(extent: Option<Extent>) -> u32
+    ensures { result ≡ large_of extent }
+{
+    match extent {
         Some(Extent::Large { granules }) => granules,
-        _ => 0,
+        Some(Extent::Slab) => 0,
+        None => 0,
     }
 }

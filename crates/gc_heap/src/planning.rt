@@ -33,8 +33,13 @@ pub(crate) fn plan_malloc<P: Pmem>(
     requires seat { seat < 64 }
     ensures { IsGcMallocPlan (words_of (P.state device.now)) seat root size indexes.old result indexes.new }
 {
-    check_request(device, root, size)?;
-    indexes.place(seat, size).ok_or(MallocRefusal::NoSpace)
+    match check_request(device, root, size) {
+        Ok(()) => match indexes.place(seat, size) {
+            Some(place) => Ok(place),
+            None => Err(MallocRefusal::NoSpace),
+        },
+        Err(refusal) => Err(refusal),
+    }
 }
 
 // Whether a malloc is looked at further.
