@@ -75,7 +75,7 @@ module _ {words : List ℕ} (image : IsGcExactImage words) where
 
   -- a live large extent is the block of a root
 
-  many : (start : ℕ) → 0 < t.large start → 2 ≤ t.large start
+  pub many : (start : ℕ) → 0 < t.large start → 2 ≤ t.large start
   many start live = let is = (over words).large in omega (arith, ap (λ (f : ℕ → ℕ). f start) is, large_many words start (omega arith) image.formed.log (omega (arith, ap (λ (f : ℕ → ℕ). f start) is, live)))
 
   -- no small block begins where it does
@@ -89,7 +89,7 @@ module _ {words : List ℕ} (image : IsGcExactImage words) where
       absurd (omega (arith, live, ap t.large same, sound.extents.one_kind own inside.slab)))
       standing.stands
 
-  large_named : (start : ℕ) → 0 < t.large start → (root : ℕ) × (gc_blocks words root ≡ Some (record { at = 16384 * start; size = 16384 * t.large start }))
+  pub large_named : (start : ℕ) → 0 < t.large start → (root : ℕ) × (gc_blocks words root ≡ Some (record { at = 16384 * start; size = 16384 * t.large start }))
   large_named start live =
       let named = image.exact.all_named start live in
       let word = t.word named.0 in

@@ -9,6 +9,7 @@ use Rattle.heap_model.specs.Machine.{Bounds, Machine, no_heap}
 use Rattle.heap_model.specs.Placement.{no_stacks, AreSound}
 use Rattle.thread_cache.specs.Stacks.{StackTable, stacks_of}
 use Rattle.heap_indexes.specs.Indexes.{Indexes, AreIndexesOf}
+use Rattle.heap_indexes.specs.Adopting.{IsAdoptable, AreAdopted}
 use Rattle.heap_check.specs.Image.{bounds_of}
 use Rattle.arena_core.specs.Call.{IsReady}
 use Rattle.gc_check.specs.Image.{IsGcExactImage}
@@ -36,12 +37,14 @@ pub record IsGcArena (device : PmemState) (book : Book) (indexes : Indexes) : Ty
   pub are : AreIndexesOf (bounds_of (words_of device)) (state_in (words_of device)) indexes
   pub sound : AreSound (record { machine = state_in (words_of device); stacks = stacks_of indexes.supply.stacks })
 
--- memory for an arena of so many granules: an empty log, and the indexes of an empty heap with empty stacks
+-- memory for an arena of so many granules: an empty log, and the indexes of an empty heap with empty stacks, where those of each
+-- state begin
 pub record IsGcRoom (granules : ℕ) (book : Book) (indexes : Indexes) : Type 0 where
   pub least : 16 ≤ granules
   pub most : granules ≤ 1024
   pub log : IsBlank granules book
   pub are : AreIndexesOf (gc_bounds granules) no_heap indexes
+  pub adopted : (m : Machine) → IsAdoptable (gc_bounds granules) m → AreAdopted (gc_bounds granules) m 0 0 indexes
   pub stacks : stacks_of indexes.supply.stacks ≡ no_stacks
 
 -- the block of a root, where it has one

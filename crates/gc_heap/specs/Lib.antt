@@ -5,3 +5,4 @@ pub mod Payload
 pub mod Formatted
 pub mod Plan
 pub mod Writing
+pub mod Adopting

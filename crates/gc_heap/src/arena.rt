@@ -3,6 +3,7 @@ ghost use Rattle.std.specs.Prelude.{◌≡◌, ◌*◌, ◌<◌, ◌≤◌, leng
 ghost use Rattle.pmem_lines.specs.Words.{AreZeros};
 ghost use Rattle.pmem_lines.specs.Events.{CrashOnly, IsQuiet};
 ghost use Rattle.pmem_lines.specs.Pmem.{words_of, began, appended};
+ghost use Rattle.pool_layout.specs.Header.{granules_in};
 ghost use Rattle.pool_layout.specs.Layout.{layout_of};
 ghost use Rattle.heap_model.specs.declared.call.Call.TheVariants as calls;
 ghost use Rattle.heap_model.specs.Machine.{no_heap};
@@ -19,6 +20,7 @@ ghost use Rattle.gc_heap.specs.Formatted.{IsGcFormattedOrNot};
 ghost use Rattle.gc_heap.specs.Payload.{IsGcViewOf, IsGcWriteAnswered};
 
 use crate::GcRoom;
+use crate::adopting::read_image;
 use crate::blocks::block_of;
 use crate::carrying::{carry_out_given, carry_out_place};
 use crate::formatting::write_header;
@@ -85,6 +87,30 @@ impl<P: Pmem> GcArena<P> {
         log.load(&device);
         GcArena {
             device,
+            log,
+            indexes,
+        }
+    }
+
+    /// Makes an arena over a memory whose image is exact; `space` is for as many granules as the image has, and the memory has the
+    /// room of version 1. It begins no call and has no event, and the heap is that of the image. It takes no memory.
+    pub fn adopt(space: GcRoom, p: P) -> GcArena<P>
+        requires quiet { IsQuiet (P.state p).events }
+        requires room { (layout_of 1).room ≤ (P.state p).room }
+        requires exact { IsGcExactImage (words_of (P.state p)) }
+        requires size { granules_in (words_of (P.state p)) ≡ space }
+        ensures device { result.device ≡ P.state p }
+        ensures stacks { stacks_of result.stacks ≡ no_stacks }
+        ensures ready { IsReady result.device }
+    {
+        let GcRoom {
+            mut log,
+            mut indexes,
+        } = space;
+        log.load(&p);
+        read_image(&p, &log, &mut indexes);
+        GcArena {
+            device: p,
             log,
             indexes,
         }

@@ -53,8 +53,8 @@ pub(crate) fn address_in(word: u64) -> u32
     (word % (1 << 32)) as u32
 }
 
-// The class that a word has and one, 0 where it is that of a large block.
-fn class_in(word: u64) -> u8
+/// The class that a word has and one, 0 where it is that of a large block.
+pub(crate) fn class_in(word: u64) -> u8
     ensures { result ≡ class_field word }
 {
     ((word >> 32) % 256) as u8

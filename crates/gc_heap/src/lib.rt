@@ -12,6 +12,7 @@
 // nothing of the log and the indexes that an arena keeps beside the words (`specs/Arena.antt`).
 #![tactic(auto)]
 
+mod adopting;
 mod arena;
 mod blocks;
 mod carrying;
