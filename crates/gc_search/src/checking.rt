@@ -2,10 +2,11 @@
 ghost use Rattle.std.specs.Prelude.{◌≡◌, ◌≤◌, OnOk, IfOk, IfErr};
 ghost use Rattle.std.specs.Vec.{vec_capacity};
 ghost use Rattle.gc_check.specs.Image.{IsGcSoundImage};
-ghost use Rattle.gc_check.specs.Defects.{IsFirstGcDefect};
-ghost use Rattle.gc_search.specs.Names.{AreBlankNames};
+ghost use Rattle.gc_check.specs.Defects.{FromExtents, IsFirstGcDefect};
+ghost use Rattle.gc_search.specs.Known.{IsLogRead};
+ghost use Rattle.gc_search.specs.Names.{AreBlankNames, AreNamesOf};
 ghost use Rattle.gc_search.specs.Faults.{IfDefect};
-ghost use Rattle.gc_search.specs.Image.{IsRoomFor, IsSoundBy, IsSoundWith};
+ghost use Rattle.gc_search.specs.Image.{IsRoomFor, HasGoodHeap, IsSoundBy, IsSoundWith};
 
 use crate::header::gc_header_of;
 use crate::log::{check_directory, check_entries, check_extents, check_length};
@@ -37,6 +38,23 @@ pub(crate) fn find_defect(
     check_directory(words)?;
     check_entries(words, &header)?;
     log.load_words(words);
+    find_in_heap(words, log, names, claims)
+}
+
+// Looks for the first defect behind those of the log, which is read. The names come to be those of the roots.
+fn find_in_heap(
+    words: &[u64],
+    log: &BookLog,
+    names: &mut GcNames,
+    claims: &mut Vec<Claim>,
+) -> Result<(), Defect>
+    requires read { IsLogRead words.now log.now }
+    requires blank { AreBlankNames log.now.granules names.old }
+    requires room { 4096 ≤ vec_capacity claims.old }
+    ensures good { OnOk result (HasGoodHeap words.now) }
+    ensures names { OnOk result (AreNamesOf words.now names.new) }
+    ensures defect { IfErr result (FromExtents words.now) }
+{
     check_extents(words, log)?;
     check_slabs(words, log)?;
     check_roots(words, log)?;

@@ -46,12 +46,17 @@ fn fields_of(word: u64) -> PoolHeader
 fn is_gc_pool_header(header: &PoolHeader) -> bool
     ensures { IsTrue result ↔ IsGcPoolHeader header.now }
 {
-    header.version == 1
-        && 1 <= header.arenas
-        && header.arenas <= 16
-        && header.number < header.arenas
-        && 16 <= header.granules
-        && header.granules <= 1024
+    if header.version != 1
+        || header.arenas < 1
+        || header.arenas > 16
+        || header.number >= header.arenas
+    {
+        return false;
+    }
+    if header.granules < 16 || header.granules > 1024 {
+        return false;
+    }
+    true
 }
 
 /// Reads the header line that the words of an arena begin with. BadLength comes exactly where there are fewer than eight words;

@@ -1,8 +1,6 @@
 // The length of an image, its log and its extents: what both variants have alike.
-ghost use Rattle.std.specs.Prelude.{◌≡◌, OnOk, IfErr};
-ghost use Rattle.pool_layout.specs.Header.{granules_in};
+ghost use Rattle.std.specs.Prelude.{◌<◌, length, OnOk, IfErr};
 ghost use Rattle.image_tables.specs.Tables.{tables_of};
-ghost use Rattle.heap_check.specs.Image.{header_in};
 ghost use Rattle.image_defects.specs.Defects.{HasLength, IsLengthDefect};
 ghost use Rattle.image_defects.specs.Log.{HasDirectory, IsDirectoryDefect, HasEntries, IsEntryDefect, AreDisjoint, IsOverlapDefect};
 ghost use Rattle.gc_check.specs.Header.{IsGcHeader};
@@ -14,8 +12,7 @@ use pool_layout::{Defect, PoolHeader};
 
 /// Looks for another length than the header's granules have.
 pub(crate) fn check_length(words: &[u64], header: &PoolHeader) -> Result<(), Defect>
-    requires header { IsGcHeader words.now (header_in words.now) }
-    requires same { header.now ≡ header_in words.now }
+    requires { IsGcHeader words.now header.now }
     ensures size { OnOk result (HasLength words.now) }
     ensures defect { IfErr result (IsLengthDefect words.now) }
 {
@@ -32,7 +29,7 @@ pub(crate) fn check_length(words: &[u64], header: &PoolHeader) -> Result<(), Def
 
 /// Looks for a bad directory of the log.
 pub(crate) fn check_directory(words: &[u64]) -> Result<(), Defect>
-    requires header { IsGcHeader words.now (header_in words.now) }
+    requires { 2 < length words.now }
     ensures directory { OnOk result (HasDirectory words.now) }
     ensures defect { IfErr result (IsDirectoryDefect words.now) }
 {
@@ -44,8 +41,7 @@ pub(crate) fn check_directory(words: &[u64]) -> Result<(), Defect>
 
 /// Looks for a bad entry of the log, whose directory is good.
 pub(crate) fn check_entries(words: &[u64], header: &PoolHeader) -> Result<(), Defect>
-    requires header { IsGcHeader words.now (header_in words.now) }
-    requires same { header.now ≡ header_in words.now }
+    requires header { IsGcHeader words.now header.now }
     requires size { HasLength words.now }
     requires directory { HasDirectory words.now }
     ensures entries { OnOk result (HasEntries words.now) }

@@ -1,10 +1,10 @@
 // Roots whose word names no block that may stand.
-ghost use Rattle.std.specs.Prelude.{◌≡◌, ◌↔◌, ◌^◌, ◌<◌, IsTrue, OnOk, IfErr, MatchOption};
+ghost use Rattle.std.specs.Prelude.{◌≡◌, ◌↔◌, ◌^◌, ◌<◌, false, IsTrue, OnOk, IfErr, MatchOption};
 ghost use Rattle.image_defects.specs.Least.{IsLeast};
 ghost use Rattle.gc_check.specs.Heap.{gc_tables};
 ghost use Rattle.gc_check.specs.Sound.{IsClassBlock, IsGcStanding};
 ghost use Rattle.gc_check.specs.Defects.{AreGcStanding, IsGcStrayRoot, IsGcRootDefect};
-ghost use Rattle.gc_search.specs.Known.{IsLogRead, HasClassBlockIn};
+ghost use Rattle.gc_search.specs.Known.{IsLogRead, HasClassBlockIn, IsGcSettled};
 
 use crate::root_word::{address_of, class_field_of, is_root_word};
 use book_log::BookLog;
@@ -22,7 +22,10 @@ fn has_block_back(words: &[u64], log: &BookLog, class: u8, at: u64, back: u32) -
     if last < back || !is_slab(log, last - back) {
         return false;
     }
-    number_of(last - back, class, at).is_some()
+    match number_of(last - back, class, at) {
+        Some(_number) => true,
+        None => false,
+    }
 }
 
 // A block of a class stands at the address, in a slab of whatever class. The slab begins at the address's granule or at one of the
@@ -59,10 +62,14 @@ fn is_standing(words: &[u64], log: &BookLog, word: u64) -> bool
 // The word of a root names no such block.
 fn is_stray_root(words: &[u64], log: &BookLog, root: u32) -> bool
     requires { IsLogRead words.now log.now }
-    ensures { IsTrue result ↔ IsGcStrayRoot (gc_tables words.now) root }
+    ensures stray { IsTrue result → IsGcStrayRoot (gc_tables words.now) root }
+    ensures settled { result ≡ false → IsGcSettled (gc_tables words.now) root }
 {
     let word = root_word(words, root);
-    word != 0 && !is_standing(words, log, word)
+    if word == 0 {
+        return false;
+    }
+    !is_standing(words, log, word)
 }
 
 // The lowest root of which it does not.

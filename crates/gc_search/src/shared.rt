@@ -1,17 +1,14 @@
 // Two roots whose blocks overlap.
-ghost use Rattle.std.specs.Prelude.{◌≡◌, ℕ, ◌≤◌, ◌<◌, ◌↔◌, length, IsTrue, Some, OnOk, IfErr, MatchOption, nat_lt, if◌then◌else◌};
+ghost use Rattle.std.specs.Prelude.{◌≡◌, ◌+◌, ◌≤◌, ◌<◌, ◌↔◌, length, IsTrue, Some, OnOk, IfErr, MatchOption};
 ghost use Rattle.std.specs.Vec.{vec_capacity};
 ghost use Rattle.pool_layout.specs.Layout.{layout_of};
 ghost use Rattle.pool_layout.specs.Header.{version_in};
-ghost use Rattle.image_tables.specs.Tables.{Tables};
 ghost use Rattle.image_defects.specs.Least.{HasNone, IsLeast, lesser};
 ghost use Rattle.image_defects.specs.Blocks.{DoOverlap};
-ghost use Rattle.defect_search.specs.Claims.{claim_in, range_of};
-ghost use Rattle.defect_search.specs.Pairs.{DoClash};
+ghost use Rattle.defect_search.specs.Claims.{range_of};
 ghost use Rattle.gc_check.specs.Heap.{gc_tables};
 ghost use Rattle.gc_check.specs.Defects.{AreGcStanding, AreGcUnshared, IsGcSharedDefect};
 ghost use Rattle.gc_search.specs.Known.{IsLogRead};
-ghost use Rattle.gc_search.specs.Claims.{AreGcClaims};
 ghost use Rattle.gc_search.specs.Pairs.{AreInOrder, IsReach, IsClashing, IsFirstClashing, HasNoClashing, IsPartner, HasNoSharing, IsFirstSharing};
 
 use crate::claims::read_sorted;
@@ -117,17 +114,30 @@ fn partner_of(sorted: &[Claim], i: usize) -> Option<u32>
     found
 }
 
+// The root of a claim that overlaps another, and the lowest root whose block overlaps it.
+fn pair_of(sorted: &[Claim], i: usize) -> Option<Pair>
+    requires order { AreInOrder sorted.now }
+    requires first { IsFirstClashing sorted.now (length sorted.now) i }
+    ensures { MatchOption result (HasNoSharing sorted.now) (IsFirstSharing sorted.now) }
+{
+    match partner_of(sorted, i) {
+        None => None,
+        Some(second) => Some(Pair {
+            first: sorted[i].root,
+            second,
+        }),
+    }
+}
+
 // The two roots whose blocks overlap, with the lowest first root and then the lowest second. The claims are gone through twice.
 fn shared_pair(sorted: &[Claim]) -> Option<Pair>
     requires { AreInOrder sorted.now }
-    ensures list { MatchOption result (HasNoSharing sorted.now) (IsFirstSharing sorted.now) }
+    ensures { MatchOption result (HasNoSharing sorted.now) (IsFirstSharing sorted.now) }
 {
-    let i = first_clashing(sorted)?;
-    let second = partner_of(sorted, i)?;
-    Some(Pair {
-        first: sorted[i].root,
-        second,
-    })
+    match first_clashing(sorted) {
+        None => None,
+        Some(i) => pair_of(sorted, i),
+    }
 }
 
 /// Looks for two roots whose blocks overlap. `claims` has room for the blocks of all roots.

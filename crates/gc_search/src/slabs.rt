@@ -1,11 +1,9 @@
 // State words of slabs.
-ghost use Rattle.std.specs.Prelude.{◌≡◌, ◌↔◌, true, IsTrue, OnOk, IfErr, MatchOption};
-ghost use Rattle.image_tables.specs.Tables.{is_slab};
+ghost use Rattle.std.specs.Prelude.{◌≡◌, ◌↔◌, false, IsTrue, OnOk, IfErr, MatchOption};
 ghost use Rattle.image_defects.specs.Least.{IsLeast};
-ghost use Rattle.image_reading.specs.Slabs.{IsSlabAt};
 ghost use Rattle.gc_check.specs.Image.{IsNormalWord, AreNormalSlabs};
 ghost use Rattle.gc_check.specs.Defects.{IsBadSlab, IsGcSlabDefect};
-ghost use Rattle.gc_search.specs.Known.{IsLogRead};
+ghost use Rattle.gc_search.specs.Known.{IsLogRead, IsNormalIfSlab};
 
 use book_log::BookLog;
 use image_reading::{is_slab, state_word};
@@ -21,7 +19,8 @@ fn is_normal_word(word: u64) -> bool
 // The state word of the slab that starts at a granule, if one does, says something else.
 fn is_bad_slab(words: &[u64], log: &BookLog, start: u32) -> bool
     requires { IsLogRead words.now log.now }
-    ensures { IsTrue result ↔ IsBadSlab words.now start }
+    ensures bad { IsTrue result → IsBadSlab words.now start }
+    ensures normal { result ≡ false → IsNormalIfSlab words.now start }
 {
     if !is_slab(log, start) {
         return false;
