@@ -101,7 +101,7 @@ fn root_words(rt: HostRuntime) -> Result<(), Fail> {
     let strays = [
         // A class field of 37, and one of 36 with a bit above it.
         small_word(67584, 36),
-        small_word(67696, 6) + (1 << 40),
+        0x107_0001_0870,
         // A class and the address of a large extent.
         small_word(131072, 6),
         // An address between two blocks, before the first and behind the last, of 566.
