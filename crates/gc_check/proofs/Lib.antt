@@ -8,3 +8,6 @@ pub mod Order
 pub mod RootWords
 pub mod Forms
 pub mod Steps
+pub mod Extents
+pub mod Logged
+pub mod Stages

@@ -36,14 +36,14 @@ module _ (t : Tables) (root word : ℕ) where
 
 module _ {b : Bounds} {t : Tables} (sound : IsGcSound b t) where
   -- a live large extent has its granules
-  whole : (own : ℕ) → 0 < t.large own → granules_at t own ≡ t.large own
+  pub whole : (own : ℕ) → 0 < t.large own → granules_at t own ≡ t.large own
   whole own live = granules_at-large t own (false_from_ne_true (t.slab own) (λ slab. omega (arith, live, sound.extents.one_kind own slab)))
 
   -- live extents begin behind the first granule of the heap
   starts_high : (start : ℕ) → 0 < t.large start → b.first ≤ start
   starts_high start live = (sound.extents.starts start (omega (arith, live, whole start live))).0
 
-  in_slab : {class at : ℕ} → class < 36 → (block : IsClassBlock t.slab class at) → IsInSlab t block.start at
+  pub in_slab : {class at : ℕ} → class < 36 → (block : IsClassBlock t.slab class at) → IsInSlab t block.start at
   in_slab {class} {at} is_class block =
       let lies = LiesIn-block block.start class (slab_block block.start class block.number) (record { number = block.number; within = block.below; is = refl }) in
       record { slab = block.slab; low = omega (arith, lies.low, block.is); high = omega (arith, lies.high, block.is, class_size-least class is_class) }

@@ -25,5 +25,13 @@ pub fn put_class<P: Pmem>(p: &mut P, start: u32, class: u8)
     ensures put { IsClassPut (words_of (P.state p.old)) start class (words_of (P.state p.new)) }
     ensures words { words_of (P.state p.new) ≡ put_word (words_of (P.state p.old)) (state_word start) (normal_word class) }
 {
-    write_word(p, granule_at(start), 1 + 256 * u64::from(class));
+    write_word(p, granule_at(start), normal_word(class));
+}
+
+/// The state word of a slab of a class, below 36.
+pub(crate) fn normal_word(class: u8) -> u64
+    requires { class < 36 }
+    ensures { result ≡ normal_word class }
+{
+    1 + 256 * u64::from(class)
 }
