@@ -22,7 +22,7 @@ pub held_by : (words : List ℕ) (root word : ℕ) → word ≡ (tables_of words
 held_by words root word is = ap address_field (is ∙ sym (gc_word words root)) ∙ sym ((over words).root root)
 
 -- a root that holds something is one of the arena's
-held_below : (words : List ℕ) (root : ℕ) → (gc_tables words).root root ≢ 0 → root < (layout_of (version_in words)).roots
+pub held_below : (words : List ℕ) (root : ℕ) → (gc_tables words).root root ≢ 0 → root < (layout_of (version_in words)).roots
 held_below words root some = ⊎_elim
     (λ (below : root < (layout_of (version_in words)).roots). below)
     (λ (past : (layout_of (version_in words)).roots ≤ root). absurd (some (sym (held_by words root 0 (sym (word_table-past words root past))))))
