@@ -1,25 +1,26 @@
 -- What stays of an image while Tombs are put into its log.
-use Rattle.std.proofs.Common.{◌≡◌, ◌≢◌, ◌⊎◌, ◌==◌, ◌↔◌, ℕ, ◌*◌, ◌/◌, ◌<◌, Bool, true, List, length, Option, Some, None, refl, sym, ap, subst, ◌∙◌, arith, inl, inr, ⊎_elim}
+use Rattle.std.proofs.Common.{◌≡◌, ◌≢◌, ℕ, ◌/◌, ◌<◌, true, List, Some, None, refl, sym, ap, ◌∙◌, arith, inl, inr, ⊎_elim}
 use Rattle.std.proofs.lemmas.Bool.{cases_eq, cond-true}
 use Rattle.pool_layout.specs.Layout.{layout_of}
 use Rattle.pool_layout.specs.Header.{version_in, granules_in}
 use Rattle.image_tables.specs.Tables.{Tables}
 use Rattle.book_log.specs.Book.{Book}
 use Rattle.log_steps.specs.Log.{IsBookOf}
-use Rattle.heap_model.specs.Machine.{Bounds, Range, with_key}
+use Rattle.heap_model.specs.Machine.{Bounds, Range}
 use Rattle.heap_model.proofs.Maps.{with_key-here, with_key-cases}
-use Rattle.heap_check.specs.Image.{bounds_of}
-use Rattle.defect_search.specs.Roots.{mark_in, IsNamedStart, IsNamedGranule, AreMarks}
+use Rattle.defect_search.specs.Roots.{IsNamedStart, IsNamedGranule}
 use Rattle.image_defects.specs.Least.{HasNone}
-use Rattle.gc_check.specs.Heap.{address_field, gc_block, gc_tables, gc_heap}
+use Rattle.gc_check.specs.Heap.{address_field, gc_block, gc_tables}
 use Rattle.gc_check.specs.Image.{IsGcSoundImage}
-use Rattle.gc_check.specs.State.{gc_slabs, HaveSameGcHeap, KeepsGcBlocks, IsEitherGcHeap}
+use Rattle.gc_check.specs.State.{gc_slabs, HaveSameGcHeap, IsEitherGcHeap}
 use Rattle.gc_check.proofs.Tables.{over}
 use Rattle.gc_check.proofs.Heaps.{gc_heap-none, gc_heap-some}
 use Rattle.gc_check.proofs.Stages.{same_then, keeps_first}
 use Rattle.gc_steps.specs.Extents.{IsDroppable, IsDropped}
 use Rattle.gc_search.specs.Known.{IsLogRead}
 use Rattle.gc_search.specs.Names.{Names, AreNamesOf}
+use Rattle.gc_search.proofs.Premises.{slab_high, large_lies}
+use Rattle.gc_search.proofs.Standing.{gc_large, gc_slab}
 use Rattle.gc_recovery_steps.specs.declared.search.Loose.{Loose}
 use Rattle.gc_recovery_steps.specs.declared.search.Loose.TheVariants.{Large, Empty}
 use Rattle.gc_recovery_steps.specs.Kinds.{IsLooseOf}
@@ -146,3 +147,8 @@ droppable words start Empty image here = record { image = image; loose = inr her
 -- one behind the other
 pub slabs_on : (words made new : List ℕ) → KeepsGcSlabs words made → KeepsGcSlabs made new → KeepsGcSlabs words new
 slabs_on words made new first second = record { classes = λ start class is. first.classes start class (second.classes start class is) }
+
+-- a thing of a kind starts in the arena
+pub loose_inside : (words : List ℕ) (log : Book) → IsLogRead words log → (kind : Loose) (start : ℕ) → IsLooseOf kind (gc_tables words) start → start < granules_in words
+loose_inside words log read Large start loose = let live = gc_large words start in omega (arith, live, loose.live, large_lies read start (omega (arith, live, loose.live)))
+loose_inside words log read Empty start loose = omega (arith, slab_high read start (sym (gc_slab words start) ∙ loose.slab))

@@ -1,6 +1,5 @@
 -- The Tombs of recovery, one and then the other.
-use Rattle.std.proofs.Common.{◌≡◌, ◌+◌, ◌≤◌, ℕ, List, [], ◌++◌, length, refl, subst, arith, inl, inr, length-append}
-use Rattle.pmem_lines.specs.declared.event.Event.{Event}
+use Rattle.std.proofs.Common.{◌+◌, ◌≤◌, ℕ, List, [], ◌++◌, length, refl, subst, arith, inl, inr, length-append}
 use Rattle.pmem_lines.specs.Pmem.{PmemState, words_of}
 use Rattle.pmem_lines.specs.Events.{IsQuiet}
 use Rattle.pmem_lines.specs.Steps.{IsQuietStep}
