@@ -12,3 +12,4 @@ mod search;
 mod tombs;
 
 pub use recovery::make_exact;
+pub use search::all_words;

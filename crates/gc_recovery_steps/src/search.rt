@@ -13,7 +13,7 @@ use gc_search::{GcNames, is_empty_slab, is_loose_large};
 use pmem_lines::Pmem;
 
 /// All words of a device.
-pub(crate) fn all_words<P: Pmem>(p: &P) -> &[u64]
+pub fn all_words<P: Pmem>(p: &P) -> &[u64]
     ensures { result.now ≡ words_of (P.state p.now) }
 {
     p.words(0, p.size_words())

@@ -1,25 +1,10 @@
 // What the search says of an image.
-ghost use Rattle.std.specs.Prelude.{◌<◌, ◌^◌};
-
-use check_tests::{Base, Put, image};
+use crate::images::ONE_BLOCK;
+use check_tests::{Put, image};
 use gc_search::{GcFault, check_gc_arena};
 use pmem_lines::OutOfMemory;
 use pool_layout::Defect;
 use std::alloc::Global;
-
-/// An arena of 16 granules with one slab of class 6, at granule 4, whose block 0 root 5 holds: its word has the address, and the
-/// class and one from bit 32 on.
-pub const ONE_BLOCK: Base = Base {
-    granules: 16,
-    words: &[
-        (0, 3544406880241669710),
-        (1, 281543696187393),
-        (2, 1),
-        (2053, 30064838656),
-        (6152, 1026),
-        (8192, 1537),
-    ],
-};
 
 /// What the search says of these words: the first defect, if there is one.
 pub fn answer_of(alloc: Global, words: &[u64]) -> Result<Option<Defect>, OutOfMemory> {
@@ -33,14 +18,6 @@ pub fn answer_of(alloc: Global, words: &[u64]) -> Result<Option<Defect>, OutOfMe
 /// What it says of the arena with one block with the words of a row over its own.
 pub fn answer(alloc: Global, changes: &[Put]) -> Result<Option<Defect>, OutOfMemory> {
     answer_of(alloc, &image(alloc, &ONE_BLOCK, changes)?)
-}
-
-/// The word of a small block of a class at an address.
-pub fn small_word(at: u64, class: u64) -> u64
-    requires at { at < 2 ^ 32 }
-    requires class { class < 64 }
-{
-    at + ((class + 1) << 32)
 }
 
 /// The slab at a granule has a bad state word, which is this one.

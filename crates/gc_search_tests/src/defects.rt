@@ -1,7 +1,6 @@
 // Each defect once, in an arena with one block.
-use crate::answers::{
-    ONE_BLOCK, answer, answer_of, bad_slab, shared, small_word, stray_root, too_many_loose,
-};
+use crate::answers::{answer, answer_of, bad_slab, shared, stray_root, too_many_loose};
+use crate::images::{ONE_BLOCK, small_word};
 use check_tests::{Put, blank, put};
 use pool_layout::Defect;
 use std::test::Fail;

@@ -1,5 +1,6 @@
 // Images with defects of two classes, and the one that is told.
-use crate::answers::{answer, bad_slab, shared, small_word, stray_root};
+use crate::answers::{answer, bad_slab, shared, stray_root};
+use crate::images::small_word;
 use pool_layout::Defect;
 use std::test::Fail;
 

@@ -1,5 +1,6 @@
 // Sound images in which slabs have blocks of several classes, and what was read of them.
-use crate::answers::{ONE_BLOCK, answer, answer_of, small_word};
+use crate::answers::{answer, answer_of, shared};
+use crate::images::{ONE_BLOCK, small_word};
 use check_tests::{Put, image, put};
 use gc_search::GcSearch;
 use std::test::Fail;
@@ -37,10 +38,7 @@ fn all_roots(rt: HostRuntime) -> Result<(), Fail> {
     for root in 0..4096usize {
         put(&mut words, &[(2048 + root, 30064838656)]);
     }
-    assert_eq!(rt;
-        answer_of(rt.alloc(), &words)?,
-        crate::answers::shared(0, 1)
-    );
+    assert_eq!(rt; answer_of(rt.alloc(), &words)?, shared(0, 1));
     Ok(())
 }
 
