@@ -154,6 +154,7 @@ module _ {words : List ℕ} {start : ℕ} (may : IsDroppable words start) where
     pub dropped : IsDropped words start image
     dropped = record {
       image = gone_sound;
+      gone = large_own going.has;
       bounds = gone_bounds;
       heap = record { each = going_heap going };
       slabs = slabs_changed going.has;

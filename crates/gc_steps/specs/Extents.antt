@@ -61,10 +61,11 @@ pub record LoosensNone (words new : List ℕ) : Type 0 where
   pub large : (start : ℕ) → IsLooseLarge (gc_tables new) start → IsLooseLarge (gc_tables words) start
   pub empty : (start : ℕ) → IsEmptySlab (gc_tables new) start → IsEmptySlab (gc_tables words) start
 
--- The extent is gone, and no slab is there. The image is sound, with the same blocks and the same other slabs, and nothing comes to
--- be loose; where nothing but the extent was, the image is exact.
+-- The extent is gone: no large one is there, and no slab. The image is sound, with the same blocks and the same other slabs, and
+-- nothing comes to be loose; where nothing but the extent was, the image is exact.
 pub record IsDropped (words : List ℕ) (start : ℕ) (new : List ℕ) : Type 0 where
   pub image : IsGcSoundImage new
+  pub gone : (gc_tables new).large start ≡ 0
   pub bounds : bounds_of new ≡ bounds_of words
   pub heap : HaveSameGcHeap words new
   pub slabs : (other : ℕ) → gc_slabs new other ≡ with_key (gc_slabs words) start None other

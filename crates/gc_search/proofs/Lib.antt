@@ -1,0 +1,9 @@
+pub mod Premises
+pub mod HeaderLines
+pub mod StateWords
+pub mod Standing
+pub mod ClaimLists
+pub mod Sweeps
+pub mod FirstPairs
+pub mod Marks
+pub mod Outcomes

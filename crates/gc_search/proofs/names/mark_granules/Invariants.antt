@@ -1,0 +1,7 @@
+use Rattle.std.proofs.Common.{◌≡◌, length}
+use Rattle.gc_check.specs.Heap.{gc_tables}
+use Rattle.defect_search.specs.Roots.{AreMarks, IsNamedGranule}
+use Rattle.gc_search.proofs.names.mark_granules.Given as goal
+
+abbrev pub invariant-loop-root : goal.invariant-loop-root
+invariant-loop-root l = record { size : length l.marks ≡ length l.fn.marks; marks : AreMarks (IsNamedGranule (gc_tables l.words) l.root) l.marks }
