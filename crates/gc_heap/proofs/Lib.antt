@@ -7,3 +7,4 @@ pub mod Books
 pub mod Carried
 pub mod Freed
 pub mod Writes
+pub mod Answering
