@@ -8,3 +8,4 @@ pub mod Carried
 pub mod Freed
 pub mod Writes
 pub mod Adopted
+pub mod Answering

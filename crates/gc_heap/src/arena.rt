@@ -193,6 +193,7 @@ impl<P: Pmem> GcArena<P> {
     }
 
     /// The block that a root names. `None` exactly where there is no such root word, or it names no block.
+    #[tactic(auto, using(std::proofs::lemmas::Grind::common_steps, crate::proofs::RootBlocks::block_refused))]
     pub fn block(&self, root: u32) -> Option<Block>
         ensures { IsGcBlockOfRoot (words_of self.now.device) root result }
     {
