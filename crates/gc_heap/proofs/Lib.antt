@@ -8,3 +8,6 @@ pub mod Carried
 pub mod Freed
 pub mod Writes
 pub mod Answering
+pub mod Stepped
+pub mod Starts
+pub mod Frees
