@@ -11,3 +11,5 @@ pub mod Answering
 pub mod Stepped
 pub mod Starts
 pub mod Frees
+pub mod NewSlabs
+pub mod Mallocs
