@@ -174,14 +174,14 @@ module _ {words : List ℕ} {root : ℕ} {range : Range} (image : IsGcExactImage
   -- the last block of a slab
 
   module _ (start class : ℕ) (slab : gc_slabs words start ≡ Some class) (gone : slabs_without b m root range start ≡ None) where
-    is_slab_t : t.slab start ≡ true
+    pub is_slab_t : t.slab start ≡ true
     is_slab_t = slab_there t start class slab
 
     stays_not : slabs_without b m root range start ≢ m.slab start
     stays_not same = absurd (let is = slab in cc)
 
     -- the block begins in it
-    begins_here : (16384 * start ≤ range.at) × (range.at < 16384 * start + 65536)
+    pub begins_here : (16384 * start ≤ range.at) × (range.at < 16384 * start + 65536)
     begins_here = ⊎_elim
         (λ (before : range.at < 16384 * start). absurd (stays_not (slabs_stay-away b m root range start (λ c is begins. omega (arith, before, begins_at start range begins)))))
         (λ (low : 16384 * start ≤ range.at). ⊎_elim
@@ -193,6 +193,12 @@ module _ {words : List ℕ} {root : ℕ} {range : Range} (image : IsGcExactImage
     pub slab_its : IsExtentOf t (t.word root) start
     slab_its = Covers-slab t start (address_field (t.word root) / 16384) is_slab_t (omega (arith, at_is, begins_here.0)) (omega (arith, at_is, begins_here.1))
 
+    -- no other root has a block in it
+    pub no_other : (r : ℕ) → r ≢ root → t.root r ≢ 0 → ¬ (IsInSlab t start (t.root r))
+    no_other r differ some inside =
+        let there = block_at r some in
+        stays_not (slabs_stay b m root r range start (free.rooted r there.0 there.1) differ (record { range = there.0; named = there.1; low = omega (arith, there.2, inside.low); high = omega (arith, there.2, inside.high) }))
+
     slab_empty : IsEmptySlab (gc_tables made) start
     slab_empty = record {
       slab = ap (λ (x : Tables). x.slab start) made_tables ∙ is_slab_t;
@@ -200,8 +206,7 @@ module _ {words : List ℕ} {root : ℕ} {range : Range} (image : IsGcExactImage
           (λ (own : r ≡ root). some (ap (gc_tables made).root own ∙ made_root_own))
           (λ (differ : r ≢ root).
           let at = made_root_other r differ in
-          let there = block_at r (λ none. some (at ∙ none)) in
-          stays_not (slabs_stay b m root r range start (free.rooted r there.0 there.1) differ (record { range = there.0; named = there.1; low = omega (arith, there.2, at, inside.low); high = omega (arith, there.2, at, inside.high) })))
+          no_other r differ (λ none. some (at ∙ none)) (record { slab = is_slab_t; low = omega (arith, inside.low, at); high = omega (arith, inside.high, at) }))
           (cases_eq r root);
     }
 
@@ -211,21 +216,30 @@ module _ {words : List ℕ} {root : ℕ} {range : Range} (image : IsGcExactImage
   -- a block of a slab in which others live
 
   module _ (small : ¬ (IsLarge range)) (stays : (s : ℕ) → slabs_without b m root range s ≡ m.slab s) where
-    pub block_exact : IsDetached words root made → IsGcExactImage made
-    block_exact detached =
-        let home = free.small root range named small in
+    pub home : (s : ℕ) × (c : ℕ) × (gc_slabs words s ≡ Some c) × LiesIn s range
+    home = free.small root range named small
+
+    pub home_slab : t.slab home.0 ≡ true
+    home_slab = slab_there t home.0 home.1 home.2
+
+    -- where the block lies in it
+    pub home_lies : (16384 * home.0 ≤ range.at) × (range.at < 16384 * home.0 + 65536)
+    home_lies = let some = free.sized root range named in (home.3.low, omega (arith, home.3.high, some))
+
+    pub other_here : HasOther t root home.0
+    other_here =
         let start = home.0 in
-        let some = free.sized root range named in
-        let slab = slab_there t start home.1 home.2 in
-        let lies = home.3 in
-        let begins : begins_in start (Some range) ≡ true = begins_in-here start range lies.low (omega (arith, lies.high, some)) in
+        let begins : begins_in start (Some range) ≡ true = begins_in-here start range home_lies.0 home_lies.1 in
         let there = live_below-exists (with_key m.block root None) start b.roots (others_live b m root range start home.1 begins (stays start ∙ home.2)) in
         let other = begins_other m root there.0 start there.2 in
         let named_there = IsNamed-heap t there.0 other.1.range other.1.named in
         let at : t.root there.0 ≡ other.1.range.at = (over words).root there.0 ∙ sym (ap (λ (r : Range). r.at) named_there.is) in
-        let high = (slab_starts image start slab).0 in
-        detached.exact start (Covers-slab t start (address_field (t.word root) / 16384) slab (omega (arith, at_is, lies.low)) (omega (arith, at_is, lies.high, some)))
-        (record { other = there.0; differ = other.0; some = λ none. omega (arith, none, at, other.1.low, high, first); inside = record { slab = slab; low = omega (arith, at, other.1.low); high = omega (arith, at, other.1.high) } })
+        let high = (slab_starts image start home_slab).0 in
+        record { other = there.0; differ = other.0; some = λ none. omega (arith, none, at, other.1.low, high, first); inside = record { slab = home_slab; low = omega (arith, at, other.1.low); high = omega (arith, at, other.1.high) } }
+
+    pub block_exact : IsDetached words root made → IsGcExactImage made
+    block_exact detached =
+        detached.exact home.0 (Covers-slab t home.0 (address_field (t.word root) / 16384) home_slab (omega (arith, at_is, home_lies.0)) (omega (arith, at_is, home_lies.1))) other_here
 
 -- what is left
 

@@ -9,3 +9,8 @@ pub mod Freed
 pub mod Writes
 pub mod Adopted
 pub mod Answering
+pub mod Stepped
+pub mod Starts
+pub mod Frees
+pub mod NewSlabs
+pub mod Mallocs

@@ -139,3 +139,10 @@ pub block_found : (words : List ℕ) → IsGcExactImage words → (root word at 
 block_found words image root word at size below is some at_is size_is =
     subst (HasGcBlockAt words root) (λ i. record { at = sym (at_is ∙ ap address_field is) i; size = sym (size_is ∙ ap (gc_size (gc_tables words).large) is) i })
     (block_here words image root below (λ none. some (is ∙ none)))
+
+-- a root that holds an address is below the number of roots
+pub root_named : (words : List ℕ) → IsGcExactImage words → (root : ℕ) → (gc_tables words).root root ≢ 0 → root < (bounds_of words).roots
+root_named words image root some = ⊎_elim
+    (λ below. below)
+    (λ past. absurd (some ((over words).root root ∙ ap address_field (word_past words root past))))
+    (cases_lt root (bounds_of words).roots)

@@ -86,7 +86,7 @@ state_of_image words = record { blocks = λ root. refl; slabs = λ start. refl; 
 
 module _ {words : List ℕ} {m : Machine} (state : HasGcState words m) where
   -- a state that it has is that one but for its values
-  same_state : record { block = gc_blocks words; slab = gc_slabs words; value = m.value } ≡ m
+  pub same_state : record { block = gc_blocks words; slab = gc_slabs words; value = m.value } ≡ m
   same_state = λ i. record { block = λ root. state.blocks root i; slab = λ start. state.slabs start i; value = m.value }
 
   pub indexes_of : (x : Indexes) → AreIndexesOf (bounds_of words) (state_in words) x → AreIndexesOf (bounds_of words) m x
