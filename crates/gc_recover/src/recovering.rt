@@ -43,8 +43,8 @@ pub fn recover_device<P: Pmem>(alloc: Global, p: P) -> Result<RecoveredDevice<P>
     }
 }
 
-// Recovers the device of an arena whose image is sound. It takes no memory.
-fn recover_sound<P: Pmem>(p: P, image: GcImage) -> RecoveredDevice<P>
+/// Recovers the device of an arena whose image is sound. It takes no memory.
+pub(crate) fn recover_sound<P: Pmem>(p: P, image: GcImage) -> RecoveredDevice<P>
     requires quiet { IsQuiet (P.state p).events }
     requires room { 2048 ≤ (P.state p).room }
     requires image { IsSoundWith (words_of (P.state p)) image }
