@@ -3,7 +3,8 @@
 //
 // An image is given by its words that are not 0, as those of `check_tests` are, from which the functions that make one come.
 // `defects` has an arena with one slab and one block, and what is found where one thing of it is changed; `order` has images
-// with two things wrong, and which of them is told; `sound` has images in which slabs have blocks of several classes. The crate
+// with two things wrong, and which of them is told; `sound` has images in which slabs have blocks of several classes, and
+// `largest` the largest arena, as full as it may be. The crate
 // has no code of its own beside `images`, which has the arena, here and for the tests of recovery. It stands apart from `gc_search`,
 // since a crate with tests is proved twice.
 #![tactic(auto)]
@@ -13,6 +14,8 @@ mod answers;
 #[cfg(test)]
 mod defects;
 mod images;
+#[cfg(test)]
+mod largest;
 #[cfg(test)]
 mod order;
 #[cfg(test)]
