@@ -11,3 +11,4 @@ pub mod Steps
 pub mod Extents
 pub mod Logged
 pub mod Stages
+pub mod OffBlocks

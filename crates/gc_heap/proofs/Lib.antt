@@ -1,0 +1,15 @@
+pub mod States
+pub mod Sizes
+pub mod Formats
+pub mod RootBlocks
+pub mod Places
+pub mod Books
+pub mod Carried
+pub mod Freed
+pub mod Writes
+pub mod Answering
+pub mod Stepped
+pub mod Starts
+pub mod Frees
+pub mod NewSlabs
+pub mod Mallocs
