@@ -1,6 +1,5 @@
 -- Words that differ within the block of a root alone: the image has the same roots, extents and classes, and is exact.
-use Rattle.std.proofs.Common.{◌≡◌, ◌≢◌, ℕ, ◌*◌, ◌/◌, ◌<◌, ◌≤◌, true, cond, List, length, Some, None, refl, sym, ap, subst, ◌∙◌, arith, ⊎_elim}
-use Rattle.std.proofs.lemmas.Bool.{cases_Bool, cond-true, cond-false}
+use Rattle.std.proofs.Common.{◌≡◌, ℕ, ◌*◌, ◌<◌, true, cond, List, Some, None, refl, sym, ap, subst, ◌∙◌, arith}
 use Rattle.pmem_lines.specs.Words.{word_at}
 use Rattle.pool_layout.specs.Places.{text_word, root_word, entry_slot, heap_word}
 use Rattle.pool_layout.specs.Header.{header_word, fields_of, version_field, version_in, granules_in, granules_field}
@@ -12,10 +11,9 @@ use Rattle.image_tables.proofs.Places.{log_start-low, entry_slot-high}
 use Rattle.image_tables.proofs.Stores.{roots-same, root_word-low, log_start-high, state_field-same, tables_by}
 use Rattle.book_log.specs.Book.{HasLog}
 use Rattle.book_log.proofs.Books.{HasLog-same}
-use Rattle.heap_model.specs.Machine.{Bounds, Range}
+use Rattle.heap_model.specs.Machine.{Range}
 use Rattle.heap_check.specs.Heap.{slabs}
 use Rattle.heap_check.specs.Image.{bounds_of}
-use Rattle.heap_check.specs.State.{IsWordOf}
 use Rattle.heap_check.proofs.Forms.{bounds_of-same}
 use Rattle.heap_check.proofs.OffBlocks.{IsSameOffBlock}
 use Rattle.gc_check.specs.Header.{IsGcPoolHeader}
@@ -25,7 +23,6 @@ use Rattle.gc_check.specs.Image.{IsNormalWord, IsGcFormed, IsGcExactImage}
 use Rattle.gc_check.specs.State.{gc_blocks, gc_slabs, HaveSameGcHeap}
 use Rattle.gc_check.proofs.Forms.{is_slab-in, class_in}
 use Rattle.gc_check.proofs.RootWords.{block_low, block_off_state, IsGcExact-class}
-use Rattle.gc_check.proofs.Tables.{over}
 
 module _ {words new : List ℕ} {range : Range} (image : IsGcExactImage words) (root : ℕ) (named : gc_blocks words root ≡ Some range) (same : IsSameOffBlock words new range) where
   abbrev t : Tables

@@ -1,5 +1,5 @@
 -- A log that reads an image reads it still once a word outside the log was stored.
-use Rattle.std.proofs.Common.{◌≡◌, ◌≢◌, ◌<◌, ℕ, true, List, length, sym, ap, ◌∙◌, subst}
+use Rattle.std.proofs.Common.{◌≡◌, ◌<◌, ℕ, true, List, length, sym, ap, ◌∙◌, subst}
 use Rattle.pmem_lines.specs.Words.{put_word}
 use Rattle.pmem_lines.proofs.Words.{length-put_word}
 use Rattle.pool_layout.specs.Places.{root_word}

@@ -1,5 +1,5 @@
 -- An arena is formatted: the words that its header line leaves, and those that a crash leaves.
-use Rattle.std.proofs.Common.{false, ◌≡◌, ◌≢◌, ℕ, zero, suc, ◌*◌, ◌<◌, ◌≤◌, Bool, true, cond, nat_lt, List, [], ◌∷◌, length, take, None, Some, refl, sym, ap, subst, ◌∙◌, arith, inl, inr, flat_map, true≢false}
+use Rattle.std.proofs.Common.{false, ◌≡◌, ◌≢◌, ℕ, zero, suc, ◌*◌, ◌≤◌, Bool, true, cond, nat_lt, List, [], ◌∷◌, length, take, None, Some, refl, sym, ap, subst, ◌∙◌, arith, inr, flat_map, true≢false}
 use Rattle.std.proofs.lemmas.Bool.{cond-false}
 use Rattle.std.proofs.lemmas.List.{append-nil}
 use Rattle.pmem_lines.specs.Words.{word_at, put_word, AreZeros}
@@ -10,8 +10,8 @@ use Rattle.pmem_lines.proofs.States.{quiet_after}
 use Rattle.pmem_lines.proofs.Images.{by_prefixes}
 use Rattle.pool_layout.specs.declared.header.PoolHeader.{PoolHeader}
 use Rattle.pool_layout.specs.Layout.{layout_of}
-use Rattle.pool_layout.specs.Places.{text_word, fields_word, directory_word, root_word, entry_slot, heap_word}
-use Rattle.pool_layout.specs.Header.{header_word, fields_of, version_in, granules_in, IsPoolHeader}
+use Rattle.pool_layout.specs.Places.{text_word, fields_word, directory_word, root_word, entry_slot}
+use Rattle.pool_layout.specs.Header.{header_word, fields_of, version_in, granules_in}
 use Rattle.pool_layout.proofs.Headers.{fields_of-header_word, header_fits}
 use Rattle.pool_layout.proofs.Layouts.{layout_rules}
 use Rattle.image_tables.specs.Log.{log_of, active_chunks, most_chunks, chunk_log, entries_below}
@@ -20,7 +20,7 @@ use Rattle.image_tables.specs.Tables.{tables_of, root_in, large_of, is_slab_of}
 use Rattle.book_log.specs.Book.{Book, HasLog, AreWithin, Reads}
 use Rattle.book_log.proofs.Fresh.{HasLog-fresh}
 use Rattle.book_log.proofs.Places.{within_heap}
-use Rattle.heap_model.specs.Machine.{Machine, no_heap}
+use Rattle.heap_model.specs.Machine.{no_heap}
 use Rattle.heap_model.specs.Placement.{Stacks, no_stacks, AreSound}
 use Rattle.heap_model.proofs.SoundStacks.{law_of_no_stacks}
 use Rattle.thread_cache.specs.Stacks.{stacks_of}

@@ -1,29 +1,27 @@
 -- A root has lost its block: which extent is loose then, by what came back to the indexes, and what its going leaves.
-use Rattle.std.proofs.Common.{◌≡◌, ◌≢◌, ◌⊎◌, ◌==◌, ◌&&◌, ℕ, zero, suc, ◌+◌, ◌-◌, ◌*◌, ◌/◌, ◌<◌, ◌≤◌, Bool, true, false, cond, List, Option, Some, None, refl, sym, ap, subst, ◌∙◌, arith, inl, inr, ⊎_elim}
-use Rattle.std.proofs.lemmas.Bool.{cases_eq, cases_lt, cases_Bool, eq-eqb, cond-true, cond-false}
+use Rattle.std.proofs.Common.{◌≡◌, ◌≢◌, ◌==◌, ◌&&◌, ℕ, zero, suc, ◌+◌, ◌-◌, ◌*◌, ◌/◌, ◌<◌, ◌≤◌, Bool, true, false, cond, List, Option, Some, None, refl, sym, ap, subst, ◌∙◌, arith, inl, inr, ⊎_elim}
+use Rattle.std.proofs.lemmas.Bool.{cases_eq, cases_lt, cases_Bool, eq-eqb, cond-false}
 use Rattle.pmem_lines.specs.Words.{put_word}
 use Rattle.pool_layout.specs.Places.{root_word}
-use Rattle.size_classes.proofs.Spacing.{class_size-most, class_size-least}
+use Rattle.size_classes.proofs.Spacing.{class_size-most}
 use Rattle.image_tables.specs.Tables.{Tables}
 use Rattle.image_tables.proofs.Updates.{put_at-same, put_at-other}
-use Rattle.image_tables.specs.Updates.{put_at}
 use Rattle.heap_model.specs.Machine.{Bounds, Range, Machine, IsLarge, with_key, IsOverlapFree, LiesIn}
 use Rattle.heap_model.specs.Slabs.{begins_in, live_below}
-use Rattle.heap_model.specs.Step.{slabs_without, without_block}
+use Rattle.heap_model.specs.Step.{slabs_without}
 use Rattle.heap_model.proofs.Freeing.{BeginsIn, begins_in-here, begins_in-true, begins_at, slabs_stay, slabs_stay-away, left_named}
 use Rattle.heap_model.proofs.Maps.{with_key-here, with_key-other}
 use Rattle.heap_indexes.proofs.LargeBlocks.{large_off}
-use Rattle.heap_indexes.specs.Steps.{IsGivenAs}
 use Rattle.heap_indexes.specs.declared.answer.Given.TheVariants as given
 use Rattle.heap_check.specs.Image.{bounds_of}
-use Rattle.heap_check.specs.Sound.{granules_at, Covers, IsInSlab, IsLooseLarge, IsEmptySlab, HasOther}
+use Rattle.heap_check.specs.Sound.{IsInSlab, IsLooseLarge, IsEmptySlab, HasOther}
 use Rattle.heap_check.proofs.Geometry.{Covers-slab, is_large-parts}
 use Rattle.gc_check.specs.Heap.{address_field, class_field, gc_block, gc_tables}
 use Rattle.gc_check.specs.Sound.{IsGcSound, IsExtentOf}
 use Rattle.gc_check.specs.Image.{IsGcSoundImage, IsGcExactImage, IsGcExactButImage}
 use Rattle.gc_check.specs.State.{gc_blocks, gc_slabs}
 use Rattle.gc_check.proofs.Tables.{over}
-use Rattle.gc_check.proofs.Heaps.{size_large, size_small, gc_heap-some, IsNamed, IsNamed-heap}
+use Rattle.gc_check.proofs.Heaps.{size_small, gc_heap-some, IsNamed, IsNamed-heap}
 use Rattle.gc_check.proofs.RootWords.{with_word, whole}
 use Rattle.gc_check.proofs.Forms.{slabs_high, gc_tables-put_root}
 use Rattle.gc_check.proofs.Steps.{gc_sizes}

@@ -1,13 +1,12 @@
 -- A free was carried out, or refused: its events, its step, and what the arena keeps.
-use Rattle.std.proofs.Common.{◌≡◌, ◌≢◌, ℕ, ◌*◌, ◌/◌, ◌<◌, ◌≤◌, true, List, [], Option, Some, None, Err, refl, sym, ap, subst, ◌∙◌, arith, inl, inr, ⊎_elim}
+use Rattle.std.proofs.Common.{◌≡◌, ℕ, ◌/◌, ◌<◌, ◌≤◌, List, [], Some, None, Err, refl, sym, subst, ◌∙◌, arith, inl, inr, ⊎_elim}
 use Rattle.std.proofs.lemmas.Bool.{cases_lt}
 use Rattle.pmem_lines.specs.Pmem.{PmemState, words_of}
-use Rattle.image_tables.specs.Tables.{Tables}
 use Rattle.book_log.specs.Book.{Book}
 use Rattle.log_steps.specs.Log.{IsBookOf}
 use Rattle.heap_model.specs.declared.call.Call.TheVariants as calls
 use Rattle.heap_model.specs.declared.call.Reply.TheVariants as replies
-use Rattle.heap_model.specs.Machine.{Bounds, Range, Machine, IsOverlapFree}
+use Rattle.heap_model.specs.Machine.{Range, Machine}
 use Rattle.heap_model.specs.Placement.{Stacks, IsPlacedStep, AreSound}
 use Rattle.heap_model.specs.Step.{slabs_without, without_block}
 use Rattle.heap_model.proofs.Maps.{with_key-here}
@@ -17,19 +16,16 @@ use Rattle.heap_indexes.specs.Steps.{IsGivenBy}
 use Rattle.heap_indexes.specs.declared.answer.Given.{Given}
 use Rattle.heap_indexes.specs.declared.answer.Given.TheVariants as given
 use Rattle.heap_check.specs.Image.{bounds_of}
-use Rattle.heap_check.specs.Sound.{IsInSlab}
 use Rattle.arena_core.specs.declared.answer.FreeRefusal.{FreeRefusal}
 use Rattle.arena_core.specs.declared.answer.FreeRefusal.TheVariants.{NoRoot, Empty}
 use Rattle.arena_core.specs.Answer.{free_reply}
 use Rattle.arena_core.specs.Call.{IsReady}
-use Rattle.arena_core.specs.Events.{start_at}
-use Rattle.gc_check.specs.Heap.{gc_tables}
 use Rattle.gc_check.specs.Image.{IsGcExactImage}
 use Rattle.gc_check.specs.State.{gc_blocks, gc_slabs, HasGcState, KeepsGcBlocks}
 use Rattle.gc_check.proofs.ExactStates.{law_of_exact_gc_state}
 use Rattle.gc_heap.specs.Answered.{IsGcStepOf}
 use Rattle.gc_heap.specs.Arena.{state_in, IsGcArena}
-use Rattle.gc_heap.specs.Events.{has_other, freed_events, gc_call_events}
+use Rattle.gc_heap.specs.Events.{freed_events, gc_call_events}
 use Rattle.gc_heap.specs.Plan.{HasGivenAs, IsFreedWords, IsGcFreePlan, given_events}
 use Rattle.gc_heap.proofs.Freed.{begins_here, is_slab_t, no_other, home, home_slab, home_lies, other_here}
 use Rattle.gc_heap.proofs.Places.{apart}

@@ -7,10 +7,10 @@ pub mod Books
 pub mod Carried
 pub mod Freed
 pub mod Writes
-pub mod Adopted
 pub mod Answering
 pub mod Stepped
 pub mod Starts
 pub mod Frees
 pub mod NewSlabs
 pub mod Mallocs
+pub mod Adopted

@@ -1,5 +1,5 @@
 -- A malloc was carried out, or refused: its events, its step, and what the arena keeps.
-use Rattle.std.proofs.Common.{◌≡◌, ◌≢◌, ℕ, ◌+◌, ◌-◌, ◌*◌, ◌/◌, ◌<◌, ◌≤◌, Bool, true, false, cond, List, [], ◌++◌, Option, Some, None, Err, refl, sym, ap, subst, ◌∙◌, arith, inl, inr, ⊎_elim}
+use Rattle.std.proofs.Common.{◌≡◌, ℕ, ◌/◌, ◌<◌, Bool, true, false, cond, List, [], ◌++◌, Some, None, Err, refl, sym, ap, subst, ◌∙◌, arith, inl, inr}
 use Rattle.pmem_lines.specs.Pmem.{PmemState, words_of}
 use Rattle.size_classes.specs.Classes.{class_size, class_capacity}
 use Rattle.size_classes.proofs.Spacing.{class_size-least}
@@ -8,7 +8,7 @@ use Rattle.book_log.specs.Book.{Book}
 use Rattle.log_steps.specs.Log.{IsBookOf}
 use Rattle.heap_model.specs.declared.call.Call.TheVariants as calls
 use Rattle.heap_model.specs.declared.call.Reply.TheVariants as replies
-use Rattle.heap_model.specs.Machine.{Bounds, Range, Machine, slab_block}
+use Rattle.heap_model.specs.Machine.{Range, Machine, slab_block}
 use Rattle.heap_model.specs.Choice.{Site, range_of, slabs_with}
 use Rattle.heap_model.specs.Placement.{Stacks, IsPlacedStep, AreSound}
 use Rattle.heap_model.specs.Step.{with_block}
@@ -27,7 +27,7 @@ use Rattle.arena_core.specs.Call.{IsReady}
 use Rattle.arena_core.specs.Events.{start_at}
 use Rattle.gc_check.specs.Heap.{gc_tables}
 use Rattle.gc_check.specs.Image.{IsGcExactImage}
-use Rattle.gc_check.specs.State.{gc_blocks, gc_slabs, HasGcState, KeepsGcBlocks}
+use Rattle.gc_check.specs.State.{gc_slabs, HasGcState, KeepsGcBlocks}
 use Rattle.gc_steps.specs.Roots.{root_events}
 use Rattle.gc_heap.specs.Answered.{IsGcStepOf}
 use Rattle.gc_heap.specs.Arena.{state_in, IsGcArena}

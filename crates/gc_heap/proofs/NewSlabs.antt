@@ -1,14 +1,14 @@
 -- The block that a malloc is given in a slab that is made for it is the first one.
-use Rattle.std.proofs.Common.{◌≡◌, ◌≢◌, ℕ, ◌+◌, ◌*◌, ◌/◌, ◌<◌, ◌≤◌, List, ◌∷◌, Some, refl, sym, ap, subst, ◌∙◌, arith, inl, inr, ⊎_elim}
+use Rattle.std.proofs.Common.{◌≡◌, ℕ, ◌+◌, ◌/◌, ◌<◌, ◌≤◌, List, Some, refl, sym, ap, subst, ◌∙◌, arith, inl, ⊎_elim}
 use Rattle.std.proofs.lemmas.Bool.{cases_eq, cases_lt}
-use Rattle.size_classes.specs.Classes.{class_size, class_capacity, IsClassOf}
+use Rattle.size_classes.specs.Classes.{class_capacity}
 use Rattle.size_classes.proofs.Spacing.{class_size-least}
 use Rattle.heap_model.specs.declared.call.Call.TheVariants as calls
 use Rattle.heap_model.specs.declared.call.Reply.TheVariants as replies
-use Rattle.heap_model.specs.Machine.{Bounds, Range, Machine, with_key, slab_block, IsUnused, IsFreeGranule, IsOverlapFree}
-use Rattle.heap_model.specs.Choice.{View, IsFromNewSlab, HasUnusedBlock, block_view}
+use Rattle.heap_model.specs.Machine.{Bounds, Machine, slab_block, IsUnused, IsFreeGranule, IsOverlapFree}
+use Rattle.heap_model.specs.Choice.{IsFromNewSlab, block_view}
 use Rattle.heap_model.specs.Slabs.{view_of}
-use Rattle.heap_model.specs.Placement.{Stacks, PlacedState, Has, HasTop, IsReserved, AreSound, IsAvailable, IsInNoStack, IsRefill, IsNewRefill, IsWay, IsStacked, with_class}
+use Rattle.heap_model.specs.Placement.{Stacks, Has, HasTop, AreSound, IsInNoStack, IsRefill, IsNewRefill, IsWay, IsStacked, with_class}
 use Rattle.heap_indexes.proofs.Machines.{block_some}
 use Rattle.heap_model.proofs.Fits.{fit_free}
 use Rattle.heap_model.proofs.Maps.{with_key-other}

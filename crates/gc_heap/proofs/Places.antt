@@ -1,19 +1,17 @@
 -- A place that a malloc found: where its block lies, what has to be there for a root, and what the root's word leaves.
-use Rattle.std.proofs.Common.{◌≡◌, ◌≢◌, ◌⊎◌, ◌==◌, ℕ, ◌+◌, ◌-◌, ◌*◌, ◌/◌, ◌%◌, ◌^◌, ◌<◌, ◌≤◌, Bool, true, false, cond, List, [], ◌++◌, Option, Some, None, refl, sym, ap, subst, ◌∙◌, arith, inl, inr, ⊎_elim}
-use Rattle.std.proofs.lemmas.Bool.{cases_eq, cases_Bool, cond-true, cond-false, false_from_ne_true}
+use Rattle.std.proofs.Common.{◌≡◌, ◌≢◌, ℕ, ◌+◌, ◌-◌, ◌*◌, ◌/◌, ◌^◌, ◌<◌, ◌≤◌, Bool, true, false, cond, List, Some, None, refl, sym, ap, subst, ◌∙◌, arith, inl, inr, ⊎_elim}
+use Rattle.std.proofs.lemmas.Bool.{cases_Bool, cond-true, false_from_ne_true}
 use Rattle.heap_model.proofs.Maps.{with_key-here}
-use Rattle.size_classes.specs.Classes.{class_size, class_capacity}
+use Rattle.size_classes.specs.Classes.{class_size}
 use Rattle.size_classes.proofs.Spacing.{class_size-least}
 use Rattle.pool_layout.specs.Header.{granules_in}
-use Rattle.image_tables.specs.Tables.{Tables, is_slab, tables_of}
+use Rattle.image_tables.specs.Tables.{Tables, is_slab}
 use Rattle.image_tables.proofs.Tables.{slab_table}
-use Rattle.heap_model.specs.Machine.{Bounds, Range, Machine, with_key, AreApart, slab_block, IsUnused, IsFreeGranule, IsOverlapFree, Meets, IsLarge}
-use Rattle.heap_model.specs.Choice.{Site, range_of, slabs_with, IsSite}
+use Rattle.heap_model.specs.Machine.{Bounds, Range, Machine, with_key, AreApart, slab_block, IsUnused, IsFreeGranule, IsOverlapFree}
+use Rattle.heap_model.specs.Choice.{range_of}
 use Rattle.heap_model.specs.Runs.{IsBestFit}
-use Rattle.heap_model.specs.Slabs.{view_of}
 use Rattle.heap_model.proofs.Fits.{fit_free}
 use Rattle.heap_model.proofs.Placing.{IsUnused-free, apart_back}
-use Rattle.heap_model.proofs.Sites.{class_known}
 use Rattle.heap_model.proofs.Slabbing.{LiesIn-block}
 use Rattle.heap_model.proofs.Steps.{row_of_fit}
 use Rattle.heap_indexes.specs.Steps.{site_of}
@@ -21,22 +19,22 @@ use Rattle.heap_indexes.specs.declared.answer.Place.{Place}
 use Rattle.heap_indexes.specs.declared.answer.Place.TheVariants.{Granules, InSlab, InMorph, InNewSlab}
 use Rattle.heap_check.specs.Heap.{is_large}
 use Rattle.heap_check.specs.Image.{bounds_of}
-use Rattle.heap_check.specs.Sound.{granules_at, Covers, IsVacant, IsInSlab}
+use Rattle.heap_check.specs.Sound.{IsVacant}
 use Rattle.heap_check.proofs.Geometry.{granules_at-slab, granules_at-large, Covers-slab, is_large-start, granule_of-start}
 use Rattle.heap_check.proofs.LargeLogs.{large_many}
-use Rattle.gc_check.specs.Heap.{address_field, class_field, small_word, gc_size, gc_block, gc_tables, gc_heap}
-use Rattle.gc_check.specs.Sound.{IsClassBlock, IsGcStanding, IsGcSound, IsGcExactBut, IsExtentOf}
+use Rattle.gc_check.specs.Heap.{address_field, class_field, small_word, gc_size, gc_block, gc_tables}
+use Rattle.gc_check.specs.Sound.{IsClassBlock, IsGcStanding, IsGcSound, IsExtentOf}
 use Rattle.gc_check.specs.Image.{IsGcExactImage, IsGcExactButImage}
-use Rattle.gc_check.specs.State.{gc_blocks, gc_slabs, HaveSameGcHeap}
+use Rattle.gc_check.specs.State.{gc_blocks, gc_slabs}
 use Rattle.gc_check.proofs.Tables.{over}
 use Rattle.gc_check.proofs.Heaps.{size_large, size_small, gc_heap-some}
 use Rattle.gc_check.proofs.RootWords.{whole, in_slab}
 use Rattle.gc_check.proofs.ExactStates.{law_of_exact_gc_state}
-use Rattle.gc_steps.specs.Roots.{block_named, IsAttachable, IsAttached}
+use Rattle.gc_steps.specs.Roots.{IsAttachable, IsAttached}
 use Rattle.gc_steps.specs.Slabs.{IsClassPut}
 use Rattle.gc_steps.specs.Extents.{MayBeCreated, IsSlabCreated, IsLargeCreated}
 use Rattle.gc_heap.specs.Arena.{state_in}
-use Rattle.gc_heap.specs.Plan.{HasPlaceFor, IsBlockPlace, IsInReach, start_of_place, word_of_place, IsWideFor, IsPrepared, IsPlacedWords}
+use Rattle.gc_heap.specs.Plan.{HasPlaceFor, IsBlockPlace, IsInReach, start_of_place, word_of_place, IsPrepared, IsPlacedWords}
 use Rattle.gc_heap.proofs.Sizes.{first_sizes}
 use Rattle.gc_heap.proofs.States.{state_of_image}
 use Rattle.gc_heap.proofs.RootBlocks.{no_word}

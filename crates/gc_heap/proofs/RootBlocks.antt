@@ -1,35 +1,33 @@
 -- The block that a root's word names, and where it lies.
-use Rattle.std.proofs.Common.{◌≡◌, ◌≢◌, ◌⊎◌, ◌==◌, ℕ, ◌+◌, ◌-◌, ◌*◌, ◌/◌, ◌%◌, ◌^◌, ◌<◌, ◌≤◌, Bool, true, false, cond, nat_lt, List, length, Result, Err, Option, Some, None, refl, sym, ap, subst, ◌∙◌, arith, inl, inr, ⊎_elim}
+use Rattle.std.proofs.Common.{◌≡◌, ◌≢◌, ℕ, ◌+◌, ◌-◌, ◌*◌, ◌/◌, ◌%◌, ◌<◌, ◌≤◌, true, nat_lt, List, Err, None, refl, sym, ap, subst, ◌∙◌, arith, ⊎_elim}
 use Rattle.std.proofs.lemmas.Bool.{cases_eq, cases_lt, cond-true, cond-false, le-ltb, lt-ltb}
 use Rattle.pmem_lines.specs.Words.{word_at}
 use Rattle.pmem_lines.specs.Pmem.{PmemState, words_of, IsPlace}
-use Rattle.size_classes.specs.Classes.{class_size, class_capacity}
 use Rattle.unit_map.proofs.StateUnits.{block_on_units}
 use Rattle.pool_layout.specs.Layout.{layout_of}
 use Rattle.pool_layout.specs.Places.{root_word}
 use Rattle.pool_layout.specs.Header.{version_in, granules_in}
 use Rattle.image_tables.specs.Extents.{extent_at}
-use Rattle.image_tables.specs.Tables.{Tables, root_in, large_of, tables_of}
+use Rattle.image_tables.specs.Tables.{Tables, large_of, tables_of}
 use Rattle.image_tables.proofs.Tables.{large_table}
 use Rattle.book_log.specs.Book.{Book}
 use Rattle.log_steps.specs.Log.{IsBookOf}
-use Rattle.heap_model.specs.Machine.{Range, slab_block}
+use Rattle.heap_model.specs.Machine.{slab_block}
 use Rattle.heap_model.proofs.Slabbing.{LiesIn-block}
 use Rattle.heap_check.specs.Heap.{is_large}
 use Rattle.heap_check.specs.Image.{bounds_of}
-use Rattle.heap_check.specs.Sound.{granules_at}
 use Rattle.heap_check.proofs.Geometry.{is_large-parts, granules_at-slab}
-use Rattle.gc_check.specs.Heap.{address_field, class_field, gc_size, gc_block, gc_tables, gc_heap}
+use Rattle.gc_check.specs.Heap.{address_field, class_field, gc_size, gc_block, gc_tables}
 use Rattle.gc_check.specs.Sound.{IsClassBlock, IsGcStanding, IsGcSound}
-use Rattle.gc_check.specs.Image.{IsGcFormed, IsGcExactImage}
+use Rattle.gc_check.specs.Image.{IsGcExactImage}
 use Rattle.gc_check.specs.State.{gc_blocks}
 use Rattle.gc_check.proofs.Tables.{over}
-use Rattle.gc_check.proofs.Heaps.{size_large, size_small, gc_heap-none, gc_heap-some, IsNamed-heap}
+use Rattle.gc_check.proofs.Heaps.{size_large, size_small, gc_heap-none, gc_heap-some}
 use Rattle.gc_check.proofs.RootWords.{whole}
 use Rattle.gc_check.proofs.Steps.{gc_sizes}
 use Rattle.arena_core.specs.declared.answer.BlockRefusal.{BlockRefusal}
 use Rattle.arena_core.specs.declared.answer.BlockRefusal.TheVariants.{NoRoot, Empty, OutOfRange}
-use Rattle.gc_heap.specs.Plan.{HasGcBlockAt, IsGcBlockPlan, IsNamedIn}
+use Rattle.gc_heap.specs.Plan.{HasGcBlockAt, IsGcBlockPlan}
 use Rattle.gc_heap.proofs.Sizes.{first_sizes}
 
 -- the word of a root is read at its place

@@ -1,15 +1,13 @@
 -- The numbers of an arena of this variant, which are those of version 1.
-use Rattle.std.proofs.Common.{◌≡◌, ◌+◌, ◌*◌, ◌^◌, ◌<◌, ◌≤◌, ℕ, List, length, ap, ◌∙◌, arith}
+use Rattle.std.proofs.Common.{◌≡◌, ◌*◌, ◌<◌, ◌≤◌, ℕ, List, length, ap, ◌∙◌, arith}
 use Rattle.pmem_lines.specs.Events.{IsQuiet}
 use Rattle.pmem_lines.specs.Pmem.{PmemState, words_of}
 use Rattle.pool_layout.specs.declared.layout.Layout.{Layout}
 use Rattle.pool_layout.specs.Layout.{layout_of}
-use Rattle.pool_layout.specs.Places.{root_word}
 use Rattle.pool_layout.specs.Header.{version_in, granules_in}
 use Rattle.pool_layout.proofs.Layouts.{first_row, layout_rules}
 use Rattle.log_steps.proofs.Entries.{most_few}
 use Rattle.log_room.specs.Room.{most_events}
-use Rattle.heap_model.specs.Machine.{Bounds}
 use Rattle.heap_check.specs.Image.{bounds_of}
 use Rattle.arena_core.specs.Call.{IsReady}
 use Rattle.gc_check.specs.Image.{IsGcFormed}

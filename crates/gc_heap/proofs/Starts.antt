@@ -1,27 +1,24 @@
 -- Which slab has an address, and which events a call has by where its block lies.
-use Rattle.std.proofs.Common.{◌≡◌, ◌≢◌, ◌==◌, ◌&&◌, ℕ, ◌+◌, ◌-◌, ◌*◌, ◌/◌, ◌<◌, ◌≤◌, Bool, true, false, true≢false, cond, leb, List, [], ◌++◌, not, Option, Some, None, refl, sym, ap, subst, ◌∙◌, arith, inl, inr, ⊎_elim}
-use Rattle.std.proofs.lemmas.Bool.{cases_eq, cases_Bool, cond-true, cond-false, eq-eqb, ne_eqb, lt-leb, le-leb, lt-ltb, leb-true, ltb-true, and_parts, and_from, false_from_ne_true}
-use Rattle.pmem_lines.specs.declared.event.Event.{Event}
-use Rattle.size_classes.specs.Classes.{class_size, class_capacity}
-use Rattle.size_classes.proofs.Spacing.{class_size-least, class_size-most, class_size-rises}
+use Rattle.std.proofs.Common.{◌≡◌, ◌≢◌, ◌==◌, ◌&&◌, ℕ, ◌+◌, ◌-◌, ◌*◌, ◌/◌, ◌<◌, ◌≤◌, Bool, true, false, true≢false, cond, leb, List, ◌++◌, not, refl, sym, ap, ◌∙◌, arith}
+use Rattle.std.proofs.lemmas.Bool.{eq-eqb, ne_eqb, lt-leb, le-leb, lt-ltb, leb-true, ltb-true, and_parts, and_from, false_from_ne_true}
+use Rattle.size_classes.specs.Classes.{class_size}
+use Rattle.size_classes.proofs.Spacing.{class_size-most, class_size-rises}
 use Rattle.image_tables.specs.Tables.{Tables}
 use Rattle.log_steps.proofs.Entries.{first_zero-is}
-use Rattle.heap_model.specs.Machine.{Bounds, Range, slab_block}
-use Rattle.heap_model.specs.Below.{any_below}
+use Rattle.heap_model.specs.Machine.{Bounds, slab_block}
 use Rattle.heap_model.specs.Slabs.{is_within}
 use Rattle.heap_model.proofs.Below.{any_below-true, any_below-some}
-use Rattle.heap_model.proofs.Slabbing.{LiesIn-block}
 use Rattle.heap_check.specs.Heap.{slab_of}
 use Rattle.heap_check.specs.Image.{bounds_of}
 use Rattle.heap_check.specs.Sound.{Covers, IsVacant, IsInSlab, HasOther}
 use Rattle.heap_check.proofs.Geometry.{Covers-slab}
-use Rattle.arena_core.specs.Events.{is_small, class_for, start_at, in_slab}
+use Rattle.arena_core.specs.Events.{is_small, class_for, start_at}
 use Rattle.gc_check.specs.Heap.{small_word, gc_tables}
 use Rattle.gc_check.specs.Sound.{IsGcSound}
 use Rattle.gc_steps.specs.Roots.{root_events}
 use Rattle.gc_steps.specs.Slabs.{class_events}
 use Rattle.gc_steps.specs.Extents.{slab_events, large_events}
-use Rattle.gc_heap.specs.Events.{has_other, small_events, placed_events, gone_events, freed_events}
+use Rattle.gc_heap.specs.Events.{has_other, placed_events, gone_events, freed_events}
 
 -- the slab that has a granule
 pub slab_is : {b : Bounds} {t : Tables} → IsGcSound b t → (start k : ℕ) → t.slab start ≡ true → start ≤ k → k < start + 4 → slab_of t.slab k ≡ start

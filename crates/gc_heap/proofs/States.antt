@@ -1,8 +1,8 @@
 -- The state of an image, and every other one that the image has: indexes of the one are indexes of the other.
-use Rattle.std.proofs.Common.{◌≡◌, ℕ, List, Option, Some, None, refl, sym, ap, subst, ◌∙◌}
-use Rattle.heap_model.specs.Machine.{Bounds, Range, Machine, IsUnused, IsFreeGranule, IsOverlapFree, slab_block}
+use Rattle.std.proofs.Common.{◌≡◌, ℕ, List, Option, None, refl, sym, subst}
+use Rattle.heap_model.specs.Machine.{Bounds, Range, Machine, IsUnused, IsFreeGranule, slab_block}
 use Rattle.heap_model.specs.Slabs.{IsInTransition}
-use Rattle.unit_map.specs.Blocks.{AreUnitsOf, IsSmallLive, HasUnit}
+use Rattle.unit_map.specs.Blocks.{IsSmallLive}
 use Rattle.heap_indexes.specs.Indexes.{Indexes, AreIndexesOf, HaveState}
 use Rattle.heap_check.specs.Image.{bounds_of}
 use Rattle.gc_check.specs.Image.{IsGcExactImage}
@@ -17,7 +17,6 @@ abbrev pub with_other : Machine → (ℕ → ℕ → Option ℕ) → Machine
 with_other m value = record { block = m.block; slab = m.slab; value = value }
 
 module _ (b : Bounds) (m : Machine) (value : ℕ → ℕ → Option ℕ) where
-
   unused_forth : (range : Range) → IsUnused m range → IsUnused (with_other m value) range
   unused_forth range unused = record { each = unused.each }
 

@@ -1,27 +1,19 @@
 -- What a call means to the heap machine: the step from the state that the old words have to one that the new words have.
-use Rattle.std.proofs.Common.{◌≡◌, ◌≢◌, ◌==◌, ℕ, ◌+◌, ◌/◌, ◌<◌, ◌≤◌, Bool, true, false, cond, List, [], ◌∷◌, Option, Some, None, refl, sym, ap, subst, ◌∙◌, arith, inl, inr, ⊎_elim}
+use Rattle.std.proofs.Common.{◌≡◌, ◌≢◌, ◌==◌, ℕ, ◌+◌, ◌/◌, ◌<◌, List, [], ◌∷◌, Option, Some, None, refl, sym, ap, subst, ◌∙◌, arith, ⊎_elim}
 use Rattle.std.proofs.lemmas.Bool.{cases_eq, cond-true, cond-false, eq-eqb, ne_eqb}
 use Rattle.heap_model.specs.declared.call.Call.{Call}
-use Rattle.heap_model.specs.declared.call.Call.TheVariants as calls
 use Rattle.heap_model.specs.declared.call.Reply.{Reply}
-use Rattle.heap_model.specs.declared.call.Reply.TheVariants as replies
-use Rattle.heap_model.specs.declared.call.Entry.{Entry}
-use Rattle.heap_model.specs.Machine.{Bounds, Range, Machine, with_key, IsUnused, IsOverlapFree}
-use Rattle.heap_model.specs.Choice.{Site, range_of, slabs_with}
-use Rattle.heap_model.specs.Step.{forgotten, with_block, without_block, slabs_without}
-use Rattle.heap_model.specs.Placement.{Stacks, PlacedState, IsPlacedStep, IsReserved, AreSound}
-use Rattle.heap_model.proofs.Maps.{with_key-here, with_key-other}
+use Rattle.heap_model.specs.Machine.{Bounds, Range, Machine, with_key, IsOverlapFree}
+use Rattle.heap_model.specs.Choice.{Site, slabs_with}
+use Rattle.heap_model.specs.Step.{forgotten, slabs_without}
+use Rattle.heap_model.specs.Placement.{Stacks, PlacedState, IsPlacedStep, AreSound}
+use Rattle.heap_model.proofs.Maps.{with_key-other}
 use Rattle.heap_model.proofs.SoundStacks.{law_of_sound_stacks}
-use Rattle.thread_cache.specs.Stacks.{stacks_of}
-use Rattle.heap_indexes.specs.Indexes.{Indexes, AreIndexesOf}
 use Rattle.heap_check.specs.Image.{bounds_of}
-use Rattle.heap_check.specs.State.{IsWordOf, HasValue}
-use Rattle.gc_check.specs.Image.{IsGcExactImage}
+use Rattle.heap_check.specs.State.{IsWordOf}
 use Rattle.gc_check.specs.State.{gc_blocks, gc_slabs, HasGcState, KeepsGcBlocks}
-use Rattle.gc_check.proofs.ExactStates.{law_of_exact_gc_state}
-use Rattle.gc_heap.specs.Answered.{IsGcStepOf}
 use Rattle.gc_heap.specs.Arena.{state_in}
-use Rattle.gc_heap.proofs.States.{with_other, same_state, state_of_image}
+use Rattle.gc_heap.proofs.States.{with_other, same_state}
 
 -- a value that is left is of another root
 left_value : (value : ℕ → ℕ → Option ℕ) (root other index word : ℕ) → forgotten value root other index ≡ Some word → (other ≢ root) × (value other index ≡ Some word)

@@ -1,6 +1,6 @@
 -- Words that are written into a root's block: what is read behind them, the state of the heap machine, and what a write did behind
 -- its begin.
-use Rattle.std.proofs.Common.{◌≡◌, ◌⊎◌, ◌<◌, ◌≤◌, ◌+◌, ◌-◌, ◌*◌, ◌/◌, ◌%◌, ◌≢◌, ℕ, suc, List, [], ◌∷◌, length, get_or, Option, Some, None, Ok, Err, refl, sym, ap, subst, ◌∙◌, arith, inl, inr, ⊎_elim}
+use Rattle.std.proofs.Common.{◌≡◌, ◌⊎◌, ◌<◌, ◌≤◌, ◌+◌, ◌-◌, ◌/◌, ◌≢◌, ℕ, suc, List, [], ◌∷◌, length, get_or, Option, Some, Ok, Err, refl, sym, ap, subst, ◌∙◌, arith, inl, inr, ⊎_elim}
 use Rattle.std.proofs.lemmas.Bool.{cases_eq}
 use Rattle.pmem_lines.specs.Words.{word_at}
 use Rattle.pmem_lines.specs.Pmem.{PmemState, words_of}
@@ -15,7 +15,7 @@ use Rattle.heap_model.specs.Step.{with_value}
 use Rattle.heap_model.specs.declared.call.Reply.TheVariants as replies
 use Rattle.heap_indexes.specs.Indexes.{Indexes, AreIndexesOf}
 use Rattle.heap_check.specs.Image.{bounds_of}
-use Rattle.heap_check.specs.State.{IsWordOf, HasValue}
+use Rattle.heap_check.specs.State.{HasValue}
 use Rattle.heap_check.proofs.OffBlocks.{IsSameOffBlock}
 use Rattle.arena_core.specs.declared.answer.BlockRefusal.{BlockRefusal}
 use Rattle.arena_core.specs.declared.answer.BlockRefusal.TheVariants.{NoRoot, Empty, OutOfRange}
@@ -27,7 +27,7 @@ use Rattle.arena_core.proofs.PayloadCalls.{off_write, in_write}
 use Rattle.thread_cache.specs.Stacks.{stacks_of}
 use Rattle.gc_check.specs.Heap.{gc_tables}
 use Rattle.gc_check.specs.Image.{IsGcExactImage}
-use Rattle.gc_check.specs.State.{gc_blocks, gc_slabs, HasGcState, HaveSameGcHeap}
+use Rattle.gc_check.specs.State.{HasGcState}
 use Rattle.gc_check.proofs.ExactStates.{law_of_exact_gc_state}
 use Rattle.gc_check.proofs.OffBlocks.{log_kept, bounds_kept, exact_kept, heap_kept, slabs_kept}
 use Rattle.gc_heap.specs.Arena.{state_in, IsGcArena}

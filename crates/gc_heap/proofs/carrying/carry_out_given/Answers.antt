@@ -1,8 +1,6 @@
-use Rattle.std.proofs.Common.{◌≡◌, sym, ap, subst, length, arith}
+use Rattle.std.proofs.Common.{sym, ap, subst, length, arith}
 use Rattle.pmem_lines.specs.Pmem.{words_of}
 use Rattle.pmem_lines.specs.Steps.{IsQuietStep}
-use Rattle.heap_model.specs.Machine.{Range}
-use Rattle.heap_indexes.specs.declared.answer.Given.TheVariants as given
 use Rattle.gc_check.specs.State.{IsEitherGcHeap}
 use Rattle.gc_heap.specs.Plan.{HasGivenAs, given_events}
 use Rattle.gc_heap.proofs.Sizes.{call_room, most_first}

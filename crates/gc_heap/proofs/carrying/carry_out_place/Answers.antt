@@ -1,7 +1,6 @@
 use Rattle.std.proofs.Common.{sym, ap, subst, arith}
 use Rattle.pmem_lines.specs.Pmem.{words_of}
 use Rattle.heap_model.specs.Machine.{Bounds}
-use Rattle.heap_check.specs.Image.{bounds_of}
 use Rattle.gc_steps.specs.Roots.{IsAttachable, IsAttached}
 use Rattle.gc_heap.proofs.Books.{book_root}
 use Rattle.gc_heap.proofs.Carried.{place_step}

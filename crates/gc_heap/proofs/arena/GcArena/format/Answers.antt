@@ -1,5 +1,4 @@
 use Rattle.std.proofs.Common.{◌≡◌, ◌<◌, ◌≤◌, ℕ, refl, sym, subst, ◌∙◌, arith}
-use Rattle.pool_layout.specs.Layout.{layout_of}
 use Rattle.heap_model.specs.Machine.{no_heap}
 use Rattle.heap_indexes.specs.Indexes.{AreIndexesOf}
 use Rattle.arena_core.proofs.Formats.{IsPoolHeader-first}

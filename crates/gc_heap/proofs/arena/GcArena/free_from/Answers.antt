@@ -1,11 +1,11 @@
-use Rattle.std.proofs.Common.{◌≡◌, ℕ, refl, sym, subst, arith}
+use Rattle.std.proofs.Common.{refl}
 use Rattle.pmem_lines.specs.Pmem.{PmemState, words_of, began}
 use Rattle.pmem_lines.specs.Steps.{IsQuietStep}
 use Rattle.pmem_lines.proofs.Steps.{step_by, step_end}
 use Rattle.heap_model.specs.Machine.{Range}
 use Rattle.heap_check.specs.Image.{bounds_of}
 use Rattle.arena_core.specs.Call.{IsReady}
-use Rattle.gc_check.specs.State.{KeepsGcBlocks, IsEitherGcHeap}
+use Rattle.gc_check.specs.State.{IsEitherGcHeap}
 use Rattle.gc_heap.specs.Arena.{state_in, IsGcArena}
 use Rattle.gc_heap.specs.Events.{freed_events}
 use Rattle.gc_heap.specs.Plan.{HasGivenAs, IsFreedWords, given_events}

@@ -1,9 +1,8 @@
-use Rattle.std.proofs.Common.{◌≡◌, ◌++◌, ◌∙◌, ℕ, refl, sym, ap, subst, arith}
+use Rattle.std.proofs.Common.{◌≡◌, ◌++◌, ◌∙◌, refl, sym, ap, subst}
 use Rattle.pmem_lines.specs.Pmem.{PmemState, words_of, began}
 use Rattle.pmem_lines.specs.Steps.{IsQuietStep}
 use Rattle.pmem_lines.proofs.Steps.{step_by, step_end}
 use Rattle.heap_model.specs.declared.call.Call.TheVariants as calls
-use Rattle.heap_model.specs.declared.call.Reply.{Reply}
 use Rattle.heap_model.specs.declared.call.Reply.TheVariants as replies
 use Rattle.heap_model.specs.Choice.{range_of}
 use Rattle.block_supply.specs.Supply.{Supply}
@@ -14,7 +13,7 @@ use Rattle.gc_check.specs.State.{IsEitherGcHeap}
 use Rattle.gc_steps.specs.Roots.{root_events}
 use Rattle.gc_heap.specs.Answered.{IsGcStepOf}
 use Rattle.gc_heap.specs.Arena.{IsGcArena}
-use Rattle.gc_heap.specs.Events.{placed_events, gc_call_events}
+use Rattle.gc_heap.specs.Events.{gc_call_events}
 use Rattle.gc_heap.specs.Plan.{IsPlacedWords, word_of_place, prepare_events}
 use Rattle.gc_heap.proofs.Answering.{IsGcArena-began, at_begin, answered_call, answered_none}
 use Rattle.gc_heap.proofs.Mallocs.{place_for, placed_are, placed_step, placed_arena, refused_events, refused_malloc, refused_supply, refused_arena}

@@ -11,12 +11,11 @@ new-requires-2-clause-high c = omega (arith, ap (λ (row : Layout). row.first_gr
 pub invariant_of-result : goal.invariant_of-result
 invariant_of-result c =
     let size = c.in_ok-log.ensures.granules_of in
-    let first = sym (ap (λ (row : Layout). row.first_granule) c.layout_of.ensures.row) in
     record {
       least = omega (arith, size, c.requires.least);
       most = omega (arith, size, c.requires.most);
       log = subst (λ n. IsBlank n c.in_ok-log.log) (sym size) c.in_ok-log.ensures;
-      are = c.in_ok-indexes.ensures.indexes (gc_bounds c.in_ok-log.log.granules) size first (omega (arith, first_roots));
-      adopted = λ m adoptable. c.in_ok-indexes.ensures.adopted (gc_bounds c.in_ok-log.log.granules) m size first (omega (arith, first_roots)) adoptable;
+      are = c.in_ok-indexes.ensures.indexes (gc_bounds c.in_ok-log.log.granules) size (sym (ap (λ (row : Layout). row.first_granule) c.layout_of.ensures.row)) (omega (arith, first_roots));
+      adopted = λ m adoptable. c.in_ok-indexes.ensures.adopted (gc_bounds c.in_ok-log.log.granules) m size (sym (ap (λ (row : Layout). row.first_granule) c.layout_of.ensures.row)) (omega (arith, first_roots)) adoptable;
       stacks = c.in_ok-indexes.ensures.stacks;
     }
