@@ -1,0 +1,5 @@
+pub mod Calls
+pub mod Behind
+pub mod Formatting
+pub mod Made
+pub mod Listing

@@ -1,0 +1,6 @@
+pub mod Arenas
+pub mod Answered
+pub mod Journals
+pub mod Runs
+pub mod Told
+pub mod Kept
