@@ -8,9 +8,7 @@ use Rattle.heap_model.specs.declared.call.Entry.{Entry}
 use Rattle.heap_model.specs.Machine.{Machine, IsOverlapFree}
 use Rattle.heap_model.specs.Placement.{Stacks}
 use Rattle.arena_journal.specs.Journals.{begun_by, LastBegun}
-use Rattle.trace_text.specs.declared.call.TraceCall.{TraceCall}
 use Rattle.trace_runs.specs.Arenas.{bounds_for}
-use Rattle.trace_runs.specs.Calls.{AreAnswers}
 use Rattle.trace_runs.specs.Journals.{IsJournal}
 use Rattle.gc_check.specs.Image.{IsGcExactImage}
 use Rattle.gc_check.specs.State.{HasGcState}

@@ -18,6 +18,7 @@ const VERSION: u32 = 1;
 pub fn gc_blocks_of<P: Pmem>(alloc: Global, arena: &GcArena<P>) -> Result<Vec<Block>, OutOfMemory>
     ensures { IfOk result (λ blocks. blocks.items ≡ gc_blocks_in (words_of arena.now.device)) }
 {
+    let _device = arena.pmem();
     let mut blocks = Vec::new(alloc);
     add_blocks(&mut blocks, arena, 0, layout_of(VERSION).roots)?;
     Ok(blocks)
