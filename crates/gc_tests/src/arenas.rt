@@ -1,7 +1,8 @@
-// Arenas for the rows of this crate, and the events of the last call.
+// Arenas for the rows of this crate, and what their calls answer and store.
 //
 // Of what the arena's contract says of a call nothing is handed on here: the tests compare what is answered, and the proof of a test
 // that makes several calls stays small.
+use arena_core::{BlockRefusal, FreeRefusal, MallocRefusal};
 use gc_heap::{GcArena, GcRoom};
 use pmem_lines::{Event, OutOfMemory, SimPmem};
 use std::alloc::Global;
@@ -26,4 +27,79 @@ pub(crate) fn had(arena: &GcArena<SimPmem>, events: &[Event]) -> bool {
         }
     }
     true
+}
+
+/// Seat 0 gives the root a block for so many bytes: it is the one at this address, of this size.
+pub(crate) fn gives(
+    arena: &mut GcArena<SimPmem>,
+    root: u32,
+    bytes: u64,
+    at: u32,
+    size: u32,
+) -> bool {
+    match arena.malloc_to(0, root, bytes) {
+        Ok(placed) => placed.at == at && placed.size == size,
+        Err(_) => false,
+    }
+}
+
+/// Seat 0 gives the root no block for so many bytes, for this reason, and nothing is stored.
+pub(crate) fn gives_none(
+    arena: &mut GcArena<SimPmem>,
+    root: u32,
+    bytes: u64,
+    why: MallocRefusal,
+) -> bool {
+    let refused = match arena.malloc_to(0, root, bytes) {
+        Ok(_) => false,
+        Err(refusal) => refusal == why,
+    };
+    refused && had(arena, &[])
+}
+
+/// Seat 0 takes the root its block: it was the one at this address, of this size.
+pub(crate) fn frees(arena: &mut GcArena<SimPmem>, root: u32, at: u32, size: u32) -> bool {
+    match arena.free_from(0, root) {
+        Ok(freed) => freed.at == at && freed.size == size,
+        Err(_) => false,
+    }
+}
+
+/// Seat 0 takes the root no block, for this reason, and nothing is stored.
+pub(crate) fn frees_none(arena: &mut GcArena<SimPmem>, root: u32, why: FreeRefusal) -> bool {
+    let refused = match arena.free_from(0, root) {
+        Ok(_) => false,
+        Err(refusal) => refusal == why,
+    };
+    refused && had(arena, &[])
+}
+
+/// One word is not written into the root's block at an index, for this reason, and nothing is stored.
+pub(crate) fn writes_none(
+    arena: &mut GcArena<SimPmem>,
+    root: u32,
+    index: u32,
+    why: BlockRefusal,
+) -> bool {
+    let refused = match arena.write(root, index, &[1]) {
+        Ok(()) => false,
+        Err(refusal) => refusal == why,
+    };
+    refused && had(arena, &[])
+}
+
+/// The root names the block at this address, of this size.
+pub(crate) fn names(arena: &GcArena<SimPmem>, root: u32, at: u32, size: u32) -> bool {
+    match arena.block(root) {
+        Some(block) => block.at == at && block.size == size,
+        None => false,
+    }
+}
+
+/// The root's block has this word at an index.
+pub(crate) fn reads(arena: &GcArena<SimPmem>, root: u32, index: usize, word: u64) -> bool {
+    match arena.view(root) {
+        Ok(view) => index < view.len() && view[index] == word,
+        Err(_) => false,
+    }
 }
