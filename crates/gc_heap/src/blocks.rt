@@ -33,7 +33,7 @@ pub(crate) fn block_of<P: Pmem>(device: &P, log: &BookLog, root: u32) -> Result<
     Ok(Block {
         root,
         at: address_in(word),
-        size: size_in(device, log, word),
+        size: size_in(log, word),
     })
 }
 
@@ -61,13 +61,10 @@ pub(crate) fn class_in(word: u64) -> u8
 }
 
 // The size of the block that a root's word names.
-fn size_in<P: Pmem>(device: &P, log: &BookLog, word: u64) -> u32
-    requires exact { IsGcExactImage (words_of (P.state device.now)) }
-    requires book { IsBookOf log.now (words_of (P.state device.now)) }
-    requires named { IsNamedIn (words_of (P.state device.now)) word }
-    ensures { result ≡ gc_size (gc_tables (words_of (P.state device.now))).large word }
+fn size_in(log: &BookLog, word: u64) -> u32
+    requires { (words : List ℕ) × IsGcExactImage words × IsBookOf log.now words × IsNamedIn words word }
+    ensures { (words : List ℕ) → IsBookOf log.now words → result ≡ gc_size (gc_tables words).large word }
 {
-    let _ = device;
     match class_in(word) {
         0 => GRANULE_BYTES * granules_at(log, address_in(word) / GRANULE_BYTES),
         class => size_of_class(class - 1),

@@ -1,10 +1,11 @@
-// The worked rows of the GC variant: a first small block, and a slab that takes another class; and what frees and writes leave.
-use crate::arenas::{had, new_arena};
-use arena_core::{BlockRefusal, FreeRefusal, Freed, MallocRefusal, Placed};
+// The worked rows of the GC variant: a first small block, and a slab that takes another class; and what frees, refusals and writes
+// leave.
+use crate::arenas::{
+    frees, frees_none, gives, gives_none, had, names, new_arena, reads, writes_none,
+};
+use arena_core::{BlockRefusal, FreeRefusal, MallocRefusal};
 use gc_heap::GcArena;
-use heap_model::Block;
-use pmem_lines::{Event, Pmem, SimPmem};
-use std::process::Abort;
+use pmem_lines::{Event, SimPmem};
 use std::test::Fail;
 
 // A word that is stored and made durable.
@@ -16,223 +17,151 @@ fn word(at: u32, value: u64) -> [Event; 3] {
     ]
 }
 
-// The word of a root from 0 to 4095.
-fn root_at(root: u32) -> u32 {
-    16384 + 8 * (root % 4096)
+// One word behind another.
+fn two(first: [Event; 3], second: [Event; 3]) -> [Event; 6] {
+    [
+        first[0], first[1], first[2], second[0], second[1], second[2],
+    ]
 }
 
-// The place of one of the first fifteen entries of chunk 0, which lie in a line each.
-fn entry_at(entry: u32) -> u32 {
-    49216 + 64 * (entry % 15)
-}
-
-// The word of a small block of a class below 36.
-fn small(at: u32, class: u8) -> u64 {
-    u64::from(at) + ((u64::from(class % 36) + 1) << 32)
-}
-
-// The last call had the events of one word, or of two or three one after another.
-fn stored(arena: &GcArena<SimPmem>, words: &[[Event; 3]]) -> bool {
-    let device = arena.pmem();
-    if device.event_count() as usize != 3 * (words.len() % 8) {
-        return false;
-    }
-    let mut same = true;
-    for (i, row) in words.iter().enumerate() {
-        let first = 3 * (i % 8) as u32;
-        for j in 0..3 {
-            if first + j < device.event_count() && device.event(first + j) != row[j as usize] {
-                same = false;
-            }
-        }
-    }
-    same
+// One behind two others.
+fn three(first: [Event; 3], second: [Event; 3], third: [Event; 3]) -> [Event; 9] {
+    [
+        first[0], first[1], first[2], second[0], second[1], second[2], third[0], third[1], third[2],
+    ]
 }
 
 // A new slab of class 6 is made on granules 4 to 7, its extent goes into the log, and root 5 gets its first block: nine events.
+fn first_block(arena: &mut GcArena<SimPmem>) -> bool {
+    gives(arena, 5, 100, 67584, 112)
+        && had(
+            arena,
+            &three(
+                word(65536, 1537),
+                word(49216, 1026),
+                word(16424, 67584 + (7 << 32)),
+            ),
+        )
+        && names(arena, 5, 67584, 112)
+}
+
 #[test]
 fn ordinary_use(rt: HostRuntime) -> Result<(), Fail> {
     let mut arena = new_arena(rt.alloc())?;
-    assert_eq!(&rt;
-        arena.malloc_to(0, 5, 100),
-        Ok(Placed {
-            at: 67584,
-            size: 112,
-        })
-    );
-    assert!(&rt;
-        stored(
-            &arena,
-            &[
-                word(65536, 1 + 256 * 6),
-                word(entry_at(0), 2 + 256 * 4),
-                word(root_at(5), small(67584, 6)),
-            ],
-        )
-    );
-    assert_eq!(&rt;
-        arena.block(5),
-        Some(Block {
-            root: 5,
-            at: 67584,
-            size: 112,
-        })
-    );
+    let right = first_block(&mut arena);
+    assert!(&rt; right);
     Ok(())
 }
 
-// Eight granules for root 0, a slab of class 3 for root 1, which then takes class 19 for root 2: 6, 9 and 6 events.
-fn morphed<R: Abort>(rt: &R, arena: &mut GcArena<SimPmem>) -> Result<(), Fail> {
-    assert_eq!(rt;
-        arena.malloc_to(0, 0, 131072),
-        Ok(Placed {
-            at: 65536,
-            size: 131072,
-        })
-    );
-    assert!(rt;
-        stored(
+// Eight granules go to root 0: six events.
+fn large_block(arena: &mut GcArena<SimPmem>) -> bool {
+    gives(arena, 0, 131072, 65536, 131072)
+        && had(
             arena,
-            &[
-                word(entry_at(0), 1 + 256 * 4 + (8 << 24)),
-                word(root_at(0), 65536),
-            ],
+            &two(word(49216, 1 + (4 << 8) + (8 << 24)), word(16384, 65536)),
         )
-    );
-    assert_eq!(rt;
-        arena.malloc_to(0, 1, 64),
-        Ok(Placed {
-            at: 198656,
-            size: 64,
-        })
-    );
-    assert!(rt;
-        stored(
+}
+
+// A slab of class 3 is made for root 1: nine.
+fn small_block(arena: &mut GcArena<SimPmem>) -> bool {
+    gives(arena, 1, 64, 198656, 64)
+        && had(
             arena,
-            &[
-                word(196608, 1 + 256 * 3),
-                word(entry_at(1), 2 + 256 * 12),
-                word(root_at(1), small(198656, 3)),
-            ],
+            &three(
+                word(196608, 769),
+                word(49280, 2 + (12 << 8)),
+                word(16392, 198656 + (4 << 32)),
+            ),
         )
-    );
-    assert_eq!(rt;
-        arena.malloc_to(0, 2, 1000),
-        Ok(Placed {
-            at: 199680,
-            size: 1024,
-        })
-    );
-    assert!(rt;
-        stored(
+}
+
+// It takes class 19 for root 2, whose block 0 overlaps the old one: six.
+fn block_of_a_class(arena: &mut GcArena<SimPmem>) -> bool {
+    gives(arena, 2, 1000, 199680, 1024)
+        && had(
             arena,
-            &[
-                word(196608, 1 + 256 * 19),
-                word(root_at(2), small(199680, 19)),
-            ],
+            &two(word(196608, 4865), word(16400, 199680 + (20 << 32))),
         )
-    );
-    Ok(())
+}
+
+fn morphed(arena: &mut GcArena<SimPmem>) -> bool {
+    large_block(arena) && small_block(arena) && block_of_a_class(arena)
 }
 
 #[test]
 fn a_slab_takes_a_class(rt: HostRuntime) -> Result<(), Fail> {
     let mut arena = new_arena(rt.alloc())?;
-    morphed(&rt, &mut arena)
+    let right = morphed(&mut arena);
+    assert!(&rt; right);
+    Ok(())
 }
 
-// The old block keeps its 64 bytes, and goes in three events while another block lives in its slab; the last one takes the slab with
+// The old block keeps its 64 bytes, and goes in three events while another block lives in its slab. The last one takes the slab with
 // it, and the large block its granules, in six.
+fn all_go(arena: &mut GcArena<SimPmem>) -> bool {
+    frees(arena, 1, 198656, 64)
+        && had(arena, &word(16392, 0))
+        && frees(arena, 2, 199680, 1024)
+        && had(arena, &two(word(16400, 0), word(49344, 3 + (12 << 8))))
+        && frees(arena, 0, 65536, 131072)
+        && had(arena, &two(word(16384, 0), word(49408, 3 + (4 << 8))))
+}
+
 #[test]
 fn blocks_go(rt: HostRuntime) -> Result<(), Fail> {
     let mut arena = new_arena(rt.alloc())?;
-    morphed(&rt, &mut arena)?;
-    assert_eq!(&rt;
-        arena.free_from(0, 1),
-        Ok(Freed {
-            at: 198656,
-            size: 64,
-        })
-    );
-    assert!(&rt; stored(&arena, &[word(root_at(1), 0)]));
-    assert_eq!(&rt;
-        arena.free_from(0, 2),
-        Ok(Freed {
-            at: 199680,
-            size: 1024,
-        })
-    );
-    assert!(&rt;
-        stored(
-            &arena,
-            &[word(root_at(2), 0), word(entry_at(2), 3 + 256 * 12)]
-        )
-    );
-    assert_eq!(&rt;
-        arena.free_from(0, 0),
-        Ok(Freed {
-            at: 65536,
-            size: 131072,
-        })
-    );
-    assert!(&rt;
-        stored(
-            &arena,
-            &[word(root_at(0), 0), word(entry_at(3), 3 + 256 * 4)]
-        )
-    );
-    assert_eq!(&rt; arena.block(0), None);
+    let right = morphed(&mut arena) && all_go(&mut arena);
+    assert!(&rt; right);
     Ok(())
 }
 
 // The refusals of each call, in their order, none of which has an event.
+fn refusals(arena: &mut GcArena<SimPmem>) -> bool {
+    gives_none(arena, 4096, 0, MallocRefusal::NoRoot)
+        && gives_none(arena, 7, 0, MallocRefusal::Occupied { at: 65536 })
+        && gives_none(arena, 8, 0, MallocRefusal::ZeroSize)
+        && gives_none(arena, 8, 196609, MallocRefusal::TooLarge)
+        && gives_none(arena, 8, 196608, MallocRefusal::NoSpace)
+        && frees_none(arena, 4096, FreeRefusal::NoRoot)
+        && frees_none(arena, 8, FreeRefusal::Empty)
+        && writes_none(arena, 4096, 0, BlockRefusal::NoRoot)
+        && writes_none(arena, 8, 0, BlockRefusal::Empty)
+        && writes_none(arena, 7, 4096, BlockRefusal::OutOfRange)
+}
+
 #[test]
-fn refusals(rt: HostRuntime) -> Result<(), Fail> {
+fn nothing_is_done(rt: HostRuntime) -> Result<(), Fail> {
     let mut arena = new_arena(rt.alloc())?;
-    assert!(&rt; arena.malloc_to(0, 7, 20000).is_ok());
-    assert_eq!(&rt; arena.malloc_to(0, 4096, 0), Err(MallocRefusal::NoRoot));
-    assert_eq!(&rt;
-        arena.malloc_to(0, 7, 0),
-        Err(MallocRefusal::Occupied { at: 65536 })
-    );
-    assert_eq!(&rt; arena.malloc_to(0, 8, 0), Err(MallocRefusal::ZeroSize));
-    assert_eq!(&rt; arena.malloc_to(0, 8, 196609), Err(MallocRefusal::TooLarge));
-    assert_eq!(&rt; arena.malloc_to(0, 8, 196608), Err(MallocRefusal::NoSpace));
-    assert_eq!(&rt; arena.free_from(0, 4096), Err(FreeRefusal::NoRoot));
-    assert_eq!(&rt; arena.free_from(0, 8), Err(FreeRefusal::Empty));
-    assert_eq!(&rt; arena.write(8, 0, &[1]), Err(BlockRefusal::Empty));
-    assert_eq!(&rt; arena.write(7, 4096, &[1]), Err(BlockRefusal::OutOfRange));
-    assert!(&rt; had(&arena, &[]));
+    let right = gives(&mut arena, 7, 20000, 65536, 32768) && refusals(&mut arena);
+    assert!(&rt; right);
     Ok(())
 }
 
-// Two words are written into a large block, under one fence, and are read in place.
+// Two words are written into a large block under one fence, and read in place.
+fn written(arena: &mut GcArena<SimPmem>) -> bool {
+    let events = [
+        Event::Store {
+            at: 65544,
+            value: 3,
+        },
+        Event::Store {
+            at: 65552,
+            value: 4,
+        },
+        Event::Flush { line: 1024 },
+        Event::Fence,
+    ];
+    arena.write(7, 1, &[3, 4]).is_ok()
+        && had(arena, &events)
+        && reads(arena, 7, 0, 0)
+        && reads(arena, 7, 1, 3)
+        && reads(arena, 7, 2, 4)
+}
+
 #[test]
 fn words_of_a_block(rt: HostRuntime) -> Result<(), Fail> {
     let mut arena = new_arena(rt.alloc())?;
-    assert!(&rt; arena.malloc_to(0, 7, 20000).is_ok());
-    assert_eq!(&rt; arena.write(7, 1, &[3, 4]), Ok(()));
-    assert!(&rt;
-        had(
-            &arena,
-            &[
-                Event::Store {
-                    at: 65544,
-                    value: 3,
-                },
-                Event::Store {
-                    at: 65552,
-                    value: 4,
-                },
-                Event::Flush { line: 1024 },
-                Event::Fence,
-            ],
-        )
-    );
-    let read = match arena.view(7) {
-        Ok(view) => view.len() == 4096 && view[0] == 0 && view[1] == 3 && view[2] == 4,
-        Err(_) => false,
-    };
-    assert!(&rt; read);
+    let right = gives(&mut arena, 7, 20000, 65536, 32768) && written(&mut arena);
+    assert!(&rt; right);
     Ok(())
 }
