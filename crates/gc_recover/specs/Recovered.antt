@@ -12,9 +12,9 @@ use Rattle.gc_search.specs.Image.{IsSoundWith}
 use Rattle.gc_recovery_steps.specs.Recovery.{KeepsGcHeap, KeepsGcSlabs, GcRecovers}
 use Rattle.gc_recover.specs.declared.arena.Prepared.{Prepared}
 
--- One call began on the device, and its events are those of recovery. It is quiet, and its image is exact with the numbers and the heap
--- that it had, in which each block has its words; each live slab was one of the same class. A crash within the events keeps the
--- heap.
+-- One call began on the device, and its events are those of recovery. It is quiet, and its image is exact with the numbers and the
+-- heap that it had, in which each block has its words; each live slab was one of the same class. A crash within the events keeps
+-- the heap.
 pub record IsGcRecovered (old new : PmemState) : Type 0 where
   pub state : new ≡ appended (began old) new.events
   pub quiet : IsQuiet new.events

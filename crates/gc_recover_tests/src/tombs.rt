@@ -8,8 +8,8 @@ use std::test::Fail;
 // What is put over the words of the arena, what is to stand over these once it is recovered, and by how many events.
 type Row = (&'static [Put], &'static [Put], u32);
 
-// An exact image stays as it is. Then a large extent at granule 8 that no root names, a slab in which no root's block lies, and both, of
-// which the large one comes first. Last a large extent that root 6 names, which stays, while another at 10 goes.
+// An exact image stays as it is. Then a large extent at granule 8 that no root names, a slab in which no root's block lies, and
+// both, of which the large one comes first. Last a large extent that root 6 names, which stays, while another at 10 goes.
 #[test]
 fn loose_extents(rt: HostRuntime) -> Result<(), Fail> {
     let rows: [Row; 5] = [

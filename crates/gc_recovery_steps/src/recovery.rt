@@ -16,8 +16,8 @@ use pmem_lines::Pmem;
 
 /// Makes a sound image exact, by at most the `recovery_events` of the version. `log` has read it, and `names` what its roots name.
 /// A large extent that no root names gets a Tomb, and then a slab in which no root's block lies. The heap stays as it is, and every
-/// block keeps its words; the arena has the numbers that it had, and each slab that is left its class. A crash within the events leaves a
-/// sound image with the same heap, in which each block has its words; so it may be stopped and begun again.
+/// block keeps its words; the arena has the numbers that it had, and each slab that is left its class. A crash within the events
+/// leaves a sound image with the same heap, in which each block has its words; so it may be stopped and begun again.
 pub fn make_exact<P: Pmem>(p: &mut P, log: &mut BookLog, names: &GcNames)
     requires image { IsGcSoundImage (words_of (P.state p.old)) }
     requires names { AreNamesOf (words_of (P.state p.old)) names.now }

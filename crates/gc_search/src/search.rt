@@ -32,7 +32,7 @@ impl Model for GcSearch {
 
     ghost view = { λ search. search.log.granules };
 
-    ghost invariant = { λ search. AreBlankNames search.log.granules search.names × (4096 ≤ vec_capacity search.claims) };
+    ghost invariant = { λ search. AreBlankNames search.log.granules search.names × ((4096 ≤ vec_capacity search.claims) × (search.log.granules ≤ 1024)) };
 }
 
 /// What was read of a sound image.
@@ -72,9 +72,11 @@ impl GcSearch {
         Ok(GcSearch { log, names, claims })
     }
 
-    /// For how many granules it has memory.
+    /// For how many granules it has memory: 16 to 1024.
     pub fn granules(&self) -> u32
-        ensures { result ≡ self.now }
+        ensures granules { result ≡ self.now }
+        ensures least { 16 ≤ result }
+        ensures most { result ≤ 1024 }
     {
         self.log.granules()
     }
