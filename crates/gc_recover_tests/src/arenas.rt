@@ -1,0 +1,94 @@
+// Arenas of recovered images, which go on with what their roots name.
+ghost use Rattle.std.specs.Prelude.{◌≡◌, ◌≤◌, ◌%◌, length};
+
+use crate::outcomes::ROOM;
+use check_tests::{Put, image};
+use gc_heap::GcArena;
+use gc_recover::gc_recover;
+use gc_search::GcFault;
+use gc_search_tests::{ONE_BLOCK, small_word};
+use pmem_lines::{OutOfMemory, SimPmem};
+use std::alloc::Global;
+use std::test::Fail;
+
+// The arena with one block, with the words of a row over its own, recovered. `None` where it is refused.
+fn arena_of(alloc: Global, changes: &[Put]) -> Result<Option<GcArena<SimPmem>>, OutOfMemory> {
+    let words = image(alloc, &ONE_BLOCK, changes)?;
+    let device = SimPmem::from_image(alloc, &words, ROOM)?;
+    match gc_recover(alloc, device) {
+        Ok(arena) => Ok(Some(arena)),
+        Err((GcFault::Memory(error), _)) => Err(error),
+        Err((GcFault::Defect(_), _)) => Ok(None),
+    }
+}
+
+// The root names the block at this address, of this size.
+fn names(arena: &GcArena<SimPmem>, root: u32, at: u32, size: u32) -> bool {
+    match arena.block(root) {
+        Some(block) => block.at == at && block.size == size,
+        None => false,
+    }
+}
+
+// Seat 0 gives the root a block for so many bytes: it is the one at this address.
+fn gives(arena: &mut GcArena<SimPmem>, root: u32, bytes: u64, at: u32) -> bool {
+    match arena.malloc_to(0, root, bytes) {
+        Ok(placed) => placed.at == at,
+        Err(_) => false,
+    }
+}
+
+// Seat 0 takes the root its block, which had this size.
+fn frees(arena: &mut GcArena<SimPmem>, root: u32, size: u32) -> bool {
+    match arena.free_from(0, root) {
+        Ok(freed) => freed.size == size,
+        Err(_) => false,
+    }
+}
+
+// The slab of class 6 has blocks of two other classes. Its own blocks are given beside them; no other class takes the slab, so that a
+// request of one opens a slab; and each block goes with its own size.
+fn has_two_old_classes(arena: &mut GcArena<SimPmem>) -> bool {
+    names(arena, 5, 67584, 112)
+        && names(arena, 6, 67776, 64)
+        && names(arena, 7, 67904, 32)
+        && gives(arena, 8, 112, 68032)
+        && gives(arena, 9, 200, 133120)
+        && frees(arena, 7, 32)
+        && frees(arena, 6, 64)
+        && frees(arena, 5, 112)
+}
+
+#[test]
+fn blocks_of_two_old_classes(rt: HostRuntime) -> Result<(), Fail> {
+    let changes: [Put; 2] = [(2054, small_word(67776, 3)), (2055, small_word(67904, 1))];
+    match arena_of(rt.alloc(), &changes)? {
+        None => {
+            assert!(rt; false);
+        }
+        Some(mut arena) => {
+            let right = has_two_old_classes(&mut arena);
+            assert!(rt; right);
+        }
+    }
+    Ok(())
+}
+
+// A large extent that no root names has gone, so that all granules but those of the slab are free.
+fn has_room(arena: &mut GcArena<SimPmem>) -> bool {
+    gives(arena, 0, 8 * 16384, 131072) && frees(arena, 5, 112) && gives(arena, 1, 4 * 16384, 65536)
+}
+
+#[test]
+fn granules_of_a_loose_extent(rt: HostRuntime) -> Result<(), Fail> {
+    match arena_of(rt.alloc(), &[(6160, 33556481)])? {
+        None => {
+            assert!(rt; false);
+        }
+        Some(mut arena) => {
+            let right = has_room(&mut arena);
+            assert!(rt; right);
+        }
+    }
+    Ok(())
+}
