@@ -53,7 +53,7 @@ plus_none : (n : ℕ) → n + 0 ≡ n
 plus_none n = omega arith
 
 -- a call that begins one on the memory did so
-begun_done : (old new : GcState) (call : Call) (reply : Reply) → begins_call call ≡ true → HasGcDone old new call reply → HasGcBegun old new call reply
+pub begun_done : (old new : GcState) (call : Call) (reply : Reply) → begins_call call ≡ true → HasGcDone old new call reply → HasGcBegun old new call reply
 begun_done old new (Malloc root size) reply begins done = done
 begun_done old new (Free root) reply begins done = done
 begun_done old new (Write root index word) reply begins done = done

@@ -89,9 +89,9 @@ fn side_of(has: bool, given: bool) -> CrashSide
     }
 }
 
-// The side of a call with this reply, by whether its root has a block. A call that gives none, takes none and moves none, as
-// a Write, changes no heap.
-fn side_by(reply: &Reply, has: bool) -> CrashSide
+/// The side of a call with this reply, by whether its root has a block. A call that gives none, takes none and moves none, as
+/// a Write, changes no heap.
+pub fn side_by(reply: &Reply, has: bool) -> CrashSide
     ensures { result ≡ side_by reply.now has }
 {
     match *reply {
@@ -101,8 +101,8 @@ fn side_by(reply: &Reply, has: bool) -> CrashSide
     }
 }
 
-// The root that a call speaks of.
-fn root_of(call: &Call) -> u32
+/// The root that a call speaks of.
+pub fn root_of(call: &Call) -> u32
     ensures { result ≡ root_of call.now }
 {
     match *call {
@@ -130,9 +130,9 @@ pub fn image_of(
     device.image(alloc, done, &mut picks)
 }
 
-// Whether a root's word in an image is not 0.
+/// Whether a root's word in an image is not 0.
 #[tactic(auto, unfolding(pmem_lines::specs::Words::word_at))]
-fn has_block(image: &[u64], root: u32) -> bool
+pub fn has_block(image: &[u64], root: u32) -> bool
     requires root { root < 2 ^ 16 }
     requires inside { root_word root < length image.now }
     ensures { IsTrue result ↔ (word_at image.now (root_word root) ≢ 0) }

@@ -5,7 +5,7 @@
 // `specs/Crash.antt` (`IsCrashOf`, `HasFewer`), over the run that the calls make (`IsRunOf` of `trace_runs`), which they settle.
 // The rest of `specs/` is for the functions below it.
 //
-// `image_of` gives such an image of a device alone.
+// `image_of` gives such an image of a device alone, and `has_block` and `side_by` say on which side of a call its heap stands.
 //
 // The layer above has a parsed trace, recovers the image, and knows where bytes go.
 #![tactic(auto)]
@@ -16,4 +16,4 @@ mod leaving;
 mod seeking;
 
 pub use crashing::{CrashFault, crash};
-pub use leaving::{Crashed, image_of};
+pub use leaving::{Crashed, has_block, image_of, root_of, side_by};
