@@ -1,0 +1,128 @@
+// What `text` and `info` have to say of their input.
+ghost use Rattle.std.specs.Prelude.{◌≡◌, ◌*◌, ℕ, List, [], ◌++◌, length, IfOk, IfErr, OnOk};
+ghost use Rattle.pool_layout.specs.Image.{AreWordsOf, AreWords, IfDefect};
+ghost use Rattle.heap_check.specs.Image.{IsSoundImage};
+ghost use Rattle.image_runs.specs.Checks.{HasUnsoundFrom, IsPoolDefect, IsOwnDefect};
+ghost use Rattle.map_text.specs.Pieces.{Adds};
+ghost use Rattle.nvpool.specs.Telling.{AreTold, IsTold, IsToldAs, front_of, telling};
+ghost use Rattle.nvpool.specs.Ends.{IsAnswer};
+
+use crate::answer::{Answer, fault_line};
+use crate::cause::Cause;
+use heap_map::map_of;
+use image_check::CheckFault;
+use map_text::{write_info, write_legend, write_text};
+use pmem_lines::OutOfMemory;
+use pool_layout::{ImageFault, PoolHeader, parts, pool_header};
+use std::alloc::Global;
+
+/// How much is told of each arena.
+#[derive(Clone, Copy)]
+pub(crate) enum Form {
+    /// Its numbers.
+    Numbers,
+    /// A letter for each of its granules, and its numbers.
+    Letters,
+}
+
+/// What is told of each arena of the image of a pool, or the line of its first defect.
+pub(crate) fn told_answer(
+    alloc: Global,
+    form: Form,
+    words: &[u64],
+    bytes: u64,
+) -> Result<Answer, OutOfMemory>
+    requires { AreWords words.now bytes }
+    ensures { IfOk result (λ answer. (image : List ℕ) → AreWordsOf words.now bytes image → IsAnswer (telling form) image answer) }
+{
+    match tell_pool(alloc, form, words, bytes) {
+        Ok(text) => Ok(Answer::Output(text)),
+        Err(ImageFault::Defect { arena, defect }) => fault_line(
+            alloc,
+            Cause::Image { arena, defect },
+        ),
+        Err(ImageFault::Memory(fault)) => Err(fault),
+    }
+}
+
+// What is told of each arena of a pool, of which these are the words, and which has so many bytes. `Defect` names the first
+// defect of the bytes, else that of the lowest arena that is not sound.
+fn tell_pool(
+    alloc: Global,
+    form: Form,
+    words: &[u64],
+    bytes: u64,
+) -> Result<Vec<u8>, ImageFault>
+    requires { AreWords words.now bytes }
+    ensures told { IfOk result (λ text. (image : List ℕ) → AreWordsOf words.now bytes image → IsTold (IsToldAs form) (front_of form) image text.items) }
+    ensures defect { IfErr result (λ fault. (image : List ℕ) → AreWordsOf words.now bytes image → IfDefect fault (IsPoolDefect image)) }
+{
+    let header = pool_header(words, bytes)?;
+    match tell_arenas(alloc, form, words, &header) {
+        Ok(text) => Ok(text),
+        Err(fault) => Err(fault),
+    }
+}
+
+// What stands before the arenas.
+fn front_of(alloc: Global, form: Form) -> Result<Vec<u8>, OutOfMemory>
+    ensures { IfOk result (λ text. text.items ≡ front_of form) }
+{
+    let mut text = Vec::new(alloc);
+    match form {
+        Form::Numbers => {}
+        Form::Letters => write_legend(&mut text)?,
+    }
+    Ok(text)
+}
+
+// What is told of all arenas, or the first that is not sound.
+fn tell_arenas(
+    alloc: Global,
+    form: Form,
+    words: &[u64],
+    header: &PoolHeader,
+) -> Result<Vec<u8>, ImageFault>
+    requires { length words.now ≡ header.now.arenas * header.now.granules * 2048 }
+    ensures told { IfOk result (λ text. Adds (AreTold (IsToldAs form) words.now header.now.granules header.now.arenas) (front_of form) text.items) }
+    ensures unsound { IfErr result (λ fault. IfDefect fault (HasUnsoundFrom words.now header.now 0)) }
+{
+    let mut text = match front_of(alloc, form) {
+        Ok(text) => text,
+        Err(error) => return Err(ImageFault::Memory(error)),
+    };
+    for arena in 0..header.arenas {
+        match tell_one(alloc, form, parts(header, words, arena), arena, &mut text) {
+            Ok(()) => {}
+            Err(fault) => return Err(fault),
+        }
+    }
+    Ok(text)
+}
+
+// What is told of one arena, behind what stands in a text.
+fn tell_one(
+    alloc: Global,
+    form: Form,
+    words: &[u64],
+    arena: u32,
+    text: &mut Vec<u8>,
+) -> Result<(), ImageFault>
+    ensures sound { OnOk result (IsSoundImage words.now) }
+    ensures told { OnOk result (Adds (IsToldAs form words.now arena) text.old.items text.new.items) }
+    ensures defect { IfErr result (λ fault. IfDefect fault (IsOwnDefect words.now arena)) }
+{
+    let map = match map_of(alloc, words) {
+        Ok(map) => map,
+        Err(CheckFault::Memory(error)) => return Err(ImageFault::Memory(error)),
+        Err(CheckFault::Defect(defect)) => return Err(ImageFault::Defect { arena, defect }),
+    };
+    let written = match form {
+        Form::Numbers => write_info(text, words, arena, &map),
+        Form::Letters => write_text(text, words, arena, &map),
+    };
+    match written {
+        Ok(()) => Ok(()),
+        Err(error) => Err(ImageFault::Memory(error)),
+    }
+}
