@@ -13,7 +13,8 @@ use Rattle.heap_map.specs.declared.cell.SlabFill.{SlabFill}
 use Rattle.heap_map.specs.declared.reading.Reading.{Reading}
 use Rattle.heap_map.specs.declared.scanning.Scan.{Scan}
 use Rattle.heap_map.specs.declared.runs.Runs.{Runs}
-use Rattle.heap_map.specs.Cells.{IsSlabFill, HasOpen, IsCell, cell_in}
+use Rattle.slab_header.specs.State.{kind_of, class_of, old_of}
+use Rattle.heap_map.specs.Cells.{IsLiveCount, IsOldCount, HasOpen, IsCell, cell_in}
 
 -- the image is sound, and what was read of it is what its tables say: the live extents, whether an entry is open, and the
 -- granules at which, and in which, blocks of roots begin
@@ -48,10 +49,16 @@ pub record AreCellsBelow (words : List ℕ) (n : ℕ) (cells : List Cell) : Type
 pub record HasNoFill (t : Tables) (start : ℕ) : Type 0 where
   pub none : ¬ (t.slab start ≡ true)
 
--- this one does
+-- this one does: what its header says, and how many blocks live in it
 pub record IsFillAt (t : Tables) (start : ℕ) (fill : SlabFill) : Type 0 where
-  pub is : fill.slab.start ≡ start
-  pub fill_is : IsSlabFill t fill
+  pub slab : t.slab start ≡ true
+  pub kind : (t.header start).kind ≡ kind_of fill.slab.state
+  pub class : (t.header start).class ≡ class_of fill.slab.state
+  pub was : (t.header start).old ≡ old_of fill.slab.state
+  pub live : IsLiveCount (t.header start) fill.live
+  pub old : IsOldCount (t.header start) fill.old
+  pub few_live : fill.live ≤ 4096
+  pub few_old : fill.old ≤ 64
 
 -- Of the first n granules the last ones are a free row that can't be begun earlier, and no row is longer than one that was
 -- found.

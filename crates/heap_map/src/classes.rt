@@ -6,7 +6,7 @@ ghost use Rattle.image_tables.specs.Tables.{tables_of};
 ghost use Rattle.slab_header.specs.State.{kind_of, class_of, old_of};
 ghost use Rattle.heap_check.specs.Image.{IsSoundImage};
 ghost use Rattle.image_defects.specs.Count.{IsCount};
-ghost use Rattle.heap_map.specs.Cells.{AreCells};
+ghost use Rattle.heap_map.specs.Cells.{IsKind, AreCells};
 ghost use Rattle.heap_map.specs.Facts.{IsInTransition, IsOfClass, WasOfClass, HasLive, HasOld, IsClassFill, AreClassFills};
 ghost use Rattle.heap_map.specs.Scans.{HasNoFill, IsFillAt};
 
@@ -20,6 +20,30 @@ use std::alloc::Global;
 // How many classes there are.
 const CLASSES: u8 = 36;
 
+// The slab that begins at a granule, if this one that has the granule does.
+fn fill_here(words: &[u64], granule: u32, fill: SlabFill) -> Option<SlabFill>
+    requires sound { IsSoundImage words.now }
+    requires kind { IsKind words.now granule (Kind.Slab fill) }
+    ensures { MatchOption result (HasNoFill (tables_of words.now) granule) (IsFillAt (tables_of words.now) granule) }
+{
+    if fill.slab.start != granule {
+        return None;
+    }
+    Some(fill)
+}
+
+// The slab that begins at a granule of this kind, if one does.
+fn fill_of_kind(words: &[u64], granule: u32, kind: Kind) -> Option<SlabFill>
+    requires sound { IsSoundImage words.now }
+    requires kind { IsKind words.now granule kind }
+    ensures { MatchOption result (HasNoFill (tables_of words.now) granule) (IsFillAt (tables_of words.now) granule) }
+{
+    match kind {
+        Kind::Slab { fill } => fill_here(words, granule, fill),
+        _ => None,
+    }
+}
+
 // The slab that begins at a granule, if one does.
 fn fill_at(words: &[u64], cells: &[Cell], granule: u32) -> Option<SlabFill>
     requires sound { IsSoundImage words.now }
@@ -27,10 +51,8 @@ fn fill_at(words: &[u64], cells: &[Cell], granule: u32) -> Option<SlabFill>
     requires inside { granule < length cells.now }
     ensures { MatchOption result (HasNoFill (tables_of words.now) granule) (IsFillAt (tables_of words.now) granule) }
 {
-    match cells[granule as usize].kind {
-        Kind::Slab { fill } if fill.slab.start == granule => Some(fill),
-        _ => None,
-    }
+    let cell = cells[granule as usize];
+    fill_of_kind(words, granule, cell.kind)
 }
 
 // The class of a slab.

@@ -5,7 +5,7 @@ ghost use Rattle.image_tables.specs.Tables.{tables_of};
 ghost use Rattle.heap_check.specs.Sound.{IsVacant};
 ghost use Rattle.heap_check.specs.Image.{bounds_of, IsSoundImage};
 ghost use Rattle.image_defects.specs.Count.{IsCount};
-ghost use Rattle.heap_map.specs.Cells.{AreCells};
+ghost use Rattle.heap_map.specs.Cells.{IsKind, AreCells};
 ghost use Rattle.heap_map.specs.Facts.{IsLongestRow};
 ghost use Rattle.heap_map.specs.Scans.{AreRuns};
 
@@ -26,6 +26,18 @@ pub(crate) struct FreeCounts {
     pub(crate) longest: u32,
 }
 
+// A granule of this kind is free.
+fn is_free_kind(words: &[u64], granule: u32, kind: Kind) -> bool
+    requires sound { IsSoundImage words.now }
+    requires kind { IsKind words.now granule kind }
+    ensures { IsTrue result ↔ IsVacant (bounds_of words.now) (tables_of words.now) granule }
+{
+    match kind {
+        Kind::Free => true,
+        _ => false,
+    }
+}
+
 // A granule is free.
 fn is_free(words: &[u64], cells: &[Cell], granule: u32) -> bool
     requires sound { IsSoundImage words.now }
@@ -33,7 +45,8 @@ fn is_free(words: &[u64], cells: &[Cell], granule: u32) -> bool
     requires inside { granule < length cells.now }
     ensures { IsTrue result ↔ IsVacant (bounds_of words.now) (tables_of words.now) granule }
 {
-    matches!(cells[granule as usize].kind, Kind::Free)
+    let cell = cells[granule as usize];
+    is_free_kind(words, granule, cell.kind)
 }
 
 // One granule more, which is free or not.
