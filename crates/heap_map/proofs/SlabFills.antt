@@ -12,7 +12,7 @@ use Rattle.image_defects.specs.Count.{IsCount}
 use Rattle.heap_map.specs.declared.cell.SlabFill.{SlabFill}
 use Rattle.heap_map.specs.declared.cell.Kind.{Kind}
 use Rattle.heap_map.specs.declared.cell.Kind.TheVariants.{Slab}
-use Rattle.heap_map.specs.Cells.{IsLiveBit, IsLivePlace, IsLiveCount, IsOldCount, IsSlabFill, IsKind}
+use Rattle.heap_map.specs.Cells.{IsSetBit, IsLiveBit, IsLivePlace, IsLiveCount, IsOldCount, IsSlabFill, IsKind}
 use Rattle.heap_map.specs.Scans.{HasNoFill, IsFillAt}
 use Rattle.heap_map.proofs.Granules.{slab_kind}
 
@@ -47,8 +47,11 @@ few_blocks class below = ⊎_elim
     (cases_lt 4096 (class_capacity class))
 
 -- where the bits are read, those that are set are live
-pub live_bits : (h : SlabHeader) (n c : ℕ) → h.kind ≢ morphing_kind → IsCount (λ i. h.bit i ≡ true) n c → IsCount (IsLiveBit h) n c
-live_bits h n c read = count_same (λ i. h.bit i ≡ true) (IsLiveBit h) n c (λ i set. record { read = read; set = set }) (λ i live. live.set)
+live_bits : (h : SlabHeader) (n c : ℕ) → h.kind ≢ morphing_kind → IsCount (IsSetBit h) n c → IsCount (IsLiveBit h) n c
+live_bits h n c read = count_same (IsSetBit h) (IsLiveBit h) n c (λ i set. record { read = read; set = set }) (λ i live. live.set)
+
+pub live_of_class : (h : SlabHeader) (class n c : ℕ) → h.class ≡ class → h.kind ≢ morphing_kind → n ≡ class_capacity class → IsCount (IsSetBit h) n c → IsLiveCount h c
+live_of_class h class n c is read all count = subst (λ m. IsCount (IsLiveBit h) m c) (all ∙ ap class_capacity (sym is)) (live_bits h n c read count)
 
 -- else none is
 pub no_live_bits : (h : SlabHeader) → h.kind ≡ morphing_kind → IsLiveCount h 0
@@ -80,4 +83,11 @@ no_fill_there words k fill sound is other = record {
       let found = slab_kind words sound k (Slab fill) is slab in
       let same : fill ≡ found.0 = cc (found.1) in
       other (ap (λ (f : SlabFill). f.slab.start) same ∙ found.2);
+}
+
+pub no_fill_of_kind : (words : List ℕ) (k : ℕ) (kind : Kind) → IsSoundImage words → IsKind words k kind → ((fill : SlabFill) → kind ≢ Slab fill) → HasNoFill (tables_of words) k
+no_fill_of_kind words k kind sound is other = record {
+  none = λ slab.
+      let found = slab_kind words sound k kind is slab in
+      other found.0 found.1;
 }

@@ -18,6 +18,10 @@ use Rattle.heap_map.specs.declared.cell.Cell.{Cell}
 
 -- slabs
 
+-- the bit of a block is set
+abbrev pub IsSetBit : SlabHeader → ℕ → Type 0
+IsSetBit h i = h.bit i ≡ true
+
 -- the bit of a block is set, and is read: no bit is while the slab takes its class
 pub record IsLiveBit (h : SlabHeader) (i : ℕ) : Type 0 where
   pub read : h.kind ≢ morphing_kind

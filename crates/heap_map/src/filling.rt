@@ -6,7 +6,7 @@ ghost use Rattle.image_tables.specs.Tables.{tables_of};
 ghost use Rattle.slab_header.specs.State.{class_of, entries_of};
 ghost use Rattle.image_defects.specs.Count.{IsCount};
 ghost use Rattle.image_reading.specs.Slabs.{IsSlabAt, IsRead};
-ghost use Rattle.heap_map.specs.Cells.{IsLivePlace, IsLiveCount, IsOldCount, IsSlabFill};
+ghost use Rattle.heap_map.specs.Cells.{IsSetBit, IsLivePlace, IsLiveCount, IsOldCount, IsSlabFill};
 
 use crate::cell::SlabFill;
 use defect_search::counted;
@@ -18,7 +18,7 @@ use slab_header::SlabState;
 fn count_bits(words: &[u64], start: u32, blocks: u32) -> u32
     requires slab { IsSlabAt words.now start }
     requires few { blocks ≤ 4096 }
-    ensures count { IsCount (λ i. ((tables_of words.now).header start).bit i ≡ true) blocks result }
+    ensures count { IsCount (IsSetBit ((tables_of words.now).header start)) blocks result }
     ensures most { result ≤ blocks }
 {
     let mut count = 0;
