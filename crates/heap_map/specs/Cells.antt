@@ -83,7 +83,7 @@ pub record IsCell (words : List ℕ) (k : ℕ) (cell : Cell) : Type 0 where
   pub loose : IsTrue cell.loose ↔ IsLooseKind (tables_of words) cell.kind
 
 abbrev pub no_cell : Cell
-no_cell = record { kind = Free; loose = false }
+no_cell = record { kind = Header; loose = false }
 
 abbrev pub cell_in : List Cell → ℕ → Cell
 cell_in cells k = slice_index_or cells k no_cell

@@ -55,7 +55,7 @@ abbrev pub gap_behind : ℕ → ℕ → List ℕ
 gap_behind n k = if (k % 64 == 63) then 10 ∷ [] else if k + 1 == n then 10 ∷ [] else []
 
 -- the letters of all granules
-abbrev pub drawing : List Cell → List ℕ
+unfoldable pub drawing : List Cell → List ℕ
 drawing cells = text_below (λ k. gap_before k ++ letter_of k (cell_in cells k) ∷ gap_behind (length cells) k) (length cells)
 
 -- for the functions below

@@ -9,11 +9,11 @@ abbrev pub hex_digit : ℕ → ℕ
 hex_digit digit = if nat_lt digit 10 then 48 + digit else (87 + digit)
 
 -- the last so many digits of a number, the highest first
-abbrev pub hex : ℕ → ℕ → List ℕ
+unfoldable pub hex : ℕ → ℕ → List ℕ
 hex width number = text_below (λ i. hex_digit (number / 2 ^ (4 * (width - 1 - i)) % 16) ∷ []) width
 
 -- a line: an address, and the two words there
-abbrev pub dump_line : List ℕ → ℕ → List ℕ
+unfoldable pub dump_line : List ℕ → ℕ → List ℕ
 dump_line words at = hex 8 at ++ 32 ∷ hex 16 (word_at words (at / 8)) ++ 32 ∷ hex 16 (word_at words (at / 8 + 1)) ++ 10 ∷ []
 
 -- the lines of a range, whose size is a multiple of sixteen

@@ -23,7 +23,7 @@ pub record IsInfo (words : List ℕ) (arena : ℕ) (text : List ℕ) : Type 0 wh
   pub is : text ≡ facts_text arena facts fills
 
 -- the line that says which arena it is
-abbrev pub arena_line : ℕ → List ℕ
+unfoldable pub arena_line : ℕ → List ℕ
 arena_line arena = codes "arena " ++ decimal arena ++ 10 ∷ []
 
 -- The arena is sound, and the text has the letter of each of its granules, and its numbers. A letter says that something is

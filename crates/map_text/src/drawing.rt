@@ -147,12 +147,7 @@ fn write_behind(out: &mut Vec<u8>, granules: u32, granule: u32) -> Result<(), Ou
 }
 
 // Writes the letter of a granule, with what stands around it.
-fn write_cell(
-    out: &mut Vec<u8>,
-    granules: u32,
-    granule: u32,
-    cell: Cell,
-) -> Result<(), OutOfMemory>
+fn write_cell(out: &mut Vec<u8>, granules: u32, granule: u32, cell: Cell) -> Result<(), OutOfMemory>
     requires inside { granule < granules }
     requires classes { HasClasses cell }
     ensures { OnOk result (out.new.items ≡ out.old.items ++ (gap_before granule ++ letter_of granule cell ∷ gap_behind granules granule)) }

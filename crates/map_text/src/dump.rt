@@ -11,7 +11,11 @@ fn hex_digit(digit: u8) -> u8
     requires { digit < 16 }
     ensures { result ≡ hex_digit digit }
 {
-    if digit < 10 { b'0' + digit } else { b'a' + (digit - 10) }
+    if digit < 10 {
+        b'0' + digit
+    } else {
+        b'a' + (digit - 10)
+    }
 }
 
 // Writes the last so many digits of a number, the highest first.
@@ -37,6 +41,7 @@ fn word_at(words: &[u64], word: u64) -> u64
 }
 
 // Writes the line of sixteen bytes from an address on.
+#[tactic(auto, unfolding(crate::specs::Dump::dump_line))]
 fn write_line(out: &mut Vec<u8>, words: &[u64], at: u64) -> Result<(), OutOfMemory>
     requires { at < 2 ^ 32 }
     ensures { OnOk result (out.new.items ≡ out.old.items ++ dump_line words.now at) }

@@ -1,9 +1,7 @@
 // What is told of an arena in numbers.
 ghost use Rattle.std.specs.Prelude.{◌≡◌, [], ◌∷◌, ◌+◌, ◌*◌, ◌<◌, ◌≤◌, ◌^◌, ◌++◌, codes, decimal, length, OnOk};
 ghost use Rattle.size_classes.specs.Classes.{class_size, class_capacity};
-ghost use Rattle.heap_map.specs.Facts.{fill_in};
-ghost use Rattle.map_text.specs.Pieces.{text_below};
-ghost use Rattle.map_text.specs.Facts.{request_of, fact_line, class_line, granule_lines, extent_lines, facts_text};
+ghost use Rattle.map_text.specs.Facts.{request_of, fact_line, class_line, granule_lines, extent_lines, class_lines, facts_text};
 
 use heap_map::{ClassFill, Facts};
 use pmem_lines::OutOfMemory;
@@ -24,6 +22,7 @@ fn request_of(longest: u32) -> u64
 }
 
 // Writes a number of an arena behind its name.
+#[tactic(auto, unfolding(crate::specs::Facts::fact_line))]
 fn write_fact(out: &mut Vec<u8>, arena: u32, name: &[u8], value: u64) -> Result<(), OutOfMemory>
     ensures { OnOk result (out.new.items ≡ out.old.items ++ fact_line arena name.now value) }
 {
@@ -33,6 +32,7 @@ fn write_fact(out: &mut Vec<u8>, arena: u32, name: &[u8], value: u64) -> Result<
 }
 
 // Writes how many granules there are.
+#[tactic(auto, unfolding(crate::specs::Facts::granule_lines))]
 fn write_granules(out: &mut Vec<u8>, arena: u32, facts: &Facts) -> Result<(), OutOfMemory>
     ensures { OnOk result (out.new.items ≡ out.old.items ++ granule_lines arena facts.now) }
 {
@@ -44,6 +44,7 @@ fn write_granules(out: &mut Vec<u8>, arena: u32, facts: &Facts) -> Result<(), Ou
 }
 
 // Writes how many extents and blocks there are, and how many things are loose.
+#[tactic(auto, unfolding(crate::specs::Facts::extent_lines))]
 fn write_extents(out: &mut Vec<u8>, arena: u32, facts: &Facts) -> Result<(), OutOfMemory>
     ensures { OnOk result (out.new.items ≡ out.old.items ++ extent_lines arena facts.now) }
 {
@@ -71,12 +72,7 @@ fn write_fill(out: &mut Vec<u8>, class: u8, fill: ClassFill) -> Result<(), OutOf
 }
 
 // Writes how full the slabs of a class are, where there is one or a block of the class lives in another.
-fn write_class(
-    out: &mut Vec<u8>,
-    arena: u32,
-    class: u8,
-    fill: ClassFill,
-) -> Result<(), OutOfMemory>
+fn write_class(out: &mut Vec<u8>, arena: u32, class: u8, fill: ClassFill) -> Result<(), OutOfMemory>
     requires { class < 36 }
     ensures { OnOk result (out.new.items ≡ out.old.items ++ class_line arena class fill) }
 {
@@ -91,7 +87,7 @@ fn write_class(
 // Writes how full the slabs of each class are.
 fn write_classes(out: &mut Vec<u8>, arena: u32, classes: &[ClassFill]) -> Result<(), OutOfMemory>
     requires { length classes.now ≡ 36 }
-    ensures { OnOk result (out.new.items ≡ out.old.items ++ text_below (λ class. class_line arena class (fill_in classes.now class)) 36) }
+    ensures { OnOk result (out.new.items ≡ out.old.items ++ class_lines arena classes.now) }
 {
     for class in 0..CLASSES {
         write_class(out, arena, class, classes[class as usize])?;
