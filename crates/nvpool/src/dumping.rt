@@ -53,12 +53,7 @@ pub(crate) fn dump_answer(
 }
 
 // The same of the words of the arena.
-fn dump_arena(
-    alloc: Global,
-    words: &[u64],
-    arena: u32,
-    root: u32,
-) -> Result<Answer, OutOfMemory>
+fn dump_arena(alloc: Global, words: &[u64], arena: u32, root: u32) -> Result<Answer, OutOfMemory>
     ensures { IfOk result (IsArenaAnswer words.now arena root) }
 {
     match block_of(alloc, words, root) {
