@@ -6,3 +6,4 @@ pub mod Answering
 pub mod Endings
 pub mod Completeness
 pub mod Told
+pub mod Dumps

@@ -4,7 +4,8 @@ use Rattle.nvheap.specs.Command.{AreNumbers}
 use Rattle.nvpool.specs.declared.command.Command.{Command}
 use Rattle.nvpool.specs.declared.command.Command.TheVariants.{Text, Info, Dump}
 use Rattle.nvpool.specs.Meaning.{Meaning}
-use Rattle.nvpool.specs.Telling.{informing, drawing_text}
+use Rattle.nvpool.specs.declared.telling.Form.TheVariants.{Numbers, Letters}
+use Rattle.nvpool.specs.Telling.{telling}
 use Rattle.nvpool.specs.Dumping.{dumping}
 
 -- a command: its first word, the numbers behind it and which they may be, and what it means
@@ -20,8 +21,8 @@ alone text meaning = record { text = text; numbers = []; fits = Unit {0}; meanin
 
 -- the table: each command has one row
 abbrev pub row_of : Command → Row
-row_of Text = alone (codes "text") drawing_text
-row_of Info = alone (codes "info") informing
+row_of Text = alone (codes "text") (telling Letters)
+row_of Info = alone (codes "info") (telling Numbers)
 row_of (Dump arena root) = record { text = codes "dump"; numbers = arena ∷ root ∷ []; fits = (arena < 16) × (root < 65536); meaning = dumping arena root }
 
 -- what a command means

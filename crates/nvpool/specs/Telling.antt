@@ -13,40 +13,35 @@ use Rattle.nvpool.specs.declared.telling.Form.{Form}
 use Rattle.nvpool.specs.declared.telling.Form.TheVariants.{Numbers, Letters}
 use Rattle.nvpool.specs.Meaning.{Meaning}
 
--- the text has what is told of each of the first so many arenas of a pool of so many granules each, in order
-abbrev pub AreTold : (List ℕ → ℕ → List ℕ → Type 0) → List ℕ → ℕ → ℕ → List ℕ → Type 0
-AreTold Is words granules count text = ArePieces (λ arena own. Is (part_of words granules arena) arena own) count text
+-- what stands before the arenas of a pool, what is told of each, and what stands behind them
+abbrev pub front_of : Form → PoolHeader → List ℕ
+front_of Numbers header = []
+front_of Letters header = legend_line
 
--- The input is the image of a pool, and behind a front the output has what is told of each of its arenas.
-pub record IsTold (Is : List ℕ → ℕ → List ℕ → Type 0) (front input output : List ℕ) : Type 0 where
+abbrev pub IsToldAs : Form → PoolHeader → List ℕ → ℕ → List ℕ → Type 0
+IsToldAs Numbers header = IsInfo
+IsToldAs Letters header = IsText
+
+abbrev pub back_of : Form → List ℕ
+back_of Numbers = []
+back_of Letters = []
+
+-- the text has what is told of each of the first so many arenas of a pool, in order
+abbrev pub AreTold : Form → List ℕ → PoolHeader → ℕ → List ℕ → Type 0
+AreTold form words header count text = ArePieces (λ arena own. IsToldAs form header (part_of words header.granules arena) arena own) count text
+
+-- The input is the image of a pool, and the output has what is told of each of its arenas, with what stands around that.
+pub record IsTold (form : Form) (input output : List ℕ) : Type 0 where
   pub words : List ℕ
   pub image : IsImageOf input words
   pub told : List ℕ
-  pub each : AreTold Is words image.header.granules image.header.arenas told
-  pub is : output ≡ front ++ told
+  pub each : AreTold form words image.header image.header.arenas told
+  pub is : output ≡ front_of form image.header ++ told ++ back_of form
 
 -- why an image is refused: the first defect
 abbrev pub RefusesImage : List ℕ → Cause → Type 0
 RefusesImage input (Image arena defect) = IsPoolDefect input arena defect
 RefusesImage input cause = ⊥
 
-abbrev pub informing : Meaning
-informing = record { answers = IsTold IsInfo []; refuses = RefusesImage; accepts = HasSoundArenas }
-
-abbrev pub drawing_text : Meaning
-drawing_text = record { answers = IsTold IsText legend_line; refuses = RefusesImage; accepts = HasSoundArenas }
-
--- for the functions below
-
--- what is told of an arena in a form, and what stands before all arenas
-abbrev pub IsToldAs : Form → List ℕ → ℕ → List ℕ → Type 0
-IsToldAs Numbers = IsInfo
-IsToldAs Letters = IsText
-
-abbrev pub front_of : Form → List ℕ
-front_of Numbers = []
-front_of Letters = legend_line
-
 abbrev pub telling : Form → Meaning
-telling Numbers = informing
-telling Letters = drawing_text
+telling form = record { answers = IsTold form; refuses = RefusesImage; accepts = HasSoundArenas }

@@ -4,7 +4,7 @@ ghost use Rattle.pool_layout.specs.Image.{AreWordsOf, AreWords, IfDefect};
 ghost use Rattle.heap_check.specs.Image.{IsSoundImage};
 ghost use Rattle.image_runs.specs.Checks.{HasUnsoundFrom, IsPoolDefect, IsOwnDefect};
 ghost use Rattle.map_text.specs.Pieces.{Adds};
-ghost use Rattle.nvpool.specs.Telling.{AreTold, IsTold, IsToldAs, front_of, telling};
+ghost use Rattle.nvpool.specs.Telling.{AreTold, IsTold, IsToldAs, front_of, back_of, telling};
 ghost use Rattle.nvpool.specs.Ends.{IsAnswer};
 
 use crate::answer::{Answer, fault_line};
@@ -15,6 +15,7 @@ use map_text::{write_info, write_legend, write_text};
 use pmem_lines::OutOfMemory;
 use pool_layout::{ImageFault, PoolHeader, parts, pool_header};
 use std::alloc::Global;
+use trace_text::write_bytes;
 
 /// How much is told of each arena.
 #[derive(Clone, Copy)]
@@ -49,19 +50,33 @@ pub(crate) fn told_answer(
 // defect of the bytes, else that of the lowest arena that is not sound.
 fn tell_pool(alloc: Global, form: Form, words: &[u64], bytes: u64) -> Result<Vec<u8>, ImageFault>
     requires { AreWords words.now bytes }
-    ensures told { IfOk result (λ text. (image : List ℕ) → AreWordsOf words.now bytes image → IsTold (IsToldAs form) (front_of form) image text.items) }
+    ensures told { IfOk result (λ text. (image : List ℕ) → AreWordsOf words.now bytes image → IsTold form image text.items) }
     ensures defect { IfErr result (λ fault. (image : List ℕ) → AreWordsOf words.now bytes image → IfDefect fault (IsPoolDefect image)) }
 {
     let header = pool_header(words, bytes)?;
-    match tell_arenas(alloc, form, words, &header) {
-        Ok(text) => Ok(text),
-        Err(fault) => Err(fault),
+    let mut text = match tell_arenas(alloc, form, words, &header) {
+        Ok(text) => text,
+        Err(fault) => return Err(fault),
+    };
+    match write_back(form, &mut text) {
+        Ok(()) => Ok(text),
+        Err(error) => Err(ImageFault::Memory(error)),
+    }
+}
+
+// Writes what stands behind the arenas.
+fn write_back(form: Form, text: &mut Vec<u8>) -> Result<(), OutOfMemory>
+    ensures { OnOk result (text.new.items ≡ text.old.items ++ back_of form) }
+{
+    match form {
+        Form::Numbers => write_bytes(text, b""),
+        Form::Letters => write_bytes(text, b""),
     }
 }
 
 // What stands before the arenas.
-fn front_of(alloc: Global, form: Form) -> Result<Vec<u8>, OutOfMemory>
-    ensures { IfOk result (λ text. text.items ≡ front_of form) }
+fn front_of(alloc: Global, form: Form, header: &PoolHeader) -> Result<Vec<u8>, OutOfMemory>
+    ensures { IfOk result (λ text. text.items ≡ front_of form header.now) }
 {
     let mut text = Vec::new(alloc);
     match form {
@@ -79,15 +94,16 @@ fn tell_arenas(
     header: &PoolHeader,
 ) -> Result<Vec<u8>, ImageFault>
     requires { length words.now ≡ header.now.arenas * header.now.granules * 2048 }
-    ensures told { IfOk result (λ text. Adds (AreTold (IsToldAs form) words.now header.now.granules header.now.arenas) (front_of form) text.items) }
+    ensures told { IfOk result (λ text. Adds (AreTold form words.now header.now header.now.arenas) (front_of form header.now) text.items) }
     ensures unsound { IfErr result (λ fault. IfDefect fault (HasUnsoundFrom words.now header.now 0)) }
 {
-    let mut text = match front_of(alloc, form) {
+    let mut text = match front_of(alloc, form, header) {
         Ok(text) => text,
         Err(error) => return Err(ImageFault::Memory(error)),
     };
     for arena in 0..header.arenas {
-        match tell_one(alloc, form, parts(header, words, arena), arena, &mut text) {
+        let own = parts(header, words, arena);
+        match tell_one(alloc, form, header, own, arena, &mut text) {
             Ok(()) => {}
             Err(fault) => return Err(fault),
         }
@@ -99,12 +115,13 @@ fn tell_arenas(
 fn tell_one(
     alloc: Global,
     form: Form,
+    header: &PoolHeader,
     words: &[u64],
     arena: u32,
     text: &mut Vec<u8>,
 ) -> Result<(), ImageFault>
     ensures sound { OnOk result (IsSoundImage words.now) }
-    ensures told { OnOk result (Adds (IsToldAs form words.now arena) text.old.items text.new.items) }
+    ensures told { OnOk result (Adds (IsToldAs form header.now words.now arena) text.old.items text.new.items) }
     ensures defect { IfErr result (λ fault. IfDefect fault (IsOwnDefect words.now arena)) }
 {
     let map = match map_of(alloc, words) {
