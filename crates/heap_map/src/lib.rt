@@ -4,8 +4,9 @@
 // cells, one for each granule: the arena's own, free ones, large extents, and slabs with their state and how many blocks live
 // in them; and of each cell whether that is loose. `specs/Cells.antt` says what a cell is over the tables of the image, and
 // `specs/Facts.antt` the numbers beside: free granules and the most of them in a row, slabs in transition, how full the slabs
-// of each class are. No cell is loose exactly where the image is exact. An image that is not sound has its first defect. `block_of` finds
-// the block of one root. The layers above use both calls and these definitions; `map_text` has the text of maps.
+// of each class are. No cell is loose exactly where the image is exact. An image that is not sound has its first defect.
+// `block_of` finds the block of one root. The layers above use both calls and these definitions; `map_text` has the text of
+// maps.
 #![tactic(auto)]
 
 mod block;

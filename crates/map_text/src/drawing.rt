@@ -41,8 +41,8 @@ fn old_of(state: SlabState) -> u8
     }
 }
 
-// How many tenths of the bytes of a slab's blocks live, 9 at most.
-fn tenths_of(fill: &SlabFill) -> u8
+/// How many tenths of the bytes of a slab's blocks live, 9 at most.
+pub fn tenths_of(fill: &SlabFill) -> u8
     requires class { class_of fill.now.slab.state < 36 }
     requires old { old_of fill.now.slab.state < 36 }
     ensures tenths { result ≡ tenths_of fill.now }

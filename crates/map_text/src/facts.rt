@@ -11,8 +11,8 @@ use trace_text::{write_bytes, write_word};
 // How many classes there are.
 const CLASSES: u8 = 36;
 
-// The largest request that whole granules are found for, where so many are free in a row.
-fn request_of(longest: u32) -> u64
+/// The largest request in bytes that whole granules are found for, where so many are free in a row.
+pub fn request_of(longest: u32) -> u64
     ensures { result ≡ request_of longest }
 {
     if longest < 2 {

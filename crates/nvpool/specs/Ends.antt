@@ -24,8 +24,8 @@ abbrev pub told_by : {S K : Type 0} → (S → Option (List ℕ)) → (K → Opt
 told_by left taken source sink = record { left = left source; taken = taken sink }
 
 -- how much is read at most
-abbrev pub limit : Option ℕ
-limit = Some longest_image
+abbrev pub image_limit : Option ℕ
+image_limit = Some longest_image
 
 -- the text is the line that says why an input is refused
 pub record SaysWhy (m : Meaning) (input text : List ℕ) : Type 0 where
@@ -36,7 +36,7 @@ pub record SaysWhy (m : Meaning) (input text : List ℕ) : Type 0 where
 -- the input was read, this holds of it and a text, and the text was taken so far
 pub record HasSaid (old new : Told) (Says : List ℕ → List ℕ → Type 0) (Taken : Option (List ℕ) → Option (List ℕ) → List ℕ → Type 0) : Type 0 where
   pub input : List ℕ
-  pub read : HasRead limit old.left new.left input
+  pub read : HasRead image_limit old.left new.left input
   pub text : List ℕ
   pub says : Says input text
   pub takes : Taken old.taken new.taken text
@@ -48,15 +48,15 @@ abbrev pub Ends : Meaning → Told → Told → Status → Type 0
 Ends m old new Done = HasSaid old new m.answers Takes
 Ends m old new Usage = ⊥
 Ends m old new Refused = HasSaid old new (SaysWhy m) Takes
-Ends m old new ReadFault = HasReadFew limit old.left new.left
+Ends m old new ReadFault = HasReadFew image_limit old.left new.left
 Ends m old new WriteFault = HasSaid old new (λ input text. m.answers input text ⊎ SaysWhy m input text) TakesFront
 Ends m old new Memory = Unit {0}
-Ends m old new TooLong = HasReadMore limit old.left new.left
+Ends m old new TooLong = HasReadMore image_limit old.left new.left
 
 -- the source has an input, within its limit, that has an output
 pub record HasAcceptable (m : Meaning) (left : Option (List ℕ)) : Type 0 where
   pub input : List ℕ
-  pub left_is : HasLeft limit left input
+  pub left_is : HasLeft image_limit left input
   pub accepts : m.accepts input
 
 -- nothing is written
@@ -88,9 +88,9 @@ IsWritten answer old new _ = ⊥
 
 -- why there is no input, and what was read then
 abbrev pub IsUnread : Option (List ℕ) → Option (List ℕ) → Status → Type 0
-IsUnread old new ReadFault = HasReadFew limit old new
+IsUnread old new ReadFault = HasReadFew image_limit old new
 IsUnread old new Memory = Unit {0}
-IsUnread old new TooLong = HasReadMore limit old new
+IsUnread old new TooLong = HasReadMore image_limit old new
 IsUnread old new _ = ⊥
 
 -- these are the bytes of an image

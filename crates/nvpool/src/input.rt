@@ -2,7 +2,7 @@
 ghost use Rattle.std.specs.Prelude.{◌≡◌, ◌+◌, ◌-◌, ◌<◌, ◌≤◌, ◌%◌, ◌^◌, ◌++◌, ℕ, List, [], length, take, Some, IfOk, IfErr, OnOk, OnErr, Err};
 ghost use Rattle.nvheap.specs.Outside.{Rose, Gives, GivesSome, IsAtEnd};
 ghost use Rattle.nvheap.specs.Inputs.{longest_image};
-ghost use Rattle.nvpool.specs.Ends.{limit, HasBytes, IsInput, IsRead, IsUnread};
+ghost use Rattle.nvpool.specs.Ends.{image_limit, HasBytes, IsInput, IsRead, IsUnread};
 
 use nvheap::{Failed, Source, Status};
 use pmem_lines::OutOfMemory;
@@ -59,7 +59,7 @@ impl From<Failed> for Unread {
 
 /// The image of a pool, read into its words in place, or how a run ends without.
 pub(crate) fn read_input<S: Source>(alloc: Global, source: &mut S) -> Result<PoolInput, Status>
-    ensures read { IfOk result (IsRead limit (S.left source.old) (S.left source.new)) }
+    ensures read { IfOk result (IsRead image_limit (S.left source.old) (S.left source.new)) }
     ensures input { IfOk result IsInput }
     ensures unread { IfErr result (IsUnread (S.left source.old) (S.left source.new)) }
     ensures failed { result ≡ Err Status.ReadFault → Rose (S.faults source.old) (S.faults source.new) }
