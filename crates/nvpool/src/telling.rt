@@ -1,7 +1,10 @@
 // What `text` and `info` have to say of their input.
-ghost use Rattle.std.specs.Prelude.{◌≡◌, ◌*◌, ℕ, List, [], ◌++◌, length, IfOk, IfErr, OnOk};
+ghost use Rattle.std.specs.Prelude.{◌≡◌, ◌↔◌, ◌*◌, ℕ, List, ◌++◌, length, IfOk, IfErr, OnOk};
 ghost use Rattle.pool_layout.specs.Image.{AreWordsOf, AreWords, IfDefect};
-ghost use Rattle.heap_check.specs.Image.{IsSoundImage};
+ghost use Rattle.heap_check.specs.Image.{IsSoundImage, IsExactImage};
+ghost use Rattle.heap_map.specs.Cells.{AreCells, AreNoneLoose};
+ghost use Rattle.heap_map.specs.Facts.{AreFacts, AreClassFills};
+ghost use Rattle.map_text.specs.Drawing.{legend_line};
 ghost use Rattle.image_runs.specs.Checks.{HasUnsoundFrom, IsPoolDefect, IsOwnDefect};
 ghost use Rattle.map_text.specs.Pieces.{Adds};
 ghost use Rattle.nvpool.specs.Telling.{AreTold, IsTold, IsToldAs, front_of, back_of, telling};
@@ -9,7 +12,7 @@ ghost use Rattle.nvpool.specs.Ends.{IsAnswer};
 
 use crate::answer::{Answer, fault_line};
 use crate::cause::Cause;
-use heap_map::map_of;
+use heap_map::{HeapMap, map_of};
 use image_check::CheckFault;
 use map_text::{write_info, write_legend, write_text};
 use pmem_lines::OutOfMemory;
@@ -78,11 +81,18 @@ fn write_back(form: Form, text: &mut Vec<u8>) -> Result<(), OutOfMemory>
 fn front_of(alloc: Global, form: Form, header: &PoolHeader) -> Result<Vec<u8>, OutOfMemory>
     ensures { IfOk result (λ text. text.items ≡ front_of form header.now) }
 {
-    let mut text = Vec::new(alloc);
     match form {
-        Form::Numbers => {}
-        Form::Letters => write_legend(&mut text)?,
+        Form::Numbers => Ok(Vec::new(alloc)),
+        Form::Letters => legend(alloc),
     }
+}
+
+// The line that says what the letters are.
+fn legend(alloc: Global) -> Result<Vec<u8>, OutOfMemory>
+    ensures { IfOk result (λ text. text.items ≡ legend_line) }
+{
+    let mut text = Vec::new(alloc);
+    write_legend(&mut text)?;
     Ok(text)
 }
 
@@ -129,12 +139,30 @@ fn tell_one(
         Err(CheckFault::Memory(error)) => return Err(ImageFault::Memory(error)),
         Err(CheckFault::Defect(defect)) => return Err(ImageFault::Defect { arena, defect }),
     };
-    let written = match form {
-        Form::Numbers => write_info(text, words, arena, &map),
-        Form::Letters => write_text(text, words, arena, &map),
-    };
-    match written {
+    match write_map(form, header, words, arena, &map, text) {
         Ok(()) => Ok(()),
         Err(error) => Err(ImageFault::Memory(error)),
+    }
+}
+
+// Writes what is told of a sound arena, by its map.
+fn write_map(
+    form: Form,
+    header: &PoolHeader,
+    words: &[u64],
+    arena: u32,
+    map: &HeapMap,
+    text: &mut Vec<u8>,
+) -> Result<(), OutOfMemory>
+    requires sound { IsSoundImage words.now }
+    requires cells { AreCells words.now map.now.cells.items }
+    requires exact { AreNoneLoose map.now.cells.items ↔ IsExactImage words.now }
+    requires facts { AreFacts words.now map.now.facts }
+    requires classes { AreClassFills words.now map.now.classes.items }
+    ensures { OnOk result (Adds (IsToldAs form header.now words.now arena) text.old.items text.new.items) }
+{
+    match form {
+        Form::Numbers => write_info(text, words, arena, map),
+        Form::Letters => write_text(text, words, arena, map),
     }
 }

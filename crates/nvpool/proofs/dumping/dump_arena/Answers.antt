@@ -13,3 +13,6 @@ returns-in-Ok-None c =
 pub returns-in-Err-Defect : goal.returns-in-Err-Defect
 returns-in-Err-Defect c =
     not_dumped c.args.words.now c.args.arena c.args.root (Image c.args.arena c.in-Err-Defect.defect) c.fault_line-in-Err-Defect.result (refl, rw c.in-Err-Defect.field-0-is at c.in-Err-Defect.ensures.defect) c.fault_line-in-Err-Defect.ensures
+
+pub dump_block-requires-clause-block : goal.dump_block-requires-clause-block
+dump_block-requires-clause-block c = rw c.in-Ok-Some.field-0-is at c.in-Ok-Some.ensures.block

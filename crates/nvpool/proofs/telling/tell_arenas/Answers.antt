@@ -6,13 +6,13 @@ use Rattle.image_defects.specs.Defects.{IsFirstDefect}
 use Rattle.image_runs.specs.Checks.{HasUnsoundFrom, IsOwnDefect}
 use Rattle.image_runs.proofs.Faults.{wider}
 use Rattle.map_text.specs.Pieces.{Adds}
-use Rattle.nvpool.specs.Telling.{IsToldAs, front_of}
+use Rattle.nvpool.specs.Telling.{AreTold, IsToldAs, front_of}
 use Rattle.nvpool.proofs.Told.{told_none, told_more}
 use Rattle.nvpool.proofs.telling.tell_arenas.Goals as goal
 
 pub loop-arena-init : goal.loop-arena-init
 loop-arena-init c = record {
-  told = subst (λ (t : List ℕ). Adds _ (front_of c.args.form c.args.header.now) t) (sym c.in-Ok.ensures) (told_none c.args.form c.args.words.now c.args.header.now (front_of c.args.form c.args.header.now));
+  told = subst (Adds (AreTold c.args.form c.args.words.now c.args.header.now 0) (front_of c.args.form c.args.header.now)) (sym c.in-Ok.ensures) (told_none c.args.form c.args.words.now c.args.header.now (front_of c.args.form c.args.header.now));
   sound = λ k below. absurd (omega arith);
 }
 
