@@ -1,4 +1,0 @@
-pub mod Shapes
-pub mod Cells
-pub mod Arenas
-pub mod Page
