@@ -1,6 +1,0 @@
-pub mod Causes
-pub mod Meaning
-pub mod Telling
-pub mod Dumping
-pub mod Command
-pub mod Ends
