@@ -1,0 +1,9 @@
+pub mod Premises
+pub mod Granules
+pub mod FreeRows
+pub mod Extents
+pub mod SlabFills
+pub mod Totals
+pub mod Exact
+pub mod Requests
+pub mod RootBlocks
