@@ -196,25 +196,29 @@ module _ (words : List ℕ) (image : IsGcExactImage words) where
       let size : t.large start ≡ count = large_in book words start log ∙ ap large_of here in
       let at : start_of next ≡ start = ap start_of same in
       let two : 2 ≤ count = ((live_extents (granules_in words) words (chunks_of words) (omega (arith, image.formed.header.valid.valid.greatest)) image.formed.log).each start (extent.Large count) here).some in
-      let named = large_named image start (omega (arith, size, two)) in
-      (is.from, record {
-        adopted = is.read;
-        from = omega (arith, is.live.at_least, at);
-        between = none_between book is.from start log (λ s low high. is.live.least s low (omega (arith, high, at)));
-        root = named.0;
-        named = named.1 ∙ ap (λ n. Some (record { at = 16384 * start; size = 16384 * n })) size;
-        many = two;
-      })
+      let named = large_named image start (omega (arith, size, two)) in (
+        is.from,
+        record {
+          adopted = is.read;
+          from = omega (arith, is.live.at_least, at);
+          between = none_between book is.from start log (λ s low high. is.live.least s low (omega (arith, high, at)));
+          root = named.0;
+          named = named.1 ∙ ap (λ n. Some (record { at = 16384 * start; size = 16384 * n })) size;
+          many = two;
+        },
+      )
 
   pub next_slab : (book : Book) (x : Indexes) (next : LogEntry) (start class : ℕ) → IsBookOf book words → next ≡ Slab start → IsNextExtent words x next → gc_slabs words start ≡ Some class → (from : ℕ) × IsNextSlab b m from x start class
   next_slab book x next start class log same is slab =
-      let at : start_of next ≡ start = ap start_of same in
-      (is.from, record {
-        adopted = is.read;
-        from = omega (arith, is.live.at_least, at);
-        between = none_between book is.from start log (λ s low high. is.live.least s low (omega (arith, high, at)));
-        slab = slab;
-      })
+      let at : start_of next ≡ start = ap start_of same in (
+        is.from,
+        record {
+          adopted = is.read;
+          from = omega (arith, is.live.at_least, at);
+          between = none_between book is.from start log (λ s low high. is.live.least s low (omega (arith, high, at)));
+          slab = slab;
+        },
+      )
 
   pub slab_says : (x : Indexes) (next : LogEntry) (start : ℕ) → next ≡ Slab start → IsNextExtent words x next → is_slab words start ≡ true
   slab_says x next start same is =

@@ -1,11 +1,26 @@
 // What is told of a trace.
-ghost use Rattle.std.specs.Prelude.{◌<◌, ◌^◌, length};
+ghost use Rattle.std.specs.Prelude.{◌≡◌, ◌<◌, ◌*◌, ◌^◌, IfOk, length};
+ghost use Rattle.pmem_lines.specs.Pmem.{IsZeroed};
+ghost use Rattle.pool_layout.specs.Layout.{layout_of};
+ghost use Rattle.trace_text.specs.Grammar.{IsPool};
 
 use crate::traces::{FIRST_BLOCK, MORPH, trace_of};
 use gc_runs::run_gc_calls;
-use pmem_lines::SimPmem;
+use pmem_lines::{OutOfMemory, SimPmem};
+use pool_layout::layout_of;
 use std::alloc::Global;
 use std::test::Fail;
+use trace_text::PoolSize;
+
+// A new device for an arena of a pool of version 1.
+fn device_for(alloc: Global, pool: PoolSize) -> Result<SimPmem, OutOfMemory>
+    requires pool { IsPool pool }
+    requires first { pool.version ≡ 1 }
+    ensures { IfOk result (λ device. IsZeroed device (256 * pool.granules) (layout_of pool.version).room) }
+{
+    let room = layout_of(pool.version).room;
+    SimPmem::zeroed(alloc, 256 * pool.granules, room)
+}
 
 // The report of the trace of one arena.
 fn report_of(alloc: Global, text: &[u8]) -> Result<Vec<u8>, Fail>
@@ -13,7 +28,7 @@ fn report_of(alloc: Global, text: &[u8]) -> Result<Vec<u8>, Fail>
 {
     let trace = trace_of(alloc, text)?;
     let mut told = Vec::new(alloc);
-    let device = SimPmem::zeroed(alloc, 256 * trace.granules, 2048)?;
+    let device = device_for(alloc, trace.pool())?;
     if trace.arenas > 0 {
         let _device = run_gc_calls(alloc, &trace, 0, device, &mut told)?;
     }
