@@ -115,7 +115,7 @@ ends() {
 }
 
 all_ends() {
-    local usage='usage: nvheap replay, image, check, recover, crash A K SEED, gen N SEED, migrate, dict, dict-crash K SEED, serve'
+    local usage='usage: nvheap replay, image, check, recover, crash A K SEED, gen N SEED, migrate, dict, dict-crash K SEED, serve, gc, gc-crash A K SEED'
     meet "" /dev/null
     ends "no words" 1 "$usage"
     meet "" /dev/null --help

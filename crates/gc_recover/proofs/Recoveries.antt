@@ -1,13 +1,13 @@
 -- A device that recovery made exact, from what its steps say.
 use Rattle.std.proofs.Common.{◌≡◌, ◌≤◌, List, ℕ, length, refl, sym, ap, subst, ◌∙◌}
 use Rattle.pmem_lines.specs.declared.event.Event.{Event}
-use Rattle.pmem_lines.specs.Pmem.{PmemState, words_of, began, appended}
+use Rattle.pmem_lines.specs.Pmem.{PmemState, words_of, began, appended, fresh}
 use Rattle.pmem_lines.specs.Events.{CrashOnly}
 use Rattle.pool_layout.specs.Layout.{layout_of}
 use Rattle.pool_layout.specs.Header.{version_in}
 use Rattle.gc_check.specs.Image.{IsGcSoundImage, IsGcExactImage}
 use Rattle.gc_recovery_steps.specs.Recovery.{KeepsGcHeap, KeepsGcSlabs, GcRecovers, IsPart}
-use Rattle.gc_recover.specs.Recovered.{IsGcRecovered}
+use Rattle.gc_recover.specs.Recovered.{IsGcRecovered, IsGcRecoveredDevice}
 
 -- the events of a part that begins a call are those of the call
 events_are : {Stores : List ℕ → List Event → Type 0} {most : ℕ} (old new : PmemState) (part : IsPart (began old) new Stores most) → part.events ≡ new.events
@@ -27,6 +27,16 @@ recovered old new part exact keeps slabs =
       few = subst (λ (es : List Event). length es ≤ (layout_of (version_in (words_of old))).recovery_events) same part.few;
       crash = subst (λ (es : List Event). CrashOnly (words_of old) es (KeepsGcHeap (words_of old))) same part.step.crash;
     }
+
+-- a device that was made with these words
+pub gc_recovered_device : (words : List ℕ) (room : ℕ) (device : PmemState) → IsGcRecovered (fresh words room) device → IsGcRecoveredDevice words device
+gc_recovered_device words room device is = record {
+  base = ap (λ (s : PmemState). s.base) is.state;
+  begins = ap (λ (s : PmemState). s.begins) is.state;
+  quiet = is.quiet;
+  exact = is.exact;
+  keeps = is.keeps;
+}
 
 -- recovery of an arena of version 1 has so few events
 row_few : (version : ℕ) → version ≡ 1 → (layout_of version).recovery_events ≡ 909

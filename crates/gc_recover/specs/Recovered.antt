@@ -26,6 +26,15 @@ pub record IsGcRecovered (old new : PmemState) : Type 0 where
   pub few : length new.events ≤ (layout_of (version_in (words_of old))).recovery_events
   pub crash : CrashOnly (words_of old) new.events (KeepsGcHeap (words_of old))
 
+-- A recovered device of these words: one call began on it, over just these words. It is quiet, and its image is exact with the heap
+-- of these words, in which each block has the words that it has in them.
+pub record IsGcRecoveredDevice (words : List ℕ) (device : PmemState) : Type 0 where
+  pub base : device.base ≡ words
+  pub begins : device.begins ≡ 1
+  pub quiet : IsQuiet device.events
+  pub exact : IsGcExactImage (words_of device)
+  pub keeps : KeepsGcHeap words (words_of device)
+
 -- the image is sound, and so many granules has the memory for an arena of it
 pub record IsPrepared (words : List ℕ) (prepared : Prepared) : Type 0 where
   pub image : IsSoundWith words prepared.image

@@ -3,3 +3,4 @@ pub mod Behind
 pub mod Formatting
 pub mod Made
 pub mod Listing
+pub mod Reported

@@ -8,15 +8,14 @@ use Rattle.pool_layout.specs.Places.{fields_word}
 use Rattle.pool_layout.proofs.Images.{some_granules, word_at-part_of}
 use Rattle.pool_layout.proofs.OneImage.{law_of_no_defect}
 use Rattle.trace_runs.specs.Calls.{calls_of}
-use Rattle.trace_text.proofs.OneMeaning.{law_of_one_trace, law_of_no_refusal}
-use Rattle.trace_crashes.specs.Crash.{HasFewer}
+use Rattle.trace_text.specs.Laws.{LawOfOneText, LawOfNoneOutside}
 use Rattle.dict_text.proofs.OneMeaning.{law_of_one_script, law_of_no_refused_script}
 use Rattle.dict_runs.specs.Crashes.{HasFewer as HasFewerEvents}
 use Rattle.nvheap.specs.declared.cause.Cause.{Cause}
 use Rattle.nvheap.specs.declared.cause.Cause.TheVariants.{Text, Image, Version}
-use Rattle.nvheap.specs.Traces.{HasTrace, RefusesTrace}
+use Rattle.nvheap.specs.Traces.{Grammar, HasTraceOf, RefusesTraceOf}
 use Rattle.nvheap.specs.Checking.{HasSoundArenas, RefusesImage}
-use Rattle.nvheap.specs.Crashing.{RefusesCrash, HasEvents}
+use Rattle.nvheap.specs.Crashing.{Variant, RefusesCrash, HasEvents}
 use Rattle.nvheap.specs.Migrating.{HasSoundFirst, RefusesMigrate}
 use Rattle.nvheap.specs.Scripting.{HasScript, RefusesScript}
 use Rattle.nvheap.specs.ScriptCrashing.{HasScriptEvents, RefusesDictCrash}
@@ -71,28 +70,28 @@ migrate_not_refused input (Version version) has second =
 -- traces
 
 -- a trace has no refused line
-pub trace_not_refused : (input : List ℕ) (why : Cause) → HasTrace input → ¬ (RefusesTrace input why)
-trace_not_refused input (Text (BadLine line)) has refused = law_of_no_refusal input has.pool has.calls line has.trace refused
-trace_not_refused input (Text (NoArena arena arenas)) has refused = refused
-trace_not_refused input (Text (NoEvent event events)) has refused = refused
-trace_not_refused input (Image arena defect) has refused = refused
-trace_not_refused input (Version version) has refused = refused
+pub trace_not_refused : (grammar : Grammar) → LawOfNoneOutside grammar → (input : List ℕ) (why : Cause) → HasTraceOf grammar input → ¬ (RefusesTraceOf grammar input why)
+trace_not_refused grammar none input (Text (BadLine line)) has refused = none input has.pool has.calls line has.trace refused
+trace_not_refused grammar none input (Text (NoArena arena arenas)) has refused = refused
+trace_not_refused grammar none input (Text (NoEvent event events)) has refused = refused
+trace_not_refused grammar none input (Image arena defect) has refused = refused
+trace_not_refused grammar none input (Version version) has refused = refused
 
--- where the trace has the arena, and its calls the event, `crash` refuses nothing
-pub crash_not_refused : (arena event : ℕ) (input : List ℕ) (why : Cause) → HasEvents arena event input → ¬ (RefusesCrash arena event input why)
-crash_not_refused arena event input (Text (BadLine line)) has refused = law_of_no_refusal input has.trace.pool has.trace.calls line has.trace.trace refused
-crash_not_refused arena event input (Text (NoArena number arenas)) has refused =
-    let same = law_of_one_trace input refused.trace.pool has.trace.pool refused.trace.calls has.trace.calls refused.trace.trace has.trace.trace in
+-- where the trace has the arena, and its calls the event, a crash of a variant refuses nothing
+pub crash_not_refused : (v : Variant) → LawOfOneText v.grammar → LawOfNoneOutside v.grammar → (arena event : ℕ) (input : List ℕ) (why : Cause) → HasEvents v arena event input → ¬ (RefusesCrash v arena event input why)
+crash_not_refused v one none arena event input (Text (BadLine line)) has refused = none input has.trace.pool has.trace.calls line has.trace.trace refused
+crash_not_refused v one none arena event input (Text (NoArena number arenas)) has refused =
+    let same = one input refused.trace.pool has.trace.pool refused.trace.calls has.trace.calls refused.trace.trace has.trace.trace in
     let few : refused.trace.pool.arenas ≡ has.trace.pool.arenas = ap (λ (p : PoolSize). p.arenas) same.0 in
     omega (arith, few, refused.lacks, has.inside)
-crash_not_refused arena event input (Text (NoEvent number events)) has lacks =
-    let same = law_of_one_trace input lacks.trace.pool has.trace.pool lacks.trace.calls has.trace.calls lacks.trace.trace has.trace.trace in
-    let fewer : HasFewer (header_for has.trace.pool arena) (calls_of arena has.trace.calls) event events =
-    subst (λ (cs : List TraceCall). HasFewer (header_for has.trace.pool arena) (calls_of arena cs) event events) same.1
-    (subst (λ (p : PoolSize). HasFewer (header_for p arena) (calls_of arena lacks.trace.calls) event events) same.0 lacks.fewer) in
-    omega (arith, fewer.lacks, fewer.is_all, has.enough fewer.stages fewer.run)
-crash_not_refused arena event input (Image number defect) has refused = refused
-crash_not_refused arena event input (Version version) has refused = refused
+crash_not_refused v one none arena event input (Text (NoEvent number events)) has lacks =
+    let same = one input lacks.trace.pool has.trace.pool lacks.trace.calls has.trace.calls lacks.trace.trace has.trace.trace in
+    let run : v.IsRun (header_for has.trace.pool arena) (calls_of arena has.trace.calls) lacks.stages =
+    subst (λ (cs : List TraceCall). v.IsRun (header_for has.trace.pool arena) (calls_of arena cs) lacks.stages) same.1
+    (subst (λ (p : PoolSize). v.IsRun (header_for p arena) (calls_of arena lacks.trace.calls) lacks.stages) same.0 lacks.run) in
+    omega (arith, lacks.lacks, lacks.is_all, has.enough lacks.stages run)
+crash_not_refused v one none arena event input (Image number defect) has refused = refused
+crash_not_refused v one none arena event input (Version version) has refused = refused
 
 -- scripts
 

@@ -3,8 +3,11 @@ use Rattle.std.proofs.Common.{◌≡◌, ◌==◌, ℕ, ◌+◌, ◌*◌, List, 
 use Rattle.nvheap.proofs.Common.{decimal, decimal_injective}
 use Rattle.nvheap.specs.declared.cause.Cause.{Cause}
 use Rattle.nvheap.specs.declared.command.Command.{Command}
-use Rattle.nvheap.specs.declared.command.Command.TheVariants.{Replay, Image, Check, Recover, Crash, Gen, Migrate, Dict, DictCrash, Serve}
+use Rattle.nvheap.specs.declared.command.Command.TheVariants.{Replay, Image, Check, Recover, Crash, Gen, Migrate, Dict, DictCrash, Serve, Gc, GcCrash}
+use Rattle.trace_text.specs.Grammar.{trace_lines, still_lines}
+use Rattle.trace_text.proofs.OneMeaning.{law_of_one_trace, law_of_no_refusal, law_of_one_still_trace, law_of_no_still_refusal}
 use Rattle.nvheap.specs.Meaning.{Meaning}
+use Rattle.nvheap.specs.Crashing.{log_variant, gc_variant}
 use Rattle.nvheap.specs.Command.{row_of, meaning_of, AreNumbers, IsCommand, IsNoCommand, IsSaid}
 use Rattle.nvheap.proofs.Refusals.{trace_not_refused, image_not_refused, crash_not_refused, migrate_not_refused, script_not_refused, dict_crash_not_refused}
 
@@ -27,6 +30,8 @@ command_by k numbers =
     if k == 1129 then Some Dict else
     if k == 2665 then Some (DictCrash (get_or numbers 0 0) (get_or numbers 1 0)) else
     if k == 1381 then Some Serve else
+    if k == 611 then Some Gc else
+    if k == 2147 then Some (GcCrash (get_or numbers 0 0) (get_or numbers 1 0) (get_or numbers 2 0)) else
     None
 
 -- it is the one whose text and numbers they are
@@ -41,19 +46,23 @@ back Migrate = refl
 back Dict = refl
 back (DictCrash event seed) = refl
 back Serve = refl
+back Gc = refl
+back (GcCrash arena event seed) = refl
 
 -- what a command accepts it does not refuse
 pub settled : (command : Command) (input : List ℕ) (why : Cause) → (meaning_of command).accepts input → ¬ ((meaning_of command).refuses input why)
-settled Replay input why has = trace_not_refused input why has
-settled Image input why has = trace_not_refused input why has
+settled Replay input why has = trace_not_refused trace_lines law_of_no_refusal input why has
+settled Image input why has = trace_not_refused trace_lines law_of_no_refusal input why has
 settled Check input why has = image_not_refused input why has
 settled Recover input why has = image_not_refused input why has
-settled (Crash arena event seed) input why has = crash_not_refused arena event input why has
+settled (Crash arena event seed) input why has = crash_not_refused log_variant law_of_one_trace law_of_no_refusal arena event input why has
 settled (Gen count seed) input why has = λ refused. refused
 settled Migrate input why has = migrate_not_refused input why has
 settled Dict input why has = script_not_refused input why has
 settled (DictCrash event seed) input why has = dict_crash_not_refused event input why has
-settled Serve input why has = trace_not_refused input why has
+settled Serve input why has = trace_not_refused trace_lines law_of_no_refusal input why has
+settled Gc input why has = trace_not_refused still_lines law_of_no_still_refusal input why has
+settled (GcCrash arena event seed) input why has = crash_not_refused gc_variant law_of_one_still_trace law_of_no_still_refusal arena event input why has
 
 -- one command
 

@@ -1,18 +1,19 @@
 -- The words of the program.
 use Rattle.std.specs.Prelude.{◌≡◌, ℕ, ◌<◌, ◌≤◌, ◌^◌, List, [], ◌∷◌, map, decimal, codes}
 use Rattle.nvheap.specs.declared.command.Command.{Command}
-use Rattle.nvheap.specs.declared.command.Command.TheVariants.{Replay, Image, Check, Recover, Crash, Gen, Migrate, Dict, DictCrash, Serve}
+use Rattle.nvheap.specs.declared.command.Command.TheVariants.{Replay, Image, Check, Recover, Crash, Gen, Migrate, Dict, DictCrash, Serve, Gc, GcCrash}
 use Rattle.nvheap.specs.Meaning.{Meaning}
 use Rattle.nvheap.specs.Replaying.{replaying}
 use Rattle.nvheap.specs.Imaging.{imaging}
 use Rattle.nvheap.specs.Checking.{checking}
 use Rattle.nvheap.specs.Recovering.{recovering}
-use Rattle.nvheap.specs.Crashing.{crashing}
+use Rattle.nvheap.specs.Crashing.{log_variant, gc_variant, crashing}
 use Rattle.nvheap.specs.Generating.{generating}
 use Rattle.nvheap.specs.Migrating.{migrating}
 use Rattle.nvheap.specs.Scripting.{scripting}
 use Rattle.nvheap.specs.ScriptCrashing.{script_crashing}
 use Rattle.nvheap.specs.Serving.{serving}
+use Rattle.nvheap.specs.GcReporting.{gc_reporting}
 
 -- a command: its first word, the numbers behind it and which they may be, and what it means
 pub record Row : Type 1 where
@@ -31,12 +32,14 @@ row_of Replay = alone (codes "replay") replaying
 row_of Image = alone (codes "image") imaging
 row_of Check = alone (codes "check") checking
 row_of Recover = alone (codes "recover") recovering
-row_of (Crash arena event seed) = record { text = codes "crash"; numbers = arena ∷ event ∷ seed ∷ []; fits = arena < 16; meaning = crashing arena event seed }
+row_of (Crash arena event seed) = record { text = codes "crash"; numbers = arena ∷ event ∷ seed ∷ []; fits = arena < 16; meaning = crashing log_variant arena event seed }
 row_of (Gen count seed) = record { text = codes "gen"; numbers = count ∷ seed ∷ []; fits = (1 ≤ count) × (count ≤ 1000000); meaning = generating count seed }
 row_of Migrate = alone (codes "migrate") migrating
 row_of Dict = alone (codes "dict") scripting
 row_of (DictCrash event seed) = record { text = codes "dict-crash"; numbers = event ∷ seed ∷ []; fits = Unit {0}; meaning = script_crashing event seed }
 row_of Serve = alone (codes "serve") serving
+row_of Gc = alone (codes "gc") gc_reporting
+row_of (GcCrash arena event seed) = record { text = codes "gc-crash"; numbers = arena ∷ event ∷ seed ∷ []; fits = arena < 16; meaning = crashing gc_variant arena event seed }
 
 -- what a command means
 abbrev pub meaning_of : Command → Meaning

@@ -6,6 +6,7 @@ pub mod Traces
 pub mod Reporting
 pub mod Replaying
 pub mod Serving
+pub mod GcReporting
 pub mod Imaging
 pub mod Checking
 pub mod Recovering

@@ -1,5 +1,6 @@
 -- What `dict-crash K SEED` means.
 use Rattle.std.specs.Prelude.{◌≡◌, ℕ, ◌≤◌, List, true}
+use Rattle.recover.specs.Recovered.{IsRecoveredDevice}
 use Rattle.trace_text.specs.declared.call.Refusal.TheVariants.{BadLine, NoEvent}
 use Rattle.trace_text.specs.declared.call.CrashSide.{CrashSide}
 use Rattle.attach_dict.specs.Dict.{Pair, IsSteadyDict}
@@ -24,7 +25,7 @@ pub record AnswersDictCrash (event seed : ℕ) (input output : List ℕ) (old ne
   pub left : DictLeft
   pub leaves : IsDictCrash script.granules script.calls event seed left
   pub is : output ≡ dict_crash_text left.call left.side left.pairs
-  pub shelf : PutsRecovered left.image 0 old new
+  pub shelf : PutsRecovered IsRecoveredDevice left.image 0 old new
 
 -- the script's calls have fewer events than are asked for
 pub record LacksScriptEvent (input : List ℕ) (asked event events : ℕ) : Type 0 where

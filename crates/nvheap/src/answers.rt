@@ -1,7 +1,9 @@
 // What each command has to say of its input.
 ghost use Rattle.std.specs.Prelude.{◌≡◌, ◌≤◌, ℕ, List, length, IfOk, IfErr, OnErr, IsTrue};
 ghost use Rattle.std.specs.List.{All};
-ghost use Rattle.trace_text.specs.Grammar.{pool_of, IsPool, IsTrace, IsTraceCall, IsRefusedLine};
+ghost use Rattle.trace_text.specs.Grammar.{pool_of, IsPool, IsTrace, IsTraceCall, IsRefusedLine, IsStill, IsStillTrace, IsRefusedStillLine};
+ghost use Rattle.gc_runs.specs.Told.{AreStillCalls};
+ghost use Rattle.trace_text.specs.Texts.{IfBadLine};
 ghost use Rattle.nvheap.specs.Command.{meaning_of};
 ghost use Rattle.nvheap.specs.Inputs.{HasBytes, IsInput, Fits};
 ghost use Rattle.nvheap.specs.Ends.{IsAnswer, CountsImages, IsFaultLine, IsBadLine};
@@ -10,6 +12,8 @@ use crate::cause::{Cause, write_cause};
 use crate::checking::check_answer;
 use crate::command::Command;
 use crate::crashing::crash_answer;
+use crate::gc_crashing::gc_crash_answer;
+use crate::gc_reporting::gc_answer;
 use crate::imaging::image_answer;
 use crate::input::Input;
 use crate::migrating::migrate_answer;
@@ -19,7 +23,7 @@ use crate::scripting::dict_answer;
 use crate::shelf::Shelf;
 use pmem_lines::OutOfMemory;
 use std::alloc::Global;
-use trace_text::{Refusal, TextFault, Trace, read_trace};
+use trace_text::{Refusal, TextFault, Trace, read_still_trace, read_trace};
 
 /// What a command has to say of its input.
 #[derive(Drop)]
@@ -60,6 +64,10 @@ pub(crate) fn answer_to<H: Shelf>(
         (Command::DictCrash { event, seed }, Input::Text(text)) => {
             dict_crash_answer(alloc, text, event, seed, shelf)
         }
+        (Command::Gc, Input::Text(text)) => gc_answer(alloc, text, shelf),
+        (Command::GcCrash { arena, event, seed }, Input::Text(text)) => {
+            gc_crash_answer(alloc, text, arena, event, seed, shelf)
+        }
         _ => unreachable!(),
     }
 }
@@ -75,11 +83,34 @@ pub(crate) fn trace_of(alloc: Global, input: &[u8]) -> Result<Trace, Result<Answ
 {
     match read_trace(alloc, input) {
         Ok(trace) => Ok(trace),
-        Err(TextFault::Memory(fault)) => Err(Err(fault)),
-        Err(TextFault::BadLine { line }) => Err(fault_line(
-            alloc,
-            Cause::Text(Refusal::BadLine { line }),
-        )),
+        Err(fault) => Err(refused_text(alloc, fault)),
+    }
+}
+
+/// The trace without moves that an input says, or the same answer of each command that reads one.
+pub(crate) fn still_trace_of(
+    alloc: Global,
+    input: &[u8],
+) -> Result<Trace, Result<Answer, OutOfMemory>>
+    ensures trace { IfOk result (λ trace. IsStillTrace input.now (pool_of trace) trace.calls.items) }
+    ensures version { IfOk result (λ trace. trace.version ≡ 1) }
+    ensures calls { IfOk result (λ trace. AreStillCalls (pool_of trace) trace.calls.items) }
+    ensures few { IfOk result (λ trace. length trace.calls.items ≤ length input.now) }
+    ensures refused { IfErr result (λ answer. IfOk answer (IsBadLine (IsRefusedStillLine input.now))) }
+{
+    match read_still_trace(alloc, input) {
+        Ok(trace) => Ok(trace),
+        Err(fault) => Err(refused_text(alloc, fault)),
+    }
+}
+
+// What there is to say of a text that was not read: the line that says which line of it is outside the grammar.
+fn refused_text(alloc: Global, fault: TextFault) -> Result<Answer, OutOfMemory>
+    ensures { (IsRefused : ℕ → Type 0) → IfBadLine fault IsRefused → IfOk result (IsBadLine IsRefused) }
+{
+    match fault {
+        TextFault::Memory(fault) => Err(fault),
+        TextFault::BadLine { line } => fault_line(alloc, Cause::Text(Refusal::BadLine { line })),
     }
 }
 

@@ -28,6 +28,11 @@ pub enum Command {
     DictCrash { event: u64, seed: u64 },
     /// Have a server of arenas run a trace, and print its report.
     Serve,
+    /// Run a trace without moves on arenas of the GC variant, and print its report.
+    Gc,
+    /// Run a trace without moves on one arena of the GC variant, from 0 to 15, up to an event, and print the heap that a crash
+    /// leaves there.
+    GcCrash { arena: u32, event: u64, seed: u64 },
 }
 
 const MOST_CALLS: u64 = 1_000_000;
@@ -40,6 +45,7 @@ impl Command {
         match self {
             Command::Replay | Command::Image | Command::Crash { .. } => Some(Kind::Text),
             Command::Dict | Command::DictCrash { .. } | Command::Serve => Some(Kind::Text),
+            Command::Gc | Command::GcCrash { .. } => Some(Kind::Text),
             Command::Check | Command::Recover | Command::Migrate => Some(Kind::Pool),
             Command::Gen { .. } => None,
         }
@@ -55,6 +61,13 @@ pub(crate) fn command_of(words: &[String]) -> Option<Command>
     }
     if words.len() == 4 && is_word(&words[0], "crash") {
         return crash_of(
+            words[1].as_bytes(),
+            words[2].as_bytes(),
+            words[3].as_bytes(),
+        );
+    }
+    if words.len() == 4 && is_word(&words[0], "gc-crash") {
+        return gc_crash_of(
             words[1].as_bytes(),
             words[2].as_bytes(),
             words[3].as_bytes(),
@@ -94,6 +107,9 @@ fn plain_command(word: &String) -> Option<Command>
     if is_word(word, "serve") {
         return Some(Command::Serve);
     }
+    if is_word(word, "gc") {
+        return Some(Command::Gc);
+    }
     None
 }
 
@@ -112,6 +128,20 @@ fn crash_of(arena: &[u8], event: &[u8], seed: &[u8]) -> Option<Command>
     let event = whole_number(event, u64::MAX)?;
     let seed = whole_number(seed, u64::MAX)?;
     Some(Command::Crash {
+        arena: arena as u32,
+        event,
+        seed,
+    })
+}
+
+// The crash of an arena of the GC variant that these three numbers ask for, if they are numbers.
+fn gc_crash_of(arena: &[u8], event: &[u8], seed: &[u8]) -> Option<Command>
+    ensures { MatchOption result (IsNoCommand (codes "gc-crash" ∷ arena.now ∷ event.now ∷ seed.now ∷ [])) (IsCommand (codes "gc-crash" ∷ arena.now ∷ event.now ∷ seed.now ∷ [])) }
+{
+    let arena = whole_number(arena, 15)?;
+    let event = whole_number(event, u64::MAX)?;
+    let seed = whole_number(seed, u64::MAX)?;
+    Some(Command::GcCrash {
         arena: arena as u32,
         event,
         seed,

@@ -6,8 +6,11 @@ ghost use Rattle.pool_layout.specs.Header.{version_in};
 ghost use Rattle.heap_check.specs.Image.{IsSoundImage};
 ghost use Rattle.trace_text.specs.Report.{crash_text};
 ghost use Rattle.trace_runs.specs.Blocks.{blocks_in};
-ghost use Rattle.nvheap.specs.Crashing.{PutsRecovered, crashing};
-ghost use Rattle.nvheap.specs.Ends.{IsAnswer, CountsImages};
+ghost use Rattle.recover.specs.Recovered.{IsRecoveredDevice};
+ghost use Rattle.nvheap.specs.Crashing.{PutsRecovered, log_variant, crashing};
+ghost use Rattle.trace_text.specs.declared.call.Refusal.TheVariants.{NoArena, NoEvent};
+ghost use Rattle.nvheap.specs.declared.cause.Cause.TheVariants.{Text};
+ghost use Rattle.nvheap.specs.Ends.{IsAnswer, CountsImages, IsFaultLine};
 
 use crate::answers::{Answer, fault_line, trace_of};
 use crate::cause::Cause;
@@ -30,8 +33,8 @@ pub(crate) fn crash_answer<H: Shelf>(
     seed: u64,
     shelf: &mut H,
 ) -> Result<Answer, OutOfMemory>
-    ensures answer { IfOk result (IsAnswer (crashing arena event seed) input.now (H.places shelf.old) (H.places shelf.new)) }
-    ensures counts { IfOk result (CountsImages (crashing arena event seed) input.now (H.images shelf.old) (H.images shelf.new)) }
+    ensures answer { IfOk result (IsAnswer (crashing log_variant arena event seed) input.now (H.places shelf.old) (H.places shelf.new)) }
+    ensures counts { IfOk result (CountsImages (crashing log_variant arena event seed) input.now (H.images shelf.old) (H.images shelf.new)) }
     ensures kept { OnErr result (H.places shelf.new ≡ H.places shelf.old) }
 {
     let trace = match trace_of(alloc, input) {
@@ -39,22 +42,31 @@ pub(crate) fn crash_answer<H: Shelf>(
         Err(answer) => return answer,
     };
     if arena >= trace.arenas {
-        return fault_line(
-            alloc,
-            Cause::Text(Refusal::NoArena {
-                arena: u64::from(arena),
-                arenas: u64::from(trace.arenas),
-            }),
-        );
+        return lacks_arena(alloc, arena, trace.arenas);
     }
     match crash(alloc, &trace, arena, event, seed) {
         Ok(crashed) => Ok(Answer::Output(recovered_report(alloc, &crashed, arena, shelf)?)),
-        Err(CrashFault::NoEvent { events }) => fault_line(
-            alloc,
-            Cause::Text(Refusal::NoEvent { event, events }),
-        ),
+        Err(CrashFault::NoEvent { events }) => lacks_event(alloc, event, events),
         Err(CrashFault::Memory(fault)) => Err(fault),
     }
+}
+
+/// The line that says that a trace has so many arenas, and not this one.
+pub(crate) fn lacks_arena(alloc: Global, arena: u32, arenas: u32) -> Result<Answer, OutOfMemory>
+    ensures { IfOk result (IsFaultLine (Text (NoArena arena arenas))) }
+{
+    let refusal = Refusal::NoArena {
+        arena: u64::from(arena),
+        arenas: u64::from(arenas),
+    };
+    fault_line(alloc, Cause::Text(refusal))
+}
+
+/// The line that says that the calls have so many events, and fewer than this.
+pub(crate) fn lacks_event(alloc: Global, event: u64, events: u64) -> Result<Answer, OutOfMemory>
+    ensures { IfOk result (IsFaultLine (Text (NoEvent event events))) }
+{
+    fault_line(alloc, Cause::Text(Refusal::NoEvent { event, events }))
 }
 
 // Recovers the image that a crash left, and reports its heap.
@@ -67,7 +79,7 @@ fn recovered_report<H: Shelf>(
     requires sound { IsSoundImage crashed.now.image.items }
     requires arena { arena < 16 }
     ensures text { IfOk result (λ text. text.items ≡ crash_text crashed.now.call crashed.now.side (blocks_in crashed.now.image.items)) }
-    ensures put { IfOk result (λ _. PutsRecovered crashed.now.image.items arena (H.places shelf.old) (H.places shelf.new)) }
+    ensures put { IfOk result (λ _. PutsRecovered IsRecoveredDevice crashed.now.image.items arena (H.places shelf.old) (H.places shelf.new)) }
     ensures images { OnOk result (H.images shelf.new ≡ risen (H.images shelf.old) 1) }
     ensures kept { OnErr result (H.places shelf.new ≡ H.places shelf.old) }
 {

@@ -1,13 +1,13 @@
 // What the program does between its words and its exit code: it replays allocation traces on the arenas of a pool over
 // simulated persistent memory, or has a server of arenas serve them, and prints journals and heaps, it generates such work and
 // prints what it came to, it writes the pool's image, it shows the heap that recovery makes of a crash at a chosen event, it
-// checks, recovers and migrates the image of a pool, and it runs scripts of a dictionary and shows what a crash leaves of one.
+// checks, recovers and migrates the image of a pool, it does the same of traces on arenas of the GC variant, and it runs scripts of a dictionary and shows what a crash leaves of one.
 //
 // `run` does all of it, over traits for the outside: a source of bytes, a sink for bytes, a gate and a shelf of
 // devices. Its contract is what the program promises: `specs/Ends.antt` says how a run ends by what a command means, and
 // the table of `specs/Command.antt` has the meaning of each. The program's `main` makes the real source, sink, gate and
 // shelf, and calls `run`; those in memory are for tests. No rule of the heap stands here: the calls of a trace are made by
-// `trace_workers`, `serve_runs` and `trace_runs`, those of generated work are drawn by `trace_gen`, those of a script are made by
+// `trace_workers`, `serve_runs`, `trace_runs` and `gc_runs`, those of generated work are drawn by `trace_gen`, those of a script are made by
 // `dict_runs`, images are checked, recovered and migrated by `image_runs`, text is read and written by `trace_text` and
 // `dict_text`, memory comes from `pmem_lines`.
 #![tactic(auto)]
@@ -18,6 +18,8 @@ mod cause;
 mod checking;
 mod command;
 mod crashing;
+mod gc_crashing;
+mod gc_reporting;
 mod generating;
 mod imaging;
 mod input;

@@ -7,6 +7,7 @@ ghost use Rattle.attach_dict.specs.Dict.{IsSteadyDict};
 ghost use Rattle.dict_text.specs.Calls.{calls_of, HasValues};
 ghost use Rattle.dict_runs.specs.Printing.{IsCrashText};
 ghost use Rattle.dict_runs.specs.Watching.{HasSteadyDict};
+ghost use Rattle.recover.specs.Recovered.{IsRecoveredDevice};
 ghost use Rattle.nvheap.specs.Crashing.{PutsRecovered};
 ghost use Rattle.nvheap.specs.ScriptCrashing.{IsMapReport, script_crashing};
 ghost use Rattle.nvheap.specs.Ends.{IsAnswer, CountsImages};
@@ -63,7 +64,7 @@ fn recovered_map<H: Shelf>(
     requires values { HasValues script.now }
     requires call { crashed.now.call ≤ length script.now.calls.items }
     ensures text { IfOk result (λ text. IsMapReport crashed.now (calls_of script.now) text.items) }
-    ensures put { IfOk result (λ _. PutsRecovered crashed.now.image.items 0 (H.places shelf.old) (H.places shelf.new)) }
+    ensures put { IfOk result (λ _. PutsRecovered IsRecoveredDevice crashed.now.image.items 0 (H.places shelf.old) (H.places shelf.new)) }
     ensures images { OnOk result (H.images shelf.new ≡ risen (H.images shelf.old) 1) }
     ensures kept { OnErr result (H.places shelf.new ≡ H.places shelf.old) }
 {

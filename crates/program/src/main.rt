@@ -28,7 +28,7 @@ fn complaint(status: Status) -> Option<&'static str> {
     match status {
         Status::Done | Status::Refused => None,
         Status::Usage => Some(
-            "usage: nvheap replay, image, check, recover, crash A K SEED, gen N SEED, migrate, dict, dict-crash K SEED, serve",
+            "usage: nvheap replay, image, check, recover, crash A K SEED, gen N SEED, migrate, dict, dict-crash K SEED, serve, gc, gc-crash A K SEED",
         ),
         Status::ReadFault => Some("read fault"),
         Status::WriteFault => Some("write fault"),

@@ -3,9 +3,10 @@
 // Here are long traces that several tests take, in short, as `expanded` of `worked_runs` reads them. `worked` has the tables of
 // `worked_runs`, `thresholds` how full a slab may be that takes another class, `payload` words that are written, `arenas`
 // traces of several arenas and threads, `logs` traces that fill an arena's log, `crashes` a crash at every event of some
-// calls, and `generated` generated work.
+// calls, `gc_variant` arenas of the GC variant, and `generated` generated work.
 mod arenas;
 mod crashes;
+mod gc_variant;
 mod generated;
 mod logs;
 mod payload;

@@ -14,7 +14,7 @@ pool 1 16
 0 0 m 2 1000
 0 0 f 1
 0 0 m {3..10} 1000
-$0 replay, serve
+$0 replay, serve, gc
 arena 0 calls 12
 0 m 0 131072 placed 65536 131072
 0 m 1 64 placed 198656 64
@@ -35,7 +35,7 @@ pool 1 16
 0 0 m 0 131072
 0 0 m 1 64
 0 0 m 2 1000
-$0 replay, serve
+$0 replay, serve, gc
 arena 0 calls 3
 0 m 0 131072 placed 65536 131072
 0 m 1 64 placed 198656 64
@@ -60,7 +60,7 @@ pool 1 16
 0 0 m 5 1000
 0 0 f 3
 0 0 m 5 1000
-$0 replay, serve
+$0 replay, serve, gc
 arena 0 calls 12
 0 m 0 131072 placed 65536 131072
 0 m 1 64 placed 198656 64
@@ -95,7 +95,7 @@ pool 1 16
 0 0 m 9 128
 0 0 m 10 16
 0 0 m 11 32
-$0 replay, serve
+$0 replay, serve, gc
 arena 0 calls 15
 0 m 1 6144 placed 67584 6144
 0 m 2 6144 placed 73728 6144
@@ -132,7 +132,7 @@ pool 1 16
 0 0 f 5
 0 0 m 7 16384
 0 0 m 8 14336
-$0 replay, serve
+$0 replay, serve, gc
 arena 0 calls 13
 0 m 0 131072 placed 65536 131072
 0 m {1..6} 6144 placed {198656 by 6144} 6144
@@ -160,7 +160,7 @@ pool 1 16
 0 0 f 11
 0 0 m 12 16384
 0 0 m 13 14336
-$0 replay, serve
+$0 replay, serve, gc
 arena 0 calls 19
 0 m {1..6} 6144 placed {67584 by 6144} 6144
 0 m {7..11} 3072 placed {133120 by 3072} 3072

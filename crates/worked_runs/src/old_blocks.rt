@@ -12,7 +12,7 @@ pool 1 16
 0 0 f 2
 0 0 m 5 1000
 0 0 m 6 64
-$0 replay, serve
+$0 replay, serve, gc
 arena 0 calls 9
 0 m 0 131072 placed 65536 131072
 0 m 1 64 placed 198656 64
@@ -123,7 +123,7 @@ pool 1 16
 0 0 f 4
 0 0 f 1
 0 0 m 5 65536
-$0 replay, serve
+$0 replay, serve, gc
 arena 0 calls 9
 0 m 0 131072 placed 65536 131072
 0 m 1 64 placed 198656 64

@@ -10,7 +10,7 @@ pub const PAYLOAD: &str = "pool 1 16
 0 0 r 1 1
 0 0 w 1 2 5
 0 0 r 9 0
-$0 replay, serve
+$0 replay, serve, gc
 arena 0 calls 5
 0 m 1 16 placed 67584 16
 0 w 1 1 18446744073709551615 wrote
@@ -59,7 +59,7 @@ $events 0 106
 pool 1 16
 0 0 r 5 0
 0 0 w 5 0 1
-$0 replay, serve
+$0 replay, serve, gc
 arena 0 calls 2
 0 r 5 0 empty
 0 w 5 0 1 empty
@@ -79,7 +79,7 @@ pool 1 16
 0 0 r 4095 4095
 0 0 r 4095 4094
 0 0 r 4095 4096
-$0 replay, serve
+$0 replay, serve, gc
 arena 0 calls 12
 0 m 4095 20000 placed 65536 32768
 0 w 4096 0 1 no root
@@ -104,7 +104,7 @@ pool 1 16
 0 0 m 2 16
 0 0 r 2 0
 0 0 r 2 1
-$0 replay, serve
+$0 replay, serve, gc
 arena 0 calls 7
 0 m 1 16 placed 67584 16
 0 w 1 0 7 wrote
@@ -127,7 +127,7 @@ pool 2 64
 0 0 r 1 0
 0 0 f 2
 1 1 f 0
-$0 replay, serve
+$0 replay, serve, gc
 arena 0 calls 6
 0 m 0 4096 placed 67584 4096
 0 m 1 40 placed 71712 48
@@ -147,21 +147,21 @@ heap 1
 ----
 pool 1 16
 0 0 w 1 0
-$2 replay, serve
+$2 replay, serve, gc
 bad line 2
 ----
 pool 1 16
 0 0 r 1
-$2 replay, serve
+$2 replay, serve, gc
 bad line 2
 ----
 pool 1 16
 0 0 r 1 4294967296
-$2 replay, serve
+$2 replay, serve, gc
 bad line 2
 ----
 pool 1 16
 0 0 w 1 0 18446744073709551616
-$2 replay, serve
+$2 replay, serve, gc
 bad line 2
 ";

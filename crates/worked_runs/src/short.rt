@@ -3,7 +3,7 @@
 /// Under `crash` the store of a root that no fence made durable is kept with the seeds 0 and 7, and with seed 2 it is not.
 pub const SHORT: &str = "pool 1 16
 0 0 m 5 100
-$0 replay, serve
+$0 replay, serve, gc
 arena 0 calls 1
 0 m 5 100 placed 67584 112
 heap 1
@@ -25,7 +25,7 @@ $1 crash, crash 0 1, crash 0 1 0 0, crash 16 0 0, crash 00 0 0, crash 0 -1 0, cr
 ----
 # one call
 pool 1 16
-0 0 m 5 100$0 replay, serve
+0 0 m 5 100$0 replay, serve, gc
 arena 0 calls 1
 0 m 5 100 placed 67584 112
 heap 1
@@ -34,7 +34,7 @@ heap 1
 pool 1 16
 0 0 m 1 16
 0 0 m 2 16
-$0 replay, serve
+$0 replay, serve, gc
 arena 0 calls 2
 0 m 1 16 placed 67584 16
 0 m 2 16 placed 67600 16
@@ -45,7 +45,7 @@ $events 0 100
 ----
 pool 1 16
 0 0 m {1..4} 16384
-$0 replay, serve
+$0 replay, serve, gc
 arena 0 calls 4
 0 m 1 16384 placed 67584 16384
 0 m 2 16384 placed 83968 16384
@@ -61,7 +61,7 @@ pool 1 16
 0 0 m {1..4} 16384
 0 0 f 2
 0 0 m 5 16384
-$0 replay, serve
+$0 replay, serve, gc
 arena 0 calls 6
 0 m 1 16384 placed 67584 16384
 0 m 2 16384 placed 83968 16384
@@ -80,7 +80,7 @@ pool 1 16
 0 0 m 1 20000
 0 0 f 0
 0 0 m 2 64
-$0 replay, serve
+$0 replay, serve, gc
 arena 0 calls 4
 0 m 0 20000 placed 65536 32768
 0 m 1 20000 placed 98304 32768
@@ -95,7 +95,7 @@ pool 1 16
 0 0 m 6 100
 0 0 m 7 20000
 0 0 f 5
-$0 replay, serve
+$0 replay, serve, gc
 arena 0 calls 4
 0 m 5 100 placed 67584 112
 0 m 6 100 placed 67696 112
@@ -107,7 +107,7 @@ heap 2
 ----
 pool 1 16
 0 0 m 0 16385
-$0 replay, serve
+$0 replay, serve, gc
 arena 0 calls 1
 0 m 0 16385 placed 65536 32768
 heap 1
@@ -116,7 +116,7 @@ heap 1
 pool 1 16
 0 0 m 0 196608
 0 0 m 1 1
-$0 replay, serve
+$0 replay, serve, gc
 arena 0 calls 2
 0 m 0 196608 placed 65536 196608
 0 m 1 1 no space
@@ -125,7 +125,7 @@ heap 1
 ----
 pool 1 16
 0 0 m 0 196609
-$0 replay, serve
+$0 replay, serve, gc
 arena 0 calls 1
 0 m 0 196609 too large
 heap 0
@@ -138,7 +138,7 @@ pool 1 16
 0 0 m 7 0
 0 0 m 7 196609
 0 0 f 4096
-$0 replay, serve
+$0 replay, serve, gc
 arena 0 calls 7
 0 m 4095 64 placed 67584 64
 0 m 4096 64 no root
@@ -150,24 +150,24 @@ arena 0 calls 7
 heap 1
 4095 67584 64
 ----
-$2 replay, serve
+$2 replay, serve, gc
 bad line 1
 ----
 pool 1 16
 64 0 f 1
-$2 replay, serve
+$2 replay, serve, gc
 bad line 2
 ----
 pool 1 16
 00 0 m 5 1
-$2 replay, serve, image, crash 1 0 0
+$2 replay, serve, gc, image, crash 1 0 0
 bad line 2
 ----
 pool 1 16
 0 0 m 1 64
 0 0 f 1
 0 0 m 2 16385
-$0 replay, serve
+$0 replay, serve, gc
 arena 0 calls 3
 0 m 1 64 placed 67584 64
 0 f 1 freed 67584 64
@@ -240,7 +240,7 @@ pool 1 16
 0 0 f 0
 0 0 f 2
 0 0 m 4 20000
-$0 replay, serve
+$0 replay, serve, gc
 arena 0 calls 7
 0 m 0 20000 placed 65536 32768
 0 m 1 20000 placed 98304 32768

@@ -8,7 +8,7 @@ pub const STACKS: &str = "pool 1 16
 0 0 f 2
 0 0 m 4 64
 0 0 m 5 64
-$0 replay, serve
+$0 replay, serve, gc
 arena 0 calls 7
 0 m 1 64 placed 67584 64
 0 m 2 64 placed 67648 64
@@ -27,7 +27,7 @@ pool 1 16
 0 0 f 2
 0 0 f 1
 0 0 m {5..7} 16384
-$0 replay, serve
+$0 replay, serve, gc
 arena 0 calls 9
 0 m 1 16384 placed 67584 16384
 0 m 2 16384 placed 83968 16384
@@ -49,7 +49,7 @@ pool 1 16
 0 0 m {1..9} 64
 0 0 f {1..9}
 0 0 m 20 64
-$0 replay, serve
+$0 replay, serve, gc
 arena 0 calls 19
 0 m {1..9} 64 placed {67584 by 64} 64
 0 f {1..9} freed {67584 by 64} 64
@@ -62,7 +62,7 @@ pool 1 16
 0 0 f 1
 0 0 f 2
 0 0 m {20..29} 64
-$0 replay, serve
+$0 replay, serve, gc
 arena 0 calls 21
 0 m {1..9} 64 placed {67584 by 64} 64
 0 f 1 freed 67584 64
@@ -80,7 +80,7 @@ heap 17
 ----
 pool 1 16
 0 0 m {1..11} 6000
-$0 replay, serve
+$0 replay, serve, gc
 arena 0 calls 11
 0 m {1..10} 6000 placed {67584 by 6144} 6144
 0 m 11 6000 placed 133120 6144

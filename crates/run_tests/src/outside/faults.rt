@@ -82,6 +82,8 @@ fn tells_that_the_input_is_too_long(rt: HostRuntime) -> Result<(), Fail> {
     is_too_long(&rt, rt.alloc(), "replay", trace, 67_108_865)?;
     let trace = Repeated::new(b'\n', 67_108_865);
     is_too_long(&rt, rt.alloc(), "serve", trace, 67_108_865)?;
+    let trace = Repeated::new(b'\n', 67_108_865);
+    is_too_long(&rt, rt.alloc(), "gc", trace, 67_108_865)?;
     let image = Repeated::new(0, 270_794_753);
     is_too_long(&rt, rt.alloc(), "check", image, 270_794_753)?;
     let image = Repeated::new(0, 270_794_753);

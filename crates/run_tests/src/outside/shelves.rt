@@ -80,6 +80,7 @@ fn a_shelf_that_drops(rt: HostRuntime) -> Result<(), Fail> {
     for (line, input, text) in [
         ("replay", TRACE.as_bytes(), REPORT),
         ("serve", TRACE.as_bytes(), REPORT),
+        ("gc", TRACE.as_bytes(), REPORT),
         ("recover", image.as_slice(), heap),
     ] {
         let mut shelf = DropShelf::new();
