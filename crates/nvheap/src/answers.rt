@@ -3,7 +3,8 @@ ghost use Rattle.std.specs.Prelude.{◌≡◌, ◌≤◌, ℕ, List, length, IfO
 ghost use Rattle.std.specs.List.{All};
 ghost use Rattle.trace_text.specs.Grammar.{pool_of, IsPool, IsTrace, IsTraceCall, IsRefusedLine, IsStill, IsStillTrace, IsRefusedStillLine};
 ghost use Rattle.gc_runs.specs.Told.{AreStillCalls};
-ghost use Rattle.trace_text.specs.Texts.{IfBadLine};
+ghost use Rattle.trace_text.specs.declared.call.Refusal.TheVariants.{BadLine};
+ghost use Rattle.nvheap.specs.declared.cause.Cause.TheVariants.{Text};
 ghost use Rattle.nvheap.specs.Command.{meaning_of};
 ghost use Rattle.nvheap.specs.Inputs.{HasBytes, IsInput, Fits};
 ghost use Rattle.nvheap.specs.Ends.{IsAnswer, CountsImages, IsFaultLine, IsBadLine};
@@ -83,7 +84,8 @@ pub(crate) fn trace_of(alloc: Global, input: &[u8]) -> Result<Trace, Result<Answ
 {
     match read_trace(alloc, input) {
         Ok(trace) => Ok(trace),
-        Err(fault) => Err(refused_text(alloc, fault)),
+        Err(TextFault::Memory(fault)) => Err(Err(fault)),
+        Err(TextFault::BadLine { line }) => Err(bad_line(alloc, line)),
     }
 }
 
@@ -100,18 +102,16 @@ pub(crate) fn still_trace_of(
 {
     match read_still_trace(alloc, input) {
         Ok(trace) => Ok(trace),
-        Err(fault) => Err(refused_text(alloc, fault)),
+        Err(TextFault::Memory(fault)) => Err(Err(fault)),
+        Err(TextFault::BadLine { line }) => Err(bad_line(alloc, line)),
     }
 }
 
-// What there is to say of a text that was not read: the line that says which line of it is outside the grammar.
-fn refused_text(alloc: Global, fault: TextFault) -> Result<Answer, OutOfMemory>
-    ensures { (IsRefused : ℕ → Type 0) → IfBadLine fault IsRefused → IfOk result (IsBadLine IsRefused) }
+/// One line that says which line of a text is outside its grammar.
+pub(crate) fn bad_line(alloc: Global, line: u64) -> Result<Answer, OutOfMemory>
+    ensures { IfOk result (IsFaultLine (Text (BadLine line))) }
 {
-    match fault {
-        TextFault::Memory(fault) => Err(fault),
-        TextFault::BadLine { line } => fault_line(alloc, Cause::Text(Refusal::BadLine { line })),
-    }
+    fault_line(alloc, Cause::Text(Refusal::BadLine { line }))
 }
 
 /// One line that says why an input is refused.

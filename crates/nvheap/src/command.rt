@@ -59,25 +59,16 @@ pub(crate) fn command_of(words: &[String]) -> Option<Command>
     if words.len() == 1 {
         return plain_command(&words[0]);
     }
-    if words.len() == 4 && is_word(&words[0], "crash") {
-        return crash_of(
+    if words.len() == 3 {
+        return with_two(&words[0], words[1].as_bytes(), words[2].as_bytes());
+    }
+    if words.len() == 4 {
+        return with_three(
+            &words[0],
             words[1].as_bytes(),
             words[2].as_bytes(),
             words[3].as_bytes(),
         );
-    }
-    if words.len() == 4 && is_word(&words[0], "gc-crash") {
-        return gc_crash_of(
-            words[1].as_bytes(),
-            words[2].as_bytes(),
-            words[3].as_bytes(),
-        );
-    }
-    if words.len() == 3 && is_word(&words[0], "gen") {
-        return gen_of(words[1].as_bytes(), words[2].as_bytes());
-    }
-    if words.len() == 3 && is_word(&words[0], "dict-crash") {
-        return dict_crash_of(words[1].as_bytes(), words[2].as_bytes());
     }
     None
 }
@@ -109,6 +100,32 @@ fn plain_command(word: &String) -> Option<Command>
     }
     if is_word(word, "gc") {
         return Some(Command::Gc);
+    }
+    None
+}
+
+// The command that a word and two others say.
+fn with_two(word: &String, first: &[u8], second: &[u8]) -> Option<Command>
+    ensures { MatchOption result (IsNoCommand (string_bytes word.now ∷ first.now ∷ second.now ∷ [])) (IsCommand (string_bytes word.now ∷ first.now ∷ second.now ∷ [])) }
+{
+    if is_word(word, "gen") {
+        return gen_of(first, second);
+    }
+    if is_word(word, "dict-crash") {
+        return dict_crash_of(first, second);
+    }
+    None
+}
+
+// The command that a word and three others say.
+fn with_three(word: &String, first: &[u8], second: &[u8], third: &[u8]) -> Option<Command>
+    ensures { MatchOption result (IsNoCommand (string_bytes word.now ∷ first.now ∷ second.now ∷ third.now ∷ [])) (IsCommand (string_bytes word.now ∷ first.now ∷ second.now ∷ third.now ∷ [])) }
+{
+    if is_word(word, "crash") {
+        return crash_of(first, second, third);
+    }
+    if is_word(word, "gc-crash") {
+        return gc_crash_of(first, second, third);
     }
     None
 }

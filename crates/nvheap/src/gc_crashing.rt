@@ -66,7 +66,8 @@ fn recovered_report<H: Shelf>(
     ensures images { OnOk result (H.images shelf.new ≡ risen (H.images shelf.old) 1) }
     ensures kept { OnErr result (H.places shelf.new ≡ H.places shelf.old) }
 {
-    let device = shelf.take_image(alloc, &crashed.image, room)?;
+    let image: &[u64] = &crashed.image;
+    let device = shelf.take_image(alloc, image, room)?;
     let recovered = match gc_recover(alloc, device) {
         Ok(recovered) => recovered,
         Err((GcFault::Memory(fault), _)) => return Err(fault),

@@ -12,9 +12,8 @@ ghost use Rattle.nvheap.specs.Crashing.{PutsRecovered};
 ghost use Rattle.nvheap.specs.ScriptCrashing.{IsMapReport, script_crashing};
 ghost use Rattle.nvheap.specs.Ends.{IsAnswer, CountsImages};
 
-use crate::answers::{Answer, fault_line};
-use crate::cause::Cause;
-use crate::crashing::room_of;
+use crate::answers::Answer;
+use crate::crashing::{lacks_event, room_of};
 use crate::scripting::script_of;
 use crate::shelf::Shelf;
 use attach_dict::{Dict, OpenFault};
@@ -24,7 +23,6 @@ use pmem_lines::{OutOfMemory, Pmem};
 use recover::{RecoverFault, recover};
 use std::alloc::Global;
 use trace_crashes::CrashFault;
-use trace_text::Refusal;
 
 /// The report of what a crash leaves after an event of the calls of a script. The image is recovered on a device of the shelf,
 /// which is put into place 0; its map is reported.
@@ -45,10 +43,7 @@ pub(crate) fn dict_crash_answer<H: Shelf>(
     };
     match crash_script(alloc, &script, event, seed) {
         Ok(crashed) => Ok(Answer::Output(recovered_map(alloc, &crashed, &script, shelf)?)),
-        Err(CrashFault::NoEvent { events }) => fault_line(
-            alloc,
-            Cause::Text(Refusal::NoEvent { event, events }),
-        ),
+        Err(CrashFault::NoEvent { events }) => lacks_event(alloc, event, events),
         Err(CrashFault::Memory(fault)) => Err(fault),
     }
 }

@@ -5,8 +5,7 @@ ghost use Rattle.dict_text.specs.Calls.{calls_of, HasValues};
 ghost use Rattle.nvheap.specs.Scripting.{scripting};
 ghost use Rattle.nvheap.specs.Ends.{IsAnswer, IsBadLine};
 
-use crate::answers::{Answer, fault_line};
-use crate::cause::Cause;
+use crate::answers::{Answer, bad_line};
 use crate::reporting::GRANULE_LINES;
 use crate::shelf::Shelf;
 use dict_runs::run_script;
@@ -14,7 +13,7 @@ use dict_text::{Script, read_script};
 use pmem_lines::OutOfMemory;
 use pool_layout::layout_of;
 use std::alloc::Global;
-use trace_text::{Refusal, TextFault};
+use trace_text::TextFault;
 
 /// The report of a script, whose calls are made on the dictionary of a device of the shelf. The device is put into place 0.
 pub(crate) fn dict_answer<H: Shelf>(
@@ -48,9 +47,6 @@ pub(crate) fn script_of(alloc: Global, input: &[u8]) -> Result<Script, Result<An
     match read_script(alloc, input) {
         Ok(script) => Ok(script),
         Err(TextFault::Memory(fault)) => Err(Err(fault)),
-        Err(TextFault::BadLine { line }) => Err(fault_line(
-            alloc,
-            Cause::Text(Refusal::BadLine { line }),
-        )),
+        Err(TextFault::BadLine { line }) => Err(bad_line(alloc, line)),
     }
 }

@@ -1,4 +1,3 @@
-use Rattle.std.proofs.Common.{◌∙◌}
 use Rattle.trace_text.specs.Grammar.{IsRefusedStillLine}
 use Rattle.nvheap.proofs.Common.{each_of, pool_of}
 use Rattle.nvheap.specs.GcReporting.{gc_reporting}

@@ -1,7 +1,7 @@
-use Rattle.std.proofs.Common.{◌≡◌, ◌∙◌, ◌∷◌, [], sym, subst, map}
+use Rattle.std.proofs.Common.{◌∙◌, ◌+◌, ◌∷◌, [], sym, subst, map}
 use mathlib.Core.List.{map-append}
 use Rattle.gc_runs.specs.Told.{IsToldBelow}
-use Rattle.gc_runs.proofs.Reported.{told_none, told_more, told_many}
+use Rattle.gc_runs.proofs.Reported.{told_more}
 use Rattle.nvheap.proofs.Common.{pool_of}
 use Rattle.nvheap.proofs.gc_reporting.run_arenas.Goals as goal
 

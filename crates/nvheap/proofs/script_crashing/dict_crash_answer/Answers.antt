@@ -14,9 +14,9 @@ pub returns-in-Err-NoEvent-clause-answer : goal.returns-in-Err-NoEvent-clause-an
 returns-in-Err-NoEvent-clause-answer g c =
     let script = c.in-Ok.script in
     let fewer = rw c.in-Err-NoEvent.field-0-is at c.in-Err-NoEvent.ensures.fault in
-    refused (script_crashing c.args.event c.args.seed) c.args.input.now (g.H.Shelf.places c.args.shelf.now) (Text (NoEvent c.args.event c.in-Err-NoEvent.events)) c.fault_line.result
+    refused (script_crashing c.args.event c.args.seed) c.args.input.now (g.H.Shelf.places c.args.shelf.now) (Text (NoEvent c.args.event c.in-Err-NoEvent.events)) c.lacks_event.result
     (record { script = record { granules = script.granules; calls = calls_of script; script = c.in-Ok.ensures.script }; is_asked = refl; fewer = fewer })
-    c.fault_line.ensures
+    c.lacks_event.ensures
 
 pub returns-in-Ok-crash_script-clause-answer : goal.returns-in-Ok-crash_script-clause-answer
 returns-in-Ok-crash_script-clause-answer g c =
