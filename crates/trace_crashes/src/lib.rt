@@ -15,5 +15,6 @@ mod crashing;
 mod leaving;
 mod seeking;
 
-pub use crashing::{CrashFault, crash};
+pub use arenas::SimArena;
+pub use crashing::{CrashFault, crash, crash_of};
 pub use leaving::{Crashed, has_block, image_of, root_of, side_by};
