@@ -1,11 +1,11 @@
 -- What an arena says of its device, once it has answered a call.
 use Rattle.std.proofs.Common.{◌≡◌, ℕ, ◌<◌, Bool, true, false, if◌then◌else◌, List, length, Option, None, Some, is_some, sym, ap, ◌∙◌, refl, arith, subst}
 use Rattle.pmem_lines.specs.Events.{CrashOnly}
-use Rattle.trace_crashes.proofs.Common.{cond-true, cond-false, eq-eqb, ne_eqb, PmemState, words_of, word_at, version_in, layout_of, root_word, tables_of, Call, Malloc, Free, Write, Read, Move, Reply, Bounds, Machine, Range, root_of, heap, slabs, size_at, bounds_of, HaveSameHeap, ArenaState, call_events, begins_call, Entry, TraceCall, Stage}
+use Rattle.trace_crashes.proofs.Common.{cond-true, cond-false, eq-eqb, ne_eqb, PmemState, words_of, word_at, version_in, layout_of, root_word, tables_of, Call, Malloc, Free, Write, Read, Move, Reply, Bounds, Machine, Range, root_of, heap, slabs, size_at, bounds_of, ArenaState, call_events, begins_call, Entry, TraceCall, Stage}
 use Rattle.heap_model.specs.declared.call.Reply.TheVariants.{Placed, Freed, Wrote, Moved}
 use Rattle.heap_check.specs.State.{HasState}
 use Rattle.image_tables.proofs.Tables.{word_table}
-use Rattle.arena_core.specs.ByCall.{IsLeftBy, IsSteadyLeft}
+use Rattle.arena_core.specs.ByCall.{IsSteadyLeft}
 use Rattle.arena_core.proofs.ByCall.{law_of_crashes}
 use Rattle.arena_journal.specs.Journals.{HasBegun, HasDone, HasAnswered}
 use Rattle.arena_journal.proofs.Journals.{begun_done}

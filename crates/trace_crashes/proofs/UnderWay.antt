@@ -129,7 +129,12 @@ module _ (A : Type 0) (step : Step A) (variant : Variant) (words : List ℕ) (nu
         record {
           some = omega arith;
           before = seeking.stages;
-          run = (first, next, fresh, subst (λ (cs : List TraceCall). Steps A step first cs (seeking.stages ++ last_stage device ∷ []) next) (sym front)
-                (subst (λ (s : Stage). Steps A step first (calls_of number (take (i + 1) calls)) (seeking.stages ++ s ∷ []) next) last steps));
+          run = (
+            first,
+            next,
+            fresh,
+            subst (λ (cs : List TraceCall). Steps A step first cs (seeking.stages ++ last_stage device ∷ []) next) (sym front)
+                (subst (λ (s : Stage). Steps A step first (calls_of number (take (i + 1) calls)) (seeking.stages ++ s ∷ []) next) last steps),
+          );
           leaves = subst (λ (s : Stage). (seed : ℕ) (found : CrashLeft) → IsLeftWithin variant s (many + 1) left seed found → IsLeft variant words 0 (seeking.stages ++ s ∷ []) event seed found) last leaves;
         }

@@ -32,8 +32,8 @@ pub record IsTold (variant : Variant) (call : Call) (reply : Reply) (old new ima
 abbrev pub IsBehindEntry : Variant → PmemState → Entry → Type 0
 IsBehindEntry variant device entry = CrashOnly device.base device.events (IsTold variant entry.call entry.reply device.base (words_of device))
 
--- From one state to another an arena answered a call by this entry, and made this stage of its run. Where the stage has events,
--- the device went through it last.
+-- An arena answered a call by this entry, made this stage of its run, and has this device. Where the stage has events, the device
+-- went through it last.
 pub record IsAnswered (variant : Variant) (device : PmemState) (call : TraceCall) (entry : Entry) (stage : Stage) : Type 0 where
   pub count : length stage.events ≡ (if begins_call call.call then length device.events else 0)
   pub last : 0 < length stage.events → (stage ≡ last_stage device) × IsBehindEntry variant device entry

@@ -76,9 +76,7 @@ pub fn crash_of<A: SimArena>(
             number,
             entry,
             done,
-        } => Ok(left_within::<A>(
-            alloc, &device, &entry, number, done, seed,
-        )?),
+        } => Ok(left_within::<A>(alloc, &device, &entry, number, done, seed)?),
         Sought::Past { events } if event > events => Err(CrashFault::NoEvent { events }),
         Sought::Past { .. } => Ok(left_idle::<A>(alloc, trace, arena)?),
     }

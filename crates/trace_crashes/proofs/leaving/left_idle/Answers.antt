@@ -1,4 +1,4 @@
-use Rattle.std.proofs.Common.{◌≡◌, ◌∙◌, ap, refl, sym, subst}
+use Rattle.std.proofs.Common.{◌∙◌, ap, refl, sym, subst}
 use Rattle.trace_crashes.proofs.Common.{PmemState, words_of}
 use Rattle.trace_crashes.proofs.Crashes.{all_words}
 use Rattle.trace_crashes.proofs.leaving.left_idle.Goals as goal

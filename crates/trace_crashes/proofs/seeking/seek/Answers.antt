@@ -1,4 +1,4 @@
-use Rattle.std.proofs.Common.{◌≡◌, ◌<◌, ◌∙◌, length, get_or, sym, ap, arith}
+use Rattle.std.proofs.Common.{◌≡◌, ◌<◌, ◌∙◌, length, sym, ap, arith}
 use Rattle.trace_crashes.proofs.Common.{Malloc, TraceCall, Stage}
 use Rattle.trace_crashes.proofs.UnderWay.{Seeking-none, Seeking-other, Seeking-here, IsBehindSought-here, IsBehindAll-none}
 use Rattle.trace_crashes.proofs.seeking.seek.Goals as goal
