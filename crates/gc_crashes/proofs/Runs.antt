@@ -1,19 +1,13 @@
 -- The run that an arena's steps make.
 use Rattle.std.proofs.Common.{◌≡◌, ℕ, List, [], ◌∷◌, sym, ap, ◌∙◌, subst}
-use Rattle.pmem_lines.specs.Events.{reading}
-use Rattle.pmem_lines.specs.Pmem.{PmemState, words_of}
+use Rattle.pmem_lines.specs.Pmem.{words_of}
 use Rattle.pool_layout.specs.declared.header.PoolHeader.{PoolHeader}
-use Rattle.heap_model.specs.declared.call.Call.{Call}
-use Rattle.heap_model.specs.declared.call.Call.TheVariants.{Malloc, Free, Write, Read, Move}
-use Rattle.heap_model.specs.declared.call.Reply.{Reply}
 use Rattle.heap_model.specs.Machine.{Bounds, Machine, no_heap}
 use Rattle.heap_model.specs.Placement.{PlacedState, Stacks, bare, IsPlacedStep}
 use Rattle.thread_cache.specs.Stacks.{stacks_of}
 use Rattle.heap_check.specs.Image.{bounds_of}
 use Rattle.gc_check.specs.State.{HasGcState}
 use Rattle.gc_heap.specs.Arena.{GcState}
-use Rattle.gc_heap.specs.Events.{gc_call_events}
-use Rattle.gc_runs.specs.Answered.{HasGcAnswered}
 use Rattle.gc_runs.specs.Arenas.{IsNewGcArena}
 use Rattle.gc_runs.specs.Runs.{IsGcRun, IsGcRunOf}
 use Rattle.gc_runs.proofs.Behind.{words_answered}

@@ -1,5 +1,5 @@
 -- What an arena says of its device, once it has answered a call.
-use Rattle.std.proofs.Common.{◌≡◌, ◌≢◌, ◌⊎◌, inl, ℕ, ◌<◌, if◌then◌else◌, List, length, is_some, sym, ap, ◌∙◌, refl, arith, subst}
+use Rattle.std.proofs.Common.{◌≡◌, ◌⊎◌, inl, ℕ, ◌<◌, if◌then◌else◌, List, length, is_some, sym, ap, ◌∙◌, refl, arith, subst}
 use Rattle.pmem_lines.specs.Events.{CrashOnly}
 use Rattle.pmem_lines.specs.Pmem.{PmemState, words_of}
 use Rattle.pool_layout.specs.Header.{version_in}
@@ -58,7 +58,6 @@ events_done old new (Move from to) reply done = absurd done
 -- images
 
 has_state : (words : List ℕ) → HasGcState words (state_in words)
-unfolding state_in
 has_state words = record { blocks = λ root. refl; slabs = λ start. refl; values = λ root index word is. absurd (cc) }
 
 -- what a crash within a call leaves: a sound image with the same numbers and the heap from before the call or from after it
