@@ -1,2 +1,1 @@
 pub mod Crash
-pub mod Seek

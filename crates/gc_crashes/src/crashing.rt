@@ -8,10 +8,9 @@ ghost use Rattle.trace_crashes.specs.Crash.{left_of};
 ghost use Rattle.gc_runs.specs.Told.{AreStillCalls};
 ghost use Rattle.gc_crashes.specs.Crash.{IsGcCrashOf, IfNoGcEvent};
 
-use crate::leaving::{left_idle, left_within};
-use crate::seeking::{Sought, Stopped, stop_at};
+use crate::arenas::GcSimArena;
 use std::alloc::Global;
-use trace_crashes::{CrashFault, Crashed};
+use trace_crashes::{CrashFault, Crashed, crash_of};
 use trace_text::Trace;
 
 /// What a crash leaves after the first `event` events of the calls of one arena of a trace without moves, as a generator from `seed`
@@ -30,14 +29,5 @@ pub fn gc_crash(
     ensures sound { IfOk result (λ crashed. IsGcSoundImage crashed.image.items) }
     ensures fault { IfErr result (IfNoGcEvent (header_for (pool_of trace.now) arena) (calls_of arena trace.now.calls.items) event) }
 {
-    let Stopped { device, sought } = stop_at(alloc, trace, arena, event)?;
-    match sought {
-        Sought::UnderWay {
-            number,
-            entry,
-            done,
-        } => Ok(left_within(alloc, &device, &entry, number, done, seed)?),
-        Sought::Past { events } if event > events => Err(CrashFault::NoEvent { events }),
-        Sought::Past { .. } => Ok(left_idle(alloc, trace, arena)?),
-    }
+    crash_of::<GcSimArena>(alloc, trace, arena, event, seed)
 }

@@ -9,13 +9,14 @@ use Rattle.pool_layout.proofs.Images.{some_granules, word_at-part_of}
 use Rattle.pool_layout.proofs.OneImage.{law_of_no_defect}
 use Rattle.trace_runs.specs.Calls.{calls_of}
 use Rattle.trace_text.specs.Laws.{LawOfOneText, LawOfNoneOutside}
+use Rattle.trace_crashes.specs.Crash.{HasFewerIn}
 use Rattle.dict_text.proofs.OneMeaning.{law_of_one_script, law_of_no_refused_script}
 use Rattle.dict_runs.specs.Crashes.{HasFewer as HasFewerEvents}
 use Rattle.nvheap.specs.declared.cause.Cause.{Cause}
 use Rattle.nvheap.specs.declared.cause.Cause.TheVariants.{Text, Image, Version}
 use Rattle.nvheap.specs.Traces.{Grammar, HasTraceOf, RefusesTraceOf}
 use Rattle.nvheap.specs.Checking.{HasSoundArenas, RefusesImage}
-use Rattle.nvheap.specs.Crashing.{Variant, RefusesCrash, HasEvents}
+use Rattle.nvheap.specs.Crashing.{Arenas, RefusesCrash, HasEvents}
 use Rattle.nvheap.specs.Migrating.{HasSoundFirst, RefusesMigrate}
 use Rattle.nvheap.specs.Scripting.{HasScript, RefusesScript}
 use Rattle.nvheap.specs.ScriptCrashing.{HasScriptEvents, RefusesDictCrash}
@@ -78,20 +79,20 @@ trace_not_refused grammar none input (Image arena defect) has refused = refused
 trace_not_refused grammar none input (Version version) has refused = refused
 
 -- where the trace has the arena, and its calls the event, a crash of a variant refuses nothing
-pub crash_not_refused : (v : Variant) → LawOfOneText v.grammar → LawOfNoneOutside v.grammar → (arena event : ℕ) (input : List ℕ) (why : Cause) → HasEvents v arena event input → ¬ (RefusesCrash v arena event input why)
-crash_not_refused v one none arena event input (Text (BadLine line)) has refused = none input has.trace.pool has.trace.calls line has.trace.trace refused
-crash_not_refused v one none arena event input (Text (NoArena number arenas)) has refused =
+pub crash_not_refused : (a : Arenas) → LawOfOneText a.grammar → LawOfNoneOutside a.grammar → (arena event : ℕ) (input : List ℕ) (why : Cause) → HasEvents a arena event input → ¬ (RefusesCrash a arena event input why)
+crash_not_refused a one none arena event input (Text (BadLine line)) has refused = none input has.trace.pool has.trace.calls line has.trace.trace refused
+crash_not_refused a one none arena event input (Text (NoArena number arenas)) has refused =
     let same = one input refused.trace.pool has.trace.pool refused.trace.calls has.trace.calls refused.trace.trace has.trace.trace in
     let few : refused.trace.pool.arenas ≡ has.trace.pool.arenas = ap (λ (p : PoolSize). p.arenas) same.0 in
     omega (arith, few, refused.lacks, has.inside)
-crash_not_refused v one none arena event input (Text (NoEvent number events)) has lacks =
+crash_not_refused a one none arena event input (Text (NoEvent number events)) has lacks =
     let same = one input lacks.trace.pool has.trace.pool lacks.trace.calls has.trace.calls lacks.trace.trace has.trace.trace in
-    let run : v.IsRun (header_for has.trace.pool arena) (calls_of arena has.trace.calls) lacks.stages =
-    subst (λ (cs : List TraceCall). v.IsRun (header_for has.trace.pool arena) (calls_of arena cs) lacks.stages) same.1
-    (subst (λ (p : PoolSize). v.IsRun (header_for p arena) (calls_of arena lacks.trace.calls) lacks.stages) same.0 lacks.run) in
-    omega (arith, lacks.lacks, lacks.is_all, has.enough lacks.stages run)
-crash_not_refused v one none arena event input (Image number defect) has refused = refused
-crash_not_refused v one none arena event input (Version version) has refused = refused
+    let fewer : HasFewerIn (a.IsRun (header_for has.trace.pool arena)) (calls_of arena has.trace.calls) event events =
+    subst (λ (cs : List TraceCall). HasFewerIn (a.IsRun (header_for has.trace.pool arena)) (calls_of arena cs) event events) same.1
+    (subst (λ (p : PoolSize). HasFewerIn (a.IsRun (header_for p arena)) (calls_of arena lacks.trace.calls) event events) same.0 lacks.fewer) in
+    omega (arith, fewer.lacks, fewer.is_all, has.enough fewer.stages fewer.run)
+crash_not_refused a one none arena event input (Image number defect) has refused = refused
+crash_not_refused a one none arena event input (Version version) has refused = refused
 
 -- scripts
 

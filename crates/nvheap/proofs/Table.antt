@@ -7,7 +7,7 @@ use Rattle.nvheap.specs.declared.command.Command.TheVariants.{Replay, Image, Che
 use Rattle.trace_text.specs.Grammar.{trace_lines, still_lines}
 use Rattle.trace_text.proofs.OneMeaning.{law_of_one_trace, law_of_no_refusal, law_of_one_still_trace, law_of_no_still_refusal}
 use Rattle.nvheap.specs.Meaning.{Meaning}
-use Rattle.nvheap.specs.Crashing.{log_variant, gc_variant}
+use Rattle.nvheap.specs.Crashing.{log_arenas, gc_arenas}
 use Rattle.nvheap.specs.Command.{row_of, meaning_of, AreNumbers, IsCommand, IsNoCommand, IsSaid}
 use Rattle.nvheap.proofs.Refusals.{trace_not_refused, image_not_refused, crash_not_refused, migrate_not_refused, script_not_refused, dict_crash_not_refused}
 
@@ -55,14 +55,14 @@ settled Replay input why has = trace_not_refused trace_lines law_of_no_refusal i
 settled Image input why has = trace_not_refused trace_lines law_of_no_refusal input why has
 settled Check input why has = image_not_refused input why has
 settled Recover input why has = image_not_refused input why has
-settled (Crash arena event seed) input why has = crash_not_refused log_variant law_of_one_trace law_of_no_refusal arena event input why has
+settled (Crash arena event seed) input why has = crash_not_refused log_arenas law_of_one_trace law_of_no_refusal arena event input why has
 settled (Gen count seed) input why has = λ refused. refused
 settled Migrate input why has = migrate_not_refused input why has
 settled Dict input why has = script_not_refused input why has
 settled (DictCrash event seed) input why has = dict_crash_not_refused event input why has
 settled Serve input why has = trace_not_refused trace_lines law_of_no_refusal input why has
 settled Gc input why has = trace_not_refused still_lines law_of_no_still_refusal input why has
-settled (GcCrash arena event seed) input why has = crash_not_refused gc_variant law_of_one_still_trace law_of_no_still_refusal arena event input why has
+settled (GcCrash arena event seed) input why has = crash_not_refused gc_arenas law_of_one_still_trace law_of_no_still_refusal arena event input why has
 
 -- one command
 

@@ -7,7 +7,7 @@ use Rattle.nvheap.specs.Replaying.{replaying}
 use Rattle.nvheap.specs.Imaging.{imaging}
 use Rattle.nvheap.specs.Checking.{checking}
 use Rattle.nvheap.specs.Recovering.{recovering}
-use Rattle.nvheap.specs.Crashing.{log_variant, gc_variant, crashing}
+use Rattle.nvheap.specs.Crashing.{log_arenas, gc_arenas, crashing}
 use Rattle.nvheap.specs.Generating.{generating}
 use Rattle.nvheap.specs.Migrating.{migrating}
 use Rattle.nvheap.specs.Scripting.{scripting}
@@ -32,14 +32,14 @@ row_of Replay = alone (codes "replay") replaying
 row_of Image = alone (codes "image") imaging
 row_of Check = alone (codes "check") checking
 row_of Recover = alone (codes "recover") recovering
-row_of (Crash arena event seed) = record { text = codes "crash"; numbers = arena ∷ event ∷ seed ∷ []; fits = arena < 16; meaning = crashing log_variant arena event seed }
+row_of (Crash arena event seed) = record { text = codes "crash"; numbers = arena ∷ event ∷ seed ∷ []; fits = arena < 16; meaning = crashing log_arenas arena event seed }
 row_of (Gen count seed) = record { text = codes "gen"; numbers = count ∷ seed ∷ []; fits = (1 ≤ count) × (count ≤ 1000000); meaning = generating count seed }
 row_of Migrate = alone (codes "migrate") migrating
 row_of Dict = alone (codes "dict") scripting
 row_of (DictCrash event seed) = record { text = codes "dict-crash"; numbers = event ∷ seed ∷ []; fits = Unit {0}; meaning = script_crashing event seed }
 row_of Serve = alone (codes "serve") serving
 row_of Gc = alone (codes "gc") gc_reporting
-row_of (GcCrash arena event seed) = record { text = codes "gc-crash"; numbers = arena ∷ event ∷ seed ∷ []; fits = arena < 16; meaning = crashing gc_variant arena event seed }
+row_of (GcCrash arena event seed) = record { text = codes "gc-crash"; numbers = arena ∷ event ∷ seed ∷ []; fits = arena < 16; meaning = crashing gc_arenas arena event seed }
 
 -- what a command means
 abbrev pub meaning_of : Command → Meaning

@@ -7,7 +7,7 @@ ghost use Rattle.heap_check.specs.Image.{IsSoundImage};
 ghost use Rattle.trace_text.specs.Report.{crash_text};
 ghost use Rattle.trace_runs.specs.Blocks.{blocks_in};
 ghost use Rattle.recover.specs.Recovered.{IsRecoveredDevice};
-ghost use Rattle.nvheap.specs.Crashing.{PutsRecovered, log_variant, crashing};
+ghost use Rattle.nvheap.specs.Crashing.{PutsRecovered, log_arenas, crashing};
 ghost use Rattle.trace_text.specs.declared.call.Refusal.TheVariants.{NoArena, NoEvent};
 ghost use Rattle.nvheap.specs.declared.cause.Cause.TheVariants.{Text};
 ghost use Rattle.nvheap.specs.Ends.{IsAnswer, CountsImages, IsFaultLine};
@@ -33,8 +33,8 @@ pub(crate) fn crash_answer<H: Shelf>(
     seed: u64,
     shelf: &mut H,
 ) -> Result<Answer, OutOfMemory>
-    ensures answer { IfOk result (IsAnswer (crashing log_variant arena event seed) input.now (H.places shelf.old) (H.places shelf.new)) }
-    ensures counts { IfOk result (CountsImages (crashing log_variant arena event seed) input.now (H.images shelf.old) (H.images shelf.new)) }
+    ensures answer { IfOk result (IsAnswer (crashing log_arenas arena event seed) input.now (H.places shelf.old) (H.places shelf.new)) }
+    ensures counts { IfOk result (CountsImages (crashing log_arenas arena event seed) input.now (H.images shelf.old) (H.images shelf.new)) }
     ensures kept { OnErr result (H.places shelf.new ≡ H.places shelf.old) }
 {
     let trace = match trace_of(alloc, input) {

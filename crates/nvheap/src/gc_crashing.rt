@@ -5,7 +5,7 @@ ghost use Rattle.gc_check.specs.Image.{IsGcSoundImage};
 ghost use Rattle.gc_recover.specs.Recovered.{IsGcRecoveredDevice};
 ghost use Rattle.gc_runs.specs.Told.{gc_blocks_in};
 ghost use Rattle.trace_text.specs.Report.{crash_text};
-ghost use Rattle.nvheap.specs.Crashing.{PutsRecovered, gc_variant, crashing};
+ghost use Rattle.nvheap.specs.Crashing.{PutsRecovered, gc_arenas, crashing};
 ghost use Rattle.nvheap.specs.Ends.{IsAnswer, CountsImages};
 
 use crate::answers::{Answer, still_trace_of};
@@ -31,8 +31,8 @@ pub(crate) fn gc_crash_answer<H: Shelf>(
     seed: u64,
     shelf: &mut H,
 ) -> Result<Answer, OutOfMemory>
-    ensures answer { IfOk result (IsAnswer (crashing gc_variant arena event seed) input.now (H.places shelf.old) (H.places shelf.new)) }
-    ensures counts { IfOk result (CountsImages (crashing gc_variant arena event seed) input.now (H.images shelf.old) (H.images shelf.new)) }
+    ensures answer { IfOk result (IsAnswer (crashing gc_arenas arena event seed) input.now (H.places shelf.old) (H.places shelf.new)) }
+    ensures counts { IfOk result (CountsImages (crashing gc_arenas arena event seed) input.now (H.images shelf.old) (H.images shelf.new)) }
     ensures kept { OnErr result (H.places shelf.new ≡ H.places shelf.old) }
 {
     let trace = match still_trace_of(alloc, input) {

@@ -16,10 +16,10 @@ pub use Rattle.heap_model.specs.declared.call.Call.TheVariants.{Malloc, Free, Wr
 pub use Rattle.heap_model.specs.declared.call.Entry.{Entry}
 pub use Rattle.heap_model.specs.declared.call.Reply.{Reply}
 pub use Rattle.heap_check.specs.Heap.{heap, slabs, size_at}
-pub use Rattle.heap_check.specs.Image.{bounds_of, IsFormed, IsExactImage, IsSoundImage}
-pub use Rattle.heap_check.specs.State.{HaveSameHeap}
+pub use Rattle.heap_check.specs.Image.{bounds_of, IsFormed}
 pub use Rattle.arena_core.specs.Arena.{ArenaState}
 pub use Rattle.arena_core.specs.Events.{call_events}
+pub use Rattle.arena_journal.specs.Journals.{begins_call}
 pub use Rattle.trace_runs.specs.Arenas.{formatted, bounds_for, IsNewArena, header_for}
 pub use Rattle.trace_runs.specs.Calls.{calls_of}
 pub use Rattle.trace_runs.specs.Runs.{Stage, IsRunOf, IsRun, total_events}

@@ -1,75 +1,45 @@
--- What a crash within the call that a device went through last leaves.
-use Rattle.std.proofs.Common.{◌≡◌, ◌≢◌, ◌↔◌, ℕ, zero, suc, ◌/◌, ◌<◌, ◌≤◌, Bool, IsTrue, List, [], ◌∷◌, ◌++◌, length, take, is_some, sym, ap, ◌∙◌, refl, arith, subst}
-use Rattle.trace_crashes.proofs.Common.{take_all, PmemState, words_of, PoolHeader, version_in, layout_of, root_word, tables_of, Entry, Bounds, root_of, heap, bounds_of, CrashSide, TraceCall, formatted, Stage, IsRunOf}
-use Rattle.pmem_lines.specs.Words.{word_at, words_at}
-use Rattle.pmem_lines.specs.Events.{IsImage}
-use Rattle.pmem_lines.specs.declared.event.Event.{Event}
-use Rattle.arena_core.specs.ByCall.{IsSteadyLeft}
-use Rattle.arena_core.proofs.ByCall.{law_of_crashes}
-use Rattle.trace_crashes.specs.Crash.{calls_up_to, CrashLeft, IsCrashOf, IsLeftWithin, IsLeftIdle, IsSide, crash_image}
-use Rattle.trace_crashes.specs.Seek.{last_stage, IsBehindEntry, IsBehindSought, IsBehindAll}
-use Rattle.trace_crashes.specs.Sides.{side_by}
-use Rattle.trace_crashes.proofs.Changes.{machine_of, HasState-machine_of, HasEffect, has_effect}
-use Rattle.trace_crashes.proofs.Changes.Effect.{Changed, Kept}
-use Rattle.trace_crashes.proofs.Sides.{is_some-told, IsSide-changed, IsSide-same}
-
--- the call changed the heap at its root, which is one of the arena's, or left it
-pub effect_behind : (device : PmemState) (entry : Entry) → IsBehindEntry device entry → HasEffect device.base (words_of device) (bounds_of device.base).roots (root_of entry.call) entry.reply
-effect_behind device entry behind =
-    let m = machine_of device.base in
-    let next = behind.step.each m (HasState-machine_of device.base) in
-    has_effect (bounds_of device.base) device.base (words_of device) m next.0 (HasState-machine_of device.base) next.2 behind.line entry.call entry.reply next.1.step
-    (subst (λ (es : List Event). 0 < length es) behind.events behind.some)
-
--- an image that a crash within it leaves has the heap before it or after it, and its root holds its word
-pub left_behind : (device : PmemState) (entry : Entry) (done : ℕ) (image : List ℕ) → IsBehindEntry device entry → IsImage device.base (take done device.events) image → IsSteadyLeft (root_of entry.call) device.base (words_of device) image
-left_behind device entry done image behind one = law_of_crashes entry.call device.base (words_of device) image (behind.crash.each done image one)
-
--- its root is one of the image's, which has the numbers of the words before
-pub below_left : (device : PmemState) (entry : Entry) (image : List ℕ) → IsBehindEntry device entry → bounds_of image ≡ bounds_of device.base → root_of entry.call < (layout_of (version_in image)).roots
-below_left device entry image behind same = subst (λ (b : Bounds). root_of entry.call < b.roots) (sym same) (effect_behind device entry behind).below
-
--- what is left, by the reply, and by whether the call's root has a block in the image
-pub IsLeftWithin-told : (device : PmemState) (entry : Entry) (number done seed : ℕ) (image : List ℕ) (has : Bool) → IsBehindEntry device entry → IsSteadyLeft (root_of entry.call) device.base (words_of device) image → image ≡ crash_image (last_stage device) done seed →
-    (IsTrue has ↔ (word_at image (root_word (root_of entry.call)) ≢ 0)) → IsLeftWithin (last_stage device) number done seed (record { call = number; side = side_by entry.reply has; image = image })
-IsLeftWithin-told device entry number done seed image has behind left is reads =
-    let root = root_of entry.call in
-    let did = effect_behind device entry behind in
-    let told : is_some (heap (tables_of image) root) ≡ has = is_some-told image root has left.held (below_left device entry image behind left.bounds) reads in
-    let Side : CrashSide → Type 0 = IsSide device.base (words_of device) image in
-    record {
-      call = refl;
-      image = is;
-      steady = left.steady;
-      side = elim did.effect [
-        | Changed given change side ↦ subst Side (side has) (IsSide-changed device.base (words_of device) image root given has change left.heap told)
-        | Kept same side ↦ subst Side (side has) (IsSide-same device.base (words_of device) image same left.heap)
-      ];
-    }
+-- What a crash leaves, by the call under way.
+use Rattle.std.proofs.Common.{◌≡◌, ℕ, zero, suc, ◌/◌, ◌<◌, ◌≤◌, List, [], ◌∷◌, ◌++◌, length, take, sym, ap, ◌∙◌, refl, arith, subst}
+use Rattle.trace_crashes.proofs.Common.{take_all, PmemState, TraceCall, Stage}
+use Rattle.pmem_lines.specs.Words.{words_at}
+use Rattle.trace_crashes.specs.declared.crashing.CrashFault.{CrashFault}
+use Rattle.trace_crashes.specs.declared.crashing.CrashFault.TheVariants.{Memory, NoEvent}
+use Rattle.trace_crashes.specs.Crash.{calls_up_to, Variant, Runs, CrashLeft, IsCrash, IfTooFew, IsLeftWithin, IsLeftIdle}
+use Rattle.trace_crashes.specs.Seek.{last_stage, IsBehindSought, IsBehindAll}
 
 -- the calls up to and with one that has a number
 calls_up_to-some : (n : ℕ) (calls : List TraceCall) → 0 < n → calls_up_to n calls ≡ take n calls
 calls_up_to-some zero calls some = absurd (omega arith)
 calls_up_to-some (suc n) calls some = refl
 
--- what a crash within the call under way leaves is what the crash leaves
-pub IsCrashOf-within : (header : PoolHeader) (calls : List TraceCall) (event seed : ℕ) (device : PmemState) (number done : ℕ) (left : CrashLeft) →
-    IsBehindSought header calls event device number done → IsLeftWithin (last_stage device) number done seed left → IsCrashOf header calls event seed left
-IsCrashOf-within header calls event seed device number done left sought within =
-    let stages : List Stage = sought.before ++ last_stage device ∷ [] in
-    record {
-      stages = stages;
-      run = subst (λ (n : ℕ). IsRunOf header (calls_up_to n calls) stages) (sym within.call) (subst (λ (cs : List TraceCall). IsRunOf header cs stages) (sym (calls_up_to-some number calls sought.some)) sought.run);
-      leaves = sought.leaves seed left within;
-    }
+module _ (variant : Variant) (runs : Runs) (words : List ℕ) (calls : List TraceCall) (event seed : ℕ) where
+  -- what a crash within the call under way leaves is what the crash leaves
+  pub IsCrash-within : (device : PmemState) (number done : ℕ) (left : CrashLeft) → IsBehindSought variant runs words calls event device number done → IsLeftWithin variant (last_stage device) number done seed left →
+      IsCrash variant runs words calls event seed left
+  IsCrash-within device number done left sought within =
+      let stages : List Stage = sought.before ++ last_stage device ∷ [] in
+      record {
+        stages = stages;
+        run = subst (λ (n : ℕ). runs (calls_up_to n calls) stages) (sym within.call) (subst (λ (cs : List TraceCall). runs cs stages) (sym (calls_up_to-some number calls sought.some)) sought.run);
+        leaves = sought.leaves seed left within;
+      }
 
--- with no call under way it is the formatted arena
-pub IsCrashOf-idle : (header : PoolHeader) (calls : List TraceCall) (event seed events : ℕ) (left : CrashLeft) → IsBehindAll header calls event events → event ≤ events → IsLeftIdle (formatted header) 0 left → IsCrashOf header calls event seed left
-IsCrashOf-idle header calls event seed events left behind few idle = record {
-  stages = behind.stages;
-  run = subst (λ (n : ℕ). IsRunOf header (calls_up_to n calls) behind.stages) (sym idle.no_call) behind.run;
-  leaves = behind.leaves few seed left idle;
-}
+  -- with no call under way it is the formatted arena
+  pub IsCrash-idle : (events : ℕ) (left : CrashLeft) → IsBehindAll variant runs words calls event events → event ≤ events → IsLeftIdle words 0 left → IsCrash variant runs words calls event seed left
+  IsCrash-idle events left behind few idle = record {
+    stages = behind.stages;
+    run = subst (λ (n : ℕ). runs (calls_up_to n calls) behind.stages) (sym idle.no_call) behind.run;
+    leaves = behind.leaves few seed left idle;
+  }
+
+-- by what such runs are
+module _ (runs others : Runs) (are : (calls : List TraceCall) (stages : List Stage) → runs calls stages → others calls stages) (calls : List TraceCall) (event : ℕ) where
+  pub IsCrash-by : (variant : Variant) (words : List ℕ) (seed : ℕ) (left : CrashLeft) → IsCrash variant runs words calls event seed left → IsCrash variant others words calls event seed left
+  IsCrash-by variant words seed left crash = record { stages = crash.stages; run = are (calls_up_to left.call calls) crash.stages crash.run; leaves = crash.leaves }
+
+  pub IfTooFew-by : (fault : CrashFault) → IfTooFew runs calls event fault → IfTooFew others calls event fault
+  IfTooFew-by (Memory error) few = tt
+  IfTooFew-by (NoEvent events) few = record { stages = few.stages; run = are calls few.stages few.run; is_all = few.is_all; lacks = few.lacks }
 
 -- all words of a memory
 pub all_words : (words : List ℕ) (n : ℕ) → n ≡ length words → words_at words (0 / 8) n ≡ words

@@ -1,7 +1,8 @@
-mod Changes
+pub mod Changes
 pub mod Common
 pub mod Crashes
-mod Roots
+pub mod Roots
+mod Runs
+pub mod Sides
+pub mod Stages
 mod UnderWay
-mod Sides
-mod Stages

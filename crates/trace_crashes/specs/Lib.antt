@@ -1,3 +1,4 @@
 pub mod Sides
 pub mod Crash
 pub mod Seek
+pub mod Steps

@@ -4,15 +4,14 @@ ghost use Rattle.pmem_lines.specs.Words.{word_at};
 ghost use Rattle.pmem_lines.specs.Events.{IsImage};
 ghost use Rattle.pool_layout.specs.Places.{root_word};
 ghost use Rattle.heap_model.specs.Step.{root_of};
-ghost use Rattle.heap_check.specs.Image.{IsSoundImage};
 ghost use Rattle.trace_text.specs.declared.call.CrashSide.{CrashSide};
 ghost use Rattle.trace_text.specs.Grammar.{pool_of, IsPool};
-ghost use Rattle.trace_runs.specs.Arenas.{header_for, formatted};
+ghost use Rattle.trace_runs.specs.Arenas.{header_for};
 ghost use Rattle.trace_crashes.specs.Sides.{side_of, side_by};
 ghost use Rattle.trace_crashes.specs.Crash.{crash_image, left_of, IsLeftWithin, IsLeftIdle};
 ghost use Rattle.trace_crashes.specs.Seek.{last_stage, IsBehindEntry};
 
-use crate::arenas::format_new;
+use crate::arenas::{SimArena, format_new};
 use heap_model::{Call, Entry, Reply};
 use pmem_lines::{OutOfMemory, Pmem, SimPmem};
 use pool_layout::root_at;
@@ -33,7 +32,7 @@ pub struct Crashed {
 /// What a crash leaves after the first events of the call that a device went through last, as a generator from the seed picks;
 /// the call has this number and this entry. The heap is the one before the call or the one after it, and those differ at
 /// the call's root alone.
-pub(crate) fn left_within(
+pub(crate) fn left_within<A: SimArena>(
     alloc: Global,
     device: &SimPmem,
     entry: &Entry,
@@ -41,9 +40,9 @@ pub(crate) fn left_within(
     done: u32,
     seed: u64,
 ) -> Result<Crashed, OutOfMemory>
-    requires behind { IsBehindEntry device.now entry.now }
+    requires behind { IsBehindEntry A.variant device.now entry.now }
     requires within { done ≤ length device.now.events }
-    ensures { IfOk result (λ crashed. IsLeftWithin (last_stage device.now) number done seed (left_of crashed)) }
+    ensures { IfOk result (λ crashed. IsLeftWithin A.variant (last_stage device.now) number done seed (left_of crashed)) }
 {
     let image = image_of(alloc, device, done, seed)?;
     let has = has_block(&image, root_of(&entry.call));
@@ -55,13 +54,19 @@ pub(crate) fn left_within(
 }
 
 /// What is left with no call under way: an arena as it is formatted.
-pub(crate) fn left_idle(alloc: Global, trace: &Trace, arena: u32) -> Result<Crashed, OutOfMemory>
+pub(crate) fn left_idle<A: SimArena>(
+    alloc: Global,
+    trace: &Trace,
+    arena: u32,
+) -> Result<Crashed, OutOfMemory>
     requires pool { IsPool (pool_of trace.now) }
+    requires can { A.can_format (pool_of trace.now) }
     requires inside { arena < trace.now.arenas }
-    ensures idle { IfOk result (λ crashed. IsLeftIdle (formatted (header_for (pool_of trace.now) arena)) 0 (left_of crashed)) }
-    ensures sound { IfOk result (λ crashed. IsSoundImage crashed.image.items) }
+    ensures idle { IfOk result (λ crashed. IsLeftIdle (A.formatted (header_for (pool_of trace.now) arena)) 0 (left_of crashed)) }
+    ensures whole { IfOk result (λ crashed. A.variant.IsWhole crashed.image.items) }
 {
-    let device = format_new(alloc, trace, arena)?.into_pmem();
+    let made: A = format_new(alloc, trace, arena)?;
+    let device = made.into_device();
     let image = copy_of(alloc, device.words(0, device.size_words()))?;
     Ok(Crashed {
         call: 0,

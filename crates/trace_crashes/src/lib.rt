@@ -5,6 +5,9 @@
 // `specs/Crash.antt` (`IsCrashOf`, `HasFewer`), over the run that the calls make (`IsRunOf` of `trace_runs`), which they settle.
 // The rest of `specs/` is for the functions below it.
 //
+// `crash_of` does the same on an arena of either variant, which is a `SimArena`: it has words of its own when it is formatted,
+// answers calls by its own steps (`specs/Steps.antt`), and has its own word on which images are whole (`Variant`).
+//
 // `image_of` gives such an image of a device alone, and `has_block` and `side_by` say on which side of a call its heap stands.
 //
 // The layer above has a parsed trace, recovers the image, and knows where bytes go.
@@ -15,5 +18,6 @@ mod crashing;
 mod leaving;
 mod seeking;
 
-pub use crashing::{CrashFault, crash};
+pub use arenas::SimArena;
+pub use crashing::{CrashFault, crash, crash_of};
 pub use leaving::{Crashed, has_block, image_of, root_of, side_by};

@@ -4,13 +4,12 @@ ghost use Rattle.std.specs.List.{All};
 ghost use Rattle.pool_layout.specs.declared.header.PoolHeader.{PoolHeader};
 ghost use Rattle.arena_journal.specs.Journals.{begins_call};
 ghost use Rattle.trace_text.specs.Grammar.{pool_of};
-ghost use Rattle.trace_runs.specs.Arenas.{header_for, IsNewArena};
+ghost use Rattle.trace_runs.specs.Arenas.{header_for};
 ghost use Rattle.trace_runs.specs.Calls.{calls_of, CanBeMade, IsArenaOf};
 ghost use Rattle.trace_crashes.specs.Seek.{IsSought, IsReportable};
+ghost use Rattle.trace_crashes.specs.Steps.{runs_from};
 
-use crate::arenas::format_new;
-use arena_core::Arena;
-use arena_journal::answer;
+use crate::arenas::{SimArena, format_new};
 use heap_model::{Call, Entry};
 use pmem_lines::{OutOfMemory, SimPmem};
 use std::alloc::Global;
@@ -40,29 +39,32 @@ pub(crate) struct Stopped {
 
 /// Makes the calls of a new arena of a trace in order, up to and with the one that is under way at an event, counted over
 /// all of them.
-pub(crate) fn stop_at(
+pub(crate) fn stop_at<A: SimArena>(
     alloc: Global,
     trace: &Trace,
     arena: u32,
     event: u64,
 ) -> Result<Stopped, OutOfMemory>
-    requires { IsArenaOf (pool_of trace.now) trace.now.calls.items arena }
-    ensures sought { IfOk result (λ s. IsSought (header_for (pool_of trace.now) arena) (calls_of arena trace.now.calls.items) event s.device s.sought) }
-    ensures next { IfOk result (λ s. IsReportable s.device s.sought) }
+    requires of { IsArenaOf (pool_of trace.now) trace.now.calls.items arena }
+    requires can { A.can_format (pool_of trace.now) }
+    requires each { All (λ call. A.can_answer call.call) trace.now.calls.items }
+    ensures sought { IfOk result (λ s. let header = header_for (pool_of trace.now) arena in IsSought A.variant (runs_from A A.step (A.is_new header)) (A.formatted header) (calls_of arena trace.now.calls.items) event s.device s.sought) }
+    ensures next { IfOk result (λ s. IsReportable A.variant s.device s.sought) }
 {
-    let mut made = format_new(alloc, trace, arena)?;
+    let mut made: A = format_new(alloc, trace, arena)?;
     let sought = seek(&mut made, arena, &trace.calls, event);
     Ok(Stopped {
-        device: made.into_pmem(),
+        device: made.into_device(),
         sought,
     })
 }
 
 // The same on an arena that is there.
-fn seek(made: &mut Arena<SimPmem>, arena: u32, calls: &[TraceCall], event: u64) -> Sought
+fn seek<A: SimArena>(made: &mut A, arena: u32, calls: &[TraceCall], event: u64) -> Sought
     requires each { All CanBeMade calls.now }
-    ensures sought { (header : PoolHeader) → IsNewArena header made.old → IsSought header (calls_of arena calls.now) event made.new.device result }
-    ensures next { IsReportable made.new.device result }
+    requires can { All (λ call. A.can_answer call.call) calls.now }
+    ensures sought { (header : PoolHeader) → A.is_new header made.old → IsSought A.variant (runs_from A A.step (A.is_new header)) (A.formatted header) (calls_of arena calls.now) event (A.state made.new) result }
+    ensures next { IsReportable A.variant (A.state made.new) result }
 {
     let mut left = event;
     let mut events: u64 = 0;
@@ -71,7 +73,7 @@ fn seek(made: &mut Arena<SimPmem>, arena: u32, calls: &[TraceCall], event: u64) 
         if call.arena != arena {
             continue;
         }
-        let entry = answer(made, call.thread, call.call);
+        let entry = made.answer(call);
         number += 1;
         let count = u64::from(events_of(made, &call.call));
         if count > 0 && left <= count {
@@ -88,10 +90,10 @@ fn seek(made: &mut Arena<SimPmem>, arena: u32, calls: &[TraceCall], event: u64) 
 }
 
 // How many events the call has that an arena answered last: those of the device where the call begins one there.
-fn events_of(made: &Arena<SimPmem>, call: &Call) -> u32
-    ensures { result ≡ (if begins_call call.now then length made.now.device.events else 0) }
+fn events_of<A: SimArena>(made: &A, call: &Call) -> u32
+    ensures { result ≡ (if begins_call call.now then length (A.state made.now).events else 0) }
 {
-    let count = made.pmem().event_count();
+    let count = made.device().event_count();
     if begins_call(call) { count } else { 0 }
 }
 

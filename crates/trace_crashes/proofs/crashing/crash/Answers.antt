@@ -1,31 +1,22 @@
-use Rattle.std.proofs.Common.{subst}
 use Rattle.trace_text.specs.Grammar.{pool_of}
-use Rattle.trace_crashes.proofs.Common.{header_for, calls_of}
-use Rattle.trace_crashes.specs.declared.seeking.Sought.{Sought}
-use Rattle.trace_crashes.specs.Crash.{left_of}
-use Rattle.trace_crashes.specs.Seek.{IsSought}
-use Rattle.trace_crashes.proofs.Crashes.{IsCrashOf-within, IsCrashOf-idle}
+use Rattle.heap_check.specs.Image.{IsSteadyImage, IsSoundImage}
+use Rattle.trace_crashes.specs.declared.leaving.Crashed.{Crashed}
+use Rattle.std.proofs.lemmas.Result.{IfOk-weaker, IfErr-weaker}
+use Rattle.trace_crashes.proofs.Common.{header_for, calls_of, formatted}
+use Rattle.trace_crashes.specs.Crash.{log, left_of}
+use Rattle.trace_crashes.proofs.Crashes.{IsCrash-by, IfTooFew-by}
+use Rattle.trace_crashes.proofs.Runs.{run_of}
 use Rattle.trace_crashes.proofs.crashing.crash.Goals as goal
-
-pub returns-in-UnderWay-clause-crashed : goal.returns-in-UnderWay-clause-crashed
-returns-in-UnderWay-clause-crashed c =
-    let trace = c.args.trace.now in
-    let header = header_for (pool_of trace) c.args.arena in
-    let calls = calls_of c.args.arena trace.calls.items in
-    let device = c.in_ok-device.field-0.device in
-    IsCrashOf-within header calls c.args.event c.args.seed device c.in-UnderWay.number c.in-UnderWay.done (left_of c.in_ok-left_within-in-UnderWay.field-0)
-    (subst (λ (sought : Sought). IsSought header calls c.args.event device sought) c.in-UnderWay.is c.in_ok-device.ensures.sought) c.in_ok-left_within-in-UnderWay.ensures
 
 pub returns-clause-crashed : goal.returns-clause-crashed
 returns-clause-crashed c =
-    let trace = c.args.trace.now in
-    let header = header_for (pool_of trace) c.args.arena in
-    let calls = calls_of c.args.arena trace.calls.items in
-    let device = c.in_ok-device.field-0.device in
-    IsCrashOf-idle header calls c.args.event c.args.seed c.in-Past.events (left_of c.in_ok-left_idle-in-Past-2.field-0)
-    (subst (λ (sought : Sought). IsSought header calls c.args.event device sought) c.in-Past.is c.in_ok-device.ensures.sought) c.if-event-events.false c.in_ok-left_idle-in-Past-2.ensures.idle
+    let header = header_for (pool_of c.args.trace.now) c.args.arena in
+    IfOk-weaker _ _ _ (λ crashed. IsCrash-by _ _ (run_of header) _ c.args.event log (formatted header) c.args.seed (left_of crashed)) c.crash_of.ensures.crashed
 
-pub returns-in-UnderWay-clause-sound : goal.returns-in-UnderWay-clause-sound
-returns-in-UnderWay-clause-sound c =
-    let steady = c.in_ok-left_within-in-UnderWay.ensures.steady in
-    record { formed = steady.formed; sound = steady.steady.sound }
+pub returns-clause-sound : goal.returns-clause-sound
+returns-clause-sound c = IfOk-weaker _ (λ (crashed : Crashed). IsSteadyImage crashed.image.items) (λ (crashed : Crashed). IsSoundImage crashed.image.items) (λ crashed whole. record { formed = whole.formed; sound = whole.steady.sound }) c.crash_of.ensures.whole
+
+pub returns-clause-fault : goal.returns-clause-fault
+returns-clause-fault c =
+    let header = header_for (pool_of c.args.trace.now) c.args.arena in
+    IfErr-weaker _ _ _ (IfTooFew-by _ _ (run_of header) (calls_of c.args.arena c.args.trace.now.calls.items) c.args.event) c.crash_of.ensures.fault
