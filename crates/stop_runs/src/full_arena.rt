@@ -1,5 +1,5 @@
 // Calls that a generator draws, of an arena that is full most of the time.
-use crate::variant::Variant;
+use arena_variants::Variant;
 use heap_model::Call;
 use pmem_lines::OutOfMemory;
 use rand_core::SeedableRng;

@@ -1,6 +1,6 @@
 // The heap of an arena, as stops compare it.
 
-use crate::variant::Variant;
+use arena_variants::Variant;
 use heap_model::Block;
 use pmem_lines::OutOfMemory;
 use std::alloc::Global;

@@ -5,10 +5,10 @@
 //
 // The words are `brief` or `whole`, and a script's name or none, which is for all. `scripts` has the scripts, of which
 // `full_arena` draws one, `stopping` makes their calls and stops these, and `heaps` has what is compared. The arenas are those of
-// `variant`: behind `gc-` a name is that of the same script on an arena of the GC variant. `stores` does so with the
+// `arena_variants`: behind `gc-` a name is that of the same script on an arena of the GC variant. `stores` does so with the
 // scripts of a dictionary that `store_scripts` has, and compares maps. That each image is recovered to one of the two heaps, or maps,
 // is proved of every call (`IsEitherHeap`, `IsEitherGcHeap`, `IsEitherDict`); here the definitions meet what runs.
-#![tactic(auto, using(recover::proofs::Recoveries::room_of_any, arena_core::proofs::Readiness::first_room, arena_core::proofs::Readiness::first_most))]
+#![tactic(auto)]
 
 mod full_arena;
 mod heaps;
@@ -16,10 +16,10 @@ mod scripts;
 mod stopping;
 mod store_scripts;
 mod stores;
-mod variant;
 
 use anyhow::{Context, Result, bail};
 use arena_core::Arena;
+use arena_variants::Variant;
 use gc_heap::GcArena;
 use pmem_lines::SimPmem;
 use scripts::{Amount, GC_NAMES, NAMES, script_of};
@@ -28,7 +28,6 @@ use std::env;
 use stopping::{Counts, stop_calls};
 use store_scripts::{STORES, StoreScript};
 use stores::stop_store;
-use variant::Variant;
 
 /// The words after the program's name.
 fn words_of_program(rt: &HostRuntime) -> Result<Vec<String>> {

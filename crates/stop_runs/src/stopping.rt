@@ -1,8 +1,8 @@
 // The calls of a script are made one by one. Each is stopped at each of its events, and what is left is recovered.
 use crate::heaps::{Held, heap_of};
 use crate::scripts::Script;
-use crate::variant::Variant;
 use anyhow::Result;
+use arena_variants::{Variant, device_of};
 use pmem_lines::SimPmem;
 use rand_core::SeedableRng;
 use rand_xoshiro::SplitMix64;
@@ -238,7 +238,7 @@ fn recovers<V: Variant>(
 // `None` where the device has fewer events, or the image is not sound.
 fn recovered<V: Variant>(alloc: Global, device: &SimPmem, k: u32, seed: u64) -> Result<Option<V>> {
     match stopped_image(alloc, device, k, seed)? {
-        Some(image) => V::of_image(alloc, &image),
+        Some(image) => of_image::<V>(alloc, &image),
         None => Ok(None),
     }
 }
@@ -255,4 +255,12 @@ pub(crate) fn stopped_image(
     }
     let mut picks = SplitMix64::seed_from_u64(seed);
     Ok(Some(device.image(alloc, k, &mut picks)?))
+}
+
+/// The arena that is recovered from an image. `None` where it is not sound.
+pub(crate) fn of_image<V: Variant>(alloc: Global, image: &[u64]) -> Result<Option<V>> {
+    match device_of(alloc, image)? {
+        Some(device) => Ok(V::recovered(alloc, device)?),
+        None => Ok(None),
+    }
 }

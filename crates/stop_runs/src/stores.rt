@@ -4,9 +4,8 @@ ghost use Rattle.dict_text.specs.Script.{IsDictSize};
 ghost use Rattle.dict_text.specs.Calls.{HasValues};
 
 use crate::scripts::Amount;
-use crate::stopping::{Counts, SEEDS, stopped_image};
+use crate::stopping::{Counts, SEEDS, of_image, stopped_image};
 use crate::store_scripts::StoreScript;
-use crate::variant::Variant;
 use anyhow::Result;
 use arena_core::Arena;
 use attach_dict::{Dict, OpenFault};
@@ -112,7 +111,7 @@ fn stop_at(
     requires values { HasValues script.now }
     requires call { crashed.now.call ≤ length script.now.calls.items }
 {
-    let Some(arena) = Arena::of_image(alloc, &crashed.image)? else {
+    let Some(arena) = of_image::<Arena<SimPmem>>(alloc, &crashed.image)? else {
         return Err(stop.fault().into());
     };
     counts.stops = counts.stops.saturating_add(1);
@@ -171,7 +170,7 @@ fn report_behind(
     requires call { crashed.now.call ≤ length script.now.calls.items }
 {
     match stopped_image(alloc, device, events, 0)? {
-        Some(image) => match Arena::of_image(alloc, &image)? {
+        Some(image) => match of_image(alloc, &image)? {
             Some(arena) => report_of(alloc, script, crashed, arena),
             None => Ok(None),
         },
