@@ -11,21 +11,7 @@ trap 'rm -rf -- "$room"' EXIT
 NVHEAP=proved "$top/nvheap" replay <"$top/examples/large.trace" >"$room/out"
 program=$top/crates/program/out/program
 
-# A million mallocs and frees of blocks of so many bytes at least, and so many more: a call frees its root's block or gives
-# it one. The draws are by a fixed rule. With large blocks over a few roots the log rolls, since its old chunks are soon
-# needless; over many it is rewritten.
-blocks() {
-    awk -v roots="$1" -v least="$2" -v more="$3" 'BEGIN {
-        print "pool 1 1024"
-        state = 1
-        for (i = 0; i < 1000000; i++) {
-            state = state * 16807 % 2147483647
-            root = state % roots
-            if (held[root]) { print "0 0 f " root; held[root] = 0 }
-            else { print "0 0 m " root " " (least + state % more); held[root] = 1 }
-        }
-    }'
-}
+. "$top/bench/traces.sh"
 blocks 20 16385 23616 >"$room/rolls"
 blocks 600 16385 23616 >"$room/rewrites"
 blocks 4000 1 2048 >"$room/small"

@@ -2,8 +2,9 @@
 //
 // `tombs` has images in which a large extent, a slab or both are loose, with the words that each has once it is recovered, and how
 // many events that took. `stops` has one whose log is full, and stops recovery at every event: what is left is recovered to an
-// image with the same roots and the same words of the heap. `arenas` has arenas that go on behind recovery. The images are those of `gc_search_tests`. The crate stands apart from
-// `gc_recover`, since a crate with tests is proved twice.
+// image with the same roots and the same words of the heap. `arenas` has arenas that go on behind recovery. The images are those of
+// `gc_search_tests`. `variants` has images of arenas of either variant, which recovery of the other refuses. The crate stands apart
+// from `gc_recover`, since a crate with tests is proved twice.
 #![tactic(auto)]
 
 #[cfg(test)]
@@ -14,3 +15,5 @@ mod outcomes;
 mod stops;
 #[cfg(test)]
 mod tombs;
+#[cfg(test)]
+mod variants;

@@ -1,6 +1,6 @@
 // Traces of four threads whose reports are judged. A gate keeps the threads together, so that their calls come in turns.
 // `generated` makes the traces.
-mod generated;
+pub(crate) mod generated;
 
 ghost use Rattle.std.specs.Prelude.{◌<◌, length, IfSome};
 
@@ -18,8 +18,8 @@ use std::test::Fail;
 use std::thread::Threads;
 use std::{str, thread};
 
-// How many traces there are.
-const TRACES: u64 = 20;
+/// How many traces there are.
+pub(crate) const TRACES: u64 = 20;
 
 /// Holds a thread ahead of a call while another one is two calls behind, for so many turns at most.
 #[derive(Drop)]
@@ -150,12 +150,12 @@ fn as_many_old_blocks_as_may_be(rt: HostRuntime) -> Result<(), Fail> {
     Ok(())
 }
 
-// Each way of a malloc that one seat has came often, and each kind of call that follows it.
-fn came_often<R: Abort>(rt: &R, counts: Counts) {
+/// Each way of a malloc that one seat has came often, and each kind of free that follows it.
+pub(crate) fn came_often<R: Abort>(rt: &R, counts: Counts) {
     assert!(rt; counts.own > 100 && counts.large > 10, "{counts:?}");
     assert!(rt; counts.taken > 100 && counts.opened > 100, "{counts:?}");
     assert!(rt; counts.none > 100 && counts.left > 100, "{counts:?}");
-    assert!(rt; counts.old > 100 && counts.moved > 100, "{counts:?}");
+    assert!(rt; counts.old > 100, "{counts:?}");
 }
 
 // The same calls on one thread, which takes from no other seat.
@@ -167,7 +167,7 @@ fn reports_of_one_thread(rt: HostRuntime) -> Result<(), Fail> {
         let single = on_one_thread(rt.alloc(), &text)?;
         counts = counts.with(judged(&rt, rt.alloc(), REPLAY, &single, 0)?);
     }
-    assert!(rt; counts.refilled > 10, "{counts:?}");
+    assert!(rt; counts.refilled > 10 && counts.moved > 100, "{counts:?}");
     came_often(&rt, counts);
     Ok(())
 }
@@ -226,6 +226,7 @@ fn heaps_of_four_seats(rt: HostRuntime) -> Result<(), Fail> {
         counts = counts.with(recovered(&rt, rt.alloc(), &text)?);
     }
     assert!(rt; counts.refilled > 100 && counts.stolen > 100, "{counts:?}");
+    assert!(rt; counts.moved > 100, "{counts:?}");
     came_often(&rt, counts);
     Ok(())
 }

@@ -1,9 +1,7 @@
 // Calls that a generator draws, of an arena that is full most of the time.
-use crate::heaps::new_arena;
-use arena_core::Arena;
-use arena_journal::answer;
+use arena_variants::Variant;
 use heap_model::Call;
-use pmem_lines::{OutOfMemory, SimPmem};
+use pmem_lines::OutOfMemory;
 use rand_core::SeedableRng;
 use rand_core::utils::NextWord;
 use rand_xoshiro::SplitMix64;
@@ -17,27 +15,28 @@ const SEATS: u64 = 5;
 
 const SEED: u64 = 4;
 
-/// The calls: five seats ask for blocks for 30 roots of an arena of 16 granules, free them, move them, and write to them.
-pub(crate) fn full_arena(alloc: Global) -> Result<Vec<(u32, Call)>, OutOfMemory> {
-    let mut arena = new_arena(alloc, 1, 16)?;
+/// The calls: five seats ask for blocks for 30 roots of an arena of 16 granules, free them, move them where that may be, and write to
+/// them.
+pub(crate) fn full_arena<V: Variant>(alloc: Global) -> Result<Vec<(u32, Call)>, OutOfMemory> {
+    let mut arena = V::new_arena(alloc, 1, 16)?;
     calls_on(alloc, &mut arena)
 }
 
 // The calls, as they are made.
-fn calls_on(alloc: Global, arena: &mut Arena<SimPmem>) -> Result<Vec<(u32, Call)>, OutOfMemory> {
+fn calls_on<V: Variant>(alloc: Global, arena: &mut V) -> Result<Vec<(u32, Call)>, OutOfMemory> {
     let mut picks = SplitMix64::seed_from_u64(SEED);
     let mut calls = Vec::new(alloc);
     for _ in 0..CALLS {
         let seat = (picks.next_word() % SEATS) as u32;
         let call = drawn(arena, picks.next_word(), picks.next_word());
-        answer(arena, seat, call);
+        arena.make(seat, call);
         calls.push((seat, call))?;
     }
     Ok(calls)
 }
 
 // What two drawn words ask for: at half of them a block for a root that has none.
-fn drawn(arena: &Arena<SimPmem>, one: u64, other: u64) -> Call {
+fn drawn<V: Variant>(arena: &V, one: u64, other: u64) -> Call {
     let from = (one / 8 % u64::from(ROOTS)) as u32;
     let full = root_from(arena, from, true);
     let empty = root_from(arena, from, false);
@@ -47,7 +46,7 @@ fn drawn(arena: &Arena<SimPmem>, one: u64, other: u64) -> Call {
             size: size_of(other),
         },
         4 | 5 => Call::Free { root: full },
-        6 => Call::Move {
+        6 if V::MOVES => Call::Move {
             from: full,
             to: empty,
         },
@@ -60,9 +59,9 @@ fn drawn(arena: &Arena<SimPmem>, one: u64, other: u64) -> Call {
 }
 
 // The first root from one on, and then from 0 on, that has a block, or that has none; the one where there is no such root.
-fn root_from(arena: &Arena<SimPmem>, from: u32, has_block: bool) -> u32 {
+fn root_from<V: Variant>(arena: &V, from: u32, has_block: bool) -> u32 {
     for root in (from..ROOTS).chain(0..from) {
-        if arena.block(root).is_some() == has_block {
+        if arena.named(root).is_some() == has_block {
             return root;
         }
     }

@@ -4,10 +4,11 @@
 // error which one it was.
 //
 // The words are `brief` or `whole`, and a script's name or none, which is for all. `scripts` has the scripts, of which
-// `full_arena` draws one, `stopping` makes their calls and stops these, and `heaps` has what is compared. `stores` does so with the
+// `full_arena` draws one, `stopping` makes their calls and stops these, and `heaps` has what is compared. The arenas are those of
+// `arena_variants`: behind `gc-` a name is that of the same script on an arena of the GC variant. `stores` does so with the
 // scripts of a dictionary that `store_scripts` has, and compares maps. That each image is recovered to one of the two heaps, or maps,
-// is proved of every call (`IsEitherHeap`, `IsEitherDict`); here the definitions meet what runs.
-#![tactic(auto, using(recover::proofs::Recoveries::room_of_any, arena_core::proofs::Readiness::first_room, arena_core::proofs::Readiness::first_most))]
+// is proved of every call (`IsEitherHeap`, `IsEitherGcHeap`, `IsEitherDict`); here the definitions meet what runs.
+#![tactic(auto)]
 
 mod full_arena;
 mod heaps;
@@ -17,7 +18,12 @@ mod store_scripts;
 mod stores;
 
 use anyhow::{Context, Result, bail};
-use scripts::{Amount, NAMES, script_of};
+use arena_core::Arena;
+use arena_variants::Variant;
+use gc_heap::GcArena;
+use pmem_lines::SimPmem;
+use scripts::{Amount, GC_NAMES, NAMES, script_of};
+use std::alloc::Global;
 use std::env;
 use stopping::{Counts, stop_calls};
 use store_scripts::{STORES, StoreScript};
@@ -32,16 +38,26 @@ fn words_of_program(rt: &HostRuntime) -> Result<Vec<String>> {
     Ok(words)
 }
 
+/// Stops the calls of a script on an arena of a variant.
+fn stop_script_on<V: Variant>(alloc: Global, name: &str, amount: Amount) -> Result<Counts> {
+    let Some(script) = script_of::<V>(alloc, name)? else {
+        bail!("there is no script {name}");
+    };
+    let first = script.first_of(amount);
+    stop_calls::<V>(alloc, &script, first)
+}
+
 /// Stops the calls of a script.
 fn stop_script(rt: &HostRuntime, name: &str, amount: Amount) -> Result<Counts> {
     if let Some(store) = StoreScript::of_name(name) {
         return stop_store(rt.alloc(), store, amount);
     }
-    let Some(script) = script_of(rt.alloc(), name)? else {
-        bail!("there is no script {name}");
-    };
-    let first = script.first_of(amount);
-    stop_calls(rt.alloc(), &script, first)
+    match name.strip_prefix("gc-") {
+        Some(same) if GC_NAMES.contains(&name) => {
+            stop_script_on::<GcArena<SimPmem>>(rt.alloc(), same, amount)
+        }
+        _ => stop_script_on::<Arena<SimPmem>>(rt.alloc(), name, amount),
+    }
 }
 
 /// Stops the calls of a script, and prints its line.
@@ -73,6 +89,9 @@ fn main(rt: HostRuntime) -> Result<()> {
                 run_script(&rt, name, amount)?;
             }
             for name in STORES {
+                run_script(&rt, name, amount)?;
+            }
+            for name in GC_NAMES {
                 run_script(&rt, name, amount)?;
             }
             Ok(())

@@ -1,5 +1,6 @@
 // The scripts.
 use crate::full_arena::full_arena;
+use arena_variants::Variant;
 use heap_model::Call;
 use pmem_lines::OutOfMemory;
 use std::alloc::{AllocError, Global};
@@ -54,8 +55,24 @@ pub(crate) const NAMES: [&str; 15] = [
     "version-2-rewrite",
 ];
 
-/// The script of a name.
-pub(crate) fn script_of(alloc: Global, name: &str) -> Result<Option<Script>, OutOfMemory> {
+/// The names of scripts whose calls are made on an arena of the GC variant: behind `gc-` each has the name of the same calls. None
+/// has a move, and all are of version 1.
+pub(crate) const GC_NAMES: [&str; 8] = [
+    "gc-ordinary-use",
+    "gc-payload",
+    "gc-slab-goes-back",
+    "gc-morph",
+    "gc-transition-ends",
+    "gc-log-roll",
+    "gc-log-rewrite",
+    "gc-full-arena",
+];
+
+/// The script of a name, of an arena of a variant.
+pub(crate) fn script_of<V: Variant>(
+    alloc: Global,
+    name: &str,
+) -> Result<Option<Script>, OutOfMemory> {
     let script = match name {
         "ordinary-use" => of_calls(16, 6, vec![in alloc; malloc(5, 100)]?, 0, 0),
         "payload" => payload(alloc)?,
@@ -68,7 +85,7 @@ pub(crate) fn script_of(alloc: Global, name: &str) -> Result<Option<Script>, Out
         "log-rewrite" => of_calls(64, 102, rewrites(alloc, 59, 20_000)?, 960, 0),
         "rewrite-in-slab" => of_calls(64, 102, rewrites(alloc, 59, 100)?, 960, 960),
         "widest-rewrite" => widest_rewrite(alloc)?,
-        "full-arena" => of_calls(16, 30, full_arena(alloc)?, 199, 0),
+        "full-arena" => of_calls(16, 30, full_arena::<V>(alloc)?, first_drawn::<V>(), 0),
         "version-2-use" => over_version_2(use_of_version_2(alloc)?),
         "version-2-roll" => over_version_2(log_roll(alloc, 25, 252)?),
         "version-2-rewrite" => over_version_2(of_calls(
@@ -81,6 +98,11 @@ pub(crate) fn script_of(alloc: Global, name: &str) -> Result<Option<Script>, Out
         _ => return Ok(None),
     };
     Ok(Some(script))
+}
+
+// From which of the drawn calls on they are stopped where the stops are brief: from the last, or all where recovery is short.
+fn first_drawn<V: Variant>() -> usize {
+    if V::SHORT_RECOVERY { 0 } else { 199 }
 }
 
 // A script over version 1, with the first of its calls that is stopped where the stops are brief, and where they are whole.

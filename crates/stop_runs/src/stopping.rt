@@ -1,13 +1,11 @@
 // The calls of a script are made one by one. Each is stopped at each of its events, and what is left is recovered.
-use crate::heaps::{Held, heap_of, new_arena};
+use crate::heaps::{Held, heap_of};
 use crate::scripts::Script;
 use anyhow::Result;
-use arena_core::Arena;
-use arena_journal::answer;
-use pmem_lines::{Pmem, SimPmem};
+use arena_variants::{Variant, device_of};
+use pmem_lines::SimPmem;
 use rand_core::SeedableRng;
 use rand_xoshiro::SplitMix64;
-use recover::{RecoverFault, recover};
 use std::alloc::Global;
 use thiserror::Error;
 
@@ -16,9 +14,6 @@ pub(crate) const SEEDS: u64 = 3;
 
 // The roots of an arena of version 2, more than one of version 1 has.
 const ALL_ROOTS: u32 = 16384;
-
-// The events for which a device has room that may be of either version.
-const ROOM: u32 = 4096;
 
 /// How many events the calls of a script have, how many images of stopped calls were recovered, and how many images in all,
 /// with those of stopped recoveries.
@@ -78,16 +73,20 @@ impl Stop {
 /// also at its begin, with each of the seeds: recovery comes to the heap before the call or to the one behind it, and to the
 /// latter at the call's last event. With the first seed recovery too is stopped at each of its events, and what is left is
 /// recovered to the same heap. At the end all roots are compared.
-pub(crate) fn stop_calls(alloc: Global, script: &Script, first: usize) -> Result<Counts> {
-    let mut arena = new_arena(alloc, script.version, script.granules)?;
+pub(crate) fn stop_calls<V: Variant>(
+    alloc: Global,
+    script: &Script,
+    first: usize,
+) -> Result<Counts> {
+    let mut arena = V::new_arena(alloc, script.version, script.granules)?;
     stop_calls_of(alloc, &mut arena, script, first)
 }
 
 // The same on an arena that is lent, as arenas are from here on: who has one in hand lets it go at each way out, and each of
 // these is dear to prove.
-fn stop_calls_of(
+fn stop_calls_of<V: Variant>(
     alloc: Global,
-    arena: &mut Arena<SimPmem>,
+    arena: &mut V,
     script: &Script,
     first: usize,
 ) -> Result<Counts> {
@@ -98,19 +97,19 @@ fn stop_calls_of(
         recovered: 0,
     };
     for (seat, call) in made {
-        answer(arena, *seat % 64, *call);
-        counts.add_events(arena.pmem());
+        arena.make(*seat, *call);
+        counts.add_events(arena.device());
     }
     let mut before = heap_of(alloc, arena, script.roots)?;
     for (seat, call) in stopped {
-        answer(arena, *seat % 64, *call);
+        arena.make(*seat, *call);
         let behind = heap_of(alloc, arena, script.roots)?;
         let sides = Sides {
             before: &before,
             behind: &behind,
         };
-        stop_call(alloc, arena.pmem(), script.roots, sides, &mut counts)?;
-        counts.add_events(arena.pmem());
+        stop_call::<V>(alloc, arena.device(), script.roots, sides, &mut counts)?;
+        counts.add_events(arena.device());
         before = behind;
     }
     compare_all_roots(alloc, arena, &before)?;
@@ -118,7 +117,7 @@ fn stop_calls_of(
 }
 
 // Stops the call that a device carried out last.
-fn stop_call(
+fn stop_call<V: Variant>(
     alloc: Global,
     device: &SimPmem,
     roots: u32,
@@ -137,14 +136,14 @@ fn stop_call(
                 event,
                 seed,
             };
-            stop_at(alloc, device, roots, sides, stop, counts)?;
+            stop_at::<V>(alloc, device, roots, sides, stop, counts)?;
         }
     }
     Ok(())
 }
 
 // Stops it there, and recovers what is left.
-fn stop_at(
+fn stop_at<V: Variant>(
     alloc: Global,
     device: &SimPmem,
     roots: u32,
@@ -152,16 +151,16 @@ fn stop_at(
     stop: Stop,
     counts: &mut Counts,
 ) -> Result<()> {
-    match recovered(alloc, device, stop.k, stop.seed)? {
+    match recovered::<V>(alloc, device, stop.k, stop.seed)? {
         Some(arena) => compare_sides(alloc, &arena, roots, sides, stop, counts),
         None => Err(stop.fault().into()),
     }
 }
 
 // Compares the heap that a stop is recovered to, and with the first seed stops that recovery too.
-fn compare_sides(
+fn compare_sides<V: Variant>(
     alloc: Global,
-    arena: &Arena<SimPmem>,
+    arena: &V,
     roots: u32,
     sides: Sides<'_>,
     stop: Stop,
@@ -174,7 +173,7 @@ fn compare_sides(
     counts.stops = counts.stops.saturating_add(1);
     counts.recovered = counts.recovered.saturating_add(1);
     if stop.seed == 0 {
-        stop_recovery(alloc, arena.pmem(), roots, &heap, stop.event, counts)?;
+        stop_recovery::<V>(alloc, arena.device(), roots, &heap, stop.event, counts)?;
     }
     Ok(())
 }
@@ -187,7 +186,7 @@ fn may_be_left(sides: Sides<'_>, heap: &[Held], stop: Stop) -> bool {
 
 // Stops the recovery that a device carried out, of a call that was stopped at an event, at each of its own events: what is
 // left is recovered to the same heap.
-fn stop_recovery(
+fn stop_recovery<V: Variant>(
     alloc: Global,
     device: &SimPmem,
     roots: u32,
@@ -196,7 +195,7 @@ fn stop_recovery(
     counts: &mut Counts,
 ) -> Result<()> {
     for again in 1..=device.event_count() {
-        if !recovers(alloc, device, again, roots, heap)? {
+        if !recovers::<V>(alloc, device, again, roots, heap)? {
             return Err(StopFault::Recovery { event, again }.into());
         }
         counts.recovered = counts.recovered.saturating_add(1);
@@ -205,10 +204,10 @@ fn stop_recovery(
 }
 
 // Of all roots none but those of the script has a block, and so it is when the last image is recovered.
-fn compare_all_roots(alloc: Global, arena: &Arena<SimPmem>, heap: &[Held]) -> Result<()> {
-    let device = arena.pmem();
+fn compare_all_roots<V: Variant>(alloc: Global, arena: &V, heap: &[Held]) -> Result<()> {
+    let device = arena.device();
     if has_heap(alloc, arena, ALL_ROOTS, heap)?
-        && recovers(alloc, device, device.event_count(), ALL_ROOTS, heap)?
+        && recovers::<V>(alloc, device, device.event_count(), ALL_ROOTS, heap)?
     {
         Ok(())
     } else {
@@ -217,13 +216,19 @@ fn compare_all_roots(alloc: Global, arena: &Arena<SimPmem>, heap: &[Held]) -> Re
 }
 
 // Whether the roots below a number hold this.
-fn has_heap(alloc: Global, arena: &Arena<SimPmem>, roots: u32, heap: &[Held]) -> Result<bool> {
+fn has_heap<V: Variant>(alloc: Global, arena: &V, roots: u32, heap: &[Held]) -> Result<bool> {
     Ok(heap_of(alloc, arena, roots)?.as_slice() == heap)
 }
 
 // Whether they do in the arena that is recovered from the image behind the first `k` events of a device, with the first seed.
-fn recovers(alloc: Global, device: &SimPmem, k: u32, roots: u32, heap: &[Held]) -> Result<bool> {
-    match recovered(alloc, device, k, 0)? {
+fn recovers<V: Variant>(
+    alloc: Global,
+    device: &SimPmem,
+    k: u32,
+    roots: u32,
+    heap: &[Held],
+) -> Result<bool> {
+    match recovered::<V>(alloc, device, k, 0)? {
         Some(arena) => has_heap(alloc, &arena, roots, heap),
         None => Ok(false),
     }
@@ -231,9 +236,9 @@ fn recovers(alloc: Global, device: &SimPmem, k: u32, roots: u32, heap: &[Held]) 
 
 // The arena that is recovered from the image behind the first `k` events of a device, as a generator from `seed` picks.
 // `None` where the device has fewer events, or the image is not sound.
-fn recovered(alloc: Global, device: &SimPmem, k: u32, seed: u64) -> Result<Option<Arena<SimPmem>>> {
+fn recovered<V: Variant>(alloc: Global, device: &SimPmem, k: u32, seed: u64) -> Result<Option<V>> {
     match stopped_image(alloc, device, k, seed)? {
-        Some(image) => of_image(alloc, &image),
+        Some(image) => of_image::<V>(alloc, &image),
         None => Ok(None),
     }
 }
@@ -253,13 +258,9 @@ pub(crate) fn stopped_image(
 }
 
 /// The arena that is recovered from an image. `None` where it is not sound.
-pub(crate) fn of_image(alloc: Global, image: &[u64]) -> Result<Option<Arena<SimPmem>>> {
-    if image.len() % 8 != 0 || image.len() < 8 || image.len() > 8_388_608 {
-        return Ok(None);
-    }
-    match recover(alloc, SimPmem::from_image(alloc, image, ROOM)?) {
-        Ok(arena) => Ok(Some(arena)),
-        Err((RecoverFault::Memory(error), _)) => Err(error.into()),
-        Err((RecoverFault::Defect(_), _)) => Ok(None),
+pub(crate) fn of_image<V: Variant>(alloc: Global, image: &[u64]) -> Result<Option<V>> {
+    match device_of(alloc, image)? {
+        Some(device) => Ok(V::recovered(alloc, device)?),
+        None => Ok(None),
     }
 }

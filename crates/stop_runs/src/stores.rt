@@ -111,7 +111,7 @@ fn stop_at(
     requires values { HasValues script.now }
     requires call { crashed.now.call ≤ length script.now.calls.items }
 {
-    let Some(arena) = of_image(alloc, &crashed.image)? else {
+    let Some(arena) = of_image::<Arena<SimPmem>>(alloc, &crashed.image)? else {
         return Err(stop.fault().into());
     };
     counts.stops = counts.stops.saturating_add(1);

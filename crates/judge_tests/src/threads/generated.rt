@@ -42,6 +42,8 @@ pub(crate) struct Made {
     pub(crate) turns: u64,
     /// How many roots its calls take at an arena.
     pub(crate) roots: u64,
+    /// Some of its calls move a block.
+    pub(crate) moves: bool,
 }
 
 /// Traces of one to four arenas of either version, with few roots or many.
@@ -58,6 +60,16 @@ pub(crate) fn of_seed(seed: u64) -> Made {
         arenas,
         turns: 60 + 40 * arenas,
         roots: 8 + 4 * (seed / 4 % 5),
+        moves: true,
+    }
+}
+
+/// The same over arenas of version 1, without moves.
+pub(crate) fn still_of_seed(seed: u64) -> Made {
+    Made {
+        each: FIRST_VERSION,
+        moves: false,
+        ..of_seed(seed)
     }
 }
 
@@ -99,7 +111,7 @@ fn call(alloc: Global, made: Made, turn: u64, one: u64, other: u64) -> Result<St
     match one % 16 {
         0 => format!(in alloc; "w {at} {index} {value}"),
         1 => format!(in alloc; "r {at} {index}"),
-        2 => format!(in alloc; "v {at} {second}"),
+        2 if made.moves => format!(in alloc; "v {at} {second}"),
         3..=5 => format!(in alloc; "f {at}"),
         6..=8 => format!(in alloc; "m {at} {bytes}"),
         _ if is_filling => format!(in alloc; "m {at} {bytes}"),
