@@ -3,6 +3,9 @@ use Rattle.std.proofs.Common.{◌≡◌, ℕ, ◌+◌, ◌<◌, List, [], ◌++�
 use Rattle.std.proofs.lemmas.List.{append-nil}
 use Rattle.pool_layout.specs.declared.header.PoolHeader.{PoolHeader}
 use Rattle.pool_layout.specs.Image.{part_of, IsImageOf}
+use Rattle.image_tables.specs.Tables.{tables_of}
+use Rattle.heap_check.specs.Image.{bounds_of}
+use Rattle.heap_map.proofs.Requests.{greatest_request}
 use Rattle.map_text.specs.Pieces.{Adds}
 use Rattle.nvpool.specs.declared.telling.Form.{Form}
 use Rattle.nvpool.specs.Telling.{AreTold, IsTold, IsToldAs, front_of, back_of}
@@ -28,4 +31,5 @@ module _ (form : Form) (words : List ℕ) (header : PoolHeader) where
     told = adds.own;
     each = subst (λ (h : PoolHeader). AreTold form words h h.arenas adds.own) (sym same) adds.told;
     is = ap (λ (t : List ℕ). t ++ back_of form) (adds.is ∙ ap (λ (h : PoolHeader). front_of form h ++ adds.own) (sym same));
+    grants = λ arena inside. let own = part_of words image.header.granules arena in greatest_request (bounds_of own) (tables_of own);
   }

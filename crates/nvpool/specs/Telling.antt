@@ -1,7 +1,11 @@
 -- What `text` and `info` mean.
-use Rattle.std.specs.Prelude.{◌≡◌, ℕ, List, [], ◌++◌}
+use Rattle.std.specs.Prelude.{◌≡◌, ℕ, ◌<◌, List, [], ◌++◌}
 use Rattle.pool_layout.specs.declared.header.PoolHeader.{PoolHeader}
 use Rattle.pool_layout.specs.Image.{part_of, IsImageOf}
+use Rattle.image_tables.specs.Tables.{tables_of}
+use Rattle.heap_check.specs.Sound.{IsVacant}
+use Rattle.heap_check.specs.Image.{bounds_of}
+use Rattle.heap_map.specs.Facts.{IsLongestRow, IsGreatestRequest}
 use Rattle.image_runs.specs.Checks.{IsPoolDefect}
 use Rattle.map_text.specs.Pieces.{ArePieces}
 use Rattle.map_text.specs.Drawing.{legend_line}
@@ -30,13 +34,19 @@ back_of Letters = []
 abbrev pub AreTold : Form → List ℕ → PoolHeader → ℕ → List ℕ → Type 0
 AreTold form words header count text = ArePieces (λ arena own. IsToldAs form header (part_of words header.granules arena) arena own) count text
 
--- The input is the image of a pool, and the output has what is told of each of its arenas, with what stands around that.
+-- of the requests for whole granules those find a place in an arena that are not above its longest row of free ones
+abbrev pub GrantsLongestRow : List ℕ → Type 0
+GrantsLongestRow words = (longest : ℕ) → IsLongestRow (IsVacant (bounds_of words) (tables_of words)) longest → IsGreatestRequest (bounds_of words) (tables_of words) longest
+
+-- The input is the image of a pool, and the output has what is told of each of its arenas, with what stands around that. The
+-- longest row that is told says which requests each arena grants.
 pub record IsTold (form : Form) (input output : List ℕ) : Type 0 where
   pub words : List ℕ
   pub image : IsImageOf input words
   pub told : List ℕ
   pub each : AreTold form words image.header image.header.arenas told
   pub is : output ≡ front_of form image.header ++ told ++ back_of form
+  pub grants : (arena : ℕ) → arena < image.header.arenas → GrantsLongestRow (part_of words image.header.granules arena)
 
 -- why an image is refused: the first defect
 abbrev pub RefusesImage : List ℕ → Cause → Type 0
