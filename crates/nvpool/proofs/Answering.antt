@@ -1,5 +1,5 @@
 -- What a command has to say, from what its parts say.
-use Rattle.std.proofs.Common.{◌≡◌, ℕ, List, refl, Result, Ok, Err}
+use Rattle.std.proofs.Common.{ℕ, List, Result, Ok, Err}
 use Rattle.std.specs.Result.{IfOk}
 use Rattle.pool_layout.specs.Image.{AreWordsOf}
 use Rattle.nvpool.specs.declared.answer.Answer.{Answer}

@@ -1,8 +1,8 @@
 -- What `dump` has to say of an arena, as one of its pool.
-use Rattle.std.proofs.Common.{◌≡◌, ℕ, ◌*◌, ◌<◌, List, length, Result, refl, sym, subst, ◌∙◌, inl, inr}
+use Rattle.std.proofs.Common.{◌≡◌, ℕ, ◌*◌, ◌<◌, List, length, Result, subst, inr}
 use Rattle.std.specs.Result.{IfOk}
 use Rattle.pool_layout.specs.declared.header.PoolHeader.{PoolHeader}
-use Rattle.pool_layout.specs.Image.{part_of, AreWordsOf, IsPoolImage, IsImageOf}
+use Rattle.pool_layout.specs.Image.{part_of, AreWordsOf, IsPoolImage}
 use Rattle.image_runs.proofs.Faults.{image_of}
 use Rattle.nvpool.specs.declared.answer.Answer.{Answer}
 use Rattle.nvpool.specs.declared.answer.Answer.TheVariants.{Output, FaultLine}

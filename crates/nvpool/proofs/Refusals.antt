@@ -1,11 +1,7 @@
 -- What is accepted is not refused.
-use Rattle.std.proofs.Common.{◌≡◌, ℕ, ◌+◌, ◌<◌, ◌≤◌, List, Some, None, sym, ap, ◌∙◌, subst, inl, inr, arith}
-use Rattle.pmem_lines.specs.Words.{word_at}
+use Rattle.std.proofs.Common.{ℕ, List, ap, subst, inl, inr, arith}
 use Rattle.pool_layout.specs.declared.header.PoolHeader.{PoolHeader}
-use Rattle.pool_layout.specs.declared.defect.Defect.{Defect}
-use Rattle.pool_layout.specs.Header.{fields_of}
-use Rattle.pool_layout.specs.Places.{fields_word}
-use Rattle.pool_layout.specs.Image.{part_of, IsPoolImage, IsImageOf}
+use Rattle.pool_layout.specs.Image.{part_of}
 use Rattle.pool_layout.proofs.OneImage.{law_of_no_defect}
 use Rattle.image_defects.proofs.Faultless.{faultless_of}
 use Rattle.image_defects.proofs.Order.{no_defect}
@@ -16,7 +12,7 @@ use Rattle.nvheap.proofs.Refusals as refusals
 use Rattle.nvpool.specs.declared.cause.Cause.{Cause}
 use Rattle.nvpool.specs.declared.cause.Cause.TheVariants.{Image, NoArena, NoBlock}
 use Rattle.nvpool.specs.Telling.{RefusesImage}
-use Rattle.nvpool.specs.Dumping.{HasArena, HasNoArena, HasNoBlock, HasBlock, RefusesDump}
+use Rattle.nvpool.specs.Dumping.{HasArena, HasNoBlock, HasBlock, RefusesDump}
 use Rattle.nvpool.proofs.Images.{one_header, one_part}
 
 -- a pool of sound arenas

@@ -1,5 +1,5 @@
 -- The words of the program.
-use Rattle.std.specs.Prelude.{◌≡◌, ℕ, ◌<◌, ◌^◌, List, [], ◌∷◌, map, decimal, codes}
+use Rattle.std.specs.Prelude.{◌≡◌, ℕ, ◌<◌, List, [], ◌∷◌, map, decimal, codes}
 use Rattle.nvheap.specs.Command.{AreNumbers}
 use Rattle.nvpool.specs.declared.command.Command.{Command}
 use Rattle.nvpool.specs.declared.command.Command.TheVariants.{Text, Info, Dump}

@@ -1,6 +1,5 @@
 -- What `dump` means.
 use Rattle.std.specs.Prelude.{◌≡◌, ◌⊎◌, ℕ, ◌<◌, ◌≤◌, List, None}
-use Rattle.pool_layout.specs.declared.defect.Defect.{Defect}
 use Rattle.pool_layout.specs.Image.{part_of, IsImageOf, IsImageDefect}
 use Rattle.image_tables.specs.Tables.{tables_of}
 use Rattle.heap_check.specs.Heap.{heap}

@@ -1,9 +1,8 @@
-use Rattle.std.proofs.Common.{List, ℕ, refl, sym, subst, inl, inr, arith}
+use Rattle.std.proofs.Common.{refl, inl}
 use Rattle.image_runs.proofs.Faults.{image_of}
 use Rattle.nvpool.specs.declared.cause.Cause.TheVariants.{Image, NoArena}
 use Rattle.nvpool.specs.Dumping.{dumping}
-use Rattle.nvpool.specs.Ends.{IsArenaAnswer}
-use Rattle.nvpool.proofs.Answering.{ok_more, refused_image}
+use Rattle.nvpool.proofs.Answering.{refused_image}
 use Rattle.nvpool.proofs.Dumps.{arena_answer}
 use Rattle.nvpool.proofs.dumping.dump_answer.Goals as goal
 

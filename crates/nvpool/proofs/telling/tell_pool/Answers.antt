@@ -1,4 +1,4 @@
-use Rattle.std.proofs.Common.{List, ℕ, refl, sym, inr, subst}
+use Rattle.std.proofs.Common.{refl, sym, inr, subst}
 use Rattle.image_runs.specs.Checks.{HasUnsoundFrom, IsPoolDefect}
 use Rattle.image_runs.proofs.Faults.{image_of, wider}
 use Rattle.nvpool.specs.Telling.{IsTold}
