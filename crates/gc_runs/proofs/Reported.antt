@@ -38,12 +38,12 @@ told_more pool calls number old new devices device below one =
       all = omega (arith, below.all, length-append below.runs (one.run ∷ []));
       each = EachFrom-more (HasMadeGcCalls pool calls) 0 below.runs one.run below.each (subst (λ n. HasMadeGcCalls pool calls n one.run) here one.made);
       told =
-        one.told ∙ ap (λ (text : List ℕ). text ++ text_of arena_text number one.run) below.told
-        ∙ ap (λ n. told_from arena_text 0 below.runs ++ text_of arena_text n one.run) here
-        ∙ sym (told_from-more arena_text 0 below.runs one.run);
+          one.told ∙ ap (λ (text : List ℕ). text ++ text_of arena_text number one.run) below.told
+          ∙ ap (λ n. told_from arena_text 0 below.runs ++ text_of arena_text n one.run) here
+          ∙ sym (told_from-more arena_text 0 below.runs one.run);
       left =
-        ap (λ (ds : List PmemState). ds ++ device ∷ []) below.left ∙ ap (λ (d : PmemState). devices_of below.runs ++ d ∷ []) one.left
-        ∙ sym (map-append (λ (r : ArenaRun). r.device) below.runs (one.run ∷ []));
+          ap (λ (ds : List PmemState). ds ++ device ∷ []) below.left ∙ ap (λ (d : PmemState). devices_of below.runs ++ d ∷ []) one.left
+          ∙ sym (map-append (λ (r : ArenaRun). r.device) below.runs (one.run ∷ []));
     }
 
 -- as many devices as arenas

@@ -86,8 +86,8 @@ const REPLAY: (&str, Seats) = ("replay", Seats::OfThreads);
 
 const SERVE: (&str, Seats) = ("serve", Seats::OfOwners);
 
-// The report of a trace by one of these commands, and what the judge says of it.
-fn judged<R: Abort + Threads + Wait + Sync>(
+/// The report of a trace by one of these commands, and what the judge says of it.
+pub(crate) fn judged<R: Abort + Threads + Wait + Sync>(
     rt: &R,
     alloc: Global,
     command: (&str, Seats),

@@ -1,0 +1,60 @@
+-- The table of commands: it says of words one command at most, and what a command accepts it does not refuse.
+use Rattle.std.proofs.Common.{◌≡◌, ◌==◌, ℕ, ◌+◌, ◌*◌, List, [], ◌∷◌, length, map, get_or, Option, Some, None, if◌then◌else◌, refl, sym, ap, ◌∙◌, subst}
+use Rattle.std.proofs.lemmas.Fmt.{decimal_injective}
+use Rattle.std.specs.Prelude.{decimal}
+use Rattle.nvheap.specs.Command.{AreNumbers}
+use Rattle.nvpool.specs.declared.cause.Cause.{Cause}
+use Rattle.nvpool.specs.declared.command.Command.{Command}
+use Rattle.nvpool.specs.declared.command.Command.TheVariants.{Text, Info, Dump}
+use Rattle.nvpool.specs.Meaning.{Meaning}
+use Rattle.nvpool.specs.Command.{row_of, meaning_of, IsCommand, IsSaid}
+use Rattle.nvpool.proofs.Refusals.{image_not_refused, dump_not_refused}
+
+-- a row for each command
+
+-- the command that has a text of this length and second letter, with these numbers
+abbrev key : List ℕ → ℕ
+key text = 256 * length text + get_or text 1 0
+
+abbrev command_by : ℕ → List ℕ → Option Command
+command_by k numbers =
+    if k == 1125 then Some Text else
+    if k == 1134 then Some Info else
+    if k == 1141 then Some (Dump (get_or numbers 0 0) (get_or numbers 1 0)) else
+    None
+
+-- it is the one whose text and numbers they are
+back : (command : Command) → command_by (key (row_of command).text) (row_of command).numbers ≡ Some command
+back Text = refl
+back Info = refl
+back (Dump arena root) = refl
+
+-- what a command accepts it does not refuse
+pub settled : (command : Command) (input : List ℕ) (why : Cause) → (meaning_of command).accepts input → ¬ ((meaning_of command).refuses input why)
+settled Text input why has = image_not_refused input why has
+settled Info input why has = image_not_refused input why has
+settled (Dump arena root) input why has = dump_not_refused arena root input why has
+
+-- one command
+
+-- numbers are read back from their texts
+numbers_once : (ns ms : List ℕ) → AreNumbers ns → AreNumbers ms → map decimal ns ≡ map decimal ms → ns ≡ ms
+numbers_once [] [] p q same = refl
+numbers_once [] (m ∷ ms) p q same = absurd (cc)
+numbers_once (n ∷ ns) [] p q same = absurd (cc)
+numbers_once (n ∷ ns) (m ∷ ms) p q same =
+    let first : decimal n ≡ decimal m = cc in
+    let rest : map decimal ns ≡ map decimal ms = cc in
+    cc (decimal_injective n m p.0 q.0 first, numbers_once ns ms p.1 q.1 rest)
+
+one_command : (words : List (List ℕ)) (a b : Command) → IsCommand words a → IsCommand words b → a ≡ b
+one_command words a b p q =
+    let text : (row_of a).text ≡ (row_of b).text = cc (p.text, q.text) in
+    let texts : map decimal (row_of a).numbers ≡ map decimal (row_of b).numbers = cc (p.text, q.text) in
+    let numbers = numbers_once (row_of a).numbers (row_of b).numbers p.numbers q.numbers texts in
+    let both : Some a ≡ Some b = sym (back a) ∙ ap (λ t. command_by (key t) (row_of a).numbers) text ∙ ap (command_by (key (row_of b).text)) numbers ∙ back b in
+    cc both
+
+-- what holds of the meaning of the command that words say holds of that of each that they say
+pub said_holds : (words : List (List ℕ)) (command : Command) (Holds : Meaning → Type 0) → IsCommand words command → IsSaid words Holds → Holds (meaning_of command)
+said_holds words command Holds said is = subst (λ (c : Command). Holds (meaning_of c)) (one_command words is.command command is.said said) is.holds

@@ -1,0 +1,21 @@
+use Rattle.std.proofs.Common.{refl, sym, inr, subst}
+use Rattle.image_runs.specs.Checks.{HasUnsoundFrom, IsPoolDefect}
+use Rattle.image_runs.proofs.Faults.{image_of, wider}
+use Rattle.nvpool.specs.Telling.{IsTold}
+use Rattle.nvpool.proofs.Told.{told_all}
+use Rattle.nvpool.proofs.telling.tell_pool.Goals as goal
+
+pub returns-in-Ok-write_back-clause-told : goal.returns-in-Ok-write_back-clause-told
+returns-in-Ok-write_back-clause-told c image are =
+    let is = image_of image c.args.words.now c.args.bytes c.in_ok-header.header are c.in_ok-header.ensures.whole c.in_ok-header.ensures.pool in
+    subst (IsTold c.args.form image) (sym c.in-Ok-write_back.ensures) (told_all c.args.form c.args.words.now c.in_ok-header.header image c.in-Ok.text.items is refl c.in-Ok.ensures.told)
+
+pub returns-in-Err-clause-defect : goal.returns-in-Err-clause-defect
+returns-in-Err-clause-defect c image are =
+    wider c.in-Err.fault (HasUnsoundFrom c.args.words.now c.in_ok-header.header 0) (IsPoolDefect image)
+    (λ arena defect unsound. inr (record {
+      words = c.args.words.now;
+      image = image_of image c.args.words.now c.args.bytes c.in_ok-header.header are c.in_ok-header.ensures.whole c.in_ok-header.ensures.pool;
+      unsound = unsound;
+    }))
+    c.in-Err.ensures.unsound

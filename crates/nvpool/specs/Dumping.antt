@@ -1,0 +1,57 @@
+-- What `dump` means.
+use Rattle.std.specs.Prelude.{◌≡◌, ◌⊎◌, ℕ, ◌<◌, ◌≤◌, List, None}
+use Rattle.pool_layout.specs.Image.{part_of, IsImageOf, IsImageDefect}
+use Rattle.image_tables.specs.Tables.{tables_of}
+use Rattle.heap_check.specs.Heap.{heap}
+use Rattle.heap_check.specs.Image.{IsSoundImage}
+use Rattle.image_defects.specs.Defects.{IsFirstDefect}
+use Rattle.map_text.specs.Maps.{IsDump}
+use Rattle.nvpool.specs.declared.cause.Cause.{Cause}
+use Rattle.nvpool.specs.declared.cause.Cause.TheVariants.{Image, NoArena, NoBlock}
+use Rattle.nvpool.specs.Meaning.{Meaning}
+
+-- the bytes are the image of a pool that has the arena, of which this holds
+pub record HasArena (input : List ℕ) (arena : ℕ) (Is : List ℕ → Type 0) : Type 0 where
+  pub words : List ℕ
+  pub image : IsImageOf input words
+  pub inside : arena < image.header.arenas
+  pub holds : Is (part_of words image.header.granules arena)
+
+-- the bytes are the image of a pool of so many arenas, which has not this one
+pub record HasNoArena (input : List ℕ) (arena arenas : ℕ) : Type 0 where
+  pub words : List ℕ
+  pub image : IsImageOf input words
+  pub all : arenas ≡ image.header.arenas
+  pub outside : arenas ≤ arena
+
+-- the words are sound, and this holds of a root's block
+pub record HasNoBlock (words : List ℕ) (root : ℕ) : Type 0 where
+  pub sound : IsSoundImage words
+  pub none : heap (tables_of words) root ≡ None
+
+-- the words are sound, and a root has a block
+pub record HasBlock (words : List ℕ) (root : ℕ) : Type 0 where
+  pub sound : IsSoundImage words
+  pub some : ¬ (heap (tables_of words) root ≡ None)
+
+-- Why an image is refused: the bytes are none of a pool; or its pool has not the arena; or that is not sound, and this is its
+-- first defect; or the root has no block. Of the other arenas nothing is asked.
+abbrev pub RefusesDump : ℕ → ℕ → List ℕ → Cause → Type 0
+RefusesDump arena root input (Image found defect) = IsImageDefect input found defect ⊎ ((found ≡ arena) × HasArena input arena (λ words. IsFirstDefect words defect))
+RefusesDump arena root input (NoArena asked arenas) = (asked ≡ arena) × HasNoArena input arena arenas
+RefusesDump arena root input (NoBlock asked named) = (asked ≡ arena) × (named ≡ root) × HasArena input arena (λ words. HasNoBlock words root)
+
+abbrev pub dumping : ℕ → ℕ → Meaning
+dumping arena root = record {
+  answers = λ input output. HasArena input arena (λ words. IsDump words root output);
+  refuses = RefusesDump arena root;
+  accepts = λ input. HasArena input arena (λ words. HasBlock words root);
+}
+
+-- for the functions below
+
+-- why the words of an arena of this number have no block of a root to show
+abbrev pub RefusesArena : List ℕ → ℕ → ℕ → Cause → Type 0
+RefusesArena words arena root (Image found defect) = (found ≡ arena) × IsFirstDefect words defect
+RefusesArena words arena root (NoArena asked arenas) = ⊥
+RefusesArena words arena root (NoBlock asked named) = (asked ≡ arena) × (named ≡ root) × HasNoBlock words root

@@ -1,0 +1,6 @@
+pub mod Causes
+pub mod Meaning
+pub mod Telling
+pub mod Dumping
+pub mod Command
+pub mod Ends

@@ -1,0 +1,61 @@
+// The words of the program.
+ghost use Rattle.std.specs.Prelude.{◌≡◌, ◌↔◌, [], ◌∷◌, IsTrue, codes, map, string_bytes, MatchOption};
+ghost use Rattle.nvpool.specs.Command.{IsCommand, IsNoCommand};
+
+use trace_text::whole_number;
+
+/// What the words after the program's name ask for. Each reads the image of a pool.
+#[derive(Clone, Copy, Debug, PartialEq, Eq)]
+pub enum Command {
+    /// Print a letter for each granule of each arena, and their numbers.
+    Text,
+    /// Print the numbers of each arena.
+    Info,
+    /// Print the words of the block of a root, below 65536, of an arena, from 0 to 15.
+    Dump { arena: u32, root: u32 },
+}
+
+/// The command that the words say, if they say one.
+pub(crate) fn command_of(words: &[String]) -> Option<Command>
+    ensures { MatchOption result (IsNoCommand (map string_bytes words.now)) (IsCommand (map string_bytes words.now)) }
+{
+    if words.len() == 1 {
+        return plain_command(&words[0]);
+    }
+    if words.len() == 3 && is_word(&words[0], "dump") {
+        return dump_of(words[1].as_bytes(), words[2].as_bytes());
+    }
+    None
+}
+
+// The command that one word says.
+fn plain_command(word: &String) -> Option<Command>
+    ensures { MatchOption result (IsNoCommand (string_bytes word.now ∷ [])) (IsCommand (string_bytes word.now ∷ [])) }
+{
+    if is_word(word, "text") {
+        return Some(Command::Text);
+    }
+    if is_word(word, "info") {
+        return Some(Command::Info);
+    }
+    None
+}
+
+// The word is this text.
+fn is_word(word: &String, text: &str) -> bool
+    ensures { IsTrue result ↔ (string_bytes word.now ≡ text.now) }
+{
+    word.as_str() == text
+}
+
+// The words of a block that these two numbers ask for, if they are numbers.
+fn dump_of(arena: &[u8], root: &[u8]) -> Option<Command>
+    ensures { MatchOption result (IsNoCommand (codes "dump" ∷ arena.now ∷ root.now ∷ [])) (IsCommand (codes "dump" ∷ arena.now ∷ root.now ∷ [])) }
+{
+    let arena = whole_number(arena, 15)?;
+    let root = whole_number(root, 65535)?;
+    Some(Command::Dump {
+        arena: arena as u32,
+        root: root as u32,
+    })
+}

@@ -1,0 +1,81 @@
+// What `dump` has to say of its input.
+ghost use Rattle.std.specs.Prelude.{ℕ, List, IfOk};
+ghost use Rattle.pool_layout.specs.Image.{AreWordsOf, AreWords};
+ghost use Rattle.heap_check.specs.Image.{IsSoundImage};
+ghost use Rattle.heap_map.specs.Blocks.{IsRootBlock};
+ghost use Rattle.nvpool.specs.Dumping.{dumping};
+ghost use Rattle.nvpool.specs.Ends.{IsAnswer, IsArenaAnswer, IsDumpAnswer};
+
+use crate::answer::{Answer, fault_line};
+use crate::cause::Cause;
+use heap_map::{RootBlock, block_of};
+use image_check::CheckFault;
+use map_text::write_dump;
+use pmem_lines::OutOfMemory;
+use pool_layout::{parts, pool_header};
+use std::alloc::Global;
+
+/// The words of the block of a root of an arena of a pool, or the line that says why there are none: the first defect of the
+/// bytes as the image of a pool; else that the pool has not the arena; else the first defect of that; else that the root has no
+/// block.
+pub(crate) fn dump_answer(
+    alloc: Global,
+    words: &[u64],
+    bytes: u64,
+    arena: u32,
+    root: u32,
+) -> Result<Answer, OutOfMemory>
+    requires { AreWords words.now bytes }
+    ensures { IfOk result (λ answer. (image : List ℕ) → AreWordsOf words.now bytes image → IsAnswer (dumping arena root) image answer) }
+{
+    let header = match pool_header(words, bytes) {
+        Ok(header) => header,
+        Err(found) => {
+            return fault_line(
+                alloc,
+                Cause::Image {
+                    arena: found.arena,
+                    defect: found.defect,
+                },
+            );
+        }
+    };
+    if arena >= header.arenas {
+        return fault_line(
+            alloc,
+            Cause::NoArena {
+                arena,
+                arenas: header.arenas,
+            },
+        );
+    }
+    dump_arena(alloc, parts(&header, words, arena), arena, root)
+}
+
+// The same of the words of the arena.
+fn dump_arena(alloc: Global, words: &[u64], arena: u32, root: u32) -> Result<Answer, OutOfMemory>
+    ensures { IfOk result (IsArenaAnswer words.now arena root) }
+{
+    match block_of(alloc, words, root) {
+        Ok(Some(block)) => dump_block(alloc, words, root, block),
+        Ok(None) => fault_line(alloc, Cause::NoBlock { arena, root }),
+        Err(CheckFault::Defect(defect)) => fault_line(alloc, Cause::Image { arena, defect }),
+        Err(CheckFault::Memory(error)) => Err(error),
+    }
+}
+
+// The words of a block.
+fn dump_block(
+    alloc: Global,
+    words: &[u64],
+    root: u32,
+    block: RootBlock,
+) -> Result<Answer, OutOfMemory>
+    requires sound { IsSoundImage words.now }
+    requires block { IsRootBlock words.now root block }
+    ensures { IfOk result (IsDumpAnswer words.now root) }
+{
+    let mut text = Vec::new(alloc);
+    write_dump(&mut text, words, block.at, block.size)?;
+    Ok(Answer::Output(text))
+}

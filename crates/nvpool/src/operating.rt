@@ -1,0 +1,79 @@
+// The top call.
+ghost use Rattle.std.specs.Prelude.{◌≡◌, ◌≢◌, ◌↔◌, ◌⊎◌, ℕ, List, IfOk, map, string_bytes};
+ghost use Rattle.nvheap.specs.Outside.{Rose};
+ghost use Rattle.nvpool.specs.Command.{meaning_of, IsNoCommand, IsSaid};
+ghost use Rattle.nvpool.specs.Ends.{told_by, Ends, HasAcceptable, IsSilent, HasBytes, IsInput, IsAnswer};
+
+use crate::answer::Answer;
+use crate::command::{Command, command_of};
+use crate::dumping::dump_answer;
+use crate::input::{PoolInput, read_input};
+use crate::output::write_answer;
+use crate::telling::{Form, told_answer};
+use nvheap::{Sink, Source, Status};
+use pmem_lines::OutOfMemory;
+use std::alloc::Global;
+
+/// Does all that the program does: reads the words, then all of the source, runs the command, and then writes. `words` are
+/// the words after the program's name.
+///
+/// `Usage` comes exactly where the words say no command. The other answers come in the order `ReadFault`, `TooLong`,
+/// `Refused`, `WriteFault`, `Done`, each where no earlier one came; `Memory` may stand in the place of any of them.
+pub fn operate<S: Source, K: Sink>(
+    alloc: Global,
+    words: &[String],
+    source: &mut S,
+    sink: &mut K,
+) -> Status
+    ensures usage { (result ≡ Status.Usage) ↔ IsNoCommand (map string_bytes words.now) }
+    ensures untouched { result ≡ Status.Usage → (source.new ≡ source.old) × (sink.new ≡ sink.old) }
+    ensures ends { result ≢ Status.Usage → IsSaid (map string_bytes words.now) (λ m. Ends m (told_by S.left K.taken source.old sink.old) (told_by S.left K.taken source.new sink.new) result) }
+    ensures read_fault { result ≡ Status.ReadFault → Rose (S.faults source.old) (S.faults source.new) }
+    ensures write_fault { result ≡ Status.WriteFault → Rose (K.faults sink.old) (K.faults sink.new) }
+    ensures unfailed { result ≡ Status.TooLong → S.faults source.new ≡ S.faults source.old }
+    ensures complete { IsSaid (map string_bytes words.now) (λ m. HasAcceptable m (S.left source.old)) → ¬ (Rose (S.faults source.old) (S.faults source.new)) → ¬ (Rose (K.faults sink.old) (K.faults sink.new)) →
+        (result ≡ Status.Done) ⊎ (result ≡ Status.Memory) }
+    ensures silent { IsSilent result → sink.new ≡ sink.old }
+{
+    match command_of(words) {
+        Some(command) => carry_out(alloc, command, source, sink),
+        None => Status::Usage,
+    }
+}
+
+// Runs a command.
+fn carry_out<S: Source, K: Sink>(
+    alloc: Global,
+    command: Command,
+    source: &mut S,
+    sink: &mut K,
+) -> Status
+    ensures ends { Ends (meaning_of command) (told_by S.left K.taken source.old sink.old) (told_by S.left K.taken source.new sink.new) result }
+    ensures read_fault { result ≡ Status.ReadFault → Rose (S.faults source.old) (S.faults source.new) }
+    ensures write_fault { result ≡ Status.WriteFault → Rose (K.faults sink.old) (K.faults sink.new) }
+    ensures unfailed { result ≡ Status.TooLong → S.faults source.new ≡ S.faults source.old }
+    ensures silent { IsSilent result → sink.new ≡ sink.old }
+{
+    let input = match read_input(alloc, source) {
+        Ok(input) => input,
+        Err(status) => return status,
+    };
+    match answer_to(alloc, command, &input) {
+        Ok(answer) => write_answer(sink, &answer),
+        Err(_) => Status::Memory,
+    }
+}
+
+// What a command has to say of its input.
+fn answer_to(alloc: Global, command: Command, input: &PoolInput) -> Result<Answer, OutOfMemory>
+    requires { IsInput input.now }
+    ensures { IfOk result (λ answer. (bytes : List ℕ) → HasBytes input.now bytes → IsAnswer (meaning_of command) bytes answer) }
+{
+    match command {
+        Command::Text => told_answer(alloc, Form::Letters, &input.words, input.bytes),
+        Command::Info => told_answer(alloc, Form::Numbers, &input.words, input.bytes),
+        Command::Dump { arena, root } => {
+            dump_answer(alloc, &input.words, input.bytes, arena, root)
+        }
+    }
+}
