@@ -1,7 +1,7 @@
 -- The indexes after the parts of a free.
 use Rattle.std.proofs.Common.{false, MatchOption, IsSome, ◌≡◌, ◌≢◌, ◌⊎◌, ◌↔◌, ◌==◌, ℕ, ◌+◌, ◌-◌, ◌*◌, ◌/◌, ◌<◌, ◌≤◌, List, length, slice_index, Option, Some, None, if◌then◌else◌, refl, sym, ap, ◌∙◌, subst, arith, ⊎_elim, true≢false}
 use Rattle.heap_indexes.proofs.Common.{is_unfit, cases_eq, class_size, class_capacity, class_size-most, Bounds, Machine, Range, with_key, slab_block, LiesIn, IsLarge, IsBlockOf, IsOverlapFree, live_below, class_known, LiesIn-block, with_key-other, FreeSet, IsFree, IsHeldRow, class_in, Lives, normal_at, Supply, MayBeGiven, IsWith, IsInSlabOf, IsInNoSlabOf, HasSlabLess, Units, IsRangeCleared, law_of_freed_units, Indexes, AreIndexesOf, strangers_below, loosened, closed, HasOpened, HasNoneOpen, IsBehindHeader, eq-eqb, eqb-true}
-use Rattle.heap_indexes.proofs.Machines.{one_lost, one_slab, placed_less, lies_in, block_some, IsOverlapFree-loosened}
+use Rattle.heap_indexes.proofs.Machines.{one_lost, sized_same, one_slab, placed_less, lies_in, block_some, IsOverlapFree-loosened}
 use Rattle.heap_indexes.proofs.Granules.{free_small_less, free_given, held_own, free_closed, held_slab}
 use Rattle.heap_indexes.proofs.Supplies.{supply_returned, supply_opened, supply_closed, none_covered, used_block}
 use Rattle.heap_indexes.proofs.LiveBlocks.{count_some, lives_lowered, normal_returned, strangers_returned, strangers_lowered, strangers_here, normal_lowered, lives_closed, strangers_closed, none_live, units_same, sizes_differ}
@@ -31,17 +31,7 @@ module _ {b : Bounds} {m : Machine} {x : Indexes} (apart : IsOverlapFree b m) (a
         let some : 0 < range.size = omega (arith, many) in
         let off : (s c : ℕ) → m.slab s ≡ Some c → (range.at + range.size ≤ 16384 * s) ⊎ (16384 * s + 65536 ≤ range.at) = λ s c slab. large_off b m root s c range apart named large slab in
         record {
-          sized = record {
-            least = are.sized.least;
-            most = are.sized.most;
-            first = are.sized.first;
-            roots = are.sized.roots;
-            free = granules ∙ are.sized.free;
-            slabs = are.sized.slabs;
-            counts = are.sized.counts;
-            strangers = are.sized.strangers;
-            units = are.sized.units;
-          };
+          sized = sized_same b x _ are.sized granules refl refl refl refl;
           placed = placed_less one are.placed;
           free = free_given one start n refl refl many apart x.free free are.free given;
           supply = supply_without one some off x.supply are.supply;
@@ -112,17 +102,7 @@ module _ {b : Bounds} {m : Machine} {x : Indexes} (apart : IsOverlapFree b m) (a
         let some = block_some start class number within in
         let small = class_size-most class (class_known class number within) in
         record {
-          sized = record {
-            least = are.sized.least;
-            most = are.sized.most;
-            first = are.sized.first;
-            roots = are.sized.roots;
-            free = are.sized.free;
-            slabs = came.granules ∙ are.sized.slabs;
-            counts = size ∙ are.sized.counts;
-            strangers = are.sized.strangers;
-            units = cleared.granules ∙ are.sized.units;
-          };
+          sized = sized_same b x _ are.sized refl came.granules size refl cleared.granules;
           placed = placed_less one are.placed;
           free = free_small_less one x.free small are.free;
           supply = supply_returned one x.supply supply start class number apart slab within refl are.supply came;
@@ -157,17 +137,7 @@ module _ {b : Bounds} {m : Machine} {x : Indexes} (apart : IsOverlapFree b m) (a
         let noted = stranger_noted in
         let left_is : left ≡ strangers_below (loosened m root).block start class b.roots = omega (arith, is, noted) in
         record {
-          sized = record {
-            least = are.sized.least;
-            most = are.sized.most;
-            first = are.sized.first;
-            roots = are.sized.roots;
-            free = are.sized.free;
-            slabs = opened.granules ∙ are.sized.slabs;
-            counts = size ∙ are.sized.counts;
-            strangers = wide ∙ are.sized.strangers;
-            units = cleared.granules ∙ are.sized.units;
-          };
+          sized = sized_same b x _ are.sized refl opened.granules size wide cleared.granules;
           placed = placed_less one are.placed;
           free = free_small_less one x.free small are.free;
           supply = supply_opened one x.supply supply start class units apart less slab lies units_are are.supply opened;
@@ -191,17 +161,7 @@ module _ {b : Bounds} {m : Machine} {x : Indexes} (apart : IsOverlapFree b m) (a
         let bare = sym (are.lives.counts start class slab) ∙ none in (
           bare,
           record {
-            sized = record {
-              least = are.sized.least;
-              most = are.sized.most;
-              first = are.sized.first;
-              roots = are.sized.roots;
-              free = granules ∙ are.sized.free;
-              slabs = gone.granules ∙ are.sized.slabs;
-              counts = ap length counts ∙ are.sized.counts;
-              strangers = are.sized.strangers;
-              units = are.sized.units;
-            };
+            sized = sized_same b x _ are.sized granules gone.granules (ap length counts) refl refl;
             placed = record {
               each = λ r range named small.
                   let home = are.placed.each r range named small in

@@ -1,6 +1,6 @@
 -- Two states of the machine that differ by one block, and where blocks lie.
-use Rattle.std.proofs.Common.{◌≡◌, ◌≢◌, ◌⊎◌, ℕ, ◌+◌, ◌*◌, ◌/◌, ◌<◌, ◌≤◌, Some, None, refl, sym, ap, ◌∙◌, subst, arith, inl, inr, ⊎_elim}
-use Rattle.heap_indexes.proofs.Common.{cases_eq, cases_lt, class_capacity, class_size-least, Bounds, Machine, Range, with_key, AreApart, IsLarge, LiesIn, slab_block, IsUnused, IsOverlapFree, with_key-here, with_key-other, class_known, LiesIn-block, blocks_apart, left_named, IsInSomeSlab, AreInSlabs, loosened}
+use Rattle.std.proofs.Common.{◌≡◌, ◌≢◌, ◌⊎◌, ℕ, ◌+◌, ◌*◌, ◌/◌, ◌<◌, ◌≤◌, length, Some, None, refl, sym, ap, ◌∙◌, subst, arith, inl, inr, ⊎_elim}
+use Rattle.heap_indexes.proofs.Common.{cases_eq, cases_lt, class_capacity, class_size-least, Bounds, Machine, Range, with_key, AreApart, IsLarge, LiesIn, slab_block, IsUnused, IsOverlapFree, with_key-here, with_key-other, class_known, LiesIn-block, blocks_apart, left_named, IsInSomeSlab, AreInSlabs, AreSizedFor, Indexes, loosened}
 use Rattle.heap_model.proofs.Placing.{with_range}
 
 -- equal values of an option
@@ -137,3 +137,18 @@ placed_class m start class placed = record {
 -- a block of a class has a byte
 pub block_some : (s c i : ℕ) → i < class_capacity c → 0 < (slab_block s c i).size
 block_some s c i within = omega (arith, class_size-least c (class_known c i within))
+
+-- indexes that each know as many granules as others did
+pub sized_same : (b : Bounds) (x y : Indexes) → AreSizedFor b x → y.free.granules ≡ x.free.granules → y.supply.slabs.granules ≡ x.supply.slabs.granules → length y.lives.counts ≡ length x.lives.counts → length y.strangers ≡ length x.strangers →
+    y.units.granules ≡ x.units.granules → AreSizedFor b y
+sized_same b x y sized free slabs counts strangers units = record {
+  least = sized.least;
+  most = sized.most;
+  first = sized.first;
+  roots = sized.roots;
+  free = free ∙ sized.free;
+  slabs = slabs ∙ sized.slabs;
+  counts = counts ∙ sized.counts;
+  strangers = strangers ∙ sized.strangers;
+  units = units ∙ sized.units;
+}

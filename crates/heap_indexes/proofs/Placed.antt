@@ -4,7 +4,7 @@ use Rattle.std.proofs.lemmas.Nat.{le-div}
 use Rattle.heap_indexes.proofs.Common.{is_unfit, HasNoOpen, HasSlabLess, IsClearRange, with_key-here, with_key-other, cases_eq, class_size, class_capacity, class_size-most, class_size-least, class_size-aligned, Bounds, Machine, Range, with_key, slab_block, IsBlockOf, IsUnused, IsFreeGranule, IsOverlapFree, IsBestFit, IsFreeRow, with_block, with_class, LiesIn-block, IsOverlapFree-morph, IsOverlapFree-slab, IsUnused-free, fit_free, live_below-most, FreeSet, IsFree, class_in, SlabBlock, Lives, normal_at, Supply, MayBeGiven, TookBlock, HasSlabMore, IsClearOf, Units, IsOnUnits, IsRangeMarked, law_of_placed_units, Indexes, AreIndexesOf, HasChanged, eq-eqb, eqb-true}
 use Rattle.heap_model.specs.Choice.Site.{Granules, InSlab}
 use Rattle.heap_indexes.specs.Fitting.{IsFirstReady}
-use Rattle.heap_indexes.proofs.Machines.{one_given, placed_more, placed_class, block_some}
+use Rattle.heap_indexes.proofs.Machines.{one_given, sized_same, placed_more, placed_class, block_some}
 use Rattle.heap_indexes.proofs.Granules.{free_small, free_taken, free_opened, free_changed, no_slab_free}
 use Rattle.heap_indexes.proofs.Supplies.{supply_taken, supply_classed, changed_here, changed_others, changed_classes}
 use Rattle.heap_indexes.proofs.LiveBlocks.{lives_raised, normal_taken, strangers_taken, lives_classed, strangers_classed, all_strangers, no_strangers, none_begin, units_same}
@@ -59,17 +59,7 @@ module _ {b : Bounds} {m : Machine} {x : Indexes} (apart : IsOverlapFree b m) (a
       let some = block_some block.start class block.number took.within in
       let small = class_size-most class home.known in
       record {
-        sized = record {
-          least = are.sized.least;
-          most = are.sized.most;
-          first = are.sized.first;
-          roots = are.sized.roots;
-          free = are.sized.free;
-          slabs = took.without.granules ∙ are.sized.slabs;
-          counts = size ∙ are.sized.counts;
-          strangers = are.sized.strangers;
-          units = marked.granules ∙ are.sized.units;
-        };
+        sized = sized_same b x _ are.sized refl took.without.granules size refl marked.granules;
         placed = placed_more one (λ _. record { start = block.start; class = class; slab = home.slab; own = class; block = is_block }) are.placed;
         free = free_small one x.free small are.free;
         supply = supply_taken one x.supply supply block.start class block.number apart home.slab took.within refl are.supply took.without;
@@ -87,17 +77,7 @@ module _ {b : Bounds} {m : Machine} {x : Indexes} (apart : IsOverlapFree b m) (a
       let large : 16384 < range.size = omega (arith, many) in
       let some : 0 < range.size = omega (arith, many) in
       record {
-        sized = record {
-          least = are.sized.least;
-          most = are.sized.most;
-          first = are.sized.first;
-          roots = are.sized.roots;
-          free = granules ∙ are.sized.free;
-          slabs = are.sized.slabs;
-          counts = are.sized.counts;
-          strangers = are.sized.strangers;
-          units = are.sized.units;
-        };
+        sized = sized_same b x _ are.sized granules refl refl refl refl;
         placed = placed_more one (λ small. absurd (small large)) are.placed;
         free = free_taken one start n refl refl many x.free free are.free taken;
         supply = supply_with one some off x.supply are.supply;
@@ -150,17 +130,7 @@ module _ {b : Bounds} {m : Machine} {x : Indexes} (apart : IsOverlapFree b m) (a
       let all = no_strangers b m start class bare in
       let zero_is = are.lives.none start none in
       record {
-        sized = record {
-          least = are.sized.least;
-          most = are.sized.most;
-          first = are.sized.first;
-          roots = are.sized.roots;
-          free = granules ∙ are.sized.free;
-          slabs = more.granules ∙ are.sized.slabs;
-          counts = ap length counts ∙ are.sized.counts;
-          strangers = size ∙ are.sized.strangers;
-          units = are.sized.units;
-        };
+        sized = sized_same b x _ are.sized granules more.granules (ap length counts) size refl;
         placed = placed_class m start class are.placed;
         free = free_opened b m start class x.free free none are.free taken;
         supply = supply_classed m start class x.supply supply known are.supply more.classes (λ i within. (λ _. unused_fresh start class i fit within, λ _. (more.here i).1 within)) more.others;
@@ -183,17 +153,7 @@ module _ {b : Bounds} {m : Machine} {x : Indexes} (apart : IsOverlapFree b m) (a
       let all = all_strangers b m start d class apart was.0 was.1 (are.supply.known start d was.0) known ready.is.differs in
       let count = are.lives.counts start d was.0 in
       record {
-        sized = record {
-          least = are.sized.least;
-          most = are.sized.most;
-          first = are.sized.first;
-          roots = are.sized.roots;
-          free = are.sized.free;
-          slabs = changed.came.granules ∙ changed.gone.granules ∙ are.sized.slabs;
-          counts = ap length counts ∙ are.sized.counts;
-          strangers = size ∙ are.sized.strangers;
-          units = are.sized.units;
-        };
+        sized = sized_same b x _ are.sized refl (changed.came.granules ∙ changed.gone.granules) (ap length counts) size refl;
         placed = placed_class m start class are.placed;
         free = free_changed b m start class d x.free was.0 are.free;
         supply = supply_classed m start class x.supply supply known are.supply (changed_classes x.units x.supply supply start class changed) (changed_here x.units x.supply supply start class d apart are.units was.0 changed) (changed_others x.units x.supply supply start class changed);
