@@ -1,4 +1,4 @@
-// What `text` and `info` have to say of their input.
+// What `map`, `text` and `info` have to say of their input.
 ghost use Rattle.std.specs.Prelude.{◌≡◌, ◌↔◌, ◌*◌, ℕ, List, ◌++◌, length, IfOk, IfErr, OnOk};
 ghost use Rattle.pool_layout.specs.Image.{AreWordsOf, AreWords, IfDefect};
 ghost use Rattle.heap_check.specs.Image.{IsSoundImage, IsExactImage};
@@ -14,6 +14,7 @@ use crate::answer::{Answer, fault_line};
 use crate::cause::Cause;
 use heap_map::{HeapMap, map_of};
 use image_check::CheckFault;
+use map_svg::{arena_y, write_end, write_head, write_picture};
 use map_text::{write_info, write_legend, write_text};
 use pmem_lines::OutOfMemory;
 use pool_layout::{ImageFault, PoolHeader, parts, pool_header};
@@ -27,6 +28,8 @@ pub(crate) enum Form {
     Numbers,
     /// A letter for each of its granules, and its numbers.
     Letters,
+    /// A box for each of its granules, and its numbers, in a page of SVG.
+    Picture,
 }
 
 /// What is told of each arena of the image of a pool, or the line of its first defect.
@@ -74,17 +77,32 @@ fn write_back(form: Form, text: &mut Vec<u8>) -> Result<(), OutOfMemory>
     match form {
         Form::Numbers => write_bytes(text, b""),
         Form::Letters => write_bytes(text, b""),
+        Form::Picture => write_end(text),
     }
 }
 
 // What stands before the arenas.
 fn front_of(alloc: Global, form: Form, header: &PoolHeader) -> Result<Vec<u8>, OutOfMemory>
+    requires arenas { header.now.arenas ≤ 16 }
+    requires granules { header.now.granules ≤ 4096 }
     ensures { IfOk result (λ text. text.items ≡ front_of form header.now) }
 {
     match form {
         Form::Numbers => Ok(Vec::new(alloc)),
         Form::Letters => legend(alloc),
+        Form::Picture => head_of(alloc, header.arenas, header.granules),
     }
+}
+
+// The head of a page for so many arenas of so many granules each.
+fn head_of(alloc: Global, arenas: u32, granules: u32) -> Result<Vec<u8>, OutOfMemory>
+    requires arenas { arenas ≤ 16 }
+    requires granules { granules ≤ 4096 }
+    ensures { IfOk result (λ text. text.items ≡ head arenas granules) }
+{
+    let mut text = Vec::new(alloc);
+    write_head(&mut text, arenas, granules)?;
+    Ok(text)
 }
 
 // The line that says what the letters are.
@@ -164,5 +182,8 @@ fn write_map(
     match form {
         Form::Numbers => write_info(text, words, arena, map),
         Form::Letters => write_text(text, words, arena, map),
+        Form::Picture => {
+            write_picture(text, words, arena, arena_y(header.granules, arena), map)
+        }
     }
 }
