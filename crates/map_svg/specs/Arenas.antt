@@ -1,5 +1,5 @@
 -- The picture of an arena: a heading, the granules, and how full the slabs of each class are.
-use Rattle.std.specs.Prelude.{◌≡◌, ◌↔◌, ℕ, ◌+◌, ◌*◌, ◌/◌, ◌%◌, ◌==◌, ◌&&◌, List, [], ◌∷◌, ◌++◌, length, decimal, codes, if◌then◌else◌}
+use Rattle.std.specs.Prelude.{◌≡◌, ◌↔◌, ℕ, ◌+◌, ◌*◌, ◌/◌, ◌%◌, ◌==◌, ◌&&◌, List, [], ◌∷◌, ◌++◌, decimal, codes, if◌then◌else◌}
 use Rattle.size_classes.specs.Classes.{class_size, class_capacity}
 use Rattle.heap_check.specs.Image.{IsSoundImage, IsExactImage}
 use Rattle.heap_map.specs.declared.cell.Cell.{Cell}
@@ -10,7 +10,7 @@ use Rattle.heap_map.specs.Facts.{fill_in, AreFacts, AreClassFills}
 use Rattle.map_text.specs.Pieces.{text_below}
 use Rattle.map_text.specs.Facts.{request_of}
 use Rattle.map_svg.specs.Shapes.{box_text, line_begin, line_end}
-use Rattle.map_svg.specs.Cells.{bar_tone, row_of_boxes, row_of_marks}
+use Rattle.map_svg.specs.Cells.{row_of_boxes, row_of_marks}
 
 -- how many rows so many granules have, and how high the picture of an arena of so many is
 abbrev pub rows_of : ℕ → ℕ

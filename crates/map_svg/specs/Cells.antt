@@ -1,5 +1,5 @@
 -- The granules of an arena as boxes, 64 a row, each of 16 by 18 units in a field of 16 by 20.
-use Rattle.std.specs.Prelude.{ℕ, ◌+◌, ◌-◌, ◌*◌, ◌/◌, ◌%◌, ◌==◌, nat_lt, Bool, true, false, List, [], ◌∷◌, ◌++◌, length, decimal, codes, if◌then◌else◌}
+use Rattle.std.specs.Prelude.{ℕ, ◌+◌, ◌-◌, ◌*◌, ◌/◌, ◌%◌, ◌==◌, Bool, true, false, List, [], ◌++◌, length, decimal, codes, if◌then◌else◌}
 use Rattle.size_classes.specs.Classes.{class_size}
 use Rattle.slab_header.specs.declared.state.SlabState.{SlabState}
 use Rattle.slab_header.specs.declared.state.SlabState.TheVariants.{Normal, Morphing, Morphed}
