@@ -1,6 +1,7 @@
 use Rattle.std.proofs.Common.{sym, subst}
 use Rattle.std.specs.Prelude.{OnOk}
 use Rattle.map_text.specs.Pieces.{Adds}
+use Rattle.map_svg.specs.Arenas.{IsPicture}
 use Rattle.nvpool.specs.declared.telling.Form.{Form}
 use Rattle.nvpool.specs.Telling.{IsToldAs}
 use Rattle.nvpool.proofs.telling.write_map.Goals as goal
