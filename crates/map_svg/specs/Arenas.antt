@@ -10,7 +10,7 @@ use Rattle.heap_map.specs.Facts.{fill_in, AreFacts, AreClassFills}
 use Rattle.map_text.specs.Pieces.{text_below}
 use Rattle.map_text.specs.Facts.{request_of}
 use Rattle.map_svg.specs.Shapes.{box_text, line_begin, line_end}
-use Rattle.map_svg.specs.Cells.{row_of_boxes, row_of_marks}
+use Rattle.map_svg.specs.Cells.{row_of_boxes, row_of_labels}
 
 -- how many rows so many granules have, and how high the picture of an arena of so many is
 abbrev pub rows_of : ℕ → ℕ
@@ -60,7 +60,7 @@ abbrev pub place_end : List ℕ
 place_end = codes "</g>" ++ 10 ∷ []
 
 abbrev pub arena_picture : ℕ → ℕ → List Cell → Facts → List ClassFill → List ℕ
-arena_picture arena y cells facts fills = place y ++ heading arena facts ++ counts facts ++ row_of_boxes cells ++ row_of_marks cells ++ class_entries facts.granules fills ++ place_end
+arena_picture arena y cells facts fills = place y ++ heading arena facts ++ counts facts ++ row_of_boxes cells ++ row_of_labels cells ++ class_entries facts.granules fills ++ place_end
 
 -- The arena is sound, and the text is its picture at a height: a box over each granule says what it is, and some granule has the
 -- frame of what is loose exactly where the arena is not exact.

@@ -99,15 +99,12 @@ frame k loose = if loose then whole_box loose_tone k else []
 
 -- the boxes of a granule
 unfoldable pub cell_boxes : ℕ → Cell → List ℕ
-cell_boxes k cell = whole_box (tone_of cell.kind) k ++ slab_marks k cell.kind ++ edge k cell.kind
-
--- and what stands over the boxes of all
-unfoldable pub cell_marks : ℕ → Cell → List ℕ
-cell_marks k cell = kind_label k cell.kind ++ frame k cell.loose
+cell_boxes k cell = whole_box (tone_of cell.kind) k ++ slab_marks k cell.kind ++ edge k cell.kind ++ frame k cell.loose
 
 -- of all granules
 unfoldable pub row_of_boxes : List Cell → List ℕ
 row_of_boxes cells = text_below (λ k. cell_boxes k (cell_in cells k)) (length cells)
 
-unfoldable pub row_of_marks : List Cell → List ℕ
-row_of_marks cells = text_below (λ k. cell_marks k (cell_in cells k)) (length cells)
+-- their labels, which stand over the boxes of all
+unfoldable pub row_of_labels : List Cell → List ℕ
+row_of_labels cells = text_below (λ k. kind_label k (cell_in cells k).kind) (length cells)

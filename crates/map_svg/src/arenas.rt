@@ -7,7 +7,7 @@ ghost use Rattle.map_text.specs.Pieces.{Adds};
 ghost use Rattle.map_text.specs.Drawing.{HaveClasses};
 ghost use Rattle.map_svg.specs.Arenas.{rows_of, arena_height, heading, counts, class_words, class_entry, class_entries, place, place_end, arena_picture, IsPicture};
 
-use crate::cells::{write_cells, write_marks_over};
+use crate::cells::{write_cells, write_labels};
 use crate::shapes::{Shape, begin_line, end_line, write_box};
 use heap_map::{Cell, ClassFill, Facts, HeapMap};
 use map_text::request_of;
@@ -164,7 +164,7 @@ fn write_arena(
     write_heading(out, arena, facts)?;
     write_counts(out, facts)?;
     write_cells(out, cells)?;
-    write_marks_over(out, cells)?;
+    write_labels(out, cells)?;
     write_classes(out, facts.granules, classes)?;
     write_bytes(out, b"</g>\n")
 }

@@ -2,7 +2,7 @@
 ghost use Rattle.std.specs.Prelude.{◌≡◌, ◌+◌, ◌≤◌, ◌<◌, ◌++◌, length, OnOk};
 ghost use Rattle.slab_header.specs.State.{class_of};
 ghost use Rattle.map_text.specs.Drawing.{AreClasses, HasClasses, HaveClasses};
-ghost use Rattle.map_svg.specs.Cells.{tone_of, begins_at, is_turning, whole_box, hatch, bar, slab_marks, edge, label, large_label, slab_label, kind_label, frame, cell_boxes, cell_marks, row_of_boxes, row_of_marks};
+ghost use Rattle.map_svg.specs.Cells.{tone_of, begins_at, is_turning, whole_box, hatch, bar, slab_marks, edge, label, large_label, slab_label, kind_label, frame, cell_boxes, row_of_boxes, row_of_labels};
 
 use crate::shapes::{Shape, begin_label, end_line, write_box};
 use heap_map::{Cell, Kind, SlabFill};
@@ -216,17 +216,7 @@ fn write_cell(out: &mut Vec<u8>, granule: u32, cell: Cell) -> Result<(), OutOfMe
 {
     write_whole(out, tone_of(cell.kind), granule)?;
     write_marks(out, granule, cell)?;
-    write_edge(out, granule, cell.kind)
-}
-
-// Writes what stands over the boxes.
-#[tactic(auto, unfolding(crate::specs::Cells::cell_marks))]
-fn write_cell_marks(out: &mut Vec<u8>, granule: u32, cell: Cell) -> Result<(), OutOfMemory>
-    requires granule { granule < 4096 }
-    requires classes { HasClasses cell }
-    ensures { OnOk result (out.new.items ≡ out.old.items ++ cell_marks granule cell) }
-{
-    write_kind_label(out, granule, cell)?;
+    write_edge(out, granule, cell.kind)?;
     write_frame(out, granule, cell.loose)
 }
 
@@ -242,14 +232,14 @@ pub(crate) fn write_cells(out: &mut Vec<u8>, cells: &[Cell]) -> Result<(), OutOf
     Ok(())
 }
 
-/// Writes what stands over the boxes of all granules.
-pub(crate) fn write_marks_over(out: &mut Vec<u8>, cells: &[Cell]) -> Result<(), OutOfMemory>
+/// Writes the labels of all granules.
+pub(crate) fn write_labels(out: &mut Vec<u8>, cells: &[Cell]) -> Result<(), OutOfMemory>
     requires few { length cells.now ≤ 4096 }
     requires classes { HaveClasses cells.now }
-    ensures { OnOk result (out.new.items ≡ out.old.items ++ row_of_marks cells.now) }
+    ensures { OnOk result (out.new.items ≡ out.old.items ++ row_of_labels cells.now) }
 {
     for granule in 0..cells.len() as u32 {
-        write_cell_marks(out, granule, cells[granule as usize])?;
+        write_kind_label(out, granule, cells[granule as usize])?;
     }
     Ok(())
 }
