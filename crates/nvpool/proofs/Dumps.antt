@@ -8,9 +8,10 @@ use Rattle.nvpool.specs.declared.answer.Answer.{Answer}
 use Rattle.nvpool.specs.declared.answer.Answer.TheVariants.{Output, FaultLine}
 use Rattle.nvpool.specs.declared.cause.Cause.{Cause}
 use Rattle.nvpool.specs.declared.cause.Cause.TheVariants.{Image, NoArena, NoBlock}
-use Rattle.nvpool.specs.Dumping.{dumping, HasArena, RefusesDump, RefusesArena}
+use Rattle.nvpool.specs.Dumping.{dumping, IsBlockDump, HasArena, RefusesDump, RefusesArena}
 use Rattle.nvpool.specs.Ends.{IsAnswer, IsArenaAnswer, IsDumpAnswer, IsFaultLine}
 use Rattle.nvpool.proofs.Answering.{ok_more}
+use Rattle.nvpool.proofs.Aligned.{block_dump}
 
 module _ (words own : List ℕ) (size arena root : ℕ) (header : PoolHeader) where
   has_arena : (input : List ℕ) (Is : List ℕ → Type 0) → AreWordsOf words size input → size ≡ 8 * length words → IsPoolImage words header → arena < header.arenas → own ≡ part_of words header.granules arena → Is own → HasArena input arena Is
@@ -27,7 +28,7 @@ module _ (words own : List ℕ) (size arena root : ℕ) (header : PoolHeader) wh
   why_not input (NoBlock asked named) are whole pool inside part is = (is.0, is.1, has_arena input _ are whole pool inside part is.2)
 
   one_answer : (input : List ℕ) (answer : Answer) → AreWordsOf words size input → size ≡ 8 * length words → IsPoolImage words header → arena < header.arenas → own ≡ part_of words header.granules arena → IsArenaAnswer own arena root answer → IsAnswer (dumping arena root) input answer
-  one_answer input (Output text) are whole pool inside part is = has_arena input _ are whole pool inside part is
+  one_answer input (Output text) are whole pool inside part is = has_arena input (λ ws. IsBlockDump ws root text.items) are whole pool inside part (block_dump own root text.items is)
   one_answer input (FaultLine text) are whole pool inside part is = record { why = is.why; cause = why_not input is.why are whole pool inside part is.cause; line = is.line }
 
   pub arena_answer : {E : Type 0} (result : Result Answer E) → size ≡ 8 * length words → IsPoolImage words header → arena < header.arenas → own ≡ part_of words header.granules arena → IfOk result (IsArenaAnswer own arena root) →

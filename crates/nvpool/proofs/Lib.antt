@@ -6,4 +6,5 @@ pub mod Answering
 pub mod Endings
 pub mod Completeness
 pub mod Told
+pub mod Aligned
 pub mod Dumps

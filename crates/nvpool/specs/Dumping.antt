@@ -1,5 +1,5 @@
 -- What `dump` means.
-use Rattle.std.specs.Prelude.{◌≡◌, ◌⊎◌, ℕ, ◌<◌, ◌≤◌, List, None}
+use Rattle.std.specs.Prelude.{◌≡◌, ◌⊎◌, ℕ, ◌%◌, ◌<◌, ◌≤◌, List, None}
 use Rattle.pool_layout.specs.Image.{part_of, IsImageOf, IsImageDefect}
 use Rattle.image_tables.specs.Tables.{tables_of}
 use Rattle.heap_check.specs.Heap.{heap}
@@ -34,6 +34,11 @@ pub record HasBlock (words : List ℕ) (root : ℕ) : Type 0 where
   pub sound : IsSoundImage words
   pub some : ¬ (heap (tables_of words) root ≡ None)
 
+-- the text has the words of the block of a root, as they stand, sixteen bytes a line, and all of them
+pub record IsBlockDump (words : List ℕ) (root : ℕ) (text : List ℕ) : Type 0 where
+  pub dump : IsDump words root text
+  pub whole : dump.range.size % 16 ≡ 0
+
 -- Why an image is refused: the bytes are none of a pool; or its pool has not the arena; or that is not sound, and this is its
 -- first defect; or the root has no block. Of the other arenas nothing is asked.
 abbrev pub RefusesDump : ℕ → ℕ → List ℕ → Cause → Type 0
@@ -43,7 +48,7 @@ RefusesDump arena root input (NoBlock asked named) = (asked ≡ arena) × (named
 
 abbrev pub dumping : ℕ → ℕ → Meaning
 dumping arena root = record {
-  answers = λ input output. HasArena input arena (λ words. IsDump words root output);
+  answers = λ input output. HasArena input arena (λ words. IsBlockDump words root output);
   refuses = RefusesDump arena root;
   accepts = λ input. HasArena input arena (λ words. HasBlock words root);
 }

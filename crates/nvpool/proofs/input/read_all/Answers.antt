@@ -1,6 +1,6 @@
-use Rattle.std.proofs.Common.{◌∙◌, refl, arith}
+use Rattle.std.proofs.Common.{◌+◌, ◌∙◌, refl, arith}
 use Rattle.nvheap.proofs.Reading.{Rose-before}
-use Rattle.nvpool.proofs.Reading.{come_none, come_filled, come_all, come_too_much, come_few}
+use Rattle.nvpool.proofs.Reading.{HasCome, come_none, come_filled, come_all, come_too_much, come_few}
 use Rattle.nvpool.proofs.input.read_all.Goals as goal
 
 pub loop-size-init : goal.loop-size-init
@@ -27,7 +27,8 @@ returns-in_err-n-clause-failed g c failed =
 pub returns-then-n-most-clause-all : goal.returns-then-n-most-clause-all
 returns-then-n-most-clause-all g c =
     let inv = c.loop-size.invariant in
-    let come = come_filled c.in_ok-n.n c.fill.new.piece c.loop-size.piece.items inv.come (inv.whole c.loop-size-test.true) c.deref.ensures.value (omega (arith, inv.buffer, c.in_ok-n.ensures.count, c.min-most.ensures)) (omega (arith, inv.buffer, c.in_ok-n.ensures.count, c.min-most.ensures, c.in_ok-n.ensures.size, c.deref_mut.ensures.len)) c.in_ok-n.ensures.gives c.in_ok-add.ensures in
+    let come : HasCome (g.S.Source.left c.args.source.now) (g.S.Source.left c.fill.new.source) c.add.new.self (c.loop-size.size + c.in_ok-n.n) =
+    come_filled c.in_ok-n.n c.fill.new.piece c.loop-size.piece.items inv.come (inv.whole c.loop-size-test.true) c.deref.ensures.value (omega (arith, inv.buffer, c.in_ok-n.ensures.count, c.min-most.ensures)) (omega (arith, inv.buffer, c.in_ok-n.ensures.count, c.min-most.ensures, c.in_ok-n.ensures.size, c.deref_mut.ensures.len)) c.in_ok-n.ensures.gives c.in_ok-add.ensures in
     come_all c.args.limit come (omega (arith, c.min-most.ensures, c.if-n-most.true, c.loop-size-test.true)) (c.in_ok-n.ensures.end c.if-n-most.true)
 
 pub loop-size-preserved : goal.loop-size-preserved
