@@ -2,6 +2,7 @@
 use crate::images::{
     CUT_OFF, EMPTY, EMPTY_2, IN_TRANSITION, ONE_BLOCK, SMALL, SMALL_2, UNSOUND, image_of,
 };
+use crate::pages;
 use crate::runs::{ends, tells};
 use nvheap::{MemSink, MemSource, Status, SureSource};
 use std::test::Fail;
@@ -104,6 +105,13 @@ fn text_has_a_letter_for_each_granule(rt: HostRuntime) -> Result<(), Fail> {
     tells(&rt, alloc, "text", SMALL_2, &EMPTY_2, 0, OF_VERSION_2)?;
     tells(&rt, alloc, "text", SMALL, &CUT_OFF, 0, OF_CUT_OFF)?;
     tells(&rt, alloc, "text", SMALL, &IN_TRANSITION, 0, OF_TRANSITION)
+}
+
+#[test]
+fn map_has_a_box_for_each_granule(rt: HostRuntime) -> Result<(), Fail> {
+    let alloc = rt.alloc();
+    tells(&rt, alloc, "map", SMALL, &CUT_OFF, 0, pages::OF_CUT_OFF)?;
+    tells(&rt, alloc, "map", SMALL, &UNSOUND, 2, DIRECTORY)
 }
 
 #[test]

@@ -5,7 +5,7 @@ use Rattle.std.specs.Prelude.{decimal}
 use Rattle.nvheap.specs.Command.{AreNumbers}
 use Rattle.nvpool.specs.declared.cause.Cause.{Cause}
 use Rattle.nvpool.specs.declared.command.Command.{Command}
-use Rattle.nvpool.specs.declared.command.Command.TheVariants.{Text, Info, Dump}
+use Rattle.nvpool.specs.declared.command.Command.TheVariants.{Map, Text, Info, Dump}
 use Rattle.nvpool.specs.Meaning.{Meaning}
 use Rattle.nvpool.specs.Command.{row_of, meaning_of, IsCommand, IsSaid}
 use Rattle.nvpool.proofs.Refusals.{image_not_refused, dump_not_refused}
@@ -18,6 +18,7 @@ key text = 256 * length text + get_or text 1 0
 
 abbrev command_by : ℕ → List ℕ → Option Command
 command_by k numbers =
+    if k == 865 then Some Map else
     if k == 1125 then Some Text else
     if k == 1134 then Some Info else
     if k == 1141 then Some (Dump (get_or numbers 0 0) (get_or numbers 1 0)) else
@@ -25,12 +26,14 @@ command_by k numbers =
 
 -- it is the one whose text and numbers they are
 back : (command : Command) → command_by (key (row_of command).text) (row_of command).numbers ≡ Some command
+back Map = refl
 back Text = refl
 back Info = refl
 back (Dump arena root) = refl
 
 -- what a command accepts it does not refuse
 pub settled : (command : Command) (input : List ℕ) (why : Cause) → (meaning_of command).accepts input → ¬ ((meaning_of command).refuses input why)
+settled Map input why has = image_not_refused input why has
 settled Text input why has = image_not_refused input why has
 settled Info input why has = image_not_refused input why has
 settled (Dump arena root) input why has = dump_not_refused arena root input why has

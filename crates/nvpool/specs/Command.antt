@@ -2,9 +2,9 @@
 use Rattle.std.specs.Prelude.{◌≡◌, ℕ, ◌<◌, List, [], ◌∷◌, map, decimal, codes}
 use Rattle.nvheap.specs.Command.{AreNumbers}
 use Rattle.nvpool.specs.declared.command.Command.{Command}
-use Rattle.nvpool.specs.declared.command.Command.TheVariants.{Text, Info, Dump}
+use Rattle.nvpool.specs.declared.command.Command.TheVariants.{Map, Text, Info, Dump}
 use Rattle.nvpool.specs.Meaning.{Meaning}
-use Rattle.nvpool.specs.declared.telling.Form.TheVariants.{Numbers, Letters}
+use Rattle.nvpool.specs.declared.telling.Form.TheVariants.{Numbers, Letters, Picture}
 use Rattle.nvpool.specs.Telling.{telling}
 use Rattle.nvpool.specs.Dumping.{dumping}
 
@@ -21,6 +21,7 @@ alone text meaning = record { text = text; numbers = []; fits = Unit {0}; meanin
 
 -- the table: each command has one row
 abbrev pub row_of : Command → Row
+row_of Map = alone (codes "map") (telling Picture)
 row_of Text = alone (codes "text") (telling Letters)
 row_of Info = alone (codes "info") (telling Numbers)
 row_of (Dump arena root) = record { text = codes "dump"; numbers = arena ∷ root ∷ []; fits = (arena < 16) × (root < 65536); meaning = dumping arena root }

@@ -1,4 +1,4 @@
--- What `text` and `info` mean.
+-- What `map`, `text` and `info` mean.
 use Rattle.std.specs.Prelude.{◌≡◌, ℕ, ◌<◌, List, [], ◌++◌}
 use Rattle.pool_layout.specs.declared.header.PoolHeader.{PoolHeader}
 use Rattle.pool_layout.specs.Image.{part_of, IsImageOf}
@@ -10,25 +10,30 @@ use Rattle.image_runs.specs.Checks.{IsPoolDefect}
 use Rattle.map_text.specs.Pieces.{ArePieces}
 use Rattle.map_text.specs.Drawing.{legend_line}
 use Rattle.map_text.specs.Maps.{IsInfo, IsText}
+use Rattle.map_svg.specs.Page.{head, arena_y, end_of_page}
+use Rattle.map_svg.specs.Arenas.{IsPicture}
 use Rattle.nvheap.specs.Checking.{HasSoundArenas}
 use Rattle.nvpool.specs.declared.cause.Cause.{Cause}
 use Rattle.nvpool.specs.declared.cause.Cause.TheVariants.{Image}
 use Rattle.nvpool.specs.declared.telling.Form.{Form}
-use Rattle.nvpool.specs.declared.telling.Form.TheVariants.{Numbers, Letters}
+use Rattle.nvpool.specs.declared.telling.Form.TheVariants.{Numbers, Letters, Picture}
 use Rattle.nvpool.specs.Meaning.{Meaning}
 
 -- what stands before the arenas of a pool, what is told of each, and what stands behind them
 abbrev pub front_of : Form → PoolHeader → List ℕ
 front_of Numbers header = []
 front_of Letters header = legend_line
+front_of Picture header = head header.arenas header.granules
 
 abbrev pub IsToldAs : Form → PoolHeader → List ℕ → ℕ → List ℕ → Type 0
 IsToldAs Numbers header = IsInfo
 IsToldAs Letters header = IsText
+IsToldAs Picture header = λ words arena. IsPicture (arena_y header.granules arena) words arena
 
 abbrev pub back_of : Form → List ℕ
 back_of Numbers = []
 back_of Letters = []
+back_of Picture = end_of_page
 
 -- the text has what is told of each of the first so many arenas of a pool, in order
 abbrev pub AreTold : Form → List ℕ → PoolHeader → ℕ → List ℕ → Type 0

@@ -7,6 +7,8 @@ use trace_text::whole_number;
 /// What the words after the program's name ask for. Each reads the image of a pool.
 #[derive(Clone, Copy, Debug, PartialEq, Eq)]
 pub enum Command {
+    /// Print a picture of the granules of each arena, as a page of SVG.
+    Map,
     /// Print a letter for each granule of each arena, and their numbers.
     Text,
     /// Print the numbers of each arena.
@@ -32,6 +34,9 @@ pub(crate) fn command_of(words: &[String]) -> Option<Command>
 fn plain_command(word: &String) -> Option<Command>
     ensures { MatchOption result (IsNoCommand (string_bytes word.now ∷ [])) (IsCommand (string_bytes word.now ∷ [])) }
 {
+    if is_word(word, "map") {
+        return Some(Command::Map);
+    }
     if is_word(word, "text") {
         return Some(Command::Text);
     }

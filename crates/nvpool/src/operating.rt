@@ -70,6 +70,7 @@ fn answer_to(alloc: Global, command: Command, input: &PoolInput) -> Result<Answe
     ensures { IfOk result (λ answer. (bytes : List ℕ) → HasBytes input.now bytes → IsAnswer (meaning_of command) bytes answer) }
 {
     match command {
+        Command::Map => told_answer(alloc, Form::Picture, &input.words, input.bytes),
         Command::Text => told_answer(alloc, Form::Letters, &input.words, input.bytes),
         Command::Info => told_answer(alloc, Form::Numbers, &input.words, input.bytes),
         Command::Dump { arena, root } => {

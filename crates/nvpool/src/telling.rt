@@ -1,10 +1,11 @@
-// What `text` and `info` have to say of their input.
-ghost use Rattle.std.specs.Prelude.{◌≡◌, ◌↔◌, ◌*◌, ℕ, List, ◌++◌, length, IfOk, IfErr, OnOk};
+// What `map`, `text` and `info` have to say of their input.
+ghost use Rattle.std.specs.Prelude.{◌≡◌, ◌↔◌, ◌*◌, ◌≤◌, ℕ, List, ◌++◌, length, IfOk, IfErr, OnOk};
 ghost use Rattle.pool_layout.specs.Image.{AreWordsOf, AreWords, IfDefect};
 ghost use Rattle.heap_check.specs.Image.{IsSoundImage, IsExactImage};
 ghost use Rattle.heap_map.specs.Cells.{AreCells, AreNoneLoose};
 ghost use Rattle.heap_map.specs.Facts.{AreFacts, AreClassFills};
 ghost use Rattle.map_text.specs.Drawing.{legend_line};
+ghost use Rattle.map_svg.specs.Page.{head, end_of_page};
 ghost use Rattle.image_runs.specs.Checks.{HasUnsoundFrom, IsPoolDefect, IsOwnDefect};
 ghost use Rattle.map_text.specs.Pieces.{Adds};
 ghost use Rattle.nvpool.specs.Telling.{AreTold, IsTold, IsToldAs, front_of, back_of, telling};
@@ -14,6 +15,7 @@ use crate::answer::{Answer, fault_line};
 use crate::cause::Cause;
 use heap_map::{HeapMap, map_of};
 use image_check::CheckFault;
+use map_svg::{arena_y, write_end, write_head, write_picture};
 use map_text::{write_info, write_legend, write_text};
 use pmem_lines::OutOfMemory;
 use pool_layout::{ImageFault, PoolHeader, parts, pool_header};
@@ -27,6 +29,8 @@ pub(crate) enum Form {
     Numbers,
     /// A letter for each of its granules, and its numbers.
     Letters,
+    /// A box for each of its granules, and its numbers, in a page of SVG.
+    Picture,
 }
 
 /// What is told of each arena of the image of a pool, or the line of its first defect.
@@ -74,17 +78,32 @@ fn write_back(form: Form, text: &mut Vec<u8>) -> Result<(), OutOfMemory>
     match form {
         Form::Numbers => write_bytes(text, b""),
         Form::Letters => write_bytes(text, b""),
+        Form::Picture => write_end(text),
     }
 }
 
 // What stands before the arenas.
 fn front_of(alloc: Global, form: Form, header: &PoolHeader) -> Result<Vec<u8>, OutOfMemory>
+    requires arenas { header.now.arenas ≤ 16 }
+    requires granules { header.now.granules ≤ 4096 }
     ensures { IfOk result (λ text. text.items ≡ front_of form header.now) }
 {
     match form {
         Form::Numbers => Ok(Vec::new(alloc)),
         Form::Letters => legend(alloc),
+        Form::Picture => head_of(alloc, header.arenas, header.granules),
     }
+}
+
+// The head of a page for so many arenas of so many granules each.
+fn head_of(alloc: Global, arenas: u32, granules: u32) -> Result<Vec<u8>, OutOfMemory>
+    requires arenas { arenas ≤ 16 }
+    requires granules { granules ≤ 4096 }
+    ensures { IfOk result (λ text. text.items ≡ head arenas granules) }
+{
+    let mut text = Vec::new(alloc);
+    write_head(&mut text, arenas, granules)?;
+    Ok(text)
 }
 
 // The line that says what the letters are.
@@ -103,7 +122,9 @@ fn tell_arenas(
     words: &[u64],
     header: &PoolHeader,
 ) -> Result<Vec<u8>, ImageFault>
-    requires { length words.now ≡ header.now.arenas * header.now.granules * 2048 }
+    requires size { length words.now ≡ header.now.arenas * header.now.granules * 2048 }
+    requires arenas { header.now.arenas ≤ 16 }
+    requires granules { header.now.granules ≤ 4096 }
     ensures told { IfOk result (λ text. Adds (AreTold form words.now header.now header.now.arenas) (front_of form header.now) text.items) }
     ensures unsound { IfErr result (λ fault. IfDefect fault (HasUnsoundFrom words.now header.now 0)) }
 {
@@ -130,6 +151,8 @@ fn tell_one(
     arena: u32,
     text: &mut Vec<u8>,
 ) -> Result<(), ImageFault>
+    requires arena { arena ≤ 16 }
+    requires granules { header.now.granules ≤ 4096 }
     ensures sound { OnOk result (IsSoundImage words.now) }
     ensures told { OnOk result (Adds (IsToldAs form header.now words.now arena) text.old.items text.new.items) }
     ensures defect { IfErr result (λ fault. IfDefect fault (IsOwnDefect words.now arena)) }
@@ -159,10 +182,13 @@ fn write_map(
     requires exact { AreNoneLoose map.now.cells.items ↔ IsExactImage words.now }
     requires facts { AreFacts words.now map.now.facts }
     requires classes { AreClassFills words.now map.now.classes.items }
+    requires arena { arena ≤ 16 }
+    requires granules { header.now.granules ≤ 4096 }
     ensures { OnOk result (Adds (IsToldAs form header.now words.now arena) text.old.items text.new.items) }
 {
     match form {
         Form::Numbers => write_info(text, words, arena, map),
         Form::Letters => write_text(text, words, arena, map),
+        Form::Picture => { write_picture(text, words, arena, arena_y(header.granules, arena), map) }
     }
 }

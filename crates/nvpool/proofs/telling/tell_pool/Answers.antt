@@ -1,4 +1,5 @@
-use Rattle.std.proofs.Common.{refl, sym, inr, subst}
+use Rattle.std.proofs.Common.{arith, refl, sym, inr, subst}
+use Rattle.pool_layout.proofs.Layouts.{layout_rules}
 use Rattle.image_runs.specs.Checks.{HasUnsoundFrom, IsPoolDefect}
 use Rattle.image_runs.proofs.Faults.{image_of, wider}
 use Rattle.nvpool.specs.Telling.{IsTold}
@@ -19,3 +20,9 @@ returns-in-Err-clause-defect c image are =
       unsound = unsound;
     }))
     c.in-Err.ensures.unsound
+
+pub tell_arenas-requires-clause-granules : goal.tell_arenas-requires-clause-granules
+tell_arenas-requires-clause-granules c = omega (arith, c.in_ok-header.ensures.pool.first.valid.greatest, (layout_rules c.in_ok-header.header.version).most)
+
+pub tell_arenas-requires-clause-arenas : goal.tell_arenas-requires-clause-arenas
+tell_arenas-requires-clause-arenas c = c.in_ok-header.ensures.pool.first.valid.most
