@@ -1,10 +1,10 @@
 #!/usr/bin/env bash
 # Times the same work on arenas of the LOG variant and of the GC variant, in one run and in turn, so that both have the same
 # neighbours. For each of ten traces without moves it prints how many stores, flushes and fences the calls have on either; how long a call
-# takes alone, by the program `variant_times`, the shortest of so many rounds; and the processor time of the whole commands `image` and
-# `gc`, the least of as many. Then come recoveries of an arena of 16 MiB whose slabs are all full. Five rounds are made, or as
-# many as ROUNDS says. With two words it times those builds of `variant_times` and of the program, and else the proved ones. It is
-# no test. The traces are made in a temporary folder, which is removed at the end.
+# takes alone, by the program `variant_times`, where of each stretch of 4096 calls the shortest time of so many rounds counts; and the
+# processor time of the whole commands `image`, `replay` and `gc`, the least of as many. Then come recoveries of an arena of 16 MiB
+# whose slabs are all full. Five rounds are made, or as many as ROUNDS says. With two words it times those builds of `variant_times`
+# and of the program, and else the proved ones. It is no test. The traces are made in a temporary folder, which is removed at the end.
 set -eu
 
 top=$(dirname -- "$(dirname -- "$(readlink -f -- "${BASH_SOURCE[0]}")")")
@@ -44,8 +44,9 @@ def spent(command):
     after = resource.getrusage(resource.RUSAGE_CHILDREN)
     return after.ru_utime + after.ru_stime - before.ru_utime - before.ru_stime
 
-image, gc = (min(times) for times in zip(*((spent("image"), spent("gc")) for _ in range(int(rounds)))))
-print(f"whole commands: image {image:.2f} s, gc {gc:.2f} s, ratio {gc / image:.2f}")
+commands = "image", "replay", "gc"
+least = [min(times) for times in zip(*(map(spent, commands) for _ in range(int(rounds))))]
+print("whole commands: " + ", ".join(f"{command} {time:.2f} s" for command, time in zip(commands, least)))
 PYTHON
 }
 

@@ -1,8 +1,8 @@
 // The program `variant_times`: how long the same work takes on arenas of the LOG variant and of the GC variant, in turn, round for
-// round; of each the shortest time counts, and of calls that of each stretch of them. The word `calls` has the calls of a trace of one arena, without moves, made on either:
-// standard output says how many calls there are and what they store, flush and fence in all. The word `recover` has an arena recovered
-// of which each slab is full. A second word says how many rounds; without it there is one. Standard error has the times.
-// It serves `bench/`, and nothing of it is promised but that it is safe.
+// round; of each the shortest time counts, and of calls that of each stretch of them. The word `calls` has the calls of a trace of one
+// arena, without moves, made on either: standard output says how many calls there are and what they store, flush and fence in all. The
+// word `recover` has an arena recovered of which each slab is full. A second word says how many rounds; without it there is one.
+// Standard error has the times. It serves `bench/`, and nothing of it is promised but that it is safe.
 #![tactic(auto)]
 
 mod calls;
