@@ -10,6 +10,7 @@
 mod answer;
 mod cause;
 mod command;
+mod cutting;
 mod dumping;
 mod input;
 mod operating;
