@@ -8,7 +8,7 @@ ghost use Rattle.trace_runs.specs.Calls.{calls_of, IsArenaOf};
 ghost use Rattle.map_text.specs.Pieces.{Adds};
 ghost use Rattle.nvpool.specs.Cutting.{AreRunAsBytes, AreParts, IsPartAsBytes, cutting};
 ghost use Rattle.nvpool.specs.Ends.{IsAnswer, IsFaultLine, IsBadLine};
-ghost use Rattle.trace_text.specs.declared.call.Refusal.TheVariants.{BadLine};
+ghost use Rattle.trace_text.specs.declared.call.Refusal.TheVariants.{BadLine, NoArena};
 ghost use Rattle.nvpool.specs.declared.cause.Cause.TheVariants.{Text};
 
 use crate::answer::{Answer, fault_line};
@@ -41,11 +41,7 @@ pub(crate) fn cut_answer(
         Err(answer) => return answer,
     };
     if arena >= trace.arenas {
-        let refusal = Refusal::NoArena {
-            arena: u64::from(arena),
-            arenas: u64::from(trace.arenas),
-        };
-        return fault_line(alloc, Cause::Text(refusal));
+        return lacks_arena(alloc, arena, trace.arenas);
     }
     match crash(alloc, &trace, arena, event, seed) {
         Ok(crashed) => Ok(Answer::Output(pool_bytes(alloc, &trace, arena, &crashed.image)?)),
@@ -77,6 +73,17 @@ fn bad_line(alloc: Global, line: u64) -> Result<Answer, OutOfMemory>
     ensures { IfOk result (IsFaultLine (Text (BadLine line))) }
 {
     fault_line(alloc, Cause::Text(Refusal::BadLine { line }))
+}
+
+// The line that says that a trace has so many arenas, and not this one.
+fn lacks_arena(alloc: Global, arena: u32, arenas: u32) -> Result<Answer, OutOfMemory>
+    ensures { IfOk result (IsFaultLine (Text (NoArena arena arenas))) }
+{
+    let refusal = Refusal::NoArena {
+        arena: u64::from(arena),
+        arenas: u64::from(arenas),
+    };
+    fault_line(alloc, Cause::Text(refusal))
 }
 
 // The bytes of the pool of a trace, where the arena of one number has an image, and each other one the words that its calls leave.
