@@ -1,5 +1,5 @@
 -- The bytes of a pool of which one arena was cut, and the image of that one.
-use Rattle.std.proofs.Common.{◌≡◌, ◌≢◌, ℕ, ◌+◌, ◌*◌, ◌-◌, ◌<◌, Bool, true, false, List, [], ◌∷◌, ◌++◌, length, Result, Ok, Err, refl, sym, ap, subst, ◌∙◌, add-one}
+use Rattle.std.proofs.Common.{◌≡◌, ◌≢◌, ℕ, ◌+◌, ◌*◌, ◌-◌, ◌<◌, Bool, true, false, List, [], ◌∷◌, ◌++◌, length, Result, Ok, Err, refl, sym, subst, add-one}
 use Rattle.std.specs.Prelude.{OnOk}
 use Rattle.std.specs.Bool.{MatchBool}
 use Rattle.pmem_lines.specs.Pmem.{PmemState, words_of}
@@ -23,7 +23,7 @@ use Rattle.trace_runs.specs.Runs.{Stage}
 use Rattle.trace_runs.proofs.Formatting.{IsPoolHeader-for}
 use Rattle.trace_crashes.specs.Crash.{is_under_way, CrashLeft, log, IsLeft, IsLeftWithin, IsCrashOf}
 use Rattle.map_text.specs.Pieces.{Adds}
-use Rattle.nvpool.specs.Cutting.{AreRunWords, AreRunAsBytes, IsPart, IsPartAsBytes, AreParts}
+use Rattle.nvpool.specs.Cutting.{AreRunAsBytes, IsPartAsBytes, AreParts}
 
 -- the image of a crash is steady
 
