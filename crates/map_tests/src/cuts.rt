@@ -14,8 +14,8 @@ const ONE_ARENA: &[u8] = b"pool 1 16
 0 0 m 5 100
 ";
 
-/// Event 82 is behind those that set the block's bit and before the root: with the events of the seed's pick the slab, the bit
-/// and the entry are there, and no root.
+/// A cut within the first call of arena 0: the slab and the bit of the block are there, the entry is open, and the root holds
+/// nothing, as in `images::CUT_OFF`.
 const CUT: &str = "cut 0 82 1";
 
 const CHECKED: &str = "arena 0 large 0 slabs 1 blocks 0 loose 3
