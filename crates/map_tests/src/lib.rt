@@ -1,9 +1,11 @@
 // Tests of what `nvpool` writes of images made by hand, with what each is to be worked by hand.
 //
-// The crate has no code. It stands apart from `nvpool`, since a crate with tests is proved twice. `images` has the images, `pages` a page of one, `runs`
+// The crate has no code. It stands apart from `nvpool`, since a crate with tests is proved twice. `images` has the images, `pages` a page of one, `cuts` tests of images that a power cut leaves, `runs`
 // how a run over memory ends and what it writes, and `rows` the tests.
 #![tactic(auto)]
 
+#[cfg(test)]
+mod cuts;
 #[cfg(test)]
 mod images;
 #[cfg(test)]

@@ -39,7 +39,8 @@ arena 0 live 0
 arena 0 loose 0
 ";
 
-const OF_CUT_OFF: &str =
+/// What `text` says of `CUT_OFF`.
+pub(crate) const OF_CUT_OFF: &str =
     "h header, r roots, l log, . free, #= large block, S7 slab and tenths of it live, T7 slab in transition, ! loose
 arena 0
    0  !rrl!000........

@@ -7,7 +7,7 @@ use Rattle.image_runs.proofs.Faults.{image_of}
 use Rattle.nvpool.specs.declared.answer.Answer.{Answer}
 use Rattle.nvpool.specs.declared.answer.Answer.TheVariants.{Output, FaultLine}
 use Rattle.nvpool.specs.declared.cause.Cause.{Cause}
-use Rattle.nvpool.specs.declared.cause.Cause.TheVariants.{Image, NoArena, NoBlock}
+use Rattle.nvpool.specs.declared.cause.Cause.TheVariants.{Text, Image, NoArena, NoBlock}
 use Rattle.nvpool.specs.Dumping.{dumping, IsBlockDump, HasArena, RefusesDump, RefusesArena}
 use Rattle.nvpool.specs.Ends.{IsAnswer, IsArenaAnswer, IsDumpAnswer, IsFaultLine}
 use Rattle.nvpool.proofs.Answering.{ok_more}
@@ -26,6 +26,7 @@ module _ (words own : List ℕ) (size arena root : ℕ) (header : PoolHeader) wh
   why_not input (Image found defect) are whole pool inside part is = inr (is.0, has_arena input _ are whole pool inside part is.1)
   why_not input (NoArena asked arenas) are whole pool inside part is = absurd is
   why_not input (NoBlock asked named) are whole pool inside part is = (is.0, is.1, has_arena input _ are whole pool inside part is.2)
+  why_not input (Text refusal) are whole pool inside part is = absurd is
 
   one_answer : (input : List ℕ) (answer : Answer) → AreWordsOf words size input → size ≡ 8 * length words → IsPoolImage words header → arena < header.arenas → own ≡ part_of words header.granules arena → IsArenaAnswer own arena root answer → IsAnswer (dumping arena root) input answer
   one_answer input (Output text) are whole pool inside part is = has_arena input (λ ws. IsBlockDump ws root text.items) are whole pool inside part (block_dump own root text.items is)

@@ -6,10 +6,11 @@ use Rattle.nvheap.specs.Inputs.{HasRead}
 use Rattle.nvpool.specs.declared.answer.Answer.{Answer}
 use Rattle.nvpool.specs.declared.answer.Answer.TheVariants.{Output, FaultLine}
 use Rattle.nvpool.specs.Meaning.{Meaning}
-use Rattle.nvpool.specs.Ends.{Told, image_limit, IsAnswer, IsWritten, Ends}
+use Rattle.nvpool.specs.Inputs.{limit_of}
+use Rattle.nvpool.specs.Ends.{Told, IsAnswer, IsWritten, Ends}
 
 -- a command that wrote what it has to say
-pub ends_written : (m : Meaning) (old new : Told) (input : List ℕ) (answer : Answer) (status : Status) → HasRead image_limit old.left new.left input → IsAnswer m input answer → IsWritten answer old.taken new.taken status → Ends m old new status
+pub ends_written : (m : Meaning) (old new : Told) (input : List ℕ) (answer : Answer) (status : Status) → HasRead (limit_of m.reads) old.left new.left input → IsAnswer m input answer → IsWritten answer old.taken new.taken status → Ends m old new status
 ends_written m old new input (Output text) Done read is written = record { input = input; read = read; text = text.items; says = is; takes = written }
 ends_written m old new input (Output text) Usage read is written = absurd written
 ends_written m old new input (Output text) Refused read is written = absurd written

@@ -8,3 +8,4 @@ pub mod Completeness
 pub mod Told
 pub mod Aligned
 pub mod Dumps
+pub mod Cuts

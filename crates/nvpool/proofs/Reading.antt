@@ -4,7 +4,7 @@ use Rattle.std.proofs.lemmas.List.{take-take, take-append-le, length-take-le}
 use Rattle.nvheap.specs.Outside.{Gives, GivesSome, IsAtEnd}
 use Rattle.nvheap.proofs.Bytes.{Gives-none, Gives-then}
 use Rattle.nvpool.specs.declared.input.PoolInput.{PoolInput}
-use Rattle.nvpool.specs.Ends.{HasBytes, IsRead}
+use Rattle.nvpool.specs.Inputs.{HasBytes, IsRead}
 
 -- so many bytes of a source came into an input
 pub record HasCome (old new : Option (List ℕ)) (input : PoolInput) (size : ℕ) : Type 0 where

@@ -6,13 +6,16 @@ use Rattle.pool_layout.proofs.OneImage.{law_of_no_defect}
 use Rattle.image_defects.proofs.Faultless.{faultless_of}
 use Rattle.image_defects.proofs.Order.{no_defect}
 use Rattle.image_defects.specs.Defects.{IsFirstDefect}
+use Rattle.trace_text.proofs.OneMeaning.{law_of_one_trace, law_of_no_refusal}
 use Rattle.nvheap.specs.Checking.{HasSoundArenas}
+use Rattle.nvheap.specs.Crashing.{log_arenas, HasEvents}
 use Rattle.nvheap.specs.declared.cause.Cause.TheVariants as causes
 use Rattle.nvheap.proofs.Refusals as refusals
 use Rattle.nvpool.specs.declared.cause.Cause.{Cause}
-use Rattle.nvpool.specs.declared.cause.Cause.TheVariants.{Image, NoArena, NoBlock}
+use Rattle.nvpool.specs.declared.cause.Cause.TheVariants.{Text, Image, NoArena, NoBlock}
 use Rattle.nvpool.specs.Telling.{RefusesImage}
 use Rattle.nvpool.specs.Dumping.{HasArena, HasNoBlock, HasBlock, RefusesDump}
+use Rattle.nvpool.specs.Cutting.{RefusesCut}
 use Rattle.nvpool.proofs.Images.{one_header, one_part}
 
 -- a pool of sound arenas
@@ -20,6 +23,7 @@ pub image_not_refused : (input : List ℕ) (why : Cause) → HasSoundArenas inpu
 image_not_refused input (Image arena defect) all refused = refusals.image_not_refused input (causes.Image arena defect) all refused
 image_not_refused input (NoArena arena arenas) all refused = refused
 image_not_refused input (NoBlock arena root) all refused = refused
+image_not_refused input (Text refusal) all refused = refused
 
 -- an arena that is sound, of which a root has a block
 pub dump_not_refused : (arena root : ℕ) (input : List ℕ) (why : Cause) → HasArena input arena (λ words. HasBlock words root) → ¬ (RefusesDump arena root input why)
@@ -33,3 +37,11 @@ dump_not_refused arena root input (NoArena asked arenas) has refused =
 dump_not_refused arena root input (NoBlock asked named) has refused =
     let none : HasNoBlock (part_of has.words has.image.header.granules arena) root = subst (λ (ws : List ℕ). HasNoBlock ws root) (one_part input refused.2.words has.words refused.2.image has.image arena) refused.2.holds in
     has.holds.some none.none
+dump_not_refused arena root input (Text refusal) has refused = refused
+
+-- a trace that has the arena, whose calls have the event
+pub cut_not_refused : (arena event : ℕ) (input : List ℕ) (why : Cause) → HasEvents log_arenas arena event input → ¬ (RefusesCut arena event input why)
+cut_not_refused arena event input (Text refusal) has refused = refusals.crash_not_refused log_arenas law_of_one_trace law_of_no_refusal arena event input (causes.Text refusal) has refused
+cut_not_refused arena event input (Image found defect) has refused = refused
+cut_not_refused arena event input (NoArena asked arenas) has refused = refused
+cut_not_refused arena event input (NoBlock asked named) has refused = refused

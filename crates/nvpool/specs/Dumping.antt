@@ -7,7 +7,8 @@ use Rattle.heap_check.specs.Image.{IsSoundImage}
 use Rattle.image_defects.specs.Defects.{IsFirstDefect}
 use Rattle.map_text.specs.Maps.{IsDump}
 use Rattle.nvpool.specs.declared.cause.Cause.{Cause}
-use Rattle.nvpool.specs.declared.cause.Cause.TheVariants.{Image, NoArena, NoBlock}
+use Rattle.nvpool.specs.declared.cause.Cause.TheVariants.{Text, Image, NoArena, NoBlock}
+use Rattle.nvpool.specs.declared.input.Kind.TheVariants as kinds
 use Rattle.nvpool.specs.Meaning.{Meaning}
 
 -- the bytes are the image of a pool that has the arena, of which this holds
@@ -45,9 +46,11 @@ abbrev pub RefusesDump : ℕ → ℕ → List ℕ → Cause → Type 0
 RefusesDump arena root input (Image found defect) = IsImageDefect input found defect ⊎ ((found ≡ arena) × HasArena input arena (λ words. IsFirstDefect words defect))
 RefusesDump arena root input (NoArena asked arenas) = (asked ≡ arena) × HasNoArena input arena arenas
 RefusesDump arena root input (NoBlock asked named) = (asked ≡ arena) × (named ≡ root) × HasArena input arena (λ words. HasNoBlock words root)
+RefusesDump arena root input (Text refusal) = ⊥
 
 abbrev pub dumping : ℕ → ℕ → Meaning
 dumping arena root = record {
+  reads = kinds.Image;
   answers = λ input output. HasArena input arena (λ words. IsBlockDump words root output);
   refuses = RefusesDump arena root;
   accepts = λ input. HasArena input arena (λ words. HasBlock words root);
@@ -60,3 +63,4 @@ abbrev pub RefusesArena : List ℕ → ℕ → ℕ → Cause → Type 0
 RefusesArena words arena root (Image found defect) = (found ≡ arena) × IsFirstDefect words defect
 RefusesArena words arena root (NoArena asked arenas) = ⊥
 RefusesArena words arena root (NoBlock asked named) = (asked ≡ arena) × (named ≡ root) × HasNoBlock words root
+RefusesArena words arena root (Text refusal) = ⊥

@@ -1,14 +1,15 @@
 -- How a run ends, whichever command it is of: what each status says of the words, the input and the output.
-use Rattle.std.specs.Prelude.{◌≡◌, ◌⊎◌, ℕ, ◌^◌, ◌<◌, List, length, Option, Some}
-use Rattle.pool_layout.specs.Image.{AreWordsOf}
+use Rattle.std.specs.Prelude.{◌≡◌, ◌⊎◌, ℕ, List, Option}
+use Rattle.trace_text.specs.declared.call.Refusal.TheVariants.{BadLine}
 use Rattle.nvheap.specs.declared.status.Status.{Status}
 use Rattle.nvheap.specs.declared.status.Status.TheVariants.{Done, Usage, Refused, ReadFault, WriteFault, Memory, TooLong}
 use Rattle.nvheap.specs.Outside.{Takes, TakesFront}
-use Rattle.nvheap.specs.Inputs.{longest_image, HasLeft, HasRead, HasReadFew, HasReadMore}
+use Rattle.nvheap.specs.Inputs.{HasLeft, HasRead, HasReadFew, HasReadMore}
 use Rattle.nvpool.specs.declared.answer.Answer.{Answer}
 use Rattle.nvpool.specs.declared.answer.Answer.TheVariants.{Output, FaultLine}
 use Rattle.nvpool.specs.declared.cause.Cause.{Cause}
-use Rattle.nvpool.specs.declared.input.PoolInput.{PoolInput}
+use Rattle.nvpool.specs.declared.cause.Cause.TheVariants.{Text}
+use Rattle.nvpool.specs.Inputs.{limit_of}
 use Rattle.nvpool.specs.Causes.{cause_text}
 use Rattle.nvpool.specs.Meaning.{Meaning}
 use Rattle.map_text.specs.Maps.{IsDump}
@@ -23,10 +24,6 @@ pub record Told : Type 0 where
 abbrev pub told_by : {S K : Type 0} → (S → Option (List ℕ)) → (K → Option (List ℕ)) → S → K → Told
 told_by left taken source sink = record { left = left source; taken = taken sink }
 
--- how much is read at most
-abbrev pub image_limit : Option ℕ
-image_limit = Some longest_image
-
 -- the text is the line that says why an input is refused
 pub record SaysWhy (m : Meaning) (input text : List ℕ) : Type 0 where
   pub why : Cause
@@ -34,9 +31,9 @@ pub record SaysWhy (m : Meaning) (input text : List ℕ) : Type 0 where
   pub line : text ≡ cause_text why
 
 -- the input was read, this holds of it and a text, and the text was taken so far
-pub record HasSaid (old new : Told) (Says : List ℕ → List ℕ → Type 0) (Taken : Option (List ℕ) → Option (List ℕ) → List ℕ → Type 0) : Type 0 where
+pub record HasSaid (m : Meaning) (old new : Told) (Says : List ℕ → List ℕ → Type 0) (Taken : Option (List ℕ) → Option (List ℕ) → List ℕ → Type 0) : Type 0 where
   pub input : List ℕ
-  pub read : HasRead image_limit old.left new.left input
+  pub read : HasRead (limit_of m.reads) old.left new.left input
   pub text : List ℕ
   pub says : Says input text
   pub takes : Taken old.taken new.taken text
@@ -45,18 +42,18 @@ pub record HasSaid (old new : Told) (Says : List ℕ → List ℕ → Type 0) (T
 -- why it is refused was taken whole. WriteFault: it was read, and the front of its output, or of that line, was taken. ReadFault
 -- and TooLong: of the input no more was read than it may have, or one byte more and no further.
 abbrev pub Ends : Meaning → Told → Told → Status → Type 0
-Ends m old new Done = HasSaid old new m.answers Takes
+Ends m old new Done = HasSaid m old new m.answers Takes
 Ends m old new Usage = ⊥
-Ends m old new Refused = HasSaid old new (SaysWhy m) Takes
-Ends m old new ReadFault = HasReadFew image_limit old.left new.left
-Ends m old new WriteFault = HasSaid old new (λ input text. m.answers input text ⊎ SaysWhy m input text) TakesFront
+Ends m old new Refused = HasSaid m old new (SaysWhy m) Takes
+Ends m old new ReadFault = HasReadFew (limit_of m.reads) old.left new.left
+Ends m old new WriteFault = HasSaid m old new (λ input text. m.answers input text ⊎ SaysWhy m input text) TakesFront
 Ends m old new Memory = Unit {0}
-Ends m old new TooLong = HasReadMore image_limit old.left new.left
+Ends m old new TooLong = HasReadMore (limit_of m.reads) old.left new.left
 
 -- the source has an input, within its limit, that has an output
 pub record HasAcceptable (m : Meaning) (left : Option (List ℕ)) : Type 0 where
   pub input : List ℕ
-  pub left_is : HasLeft image_limit left input
+  pub left_is : HasLeft (limit_of m.reads) left input
   pub accepts : m.accepts input
 
 -- nothing is written
@@ -78,6 +75,10 @@ abbrev pub IsFaultLine : Cause → Answer → Type 0
 IsFaultLine cause (Output text) = ⊥
 IsFaultLine cause (FaultLine text) = text.items ≡ cause_text cause
 
+-- the line that says that a text is refused, at a line outside its grammar
+abbrev pub IsBadLine : (ℕ → Type 0) → Answer → Type 0
+IsBadLine IsRefused answer = (line : ℕ) × IsRefused line × IsFaultLine (Text (BadLine line)) answer
+
 -- what a sink took of an answer, by how its writing ended: all of it, or at a fault its front
 abbrev pub IsWritten : Answer → Option (List ℕ) → Option (List ℕ) → Status → Type 0
 IsWritten (Output text) old new Done = Takes old new text.items
@@ -86,28 +87,12 @@ IsWritten (FaultLine text) old new Refused = Takes old new text.items
 IsWritten (FaultLine text) old new WriteFault = TakesFront old new text.items
 IsWritten answer old new _ = ⊥
 
--- why there is no input, and what was read then
-abbrev pub IsUnread : Option (List ℕ) → Option (List ℕ) → Status → Type 0
-IsUnread old new ReadFault = HasReadFew image_limit old new
-IsUnread old new Memory = Unit {0}
-IsUnread old new TooLong = HasReadMore image_limit old new
-IsUnread old new _ = ⊥
-
--- these are the bytes of an image
-abbrev pub HasBytes : PoolInput → List ℕ → Type 0
-HasBytes input bytes = AreWordsOf input.words.items input.bytes bytes
-
--- it has some, fewer than 2^32
-pub record IsInput (input : PoolInput) : Type 0 where
-  pub bytes : List ℕ
-  pub has : HasBytes input bytes
-  pub short : length bytes < 2 ^ 32
-
--- it was read: its bytes were all that the source had, within a limit
-pub record IsRead (most : Option ℕ) (old new : Option (List ℕ)) (input : PoolInput) : Type 0 where
-  pub bytes : List ℕ
-  pub has : HasBytes input bytes
-  pub read : HasRead most old new bytes
+-- why there is no input, and what was read then, within a limit
+abbrev pub IsUnread : Option ℕ → Option (List ℕ) → Option (List ℕ) → Status → Type 0
+IsUnread limit old new ReadFault = HasReadFew limit old new
+IsUnread limit old new Memory = Unit {0}
+IsUnread limit old new TooLong = HasReadMore limit old new
+IsUnread limit old new _ = ⊥
 
 -- what `dump` has to say of the words of an arena: those of the block of a root, or why there are none
 abbrev pub IsDumpAnswer : List ℕ → ℕ → Answer → Type 0

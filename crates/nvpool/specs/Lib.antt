@@ -1,6 +1,8 @@
+pub mod Inputs
 pub mod Causes
 pub mod Meaning
 pub mod Telling
 pub mod Dumping
+pub mod Cutting
 pub mod Command
 pub mod Ends

@@ -15,6 +15,7 @@ use Rattle.map_svg.specs.Arenas.{IsPicture}
 use Rattle.nvheap.specs.Checking.{HasSoundArenas}
 use Rattle.nvpool.specs.declared.cause.Cause.{Cause}
 use Rattle.nvpool.specs.declared.cause.Cause.TheVariants.{Image}
+use Rattle.nvpool.specs.declared.input.Kind.TheVariants as kinds
 use Rattle.nvpool.specs.declared.telling.Form.{Form}
 use Rattle.nvpool.specs.declared.telling.Form.TheVariants.{Numbers, Letters, Picture}
 use Rattle.nvpool.specs.Meaning.{Meaning}
@@ -59,4 +60,4 @@ RefusesImage input (Image arena defect) = IsPoolDefect input arena defect
 RefusesImage input cause = ⊥
 
 abbrev pub telling : Form → Meaning
-telling form = record { answers = IsTold form; refuses = RefusesImage; accepts = HasSoundArenas }
+telling form = record { reads = kinds.Image; answers = IsTold form; refuses = RefusesImage; accepts = HasSoundArenas }

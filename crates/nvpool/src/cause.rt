@@ -4,11 +4,13 @@ ghost use Rattle.nvpool.specs.Causes.{cause_text};
 
 use pmem_lines::OutOfMemory;
 use pool_layout::Defect;
-use trace_text::{write_bytes, write_defect, write_word};
+use trace_text::{Refusal, write_bytes, write_defect, write_refusal, write_word};
 
 /// Why a command refuses its input.
 #[derive(Clone, Copy, Debug, PartialEq, Eq)]
 pub enum Cause {
+    /// A text, by its lines or by what is asked of it.
+    Text(Refusal),
     /// The first defect of the image of a pool, and the number of the arena that has it.
     Image { arena: u32, defect: Defect },
     /// The pool has fewer arenas.
@@ -22,6 +24,7 @@ pub(crate) fn write_cause(out: &mut Vec<u8>, cause: Cause) -> Result<(), OutOfMe
     ensures { OnOk result (out.new.items ≡ out.old.items ++ cause_text cause) }
 {
     match cause {
+        Cause::Text(refusal) => write_refusal(out, refusal),
         Cause::Image { arena, defect } => write_defect(out, arena, &defect),
         Cause::NoArena { arena, arenas } => {
             write_word(out, b"no arena ", u64::from(arena))?;

@@ -1,10 +1,11 @@
 // The words of the program.
 ghost use Rattle.std.specs.Prelude.{◌≡◌, ◌↔◌, [], ◌∷◌, IsTrue, codes, map, string_bytes, MatchOption};
-ghost use Rattle.nvpool.specs.Command.{IsCommand, IsNoCommand};
+ghost use Rattle.nvpool.specs.Command.{meaning_of, IsCommand, IsNoCommand};
 
+use crate::input::Kind;
 use trace_text::whole_number;
 
-/// What the words after the program's name ask for. Each reads the image of a pool.
+/// What the words after the program's name ask for.
 #[derive(Clone, Copy, Debug, PartialEq, Eq)]
 pub enum Command {
     /// Print a picture of the granules of each arena, as a page of SVG.
@@ -15,6 +16,21 @@ pub enum Command {
     Info,
     /// Print the words of the block of a root, below 65536, of an arena, from 0 to 15.
     Dump { arena: u32, root: u32 },
+    /// Run a trace on one arena, from 0 to 15, up to an event, and on the others whole, and write the image that a power cut
+    /// leaves.
+    Cut { arena: u32, event: u64, seed: u64 },
+}
+
+impl Command {
+    /// The kind of input that it reads.
+    pub(crate) fn reads(self) -> Kind
+        ensures { result ≡ (meaning_of self).reads }
+    {
+        match self {
+            Command::Map | Command::Text | Command::Info | Command::Dump { .. } => Kind::Image,
+            Command::Cut { .. } => Kind::Text,
+        }
+    }
 }
 
 /// The command that the words say, if they say one.
@@ -26,6 +42,13 @@ pub(crate) fn command_of(words: &[String]) -> Option<Command>
     }
     if words.len() == 3 && is_word(&words[0], "dump") {
         return dump_of(words[1].as_bytes(), words[2].as_bytes());
+    }
+    if words.len() == 4 && is_word(&words[0], "cut") {
+        return cut_of(
+            words[1].as_bytes(),
+            words[2].as_bytes(),
+            words[3].as_bytes(),
+        );
     }
     None
 }
@@ -62,5 +85,19 @@ fn dump_of(arena: &[u8], root: &[u8]) -> Option<Command>
     Some(Command::Dump {
         arena: arena as u32,
         root: root as u32,
+    })
+}
+
+// The power cut that these three numbers ask for, if they are numbers.
+fn cut_of(arena: &[u8], event: &[u8], seed: &[u8]) -> Option<Command>
+    ensures { MatchOption result (IsNoCommand (codes "cut" ∷ arena.now ∷ event.now ∷ seed.now ∷ [])) (IsCommand (codes "cut" ∷ arena.now ∷ event.now ∷ seed.now ∷ [])) }
+{
+    let arena = whole_number(arena, 15)?;
+    let event = whole_number(event, u64::MAX)?;
+    let seed = whole_number(seed, u64::MAX)?;
+    Some(Command::Cut {
+        arena: arena as u32,
+        event,
+        seed,
     })
 }

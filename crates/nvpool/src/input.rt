@@ -1,22 +1,33 @@
-// The image of a pool, read from a source.
+// What a command reads.
 ghost use Rattle.std.specs.Prelude.{◌≡◌, ◌+◌, ◌-◌, ◌<◌, ◌≤◌, ◌%◌, ◌^◌, ◌++◌, ℕ, List, [], length, take, Some, IfOk, IfErr, OnOk, OnErr, Err};
 ghost use Rattle.nvheap.specs.Outside.{Rose, Gives, GivesSome, IsAtEnd};
 ghost use Rattle.nvheap.specs.Inputs.{longest_image};
-ghost use Rattle.nvpool.specs.Ends.{image_limit, HasBytes, IsInput, IsRead, IsUnread};
+ghost use Rattle.nvpool.specs.Inputs.{longest, limit_of, HasBytes, IsInput, IsOfKind, IsRead};
+ghost use Rattle.nvpool.specs.Ends.{IsUnread};
 
 use nvheap::{Failed, Source, Status};
 use pmem_lines::OutOfMemory;
 use pool_layout::{GRANULE_BYTES, POOL_GRANULES, add_words};
 use std::alloc::{AllocError, Global};
 
+// The most bytes that a text may have.
+const LONGEST_TEXT: usize = 67_108_864;
+
 // How many bytes are read before they are put behind the others: whole words.
 const PIECE: usize = 65536;
 
-/// The image of a pool, as its words and its number of bytes.
+/// The kinds of input: a text, and the image of a pool.
+#[derive(Clone, Copy)]
+pub(crate) enum Kind {
+    Text,
+    Image,
+}
+
+/// What a command reads: a text, or the image of a pool, as its words and its number of bytes.
 #[derive(Drop)]
-pub(crate) struct PoolInput {
-    pub(crate) words: Vec<u64>,
-    pub(crate) bytes: u64,
+pub(crate) enum PoolInput {
+    Text(Vec<u8>),
+    Image { words: Vec<u64>, bytes: u64 },
 }
 
 /// Why an input was not read.
@@ -57,20 +68,37 @@ impl From<Failed> for Unread {
     }
 }
 
-/// The image of a pool, read into its words in place, or how a run ends without.
-pub(crate) fn read_input<S: Source>(alloc: Global, source: &mut S) -> Result<PoolInput, Status>
-    ensures read { IfOk result (IsRead image_limit (S.left source.old) (S.left source.new)) }
+/// An input of a kind, or how a run ends without. An image is read into its words in place.
+pub(crate) fn read_input<S: Source>(
+    alloc: Global,
+    kind: Kind,
+    source: &mut S,
+) -> Result<PoolInput, Status>
+    ensures read { IfOk result (IsRead (limit_of kind) (S.left source.old) (S.left source.new)) }
+    ensures fits { IfOk result (IsOfKind kind) }
     ensures input { IfOk result IsInput }
-    ensures unread { IfErr result (IsUnread (S.left source.old) (S.left source.new)) }
+    ensures unread { IfErr result (IsUnread (limit_of kind) (S.left source.old) (S.left source.new)) }
     ensures failed { result ≡ Err Status.ReadFault → Rose (S.faults source.old) (S.faults source.new) }
     ensures unfailed { result ≡ Err Status.TooLong → S.faults source.new ≡ S.faults source.old }
 {
-    let mut input = empty_input(alloc);
-    match read_all(alloc, source, &mut input, longest_image()) {
+    let mut input = empty_input(alloc, kind);
+    match read_all(alloc, source, &mut input, longest_of(kind)) {
         Ok(()) => Ok(input),
         Err(Unread::Failed) => Err(Status::ReadFault),
         Err(Unread::Memory) => Err(Status::Memory),
         Err(Unread::TooLong) => Err(Status::TooLong),
+    }
+}
+
+// The most bytes that an input of a kind may have.
+#[tactic(auto, unfolding(nvheap::specs::Inputs::longest_text))]
+fn longest_of(kind: Kind) -> usize
+    ensures longest { result ≡ longest kind }
+    ensures few { result < 2 ^ 32 - 65536 }
+{
+    match kind {
+        Kind::Text => LONGEST_TEXT,
+        Kind::Image => longest_image(),
     }
 }
 
@@ -83,18 +111,22 @@ fn longest_image() -> usize
     GRANULE_BYTES as usize * POOL_GRANULES as usize
 }
 
-// An image of which no byte has come.
+// An input of a kind, of which no byte has come.
 #[tactic(auto, unfolding(pool_layout::specs::Bytes::words_of_bytes))]
-fn empty_input(alloc: Global) -> PoolInput
-    ensures { HasBytes result [] }
+fn empty_input(alloc: Global, kind: Kind) -> PoolInput
+    ensures none { HasBytes result [] }
+    ensures fits { IsOfKind kind result }
 {
-    PoolInput {
-        words: Vec::new(alloc),
-        bytes: 0,
+    match kind {
+        Kind::Text => PoolInput::Text(Vec::new(alloc)),
+        Kind::Image => PoolInput::Image {
+            words: Vec::new(alloc),
+            bytes: 0,
+        },
     }
 }
 
-// Reads all bytes of a source, which may be `most` at most, into an input that has none: it is read to its end, or one byte
+// Reads all bytes of a source, which may be `limit` at most, into an input that has none: it is read to its end, or one byte
 // past the limit and no further.
 fn read_all<S: Source>(
     alloc: Global,
@@ -105,6 +137,7 @@ fn read_all<S: Source>(
     requires few { limit < 2 ^ 32 - 65536 }
     requires none { HasBytes input.old [] }
     ensures all { OnOk result (IsRead (Some limit) (S.left source.old) (S.left source.new) input.new) }
+    ensures fits { (kind : Kind) → IsOfKind kind input.old → IsOfKind kind input.new }
     ensures too_long { result ≡ Err Unread.TooLong → GivesSome (S.left source.old) (S.left source.new) (λ n. n ≡ limit + 1) }
     ensures few { result ≡ Err Unread.Failed → GivesSome (S.left source.old) (S.left source.new) (λ n. n ≤ limit) }
     ensures failed { result ≡ Err Unread.Failed → Rose (S.faults source.old) (S.faults source.new) }
@@ -148,13 +181,19 @@ fn fill<S: Source>(source: &mut S, piece: &mut [u8], most: usize) -> Result<usiz
 }
 
 impl PoolInput {
-    // Puts bytes behind those that came, which are whole words so far.
+    // Puts bytes behind those that came. Of an image these are whole words so far.
     fn add(&mut self, piece: &[u8]) -> Result<(), OutOfMemory>
         requires { IsInput self.old }
-        ensures { OnOk result ((bytes : List ℕ) → length bytes % 8 ≡ 0 → HasBytes self.old bytes → HasBytes self.new (bytes ++ piece.now)) }
+        ensures bytes { OnOk result ((bytes : List ℕ) → length bytes % 8 ≡ 0 → HasBytes self.old bytes → HasBytes self.new (bytes ++ piece.now)) }
+        ensures fits { (kind : Kind) → IsOfKind kind self.old → IsOfKind kind self.new }
     {
-        add_words(&mut self.words, piece)?;
-        self.bytes += piece.len() as u64;
+        match self {
+            PoolInput::Text(text) => text.extend_from_slice(piece)?,
+            PoolInput::Image { words, bytes } => {
+                add_words(words, piece)?;
+                *bytes += piece.len() as u64;
+            }
+        }
         Ok(())
     }
 }

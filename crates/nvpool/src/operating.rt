@@ -2,10 +2,12 @@
 ghost use Rattle.std.specs.Prelude.{◌≡◌, ◌≢◌, ◌↔◌, ◌⊎◌, ℕ, List, IfOk, map, string_bytes};
 ghost use Rattle.nvheap.specs.Outside.{Rose};
 ghost use Rattle.nvpool.specs.Command.{meaning_of, IsNoCommand, IsSaid};
-ghost use Rattle.nvpool.specs.Ends.{told_by, Ends, HasAcceptable, IsSilent, HasBytes, IsInput, IsAnswer};
+ghost use Rattle.nvpool.specs.Inputs.{HasBytes, IsInput, IsOfKind};
+ghost use Rattle.nvpool.specs.Ends.{told_by, Ends, HasAcceptable, IsSilent, IsAnswer};
 
 use crate::answer::Answer;
 use crate::command::{Command, command_of};
+use crate::cutting::cut_answer;
 use crate::dumping::dump_answer;
 use crate::input::{PoolInput, read_input};
 use crate::output::write_answer;
@@ -54,7 +56,7 @@ fn carry_out<S: Source, K: Sink>(
     ensures unfailed { result ≡ Status.TooLong → S.faults source.new ≡ S.faults source.old }
     ensures silent { IsSilent result → sink.new ≡ sink.old }
 {
-    let input = match read_input(alloc, source) {
+    let input = match read_input(alloc, command.reads(), source) {
         Ok(input) => input,
         Err(status) => return status,
     };
@@ -66,15 +68,26 @@ fn carry_out<S: Source, K: Sink>(
 
 // What a command has to say of its input.
 fn answer_to(alloc: Global, command: Command, input: &PoolInput) -> Result<Answer, OutOfMemory>
-    requires { IsInput input.now }
+    requires fits { IsOfKind (meaning_of command).reads input.now }
+    requires input { IsInput input.now }
     ensures { IfOk result (λ answer. (bytes : List ℕ) → HasBytes input.now bytes → IsAnswer (meaning_of command) bytes answer) }
 {
-    match command {
-        Command::Map => told_answer(alloc, Form::Picture, &input.words, input.bytes),
-        Command::Text => told_answer(alloc, Form::Letters, &input.words, input.bytes),
-        Command::Info => told_answer(alloc, Form::Numbers, &input.words, input.bytes),
-        Command::Dump { arena, root } => {
-            dump_answer(alloc, &input.words, input.bytes, arena, root)
+    match (command, input) {
+        (Command::Map, PoolInput::Image { words, bytes }) => {
+            told_answer(alloc, Form::Picture, words, *bytes)
         }
+        (Command::Text, PoolInput::Image { words, bytes }) => {
+            told_answer(alloc, Form::Letters, words, *bytes)
+        }
+        (Command::Info, PoolInput::Image { words, bytes }) => {
+            told_answer(alloc, Form::Numbers, words, *bytes)
+        }
+        (Command::Dump { arena, root }, PoolInput::Image { words, bytes }) => {
+            dump_answer(alloc, words, *bytes, arena, root)
+        }
+        (Command::Cut { arena, event, seed }, PoolInput::Text(text)) => {
+            cut_answer(alloc, text, arena, event, seed)
+        }
+        _ => unreachable!(),
     }
 }

@@ -1,4 +1,6 @@
 use Rattle.std.proofs.Common.{◌≡◌, ◌+◌, ◌-◌, ◌%◌, ◌≤◌, vec_len}
+use Rattle.nvpool.specs.declared.input.Kind.{Kind}
+use Rattle.nvpool.specs.Inputs.{IsOfKind}
 use Rattle.nvpool.proofs.Reading.{HasCome}
 use Rattle.nvpool.proofs.input.read_all.Given as goal
 
@@ -8,6 +10,7 @@ invariant-loop-size g l = record {
   within : l.size ≤ l.limit + 1;
   whole : l.size ≤ l.limit → l.size % 8 ≡ 0;
   buffer : vec_len l.piece ≡ 65536;
+  fits : (kind : Kind) → IsOfKind kind l.fn.input → IsOfKind kind l.input;
   still : g.S.Source.faults l.source ≡ g.S.Source.faults l.fn.source;
 }
 
