@@ -2,7 +2,7 @@
 ghost use Rattle.std.specs.Prelude.{◌≡◌, ◌≤◌, ◌%◌, length};
 
 use crate::outcomes::ROOM;
-use check_tests::{Put, image};
+use check_tests::{Put, image, put};
 use gc_heap::GcArena;
 use gc_recover::gc_recover;
 use gc_search::GcFault;
@@ -14,7 +14,16 @@ use std::test::Fail;
 // The arena with one block, with the words of a row over its own, recovered. `None` where it is refused.
 fn arena_of(alloc: Global, changes: &[Put]) -> Result<Option<GcArena<SimPmem>>, OutOfMemory> {
     let words = image(alloc, &ONE_BLOCK, changes)?;
-    let device = SimPmem::from_image(alloc, &words, ROOM)?;
+    arena_over(alloc, &words)
+}
+
+// The arena of these words, recovered. `None` where it is refused.
+fn arena_over(alloc: Global, words: &[u64]) -> Result<Option<GcArena<SimPmem>>, OutOfMemory>
+    requires whole { length words.now % 8 ≡ 0 }
+    requires some { 8 ≤ length words.now }
+    requires few { length words.now ≤ 8388608 }
+{
+    let device = SimPmem::from_image(alloc, words, ROOM)?;
     match gc_recover(alloc, device) {
         Ok(arena) => Ok(Some(arena)),
         Err((GcFault::Memory(error), _)) => Err(error),
@@ -68,6 +77,39 @@ fn blocks_of_two_old_classes(rt: HostRuntime) -> Result<(), Fail> {
         }
         Some(mut arena) => {
             let right = has_two_old_classes(&mut arena);
+            assert!(rt; right);
+        }
+    }
+    Ok(())
+}
+
+// The slab of class 6 has a hundred blocks of 16 bytes besides, which roots from 52 on name. The first of its own blocks that none of
+// them covers is given, and each of them goes with its own size.
+fn has_a_hundred_old_blocks(arena: &mut GcArena<SimPmem>) -> bool {
+    if !gives(arena, 8, 112, 69376) {
+        return false;
+    }
+    for k in 0..100u32 {
+        if !frees(arena, 52 + k, 16) {
+            return false;
+        }
+    }
+    names(arena, 5, 67584, 112) && names(arena, 8, 69376, 112)
+}
+
+#[test]
+fn a_hundred_old_blocks(rt: HostRuntime) -> Result<(), Fail> {
+    let mut words = image(rt.alloc(), &ONE_BLOCK, &[])?;
+    for k in 0..100u32 {
+        let word = small_word(67776 + 16 * u64::from(k), 0);
+        put(&mut words, &[(2100 + k as usize, word)]);
+    }
+    match arena_over(rt.alloc(), &words)? {
+        None => {
+            assert!(rt; false);
+        }
+        Some(mut arena) => {
+            let right = has_a_hundred_old_blocks(&mut arena);
             assert!(rt; right);
         }
     }
