@@ -83,7 +83,15 @@ fn blocks_of_two_old_classes(rt: HostRuntime) -> Result<(), Fail> {
     Ok(())
 }
 
-// The slab of class 6 has a hundred blocks of 16 bytes besides, which roots from 52 on name. The first of its own blocks that none of
+// Roots from 52 on name a hundred blocks of 16 bytes.
+fn name_a_hundred(words: &mut [u64]) {
+    for k in 0..100u32 {
+        let word = small_word(67776 + 16 * u64::from(k), 0);
+        put(words, &[(2100 + k as usize, word)]);
+    }
+}
+
+// The slab of class 6 has those blocks besides its own. The first of its own blocks that none of
 // them covers is given, and each of them goes with its own size.
 fn has_a_hundred_old_blocks(arena: &mut GcArena<SimPmem>) -> bool {
     if !gives(arena, 8, 112, 69376) {
@@ -100,10 +108,7 @@ fn has_a_hundred_old_blocks(arena: &mut GcArena<SimPmem>) -> bool {
 #[test]
 fn a_hundred_old_blocks(rt: HostRuntime) -> Result<(), Fail> {
     let mut words = image(rt.alloc(), &ONE_BLOCK, &[])?;
-    for k in 0..100u32 {
-        let word = small_word(67776 + 16 * u64::from(k), 0);
-        put(&mut words, &[(2100 + k as usize, word)]);
-    }
+    name_a_hundred(&mut words);
     match arena_over(rt.alloc(), &words)? {
         None => {
             assert!(rt; false);
