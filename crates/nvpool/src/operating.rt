@@ -11,6 +11,7 @@ use crate::cutting::cut_answer;
 use crate::dumping::dump_answer;
 use crate::input::{PoolInput, read_input};
 use crate::output::write_answer;
+use crate::repairing::repair_answer;
 use crate::telling::{Form, told_answer};
 use nvheap::{Sink, Source, Status};
 use pmem_lines::OutOfMemory;
@@ -88,6 +89,7 @@ fn answer_to(alloc: Global, command: Command, input: &PoolInput) -> Result<Answe
         (Command::Cut { arena, event, seed }, PoolInput::Text(text)) => {
             cut_answer(alloc, text, arena, event, seed)
         }
+        (Command::Repair, PoolInput::Image { words, bytes }) => repair_answer(alloc, words, *bytes),
         _ => unreachable!(),
     }
 }
