@@ -30,7 +30,7 @@ const SMALL_MALLOC: Cut = Cut {
 
 /// A large block comes: its extent is live, and its root holds nothing.
 const LARGE_MALLOC: Cut = Cut {
-    calls: "0 0 m 5 100\n0 0 w 5 0 77\n0 0 m 6 100000\n",
+    calls: "0 0 m 5 100\n0 0 w 5 0 77\n0 0 m 6 20000\n",
     event: 95,
     loose: 1,
     roots: &[5, 6],
@@ -57,15 +57,15 @@ const CLASS: Cut = Cut {
     calls: "0 0 m 1 131072\n0 0 m 2 100\n0 0 w 2 0 77\n0 0 m 3 1000\n",
     event: 104,
     loose: 1,
-    roots: &[1, 2, 3],
+    roots: &[2, 3],
 };
 
 /// The last old block of such a slab goes: it is still in Morphed.
 const LAST_OLD_BLOCK: Cut = Cut {
-    calls: "0 0 m 1 131072\n0 0 m 2 100\n0 0 w 1 0 77\n0 0 m 3 1000\n0 0 f 2\n",
+    calls: "0 0 m 1 131072\n0 0 m 2 100\n0 0 w 2 0 77\n0 0 m 3 1000\n0 0 f 2\n",
     event: 202,
     loose: 1,
-    roots: &[1, 2, 3],
+    roots: &[2, 3],
 };
 
 /// A slab is opened for its first block: the slab is there, and the block's entry is open.
@@ -100,16 +100,9 @@ const LOG_ROLL_2: Cut = Cut {
     roots: &[0, 1],
 };
 
-const CALLS: [Cut; 8] = [
-    SMALL_MALLOC,
-    LARGE_MALLOC,
-    FREE,
-    MOVE,
-    CLASS,
-    LAST_OLD_BLOCK,
-    SLAB_OPENED,
-    SLAB_DROPPED,
-];
+const BLOCKS: [Cut; 4] = [SMALL_MALLOC, LARGE_MALLOC, FREE, MOVE];
+
+const SLABS: [Cut; 4] = [CLASS, LAST_OLD_BLOCK, SLAB_OPENED, SLAB_DROPPED];
 
 /// In the image of an arena so many things are loose.
 fn has_loose<R: Abort>(
@@ -146,6 +139,14 @@ fn mends<R: Abort>(rt: &R, alloc: Global, pool: &str, cut: &Cut) -> Result<(), F
     Ok(())
 }
 
+/// What each of these cuts leaves is repaired.
+fn all_mend<R: Abort>(rt: &R, alloc: Global, pool: &str, cuts: &[Cut]) -> Result<(), Fail> {
+    for cut in cuts {
+        mends(rt, alloc, pool, cut)?;
+    }
+    Ok(())
+}
+
 /// An image made by hand comes out as it went in.
 fn stays<R: Abort>(rt: &R, alloc: Global, size: usize, runs: &[Run]) -> Result<(), Fail> {
     let image = image_of(alloc, size, runs)?;
@@ -155,20 +156,29 @@ fn stays<R: Abort>(rt: &R, alloc: Global, size: usize, runs: &[Run]) -> Result<(
 }
 
 #[test]
-fn a_pool_that_was_cut_off_is_mended(rt: HostRuntime) -> Result<(), Fail> {
-    let alloc = rt.alloc();
-    for cut in &CALLS {
-        mends(&rt, alloc, "pool 1 16", cut)?;
-    }
-    mends(&rt, alloc, "pool 1 16", &LOG_ROLL)
+fn a_block_that_was_under_way_is_mended(rt: HostRuntime) -> Result<(), Fail> {
+    all_mend(&rt, rt.alloc(), "pool 1 16", &BLOCKS)
 }
 
 #[test]
-fn and_so_is_one_of_version_2(rt: HostRuntime) -> Result<(), Fail> {
+fn a_block_of_version_2_is_mended(rt: HostRuntime) -> Result<(), Fail> {
+    all_mend(&rt, rt.alloc(), "pool2 1 25", &BLOCKS)
+}
+
+#[test]
+fn a_slab_that_was_under_way_is_mended(rt: HostRuntime) -> Result<(), Fail> {
+    all_mend(&rt, rt.alloc(), "pool 1 16", &SLABS)
+}
+
+#[test]
+fn a_slab_of_version_2_is_mended(rt: HostRuntime) -> Result<(), Fail> {
+    all_mend(&rt, rt.alloc(), "pool2 1 25", &SLABS)
+}
+
+#[test]
+fn a_log_that_was_rolling_is_mended(rt: HostRuntime) -> Result<(), Fail> {
     let alloc = rt.alloc();
-    for cut in &CALLS {
-        mends(&rt, alloc, "pool2 1 25", cut)?;
-    }
+    mends(&rt, alloc, "pool 1 16", &LOG_ROLL)?;
     mends(&rt, alloc, "pool2 1 25", &LOG_ROLL_2)
 }
 
