@@ -33,7 +33,9 @@ mod shelf;
 
 pub use cause::Cause;
 pub use command::Command;
-pub use program_io::{Adapter, Failed, MemSink, MemSource, Sink, Source, Status, SureSink, SureSource};
+pub use program_io::{
+    Adapter, Failed, MemSink, MemSource, Sink, Source, Status, SureSink, SureSource,
+};
 pub use running::run;
 pub use shared_pool::{Gate, OpenGate};
 pub use shelf::{DropShelf, KeptShelf, Shelf};
