@@ -8,7 +8,7 @@ use Rattle.image_defects.specs.Defects.{IsFirstDefect}
 use Rattle.map_text.specs.Maps.{IsDump}
 use Rattle.nvpool.specs.declared.cause.Cause.{Cause}
 use Rattle.nvpool.specs.declared.cause.Cause.TheVariants.{Text, Image, NoArena, NoBlock}
-use Rattle.nvpool.specs.declared.input.Kind.TheVariants as kinds
+use Rattle.program_io.specs.declared.input.Kind.TheVariants as kinds
 use Rattle.nvpool.specs.Meaning.{Meaning}
 
 -- the bytes are the image of a pool that has the arena, of which this holds

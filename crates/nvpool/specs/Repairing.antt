@@ -3,7 +3,7 @@ use Rattle.std.specs.Prelude.{ℕ, List}
 use Rattle.pool_layout.specs.Image.{IsImageOf}
 use Rattle.image_runs.specs.Repairs.{IsPoolRepaired}
 use Rattle.nvheap.specs.Checking.{HasSoundArenas}
-use Rattle.nvpool.specs.declared.input.Kind.TheVariants as kinds
+use Rattle.program_io.specs.declared.input.Kind.TheVariants as kinds
 use Rattle.nvpool.specs.Meaning.{Meaning}
 use Rattle.nvpool.specs.Telling.{RefusesImage}
 

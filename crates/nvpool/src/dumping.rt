@@ -6,13 +6,14 @@ ghost use Rattle.heap_map.specs.Blocks.{IsRootBlock};
 ghost use Rattle.nvpool.specs.Dumping.{dumping};
 ghost use Rattle.nvpool.specs.Ends.{IsAnswer, IsArenaAnswer, IsDumpAnswer};
 
-use crate::answer::{Answer, fault_line};
+use crate::answer::fault_line;
 use crate::cause::Cause;
 use heap_map::{RootBlock, block_of};
 use image_check::CheckFault;
 use map_text::write_dump;
 use pmem_lines::OutOfMemory;
 use pool_layout::{parts, pool_header};
+use program_io::Answer;
 use std::alloc::Global;
 
 /// The words of the block of a root of an arena of a pool, or the line that says why there are none: the first defect of the

@@ -4,11 +4,12 @@ ghost use Rattle.pool_layout.specs.Image.{AreWordsOf, AreWords};
 ghost use Rattle.nvpool.specs.Repairing.{repairing};
 ghost use Rattle.nvpool.specs.Ends.{IsAnswer};
 
-use crate::answer::{Answer, fault_line};
+use crate::answer::fault_line;
 use crate::cause::Cause;
 use image_runs::repair_pool;
 use pmem_lines::OutOfMemory;
 use pool_layout::{ImageFault, pool_header};
+use program_io::Answer;
 use std::alloc::Global;
 
 /// The bytes of the image of a pool, of which these are the words, and which has so many bytes, with each of its arenas
