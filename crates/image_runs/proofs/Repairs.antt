@@ -1,5 +1,6 @@
 -- The repairs of the arenas that were looked at, one after another.
-use Rattle.std.proofs.Common.{◌≡◌, ◌≢◌, ℕ, ◌+◌, ◌*◌, ◌%◌, ◌^◌, ◌<◌, ◌≤◌, List, [], ◌++◌, length, take, drop, refl, sym, ap, subst, ◌∙◌, arith, ⊎_elim, length-append, length-drop}
+use Rattle.std.proofs.Common.{◌≡◌, ◌≢◌, ℕ, ◌+◌, ◌*◌, ◌^◌, ◌<◌, ◌≤◌, List, [], ◌++◌, length, take, drop, refl, sym, ap, subst, ◌∙◌, arith, ⊎_elim, length-append, length-drop}
+use Rattle.std.specs.Int.{to_le_bytes, w64}
 use Rattle.std.proofs.lemmas.Bool.{cases_eq}
 use Rattle.std.proofs.lemmas.Grind.{flat_map-append}
 use Rattle.std.proofs.lemmas.List.{take-append-le, drop-append-le, take_all, drop_at}
@@ -63,7 +64,7 @@ part_behind words own granules arena before size =
 
 bytes-append : (words own : List ℕ) → bytes_of_words (words ++ own) ≡ bytes_of_words words ++ bytes_of_words own
 unfolding bytes_of_words
-bytes-append words own = flat_map-append _ words own
+bytes-append words own = flat_map-append (to_le_bytes w64) words own
 
 -- several arenas
 
@@ -120,10 +121,3 @@ pool_repaired words header bytes pool has = record { new = has.new; image = imag
       header = header;
       pool = new_pool;
     }
-
--- repaired words are whole pieces, and few
-pub few_words : (words new : List ℕ) → length words ≤ 8388608 → IsRepaired words new → length new < 2 ^ 29
-few_words words new few is = omega (arith, few, is.size)
-
-pub whole_pieces : (words new : List ℕ) → IsRepaired words new → length new % 512 ≡ 0
-whole_pieces words new is = let size = is.exact.formed.size in omega (arith, size)
