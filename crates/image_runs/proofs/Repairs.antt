@@ -94,11 +94,11 @@ module _ (words : List ℕ) (granules : ℕ) where
         fit = All-append (λ word. word < 2 ^ 64) has.new own has.fit adds.fit;
         each = λ arena below. ⊎_elim
             (λ (last : arena ≡ count). subst (λ a. IsRepaired (part_of words granules a) (part_of all granules a)) (sym last)
-                (subst (IsRepaired (part_of words granules count)) (sym (part_behind has.new own granules count has.size long)) adds.repaired))
+            (subst (IsRepaired (part_of words granules count)) (sym (part_behind has.new own granules count has.size long)) adds.repaired))
             (λ (other : arena ≢ count).
-                let earlier : arena < count = omega (arith, below, other) in
-                let inside : 2048 * granules * arena + 2048 * granules ≤ length has.new = omega (arith, has.size, part_inside granules count arena earlier) in
-                subst (IsRepaired (part_of words granules arena)) (sym (part_before has.new own granules arena inside)) (has.each arena earlier))
+            let earlier : arena < count = omega (arith, below, other) in
+            let inside : 2048 * granules * arena + 2048 * granules ≤ length has.new = omega (arith, has.size, part_inside granules count arena earlier) in
+            subst (IsRepaired (part_of words granules arena)) (sym (part_before has.new own granules arena inside)) (has.each arena earlier))
             (cases_eq arena count);
         is = adds.is ∙ ap (λ (bs : List ℕ). bs ++ bytes_of_words own) has.is ∙ sym (bytes-append has.new own);
       }

@@ -22,11 +22,7 @@ const ROOM: u32 = 4096;
 /// heap, and the words of each block, and with nothing loose. An arena that is exact stays as it is. `Defect` comes exactly
 /// where an arena is not sound, and names the lowest such one and its first defect; it yields to want of memory. Beside words
 /// and bytes it takes what the recovery of one arena does, for one at a time.
-pub fn repair_pool(
-    alloc: Global,
-    header: &PoolHeader,
-    words: &[u64],
-) -> Result<Vec<u8>, ImageFault>
+pub fn repair_pool(alloc: Global, header: &PoolHeader, words: &[u64]) -> Result<Vec<u8>, ImageFault>
     requires { IsPoolImage words.now header.now }
     ensures repaired { IfOk result (λ bytes. IsPoolRepaired words.now header.now bytes.items) }
     ensures unsound { IfErr result (λ fault. IfDefect fault (HasUnsoundFrom words.now header.now 0)) }

@@ -18,7 +18,7 @@ returns-in-Ok-clause-repaired c =
     let device = c.in-Ok.arena.device in
     subst (λ (s : PmemState). IsRepaired words (words_of s)) (sym c.into_pmem.ensures.device)
     (repaired_words words 4096 device (subst (λ (s : PmemState). IsSoundImage (words_of s)) c.in_ok-device.ensures c.in-Ok.ensures.sound)
-        (subst (λ (s : PmemState). IsRecovered s device) c.in_ok-device.ensures c.in-Ok.ensures.recovered))
+    (subst (λ (s : PmemState). IsRecovered s device) c.in_ok-device.ensures c.in-Ok.ensures.recovered))
 
 pub returns-clause-defect : goal.returns-clause-defect
 returns-clause-defect c = subst (λ (s : PmemState). IfDefect c.in-Err.fault (IsFirstDefect (words_of s))) c.in_ok-device.ensures c.in-Err.ensures.defect
