@@ -11,6 +11,8 @@ use Rattle.image_reading.specs.Extents.{HasExtents}
 use Rattle.image_reading.specs.Held.{AreSlabsAt}
 use Rattle.defect_search.specs.Arena.{IsArena}
 use Rattle.image_check.proofs.Premises as premises
+use Rattle.heap_map.specs.LogRules.{log_rules}
+use Rattle.heap_map.proofs.Granules.{IsLaid}
 
 module _ (words : List ℕ) (sound : IsSoundImage words) where
   pub arena_of : IsArena words
@@ -32,6 +34,9 @@ module _ (words : List ℕ) (sound : IsSoundImage words) where
   -- an arena has few granules, and the heap begins among the first of them
   pub few_granules : granules_in words ≤ 4096
   few_granules = (sizes_of words sound.formed).most
+
+  pub laid : IsLaid log_rules words
+  laid = record { extents = sound.sound.extents; first = (sizes_of words sound.formed).first; few = few_granules }
 
   pub few_first : (layout_of (version_in words)).first_granule < 4096
   few_first = let sizes = sizes_of words sound.formed in omega (arith, sizes.first, sizes.most)

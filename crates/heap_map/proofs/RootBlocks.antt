@@ -19,6 +19,7 @@ use Rattle.defect_search.specs.declared.claim.Claim.{Claim}
 use Rattle.defect_search.specs.Claims.{claim_in, range_of, AreClaims}
 use Rattle.defect_search.proofs.BlockSizes.{class_none, old_table-none, size_at-large}
 use Rattle.image_check.proofs.LooseBlocks.{heap_some}
+use Rattle.heap_map.specs.LogRules.{log_rules}
 use Rattle.heap_map.specs.Blocks.{IsRootBlock}
 use Rattle.heap_map.proofs.Premises.{slabs_of}
 
@@ -116,7 +117,7 @@ module _ (words : List ℕ) (sound : IsSoundImage words) where
       record { some = some; place = here; wide = ap (size_at (tables_of words) root) here }
 
   -- is the block that it holds
-  pub block_of_claim : (root : ℕ) (claim : Claim) → (tables_of words).root root ≢ 0 → claim.root ≡ root → IsClaim (tables_of words) claim.root (range_of claim) → IsRootBlock words root (record { at = claim.at; size = claim.size })
+  pub block_of_claim : (root : ℕ) (claim : Claim) → (tables_of words).root root ≢ 0 → claim.root ≡ root → IsClaim (tables_of words) claim.root (range_of claim) → IsRootBlock log_rules words root (record { at = claim.at; size = claim.size })
   block_of_claim root claim some same is =
       let own : IsClaim (tables_of words) root (range_of claim) = subst (λ r. IsClaim (tables_of words) r (range_of claim)) same is in
       let held : claim_at (tables_of words) root ≡ (tables_of words).root root = (held_claim root some).place in
