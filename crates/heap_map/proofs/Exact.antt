@@ -1,19 +1,18 @@
 -- No cell of a sound image is loose exactly where the image is exact.
-use Rattle.std.proofs.Common.{◌≡◌, ◌≢◌, ◌↔◌, ◌⊎◌, ◌+◌, ◌*◌, ◌<◌, ◌≤◌, ℕ, true, false, true≢false, Bool, List, length, Option, Some, None, refl, sym, ap, subst, ◌∙◌, arith, inl, inr, ⊎_elim, IsTrue}
+use Rattle.std.proofs.Common.{◌≡◌, ◌↔◌, ◌<◌, ℕ, true, false, true≢false, Bool, List, length, Option, Some, None, refl, sym, subst, ◌∙◌, arith, inl, inr, IsTrue}
 use Rattle.pool_layout.specs.Header.{granules_in}
 use Rattle.image_tables.specs.declared.entry.WalEntry.{WalEntry}
 use Rattle.image_tables.specs.Tables.{Tables, tables_of}
-use Rattle.heap_check.specs.Sound.{IsLooseLarge, IsEmptySlab, IsMorphing, IsDoneSlab, IsExact}
+use Rattle.heap_check.specs.Sound.{IsLooseLarge, IsExact}
 use Rattle.heap_check.specs.Image.{bounds_of, IsSoundImage, IsExactImage}
 use Rattle.heap_check.proofs.Geometry.{granules_at-slab, granules_at-live}
 use Rattle.heap_check.proofs.Sizes.{sizes_of}
 use Rattle.defect_search.proofs.NoneLoose.{exact_by_none}
 use Rattle.heap_map.specs.declared.cell.Cell.{Cell}
-use Rattle.heap_map.specs.declared.cell.SlabFill.{SlabFill}
 use Rattle.heap_map.specs.declared.cell.Kind.{Kind}
 use Rattle.heap_map.specs.declared.cell.Kind.TheVariants.{Header, Roots, Log, Free, Large, Slab}
 use Rattle.heap_map.specs.LogRules.{log_rules}
-use Rattle.heap_map.specs.Cells.{HasOpen, IsLooseSlab, IsKind, IsLooseKind, IsCell, cell_in, AreCells, AreNoneLoose}
+use Rattle.heap_map.specs.Cells.{HasOpen, IsLooseSlab, IsLooseKind, cell_in, AreCells, AreNoneLoose}
 use Rattle.heap_map.proofs.Granules.{slab_kind, large_kind, first_kind}
 use Rattle.heap_map.proofs.Premises.{laid}
 
@@ -26,10 +25,10 @@ closed_none None is open_entry = open_entry
 closed_none (Some entry) is open_entry = absurd (cc)
 
 -- a flag that is set is not clear
-not_both : (b : Bool) (P : Type 0) → (IsTrue b ↔ P) → b ≡ false → ¬ P
+pub not_both : (b : Bool) (P : Type 0) → (IsTrue b ↔ P) → b ≡ false → ¬ P
 not_both b P is clear holds = true≢false (sym (is.1 holds) ∙ clear)
 
-clear_of : (b : Bool) (P : Type 0) → (IsTrue b ↔ P) → ¬ P → b ≡ false
+pub clear_of : (b : Bool) (P : Type 0) → (IsTrue b ↔ P) → ¬ P → b ≡ false
 clear_of true P is none = absurd (none (is.0 refl))
 clear_of false P is none = refl
 

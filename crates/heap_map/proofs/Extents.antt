@@ -1,16 +1,12 @@
 -- The extents of a sound image of any variant, one granule after another.
-use Rattle.std.proofs.Common.{◌≡◌, ◌≢◌, ◌↔◌, ◌+◌, ◌*◌, ◌<◌, ◌≤◌, ℕ, true, false, List, [], ◌∷◌, ◌++◌, length, refl, sym, ap, subst, ◌∙◌, arith, inl, inr, ⊎_elim, IsTrue}
+use Rattle.std.proofs.Common.{◌≡◌, ◌≢◌, ◌↔◌, ◌+◌, ◌<◌, ◌≤◌, ℕ, List, [], ◌∷◌, ◌++◌, length, sym, ap, subst, ◌∙◌, arith, ⊎_elim, IsTrue}
 use Rattle.std.proofs.Math.ListN.{length-append}
 use Rattle.std.proofs.Math.Seq.{get_or-append_seam}
 use Rattle.std.proofs.lemmas.Bool.{cases_eq, cases_lt}
 use Rattle.std.proofs.lemmas.List.{get_or_append_left}
-use Rattle.pool_layout.specs.Header.{granules_in}
-use Rattle.image_tables.specs.Tables.{Tables}
 use Rattle.heap_check.specs.Sound.{granules_at, Covers, AreExtents}
 use Rattle.heap_check.specs.Image.{bounds_of}
 use Rattle.heap_map.specs.declared.cell.Cell.{Cell}
-use Rattle.heap_map.specs.declared.cell.Kind.{Kind}
-use Rattle.heap_map.specs.declared.cell.Kind.TheVariants.{Free}
 use Rattle.heap_map.specs.declared.scanning.Scan.{Scan}
 use Rattle.heap_map.specs.Rules.{MapRules}
 use Rattle.heap_map.specs.Cells.{IsKind, IsLooseKind, IsCell, no_cell, cell_in}

@@ -1,9 +1,7 @@
 -- What the readers of an image need of a sound one.
-use Rattle.std.proofs.Common.{◌≡◌, ◌+◌, ◌*◌, ◌<◌, ◌≤◌, ◌^◌, ℕ, true, List, length, sym, ◌∙◌, arith}
+use Rattle.std.proofs.Common.{◌+◌, ◌<◌, ◌≤◌, ℕ, List, length, arith}
 use Rattle.pool_layout.specs.Layout.{layout_of}
 use Rattle.pool_layout.specs.Header.{version_in, granules_in}
-use Rattle.pool_layout.proofs.Layouts.{layout_rules}
-use Rattle.image_tables.specs.Tables.{is_slab, tables_of}
 use Rattle.heap_check.specs.Image.{IsSoundImage}
 use Rattle.heap_check.proofs.Sizes.{sizes_of}
 use Rattle.image_defects.proofs.Faultless.{faultless_of}

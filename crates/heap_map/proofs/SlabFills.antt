@@ -1,10 +1,9 @@
 -- The slab that begins at a granule, and how many blocks live in it.
-use Rattle.std.proofs.Common.{◌≡◌, ◌≢◌, ◌↔◌, ◌+◌, ◌*◌, ◌<◌, ◌≤◌, ℕ, zero, suc, true, false, true≢false, List, refl, sym, ap, subst, ◌∙◌, arith, inl, inr, ⊎_elim}
+use Rattle.std.proofs.Common.{◌≡◌, ◌≢◌, ◌<◌, ◌≤◌, ℕ, zero, suc, List, refl, sym, ap, subst, ◌∙◌, arith, inl, inr, ⊎_elim}
 use Rattle.std.proofs.lemmas.Bool.{cases_lt}
 use Rattle.size_classes.specs.Classes.{class_capacity}
 use Rattle.image_tables.specs.Forms.{morphing_kind}
-use Rattle.image_tables.specs.Tables.{SlabHeader, Tables, tables_of}
-use Rattle.slab_header.specs.State.{kind_of}
+use Rattle.image_tables.specs.Tables.{SlabHeader, tables_of}
 use Rattle.heap_check.specs.Sound.{IsValidSlab}
 use Rattle.heap_check.specs.Image.{IsSoundImage}
 use Rattle.heap_check.proofs.Geometry.{number_few, index_count_few}
@@ -13,7 +12,7 @@ use Rattle.heap_map.specs.declared.cell.SlabFill.{SlabFill}
 use Rattle.heap_map.specs.declared.cell.Kind.{Kind}
 use Rattle.heap_map.specs.declared.cell.Kind.TheVariants.{Slab}
 use Rattle.heap_map.specs.LogRules.{log_rules}
-use Rattle.heap_map.specs.Cells.{IsSetBit, IsLiveBit, IsLivePlace, IsLiveCount, IsOldCount, IsSlabFill, IsKind}
+use Rattle.heap_map.specs.Cells.{IsSetBit, IsLiveBit, IsLivePlace, IsLiveCount, IsKind}
 use Rattle.heap_map.specs.Scans.{HasNoFill, IsFillAt}
 use Rattle.heap_map.proofs.Granules.{slab_kind}
 use Rattle.heap_map.proofs.Premises.{laid}

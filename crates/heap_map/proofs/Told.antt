@@ -1,14 +1,12 @@
 -- What was counted in the cells of an arena, of its tables.
-use Rattle.std.proofs.Common.{◌≡◌, ◌↔◌, ◌<◌, ◌≤◌, ℕ, true, List, length, sym, ap, subst, ◌∙◌, arith, IsTrue}
+use Rattle.std.proofs.Common.{◌≡◌, ◌<◌, ℕ, true, List, length, sym, subst, arith}
 use Rattle.pool_layout.specs.Header.{granules_in}
-use Rattle.heap_model.specs.Runs.{IsFreeRow}
 use Rattle.heap_check.specs.Sound.{IsVacant}
 use Rattle.heap_check.specs.Image.{bounds_of}
 use Rattle.heap_check.proofs.Geometry.{granules_at-slab}
 use Rattle.image_defects.specs.Count.{IsCount}
 use Rattle.heap_map.specs.declared.cell.Cell.{Cell}
-use Rattle.heap_map.specs.declared.cell.Kind.{Kind}
-use Rattle.heap_map.specs.declared.cell.Kind.TheVariants.{Free, Slab}
+use Rattle.heap_map.specs.declared.cell.Kind.TheVariants.{Slab}
 use Rattle.heap_map.specs.Rules.{MapRules}
 use Rattle.heap_map.specs.Cells.{IsKind, cell_in, AreCells, IsFreeCell, IsTurningCell}
 use Rattle.heap_map.specs.Facts.{IsLongestRow, IsInTransition}

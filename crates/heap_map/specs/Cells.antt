@@ -6,7 +6,7 @@ use Rattle.pool_layout.specs.Layout.{layout_of}
 use Rattle.pool_layout.specs.Header.{version_in, granules_in}
 use Rattle.image_tables.specs.declared.entry.WalEntry.{WalEntry}
 use Rattle.image_tables.specs.Forms.{morphing_kind}
-use Rattle.image_tables.specs.Tables.{SlabHeader, Tables, tables_of}
+use Rattle.image_tables.specs.Tables.{SlabHeader, Tables}
 use Rattle.heap_check.specs.Sound.{Covers, IsVacant, IsLooseLarge, IsEmptySlab, IsMorphing, IsDoneSlab}
 use Rattle.heap_check.specs.Image.{bounds_of}
 use Rattle.image_defects.specs.Count.{IsCount}

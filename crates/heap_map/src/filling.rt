@@ -79,10 +79,14 @@ fn bytes_of(state: SlabState, live: u32, old: u32) -> u32
     match state {
         SlabState::Normal { class } => live * size_of_class(class) + old * size_of_class(0),
         SlabState::Morphing {
-            class, old: was, ..
+            class,
+            old: was,
+            ..
         } => live * size_of_class(class) + old * size_of_class(was),
         SlabState::Morphed {
-            class, old: was, ..
+            class,
+            old: was,
+            ..
         } => live * size_of_class(class) + old * size_of_class(was),
     }
 }

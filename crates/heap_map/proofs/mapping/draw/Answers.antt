@@ -1,10 +1,10 @@
-use Rattle.std.proofs.Common.{◌≡◌, ◌∙◌, ◌≤◌, List, length, ap, sym, subst, arith, refl}
+use Rattle.std.proofs.Common.{List, length, subst, arith, refl}
 use Rattle.image_defects.specs.Count.{IsCount}
 use Rattle.heap_map.specs.declared.cell.Cell.{Cell}
 use Rattle.heap_map.specs.LogRules.{log_rules}
-use Rattle.heap_map.specs.Cells.{AreCells, IsFreeCell, IsTurningCell}
+use Rattle.heap_map.specs.Cells.{IsFreeCell, IsTurningCell}
 use Rattle.heap_map.specs.Facts.{IsLongestRow}
-use Rattle.heap_map.proofs.Premises.{laid, few_granules}
+use Rattle.heap_map.proofs.Premises.{laid}
 use Rattle.heap_map.proofs.Told.{free_told, longest_told, turning_told}
 use Rattle.heap_map.proofs.mapping.draw.Goals as goal
 

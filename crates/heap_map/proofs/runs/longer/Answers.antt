@@ -1,4 +1,4 @@
-use Rattle.std.proofs.Common.{◌≡◌, ◌<◌, ◌≤◌, ◌∙◌, ◌+◌, true≢false, sym, arith, inl, inr, ⊎_elim, subst}
+use Rattle.std.proofs.Common.{◌<◌, ◌≤◌, ◌∙◌, ◌+◌, true≢false, sym, arith, inl, inr, ⊎_elim}
 use Rattle.std.proofs.lemmas.Bool.{cases_lt}
 use Rattle.heap_map.specs.Cells.{IsFreeCell}
 use Rattle.heap_map.proofs.FreeRows.{runs_more, runs_ended}
