@@ -1,6 +1,7 @@
 pub mod Inputs
 pub mod Causes
 pub mod Meaning
+pub mod Variants
 pub mod Telling
 pub mod Dumping
 pub mod Cutting
