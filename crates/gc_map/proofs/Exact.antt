@@ -54,7 +54,7 @@ module _ (words : List ℕ) (sound : IsGcSoundImage words) where
       (λ none. held (record { live = live; unnamed = λ root here. true≢false (sym (eq-eqb (t.root root) (16384 * start) here) ∙ none root) })) in
       (found.0, eqb-true (t.root found.0) (16384 * start) found.1)
 
-  lies_in : ℕ → ℕ → Bool
+  abbrev lies_in : ℕ → ℕ → Bool
   lies_in start root = leb (16384 * start) (t.root root) && ltb (t.root root) (16384 * start + 65536)
 
   lived : (start : ℕ) → ¬ (IsEmptySlab t start) → t.slab start ≡ true → (root : ℕ) × (t.root root ≢ 0) × IsInSlab t start (t.root root)
@@ -72,22 +72,19 @@ module _ (words : List ℕ) (sound : IsGcSoundImage words) where
       (found.0, (λ nothing. omega (arith, low found.0 found.1, nothing, late)), record { slab = slab; low = low found.0 found.1; high = high })
 
 module _ (words : List ℕ) (cells : List Cell) (sound : IsGcSoundImage words) (are : AreCells gc_rules words cells) where
-  abbrev t : Tables
-  t = gc_tables words
-
   -- nothing of a granule is loose where no cell is
   none_at : AreNoneLoose cells → (k : ℕ) → k < granules_in words → ¬ (IsLooseKind gc_rules words (cell_in cells k).kind)
   none_at none k below =
       let inside : k < length cells = omega (arith, below, are.all) in
       not_both (cell_in cells k).loose (IsLooseKind gc_rules words (cell_in cells k).kind) (are.each k inside).loose (none k inside)
 
-  slab_held : AreNoneLoose cells → (start : ℕ) → t.slab start ≡ true → ¬ (IsEmptySlab t start)
+  slab_held : AreNoneLoose cells → (start : ℕ) → (gc_tables words).slab start ≡ true → ¬ (IsEmptySlab (gc_tables words) start)
   slab_held none start slab empty =
       let below : start < granules_in words = omega (arith, (slab_lies words sound start slab).1) in
       let found = slab_kind gc_rules words (laid words sound) start (cell_in cells start).kind (are.each start (omega (arith, below, are.all))).kind slab in
-      none_at none start below (subst (IsLooseKind gc_rules words) (sym found.1) (subst (IsEmptySlab t) (sym found.2) empty))
+      none_at none start below (subst (IsLooseKind gc_rules words) (sym found.1) (subst (IsEmptySlab (gc_tables words)) (sym found.2) empty))
 
-  large_held : AreNoneLoose cells → (start : ℕ) → 0 < t.large start → ¬ (IsLooseLarge t start)
+  large_held : AreNoneLoose cells → (start : ℕ) → 0 < (gc_tables words).large start → ¬ (IsLooseLarge (gc_tables words) start)
   large_held none start live loose =
       let below = (large_lies words sound start live).1 in
       let found = large_kind gc_rules words (laid words sound) start (cell_in cells start).kind (are.each start (omega (arith, below, are.all))).kind live in
@@ -104,7 +101,7 @@ module _ (words : List ℕ) (cells : List Cell) (sound : IsGcSoundImage words) (
   }
 
   -- nothing of an exact image is loose
-  none_loose : IsGcExact (bounds_of words) t → (kind : Kind) → ¬ (IsLooseKind gc_rules words kind)
+  none_loose : IsGcExact (bounds_of words) (gc_tables words) → (kind : Kind) → ¬ (IsLooseKind gc_rules words kind)
   none_loose exact Header loose = closed words loose
   none_loose exact Roots loose = loose
   none_loose exact Log loose = loose

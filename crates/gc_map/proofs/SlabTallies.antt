@@ -1,18 +1,21 @@
 -- Tallies of slabs, one root more.
-use Rattle.std.proofs.Common.{◌≡◌, ◌≢◌, ◌+◌, ◌-◌, ◌*◌, ◌<◌, ◌≤◌, ℕ, List, [], ◌∷◌, ◌++◌, length, set, refl, sym, ap, subst, ◌∙◌, arith, inl, inr, ⊎_elim}
-use Rattle.std.proofs.lemmas.Bool.{cases_eq}
+use Rattle.std.proofs.Common.{◌≡◌, ◌≢◌, ◌↔◌, ◌+◌, ◌-◌, ◌*◌, ◌<◌, ◌≤◌, ℕ, List, [], ◌∷◌, ◌++◌, length, set, refl, sym, ap, subst, ◌∙◌, arith, inl, inr, ⊎_elim, nat_lt, IsTrue}
+use Rattle.std.proofs.lemmas.Bool.{cases_eq, cases_lt, ltb-true, lt-ltb}
 use Rattle.std.proofs.lemmas.List.{length-set, get_or-set_same, get_or-set_other}
 use Rattle.size_classes.specs.Classes.{class_size}
 use Rattle.size_classes.proofs.Spacing.{class_size-most}
 use Rattle.pool_layout.specs.Header.{granules_in}
 use Rattle.image_tables.specs.Tables.{Tables}
-use Rattle.image_defects.proofs.Counts.{count_here, count_not}
+use Rattle.image_defects.specs.Count.{IsCount}
+use Rattle.image_defects.proofs.Counts.{count_here, count_not, some_below, none_below}
 use Rattle.gc_check.specs.Heap.{class_field, gc_size, gc_tables}
 use Rattle.gc_check.specs.Image.{IsGcSoundImage}
 use Rattle.gc_check.proofs.Heaps.{size_small}
+use Rattle.gc_search.proofs.Marks.{held_below}
 use Rattle.heap_map.specs.Facts.{IsTotal}
 use Rattle.heap_map.proofs.Totals.{total_more}
-use Rattle.gc_map.specs.Slabs.{IsIn, IsLiveIn, IsOldIn, HasBytes}
+use Rattle.gc_map.specs.Slabs.{IsIn, IsLiveIn, IsOldIn, HasBytes, IsMixed}
+use Rattle.gc_map.specs.GcRules.{roots_in}
 use Rattle.gc_map.specs.declared.places.Place.{Place}
 use Rattle.gc_map.specs.declared.tallies.Tally.{Tally}
 use Rattle.gc_map.specs.Places.{HasNoPlace, IsPlaceOf, no_tally, tally_in, IsTally, AreTallies}
@@ -101,3 +104,13 @@ tallies_put words sound n place tallies tally is inside own are = record {
   where
     t : Tables
     t = gc_tables words
+
+-- a slab with a block of another class is in transition
+pub turns_by : (words : List ℕ) (start old : ℕ) → IsCount (IsOldIn (gc_tables words) start) (roots_in words) old → IsTrue (nat_lt 0 old) ↔ IsMixed (gc_tables words) start
+turns_by words start old count = (
+  λ is. let found = some_below (IsOldIn (gc_tables words) start) (roots_in words) old count (ltb-true 0 old is) in record { root = found.0; old = found.1.1 },
+  λ mixed. ⊎_elim
+      (λ (some : 0 < old). lt-ltb 0 old some)
+      (λ (none : old ≤ 0). absurd (none_below (IsOldIn (gc_tables words) start) (roots_in words) old count (omega (arith, none)) mixed.root (held_below words mixed.root mixed.old.lies.some) mixed.old))
+      (cases_lt 0 old),
+)

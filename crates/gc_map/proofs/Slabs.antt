@@ -22,6 +22,11 @@ use Rattle.gc_map.specs.Slabs.{IsIn}
 use Rattle.gc_map.specs.Places.{HasNoSlabOver, IsSlabOver, HasNoPlace, IsPlaceOf}
 use Rattle.gc_map.proofs.Premises.{laid, is_slab-of}
 
+-- extents are those of the words
+pub gc_granules : (words : List ℕ) (start : ℕ) → granules_at (gc_tables words) start ≡ granules_at (tables_of words) start
+unfolding gc_tables
+gc_granules words start = refl
+
 module _ (words : List ℕ) (sound : IsGcSoundImage words) where
   abbrev t : Tables
   t = gc_tables words

@@ -84,10 +84,7 @@ fn count_live(words: &[u64], places: &[Option<Place>], class: u8) -> u32
 {
     let mut count = 0;
     for root in 0..places.len() as u32 {
-        count = counted(
-            count,
-            is_live(words, class, root, places[root as usize]),
-        );
+        count = counted(count, is_live(words, class, root, places[root as usize]));
     }
     count
 }

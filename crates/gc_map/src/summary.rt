@@ -102,10 +102,7 @@ fn count_empty(words: &[u64], image: &GcImage) -> u32
 {
     let mut count = 0;
     for start in 0..image.log.granules() {
-        count = counted(
-            count,
-            is_empty_slab(words, &image.log, &image.names, start),
-        );
+        count = counted(count, is_empty_slab(words, &image.log, &image.names, start));
     }
     count
 }

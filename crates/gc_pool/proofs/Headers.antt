@@ -1,14 +1,15 @@
 -- The header of a pool, by its numbers.
-use Rattle.std.proofs.Common.{◌≡◌, ◌≢◌, ℕ, ◌*◌, ◌<◌, ◌≤◌, List, refl, arith, ap, subst, sym, ◌∙◌}
+use Rattle.std.proofs.Common.{◌≡◌, ◌≢◌, ℕ, ◌*◌, ◌<◌, ◌≤◌, List, [], ◌∷◌, length, refl, arith, ap, subst, sym, ◌∙◌}
 use Rattle.std.proofs.lemmas.Nat.{mul-le}
 use Rattle.pmem_lines.specs.Words.{word_at}
 use Rattle.pool_layout.specs.declared.header.PoolHeader.{PoolHeader}
 use Rattle.pool_layout.specs.declared.defect.Defect.{Defect}
 use Rattle.pool_layout.specs.declared.defect.Defect.TheVariants.{BadHeader}
 use Rattle.pool_layout.specs.Layout.{layout_of, all_granules, pool_granules}
-use Rattle.pool_layout.specs.Places.{fields_word}
+use Rattle.pool_layout.specs.Places.{text_word, fields_word}
 use Rattle.pool_layout.specs.Header.{fields_of, header_word}
 use Rattle.pool_layout.proofs.Headers.{fields_of-header_word, header_fits}
+use Rattle.gc_check.specs.Header.{gc_text}
 use Rattle.gc_pool.specs.Image.{IsFirstGcHeader, IsFirstGcFields, HasOtherFields, IsBehindText}
 
 -- numbers of version 1
@@ -70,3 +71,9 @@ no_first word none found =
 -- the text is good, and the second word is bad
 pub bad_fields : (words : List ℕ) (Is : ℕ → Type 0) (word : ℕ) → IsBehindText words word → ¬ (Is word) → HasOtherFields words Is (BadHeader fields_word word)
 bad_fields words Is word second bad = record { text = second.text; other = λ is. bad (subst Is (sym second.is) is); is = ap (BadHeader fields_word) second.is }
+
+-- no words begin with no text
+pub no_text : (words : List ℕ) → length words ≡ 0 → word_at words text_word ≢ gc_text
+unfolding word_at gc_text
+no_text [] none is = absurd (omega (arith, is))
+no_text (w ∷ words) none is = absurd (omega (arith, none))

@@ -19,7 +19,10 @@ fn gc_text() -> u64
 pub fn has_gc_text(words: &[u64]) -> bool
     ensures { IsTrue result ↔ (word_at words.now text_word ≡ gc_text) }
 {
-    words.len() > 0 && words[0] == gc_text()
+    if words.len() == 0 {
+        return false;
+    }
+    words[0] == gc_text()
 }
 
 /// The second word of a header line, where the first is the text; else that one is bad.
@@ -54,12 +57,13 @@ fn fields_of(word: u64) -> PoolHeader
 fn is_first_header(header: &PoolHeader) -> bool
     ensures { IsTrue result ↔ IsFirstGcHeader header.now }
 {
-    header.version == 1
-        && header.arenas >= 1
-        && header.arenas <= 16
-        && header.number == 0
-        && header.granules >= 16
-        && header.granules <= 1024
+    if header.version != 1 || header.arenas < 1 || header.arenas > 16 || header.number != 0 {
+        return false;
+    }
+    if header.granules < 16 || header.granules > 1024 {
+        return false;
+    }
+    true
 }
 
 /// The header of arena 0; the first word of its line that is bad, where one is.
