@@ -15,8 +15,8 @@ import sys
 TOP = os.path.dirname(os.path.dirname(os.path.realpath(__file__)))
 RUN = [
     ("nvheap", "running.rt", ["run"]),
-    ("nvheap", "source.rt", ["Source"]),
-    ("nvheap", "sink.rt", ["Sink"]),
+    ("program_io", "source.rt", ["Source"]),
+    ("program_io", "sink.rt", ["Sink"]),
     ("nvheap", "shelf.rt", ["Shelf"]),
     ("shared_pool", "gate.rt", ["Gate"]),
 ]

@@ -14,6 +14,7 @@ use Rattle.heap_model.proofs.Maps.{with_key-here, with_key-other}
 use Rattle.heap_indexes.proofs.LargeBlocks.{large_off}
 use Rattle.heap_indexes.specs.declared.answer.Given.TheVariants as given
 use Rattle.heap_check.specs.Image.{bounds_of}
+use Rattle.heap_check.proofs.Forms.{bounds_of-same}
 use Rattle.heap_check.specs.Sound.{IsInSlab, IsLooseLarge, IsEmptySlab, HasOther}
 use Rattle.heap_check.proofs.Geometry.{Covers-slab, is_large-parts}
 use Rattle.gc_check.specs.Heap.{address_field, class_field, gc_block, gc_tables}
@@ -246,7 +247,7 @@ pub gone_words : {words made new : List ℕ} {root start : ℕ} (range : Range) 
     ((s : ℕ) → with_key (gc_slabs words) start None s ≡ slabs_without (bounds_of words) (state_in words) root range s) → IsFreedWords words root range new
 gone_words {words} {made} {new} {root} {start} range detached dropped its slabs = record {
   image = dropped.exact (detached.but start its).but;
-  bounds = dropped.bounds ∙ detached.change.bounds;
+  bounds = bounds_of-same made new dropped.header ∙ detached.change.bounds;
   blocks = λ other. dropped.heap.each other ∙ detached.change.blocks other;
   slabs = λ s. dropped.slabs s ∙ (λ i. with_key (λ r. detached.change.slabs r i) start None s) ∙ slabs s;
 }

@@ -3,7 +3,9 @@ use Rattle.std.proofs.Common.{◌≡◌, ◌≤◌, List, ℕ, length, refl, sym
 use Rattle.pmem_lines.specs.declared.event.Event.{Event}
 use Rattle.pmem_lines.specs.Pmem.{PmemState, words_of, began, appended, fresh}
 use Rattle.pmem_lines.specs.Events.{CrashOnly}
+use Rattle.pmem_lines.specs.Words.{word_at}
 use Rattle.pool_layout.specs.Layout.{layout_of}
+use Rattle.pool_layout.specs.Places.{fields_word}
 use Rattle.pool_layout.specs.Header.{version_in}
 use Rattle.gc_check.specs.Image.{IsGcSoundImage, IsGcExactImage}
 use Rattle.gc_recovery_steps.specs.Recovery.{KeepsGcHeap, KeepsGcSlabs, GcRecovers, IsPart}
@@ -14,8 +16,9 @@ events_are : {Stores : List ℕ → List Event → Type 0} {most : ℕ} (old new
 events_are old new part = sym (ap (λ (s : PmemState). s.events) part.step.appends.state)
 
 -- the whole of it, where it begins a call
-pub recovered : (old new : PmemState) → IsPart (began old) new GcRecovers (layout_of (version_in (words_of old))).recovery_events → IsGcExactImage (words_of new) → KeepsGcHeap (words_of old) (words_of new) → KeepsGcSlabs (words_of old) (words_of new) → IsGcRecovered old new
-recovered old new part exact keeps slabs =
+pub recovered : (old new : PmemState) → IsPart (began old) new GcRecovers (layout_of (version_in (words_of old))).recovery_events → IsGcExactImage (words_of new) → KeepsGcHeap (words_of old) (words_of new) → KeepsGcSlabs (words_of old) (words_of new) →
+    word_at (words_of new) fields_word ≡ word_at (words_of old) fields_word → IsGcRecovered old new
+recovered old new part exact keeps slabs header =
     let same = events_are old new part in
     record {
       state = part.step.appends.state ∙ ap (λ (es : List Event). appended (began old) es) same;
@@ -23,6 +26,7 @@ recovered old new part exact keeps slabs =
       exact = exact;
       keeps = keeps;
       slabs = slabs;
+      header = header;
       stores = subst (λ (es : List Event). GcRecovers (words_of old) es) same part.stores;
       few = subst (λ (es : List Event). length es ≤ (layout_of (version_in (words_of old))).recovery_events) same part.few;
       crash = subst (λ (es : List Event). CrashOnly (words_of old) es (KeepsGcHeap (words_of old))) same part.step.crash;

@@ -134,10 +134,10 @@ none_left words new start Empty image here dropped = record {
 }
 
 pub rid_of : (words new : List ℕ) (start : ℕ) (kind : Loose) → IsGcSoundImage words → IsLooseOf kind (gc_tables words) start → IsDropped words start new → IsRid kind words new
-rid_of words new start kind image here dropped = record { none = none_left words new start kind image here dropped; loose = dropped.loose; slabs = slabs_kept words new start dropped }
+rid_of words new start kind image here dropped = record { none = none_left words new start kind image here dropped; loose = dropped.loose; slabs = slabs_kept words new start dropped; header = dropped.header }
 
 pub rid_self : (words : List ℕ) (kind : Loose) → HasNone (IsLooseOf kind (gc_tables words)) → IsRid kind words words
-rid_self words kind none = record { none = none; loose = record { large = λ start loose. loose; empty = λ start loose. loose }; slabs = record { classes = λ start class is. is } }
+rid_self words kind none = record { none = none; loose = record { large = λ start loose. loose; empty = λ start loose. loose }; slabs = record { classes = λ start class is. is }; header = refl }
 
 -- a thing of a kind may be dropped
 pub droppable : (words : List ℕ) (start : ℕ) (kind : Loose) → IsGcSoundImage words → IsLooseOf kind (gc_tables words) start → IsDroppable words start

@@ -1,9 +1,11 @@
 -- What recovery of an image of the GC variant stores, what it keeps, and what a crash within it leaves.
 use Rattle.std.specs.Prelude.{◌≡◌, ◌⊎◌, ℕ, ◌≤◌, List, [], ◌++◌, length, Some}
+use Rattle.pmem_lines.specs.Words.{word_at}
 use Rattle.pmem_lines.specs.declared.event.Event.{Event}
 use Rattle.pmem_lines.specs.Events.{reading}
 use Rattle.pmem_lines.specs.Pmem.{PmemState, words_of}
 use Rattle.pmem_lines.specs.Steps.{IsQuietStep}
+use Rattle.pool_layout.specs.Places.{fields_word}
 use Rattle.heap_check.specs.Image.{bounds_of}
 use Rattle.image_defects.specs.Least.{HasNone}
 use Rattle.gc_check.specs.Heap.{gc_tables}
@@ -56,8 +58,9 @@ pub record IsPart (old new : PmemState) (Stores : List ℕ → List Event → Ty
 
 -- what is left
 
--- nothing of the kind is loose any more, nothing comes to be loose, and no slab comes
+-- nothing of the kind is loose any more, nothing comes to be loose, no slab comes, and the header line says what it said
 pub record IsRid (kind : Loose) (words new : List ℕ) : Type 0 where
   pub none : HasNone (IsLooseOf kind (gc_tables new))
   pub loose : LoosensNone words new
   pub slabs : KeepsGcSlabs words new
+  pub header : word_at new fields_word ≡ word_at words fields_word

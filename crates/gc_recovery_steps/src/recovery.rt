@@ -1,6 +1,9 @@
 // The Tombs of recovery, one after another.
+ghost use Rattle.std.specs.Prelude.{◌≡◌};
 ghost use Rattle.pmem_lines.specs.Events.{IsQuiet};
 ghost use Rattle.pmem_lines.specs.Pmem.{words_of, HasRoom};
+ghost use Rattle.pmem_lines.specs.Words.{word_at};
+ghost use Rattle.pool_layout.specs.Places.{fields_word};
 ghost use Rattle.pool_layout.specs.Layout.{layout_of};
 ghost use Rattle.pool_layout.specs.Header.{version_in};
 ghost use Rattle.log_steps.specs.Log.{IsBookOf};
@@ -28,6 +31,7 @@ pub fn make_exact<P: Pmem>(p: &mut P, log: &mut BookLog, names: &GcNames)
     ensures exact { IsGcExactImage (words_of (P.state p.new)) }
     ensures heap { KeepsGcHeap (words_of (P.state p.old)) (words_of (P.state p.new)) }
     ensures slabs { KeepsGcSlabs (words_of (P.state p.old)) (words_of (P.state p.new)) }
+    ensures header { word_at (words_of (P.state p.new)) fields_word ≡ word_at (words_of (P.state p.old)) fields_word }
     ensures book { IsBookOf log.new (words_of (P.state p.new)) }
 {
     drop_loose(p, log, names, Loose::Large);

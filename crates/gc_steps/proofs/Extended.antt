@@ -7,12 +7,12 @@ use Rattle.pmem_lines.specs.Steps.{IsQuietStep}
 use Rattle.pmem_lines.proofs.Words.{word_at-put_same, word_at-put_other, length-put_word}
 use Rattle.durable_steps.specs.Steps.{word_events, IsOldOrNewWord}
 use Rattle.pool_layout.specs.Layout.{layout_of}
-use Rattle.pool_layout.specs.Places.{granule_word, heap_word}
+use Rattle.pool_layout.specs.Places.{fields_word, granule_word, heap_word}
 use Rattle.pool_layout.specs.Header.{version_field, version_in, granules_in}
 use Rattle.image_tables.specs.Log.{active_chunks}
 use Rattle.image_tables.specs.Extents.{extent_at}
 use Rattle.image_tables.specs.Tables.{Tables, is_slab, is_slab_of, large_of, AreSlabsInHeap, state_word}
-use Rattle.image_tables.proofs.Stores.{IsSameOffLog, heap_word-off_log}
+use Rattle.image_tables.proofs.Stores.{IsSameOffLog, fields-off_log, heap_word-off_log}
 use Rattle.image_tables.proofs.Tables.{slab_table}
 use Rattle.book_log.specs.Book.{Book}
 use Rattle.book_log.proofs.Books.{Reads-same}
@@ -67,6 +67,9 @@ module _ {words image : List ℕ} (formed : IsGcFormed words) (sound : IsGcSound
 
   off : IsSameOffLog words image
   off = off_log words image rest
+
+  rest_fields : word_at image fields_word ≡ word_at words fields_word
+  rest_fields = fields-off_log words image off
 
   pub rest_bounds : bounds_of image ≡ bounds_of words
   rest_bounds = bounds_of-off_log words image off
@@ -155,7 +158,7 @@ module _ {words : List ℕ} {start : ℕ} (may : IsDroppable words start) where
     dropped = record {
       image = gone_sound;
       gone = large_own going.has;
-      bounds = gone_bounds;
+      header = rest_fields may.image.formed may.image.sound logged.rest;
       heap = record { each = going_heap going };
       slabs = slabs_changed going.has;
       loose = record { large = loose_large-back going; empty = empty_slab-back going };

@@ -1,10 +1,12 @@
 -- An extent comes to vacant granules, or goes where no root's block lies in it: the events, when it may be, and what it leaves.
 use Rattle.std.specs.Prelude.{◌≡◌, ◌⊎◌, ℕ, ◌+◌, ◌<◌, ◌≤◌, List, ◌++◌, Some, None}
+use Rattle.pmem_lines.specs.Words.{word_at}
 use Rattle.pmem_lines.specs.declared.event.Event.{Event}
 use Rattle.pmem_lines.specs.Events.{reading}
 use Rattle.book_log.specs.declared.entry.LogEntry.TheVariants.{Large, Slab, Tomb}
 use Rattle.log_steps.specs.Events.{log_events}
 use Rattle.heap_model.specs.Machine.{with_key}
+use Rattle.pool_layout.specs.Places.{fields_word}
 use Rattle.heap_check.specs.Image.{bounds_of}
 use Rattle.heap_check.specs.Sound.{IsVacant, IsLooseLarge, IsEmptySlab}
 use Rattle.gc_check.specs.Heap.{gc_tables}
@@ -61,12 +63,12 @@ pub record LoosensNone (words new : List ℕ) : Type 0 where
   pub large : (start : ℕ) → IsLooseLarge (gc_tables new) start → IsLooseLarge (gc_tables words) start
   pub empty : (start : ℕ) → IsEmptySlab (gc_tables new) start → IsEmptySlab (gc_tables words) start
 
--- The extent is gone: no large one is there, and no slab. The image is sound, with the same blocks and the same other slabs, and
--- nothing comes to be loose; where nothing but the extent was, the image is exact.
+-- The extent is gone: no large one is there, and no slab. The image is sound, its header line says what it said, and the blocks and the
+-- other slabs are the same. Nothing comes to be loose, and where nothing but the extent was, the image is exact.
 pub record IsDropped (words : List ℕ) (start : ℕ) (new : List ℕ) : Type 0 where
   pub image : IsGcSoundImage new
   pub gone : (gc_tables new).large start ≡ 0
-  pub bounds : bounds_of new ≡ bounds_of words
+  pub header : word_at new fields_word ≡ word_at words fields_word
   pub heap : HaveSameGcHeap words new
   pub slabs : (other : ℕ) → gc_slabs new other ≡ with_key (gc_slabs words) start None other
   pub loose : LoosensNone words new

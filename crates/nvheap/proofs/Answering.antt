@@ -4,8 +4,8 @@ use Rattle.std.specs.Result.{IfOk}
 use Rattle.nvheap.proofs.Common.{AreWordsOf, BadLine}
 use Rattle.nvheap.specs.declared.cause.Cause.{Cause}
 use Rattle.nvheap.specs.declared.cause.Cause.TheVariants.{Text}
-use Rattle.nvheap.specs.declared.answers.Answer.{Answer}
-use Rattle.nvheap.specs.declared.answers.Answer.TheVariants.{Output, FaultLine}
+use Rattle.program_io.specs.declared.answer.Answer.{Answer}
+use Rattle.program_io.specs.declared.answer.Answer.TheVariants.{Output, FaultLine}
 use Rattle.nvheap.specs.Meaning.{Places, Meaning}
 use Rattle.nvheap.specs.Ends.{IsAnswer, IsFaultLine, IsBadLine}
 

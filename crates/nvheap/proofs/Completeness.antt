@@ -3,10 +3,11 @@ use Rattle.std.proofs.Common.{◌≡◌, ◌⊎◌, ℕ, ◌+◌, List, [], ◌+
 use Rattle.std.proofs.lemmas.List.{append-nil}
 use Rattle.nvheap.specs.declared.command.Command.{Command}
 use Rattle.nvheap.specs.declared.cause.Cause.{Cause}
-use Rattle.nvheap.specs.declared.status.Status.{Status}
-use Rattle.nvheap.specs.declared.status.Status.TheVariants as ends
-use Rattle.nvheap.specs.Outside.{Outside, Gives}
-use Rattle.nvheap.specs.Inputs.{limit_of, HasLeft, HasRead, HasReadMore}
+use Rattle.program_io.specs.declared.status.Status.{Status}
+use Rattle.program_io.specs.declared.status.Status.TheVariants as ends
+use Rattle.nvheap.specs.Outside.{Outside}
+use Rattle.program_io.specs.Streams.{Gives}
+use Rattle.program_io.specs.Inputs.{limit_of, HasLeft, HasRead, HasReadMore}
 use Rattle.nvheap.specs.Meaning.{Meaning}
 use Rattle.nvheap.specs.Command.{meaning_of, IsCommand, IsSaid}
 use Rattle.nvheap.specs.Ends.{Ends, HasAcceptable}

@@ -1,13 +1,14 @@
 -- How a command ends, from what was read and what was written.
 use Rattle.std.proofs.Common.{◌≡◌, ℕ, List, inl, inr}
-use Rattle.nvheap.specs.declared.answers.Answer.{Answer}
-use Rattle.nvheap.specs.declared.answers.Answer.TheVariants.{Output, FaultLine}
-use Rattle.nvheap.specs.declared.status.Status.{Status}
-use Rattle.nvheap.specs.declared.status.Status.TheVariants.{Done, Usage, Refused, ReadFault, WriteFault, Memory, TooLong}
+use Rattle.program_io.specs.declared.answer.Answer.{Answer}
+use Rattle.program_io.specs.declared.answer.Answer.TheVariants.{Output, FaultLine}
+use Rattle.program_io.specs.declared.status.Status.{Status}
+use Rattle.program_io.specs.declared.status.Status.TheVariants.{Done, Usage, Refused, ReadFault, WriteFault, Memory, TooLong}
 use Rattle.nvheap.specs.Outside.{Outside}
-use Rattle.nvheap.specs.Inputs.{limit_of, HasRead}
+use Rattle.program_io.specs.Inputs.{limit_of, HasRead}
 use Rattle.nvheap.specs.Meaning.{Meaning}
-use Rattle.nvheap.specs.Ends.{IsAnswer, CountsImages, IsWritten, Ends}
+use Rattle.nvheap.specs.Ends.{IsAnswer, CountsImages, Ends}
+use Rattle.program_io.specs.Ends.{IsWritten}
 
 -- a command that wrote what it has to say
 pub ends_written : (m : Meaning) (old new : Outside) (input : List ℕ) (answer : Answer) (status : Status) → HasRead (limit_of m.reads) old.left new.left input →

@@ -5,7 +5,7 @@ use Rattle.heap_check.specs.Image.{IsSoundImage}
 use Rattle.image_runs.specs.Checks.{IsChecked, IsPoolDefect}
 use Rattle.nvheap.specs.declared.cause.Cause.{Cause}
 use Rattle.nvheap.specs.declared.cause.Cause.TheVariants.{Image}
-use Rattle.nvheap.specs.declared.input.Kind.TheVariants as kinds
+use Rattle.program_io.specs.declared.input.Kind.TheVariants as kinds
 use Rattle.nvheap.specs.Meaning.{Places, Meaning, of_input}
 
 -- The output has the line of each arena of the image, and the places stay.

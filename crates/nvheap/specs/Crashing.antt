@@ -21,7 +21,7 @@ use Rattle.gc_runs.specs.Told.{gc_blocks_in}
 use Rattle.gc_crashes.specs.Crash.{gc}
 use Rattle.nvheap.specs.declared.cause.Cause.{Cause}
 use Rattle.nvheap.specs.declared.cause.Cause.TheVariants.{Text}
-use Rattle.nvheap.specs.declared.input.Kind.TheVariants as kinds
+use Rattle.program_io.specs.declared.input.Kind.TheVariants as kinds
 use Rattle.nvheap.specs.Outside.{put_device}
 use Rattle.nvheap.specs.Meaning.{Places, Meaning, of_input}
 use Rattle.nvheap.specs.Traces.{Grammar, HasTraceOf}

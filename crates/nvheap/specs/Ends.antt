@@ -1,26 +1,17 @@
 -- How a run ends, whichever command it is of: what each status says of the words, the input, the output and the shelf.
 use Rattle.std.specs.Prelude.{◌≡◌, ◌⊎◌, ℕ, List, Option}
 use Rattle.trace_text.specs.declared.call.Refusal.TheVariants.{BadLine}
-use Rattle.nvheap.specs.declared.answers.Answer.{Answer}
-use Rattle.nvheap.specs.declared.answers.Answer.TheVariants.{Output, FaultLine}
+use Rattle.program_io.specs.declared.answer.Answer.{Answer}
+use Rattle.program_io.specs.declared.answer.Answer.TheVariants.{Output, FaultLine}
 use Rattle.nvheap.specs.declared.cause.Cause.{Cause}
 use Rattle.nvheap.specs.declared.cause.Cause.TheVariants.{Text}
-use Rattle.nvheap.specs.declared.status.Status.{Status}
-use Rattle.nvheap.specs.declared.status.Status.TheVariants.{Done, Usage, Refused, ReadFault, WriteFault, Memory, TooLong}
-use Rattle.nvheap.specs.Outside.{Outside, Takes, TakesFront}
-use Rattle.nvheap.specs.Inputs.{limit_of, HasLeft, HasRead, HasReadFew, HasReadMore}
+use Rattle.program_io.specs.declared.status.Status.{Status}
+use Rattle.program_io.specs.declared.status.Status.TheVariants.{Done, Usage, Refused, ReadFault, WriteFault, Memory, TooLong}
+use Rattle.nvheap.specs.Outside.{Outside}
+use Rattle.program_io.specs.Streams.{Takes, TakesFront}
+use Rattle.program_io.specs.Inputs.{limit_of, HasLeft, HasRead, HasReadFew, HasReadMore}
 use Rattle.nvheap.specs.Causes.{cause_text}
 use Rattle.nvheap.specs.Meaning.{Places, Meaning}
-
--- the exit code
-abbrev pub code_of : Status → ℕ
-code_of Done = 0
-code_of Usage = 1
-code_of Refused = 2
-code_of ReadFault = 3
-code_of WriteFault = 4
-code_of Memory = 5
-code_of TooLong = 6
 
 -- the text is the output on an input, with what is left on the shelf, and with the images counted
 pub record IsOutput (m : Meaning) (old new : Outside) (input text : List ℕ) : Type 0 where
@@ -92,18 +83,3 @@ IsFaultLine cause (FaultLine text) = text.items ≡ cause_text cause
 -- the line that says that a text is refused, at a line outside its grammar
 abbrev pub IsBadLine : (ℕ → Type 0) → Answer → Type 0
 IsBadLine IsRefused answer = (line : ℕ) × IsRefused line × IsFaultLine (Text (BadLine line)) answer
-
--- what a sink took of an answer, by how its writing ended: all of it, or at a fault its front
-abbrev pub IsWritten : Answer → Option (List ℕ) → Option (List ℕ) → Status → Type 0
-IsWritten (Output text) old new Done = Takes old new text.items
-IsWritten (Output text) old new WriteFault = TakesFront old new text.items
-IsWritten (FaultLine text) old new Refused = Takes old new text.items
-IsWritten (FaultLine text) old new WriteFault = TakesFront old new text.items
-IsWritten answer old new _ = ⊥
-
--- why there is no input, and what was read then, within a limit
-abbrev pub IsUnread : Option ℕ → Option (List ℕ) → Option (List ℕ) → Status → Type 0
-IsUnread limit old new ReadFault = HasReadFew limit old new
-IsUnread limit old new Memory = Unit {0}
-IsUnread limit old new TooLong = HasReadMore limit old new
-IsUnread limit old new _ = ⊥

@@ -8,7 +8,7 @@ use Rattle.trace_runs.specs.Each.{EachFrom}
 use Rattle.trace_runs.specs.Arenas.{header_for}
 use Rattle.trace_runs.specs.Calls.{calls_of}
 use Rattle.trace_runs.specs.Journals.{IsRunThrough}
-use Rattle.nvheap.specs.declared.input.Kind.TheVariants as kinds
+use Rattle.program_io.specs.declared.input.Kind.TheVariants as kinds
 use Rattle.nvheap.specs.Outside.{put_devices}
 use Rattle.nvheap.specs.Meaning.{Places, Meaning, of_input}
 use Rattle.nvheap.specs.Traces.{HasTrace, RefusesTrace}

@@ -1,5 +1,4 @@
 pub mod Outside
-pub mod Inputs
 pub mod Causes
 pub mod Meaning
 pub mod Traces

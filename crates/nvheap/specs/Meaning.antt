@@ -4,7 +4,7 @@
 use Rattle.std.specs.Prelude.{◌≡◌, ℕ, Bool, false, List, Option, Some}
 use Rattle.pmem_lines.specs.Pmem.{PmemState}
 use Rattle.nvheap.specs.declared.cause.Cause.{Cause}
-use Rattle.nvheap.specs.declared.input.Kind.{Kind}
+use Rattle.program_io.specs.declared.input.Kind.{Kind}
 
 -- what stands in the places of a shelf, where it tells them
 abbrev pub Places : Type 0

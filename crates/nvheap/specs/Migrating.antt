@@ -6,7 +6,7 @@ use Rattle.image_runs.specs.Checks.{HasUnsoundFrom}
 use Rattle.image_runs.specs.Migrations.{IsPoolMigrated}
 use Rattle.nvheap.specs.declared.cause.Cause.{Cause}
 use Rattle.nvheap.specs.declared.cause.Cause.TheVariants.{Image, Version}
-use Rattle.nvheap.specs.declared.input.Kind.TheVariants as kinds
+use Rattle.program_io.specs.declared.input.Kind.TheVariants as kinds
 use Rattle.nvheap.specs.Meaning.{Places, Meaning, of_input}
 use Rattle.nvheap.specs.Checking.{HasSoundArenas}
 

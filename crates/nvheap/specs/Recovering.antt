@@ -5,7 +5,7 @@ use Rattle.pool_layout.specs.Image.{part_of, IsImageOf}
 use Rattle.heap_check.specs.Image.{IsSoundImage}
 use Rattle.recover.specs.Recovered.{IsRecoveredDevice}
 use Rattle.image_runs.specs.Recoveries.{heaps_from}
-use Rattle.nvheap.specs.declared.input.Kind.TheVariants as kinds
+use Rattle.program_io.specs.declared.input.Kind.TheVariants as kinds
 use Rattle.nvheap.specs.Outside.{put_device}
 use Rattle.nvheap.specs.Meaning.{Places, Meaning, of_input}
 use Rattle.nvheap.specs.Checking.{HasSoundArenas, RefusesImage}

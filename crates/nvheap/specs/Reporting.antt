@@ -6,7 +6,7 @@ use Rattle.trace_text.specs.declared.call.TraceCall.{TraceCall}
 use Rattle.trace_text.specs.Grammar.{trace_lines}
 use Rattle.trace_runs.specs.Answers.{Seats, by_threads, by_owner}
 use Rattle.trace_runs.specs.Told.{IsReported}
-use Rattle.nvheap.specs.declared.input.Kind.TheVariants as kinds
+use Rattle.program_io.specs.declared.input.Kind.TheVariants as kinds
 use Rattle.nvheap.specs.declared.reporting.Crew.{Crew}
 use Rattle.nvheap.specs.declared.reporting.Crew.TheVariants.{Workers, Owners}
 use Rattle.nvheap.specs.Outside.{put_devices}

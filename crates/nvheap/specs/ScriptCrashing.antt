@@ -13,7 +13,7 @@ use Rattle.dict_runs.specs.declared.crashing.DictCrashed.{DictCrashed}
 use Rattle.dict_runs.specs.Watching.{IsSideIn}
 use Rattle.nvheap.specs.declared.cause.Cause.{Cause}
 use Rattle.nvheap.specs.declared.cause.Cause.TheVariants.{Text}
-use Rattle.nvheap.specs.declared.input.Kind.TheVariants as kinds
+use Rattle.program_io.specs.declared.input.Kind.TheVariants as kinds
 use Rattle.nvheap.specs.Meaning.{Places, Meaning, of_input}
 use Rattle.nvheap.specs.Crashing.{PutsRecovered, MakesOne}
 use Rattle.nvheap.specs.Scripting.{HasScript}

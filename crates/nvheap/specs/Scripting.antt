@@ -8,7 +8,7 @@ use Rattle.dict_text.specs.Report.{dict_run_text}
 use Rattle.dict_runs.specs.Scripts.{Turn, replies_of, IsBehindScript}
 use Rattle.nvheap.specs.declared.cause.Cause.{Cause}
 use Rattle.nvheap.specs.declared.cause.Cause.TheVariants.{Text}
-use Rattle.nvheap.specs.declared.input.Kind.TheVariants as kinds
+use Rattle.program_io.specs.declared.input.Kind.TheVariants as kinds
 use Rattle.nvheap.specs.Outside.{put_device}
 use Rattle.nvheap.specs.Meaning.{Places, Meaning, of_input}
 

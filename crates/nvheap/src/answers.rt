@@ -6,7 +6,7 @@ ghost use Rattle.gc_runs.specs.Told.{AreStillCalls};
 ghost use Rattle.trace_text.specs.declared.call.Refusal.TheVariants.{BadLine};
 ghost use Rattle.nvheap.specs.declared.cause.Cause.TheVariants.{Text};
 ghost use Rattle.nvheap.specs.Command.{meaning_of};
-ghost use Rattle.nvheap.specs.Inputs.{HasBytes, IsInput, Fits};
+ghost use Rattle.program_io.specs.Inputs.{HasBytes, IsInput, Fits};
 ghost use Rattle.nvheap.specs.Ends.{IsAnswer, CountsImages, IsFaultLine, IsBadLine};
 
 use crate::cause::{Cause, write_cause};
@@ -16,24 +16,15 @@ use crate::crashing::crash_answer;
 use crate::gc_crashing::gc_crash_answer;
 use crate::gc_reporting::gc_answer;
 use crate::imaging::image_answer;
-use crate::input::Input;
 use crate::migrating::migrate_answer;
 use crate::recovering::recover_answer;
 use crate::script_crashing::dict_crash_answer;
 use crate::scripting::dict_answer;
 use crate::shelf::Shelf;
 use pmem_lines::OutOfMemory;
+use program_io::{Answer, Input};
 use std::alloc::Global;
 use trace_text::{Refusal, TextFault, Trace, read_still_trace, read_trace};
-
-/// What a command has to say of its input.
-#[derive(Drop)]
-pub(crate) enum Answer {
-    /// Its output.
-    Output(Vec<u8>),
-    /// One line that says why it refuses the input.
-    FaultLine(Vec<u8>),
-}
 
 /// The answer of a command that does not wait. A refusal and want of memory leave the shelf's places as they were.
 pub(crate) fn answer_to<H: Shelf>(
@@ -53,14 +44,14 @@ pub(crate) fn answer_to<H: Shelf>(
 {
     match (command, input) {
         (Command::Image, Input::Text(text)) => image_answer(alloc, text, shelf),
-        (Command::Check, Input::Pool { words, bytes }) => check_answer(alloc, words, *bytes),
-        (Command::Recover, Input::Pool { words, bytes }) => {
+        (Command::Check, Input::Image { words, bytes }) => check_answer(alloc, words, *bytes),
+        (Command::Recover, Input::Image { words, bytes }) => {
             recover_answer(alloc, words, *bytes, shelf)
         }
         (Command::Crash { arena, event, seed }, Input::Text(text)) => {
             crash_answer(alloc, text, arena, event, seed, shelf)
         }
-        (Command::Migrate, Input::Pool { words, bytes }) => migrate_answer(alloc, words, *bytes),
+        (Command::Migrate, Input::Image { words, bytes }) => migrate_answer(alloc, words, *bytes),
         (Command::Dict, Input::Text(text)) => dict_answer(alloc, text, shelf),
         (Command::DictCrash { event, seed }, Input::Text(text)) => {
             dict_crash_answer(alloc, text, event, seed, shelf)

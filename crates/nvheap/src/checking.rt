@@ -5,11 +5,12 @@ ghost use Rattle.nvheap.specs.Meaning.{Places};
 ghost use Rattle.nvheap.specs.Checking.{checking};
 ghost use Rattle.nvheap.specs.Ends.{IsAnswer};
 
-use crate::answers::{Answer, fault_line};
+use crate::answers::fault_line;
 use crate::cause::Cause;
 use image_runs::check_pool;
 use pmem_lines::OutOfMemory;
 use pool_layout::ImageFault;
+use program_io::Answer;
 use std::alloc::Global;
 
 /// What each arena of a pool's image has.

@@ -2,7 +2,7 @@
 ghost use Rattle.std.specs.Prelude.{◌≡◌, ◌↔◌, [], ◌∷◌, IsTrue, codes, map, string_bytes, MatchOption};
 ghost use Rattle.nvheap.specs.Command.{meaning_of, IsCommand, IsNoCommand};
 
-use crate::input::Kind;
+use program_io::Kind;
 use trace_text::whole_number;
 
 /// What the words after the program's name ask for.
@@ -46,7 +46,7 @@ impl Command {
             Command::Replay | Command::Image | Command::Crash { .. } => Some(Kind::Text),
             Command::Dict | Command::DictCrash { .. } | Command::Serve => Some(Kind::Text),
             Command::Gc | Command::GcCrash { .. } => Some(Kind::Text),
-            Command::Check | Command::Recover | Command::Migrate => Some(Kind::Pool),
+            Command::Check | Command::Recover | Command::Migrate => Some(Kind::Image),
             Command::Gen { .. } => None,
         }
     }

@@ -12,12 +12,13 @@ ghost use Rattle.trace_text.specs.declared.call.Refusal.TheVariants.{NoArena, No
 ghost use Rattle.nvheap.specs.declared.cause.Cause.TheVariants.{Text};
 ghost use Rattle.nvheap.specs.Ends.{IsAnswer, CountsImages, IsFaultLine};
 
-use crate::answers::{Answer, fault_line, trace_of};
+use crate::answers::{fault_line, trace_of};
 use crate::cause::Cause;
 use crate::shelf::Shelf;
 use image_runs::recover_heap;
 use pmem_lines::OutOfMemory;
 use pool_layout::{header_of, layout_of};
+use program_io::Answer;
 use recover::RecoverFault;
 use std::alloc::Global;
 use trace_crashes::{CrashFault, Crashed, crash};

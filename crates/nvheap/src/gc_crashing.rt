@@ -8,7 +8,7 @@ ghost use Rattle.trace_text.specs.Report.{crash_text};
 ghost use Rattle.nvheap.specs.Crashing.{PutsRecovered, gc_arenas, crashing};
 ghost use Rattle.nvheap.specs.Ends.{IsAnswer, CountsImages};
 
-use crate::answers::{Answer, still_trace_of};
+use crate::answers::still_trace_of;
 use crate::crashing::{lacks_arena, lacks_event};
 use crate::shelf::Shelf;
 use gc_crashes::gc_crash;
@@ -17,6 +17,7 @@ use gc_runs::gc_blocks_of;
 use gc_search::GcFault;
 use pmem_lines::OutOfMemory;
 use pool_layout::layout_of;
+use program_io::Answer;
 use std::alloc::Global;
 use trace_crashes::{CrashFault, Crashed};
 use trace_text::write_crash;

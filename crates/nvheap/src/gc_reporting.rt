@@ -6,11 +6,12 @@ ghost use Rattle.gc_runs.specs.Told.{AreStillCalls, IsGcReported};
 ghost use Rattle.nvheap.specs.GcReporting.{gc_reporting};
 ghost use Rattle.nvheap.specs.Ends.{IsAnswer};
 
-use crate::answers::{Answer, still_trace_of};
+use crate::answers::still_trace_of;
 use crate::shelf::{Shelf, put_all};
 use gc_runs::run_gc_calls;
 use pmem_lines::{OutOfMemory, Pmem};
 use pool_layout::layout_of;
+use program_io::Answer;
 use std::alloc::Global;
 use trace_text::Trace;
 

@@ -3,10 +3,10 @@ ghost use Rattle.std.specs.Prelude.{◌≡◌, [], IfOk, OnErr};
 ghost use Rattle.nvheap.specs.Generating.{generating};
 ghost use Rattle.nvheap.specs.Ends.{IsAnswer};
 
-use crate::answers::Answer;
 use crate::reporting::take_arenas;
 use crate::shelf::{Shelf, put_all};
 use pmem_lines::OutOfMemory;
+use program_io::Answer;
 use shared_pool::Gate;
 use std::alloc::Global;
 use std::sync::Wait;

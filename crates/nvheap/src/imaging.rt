@@ -6,11 +6,12 @@ ghost use Rattle.trace_text.specs.Grammar.{pool_of, IsPool, IsTraceCall};
 ghost use Rattle.nvheap.specs.Imaging.{AreRunThrough, images_of, imaging};
 ghost use Rattle.nvheap.specs.Ends.{IsAnswer};
 
-use crate::answers::{Answer, trace_of};
+use crate::answers::trace_of;
 use crate::shelf::{Shelf, put_all};
 use image_runs::{add_bytes, new_piece};
 use pmem_lines::{OutOfMemory, Pmem};
 use pool_layout::{GRANULE_BYTES, layout_of};
+use program_io::Answer;
 use std::alloc::Global;
 use trace_runs::run_calls;
 use trace_text::Trace;

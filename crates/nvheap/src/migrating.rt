@@ -5,11 +5,12 @@ ghost use Rattle.nvheap.specs.Meaning.{Places};
 ghost use Rattle.nvheap.specs.Migrating.{migrating};
 ghost use Rattle.nvheap.specs.Ends.{IsAnswer};
 
-use crate::answers::{Answer, fault_line};
+use crate::answers::fault_line;
 use crate::cause::Cause;
 use image_runs::{PoolMigrateFault, migrate_pool};
 use pmem_lines::OutOfMemory;
 use pool_layout::pool_header;
+use program_io::Answer;
 use std::alloc::Global;
 
 /// The image of the pool of version 2 that has what the pool of an image of version 1 has. The header lines of that are

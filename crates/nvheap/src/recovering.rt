@@ -7,12 +7,13 @@ ghost use Rattle.image_runs.specs.Recoveries.{heaps_from};
 ghost use Rattle.nvheap.specs.Recovering.{AnswersRecover, HasRecovered, MakesAll, recovering};
 ghost use Rattle.nvheap.specs.Ends.{IsAnswer, CountsImages};
 
-use crate::answers::{Answer, fault_line};
+use crate::answers::fault_line;
 use crate::cause::Cause;
 use crate::shelf::Shelf;
 use image_runs::recover_arena;
 use pmem_lines::OutOfMemory;
 use pool_layout::{ImageFault, PoolHeader, layout_of, parts, pool_header};
+use program_io::Answer;
 use std::alloc::Global;
 
 /// The heap of each arena of a pool's image. Each is recovered on a device of the shelf, which is put into the place of the

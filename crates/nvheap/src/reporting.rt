@@ -8,11 +8,12 @@ ghost use Rattle.trace_runs.specs.Told.{IsReported, AreNew};
 ghost use Rattle.nvheap.specs.Reporting.{reporting, seats_of};
 ghost use Rattle.nvheap.specs.Ends.{IsAnswer, IsBadLine};
 
-use crate::answers::{Answer, trace_of};
+use crate::answers::trace_of;
 use crate::shelf::{Shelf, put_all};
 use arena_core::Arena;
 use pmem_lines::{OutOfMemory, Pmem};
 use pool_layout::layout_of;
+use program_io::Answer;
 use serve_runs::serve;
 use shared_pool::Gate;
 use std::alloc::Global;

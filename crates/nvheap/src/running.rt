@@ -1,6 +1,7 @@
 // The top call.
 ghost use Rattle.std.specs.Prelude.{◌≡◌, ◌≢◌, ◌↔◌, ◌⊎◌, ℕ, List, Option, None, IsTrue, map, string_bytes};
-ghost use Rattle.nvheap.specs.Outside.{told_by, Rose};
+ghost use Rattle.nvheap.specs.Outside.{told_by};
+ghost use Rattle.program_io.specs.Streams.{Rose};
 ghost use Rattle.nvheap.specs.Generating.{generating};
 ghost use Rattle.nvheap.specs.Reporting.{reporting, seats_of};
 ghost use Rattle.nvheap.specs.Command.{meaning_of, IsNoCommand, IsSaid};
@@ -9,13 +10,10 @@ ghost use Rattle.nvheap.specs.Ends.{Ends, HasAcceptable, IsSilent, IsAside};
 use crate::answers::answer_to;
 use crate::command::{Command, command_of};
 use crate::generating::gen_answer;
-use crate::input::{Input, read_input};
-use crate::output::write_answer;
+use crate::input::input_of;
 use crate::reporting::{Crew, report_answer};
 use crate::shelf::Shelf;
-use crate::sink::Sink;
-use crate::source::Source;
-use crate::status::Status;
+use program_io::{Input, Sink, Source, Status, write_answer};
 use shared_pool::Gate;
 use std::alloc::Global;
 use std::sync::Wait;
@@ -88,9 +86,9 @@ fn run_report<R: Threads + Wait + Sync, S: Source, K: Sink, G: Gate + Sync, H: S
     ensures aside { IsAside result → H.places shelf.new ≡ H.places shelf.old }
     ensures images { H.images shelf.new ≡ H.images shelf.old }
 {
-    let text = match read_input(alloc, Command::Replay, source) {
+    let text = match input_of(alloc, Command::Replay, source) {
         Ok(Input::Text(text)) => text,
-        Ok(Input::Pool { .. }) => unreachable!(),
+        Ok(Input::Image { .. }) => unreachable!(),
         Err(status) => return status,
     };
     match report_answer(rt, alloc, crew, text, gate, shelf) {
@@ -143,7 +141,7 @@ fn run_returning<S: Source, K: Sink, H: Shelf>(
     ensures idle { IsTrue (meaning_of command).idle → shelf.new ≡ shelf.old }
     ensures unread { (meaning_of command).reads ≡ None → source.new ≡ source.old }
 {
-    let input = match read_input(alloc, command, source) {
+    let input = match input_of(alloc, command, source) {
         Ok(input) => input,
         Err(status) => return status,
     };

@@ -2,17 +2,15 @@
 ghost use Rattle.std.specs.Prelude.{◌≡◌, ◌≤◌, [], length, IfOk, OnOk, OnErr};
 ghost use Rattle.pmem_lines.specs.Events.{IsQuiet};
 ghost use Rattle.pmem_lines.specs.Pmem.{words_of, risen};
-ghost use Rattle.recover.specs.Recovered.{HasVersionRoom, IsRecovered};
+ghost use Rattle.recover.specs.Recovered.{HasVersionRoom, IsRecovered, IsRecoveredDevice};
 ghost use Rattle.attach_dict.specs.Dict.{IsSteadyDict};
 ghost use Rattle.dict_text.specs.Calls.{calls_of, HasValues};
 ghost use Rattle.dict_runs.specs.Printing.{IsCrashText};
 ghost use Rattle.dict_runs.specs.Watching.{HasSteadyDict};
-ghost use Rattle.recover.specs.Recovered.{IsRecoveredDevice};
 ghost use Rattle.nvheap.specs.Crashing.{PutsRecovered};
 ghost use Rattle.nvheap.specs.ScriptCrashing.{IsMapReport, script_crashing};
 ghost use Rattle.nvheap.specs.Ends.{IsAnswer, CountsImages};
 
-use crate::answers::Answer;
 use crate::crashing::{lacks_event, room_of};
 use crate::scripting::script_of;
 use crate::shelf::Shelf;
@@ -20,6 +18,7 @@ use attach_dict::{Dict, OpenFault};
 use dict_runs::{DictCrashed, crash_script, write_left};
 use dict_text::Script;
 use pmem_lines::{OutOfMemory, Pmem};
+use program_io::Answer;
 use recover::{RecoverFault, recover};
 use std::alloc::Global;
 use trace_crashes::CrashFault;

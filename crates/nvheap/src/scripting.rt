@@ -5,13 +5,14 @@ ghost use Rattle.dict_text.specs.Calls.{calls_of, HasValues};
 ghost use Rattle.nvheap.specs.Scripting.{scripting};
 ghost use Rattle.nvheap.specs.Ends.{IsAnswer, IsBadLine};
 
-use crate::answers::{Answer, bad_line};
+use crate::answers::bad_line;
 use crate::reporting::GRANULE_LINES;
 use crate::shelf::Shelf;
 use dict_runs::run_script;
 use dict_text::{Script, read_script};
 use pmem_lines::OutOfMemory;
 use pool_layout::layout_of;
+use program_io::Answer;
 use std::alloc::Global;
 use trace_text::TextFault;
 

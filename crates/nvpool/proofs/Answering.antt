@@ -3,8 +3,8 @@ use Rattle.std.proofs.Common.{ℕ, List, Result, Ok, Err}
 use Rattle.std.specs.Result.{IfOk}
 use Rattle.pool_layout.specs.Image.{AreWordsOf}
 use Rattle.trace_text.specs.declared.call.Refusal.TheVariants.{BadLine}
-use Rattle.nvpool.specs.declared.answer.Answer.{Answer}
-use Rattle.nvpool.specs.declared.answer.Answer.TheVariants.{Output, FaultLine}
+use Rattle.program_io.specs.declared.answer.Answer.{Answer}
+use Rattle.program_io.specs.declared.answer.Answer.TheVariants.{Output, FaultLine}
 use Rattle.nvpool.specs.declared.cause.Cause.{Cause}
 use Rattle.nvpool.specs.declared.cause.Cause.TheVariants.{Text}
 use Rattle.nvpool.specs.Meaning.{Meaning}

@@ -1,15 +1,14 @@
 -- Without a fault a command is done on what it accepts, or wants memory.
 use Rattle.std.proofs.Common.{◌≡◌, ◌⊎◌, ℕ, ◌+◌, List, [], ◌++◌, length, length-append, Option, Some, None, refl, sym, ap, ◌∙◌, subst, inl, inr, arith}
 use Rattle.std.proofs.lemmas.List.{append-nil}
-use Rattle.nvheap.specs.declared.status.Status.{Status}
-use Rattle.nvheap.specs.declared.status.Status.TheVariants as ends
-use Rattle.nvheap.specs.Outside.{Gives}
-use Rattle.nvheap.specs.Inputs.{HasLeft, HasRead, HasReadMore}
+use Rattle.program_io.specs.declared.status.Status.{Status}
+use Rattle.program_io.specs.declared.status.Status.TheVariants as ends
+use Rattle.program_io.specs.Streams.{Gives}
+use Rattle.program_io.specs.Inputs.{HasLeft, HasRead, HasReadMore, limit_of}
 use Rattle.nvpool.specs.declared.command.Command.{Command}
 use Rattle.nvpool.specs.declared.cause.Cause.{Cause}
 use Rattle.nvpool.specs.Meaning.{Meaning}
 use Rattle.nvpool.specs.Command.{meaning_of, IsCommand, IsSaid}
-use Rattle.nvpool.specs.Inputs.{limit_of}
 use Rattle.nvpool.specs.Ends.{Told, Ends, HasAcceptable}
 use Rattle.nvpool.proofs.Table.{settled, said_holds}
 
@@ -45,12 +44,12 @@ ends_well : (m : Meaning) → ((input : List ℕ) (why : Cause) → m.accepts in
 ends_well m settled old new ends.Done is has reads writes = inl refl
 ends_well m settled old new ends.Usage is has reads writes = absurd is
 ends_well m settled old new ends.Refused is has reads writes =
-    let same : is.input ≡ has.input = one_input (limit_of m.reads) old.left new.left has.input is.input has.left_is is.read in
+    let same : is.input ≡ has.input = one_input (limit_of (Some m.reads)) old.left new.left has.input is.input has.left_is is.read in
     absurd (settled has.input is.says.why has.accepts (subst (λ (bytes : List ℕ). m.refuses bytes is.says.why) same is.says.cause))
 ends_well m settled old new ends.ReadFault is has reads writes = absurd (reads refl)
 ends_well m settled old new ends.WriteFault is has reads writes = absurd (writes refl)
 ends_well m settled old new ends.Memory is has reads writes = inr refl
-ends_well m settled old new ends.TooLong is has reads writes = absurd (not_more (limit_of m.reads) old.left new.left has.input has.left_is is)
+ends_well m settled old new ends.TooLong is has reads writes = absurd (not_more (limit_of (Some m.reads)) old.left new.left has.input has.left_is is)
 
 -- the same by the words, where the counts of faults did not rise
 pub completes : (words : List (List ℕ)) (command : Command) (old new : Told) (status : Status) (Read Written : Type 0) → IsCommand words command → Ends (meaning_of command) old new status →

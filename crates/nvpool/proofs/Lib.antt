@@ -2,7 +2,6 @@ pub mod Images
 pub mod GcImages
 pub mod Refusals
 pub mod Table
-pub mod Reading
 pub mod Answering
 pub mod Variants
 pub mod Endings

@@ -16,7 +16,7 @@ use Rattle.nvheap.specs.Traces.{HasTrace}
 use Rattle.nvheap.specs.Crashing.{log_arenas, RefusesCrash, HasEvents}
 use Rattle.nvpool.specs.declared.cause.Cause.{Cause}
 use Rattle.nvpool.specs.declared.cause.Cause.TheVariants.{Text}
-use Rattle.nvpool.specs.declared.input.Kind.TheVariants as kinds
+use Rattle.program_io.specs.declared.input.Kind.TheVariants as kinds
 use Rattle.nvpool.specs.Meaning.{Meaning}
 
 -- the words of a device of an arena of this header, which went through a legal journal that answers these calls, in order

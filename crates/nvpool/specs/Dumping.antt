@@ -14,7 +14,7 @@ use Rattle.heap_map.specs.LogRules.{log_rules}
 use Rattle.map_text.specs.Maps.{IsDump}
 use Rattle.nvpool.specs.declared.cause.Cause.{Cause}
 use Rattle.nvpool.specs.declared.cause.Cause.TheVariants.{Text, Image, NoArena, NoBlock}
-use Rattle.nvpool.specs.declared.input.Kind.TheVariants as kinds
+use Rattle.program_io.specs.declared.input.Kind.TheVariants as kinds
 use Rattle.nvpool.specs.Meaning.{Meaning}
 use Rattle.nvpool.specs.Variants.{either}
 

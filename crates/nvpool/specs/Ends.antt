@@ -1,15 +1,14 @@
 -- How a run ends, whichever command it is of: what each status says of the words, the input and the output.
-use Rattle.std.specs.Prelude.{◌≡◌, ◌⊎◌, ℕ, List, Option}
+use Rattle.std.specs.Prelude.{◌≡◌, ◌⊎◌, ℕ, List, Option, Some}
 use Rattle.trace_text.specs.declared.call.Refusal.TheVariants.{BadLine}
-use Rattle.nvheap.specs.declared.status.Status.{Status}
-use Rattle.nvheap.specs.declared.status.Status.TheVariants.{Done, Usage, Refused, ReadFault, WriteFault, Memory, TooLong}
-use Rattle.nvheap.specs.Outside.{Takes, TakesFront}
-use Rattle.nvheap.specs.Inputs.{HasLeft, HasRead, HasReadFew, HasReadMore}
-use Rattle.nvpool.specs.declared.answer.Answer.{Answer}
-use Rattle.nvpool.specs.declared.answer.Answer.TheVariants.{Output, FaultLine}
+use Rattle.program_io.specs.declared.status.Status.{Status}
+use Rattle.program_io.specs.declared.status.Status.TheVariants.{Done, Usage, Refused, ReadFault, WriteFault, Memory, TooLong}
+use Rattle.program_io.specs.Streams.{Takes, TakesFront}
+use Rattle.program_io.specs.Inputs.{HasLeft, HasRead, HasReadFew, HasReadMore, limit_of}
+use Rattle.program_io.specs.declared.answer.Answer.{Answer}
+use Rattle.program_io.specs.declared.answer.Answer.TheVariants.{Output, FaultLine}
 use Rattle.nvpool.specs.declared.cause.Cause.{Cause}
 use Rattle.nvpool.specs.declared.cause.Cause.TheVariants.{Text}
-use Rattle.nvpool.specs.Inputs.{limit_of}
 use Rattle.nvpool.specs.Causes.{cause_text}
 use Rattle.nvpool.specs.Meaning.{Meaning}
 use Rattle.heap_map.specs.LogRules.{log_rules}
@@ -35,7 +34,7 @@ pub record SaysWhy (m : Meaning) (input text : List ℕ) : Type 0 where
 -- the input was read, this holds of it and a text, and the text was taken so far
 pub record HasSaid (m : Meaning) (old new : Told) (Says : List ℕ → List ℕ → Type 0) (Taken : Option (List ℕ) → Option (List ℕ) → List ℕ → Type 0) : Type 0 where
   pub input : List ℕ
-  pub read : HasRead (limit_of m.reads) old.left new.left input
+  pub read : HasRead (limit_of (Some m.reads)) old.left new.left input
   pub text : List ℕ
   pub says : Says input text
   pub takes : Taken old.taken new.taken text
@@ -47,15 +46,15 @@ abbrev pub Ends : Meaning → Told → Told → Status → Type 0
 Ends m old new Done = HasSaid m old new m.answers Takes
 Ends m old new Usage = ⊥
 Ends m old new Refused = HasSaid m old new (SaysWhy m) Takes
-Ends m old new ReadFault = HasReadFew (limit_of m.reads) old.left new.left
+Ends m old new ReadFault = HasReadFew (limit_of (Some m.reads)) old.left new.left
 Ends m old new WriteFault = HasSaid m old new (λ input text. m.answers input text ⊎ SaysWhy m input text) TakesFront
 Ends m old new Memory = Unit {0}
-Ends m old new TooLong = HasReadMore (limit_of m.reads) old.left new.left
+Ends m old new TooLong = HasReadMore (limit_of (Some m.reads)) old.left new.left
 
 -- the source has an input, within its limit, that has an output
 pub record HasAcceptable (m : Meaning) (left : Option (List ℕ)) : Type 0 where
   pub input : List ℕ
-  pub left_is : HasLeft (limit_of m.reads) left input
+  pub left_is : HasLeft (limit_of (Some m.reads)) left input
   pub accepts : m.accepts input
 
 -- nothing is written
@@ -80,21 +79,6 @@ IsFaultLine cause (FaultLine text) = text.items ≡ cause_text cause
 -- the line that says that a text is refused, at a line outside its grammar
 abbrev pub IsBadLine : (ℕ → Type 0) → Answer → Type 0
 IsBadLine IsRefused answer = (line : ℕ) × IsRefused line × IsFaultLine (Text (BadLine line)) answer
-
--- what a sink took of an answer, by how its writing ended: all of it, or at a fault its front
-abbrev pub IsWritten : Answer → Option (List ℕ) → Option (List ℕ) → Status → Type 0
-IsWritten (Output text) old new Done = Takes old new text.items
-IsWritten (Output text) old new WriteFault = TakesFront old new text.items
-IsWritten (FaultLine text) old new Refused = Takes old new text.items
-IsWritten (FaultLine text) old new WriteFault = TakesFront old new text.items
-IsWritten answer old new _ = ⊥
-
--- why there is no input, and what was read then, within a limit
-abbrev pub IsUnread : Option ℕ → Option (List ℕ) → Option (List ℕ) → Status → Type 0
-IsUnread limit old new ReadFault = HasReadFew limit old new
-IsUnread limit old new Memory = Unit {0}
-IsUnread limit old new TooLong = HasReadMore limit old new
-IsUnread limit old new _ = ⊥
 
 -- what `dump` has to say of the words of an arena: those of the block of a root, or why there are none
 abbrev pub IsDumpAnswer : List ℕ → ℕ → Answer → Type 0

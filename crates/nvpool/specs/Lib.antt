@@ -1,4 +1,3 @@
-pub mod Inputs
 pub mod Causes
 pub mod Meaning
 pub mod Variants

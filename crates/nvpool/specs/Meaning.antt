@@ -3,7 +3,7 @@
 -- ends (`Ends.antt`), names a command.
 use Rattle.std.specs.Prelude.{ℕ, List}
 use Rattle.nvpool.specs.declared.cause.Cause.{Cause}
-use Rattle.nvpool.specs.declared.input.Kind.{Kind}
+use Rattle.program_io.specs.declared.input.Kind.{Kind}
 
 pub record Meaning : Type 1 where
   -- the kind of input that is read

@@ -23,7 +23,7 @@ use Rattle.map_svg.specs.Arenas.{arena_picture, IsPicture}
 use Rattle.nvheap.specs.Checking.{HasSoundArenas}
 use Rattle.nvpool.specs.declared.cause.Cause.{Cause}
 use Rattle.nvpool.specs.declared.cause.Cause.TheVariants.{Image}
-use Rattle.nvpool.specs.declared.input.Kind.TheVariants as kinds
+use Rattle.program_io.specs.declared.input.Kind.TheVariants as kinds
 use Rattle.nvpool.specs.declared.telling.Form.{Form}
 use Rattle.nvpool.specs.declared.telling.Form.TheVariants.{Numbers, Letters, Picture}
 use Rattle.nvpool.specs.Meaning.{Meaning}

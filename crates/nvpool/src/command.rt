@@ -2,7 +2,7 @@
 ghost use Rattle.std.specs.Prelude.{◌≡◌, ◌↔◌, [], ◌∷◌, IsTrue, codes, map, string_bytes, MatchOption};
 ghost use Rattle.nvpool.specs.Command.{meaning_of, IsCommand, IsNoCommand};
 
-use crate::input::Kind;
+use program_io::Kind;
 use trace_text::whole_number;
 
 /// What the words after the program's name ask for.

@@ -11,11 +11,12 @@ ghost use Rattle.nvpool.specs.Ends.{IsAnswer, IsFaultLine, IsBadLine};
 ghost use Rattle.trace_text.specs.declared.call.Refusal.TheVariants.{BadLine, NoArena};
 ghost use Rattle.nvpool.specs.declared.cause.Cause.TheVariants.{Text};
 
-use crate::answer::{Answer, fault_line};
+use crate::answer::fault_line;
 use crate::cause::Cause;
 use image_runs::{add_bytes, new_piece};
 use pmem_lines::{OutOfMemory, Pmem, SimPmem};
 use pool_layout::{GRANULE_BYTES, layout_of};
+use program_io::Answer;
 use std::alloc::Global;
 use trace_crashes::{CrashFault, crash};
 use trace_runs::run_calls;

@@ -7,7 +7,7 @@ ghost use Rattle.heap_map.specs.Blocks.{IsRootBlock};
 ghost use Rattle.nvpool.specs.Dumping.{log_dumping, dumping};
 ghost use Rattle.nvpool.specs.Ends.{IsAnswer, IsArenaAnswer, IsDumpAnswer};
 
-use crate::answer::{Answer, fault_line};
+use crate::answer::fault_line;
 use crate::cause::Cause;
 use crate::gc_dumping::gc_dump_answer;
 use gc_pool::has_gc_text;
@@ -16,6 +16,7 @@ use image_check::CheckFault;
 use map_text::write_dump;
 use pmem_lines::OutOfMemory;
 use pool_layout::{parts, pool_header};
+use program_io::Answer;
 use std::alloc::Global;
 
 /// The words of the block of a root of an arena of a pool of either variant, or the line that says why there are none. Its text

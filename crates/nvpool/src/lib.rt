@@ -2,7 +2,7 @@
 // granule of its arenas is, tells that in numbers for scripts, and writes the words of the block of a root; or it reads a trace,
 // and writes the image that a power cut leaves of its pool.
 //
-// `operate` does all of it, over a source of bytes and a sink for bytes, which are those of `nvheap`, as are its answers. Its
+// `operate` does all of it, over a source of bytes and a sink for bytes, which are those of `program_io`, as are its answers. Its
 // contract is what the program promises: `specs/Ends.antt` says how a run ends by what a command means, and the table of
 // `specs/Command.antt` has the meaning of each. The program's `main` makes the real source and sink, and calls `operate`. No
 // rule of the heap stands here: maps are drawn by `heap_map` and, of arenas of the GC variant, by `gc_map`, and written by `map_text` and `map_svg`; the calls of a trace are made by
@@ -16,9 +16,7 @@ mod cutting;
 mod dumping;
 mod gc_dumping;
 mod gc_telling;
-mod input;
 mod operating;
-mod output;
 mod telling;
 
 pub use cause::Cause;

@@ -1,19 +1,16 @@
 // The top call.
 ghost use Rattle.std.specs.Prelude.{◌≡◌, ◌≢◌, ◌↔◌, ◌⊎◌, ℕ, List, IfOk, map, string_bytes};
-ghost use Rattle.nvheap.specs.Outside.{Rose};
+ghost use Rattle.program_io.specs.Streams.{Rose};
 ghost use Rattle.nvpool.specs.Command.{meaning_of, IsNoCommand, IsSaid};
-ghost use Rattle.nvpool.specs.Inputs.{HasBytes, IsInput, IsOfKind};
+ghost use Rattle.program_io.specs.Inputs.{HasBytes, IsInput, IsOfKind};
 ghost use Rattle.nvpool.specs.Ends.{told_by, Ends, HasAcceptable, IsSilent, IsAnswer};
 
-use crate::answer::Answer;
 use crate::command::{Command, command_of};
 use crate::cutting::cut_answer;
 use crate::dumping::dump_answer;
-use crate::input::{PoolInput, read_input};
-use crate::output::write_answer;
 use crate::telling::{Form, told_answer};
-use nvheap::{Sink, Source, Status};
 use pmem_lines::OutOfMemory;
+use program_io::{Answer, Input, Sink, Source, Status, read_input, write_answer};
 use std::alloc::Global;
 
 /// Does all that the program does: reads the words, then all of the source, runs the command, and then writes. `words` are
@@ -67,25 +64,25 @@ fn carry_out<S: Source, K: Sink>(
 }
 
 // What a command has to say of its input.
-fn answer_to(alloc: Global, command: Command, input: &PoolInput) -> Result<Answer, OutOfMemory>
+fn answer_to(alloc: Global, command: Command, input: &Input) -> Result<Answer, OutOfMemory>
     requires fits { IsOfKind (meaning_of command).reads input.now }
     requires input { IsInput input.now }
     ensures { IfOk result (λ answer. (bytes : List ℕ) → HasBytes input.now bytes → IsAnswer (meaning_of command) bytes answer) }
 {
     match (command, input) {
-        (Command::Map, PoolInput::Image { words, bytes }) => {
+        (Command::Map, Input::Image { words, bytes }) => {
             told_answer(alloc, Form::Picture, words, *bytes)
         }
-        (Command::Text, PoolInput::Image { words, bytes }) => {
+        (Command::Text, Input::Image { words, bytes }) => {
             told_answer(alloc, Form::Letters, words, *bytes)
         }
-        (Command::Info, PoolInput::Image { words, bytes }) => {
+        (Command::Info, Input::Image { words, bytes }) => {
             told_answer(alloc, Form::Numbers, words, *bytes)
         }
-        (Command::Dump { arena, root }, PoolInput::Image { words, bytes }) => {
+        (Command::Dump { arena, root }, Input::Image { words, bytes }) => {
             dump_answer(alloc, words, *bytes, arena, root)
         }
-        (Command::Cut { arena, event, seed }, PoolInput::Text(text)) => {
+        (Command::Cut { arena, event, seed }, Input::Text(text)) => {
             cut_answer(alloc, text, arena, event, seed)
         }
         _ => unreachable!(),

@@ -11,7 +11,7 @@ ghost use Rattle.map_text.specs.Pieces.{Adds};
 ghost use Rattle.nvpool.specs.Telling.{AreTold, IsTold, IsToldAs, front_of, back_of, told_text, log_telling, telling};
 ghost use Rattle.nvpool.specs.Ends.{IsAnswer};
 
-use crate::answer::{Answer, fault_line};
+use crate::answer::fault_line;
 use crate::cause::Cause;
 use crate::gc_telling::gc_told_answer;
 use gc_pool::has_gc_text;
@@ -21,6 +21,7 @@ use map_svg::{arena_y, write_end, write_head, write_picture};
 use map_text::{write_info, write_legend, write_text};
 use pmem_lines::OutOfMemory;
 use pool_layout::{ImageFault, PoolHeader, parts, pool_header};
+use program_io::Answer;
 use std::alloc::Global;
 use trace_text::write_bytes;
 

@@ -2,11 +2,9 @@
 use Rattle.std.proofs.Common.{◌≡◌, ⊎_elim, ℕ, List, sym, ap, ◌∙◌, arith}
 use Rattle.pool_layout.specs.declared.header.PoolHeader.{PoolHeader}
 use Rattle.pool_layout.specs.declared.defect.Defect.{Defect}
-use Rattle.pool_layout.specs.Header.{fields_of, version_in, granules_in, IsHeader, IsHeaderDefect}
+use Rattle.pool_layout.specs.Header.{version_field, granules_field, fields_of, version_in, granules_in, IsHeader, IsHeaderDefect}
 use Rattle.pool_layout.proofs.Headers.{fields_of-header_word, header_fits}
-use Rattle.heap_model.specs.Machine.{Bounds}
 use Rattle.heap_check.specs.Image.{header_in, IsSoundImage, IsExactImage}
-use Rattle.heap_check.proofs.Sizes.{version_by_bounds}
 use Rattle.image_defects.specs.Defects.{IsFirstDefect}
 use Rattle.image_check.specs.declared.fault.CheckFault.{CheckFault}
 use Rattle.image_check.specs.declared.fault.CheckFault.TheVariants as checks
@@ -37,8 +35,8 @@ granules_is words header line = ap (λ (h : PoolHeader). h.granules) (sym (heade
 pub made_of : (words exact : List ℕ) → IsSoundImage words → version_in words ≡ 1 → IsExactImage exact → KeepsHeap words exact → IsLeft words exact → IsMadeExact words exact
 made_of words exact sound version image keeps left = record {
   image = image;
-  version = version_by_bounds words exact sound.formed image.formed left.bounds ∙ version;
-  granules = ap (λ (b : Bounds). b.granules) left.bounds;
+  version = ap version_field left.header ∙ version;
+  granules = ap granules_field left.header;
   heap = keeps.heap;
   blocks = keeps.blocks;
   slabs = left.slabs;

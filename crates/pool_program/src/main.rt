@@ -2,8 +2,8 @@
 // error for the answer, and ends with the answer's code. What the program does is `operate`'s contract.
 #![tactic(auto)]
 
-use nvheap::{Adapter, Status};
 use nvpool::operate;
+use program_io::{Adapter, Status};
 use std::process::ExitCode;
 use std::{env, io};
 

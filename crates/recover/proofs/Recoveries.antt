@@ -25,7 +25,7 @@ recovered old new part steady exact keeps left =
     record {
       state = part.step.appends.state ∙ ap (λ (es : List Event). appended (began old) es) same;
       image = record { quiet = part.step.quiet; exact = exact; heap = keeps.heap; blocks = keeps.blocks };
-      bounds = left.bounds;
+      header = left.header;
       slabs = left.slabs;
       stores = subst (λ (es : List Event). RecoversSound (words_of old) es) same part.stores;
       few = subst (λ (es : List Event). length es ≤ (layout_of (version_in (words_of old))).recovery_events) same part.few;

@@ -2,11 +2,13 @@
 use Rattle.std.specs.Prelude.{◌≡◌, ◌≤◌, List, ℕ, length}
 use Rattle.pmem_lines.specs.Pmem.{PmemState, words_of, began, appended}
 use Rattle.pmem_lines.specs.Events.{IsQuiet, CrashOnly}
+use Rattle.pmem_lines.specs.Words.{word_at}
 use Rattle.pool_layout.specs.declared.header.PoolHeader.{PoolHeader}
 use Rattle.pool_layout.specs.Layout.{layout_of}
+use Rattle.pool_layout.specs.Places.{fields_word}
 use Rattle.pool_layout.specs.Header.{version_in, granules_in, IsHeader}
 use Rattle.image_tables.specs.Tables.{tables_of}
-use Rattle.heap_check.specs.Image.{bounds_of, IsExactImage, IsSteadyImage}
+use Rattle.heap_check.specs.Image.{IsExactImage, IsSteadyImage}
 use Rattle.heap_check.specs.State.{HaveSameHeap, KeepsBlocks}
 use Rattle.log_steps.specs.Log.{IsBookOf}
 use Rattle.settle_steps.specs.Settled.{KeepsHeap}
@@ -33,12 +35,12 @@ pub record IsExactOf (words : List ℕ) (device : PmemState) : Type 0 where
   pub heap : HaveSameHeap words (words_of device)
   pub blocks : KeepsBlocks words (words_of device)
 
--- One call began on the device, and its events are those of recovery. Its image is the exact one of the words that it had,
--- with the same numbers; each live slab was one of the same class.
+-- One call began on the device, and its events are those of recovery. Its image is the exact one of the words that it had, and its
+-- header line says what it said: so it is an arena of the same version with as many granules. Each live slab was one of the same class.
 pub record IsRecovered (old new : PmemState) : Type 0 where
   pub state : new ≡ appended (began old) new.events
   pub image : IsExactOf (words_of old) new
-  pub bounds : bounds_of (words_of new) ≡ bounds_of (words_of old)
+  pub header : word_at (words_of new) fields_word ≡ word_at (words_of old) fields_word
   pub slabs : KeepsClasses (tables_of (words_of old)) (tables_of (words_of new))
   -- what is stored
   pub stores : RecoversSound (words_of old) new.events

@@ -20,7 +20,7 @@ book_same book words new same size bounds is = record {
 }
 
 -- a line of the write-ahead entries and another word off the log change
-same_but : (words : List ℕ) (line k : ℕ) (new : List ℕ) → line < 8 → IsOffLog words k → KeepsAllButOne words line k new → SameLog words new
+pub same_but : (words : List ℕ) (line k : ℕ) (new : List ℕ) → line < 8 → IsOffLog words k → KeepsAllButOne words line k new → SameLog words new
 same_but words line k new below off rest = record {
   fields = rest.others fields_word (λ e. omega (arith, e)) (λ e. off.fields (sym e));
   directory = rest.others directory_word (λ e. omega (arith, e)) (λ e. off.directory (sym e));
@@ -42,6 +42,8 @@ pub book_settled : (book : Book) (words : List ℕ) (line k : ℕ) (new : List �
 book_settled book words line k new below off rest bounds is = book_same book words new (same_but words line k new below off rest) rest.same_length bounds is
 
 -- words of the header of a slab change
+pub same_off_header : {words new : List ℕ} (start : ℕ) → IsSoundImage words → (tables_of words).slab start ≡ true → IsOffHeader words start new → SameLog words new
+same_off_header {words} {new} start image slab off = SameLog-off_header words new start (record { in_heap = slab_low words image start slab; others = off.others })
+
 pub book_off_header : {book : Book} {words new : List ℕ} (start : ℕ) → IsSoundImage words → (tables_of words).slab start ≡ true → IsOffHeader words start new → bounds_of new ≡ bounds_of words → IsBookOf book words → IsBookOf book new
-book_off_header {book} {words} {new} start image slab off bounds is =
-    book_same book words new (SameLog-off_header words new start (record { in_heap = slab_low words image start slab; others = off.others })) off.same_length bounds is
+book_off_header {book} {words} {new} start image slab off bounds is = book_same book words new (same_off_header start image slab off) off.same_length bounds is

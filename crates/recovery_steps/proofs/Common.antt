@@ -15,7 +15,7 @@ pub use Rattle.book_log.specs.Book.{Book}
 pub use Rattle.heap_model.specs.Machine.{Bounds, slab_block}
 pub use Rattle.heap_check.proofs.Geometry.{granules_at-slab, granules_at-live, one_slab, index_count_few}
 pub use Rattle.heap_check.proofs.Loose.{nearly_done}
-pub use Rattle.heap_check.proofs.Sizes.{sizes_of, version_by_bounds}
+pub use Rattle.heap_check.proofs.Sizes.{sizes_of}
 pub use Rattle.heap_check.specs.Image.{IsSoundImage, IsSteadyImage, bounds_of}
 pub use Rattle.heap_check.specs.Sound.{IsLooseLarge, IsEmptySlab, IsMorphing, IsDoneSlab, LoosensNothing, IsInSlab, IsSound, AtMostOne, IsLeaving, IsNearlyDone, IsOpenMove}
 pub use Rattle.image_defects.specs.Least.{HasNone}

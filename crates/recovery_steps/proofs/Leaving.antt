@@ -1,15 +1,21 @@
 -- What each part of recovery leaves.
-use Rattle.std.proofs.Common.{◌≡◌, ◌≢◌, ⊎_elim, ◌/◌, ℕ, Bool, true, false, true≢false, cond, Option, List, Some, None, refl, sym, ap, subst, ◌∙◌, arith}
-use Rattle.recovery_steps.proofs.Common.{cases_eq, cond-false, WalEntry, Place, Move, Tables, tables_of, SlabHeader, layout_of, version_in, granules_in, Bounds, IsLooseLarge, IsEmptySlab, IsMorphing, IsDoneSlab, LoosensNothing, bounds_of, IsSteadyImage, nearly_done, version_by_bounds, HasNone, settled_tables, IsEntrySettled, IsFinished, IsEnded}
+use Rattle.std.proofs.Common.{◌≡◌, ◌≢◌, ⊎_elim, inl, ◌/◌, ℕ, Bool, true, false, true≢false, cond, Option, List, Some, None, refl, sym, ap, subst, ◌∙◌, arith}
+use Rattle.recovery_steps.proofs.Common.{cases_eq, cond-false, WalEntry, Place, Move, Tables, tables_of, SlabHeader, layout_of, version_in, granules_in, Bounds, IsLooseLarge, IsEmptySlab, IsMorphing, IsDoneSlab, LoosensNothing, bounds_of, word_at, layout_rules, IsSoundImage, nearly_done, HasNone, settled_tables, IsEntrySettled, IsFinished, IsEnded}
+use Rattle.pool_layout.specs.Places.{fields_word}
+use Rattle.pool_layout.specs.Header.{version_field}
+use Rattle.image_tables.proofs.Places.{log_start-low}
 use Rattle.image_tables.proofs.Updates.{put_at-same, put_header-same, put_header-other}
 use Rattle.image_tables.specs.Updates.{put_header}
 use Rattle.slab_morph.specs.Stages.{finished, settled}
 use Rattle.heap_check.specs.Heap.{slabs}
+use Rattle.heap_check.proofs.Forms.{bounds_of-same}
 use Rattle.defect_search.specs.Roots.{IsNamedStart, IsNamedGranule, AreMarks}
 use Rattle.extent_steps.specs.Large.{IsLooseExtent, IsExtentGone}
 use Rattle.extent_steps.specs.Slabs.{IsDroppable, IsDropped}
 use Rattle.recovery_steps.specs.Names.{Names, AreNames}
 use Rattle.recovery_steps.specs.Parts.{IsShut, IsLeft, KeepsClasses, LeavesNoneMorphing, Rids}
+use Rattle.recovery_steps.proofs.Arenas.{sound_of, slab_low}
+use Rattle.recovery_steps.proofs.Books.{same_off_header}
 
 -- classes
 
@@ -39,7 +45,7 @@ header_slabs t at h same start class is = ⊎_elim
 -- nothing changes
 
 pub left_self : (words : List ℕ) → IsShut words → IsLeft words words
-left_self words shut = record { shut = shut; bounds = refl; roots = refl; slabs = classes_self (tables_of words) }
+left_self words shut = record { shut = shut; header = refl; roots = refl; slabs = classes_self (tables_of words) }
 
 loosens_self : (t : Tables) → LoosensNothing t t
 loosens_self t = record { large = λ start loose. loose; empty = λ start loose. loose; morphing = λ start loose. loose; done = λ start loose. loose }
@@ -62,10 +68,10 @@ settled_slabs words start (Place root at true place) = refl
 settled_slabs words start (Place root at false place) = refl
 settled_slabs words start (Move from to) = refl
 
-pub left_settled : (words : List ℕ) (line start : ℕ) (entry : WalEntry) (new : List ℕ) → IsEntrySettled words line start entry new → IsLeft words new
-left_settled words line start entry new done = record {
+pub left_settled : (words : List ℕ) (line start : ℕ) (entry : WalEntry) (new : List ℕ) → word_at new fields_word ≡ word_at words fields_word → IsEntrySettled words line start entry new → IsLeft words new
+left_settled words line start entry new header done = record {
   shut = record { image = done.settled.keeps.steady; closed = done.settled.closed };
-  bounds = done.settled.keeps.bounds;
+  header = header;
   roots = ap (λ (t : Tables). t.root) done.tables ∙ settled_roots words start entry;
   slabs = record {
     classes = same_slabs (tables_of words) (tables_of new) (ap slabs done.tables ∙ settled_slabs words start entry);
@@ -74,11 +80,11 @@ left_settled words line start entry new done = record {
 }
 
 -- a slab in Morphing comes to its class
-pub none_morphing_finished : (words : List ℕ) (start : ℕ) (new : List ℕ) → IsFinished words start new → LeavesNoneMorphing words new
-none_morphing_finished words start new done = record {
+pub none_morphing_finished : (words : List ℕ) (start : ℕ) (new : List ℕ) → IsSoundImage words → (tables_of words).slab start ≡ true → IsFinished words start new → LeavesNoneMorphing words new
+none_morphing_finished words start new image slab done = record {
   left = record {
     shut = record { image = done.keeps.steady; closed = done.closed };
-    bounds = done.keeps.bounds;
+    header = (same_off_header start image slab done.off).fields;
     roots = ap (λ (t : Tables). t.root) done.tables;
     slabs = record {
       classes = λ s class is. header_slabs (tables_of words) start (finished ((tables_of words).header start)) refl s class (subst (λ (t : Tables). slabs t s ≡ Some class) done.tables is);
@@ -93,7 +99,7 @@ pub rids_large : {words : List ℕ} {start : ℕ} {new : List ℕ} → IsLooseEx
 rids_large {words} {start} {new} may gone = record {
   left = record {
     shut = record { image = gone.image; closed = ap (λ (t : Tables). t.open_entry) gone.tables ∙ may.closed };
-    bounds = gone.bounds;
+    header = gone.rest.others fields_word (λ e. omega (arith, e)) (inl (omega (arith, log_start-low (version_in words))));
     roots = ap (λ (t : Tables). t.root) gone.tables;
     slabs = record { classes = same_slabs (tables_of words) (tables_of new) (ap slabs gone.tables); morphing = gone.loose.morphing };
   };
@@ -111,7 +117,7 @@ pub rids_empty : {words : List ℕ} {start : ℕ} {new : List ℕ} → IsDroppab
 rids_empty {words} {start} {new} may dropped = record {
   left = record {
     shut = record { image = dropped.image; closed = sym dropped.slab.entry ∙ may.closed };
-    bounds = dropped.bounds;
+    header = dropped.rest.others fields_word (λ e. omega (arith, e)) (inl (omega (arith, log_start-low (version_in words)))) (inl (omega (arith, slab_low words (sound_of words may.image) start may.empty.slab, (layout_rules (version_in words)).first)));
     roots = sym dropped.slab.root;
     slabs = record { classes = dropped_slabs; morphing = dropped.loose.morphing };
   };
@@ -143,7 +149,7 @@ pub rids_done : {words : List ℕ} {start : ℕ} {new : List ℕ} → IsShut wor
 rids_done {words} {start} {new} shut here ended = record {
   left = record {
     shut = record { image = ended.steady shut.image; closed = ap (λ (t : Tables). t.open_entry) ended.tables ∙ shut.closed };
-    bounds = ended.bounds;
+    header = (same_off_header start (sound_of words shut.image) here.slab ended.off).fields;
     roots = ap (λ (t : Tables). t.root) ended.tables;
     slabs = classes_ended ended;
   };
@@ -168,11 +174,11 @@ none_morphing_still loosens none = record { none = λ start morphing. none.none 
 
 -- one part behind another
 pub left_then : {words between new : List ℕ} → IsLeft words between → IsLeft between new → IsLeft words new
-left_then first second = record { shut = second.shut; bounds = second.bounds ∙ first.bounds; roots = second.roots ∙ first.roots; slabs = classes_then first.slabs second.slabs }
+left_then first second = record { shut = second.shut; header = second.header ∙ first.header; roots = second.roots ∙ first.roots; slabs = classes_then first.slabs second.slabs }
 
 -- and of the same version
-pub left_version : {words new : List ℕ} → IsSteadyImage words → IsLeft words new → version_in new ≡ version_in words
-left_version {words} {new} image left = version_by_bounds words new image.formed left.shut.image.formed left.bounds
+pub left_version : {words new : List ℕ} → IsLeft words new → version_in new ≡ version_in words
+left_version left = ap version_field left.header
 
 -- names
 
@@ -207,7 +213,7 @@ names_same names words new bounds same are =
     }
 
 pub names_left : (names : Names) (words new : List ℕ) → IsLeft words new → AreNames names words → AreNames names new
-names_left names words new left are = names_same names words new left.bounds left.roots are
+names_left names words new left are = names_same names words new (bounds_of-same words new left.header) left.roots are
 
 -- all five parts
 pub left_all : {a b c d e f : List ℕ} → IsLeft a b → LeavesNoneMorphing b c → Rids IsLooseLarge c d → Rids IsEmptySlab d e → Rids IsDoneSlab e f → IsLeft a f

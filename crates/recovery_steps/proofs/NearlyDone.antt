@@ -6,6 +6,7 @@ use Rattle.settle_steps.proofs.EntrySlabs.{in_slab_old}
 use Rattle.recovery_steps.specs.Nearly.{IsDoneBesides}
 use Rattle.recovery_steps.specs.Parts.{IsSteadied}
 use Rattle.defect_search.proofs.NoneLoose.{search_below}
+use Rattle.recovery_steps.proofs.Books.{same_off_header}
 use Rattle.recovery_steps.proofs.Leaving.{classes_self, classes_ended}
 
 -- the last live old block of a slab is leaving
@@ -115,6 +116,7 @@ steadied_of words start new image besides ended = record {
     heap = ended.heap;
     blocks = ended.blocks;
   };
+  header = (same_off_header start image besides.done.slab ended.off).fields;
   roots = ap (λ (t : Tables). t.root) ended.tables;
   slabs = classes_ended ended;
 }
@@ -122,6 +124,7 @@ steadied_of words start new image besides ended = record {
 pub steadied_self : (words : List ℕ) → IsSteadyImage words → IsSteadied words words
 steadied_self words image = record {
   keeps = record { steady = image; bounds = refl; heap = record { each = λ root. refl }; blocks = record { each = λ root other range k was is word. refl } };
+  header = refl;
   roots = refl;
   slabs = classes_self (tables_of words);
 }

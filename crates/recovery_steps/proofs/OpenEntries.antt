@@ -2,7 +2,7 @@
 use Rattle.std.proofs.Common.{◌≡◌, ◌*◌, ◌/◌, ◌<◌, ◌≤◌, ℕ, Bool, true, false, List, ◌++◌, length, refl, sym, ap, subst, ◌∙◌, arith, inl, inr, Some}
 use Rattle.recovery_steps.proofs.Common.{word_at, layout_of, layout_rules, version_in, WalEntry, Place, Move, tables_of, IsOffLog, Book, IsInSlab, IsOpenMove, bounds_of, IsSoundImage, IsSteadyImage, granules_at-slab, sizes_of, IsBookOf, IsOpenIn, settle_events, settled_word, LiesInSlab, IsEntrySettled, entry_is}
 use Rattle.durable_steps.specs.Steps.{word_events}
-use Rattle.pool_layout.specs.Places.{root_word, wal_word, granule_word, log_start}
+use Rattle.pool_layout.specs.Places.{fields_word, root_word, wal_word, granule_word, log_start}
 use Rattle.image_tables.proofs.Stores.{few_lines}
 use Rattle.attach_wal.specs.Entry.{IsEntryWord, IsNoEntryWord}
 use Rattle.heap_check.specs.Heap.{slab_of}
@@ -12,7 +12,7 @@ use Rattle.settle_steps.specs.Moves.{both_named, release_events}
 use Rattle.settle_steps.proofs.EntrySlabs.{in_slab_of}
 use Rattle.recovery_steps.specs.OpenEntry.{IsClosed, IsFoundOpen}
 use Rattle.recovery_steps.specs.Recovery.{IsSettling}
-use Rattle.recovery_steps.proofs.Books.{book_settled}
+use Rattle.recovery_steps.proofs.Books.{same_but, book_settled}
 
 -- the roots lie before the log
 root_before : (version root : ℕ) → root < (layout_of version).roots → root_word root < log_start version
@@ -93,6 +93,9 @@ module _ (words : List ℕ) (line start : ℕ) (entry : WalEntry) (below : line 
   off_log_of (Move from to) is =
       let move : IsOpenMove (bounds_of words) (tables_of words) from to = (open_in.image.steady.sound.owned.open_entry (Move from to) (opens ∙ ap (λ e. Some e) (sym is))).entry in
       root_off from move.low
+
+  pub header_behind : (new : List ℕ) → IsEntrySettled words line start entry new → word_at new fields_word ≡ word_at words fields_word
+  header_behind new done = (same_but words line (settled_word (tables_of words) start entry) new below (off_log_of entry refl) done.settled.rest).fields
 
   pub book_behind : (book : Book) (new : List ℕ) → IsBookOf book words → IsEntrySettled words line start entry new → IsBookOf book new
   book_behind book new is done =

@@ -1,14 +1,16 @@
 -- A part of recovery: what it stores, what a crash within it leaves, and what it leaves; and parts one after another.
 use Rattle.std.specs.Prelude.{◌≡◌, ℕ, ◌≤◌, List, ◌++◌, length, Some, None}
+use Rattle.pmem_lines.specs.Words.{word_at}
 use Rattle.pmem_lines.specs.declared.event.Event.{Event}
 use Rattle.pmem_lines.specs.Pmem.{PmemState, words_of, HasRoom}
 use Rattle.pmem_lines.specs.Events.{reading, IsQuiet}
 use Rattle.pmem_lines.specs.Steps.{IsQuietStep}
+use Rattle.pool_layout.specs.Places.{fields_word}
 use Rattle.image_tables.specs.Tables.{Tables, tables_of}
 use Rattle.book_log.specs.Book.{Book}
 use Rattle.heap_check.specs.Heap.{slabs}
 use Rattle.heap_check.specs.Sound.{LoosensNothing, IsMorphing}
-use Rattle.heap_check.specs.Image.{bounds_of, IsSteadyImage}
+use Rattle.heap_check.specs.Image.{IsSteadyImage}
 use Rattle.image_defects.specs.Least.{HasNone}
 use Rattle.log_steps.specs.Log.{IsBookOf}
 use Rattle.settle_steps.specs.Settled.{KeepsHeap}
@@ -59,16 +61,18 @@ pub record KeepsClasses (t new : Tables) : Type 0 where
   pub classes : (start class : ℕ) → slabs new start ≡ Some class → slabs t start ≡ Some class
   pub morphing : (start : ℕ) → IsMorphing new start → IsMorphing t start
 
--- such an image with the same numbers, in which each root holds what it held
+-- such an image, of which the header line says what it said, and in which each root holds what it held
 pub record IsLeft (words new : List ℕ) : Type 0 where
   pub shut : IsShut new
-  pub bounds : bounds_of new ≡ bounds_of words
+  pub header : word_at new fields_word ≡ word_at words fields_word
   pub roots : (tables_of new).root ≡ (tables_of words).root
   pub slabs : KeepsClasses (tables_of words) (tables_of new)
 
--- The image is steady with the same numbers and the same heap, in which each block has its words; each root holds what it held.
+-- The image is steady with the same heap, in which each block has its words; its header line says what it said, and each root holds
+-- what it held.
 pub record IsSteadied (words new : List ℕ) : Type 0 where
   pub keeps : KeepsHeap words new
+  pub header : word_at new fields_word ≡ word_at words fields_word
   pub roots : (tables_of new).root ≡ (tables_of words).root
   pub slabs : KeepsClasses (tables_of words) (tables_of new)
 

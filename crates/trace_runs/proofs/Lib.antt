@@ -5,7 +5,6 @@ pub mod Formatting
 pub mod Journals
 pub mod Listing
 mod OneWay
-pub mod Runs
 mod Settled
 pub mod Tellings
 pub mod ThreadNumbers

@@ -15,7 +15,7 @@ make_exact-requires-clause-room g c =
 pub returns-clause-recovered : goal.returns-clause-recovered
 returns-clause-recovered g c =
     recovered (g.P.Pmem.state c.args.p) (g.P.Pmem.state c.make_exact.new.p) (rw c.begin.ensures.state at c.make_exact.ensures.part)
-    c.make_exact.ensures.exact (rw c.begin.ensures.state at c.make_exact.ensures.heap) (rw c.begin.ensures.state at c.make_exact.ensures.slabs)
+    c.make_exact.ensures.exact (rw c.begin.ensures.state at c.make_exact.ensures.heap) (rw c.begin.ensures.state at c.make_exact.ensures.slabs) (rw c.begin.ensures.state at c.make_exact.ensures.header)
 
 pub returns-clause-names : goal.returns-clause-names
 returns-clause-names g c =

@@ -1,4 +1,4 @@
-use Rattle.std.proofs.Common.{arith}
+use Rattle.std.proofs.Common.{◌∙◌, arith}
 use Rattle.pmem_lines.specs.Pmem.{words_of}
 use Rattle.pmem_lines.proofs.Steps.{step_end}
 use Rattle.pool_layout.specs.Layout.{layout_of}
@@ -42,6 +42,9 @@ returns-clause-exact g c =
 pub returns-clause-heap : goal.returns-clause-heap
 returns-clause-heap g c =
     keeps_on (words_of (g.P.Pmem.state c.args.p.now)) (words_of (g.P.Pmem.state c.drop_loose.new.p)) (words_of (g.P.Pmem.state c.drop_loose-2.new.p)) (step_end c.drop_loose.ensures.part.step) (step_end c.drop_loose-2.ensures.part.step)
+
+pub returns-clause-header : goal.returns-clause-header
+returns-clause-header g c = c.drop_loose-2.ensures.rid.header ∙ c.drop_loose.ensures.rid.header
 
 pub returns-clause-slabs : goal.returns-clause-slabs
 returns-clause-slabs g c =

@@ -1,7 +1,7 @@
 use Rattle.std.proofs.Common.{◌≡◌, ◌∙◌, ◌∷◌, ◌++◌, [], List, ℕ, ap, sym, subst, length, drop, map, arith, length-append}
 use Rattle.nvheap.proofs.Common.{length-take-le, words_of, bytes_of_words, pool_of}
 use Rattle.nvheap.specs.Imaging.{AreRunThrough, images_of}
-use Rattle.nvheap.proofs.Bytes.{all_words}
+use Rattle.nvheap.proofs.Images.{all_words}
 use Rattle.nvheap.proofs.Devices.{few_words, AreRunThrough-pushed, images_of-more}
 use Rattle.nvheap.proofs.imaging.run_arenas.Goals as goal
 

@@ -2,9 +2,10 @@ use Rattle.std.proofs.Common.{◌≡◌, None, IsTrue, map, subst}
 use Rattle.std.specs.String.{string_bytes}
 use Rattle.nvheap.specs.declared.command.Command.{Command}
 use Rattle.nvheap.specs.declared.command.Command.TheVariants.{Replay, Serve, Gen}
-use Rattle.nvheap.specs.declared.status.Status.{Status}
-use Rattle.nvheap.specs.declared.status.Status.TheVariants.{Done, Usage, Refused, ReadFault, WriteFault, TooLong}
-use Rattle.nvheap.specs.Outside.{Outside, told_by, Rose}
+use Rattle.program_io.specs.declared.status.Status.{Status}
+use Rattle.program_io.specs.declared.status.Status.TheVariants.{Done, Usage, Refused, ReadFault, WriteFault, TooLong}
+use Rattle.nvheap.specs.Outside.{Outside, told_by}
+use Rattle.program_io.specs.Streams.{Rose}
 use Rattle.nvheap.specs.Command.{meaning_of, IsCommand}
 use Rattle.nvheap.specs.Ends.{Ends}
 use Rattle.nvheap.proofs.Table.{said_holds}

@@ -1,7 +1,7 @@
 use Rattle.std.proofs.Common.{ℕ, List, subst}
-use Rattle.nvheap.specs.declared.input.Input.TheVariants.{Text}
+use Rattle.program_io.specs.declared.input.Input.TheVariants.{Text}
 use Rattle.nvheap.specs.Outside.{told_by}
-use Rattle.nvheap.specs.Inputs.{limit_of, IsRead}
+use Rattle.program_io.specs.Inputs.{limit_of, IsRead}
 use Rattle.nvheap.specs.Meaning.{Meaning}
 use Rattle.nvheap.specs.Reporting.{reporting, seats_of}
 use Rattle.nvheap.specs.Ends.{IsAnswer}

@@ -3,7 +3,7 @@ use Rattle.pmem_lines.specs.Pmem.{words_of}
 use Rattle.trace_text.specs.Grammar.{pool_of}
 use Rattle.trace_runs.specs.Arenas.{header_for}
 use Rattle.trace_runs.specs.Calls.{calls_of}
-use Rattle.nvheap.proofs.Bytes.{all_words}
+use Rattle.nvheap.proofs.Images.{all_words}
 use Rattle.nvheap.proofs.Devices.{few_words}
 use Rattle.nvpool.proofs.Cuts.{run_added}
 use Rattle.nvpool.proofs.cutting.add_run.Goals as goal

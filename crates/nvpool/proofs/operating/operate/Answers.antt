@@ -1,6 +1,6 @@
 use Rattle.std.proofs.Common.{map}
 use Rattle.std.specs.String.{string_bytes}
-use Rattle.nvheap.specs.Outside.{Rose}
+use Rattle.program_io.specs.Streams.{Rose}
 use Rattle.nvpool.specs.Ends.{told_by}
 use Rattle.nvpool.proofs.Completeness.{completes}
 use Rattle.nvpool.proofs.operating.operate.Goals as goal

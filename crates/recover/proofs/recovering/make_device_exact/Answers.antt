@@ -1,9 +1,8 @@
-use Rattle.std.proofs.Common.{sym, subst, arith}
+use Rattle.std.proofs.Common.{sym, ap, subst, arith}
 use Rattle.pmem_lines.specs.Pmem.{PmemState, words_of, began, HasRoom}
 use Rattle.pool_layout.specs.Layout.{layout_of}
-use Rattle.pool_layout.specs.Header.{version_in}
+use Rattle.pool_layout.specs.Header.{version_field, version_in}
 use Rattle.pool_layout.proofs.Layouts.{layout_rules}
-use Rattle.heap_check.proofs.Sizes.{version_by_bounds}
 use Rattle.recovery_steps.specs.Parts.{IsLeft}
 use Rattle.recover.proofs.Recoveries.{recovered}
 use Rattle.recover.proofs.recovering.make_device_exact.Goals as goal
@@ -16,10 +15,8 @@ make_exact-requires-clause-room g c =
 
 pub returns-clause-version : goal.returns-clause-version
 returns-clause-version g c =
-    let old = words_of (g.P.Pmem.state c.args.p) in
-    let new = words_of (g.P.Pmem.state c.make_exact.new.p) in
-    let left : IsLeft old new = rw c.begin.ensures.state at c.make_exact.ensures.left in
-    version_by_bounds old new c.requires.sound.formed left.shut.image.formed left.bounds
+    let left : IsLeft (words_of (g.P.Pmem.state c.args.p)) (words_of (g.P.Pmem.state c.make_exact.new.p)) = rw c.begin.ensures.state at c.make_exact.ensures.left in
+    ap version_field left.header
 
 pub returns-clause-recovered : goal.returns-clause-recovered
 returns-clause-recovered g c =

@@ -12,7 +12,7 @@ returns-in-Some g c =
     let start = c.in-Some.start in
     let done = c.finish_transition.ensures in
     does_one IsMorphing finish_events start c.all_words.ensures c.in-Some.ensures done.step (omega (arith, done.count)) (λ here. (
-      none_morphing_finished words start (words_of (g.P.Pmem.state c.finish_transition.new.p)) done.finished,
+      none_morphing_finished words start (words_of (g.P.Pmem.state c.finish_transition.new.p)) (sound_of words c.requires.image.shut.image) here.slab done.finished,
       book_off_header start (sound_of words c.requires.image.shut.image) here.slab done.finished.off done.finished.keeps.bounds c.requires.book,
     ))
 

@@ -5,7 +5,7 @@ use Rattle.recovery_steps.specs.Recovery.{SettlesOpen}
 use Rattle.recovery_steps.proofs.Arenas.{sound_of}
 use Rattle.recovery_steps.proofs.Chains.{part_none, part_of}
 use Rattle.recovery_steps.proofs.Leaving.{left_self, left_settled}
-use Rattle.recovery_steps.proofs.OpenEntries.{few_settling, settling, book_behind}
+use Rattle.recovery_steps.proofs.OpenEntries.{few_settling, settling, header_behind, book_behind}
 use Rattle.recovery_steps.proofs.open_entry.settle_open.Given as given
 use Rattle.recovery_steps.proofs.open_entry.settle_open.Goals as goal
 
@@ -37,7 +37,7 @@ returns-in-Some g c =
     let lies = lies_in g c in
     record {
       part = part_of SettlesOpen (inr (settling words line start entry found.line found.open_in lies)) c.settle_entry.ensures.step (few_settling words line start entry);
-      left = left_settled words line start entry new c.settle_entry.ensures.settled;
+      left = left_settled words line start entry new (header_behind words line start entry found.line found.open_in lies new c.settle_entry.ensures.settled) c.settle_entry.ensures.settled;
       book = book_behind words line start entry found.line found.open_in lies c.args.log.now new c.requires.book c.settle_entry.ensures.settled;
     }
 

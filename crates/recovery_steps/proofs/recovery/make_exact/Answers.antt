@@ -1,5 +1,6 @@
 use Rattle.std.proofs.Common.{◌-◌, ap, subst, ◌∙◌, arith}
-use Rattle.recovery_steps.proofs.Common.{words_of, layout_of, version_in, layout_rules, version_by_bounds, KeepsHeap, KeepsHeap-then}
+use Rattle.recovery_steps.proofs.Common.{words_of, layout_of, version_in, layout_rules, KeepsHeap, KeepsHeap-then}
+use Rattle.pool_layout.specs.Header.{version_field}
 use Rattle.recovery_steps.specs.Parts.{IsPart}
 use Rattle.recovery_steps.specs.Recovery.{Recovers}
 use Rattle.recovery_steps.proofs.Chains.{part_after, part_alone, none_taken}
@@ -17,7 +18,7 @@ pub returns-clause-part : goal.returns-clause-part
 returns-clause-part g c =
     let words = words_of (g.P.Pmem.state c.args.p.now) in
     let steadied = c.make_steady.ensures.left in
-    let same = version_by_bounds words (words_of (g.P.Pmem.state c.make_steady.new.p)) c.requires.image.formed steadied.keeps.steady.formed steadied.keeps.bounds in
+    let same = ap version_field steadied.header in
     part_after (layout_of (version_in words)).recovery_events
     (omega (arith, (layout_rules (version_in words)).recovery, ap (λ v. (layout_of v).recovery_events) same))
     c.make_steady.ensures.part steadied.keeps c.make_steady_exact.ensures.part
@@ -30,14 +31,14 @@ make_steady_exact-requires-clause-begins g c =
     let words = words_of (g.P.Pmem.state c.args.p.now) in
     let part = c.make_steady.ensures.part in
     let steadied = c.make_steady.ensures.left in
-    let same = version_by_bounds words (words_of (g.P.Pmem.state c.make_steady.new.p)) c.requires.image.formed steadied.keeps.steady.formed steadied.keeps.bounds in
+    let same = ap version_field steadied.header in
     record { image = steadied.keeps.steady; book = c.make_steady.ensures.book; quiet = c.make_steady.ensures.part.step.quiet; room = omega (arith, c.requires.room, (layout_rules (version_in words)).recovery, ap (λ v. (layout_of v).recovery_events) same, part.few, part.step.appends.count, part.step.appends.room) }
 
 pub returns-clause-steady : goal.returns-clause-steady
 returns-clause-steady g c = λ steady.
     let words = words_of (g.P.Pmem.state c.args.p.now) in
     let steadied = c.make_steady.ensures.left in
-    let same = version_by_bounds words (words_of (g.P.Pmem.state c.make_steady.new.p)) c.requires.image.formed steadied.keeps.steady.formed steadied.keeps.bounds in
+    let same = ap version_field steadied.header in
     subst (λ v. IsPart KeepsHeap (g.P.Pmem.state c.args.p.now) (g.P.Pmem.state c.make_steady_exact.new.p) Recovers ((layout_of v).recovery_events - 3)) same (part_alone c.make_steady.ensures.part
     (none_taken (none_besides (words_of (g.P.Pmem.state c.args.p.now)) steady) c.make_steady.ensures.part.stores)
     c.make_steady_exact.ensures.part)
@@ -51,4 +52,4 @@ pub returns-clause-left : goal.returns-clause-left
 returns-clause-left g c =
     let first = c.make_steady.ensures.left in
     let second = c.make_steady_exact.ensures.left in
-    record { shut = second.shut; bounds = second.bounds ∙ first.keeps.bounds; roots = second.roots ∙ first.roots; slabs = classes_then first.slabs second.slabs }
+    record { shut = second.shut; header = second.header ∙ first.header; roots = second.roots ∙ first.roots; slabs = classes_then first.slabs second.slabs }
